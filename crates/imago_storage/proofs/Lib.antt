@@ -1,0 +1,5 @@
+pub mod Alignment
+pub mod Splices
+pub mod Outcomes
+pub mod ZeroPieces
+pub mod ZeroRanges

@@ -1,0 +1,79 @@
+use Rattle.std.proofs.Common.{◌≡◌, ℕ, ◌≤◌, ◌<◌, ◌⊎◌, List, length, get_or, arith, inl, inr, refl, ◌∙◌, Bool, IsTrue, Result, Ok, Err, OnOk, OnErr}
+use Rattle.imago_storage.specs.Bytes.{OldOrNew, WriteOutcome}
+use Rattle.imago_storage.specs.Faults.{CountsFaults}
+use Rattle.imago_storage.specs.declared.error.Error.{Error}
+use Rattle.imago_storage.proofs.Splices.{OldOrNew_more}
+
+pub OnErr_map : {T P Q : Type 0} (r : Result T Error) → (P → Q) → OnErr r P → OnErr r Q
+OnErr_map (Ok x) f p = tt
+OnErr_map (Err e) f p = f p
+
+pub OnOk_map : {T P Q : Type 0} (r : Result T Error) → (P → Q) → OnOk r P → OnOk r Q
+OnOk_map (Ok x) f p = f p
+OnOk_map (Err e) f p = tt
+
+-- a refusal that changed nothing
+pub WriteOutcome_unchanged : {U : Type 0} (keeps : Bool) (old target : List ℕ) (q : Result U Error) (e : Error) → q ≡ Err e
+    → length old ≤ length target → WriteOutcome keeps old target old q
+WriteOutcome_unchanged keeps old target q e is le = rw is (record {
+  done = λ _. tt;
+  len = tt;
+  refused = λ _. record { each = λ p. inl refl; no_shorter = omega arith; no_longer = le };
+  no_shorter = omega arith;
+  no_longer = le;
+})
+
+-- the same success, with another value
+pub WriteOutcome_ok : {T U : Type 0} (keeps : Bool) (old target now : List ℕ) (r : Result T Error) (x : T) (y : U) → r ≡ Ok x
+    → WriteOutcome keeps old target now r → WriteOutcome {T = U} keeps old target now (Ok y)
+WriteOutcome_ok keeps old target now r x y was w = record {
+  done = λ k. rw was at (w.done k);
+  len = rw was at w.len;
+  refused = λ _. tt;
+  no_shorter = w.no_shorter;
+  no_longer = w.no_longer;
+}
+
+-- a refusal towards a first part is one towards the whole
+pub WriteOutcome_refused : {T U : Type 0} (keeps : Bool) (old part target now : List ℕ) (r : Result T Error) (d : Error) (q : Result U Error) (e : Error)
+    → r ≡ Err d → q ≡ Err e → OldOrNew old target part → WriteOutcome keeps old part now r → WriteOutcome keeps old target now q
+WriteOutcome_refused keeps old part target now r d q e was is first w = rw is (record {
+  done = λ _. tt;
+  len = tt;
+  refused = λ k. let b : OldOrNew old part now = rw was at (w.refused k) in record {
+    each = λ p. grind (arith, b.each p, first.each p);
+    no_shorter = b.no_shorter;
+    no_longer = omega (arith, b.no_longer, first.no_longer);
+  };
+  no_shorter = w.no_shorter;
+  no_longer = omega (arith, w.no_longer, first.no_longer);
+})
+
+-- A first part that was written, and then what the second did: both are one write.
+pub WriteOutcome_then : {T U : Type 0} (keeps : Bool) (old part mid rest target now : List ℕ) (r : Result T Error) (x : T) (q : Result U Error)
+    → WriteOutcome keeps old part mid r → r ≡ Ok x → WriteOutcome keeps mid rest now q → OldOrNew old target part
+    → (mid ≡ part → rest ≡ target) → (length mid ≡ length part → length rest ≡ length target) → WriteOutcome keeps old target now q
+WriteOutcome_then keeps old part mid rest target now r x q w was v first same wide =
+    let size : length mid ≡ length part = rw was at w.len in
+    let long : length rest ≡ length target = wide size in
+    record {
+      done = λ k. let made : mid ≡ part = rw was at (w.done k) in OnOk_map q (λ d. d ∙ same made) (v.done k);
+      len = OnOk_map q (λ d. d ∙ long) v.len;
+      refused = λ k. let made : mid ≡ part = rw was at (w.done k) in
+          OnErr_map q (λ b. OldOrNew_more old target part target now first (rw (made, same made) at b) (λ p. inr refl) (omega arith)) (v.refused k);
+      no_shorter = omega (arith, w.no_shorter, v.no_shorter);
+      no_longer = omega (arith, v.no_longer, long);
+    }
+
+-- faults of one call, and of a next one
+pub CountsFaults_then : {T U : Type 0} (reliable again : Bool) (a b c : ℕ) (r : Result T Error) (q : Result U Error) → again ≡ reliable
+    → CountsFaults reliable a b r → CountsFaults again b c q → CountsFaults reliable a c q
+CountsFaults_then reliable again a b c r q e h k = record {
+  later = omega (arith, h.later, k.later);
+  reliable = λ y. let z : IsTrue again = rw e y in k.reliable z ∙ h.reliable y;
+  device = λ y. elim (k.device y) [ inl l ↦ inl (omega (arith, h.later, l)) | inr l ↦ inr l ];
+}
+
+-- a success, without its value
+pub CountsFaults_ok : {T U : Type 0} (reliable : Bool) (a b : ℕ) (r : Result T Error) (y : U) → CountsFaults reliable a b r → CountsFaults {T = U} reliable a b (Ok y)
+CountsFaults_ok reliable a b r y h = record { later = h.later; reliable = h.reliable; device = λ never. absurd (cc) }

@@ -1,0 +1,84 @@
+use Rattle.std.proofs.Common.{◌≡◌, ℕ, ◌+◌, ◌-◌, ◌%◌, ◌≤◌, length, replicate, max, min, take, arith, refl, ap, ◌∙◌, IsTrue}
+use Rattle.std.proofs.lemmas.List.{length-replicate}
+use Rattle.std.proofs.lemmas.Grind.{common_steps}
+use Rattle.std.proofs.lemmas.Result.{err_from_is_err_and}
+use Rattle.imago_storage.specs.Features.{len_align}
+use Rattle.imago_storage.proofs.Alignment.{multiple_add}
+use Rattle.imago_storage.proofs.Outcomes.{WriteOutcome_unchanged, WriteOutcome_ok, WriteOutcome_refused, CountsFaults_ok, CountsFaults_then}
+use Rattle.imago_storage.proofs.Splices.{length-splice}
+use Rattle.imago_storage.proofs.ZeroPieces.{next_piece, next_whole, zeroes_then, zero_front, OldOrNew_zeroes}
+use Rattle.imago_storage.proofs.storage.Storage.write_zeroes_as_data.Goals as goal
+
+pub returns-then-count-mem_align-ne0-clause-written : goal.returns-then-count-mem_align-ne0-clause-written
+returns-then-count-mem_align-ne0-clause-written g c = WriteOutcome_unchanged _ _ _ _ _ refl (omega (arith, length-splice (g.Self.Storage.bytes c.args.self.now) c.args.offset (replicate {A = ℕ} c.args.count 0)))
+
+pub returns-in_err-zeroes-clause-written : goal.returns-in_err-zeroes-clause-written
+returns-in_err-zeroes-clause-written g c =
+    let p = err_from_is_err_and c.from_residual.result c.from_residual.ensures.1 in
+    WriteOutcome_unchanged _ _ _ _ _ p.1 (omega (arith, length-splice (g.Self.Storage.bytes c.args.self.now) c.args.offset (replicate {A = ℕ} c.args.count 0)))
+
+pub pure_writev-requires : goal.pure_writev-requires
+pure_writev-requires g c =
+    let f = g.Self.Storage.features c.args.self.now in
+    let whole : c.args.count % f.mem_align ≡ 0 = grind arith in
+    let n : length c.deref.result.now ≡ min (max (len_align f) 1048576) (c.args.count - 0) = grind (arith, common_steps) in
+    let at : c.args.offset ≡ c.args.offset + 0 = omega arith in
+    rw (n, at) (next_piece f f c.args.offset c.args.count 0 refl (g.met.Self.Storage.lawful c.args.self.now) c.requires whole (grind arith) (omega arith) _ refl)
+
+pub returns-in_err-pure_writev-clause-written : goal.returns-in_err-pure_writev-clause-written
+returns-in_err-pure_writev-clause-written g c =
+    let xs = g.Self.Storage.bytes c.args.self.now in
+    let w : c.deref.result.now ≡ replicate {A = ℕ} c.min-first.result 0 = c.deref.ensures.value ∙ c.in_ok-zeroes.ensures.zeroes in
+    let p = err_from_is_err_and c.from_residual-in_err-pure_writev.result c.from_residual-in_err-pure_writev.ensures.1 in
+    WriteOutcome_refused _ _ _ _ _ _ _ _ _ c.in_err-pure_writev.was p.1 (OldOrNew_zeroes xs c.args.offset c.args.count c.min-first.result (omega arith)) (rw w at c.pure_writev.ensures.written)
+
+pub loop-done-init : goal.loop-done-init
+loop-done-init g c =
+    let f = g.Self.Storage.features c.args.self.now in
+    let whole : c.args.count % f.mem_align ≡ 0 = grind arith in
+    let n : c.min-first.result ≡ min (max (len_align f) 1048576) (c.args.count - 0) = grind (arith, common_steps) in
+    let w : c.deref.result.now ≡ replicate {A = ℕ} c.min-first.result 0 = c.deref.ensures.value ∙ c.in_ok-zeroes.ensures.zeroes in
+    record {
+      counted = omega arith;
+      whole = rw n (next_whole f c.args.offset c.args.count 0 (g.met.Self.Storage.lawful c.args.self.now) c.requires whole (grind arith));
+      features = c.in_ok-pure_writev.ensures.features;
+      written = WriteOutcome_ok _ _ _ _ _ _ _ c.in_ok-pure_writev.was (rw w at c.pure_writev.ensures.written);
+      cause = CountsFaults_ok _ _ _ _ tt c.pure_writev.ensures.cause;
+    }
+
+pub pure_writev-requires-in-loop-done : goal.pure_writev-requires-in-loop-done
+pure_writev-requires-in-loop-done g c =
+    let f = g.Self.Storage.features c.args.self.now in
+    let whole : c.args.count % f.mem_align ≡ 0 = grind arith in
+    let n : c.min-next.result ≡ min (max (len_align f) 1048576) (c.args.count - c.loop-done.done) = grind (arith, common_steps) in
+    let w = zero_front c.deref-in-loop-done.result.now c.min-first.result c.min-next.result (c.deref-in-loop-done.ensures.value ∙ c.in_ok-zeroes.ensures.zeroes) (omega arith) in
+    let k : length (take c.min-next.result c.deref-in-loop-done.result.now) ≡ c.min-next.result = ap length w ∙ length-replicate {A = ℕ} _ 0 in
+    rw k (next_piece f (g.Self.Storage.features c.loop-done.self) c.args.offset c.args.count c.loop-done.done c.loop-done.invariant.features (g.met.Self.Storage.lawful c.args.self.now) c.requires whole c.loop-done.invariant.whole c.loop-done.invariant.counted _ n)
+
+pub returns-in_err-pure_writev-2-clause-written : goal.returns-in_err-pure_writev-2-clause-written
+returns-in_err-pure_writev-2-clause-written g c =
+    let xs = g.Self.Storage.bytes c.args.self.now in
+    let w = zero_front c.deref-in-loop-done.result.now c.min-first.result c.min-next.result (c.deref-in-loop-done.ensures.value ∙ c.in_ok-zeroes.ensures.zeroes) (omega arith) in
+    let p = err_from_is_err_and c.from_residual-in_err-pure_writev-2.result c.from_residual-in_err-pure_writev-2.ensures.1 in
+    let step = zeroes_then _ xs _ _ c.args.offset c.loop-done.done c.min-next.result _ _ _ c.loop-done.invariant.written refl (rw (w, c.loop-done.invariant.features) at c.pure_writev-in-loop-done.ensures.written) in
+    WriteOutcome_refused _ _ _ _ _ _ _ _ _ c.in_err-pure_writev-2.was p.1 (OldOrNew_zeroes xs c.args.offset c.args.count (c.loop-done.done + c.min-next.result) (omega arith)) step
+
+pub loop-done-preserved : goal.loop-done-preserved
+loop-done-preserved g c =
+    let f = g.Self.Storage.features c.args.self.now in
+    let whole : c.args.count % f.mem_align ≡ 0 = grind arith in
+    let n : c.min-next.result ≡ min (max (len_align f) 1048576) (c.args.count - c.loop-done.done) = grind (arith, common_steps) in
+    let w = zero_front c.deref-in-loop-done.result.now c.min-first.result c.min-next.result (c.deref-in-loop-done.ensures.value ∙ c.in_ok-zeroes.ensures.zeroes) (omega arith) in
+    let step = zeroes_then _ (g.Self.Storage.bytes c.args.self.now) _ _ c.args.offset c.loop-done.done c.min-next.result _ _ _ c.loop-done.invariant.written refl (rw (w, c.loop-done.invariant.features) at c.pure_writev-in-loop-done.ensures.written) in
+    record {
+      counted = omega arith;
+      whole = multiple_add _ _ _ c.loop-done.invariant.whole (rw n (next_whole f c.args.offset c.args.count c.loop-done.done (g.met.Self.Storage.lawful c.args.self.now) c.requires whole c.loop-done.invariant.whole));
+      features = c.in_ok-pure_writev-2.ensures.features ∙ c.loop-done.invariant.features;
+      written = WriteOutcome_ok _ _ _ _ _ _ _ c.in_ok-pure_writev-2.was step;
+      cause = CountsFaults_ok _ _ _ _ tt (CountsFaults_then _ _ _ _ _ _ _ (ap (λ f. f.is_reliable) c.loop-done.invariant.features) c.loop-done.invariant.cause c.pure_writev-in-loop-done.ensures.cause);
+    }
+
+pub returns-clause-written : goal.returns-clause-written
+returns-clause-written g c =
+    let all : c.loop-done.done ≡ c.args.count = omega (arith, c.loop-done.invariant.counted, c.loop-done-test.false) in
+    rw all at c.loop-done.invariant.written

@@ -1,0 +1,17 @@
+use Rattle.std.proofs.Common.{◌-◌, ◌≡◌, ◌%◌, ◌≤◌, replicate, Ok}
+use Rattle.imago_storage.specs.Bytes.{splice, WriteOutcome}
+use Rattle.imago_storage.specs.Faults.{CountsFaults}
+use Rattle.imago_storage.specs.Features.{len_align}
+use Rattle.imago_storage.proofs.storage.Storage.write_zeroes_as_data.Given as goal
+
+abbrev pub invariant-loop-done : goal.invariant-loop-done
+invariant-loop-done g l = record {
+  counted : l.done ≤ l.count;
+  whole : l.done % len_align (g.Self.Storage.features l.fn.self) ≡ 0;
+  features : g.Self.Storage.features l.self ≡ g.Self.Storage.features l.fn.self;
+  written : WriteOutcome {T = Unit {0}} (g.Self.Storage.features l.fn.self).keeps_data (g.Self.Storage.bytes l.fn.self) (splice (g.Self.Storage.bytes l.fn.self) l.offset (replicate l.done 0)) (g.Self.Storage.bytes l.self) (Ok tt);
+  cause : CountsFaults {T = Unit {0}} (g.Self.Storage.features l.fn.self).is_reliable (g.Self.Storage.fault_count l.fn.self) (g.Self.Storage.fault_count l.self) (Ok tt);
+}
+
+abbrev pub decreases-loop-done : goal.decreases-loop-done
+decreases-loop-done g l = l.count - l.done

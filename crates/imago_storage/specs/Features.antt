@@ -1,0 +1,79 @@
+use Rattle.std.specs.Prelude.{◌≡◌, ◌≢◌, ℕ, ◌+◌, ◌%◌, ◌^◌, ◌<◌, Bool, cond, max}
+use Rattle.std.specs.Int.{IsPowerOfTwo}
+
+-- how a storage zeroes a range
+pub data ZeroSupport : Type 0 where
+  -- by itself, with no buffer
+  InPlace : ZeroSupport
+  -- by writing zeroes, where the range's length is a multiple of the memory alignment
+  AsData : ZeroSupport
+  -- it may refuse any range
+  NotOffered : ZeroSupport
+
+-- when a call takes memory
+pub data MemoryUse : Type 0 where
+  Never : MemoryUse
+  ForGrowth : MemoryUse
+  Any : MemoryUse
+
+-- a call up to that end may run out of memory, on a storage of that length
+abbrev pub MayRunOut : MemoryUse → ℕ → ℕ → Type 0
+MayRunOut Never len end = ⊥
+MayRunOut ForGrowth len end = len < end
+MayRunOut Any len end = Unit {0}
+
+-- What never changes in a storage. Alignments are in bytes.
+pub record Features : Type 0 where
+  pub mem_align : ℕ
+  pub req_align : ℕ
+  pub zero_align : ℕ
+  pub discard_align : ℕ
+  -- what is written stays
+  pub keeps_data : Bool
+  -- the device never fails
+  pub is_reliable : Bool
+  -- a refused write changes nothing
+  pub atomic : Bool
+  pub zeroes : ZeroSupport
+  pub allocated_zeroes : ZeroSupport
+  pub offers_discard : Bool
+  pub offers_resize : Bool
+  pub read_memory : MemoryUse
+  pub write_memory : MemoryUse
+  pub zero_memory : MemoryUse
+  pub resize_memory : MemoryUse
+  pub other_memory : MemoryUse
+
+-- The alignments are powers of two, and those of zero writes and discards are multiples of that of requests.
+pub record AreAlignments (f : Features) : Type 0 where
+  pub mem : IsPowerOfTwo f.mem_align
+  pub req : IsPowerOfTwo f.req_align
+  pub zero : IsPowerOfTwo f.zero_align
+  pub discard : IsPowerOfTwo f.discard_align
+  pub zero_whole : f.zero_align % f.req_align ≡ 0
+  pub discard_whole : f.discard_align % f.req_align ≡ 0
+
+-- the multiple that a read's or write's length has to be
+abbrev pub len_align : Features → ℕ
+len_align f = max f.req_align f.mem_align
+
+-- a read or write that the storage takes as it is
+pub record IsAlignedRequest (f : Features) (at n : ℕ) : Type 0 where
+  pub start : at % f.req_align ≡ 0
+  pub whole : n % len_align f ≡ 0
+  pub ends : at + n < 2 ^ 64
+
+-- a zero write or discard that the storage takes as it is
+pub record IsAlignedTo (align at n : ℕ) : Type 0 where
+  pub start : at % align ≡ 0
+  pub whole : n % align ≡ 0
+  pub ends : at + n < 2 ^ 64
+
+-- how zero writes of that kind are done
+abbrev pub zero_support : Features → Bool → ZeroSupport
+zero_support f allocated = cond allocated f.allocated_zeroes f.zeroes
+
+-- a zero write of that many bytes may be refused as unsupported
+pub record MayBeUnsupported (z : ZeroSupport) (mem_align n : ℕ) : Type 0 where
+  pub not_in_place : z ≢ InPlace
+  pub as_data : z ≡ AsData → n % mem_align ≢ 0

@@ -1,0 +1,10 @@
+pub mod Error
+pub mod Bytes
+pub mod Features
+pub mod Faults
+pub mod IoCount
+pub mod Options
+pub mod Powers
+pub mod Mem
+pub mod Padding
+pub mod Zeroes

@@ -1,0 +1,60 @@
+use Rattle.std.specs.Prelude.{◌≡◌, ℕ, ◌%◌, true, false, refl}
+use Rattle.imago_storage.specs.Powers.{IsAlignment, power_of_two}
+use Rattle.std.proofs.Math.Nat.{mod_self}
+use Rattle.imago_storage.specs.Features.{Features, InPlace, AsData, Never, ForGrowth, AreAlignments}
+
+-- Bytes in memory: kept, never failing, and refused for memory only where they grow, with nothing changed.
+abbrev pub mem_features : ℕ → ℕ → ℕ → Features
+mem_features mem req zeroed = record {
+  mem_align = mem;
+  req_align = req;
+  zero_align = zeroed;
+  discard_align = req;
+  keeps_data = true;
+  is_reliable = true;
+  atomic = true;
+  zeroes = InPlace;
+  allocated_zeroes = InPlace;
+  offers_discard = true;
+  offers_resize = true;
+  read_memory = Never;
+  write_memory = ForGrowth;
+  zero_memory = ForGrowth;
+  resize_memory = ForGrowth;
+  other_memory = Never;
+}
+
+pub mem_lawful : (mem req zeroed : ℕ) → IsAlignment mem → IsAlignment req → IsAlignment zeroed → zeroed % req ≡ 0
+    → AreAlignments (mem_features mem req zeroed)
+mem_lawful mem req zeroed a b c whole = record {
+  mem = power_of_two mem a;
+  req = power_of_two req b;
+  zero = power_of_two zeroed c;
+  discard = power_of_two req b;
+  zero_whole = whole;
+  discard_whole = mod_self req;
+}
+
+-- Zeroes of any length: nothing is kept, nothing fails, no call takes memory but allocated zeroes, which are data.
+abbrev pub null_features : Features
+null_features = record {
+  mem_align = 1;
+  req_align = 1;
+  zero_align = 1;
+  discard_align = 1;
+  keeps_data = false;
+  is_reliable = true;
+  atomic = true;
+  zeroes = InPlace;
+  allocated_zeroes = AsData;
+  offers_discard = true;
+  offers_resize = true;
+  read_memory = Never;
+  write_memory = Never;
+  zero_memory = Never;
+  resize_memory = Never;
+  other_memory = Never;
+}
+
+pub null_lawful : AreAlignments null_features
+null_lawful = record { mem = (0, refl); req = (0, refl); zero = (0, refl); discard = (0, refl); zero_whole = refl; discard_whole = refl }

@@ -1,0 +1,106 @@
+//! A storage that is lent: every call goes to the storage behind the borrow.
+ghost use Rattle.std.specs.Prelude.{◌≡◌, ℕ, IsErrOf};
+
+use crate::error::Error;
+use crate::storage::{PreallocateMode, Storage, StorageCreateOptions, StorageOpenOptions};
+use std::alloc::Global;
+
+impl<S: Storage> Storage for &mut S {
+    ghost bytes = { λ s. S.bytes s.now };
+
+    ghost features = { λ s. S.features s.now };
+
+    ghost fault_count = { λ s. S.fault_count s.now };
+
+    ghost work = { λ s. S.work s.now };
+
+    ghost filename = { λ s. S.filename s.now };
+
+    ghost lawful = { λ s. S.lawful s.now };
+
+    fn open(opts: StorageOpenOptions) -> Result<Self, Error>
+        ensures { IsErrOf result Error.Unsupported }
+    {
+        let _ = opts;
+        Err(Error::Unsupported)
+    }
+
+    fn create_open(opts: StorageCreateOptions) -> Result<Self, Error>
+        ensures { IsErrOf result Error.Unsupported }
+    {
+        let _ = opts;
+        Err(Error::Unsupported)
+    }
+
+    fn create(opts: StorageCreateOptions) -> Result<(), Error> {
+        S::create(opts)
+    }
+
+    fn mem_align(&self) -> usize {
+        Storage::mem_align(&**self)
+    }
+
+    fn req_align(&self) -> usize {
+        Storage::req_align(&**self)
+    }
+
+    fn zero_align(&self) -> usize {
+        Storage::zero_align(&**self)
+    }
+
+    fn discard_align(&self) -> usize {
+        Storage::discard_align(&**self)
+    }
+
+    fn size(&self) -> Result<u64, Error> {
+        Storage::size(&**self)
+    }
+
+    fn resolve_relative_path(&self, alloc: Global, relative: &str) -> Result<String, Error> {
+        Storage::resolve_relative_path(&**self, alloc, relative)
+    }
+
+    fn get_filename(&self) -> Option<&str> {
+        Storage::get_filename(&**self)
+    }
+
+    fn pure_readv(&self, buf: &mut [u8], offset: u64) -> Result<(), Error> {
+        Storage::pure_readv(&**self, buf, offset)
+    }
+
+    fn pure_readv_mut(&mut self, buf: &mut [u8], offset: u64) -> Result<(), Error> {
+        Storage::pure_readv_mut(&mut **self, buf, offset)
+    }
+
+    fn pure_writev(&mut self, source: &[u8], offset: u64) -> Result<(), Error> {
+        Storage::pure_writev(&mut **self, source, offset)
+    }
+
+    fn zero_in_place(&mut self, offset: u64, count: u64, allocated: bool) -> Result<(), Error> {
+        Storage::zero_in_place(&mut **self, offset, count, allocated)
+    }
+
+    fn pure_discard(&mut self, offset: u64, count: u64) -> Result<(), Error> {
+        Storage::pure_discard(&mut **self, offset, count)
+    }
+
+    fn flush(&mut self) -> Result<(), Error> {
+        Storage::flush(&mut **self)
+    }
+
+    fn sync(&mut self) -> Result<(), Error> {
+        Storage::sync(&mut **self)
+    }
+
+    fn settle_writes(&mut self) -> Result<(), Error> {
+        Storage::settle_writes(&mut **self)
+    }
+
+    fn invalidate_cache(&mut self) -> Result<(), Error> {
+        Storage::invalidate_cache(&mut **self)
+    }
+
+    fn resize(&mut self, new_size: u64, mode: PreallocateMode) -> Result<(), Error> {
+        Storage::resize(&mut **self, new_size, mode)
+    }
+}

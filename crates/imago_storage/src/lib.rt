@@ -1,0 +1,13 @@
+//! Storages, and requests of any alignment on them.
+//!
+//! A storage is a list of bytes behind an interface of aligned calls, [`storage::Storage`]. [`ext::StorageExt`] makes
+//! any range of it readable and writable, and says what a refused call leaves.
+#![tactic(auto)]
+
+mod bytes;
+pub mod error;
+pub mod lent;
+pub mod mem;
+pub mod null;
+pub mod options;
+pub mod storage;

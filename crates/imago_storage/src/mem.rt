@@ -1,0 +1,307 @@
+//! A storage in memory.
+ghost use Rattle.std.specs.Prelude.{◌≡◌, ◌≢◌, ℕ, ◌≤◌, ◌<◌, ◌+◌, ◌-◌, ◌%◌, ◌^◌, Bool, true, false, IsTrue, replicate, length, List, ◌++◌, Option, None, Some, OnOk, OnErr, IfOk, IfErr, IsErrOf, IsOk, option_map};
+ghost use Rattle.imago_storage.specs.Powers.{IsAlignment};
+ghost use Rattle.std.specs.Option.{option_copied};
+ghost use Rattle.std.specs.String.{string_bytes};
+ghost use Rattle.imago_storage.specs.Bytes.{splice, IsReadAt};
+ghost use Rattle.imago_storage.specs.Features.{Features};
+ghost use Rattle.imago_storage.specs.IoCount.{no_work};
+ghost use Rattle.imago_storage.specs.Mem.{mem_features, mem_lawful};
+
+use crate::bytes::overwrite;
+use crate::error::Error;
+use crate::storage::{PreallocateMode, Storage};
+use std::alloc::Global;
+use std::fmt;
+
+/// Bytes in memory. The storage keeps what is written and never fails; a growth is filled with zeroes, and is
+/// refused as [`Error::Memory`], with nothing changed, where there is no memory for it. No call inside the length
+/// takes memory.
+#[derive(Drop)]
+pub struct MemStorage {
+    name: Option<String>,
+    bytes: Vec<u8>,
+    mem_align: usize,
+    req_align: usize,
+    zero_align: usize,
+    ghost mem_power: { IsAlignment mem_align },
+    ghost req_power: { IsAlignment req_align },
+    ghost zero_power: { IsAlignment zero_align },
+    ghost zero_whole: { zero_align % req_align ≡ 0 },
+}
+
+/// Adds zeroes up to that length.
+fn grow(bytes: &mut Vec<u8>, len: u64) -> Result<(), Error>
+    ensures ok { OnOk result (bytes.new.items ≡ bytes.old.items ++ replicate (len - length bytes.old.items) 0) }
+    ensures err { OnErr result (bytes.new.items ≡ bytes.old.items) }
+    ensures memory { IfErr result (λ e. e ≡ Error.Memory) }
+    ensures inside { len ≤ length bytes.old.items → IsOk result }
+{
+    if len <= bytes.len() as u64 {
+        return Ok(());
+    }
+    match bytes.resize(len as usize, 0) {
+        Ok(()) => Ok(()),
+        Err(_) => Err(Error::Memory),
+    }
+}
+
+/// Puts the source at its offset, with zeroes where offsets are skipped.
+fn put(bytes: &mut Vec<u8>, source: &[u8], offset: u64) -> Result<(), Error>
+    requires { offset + length source.now < 2 ^ 64 }
+    ensures ok { OnOk result (bytes.new.items ≡ splice bytes.old.items offset source.now) }
+    ensures err { OnErr result (bytes.new.items ≡ bytes.old.items) }
+    ensures memory { IfErr result (λ e. e ≡ Error.Memory) }
+    ensures inside { offset + length source.now ≤ length bytes.old.items → IsOk result }
+{
+    let end = offset + source.len() as u64;
+    grow(bytes, end)?;
+    overwrite(bytes, source, offset as usize);
+    Ok(())
+}
+
+/// Puts zeroes at their offset.
+fn put_zeroes(bytes: &mut Vec<u8>, offset: u64, count: u64) -> Result<(), Error>
+    requires { offset + count < 2 ^ 64 }
+    ensures ok { OnOk result (bytes.new.items ≡ splice bytes.old.items offset (replicate count 0)) }
+    ensures err { OnErr result (bytes.new.items ≡ bytes.old.items) }
+    ensures memory { IfErr result (λ e. e ≡ Error.Memory) }
+    ensures inside { offset + count ≤ length bytes.old.items → IsOk result }
+{
+    let end = offset + count;
+    grow(bytes, end)?;
+    clear(bytes, offset as usize, end as usize);
+    Ok(())
+}
+
+/// Puts zeroes over the bytes from `start` to `end`.
+#[tactic(auto, using(std::proofs::lemmas::List::places), unfolding(crate::specs::Bytes::splice))]
+fn clear(bytes: &mut [u8], start: usize, end: usize)
+    requires order { start ≤ end }
+    requires within { end ≤ length bytes.old }
+    ensures { bytes.new ≡ splice bytes.old start (replicate (end - start) 0) }
+{
+    bytes[start..end].fill(0);
+}
+
+/// Fills a buffer with the bytes from the offset on, with 0 past their end.
+#[tactic(auto, using(std::proofs::lemmas::List::places), unfolding(crate::specs::Bytes::splice))]
+fn copy_out(bytes: &[u8], buf: &mut [u8], offset: u64)
+    ensures { IsReadAt bytes.now offset buf.new }
+{
+    if offset >= bytes.len() as u64 {
+        buf.fill(0);
+        return;
+    }
+    let start = offset as usize;
+    let n = buf.len().min(bytes.len() - start);
+    buf[..n].copy_from_slice(&bytes[start..start + n]);
+    buf[n..].fill(0);
+}
+
+impl MemStorage {
+    /// A storage of these bytes, without a name, all alignments 1.
+    pub fn new(bytes: Vec<u8>) -> Self
+        ensures bytes { ⟦<MemStorage as Storage>⟧.bytes result ≡ bytes.items }
+        ensures features { ⟦<MemStorage as Storage>⟧.features result ≡ mem_features 1 1 1 }
+        ensures name { ⟦<MemStorage as Storage>⟧.filename result ≡ None }
+    {
+        MemStorage {
+            name: None,
+            bytes,
+            mem_align: 1,
+            req_align: 1,
+            zero_align: 1,
+        }
+    }
+
+    /// A storage of these bytes with that file name, all alignments 1.
+    pub fn named(name: String, bytes: Vec<u8>) -> Self
+        ensures bytes { ⟦<MemStorage as Storage>⟧.bytes result ≡ bytes.items }
+        ensures features { ⟦<MemStorage as Storage>⟧.features result ≡ mem_features 1 1 1 }
+        ensures name { ⟦<MemStorage as Storage>⟧.filename result ≡ Some (string_bytes name) }
+    {
+        MemStorage {
+            name: Some(name),
+            bytes,
+            mem_align: 1,
+            req_align: 1,
+            zero_align: 1,
+        }
+    }
+
+    /// Sets both `mem_align` and `req_align`, and with them `zero_align`. `align.is_power_of_two()` tests what is
+    /// required.
+    pub fn with_align(self, align: usize) -> Self
+        requires { IsAlignment align }
+        ensures bytes { ⟦<MemStorage as Storage>⟧.bytes result ≡ ⟦<MemStorage as Storage>⟧.bytes self }
+        ensures features { ⟦<MemStorage as Storage>⟧.features result ≡ mem_features align align align }
+        ensures name { ⟦<MemStorage as Storage>⟧.filename result ≡ ⟦<MemStorage as Storage>⟧.filename self }
+    {
+        self.with_aligns(align, align)
+    }
+
+    /// Sets `mem_align` and `req_align`, and `zero_align` to the latter. `is_power_of_two()` of each tests what is
+    /// required.
+    pub fn with_aligns(self, mem_align: usize, req_align: usize) -> Self
+        requires mem { IsAlignment mem_align }
+        requires req { IsAlignment req_align }
+        ensures bytes { ⟦<MemStorage as Storage>⟧.bytes result ≡ ⟦<MemStorage as Storage>⟧.bytes self }
+        ensures features { ⟦<MemStorage as Storage>⟧.features result ≡ mem_features mem_align req_align req_align }
+        ensures name { ⟦<MemStorage as Storage>⟧.filename result ≡ ⟦<MemStorage as Storage>⟧.filename self }
+    {
+        let MemStorage {
+            name,
+            bytes,
+            mem_align: _,
+            req_align: _,
+            zero_align: _,
+        } = self;
+        MemStorage {
+            name,
+            bytes,
+            mem_align,
+            req_align,
+            zero_align: req_align,
+        }
+    }
+
+    /// Sets `zero_align`, a power of two and a multiple of `req_align`.
+    pub fn with_zero_align(mut self, zero_align: usize) -> Self
+        requires power { IsAlignment zero_align }
+        requires whole { zero_align % (⟦<MemStorage as Storage>⟧.features self).req_align ≡ 0 }
+        ensures bytes { ⟦<MemStorage as Storage>⟧.bytes result ≡ ⟦<MemStorage as Storage>⟧.bytes self }
+        ensures features { ⟦<MemStorage as Storage>⟧.features result ≡ record (⟦<MemStorage as Storage>⟧.features self) { zero_align = zero_align } }
+        ensures name { ⟦<MemStorage as Storage>⟧.filename result ≡ ⟦<MemStorage as Storage>⟧.filename self }
+    {
+        self.zero_align = zero_align;
+        self
+    }
+
+    /// The bytes.
+    pub fn as_bytes(&self) -> &[u8]
+        ensures { result.now ≡ ⟦<MemStorage as Storage>⟧.bytes self.now }
+    {
+        &self.bytes
+    }
+
+    /// The bytes, taken out of the storage.
+    pub fn into_bytes(self) -> Vec<u8>
+        ensures { result.items ≡ ⟦<MemStorage as Storage>⟧.bytes self }
+    {
+        let MemStorage {
+            name: _,
+            bytes,
+            mem_align: _,
+            req_align: _,
+            zero_align: _,
+        } = self;
+        bytes
+    }
+}
+
+impl fmt::Display for MemStorage {
+    fn fmt<W: fmt::Write>(&self, f: &mut fmt::Formatter<W>) -> fmt::Result {
+        match &self.name {
+            Some(name) => write!(f, "mem:{name}"),
+            None => {
+                let count = self.bytes.len();
+                write!(f, "mem:[{count}B]")
+            }
+        }
+    }
+}
+
+impl Storage for MemStorage {
+    ghost bytes = { λ s. s.bytes.items };
+
+    ghost features = { λ s. mem_features s.mem_align s.req_align s.zero_align };
+
+    ghost fault_count = { λ _. 0 };
+
+    ghost work = { λ _. no_work };
+
+    ghost filename = { λ s. option_map string_bytes s.name };
+
+    ghost lawful = { λ s. mem_lawful s.mem_align s.req_align s.zero_align s.mem_power s.req_power s.zero_power s.zero_whole };
+
+    fn mem_align(&self) -> usize {
+        self.mem_align
+    }
+
+    fn req_align(&self) -> usize {
+        self.req_align
+    }
+
+    fn zero_align(&self) -> usize {
+        self.zero_align
+    }
+
+    fn discard_align(&self) -> usize {
+        self.req_align
+    }
+
+    fn size(&self) -> Result<u64, Error> {
+        Ok(self.bytes.len() as u64)
+    }
+
+    /// Names in memory are not relative to one another: the same text comes back.
+    fn resolve_relative_path(&self, alloc: Global, relative: &str) -> Result<String, Error>
+        ensures same { IfOk result (λ path. string_bytes path ≡ relative.now) }
+        ensures memory { IfErr result (λ e. e ≡ Error.Memory) }
+    {
+        match String::from_str(alloc, relative) {
+            Ok(path) => Ok(path),
+            Err(_) => Err(Error::Memory),
+        }
+    }
+
+    fn get_filename(&self) -> Option<&str> {
+        match &self.name {
+            Some(name) => Some(name.as_str()),
+            None => None,
+        }
+    }
+
+    fn pure_readv(&self, buf: &mut [u8], offset: u64) -> Result<(), Error> {
+        copy_out(&self.bytes, buf, offset);
+        Ok(())
+    }
+
+    fn pure_readv_mut(&mut self, buf: &mut [u8], offset: u64) -> Result<(), Error> {
+        copy_out(&self.bytes, buf, offset);
+        Ok(())
+    }
+
+    #[tactic(auto, using(crate::proofs::Splices::splice_length, std::proofs::lemmas::List::places))]
+    fn pure_writev(&mut self, source: &[u8], offset: u64) -> Result<(), Error> {
+        put(&mut self.bytes, source, offset)
+    }
+
+    #[tactic(auto, using(crate::proofs::Splices::splice_length, std::proofs::lemmas::List::places))]
+    fn zero_in_place(&mut self, offset: u64, count: u64, allocated: bool) -> Result<(), Error> {
+        let _ = allocated;
+        put_zeroes(&mut self.bytes, offset, count)
+    }
+
+    fn flush(&mut self) -> Result<(), Error> {
+        Ok(())
+    }
+
+    fn sync(&mut self) -> Result<(), Error> {
+        Ok(())
+    }
+
+    fn invalidate_cache(&mut self) -> Result<(), Error> {
+        Ok(())
+    }
+
+    fn resize(&mut self, new_size: u64, mode: PreallocateMode) -> Result<(), Error> {
+        let _ = mode;
+        if new_size <= self.bytes.len() as u64 {
+            self.bytes.truncate(new_size as usize);
+            return Ok(());
+        }
+        grow(&mut self.bytes, new_size)
+    }
+}

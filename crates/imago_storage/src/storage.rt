@@ -1,0 +1,295 @@
+//! The interface of a storage: aligned calls on a list of bytes.
+ghost use Rattle.std.specs.Prelude.{◌≡◌, ◌≢◌, ℕ, ◌+◌, ◌%◌, ◌↔◌, List, length, replicate, max, Bool, true, false, IsTrue, OnOk, OnErr, IfOk, IfErr, IsErrOf, Option};
+ghost use Rattle.std.specs.Option.{option_copied};
+ghost use Rattle.imago_storage.specs.Bytes.{splice, OldOrNew, WriteOutcome, IsReadAt, SameOutside, IsResized};
+ghost use Rattle.imago_storage.specs.Error.{IsDeviceOrMemory, IsPureRefusal};
+ghost use Rattle.imago_storage.specs.Faults.{CountsFaults};
+ghost use Rattle.imago_storage.specs.Features.{Features, InPlace, AsData, MayRunOut, MayBeUnsupported, zero_support, AreAlignments, IsAlignedRequest, IsAlignedTo};
+ghost use Rattle.imago_storage.specs.IoCount.{IoCount, AddsAtMost};
+
+use crate::error::Error;
+use std::alloc::Global;
+use std::fmt::Display;
+
+pub use crate::options::{PreallocateMode, StorageCreateOptions, StorageOpenOptions};
+
+/// The size up to which zeroes are written as data in one piece, in bytes.
+pub(crate) const ZERO_PIECE: u64 = 1048576;
+
+/// That many zero bytes. Refused, it is [`Error::Memory`].
+pub(crate) fn zero_buffer(alloc: Global, count: usize) -> Result<Vec<u8>, Error>
+    ensures zeroes { IfOk result (λ v. v.items ≡ replicate count 0) }
+    ensures memory { IfErr result (λ e. e ≡ Error.Memory) }
+{
+    match vec![in alloc; 0u8; count] {
+        Ok(zeroes) => Ok(zeroes),
+        Err(_) => Err(Error::Memory),
+    }
+}
+
+/// A storage: bytes at offsets from 0 up to its length, which reads as zeroes past it.
+///
+/// Offsets and lengths are in bytes. The `pure_` calls take requests that are aligned and end within `u64`; callers
+/// use [`StorageExt`](crate::ext::StorageExt), which takes any range. A call that takes memory is handed the allocator.
+///
+/// A refused call answers [`Error::Device`] where the device failed, [`Error::Memory`] where memory was refused, and
+/// [`Error::Unsupported`] only where its documentation says so.
+pub trait Storage: Display + Drop + Sized {
+    /// The bytes, as many as the storage is long.
+    ghost bytes: { Self → List ℕ };
+
+    /// What never changes: alignments, what is kept and offered, which calls take memory.
+    ghost features: { Self → Features };
+
+    /// How often the device failed in exclusive calls: a count that saturates.
+    ghost fault_count: { Self → ℕ };
+
+    /// The pure reads by exclusive calls and the pure writes so far.
+    ghost work: { Self → IoCount };
+
+    /// The name that the storage can be opened by, if it has one.
+    ghost filename: { Self → Option (List ℕ) };
+
+    /// Opens a storage. Which options are needed depends on the storage; by default it is
+    /// [`Error::Unsupported`].
+    fn open(opts: StorageOpenOptions) -> Result<Self, Error> {
+        let _ = opts;
+        Err(Error::Unsupported)
+    }
+
+    /// Creates a storage and opens it, always as writable. By default it is [`Error::Unsupported`].
+    fn create_open(opts: StorageCreateOptions) -> Result<Self, Error> {
+        let _ = opts;
+        Err(Error::Unsupported)
+    }
+
+    /// Creates a storage. By default it is created and opened, and let go.
+    fn create(opts: StorageCreateOptions) -> Result<(), Error> {
+        let _ = Self::create_open(opts)?;
+        Ok(())
+    }
+
+    /// The number that a request's length has to be a multiple of, beside [`req_align`](Self::req_align).
+    fn mem_align(&self) -> usize
+        ensures { result ≡ (features self.now).mem_align };
+
+    /// The number that a request's offset and length have to be multiples of.
+    fn req_align(&self) -> usize
+        ensures { result ≡ (features self.now).req_align };
+
+    /// The number that offset and length of a zero write have to be multiples of, a multiple of
+    /// [`req_align`](Self::req_align).
+    fn zero_align(&self) -> usize
+        ensures { result ≡ (features self.now).zero_align };
+
+    /// The number that offset and length of a discard have to be multiples of, a multiple of
+    /// [`req_align`](Self::req_align).
+    fn discard_align(&self) -> usize
+        ensures { result ≡ (features self.now).discard_align };
+
+    /// The length in bytes.
+    fn size(&self) -> Result<u64, Error>
+        ensures value { IfOk result (λ n. n ≡ length (bytes self.now)) }
+        ensures only { IfErr result IsDeviceOrMemory }
+        ensures device { IsErrOf result Error.Device → (features self.now).is_reliable ≡ false }
+        ensures memory { IsErrOf result Error.Memory → MayRunOut (features self.now).other_memory 0 0 };
+
+    /// The name of a storage that is given relative to this one, as `open` takes it. By default it is
+    /// [`Error::Unsupported`].
+    fn resolve_relative_path(&self, alloc: Global, relative: &str) -> Result<String, Error>
+        ensures device { IsErrOf result Error.Device → (features self.now).is_reliable ≡ false }
+    {
+        let _ = alloc;
+        let _ = relative;
+        Err(Error::Unsupported)
+    }
+
+    /// The name that the storage can be opened by, if it has one.
+    fn get_filename(&self) -> Option<&str>
+        ensures { option_copied result ≡ filename self.now };
+
+    /// Fills the buffer with the bytes from the offset on, with 0 past the end. Refused, the buffer is unspecified.
+    fn pure_readv(&self, buf: &mut [u8], offset: u64) -> Result<(), Error>
+        requires { IsAlignedRequest (features self.now) offset (length buf.old) }
+        ensures bytes { OnOk result (IsReadAt (bytes self.now) offset buf.new) }
+        ensures only { IfErr result IsDeviceOrMemory }
+        ensures device { IsErrOf result Error.Device → (features self.now).is_reliable ≡ false }
+        ensures memory { IsErrOf result Error.Memory → MayRunOut (features self.now).read_memory (length (bytes self.now)) (offset + length buf.old) };
+
+    /// Reads as [`pure_readv`](Self::pure_readv) does, through an exclusive borrow, so that a fault is counted.
+    fn pure_readv_mut(&mut self, buf: &mut [u8], offset: u64) -> Result<(), Error>
+        requires { IsAlignedRequest (features self.old) offset (length buf.old) }
+        ensures bytes { OnOk result (IsReadAt (bytes self.old) offset buf.new) }
+        ensures unchanged { bytes self.new ≡ bytes self.old }
+        ensures features { features self.new ≡ features self.old }
+        ensures work { AddsAtMost 1 (length buf.old) 0 0 (work self.old) (work self.new) }
+        ensures only { IfErr result IsDeviceOrMemory }
+        ensures cause { CountsFaults (features self.old).is_reliable (fault_count self.old) (fault_count self.new) result }
+        ensures memory { IsErrOf result Error.Memory → MayRunOut (features self.old).read_memory (length (bytes self.old)) (offset + length buf.old) };
+
+    /// Writes the bytes at the offset. The storage grows to the end of the range, by zeroes where offsets are
+    /// skipped. Refused, each byte of the range is old or new, all others are old, and the length is between.
+    fn pure_writev(&mut self, source: &[u8], offset: u64) -> Result<(), Error>
+        requires { IsAlignedRequest (features self.old) offset (length source.now) }
+        ensures written { WriteOutcome (features self.old).keeps_data (bytes self.old) (splice (bytes self.old) offset source.now) (bytes self.new) result }
+        ensures torn { OnErr result (OldOrNew (bytes self.old) (splice (bytes self.old) offset source.now) (bytes self.new)) }
+        ensures atomic { IsTrue (features self.old).atomic → OnErr result (bytes self.new ≡ bytes self.old) }
+        ensures features { features self.new ≡ features self.old }
+        ensures work { AddsAtMost 0 0 1 (length source.now) (work self.old) (work self.new) }
+        ensures only { IfErr result IsDeviceOrMemory }
+        ensures cause { CountsFaults (features self.old).is_reliable (fault_count self.old) (fault_count self.new) result }
+        ensures memory { IsErrOf result Error.Memory → MayRunOut (features self.old).write_memory (length (bytes self.old)) (offset + length source.now) };
+
+    /// Zeroes a range with no buffer, `allocated` where it has to be allocated afterwards. A storage that can't do
+    /// so answers [`Error::Unsupported`] with nothing changed, and zeroes are written as data in its place.
+    fn zero_in_place(&mut self, offset: u64, count: u64, allocated: bool) -> Result<(), Error>
+        requires { IsAlignedTo (features self.old).zero_align offset count }
+        ensures written { WriteOutcome (features self.old).keeps_data (bytes self.old) (splice (bytes self.old) offset (replicate count 0)) (bytes self.new) result }
+        ensures torn { OnErr result (OldOrNew (bytes self.old) (splice (bytes self.old) offset (replicate count 0)) (bytes self.new)) }
+        ensures atomic { IsTrue (features self.old).atomic → OnErr result (bytes self.new ≡ bytes self.old) }
+        ensures unchanged { IsErrOf result Error.Unsupported → bytes self.new ≡ bytes self.old }
+        ensures features { features self.new ≡ features self.old }
+        ensures only { IfErr result IsPureRefusal }
+        ensures unsupported { IsErrOf result Error.Unsupported ↔ (zero_support (features self.old) allocated ≢ InPlace) }
+        ensures cause { CountsFaults (features self.old).is_reliable (fault_count self.old) (fault_count self.new) result }
+        ensures memory { IsErrOf result Error.Memory → MayRunOut (features self.old).zero_memory (length (bytes self.old)) (offset + count) };
+
+    /// Zeroes a range by pure writes, in pieces of at most 1 MiB or one alignment, from one buffer. It is
+    /// [`Error::Unsupported`], with nothing changed, where the count is no multiple of `mem_align`.
+    fn write_zeroes_as_data(&mut self, alloc: Global, offset: u64, count: u64) -> Result<(), Error>
+        requires { IsAlignedTo (features self.old).zero_align offset count }
+        ensures written { WriteOutcome (features self.old).keeps_data (bytes self.old) (splice (bytes self.old) offset (replicate count 0)) (bytes self.new) result }
+        ensures features { features self.new ≡ features self.old }
+        ensures only { IfErr result IsPureRefusal }
+        ensures unsupported { IsErrOf result Error.Unsupported ↔ (count % (features self.old).mem_align ≢ 0) }
+        ensures cause { CountsFaults (features self.old).is_reliable (fault_count self.old) (fault_count self.new) result }
+    {
+        let mem_align = (*self).mem_align() as u64;
+        let req_align = (*self).req_align() as u64;
+        if count % mem_align != 0 {
+            return Err(Error::Unsupported);
+        }
+        let piece = req_align.max(mem_align).max(ZERO_PIECE);
+        let first = piece.min(count);
+        let zeroes = zero_buffer(alloc, first as usize)?;
+        self.pure_writev(&zeroes, offset)?;
+        let mut done = first;
+        while done < count {
+            let next = piece.min(count - done);
+            self.pure_writev(&zeroes[..next as usize], offset + done)?;
+            done += next;
+        }
+        Ok(())
+    }
+
+    /// Zeroes a range: in place, or else as data. Refused, each byte of the range is old or zero, all others are
+    /// old, and the length is between.
+    fn pure_write_zeroes(&mut self, alloc: Global, offset: u64, count: u64) -> Result<(), Error>
+        requires { IsAlignedTo (features self.old).zero_align offset count }
+        ensures written { WriteOutcome (features self.old).keeps_data (bytes self.old) (splice (bytes self.old) offset (replicate count 0)) (bytes self.new) result }
+        ensures torn { (features self.old).zeroes ≡ InPlace → OnErr result (OldOrNew (bytes self.old) (splice (bytes self.old) offset (replicate count 0)) (bytes self.new)) }
+        ensures atomic { (features self.old).zeroes ≡ InPlace → IsTrue (features self.old).atomic → OnErr result (bytes self.new ≡ bytes self.old) }
+        ensures features { features self.new ≡ features self.old }
+        ensures only { IfErr result IsPureRefusal }
+        ensures offered { IsErrOf result Error.Unsupported → MayBeUnsupported (features self.old).zeroes (features self.old).mem_align count }
+        ensures refused { (features self.old).zeroes ≡ AsData → count % (features self.old).mem_align ≢ 0 → IsErrOf result Error.Unsupported }
+        ensures cause { CountsFaults (features self.old).is_reliable (fault_count self.old) (fault_count self.new) result }
+        ensures memory { IsErrOf result Error.Memory → (features self.old).zeroes ≡ InPlace → MayRunOut (features self.old).zero_memory (length (bytes self.old)) (offset + count) }
+    {
+        match self.zero_in_place(offset, count, false) {
+            Err(Error::Unsupported) => self.write_zeroes_as_data(alloc, offset, count),
+            answer => answer,
+        }
+    }
+
+    /// Zeroes a range and allocates it: in place, or else as data. Refused, it leaves what
+    /// [`pure_write_zeroes`](Self::pure_write_zeroes) leaves.
+    fn pure_write_allocated_zeroes(
+        &mut self,
+        alloc: Global,
+        offset: u64,
+        count: u64,
+    ) -> Result<(), Error>
+        requires { IsAlignedTo (features self.old).zero_align offset count }
+        ensures written { WriteOutcome (features self.old).keeps_data (bytes self.old) (splice (bytes self.old) offset (replicate count 0)) (bytes self.new) result }
+        ensures torn { (features self.old).allocated_zeroes ≡ InPlace → OnErr result (OldOrNew (bytes self.old) (splice (bytes self.old) offset (replicate count 0)) (bytes self.new)) }
+        ensures atomic { (features self.old).allocated_zeroes ≡ InPlace → IsTrue (features self.old).atomic → OnErr result (bytes self.new ≡ bytes self.old) }
+        ensures features { features self.new ≡ features self.old }
+        ensures only { IfErr result IsPureRefusal }
+        ensures offered { IsErrOf result Error.Unsupported → MayBeUnsupported (features self.old).allocated_zeroes (features self.old).mem_align count }
+        ensures refused { (features self.old).allocated_zeroes ≡ AsData → count % (features self.old).mem_align ≢ 0 → IsErrOf result Error.Unsupported }
+        ensures cause { CountsFaults (features self.old).is_reliable (fault_count self.old) (fault_count self.new) result }
+        ensures memory { IsErrOf result Error.Memory → (features self.old).allocated_zeroes ≡ InPlace → MayRunOut (features self.old).zero_memory (length (bytes self.old)) (offset + count) }
+    {
+        match self.zero_in_place(offset, count, true) {
+            Err(Error::Unsupported) => self.write_zeroes_as_data(alloc, offset, count),
+            answer => answer,
+        }
+    }
+
+    /// Says that a range is no longer needed. Its bytes are unspecified afterwards, also where it is refused; all
+    /// others, and the length, stay. By default nothing is done.
+    fn pure_discard(&mut self, offset: u64, count: u64) -> Result<(), Error>
+        requires { IsAlignedTo (features self.old).discard_align offset count }
+        ensures bytes { SameOutside offset count (bytes self.old) (bytes self.new) }
+        ensures features { features self.new ≡ features self.old }
+        ensures only { IfErr result IsPureRefusal }
+        ensures offered { IsErrOf result Error.Unsupported → (features self.old).offers_discard ≡ false }
+        ensures cause { CountsFaults (features self.old).is_reliable (fault_count self.old) (fault_count self.new) result }
+        ensures memory { IsErrOf result Error.Memory → MayRunOut (features self.old).other_memory 0 0 }
+    {
+        let _ = offset;
+        let _ = count;
+        Ok(())
+    }
+
+    /// Writes what the storage buffers. No byte changes.
+    fn flush(&mut self) -> Result<(), Error>
+        ensures unchanged { bytes self.new ≡ bytes self.old }
+        ensures features { features self.new ≡ features self.old }
+        ensures only { IfErr result IsDeviceOrMemory }
+        ensures cause { CountsFaults (features self.old).is_reliable (fault_count self.old) (fault_count self.new) result }
+        ensures memory { IsErrOf result Error.Memory → MayRunOut (features self.old).other_memory 0 0 };
+
+    /// Syncs what is written to the hardware. No byte changes.
+    fn sync(&mut self) -> Result<(), Error>
+        ensures unchanged { bytes self.new ≡ bytes self.old }
+        ensures features { features self.new ≡ features self.old }
+        ensures only { IfErr result IsDeviceOrMemory }
+        ensures cause { CountsFaults (features self.old).is_reliable (fault_count self.old) (fault_count self.new) result }
+        ensures memory { IsErrOf result Error.Memory → MayRunOut (features self.old).other_memory 0 0 };
+
+    /// Waits for all writes, zero writes and discards made before. No byte changes. By default nothing is done.
+    fn settle_writes(&mut self) -> Result<(), Error>
+        ensures unchanged { bytes self.new ≡ bytes self.old }
+        ensures features { features self.new ≡ features self.old }
+        ensures only { IfErr result IsDeviceOrMemory }
+        ensures cause { CountsFaults (features self.old).is_reliable (fault_count self.old) (fault_count self.new) result }
+        ensures memory { IsErrOf result Error.Memory → MayRunOut (features self.old).other_memory 0 0 }
+    {
+        Ok(())
+    }
+
+    /// Drops what the storage caches. No byte changes.
+    fn invalidate_cache(&mut self) -> Result<(), Error>
+        ensures unchanged { bytes self.new ≡ bytes self.old }
+        ensures features { features self.new ≡ features self.old }
+        ensures only { IfErr result IsDeviceOrMemory }
+        ensures cause { CountsFaults (features self.old).is_reliable (fault_count self.old) (fault_count self.new) result }
+        ensures memory { IsErrOf result Error.Memory → MayRunOut (features self.old).other_memory 0 0 };
+
+    /// Sets the length in bytes. Bytes that stay are kept; new ones are zero, or unspecified for
+    /// [`PreallocateMode::None`]. A smaller size ignores the mode. Refused, nothing changed; a storage that can't be
+    /// resized answers [`Error::Unsupported`].
+    fn resize(&mut self, new_size: u64, mode: PreallocateMode) -> Result<(), Error>
+        ensures resized { OnOk result (IsResized (bytes self.old) new_size mode (bytes self.new)) }
+        ensures unchanged { OnErr result (bytes self.new ≡ bytes self.old) }
+        ensures features { features self.new ≡ features self.old }
+        ensures only { IfErr result IsPureRefusal }
+        ensures offered { IsErrOf result Error.Unsupported → (features self.old).offers_resize ≡ false }
+        ensures cause { CountsFaults (features self.old).is_reliable (fault_count self.old) (fault_count self.new) result }
+        ensures memory { IsErrOf result Error.Memory → MayRunOut (features self.old).resize_memory (length (bytes self.old)) new_size };
+
+    /// The alignments are powers of two, and those of zero writes and discards multiples of that of requests.
+    ghost lawful: { (s : Self) → AreAlignments (features s) };
+}
