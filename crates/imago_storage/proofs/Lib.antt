@@ -2,4 +2,8 @@ pub mod Alignment
 pub mod Splices
 pub mod Outcomes
 pub mod ZeroPieces
+pub mod Padding
+pub mod Writes
+pub mod Blocks
 pub mod ZeroRanges
+pub mod ZeroWraps

@@ -2,6 +2,7 @@ use Rattle.std.proofs.Common.{◌≡◌, ℕ, ◌≤◌, ◌<◌, ◌⊎◌, Lis
 use Rattle.imago_storage.specs.Bytes.{OldOrNew, WriteOutcome}
 use Rattle.imago_storage.specs.Faults.{CountsFaults}
 use Rattle.imago_storage.specs.declared.error.Error.{Error}
+use Rattle.imago_storage.specs.declared.error.Error.TheVariants.{WrapAround}
 use Rattle.imago_storage.proofs.Splices.{OldOrNew_more}
 
 pub OnErr_map : {T P Q : Type 0} (r : Result T Error) → (P → Q) → OnErr r P → OnErr r Q
@@ -49,6 +50,17 @@ WriteOutcome_refused keeps old part target now r d q e was is first w = rw is (r
   no_longer = omega (arith, w.no_longer, first.no_longer);
 })
 
+-- a first part that was written, and then a refusal that changed nothing
+pub WriteOutcome_stopped : {U : Type 0} (keeps : Bool) (old part target now : List ℕ) (q : Result U Error) (e : Error) → q ≡ Err e
+    → OldOrNew old target part → WriteOutcome {T = Unit {0}} keeps old part now (Ok tt) → WriteOutcome keeps old target now q
+WriteOutcome_stopped keeps old part target now q e is first w = rw is (record {
+  done = λ _. tt;
+  len = tt;
+  refused = λ k. let same : now ≡ part = w.done k in rw same first;
+  no_shorter = w.no_shorter;
+  no_longer = omega (arith, w.no_longer, first.no_longer);
+})
+
 -- A first part that was written, and then what the second did: both are one write.
 pub WriteOutcome_then : {T U : Type 0} (keeps : Bool) (old part mid rest target now : List ℕ) (r : Result T Error) (x : T) (q : Result U Error)
     → WriteOutcome keeps old part mid r → r ≡ Ok x → WriteOutcome keeps mid rest now q → OldOrNew old target part
@@ -77,3 +89,15 @@ CountsFaults_then reliable again a b c r q e h k = record {
 -- a success, without its value
 pub CountsFaults_ok : {T U : Type 0} (reliable : Bool) (a b : ℕ) (r : Result T Error) (y : U) → CountsFaults reliable a b r → CountsFaults {T = U} reliable a b (Ok y)
 CountsFaults_ok reliable a b r y h = record { later = h.later; reliable = h.reliable; device = λ never. absurd (cc) }
+
+-- what is passed on was refused
+pub same_refusal : {T U : Type 0} (r : Result T Error) (q : Result U Error) (d e x : Error) → r ≡ Err d → q ≡ Err e → e ≡ d → q ≡ Err x → r ≡ Err x
+same_refusal r q d e x was is same wraps = cc
+
+pub not_refused : {T : Type 0} (r : Result T Error) (y : T) (e : Error) → r ≡ Ok y → ¬ (r ≡ Err e)
+not_refused r y e was refused = cc
+
+-- what wraps around is refused, so a success fits
+pub fits_where_ok : {T : Type 0} (r : Result T Error) (W P : Type 0) → (W → r ≡ Err WrapAround) → ((¬ W) → P) → OnOk r P
+fits_where_ok (Ok x) W P refused fits = fits (λ w. not_refused (Ok x) x WrapAround refl (refused w))
+fits_where_ok (Err e) W P refused fits = tt

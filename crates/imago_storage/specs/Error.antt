@@ -30,3 +30,7 @@ IsPureRefusal e = (e ≡ Unsupported) ⊎ (e ≡ Device) ⊎ (e ≡ Memory)
 -- what a request of any alignment is refused for
 abbrev pub IsExtRefusal : Error → Type 0
 IsExtRefusal e = (e ≡ WrapAround) ⊎ (e ≡ Device) ⊎ (e ≡ Memory)
+
+-- what zeroing a part and its edges is refused for
+abbrev pub IsZeroRefusal : Error → Type 0
+IsZeroRefusal e = (e ≡ Unsupported) ⊎ IsExtRefusal e

@@ -7,4 +7,5 @@ pub mod Options
 pub mod Powers
 pub mod Mem
 pub mod Padding
+pub mod Blocks
 pub mod Zeroes

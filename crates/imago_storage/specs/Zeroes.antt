@@ -1,4 +1,4 @@
-use Rattle.std.specs.Prelude.{◌≡◌, ◌≢◌, ℕ, ◌+◌, ◌-◌, ◌%◌, ◌<◌, ◌≤◌, ◌⊎◌, List, min, replicate, Result}
+use Rattle.std.specs.Prelude.{◌≡◌, ◌≢◌, ℕ, ◌+◌, ◌-◌, ◌%◌, ◌<◌, ◌≤◌, ◌⊎◌, List, min, replicate, Result, IsOk}
 use Rattle.imago_storage.specs.declared.error.Error.{Error}
 use Rattle.imago_storage.specs.Bytes.{splice, zero_extended, WriteOutcome}
 use Rattle.imago_storage.specs.Features.{Features, ZeroSupport, InPlace, AsData, NotOffered, MayBeUnsupported, len_align}
@@ -12,6 +12,11 @@ pub record HasZeroed {T : Type 0} (f : Features) (old : List ℕ) (at n : ℕ) (
   pub near : end < at + n + len_align f
   pub written : WriteOutcome f.keeps_data old (zero_extended (splice old at (replicate n 0)) end) now result
 
+-- The same of a range that may be empty: then nothing changed, and nothing was refused.
+pub record ZeroedPart {T : Type 0} (f : Features) (old : List ℕ) (at n : ℕ) (now : List ℕ) (result : Result T Error) : Type 0 where
+  pub some : 0 < n → HasZeroed f old at n now result
+  pub none : n ≡ 0 → IsOk result × (now ≡ old)
+
 -- of a range with an aligned part, what stands before that part or behind it wraps around once it is padded
 abbrev pub EdgeWraps : Features → ℕ → ℕ → Type 0
 EdgeWraps f at n = Wraps f at (aligned_start f.zero_align at - at) ⊎ Wraps f (aligned_end f.zero_align at n) (at + n - aligned_end f.zero_align at n)
@@ -19,6 +24,17 @@ EdgeWraps f at n = Wraps f at (aligned_start f.zero_align at - at) ⊎ Wraps f (
 -- The range as data wraps around: what stands before its first multiple of the request alignment, or what follows.
 abbrev pub DataWraps : Features → ℕ → ℕ → Type 0
 DataWraps f at n = Wraps f at (min n (aligned_start f.req_align at - at)) ⊎ Wraps f (aligned_start f.req_align at) (at + n - aligned_start f.req_align at)
+
+-- The first bytes of a range, up to its first multiple of the request alignment where it doesn't start on one. What
+-- they and the rest do when they are padded is what the whole does as data.
+pub record IsHead (f : Features) (at n first : ℕ) : Type 0 where
+  pub positive : 0 < first
+  pub within : first ≤ n
+  pub rest_start : first < n → (at + first) % f.req_align ≡ 0
+  pub wraps : Wraps f at first → DataWraps f at n
+  pub fits : first ≡ n → ¬ Wraps f at first → ¬ DataWraps f at n
+  pub rest_wraps : first < n → Wraps f (at + first) (n - first) → DataWraps f at n
+  pub rest_fits : first < n → ¬ Wraps f at first → ¬ Wraps f (at + first) (n - first) → ¬ DataWraps f at n
 
 -- the range has a part that is aligned for zero writes
 abbrev pub HasPart : Features → ℕ → ℕ → Type 0

@@ -4,10 +4,14 @@
 //! any range of it readable and writable, and says what a refused call leaves.
 #![tactic(auto)]
 
+mod align;
 mod bytes;
 pub mod error;
+pub mod ext;
+pub mod laws;
 pub mod lent;
 pub mod mem;
 pub mod null;
 pub mod options;
 pub mod storage;
+mod zeroes;

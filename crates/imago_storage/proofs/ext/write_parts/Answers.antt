@@ -1,0 +1,63 @@
+use Rattle.std.proofs.Common.{arith, ◌≡◌, ◌+◌, ◌-◌, ◌<◌, length}
+use Rattle.std.proofs.lemmas.List.{take_rest}
+use Rattle.imago_storage.proofs.Blocks.{part_facts}
+use Rattle.imago_storage.proofs.Writes.{length-rest, first_refused, second_written}
+use Rattle.imago_storage.proofs.ext.write_parts.Goals as goal
+
+pub write_blocks-requires : goal.write_blocks-requires
+write_blocks-requires g c = (part_facts c.requires).no_head c.if-head-eq0.true
+
+pub returns-then-head-eq0-clause-written : goal.returns-then-head-eq0-clause-written
+returns-then-head-eq0-clause-written g c = rw ((part_facts c.requires).no_head_ends c.if-head-eq0.true) at c.write_blocks.ensures.written
+
+pub update_block-requires-clause-aligned : goal.update_block-requires-clause-aligned
+update_block-requires-clause-aligned g c = (part_facts c.requires).first
+
+pub returns-then-source-align-clause-written : goal.returns-then-source-align-clause-written
+returns-then-source-align-clause-written g c =
+    let b = part_facts c.requires in
+    rw (b.one_block c.if-source-align.true) (rw b.from_start at c.update_block.ensures.written)
+
+pub returns-then-source-align-clause-work : goal.returns-then-source-align-clause-work
+returns-then-source-align-clause-work g c =
+    let u = c.update_block.ensures.work in
+    record {
+      reads = omega (arith, u.reads);
+      bytes_read = omega (arith, u.bytes_read);
+      writes = omega (arith, u.writes);
+      bytes_written = omega (arith, u.bytes_written, (part_facts c.requires).wide);
+    }
+
+pub update_block-requires-2-clause-aligned : goal.update_block-requires-2-clause-aligned
+update_block-requires-2-clause-aligned g c = (part_facts c.requires).first
+
+pub returns-in_err-update_block-clause-written : goal.returns-in_err-update_block-clause-written
+returns-in_err-update_block-clause-written g c =
+    let b = part_facts c.requires in
+    let first = rw b.from_start at c.update_block-2.ensures.written in
+    first_refused _ c.from_residual.result c.args.source.now (b.split c.if-source-align.false) first c.in_err-update_block.was c.from_residual.ensures.1
+
+pub write_blocks-requires-2 : goal.write_blocks-requires-2
+write_blocks-requires-2 g c =
+    rw (c.in_ok-update_block.ensures.features, c.update_block-2.auto.block, length-rest c.args.source.now _) ((part_facts c.requires).rest c.if-source-align.false)
+
+pub returns-clause-written : goal.returns-clause-written
+returns-clause-written g c =
+    let b = part_facts c.requires in
+    let source = c.args.source.now in
+    let taken = length c.args.block.now - (c.args.offset - c.args.start) in
+    let at : c.args.start + length c.args.block.now ≡ c.args.offset + taken = omega (arith, b.from_start, b.in_block) in
+    let first = rw b.from_start at c.update_block-2.ensures.written in
+    let rest = rw (c.in_ok-update_block.ensures.features, c.update_block-2.auto.block, length-rest source taken, b.rest_ends c.if-source-align.false, at, take_rest source taken) at c.write_blocks-2.ensures.written in
+    second_written source (b.split c.if-source-align.false) first c.in_ok-update_block.was rest
+
+pub returns-clause-work : goal.returns-clause-work
+returns-clause-work g c =
+    let u = c.in_ok-update_block.ensures.work in
+    let v = rw (c.update_block-2.auto.block, length-rest c.args.source.now _) at c.write_blocks-2.ensures.work in
+    record {
+      reads = omega (arith, u.reads, v.reads);
+      bytes_read = omega (arith, u.bytes_read, v.bytes_read);
+      writes = omega (arith, u.writes, v.writes);
+      bytes_written = omega (arith, u.bytes_written, v.bytes_written, (part_facts c.requires).rest_ends c.if-source-align.false);
+    }

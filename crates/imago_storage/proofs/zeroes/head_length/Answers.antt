@@ -1,0 +1,11 @@
+use Rattle.std.proofs.Common.{◌≡◌, ◌≢◌, ◌-◌, ◌%◌, ℕ, min, arith}
+use Rattle.imago_storage.proofs.ZeroWraps.{is_head}
+use Rattle.imago_storage.proofs.zeroes.head_length.Goals as goal
+
+pub returns-clause-some : goal.returns-clause-some
+returns-clause-some g c = λ some.
+    let f = g.S.Storage.features c.args.storage.now in
+    let request = c.request_align-request.ensures.value in
+    let off : c.args.offset % f.req_align ≢ 0 = rw (← request) c.if-past-eq0.false in
+    let is : c.min.result ≡ min (f.req_align - c.args.offset % f.req_align) c.args.count = rw (← request) c.min.ensures in
+    is_head f c.args.offset c.args.count c.min.result (g.met.S.Storage.lawful c.args.storage.now) off c.requires is

@@ -1,0 +1,85 @@
+use Rattle.std.proofs.Common.{◌≡◌, ◌<◌, ◌+◌, ◌-◌, ◌%◌, ℕ, max, arith, ap, ◌∙◌}
+use Rattle.std.proofs.lemmas.Result.{err_from_is_err_and}
+use Rattle.imago_storage.specs.Features.{len_align}
+use Rattle.imago_storage.specs.Zeroes.{IsHead}
+use Rattle.imago_storage.proofs.Outcomes.{OnOk_map, same_refusal, not_refused}
+use Rattle.imago_storage.proofs.Padding.{len_positive}
+use Rattle.imago_storage.proofs.ZeroPieces.{piece_whole, align_power}
+use Rattle.imago_storage.proofs.ZeroRanges.{HasZeroed_unchanged, HasZeroed_refused, HasZeroed_next}
+use Rattle.imago_storage.proofs.ZeroWraps.{data_from_start}
+use Rattle.imago_storage.proofs.zeroes.zero_as_data.Goals as goal
+
+pub returns-in_err-zeroes-clause-written : goal.returns-in_err-zeroes-clause-written
+returns-in_err-zeroes-clause-written g c =
+    let f = g.S.Storage.features c.args.storage.now in
+    let p = err_from_is_err_and c.from_residual.result c.from_residual.ensures.1 in
+    HasZeroed_unchanged f _ _ _ _ _ (len_positive f (g.met.S.Storage.lawful c.args.storage.now)) p.1
+
+pub zero_pieces-requires-clause-whole : goal.zero_pieces-requires-clause-whole
+zero_pieces-requires-clause-whole g c =
+    let f = g.S.Storage.features c.args.storage.now in
+    rw (c.max-piece.ensures, c.length_align.ensures.value) (piece_whole (len_align f) (align_power f (g.met.S.Storage.lawful c.args.storage.now)))
+
+pub returns-then-first-eq0-clause-wraps : goal.returns-then-first-eq0-clause-wraps
+returns-then-first-eq0-clause-wraps g c = λ wraps.
+    let f = g.S.Storage.features c.args.storage.now in
+    let starts = c.head_length-first.ensures.none c.if-first-eq0.true in
+    (data_from_start f c.args.offset c.args.count (g.met.S.Storage.lawful c.args.storage.now) starts).0 (c.zero_pieces.ensures.wraps wraps)
+
+pub returns-then-first-eq0-clause-fits : goal.returns-then-first-eq0-clause-fits
+returns-then-first-eq0-clause-fits g c =
+    let f = g.S.Storage.features c.args.storage.now in
+    let starts = c.head_length-first.ensures.none c.if-first-eq0.true in
+    OnOk_map _ (data_from_start f c.args.offset c.args.count (g.met.S.Storage.lawful c.args.storage.now) starts).1 c.zero_pieces.ensures.fits
+
+pub returns-in_err-zero_from-clause-written : goal.returns-in_err-zero_from-clause-written
+returns-in_err-zero_from-clause-written g c =
+    let f = g.S.Storage.features c.args.storage.now in
+    let p = err_from_is_err_and c.from_residual-in_err-zero_from.result c.from_residual-in_err-zero_from.ensures.1 in
+    let h : IsHead f c.args.offset c.args.count c.head_length-first.result = c.head_length-first.ensures.some (omega arith) in
+    HasZeroed_refused f _ _ c.args.offset c.head_length-first.result c.args.offset c.args.count _ _ _ _ (c.zero_from.ensures.written.some h.positive) c.in_err-zero_from.was p.1 (omega arith) (omega (arith, h.within))
+
+pub returns-in_err-zero_from-clause-wraps : goal.returns-in_err-zero_from-clause-wraps
+returns-in_err-zero_from-clause-wraps g c = λ wraps.
+    let p = err_from_is_err_and c.from_residual-in_err-zero_from.result c.from_residual-in_err-zero_from.ensures.1 in
+    let h = c.head_length-first.ensures.some (omega arith) in
+    h.wraps (c.zero_from.ensures.wraps.0 (same_refusal _ _ _ _ _ c.in_err-zero_from.was p.1 p.2 wraps))
+
+pub returns-then-first-count-clause-written : goal.returns-then-first-count-clause-written
+returns-then-first-count-clause-written g c =
+    let h = c.head_length-first.ensures.some (omega arith) in
+    rw (c.if-first-count.true, c.in_ok-zero_from.was) at (c.zero_from.ensures.written.some h.positive)
+
+pub returns-then-first-count-clause-fits : goal.returns-then-first-count-clause-fits
+returns-then-first-count-clause-fits g c =
+    let h = c.head_length-first.ensures.some (omega arith) in
+    h.fits c.if-first-count.true (λ w. not_refused _ _ _ c.in_ok-zero_from.was (c.zero_from.ensures.wraps.1 w))
+
+pub zero_pieces-requires-2-clause-whole : goal.zero_pieces-requires-2-clause-whole
+zero_pieces-requires-2-clause-whole g c =
+    let f = g.S.Storage.features c.args.storage.now in
+    rw (c.in_ok-zero_from.ensures.features, c.max-piece.ensures, c.length_align.ensures.value) (piece_whole (len_align f) (align_power f (g.met.S.Storage.lawful c.args.storage.now)))
+
+pub zero_pieces-requires-2-clause-start : goal.zero_pieces-requires-2-clause-start
+zero_pieces-requires-2-clause-start g c =
+    let h = c.head_length-first.ensures.some (omega arith) in
+    rw c.in_ok-zero_from.ensures.features (h.rest_start (omega (arith, h.within, c.if-first-count.false)))
+
+pub returns-clause-written : goal.returns-clause-written
+returns-clause-written g c =
+    let f = g.S.Storage.features c.args.storage.now in
+    let h = c.head_length-first.ensures.some (omega arith) in
+    let first = rw c.in_ok-zero_from.was at (c.zero_from.ensures.written.some h.positive) in
+    let all : c.head_length-first.result + (c.args.count - c.head_length-first.result) ≡ c.args.count = omega (arith, h.within) in
+    rw all at (HasZeroed_next f _ _ _ c.args.offset c.head_length-first.result (c.args.count - c.head_length-first.result) _ first (rw c.in_ok-zero_from.ensures.features at c.zero_pieces-2.ensures.written))
+
+pub returns-clause-wraps : goal.returns-clause-wraps
+returns-clause-wraps g c = λ wraps.
+    let h = c.head_length-first.ensures.some (omega arith) in
+    h.rest_wraps (omega (arith, h.within, c.if-first-count.false)) (rw c.in_ok-zero_from.ensures.features at (c.zero_pieces-2.ensures.wraps wraps))
+
+pub returns-clause-fits : goal.returns-clause-fits
+returns-clause-fits g c =
+    let h = c.head_length-first.ensures.some (omega arith) in
+    let fits = rw c.in_ok-zero_from.ensures.features at c.zero_pieces-2.ensures.fits in
+    OnOk_map _ (h.rest_fits (omega (arith, h.within, c.if-first-count.false)) (λ w. not_refused _ _ _ c.in_ok-zero_from.was (c.zero_from.ensures.wraps.1 w))) fits

@@ -1,0 +1,51 @@
+use Rattle.std.proofs.Common.{◌≡◌, ◌<◌, ◌+◌, ◌-◌, ℕ, arith, inl, inr}
+use Rattle.std.proofs.lemmas.Result.{err_from_is_err_and}
+use Rattle.imago_storage.specs.Padding.{Wraps}
+use Rattle.imago_storage.proofs.Outcomes.{same_refusal, not_refused, fits_where_ok}
+use Rattle.imago_storage.proofs.ZeroRanges.{HasZeroed_stopped, HasZeroed_refused, HasZeroed_before, HasZeroed_behind}
+use Rattle.imago_storage.proofs.ZeroWraps.{edge_wraps, edge_fits}
+use Rattle.imago_storage.proofs.zeroes.zero_edges.Goals as goal
+
+pub returns-in_err-zeroes-clause-written : goal.returns-in_err-zeroes-clause-written
+returns-in_err-zeroes-clause-written g c = λ old part.
+    let f = g.S.Storage.features c.args.storage.now in
+    let p = err_from_is_err_and c.from_residual.result c.from_residual.ensures.1 in
+    HasZeroed_stopped f old _ c.args.start (c.args.end - c.args.start) c.args.offset c.args.count _ _ part p.1 (omega (arith, c.requires.part.before)) (omega (arith, c.requires.part.behind, c.requires.some))
+
+pub returns-in_err-zero_from-clause-written : goal.returns-in_err-zero_from-clause-written
+returns-in_err-zero_from-clause-written g c = λ old part.
+    let f = g.S.Storage.features c.args.storage.now in
+    let p = err_from_is_err_and c.from_residual-in_err-zero_from.result c.from_residual-in_err-zero_from.ensures.1 in
+    let head = c.args.start - c.args.offset in
+    let here : c.args.offset + head ≡ c.args.start = omega (arith, c.requires.part.before) in
+    let both = HasZeroed_before f old _ _ c.args.offset head c.args.start (c.args.end - c.args.start) _ here part c.zero_from.ensures.written in
+    HasZeroed_refused f old _ c.args.offset (head + (c.args.end - c.args.start)) c.args.offset c.args.count _ _ _ _ both c.in_err-zero_from.was p.1 (omega arith) (omega (arith, c.requires.part.before, c.requires.part.behind, c.requires.some))
+
+pub returns-in_err-zero_from-clause-wraps : goal.returns-in_err-zero_from-clause-wraps
+returns-in_err-zero_from-clause-wraps g c = λ wraps.
+    let f = g.S.Storage.features c.args.storage.now in
+    let p = err_from_is_err_and c.from_residual-in_err-zero_from.result c.from_residual-in_err-zero_from.ensures.1 in
+    edge_wraps f _ _ _ _ c.requires.part (inl (c.zero_from.ensures.wraps.0 (same_refusal _ _ _ _ _ c.in_err-zero_from.was p.1 p.2 wraps)))
+
+pub returns-clause-written : goal.returns-clause-written
+returns-clause-written g c = λ old part.
+    let f = g.S.Storage.features c.args.storage.now in
+    let head = c.args.start - c.args.offset in
+    let middle = c.args.end - c.args.start in
+    let tail = c.args.offset + c.args.count - c.args.end in
+    let here : c.args.offset + head ≡ c.args.start = omega (arith, c.requires.part.before) in
+    let there : c.args.offset + (head + middle) ≡ c.args.end = omega (arith, c.requires.part.before, c.requires.some) in
+    let all : head + middle + tail ≡ c.args.count = omega (arith, c.requires.part.before, c.requires.part.behind, c.requires.some) in
+    let both = HasZeroed_before f old _ _ c.args.offset head c.args.start middle _ here part c.zero_from.ensures.written in
+    rw all at (HasZeroed_behind f old _ _ c.args.offset (head + middle) c.args.end tail _ there (rw c.in_ok-zero_from.was at both) (rw c.in_ok-zero_from.ensures.features at c.zero_from-2.ensures.written))
+
+pub returns-clause-wraps : goal.returns-clause-wraps
+returns-clause-wraps g c = λ wraps.
+    let f = g.S.Storage.features c.args.storage.now in
+    edge_wraps f _ _ _ _ c.requires.part (inr (rw c.in_ok-zero_from.ensures.features at (c.zero_from-2.ensures.wraps.0 wraps)))
+
+pub returns-clause-fits : goal.returns-clause-fits
+returns-clause-fits g c =
+    let f = g.S.Storage.features c.args.storage.now in
+    let head = λ (w : Wraps f c.args.offset (c.args.start - c.args.offset)). not_refused _ _ _ c.in_ok-zero_from.was (c.zero_from.ensures.wraps.1 w) in
+    fits_where_ok c.zero_from-2.result _ _ (λ w. c.zero_from-2.ensures.wraps.1 (rw c.in_ok-zero_from.ensures.features w)) (λ tail. edge_fits f _ _ _ _ c.requires.part head tail)

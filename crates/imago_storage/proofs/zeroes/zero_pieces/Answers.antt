@@ -1,0 +1,46 @@
+use Rattle.std.proofs.Common.{◌≡◌, ◌≢◌, ◌<◌, ◌+◌, ◌-◌, ◌%◌, ◌⊎◌, ℕ, min, arith, inl, inr, ap, ◌∙◌}
+use Rattle.std.proofs.lemmas.Bool.{cases_lt}
+use Rattle.std.proofs.lemmas.Result.{err_from_is_err_and}
+use Rattle.imago_storage.specs.Features.{len_align}
+use Rattle.imago_storage.proofs.Alignment.{multiple_add}
+use Rattle.imago_storage.proofs.Outcomes.{CountsFaults_ok, CountsFaults_then, same_refusal, not_refused}
+use Rattle.imago_storage.proofs.ZeroRanges.{ZeroedPart_next, HasZeroed_refused}
+use Rattle.imago_storage.proofs.ZeroWraps.{piece_wraps, last_fits, piece_kind}
+use Rattle.imago_storage.proofs.zeroes.zero_pieces.Goals as goal
+
+pub returns-in_err-zero_from-clause-written : goal.returns-in_err-zero_from-clause-written
+returns-in_err-zero_from-clause-written g c =
+    let f = g.S.Storage.features c.args.storage.now in
+    let p = err_from_is_err_and c.from_residual.result c.from_residual.ensures.1 in
+    let more : 0 < c.min-next.result = omega arith in
+    let step = ZeroedPart_next f _ _ _ c.args.offset c.loop-done.done c.min-next.result _ more c.loop-done.invariant.zeroed (rw c.loop-done.invariant.features at c.zero_from.ensures.written) in
+    HasZeroed_refused f _ _ c.args.offset (c.loop-done.done + c.min-next.result) c.args.offset c.args.count _ _ _ _ step c.in_err-zero_from.was p.1 (omega arith) (omega arith)
+
+pub returns-in_err-zero_from-clause-wraps : goal.returns-in_err-zero_from-clause-wraps
+returns-in_err-zero_from-clause-wraps g c = λ wraps.
+    let f = g.S.Storage.features c.args.storage.now in
+    let p = err_from_is_err_and c.from_residual.result c.from_residual.ensures.1 in
+    let lawful = g.met.S.Storage.lawful c.args.storage.now in
+    let left : c.loop-done.done ≢ c.args.count = omega arith in
+    let whole : c.loop-done.done % len_align f ≡ 0 = elim c.loop-done.invariant.whole [ inl w ↦ w | inr e ↦ absurd (left e) ] in
+    piece_wraps f c.args.offset c.args.count c.loop-done.done c.min-next.result lawful c.requires.start whole (omega arith) c.requires.ends
+        (rw c.min-next.ensures (piece_kind (len_align f) c.args.piece (c.args.count - c.loop-done.done) c.requires.whole))
+        (rw c.loop-done.invariant.features at (c.zero_from.ensures.wraps.0 (same_refusal _ _ _ _ _ c.in_err-zero_from.was p.1 p.2 wraps)))
+
+pub loop-done-preserved : goal.loop-done-preserved
+loop-done-preserved g c =
+    let f = g.S.Storage.features c.args.storage.now in
+    let lawful = g.met.S.Storage.lawful c.args.storage.now in
+    let left : c.loop-done.done ≢ c.args.count = omega arith in
+    let whole : c.loop-done.done % len_align f ≡ 0 = elim c.loop-done.invariant.whole [ inl w ↦ w | inr e ↦ absurd (left e) ] in
+    let more : 0 < c.min-next.result = omega arith in
+    let kind : (c.min-next.result % len_align f ≡ 0) ⊎ (c.min-next.result ≡ c.args.count - c.loop-done.done) = rw c.min-next.ensures (piece_kind (len_align f) c.args.piece (c.args.count - c.loop-done.done) c.requires.whole) in
+    let step = ZeroedPart_next f _ _ _ c.args.offset c.loop-done.done c.min-next.result _ more c.loop-done.invariant.zeroed (rw c.loop-done.invariant.features at c.zero_from.ensures.written) in
+    record {
+      counted = omega arith;
+      whole = elim kind [ inl w ↦ inl (multiple_add _ _ _ whole w) | inr e ↦ inr (omega arith) ];
+      features = c.in_ok-zero_from.ensures.features ∙ c.loop-done.invariant.features;
+      zeroed = record { some = λ _. rw c.in_ok-zero_from.was at step; none = λ zero. absurd (omega arith) };
+      fits = λ all. last_fits f c.args.offset c.args.count c.loop-done.done c.min-next.result lawful c.requires.start whole all more (λ w. not_refused _ _ _ c.in_ok-zero_from.was (c.zero_from.ensures.wraps.1 (rw c.loop-done.invariant.features w)));
+      cause = CountsFaults_ok _ _ _ _ tt (CountsFaults_then _ _ _ _ _ _ _ (ap (λ x. x.is_reliable) c.loop-done.invariant.features) c.loop-done.invariant.cause c.zero_from.ensures.cause);
+    }

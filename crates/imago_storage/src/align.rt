@@ -1,0 +1,80 @@
+//! The alignments of a storage, and the aligned ranges around and inside a range.
+ghost use Rattle.std.specs.Prelude.{◌≡◌, ℕ, ◌+◌, ◌-◌, ◌%◌, ◌^◌, ◌<◌, ◌≤◌, MatchOption};
+ghost use Rattle.std.specs.Int.{next_multiple_of};
+ghost use Rattle.std.specs.Option.{SomeIff};
+ghost use Rattle.imago_storage.specs.Features.{AreAlignments, len_align};
+ghost use Rattle.imago_storage.specs.Padding.{Wraps, IsPaddedRequest, RangeWraps, IsAlignedPart};
+
+use crate::storage::Storage;
+
+/// The multiple that a request's offset has to be.
+pub(crate) fn request_align<S: Storage>(storage: &S) -> u64
+    ensures value { result ≡ (S.features storage.now).req_align }
+    ensures positive { 0 < result }
+    ensures within { result ≤ len_align (S.features storage.now) }
+{
+    storage.req_align() as u64
+}
+
+/// The multiple that a request's length has to be.
+pub(crate) fn length_align<S: Storage>(storage: &S) -> u64
+    ensures value { result ≡ len_align (S.features storage.now) }
+    ensures positive { 0 < result }
+    ensures lawful { AreAlignments (S.features storage.now) }
+{
+    storage.req_align().max(storage.mem_align()) as u64
+}
+
+/// The multiple that a zero write's offset and length have to be.
+pub(crate) fn zero_align<S: Storage>(storage: &S) -> u64
+    ensures value { result ≡ (S.features storage.now).zero_align }
+    ensures positive { 0 < result }
+    ensures lawful { AreAlignments (S.features storage.now) }
+{
+    storage.zero_align() as u64
+}
+
+/// The multiple that a discard's offset and length have to be.
+pub(crate) fn discard_align<S: Storage>(storage: &S) -> u64
+    ensures value { result ≡ (S.features storage.now).discard_align }
+    ensures positive { 0 < result }
+    ensures lawful { AreAlignments (S.features storage.now) }
+{
+    storage.discard_align() as u64
+}
+
+/// The start and length of the range from the offset rounded down, of a multiple that covers the request. `None` where
+/// its end passes `u64::MAX`.
+fn padded_range(request: u64, multiple: u64, offset: u64, count: u64) -> Option<(u64, u64)>
+    requires request { 0 < request }
+    requires multiple { 0 < multiple }
+    ensures { SomeIff result (offset - offset % request + next_multiple_of (offset % request + count) multiple < 2 ^ 64) (offset - offset % request, next_multiple_of (offset % request + count) multiple) }
+{
+    let head = offset % request;
+    let start = offset - head;
+    let len = head.checked_add(count)?.checked_next_multiple_of(multiple)?;
+    start.checked_add(len)?;
+    Some((start, len))
+}
+
+/// The start and length of the aligned request that covers this one. `None` where it wraps around.
+#[tactic(auto, using(crate::proofs::Padding::padded_request_of))]
+pub(crate) fn padded_request<S: Storage>(storage: &S, offset: u64, count: u64) -> Option<(u64, u64)>
+    requires { 0 < count }
+    ensures { MatchOption result (Wraps (S.features storage.now) offset count) (λ p. IsPaddedRequest (S.features storage.now) offset count p.0 p.1) }
+{
+    let request = request_align(storage);
+    let multiple = length_align(storage);
+    padded_range(request, multiple, offset, count)
+}
+
+/// The start and end of the aligned part of a range, which is empty where it ends by its start. `None` where the
+/// range's end, or its start rounded up, passes `u64::MAX`.
+pub(crate) fn aligned_part(align: u64, offset: u64, count: u64) -> Option<(u64, u64)>
+    requires { 0 < align }
+    ensures { MatchOption result (RangeWraps align offset count) (λ p. IsAlignedPart align offset count p.0 p.1) }
+{
+    let range_end = offset.checked_add(count)?;
+    let start = offset.checked_next_multiple_of(align)?;
+    Some((start, range_end - range_end % align))
+}

@@ -1,0 +1,248 @@
+//! Zero writes of any range.
+ghost use Rattle.std.specs.Prelude.{◌≡◌, ◌≢◌, ℕ, ◌+◌, ◌-◌, ◌%◌, ◌<◌, ◌≤◌, ◌^◌, length, min, replicate, Bool, OnOk, OnErr, IfErr, IsErrOf, IsOk, Ok, List, ◌↔◌};
+ghost use Rattle.imago_storage.specs.Error.{IsExtRefusal, IsPureRefusal, IsZeroRefusal};
+ghost use Rattle.imago_storage.specs.Faults.{CountsFaults};
+ghost use Rattle.imago_storage.specs.Features.{Features, InPlace, AsData, MayRunOut, MayBeUnsupported, IsAlignedTo, len_align, zero_support};
+ghost use Rattle.imago_storage.specs.Padding.{Wraps, RangeWraps, IsAlignedPart};
+ghost use Rattle.imago_storage.specs.Zeroes.{HasZeroed, ZeroedPart, IsHead, EdgeWraps, DataWraps, MayWrap, FitsZeroes};
+
+use crate::align::{aligned_part, length_align, request_align, zero_align};
+use crate::error::Error;
+use crate::ext::write_any;
+use crate::storage::{Storage, ZERO_PIECE, zero_buffer};
+use std::alloc::Global;
+
+/// Zeroes a range: its part that is aligned to the zero alignment by a zero write of the storage, and what stands
+/// before and behind it as data; the whole range as data where it has no such part, or where the storage refuses
+/// that zero write as unsupported.
+pub(crate) fn zero_any<S: Storage>(
+    storage: &mut S,
+    alloc: Global,
+    offset: u64,
+    count: u64,
+    allocated: bool,
+) -> Result<(), Error>
+    ensures empty { count ≡ 0 → IsOk result × (storage.new ≡ storage.old) }
+    ensures written { 0 < count → HasZeroed (S.features storage.old) (S.bytes storage.old) offset count (S.bytes storage.new) result }
+    ensures wraps { 0 < count → RangeWraps (S.features storage.old).zero_align offset count → IsErrOf result Error.WrapAround × (storage.new ≡ storage.old) }
+    ensures may_wrap { IsErrOf result Error.WrapAround → MayWrap (S.features storage.old) (zero_support (S.features storage.old) allocated) offset count }
+    ensures fits { 0 < count → OnOk result (FitsZeroes (S.features storage.old) (zero_support (S.features storage.old) allocated) offset count) }
+    ensures features { S.features storage.new ≡ S.features storage.old }
+    ensures only { IfErr result IsExtRefusal }
+    ensures cause { CountsFaults (S.features storage.old).is_reliable (S.fault_count storage.old) (S.fault_count storage.new) result }
+    ensures memory { IsErrOf result Error.Memory → IsAlignedTo (S.features storage.old).zero_align offset count → zero_support (S.features storage.old) allocated ≡ InPlace → MayRunOut (S.features storage.old).zero_memory (length (S.bytes storage.old)) (offset + count) }
+{
+    if count == 0 {
+        return Ok(());
+    }
+    let align = zero_align(&*storage);
+    let Some((start, end)) = aligned_part(align, offset, count) else {
+        return Err(Error::WrapAround);
+    };
+    zero_range(storage, alloc, offset, count, start, end, allocated)
+}
+
+/// Zeroes a range whose aligned part stands from `start` to `end`.
+fn zero_range<S: Storage>(
+    storage: &mut S,
+    alloc: Global,
+    offset: u64,
+    count: u64,
+    start: u64,
+    end: u64,
+    allocated: bool,
+) -> Result<(), Error>
+    requires part { IsAlignedPart (S.features storage.old).zero_align offset count start end }
+    requires some { 0 < count }
+    ensures written { HasZeroed (S.features storage.old) (S.bytes storage.old) offset count (S.bytes storage.new) result }
+    ensures may_wrap { IsErrOf result Error.WrapAround → MayWrap (S.features storage.old) (zero_support (S.features storage.old) allocated) offset count }
+    ensures fits { OnOk result (FitsZeroes (S.features storage.old) (zero_support (S.features storage.old) allocated) offset count) }
+    ensures features { S.features storage.new ≡ S.features storage.old }
+    ensures only { IfErr result IsExtRefusal }
+    ensures cause { CountsFaults (S.features storage.old).is_reliable (S.fault_count storage.old) (S.fault_count storage.new) result }
+    ensures memory { IsErrOf result Error.Memory → IsAlignedTo (S.features storage.old).zero_align offset count → zero_support (S.features storage.old) allocated ≡ InPlace → MayRunOut (S.features storage.old).zero_memory (length (S.bytes storage.old)) (offset + count) }
+{
+    if end <= start {
+        return zero_as_data(storage, alloc, offset, count);
+    }
+    match zero_part_and_edges(storage, alloc, offset, count, start, end, allocated) {
+        Err(Error::Unsupported) => zero_as_data(storage, alloc, offset, count),
+        Err(refusal) => Err(refusal),
+        Ok(()) => Ok(()),
+    }
+}
+
+/// Zeroes the aligned part of a range by a zero write of the storage, and then its edges as data. Where that zero
+/// write is refused as unsupported, so is this, and each byte of the range is old or zero.
+fn zero_part_and_edges<S: Storage>(
+    storage: &mut S,
+    alloc: Global,
+    offset: u64,
+    count: u64,
+    start: u64,
+    end: u64,
+    allocated: bool,
+) -> Result<(), Error>
+    requires part { IsAlignedPart (S.features storage.old).zero_align offset count start end }
+    requires some { start < end }
+    ensures written { HasZeroed (S.features storage.old) (S.bytes storage.old) offset count (S.bytes storage.new) result }
+    ensures wraps { IsErrOf result Error.WrapAround → EdgeWraps (S.features storage.old) offset count }
+    ensures fits { OnOk result (¬ EdgeWraps (S.features storage.old) offset count) }
+    ensures offered { IsErrOf result Error.Unsupported → MayBeUnsupported (zero_support (S.features storage.old) allocated) (S.features storage.old).mem_align (end - start) }
+    ensures refused { zero_support (S.features storage.old) allocated ≡ AsData → (end - start) % (S.features storage.old).mem_align ≢ 0 → IsErrOf result Error.Unsupported }
+    ensures features { S.features storage.new ≡ S.features storage.old }
+    ensures only { IfErr result IsZeroRefusal }
+    ensures cause { CountsFaults (S.features storage.old).is_reliable (S.fault_count storage.old) (S.fault_count storage.new) result }
+    ensures memory { IsErrOf result Error.Memory → start ≡ offset → end ≡ offset + count → zero_support (S.features storage.old) allocated ≡ InPlace → MayRunOut (S.features storage.old).zero_memory (length (S.bytes storage.old)) (offset + count) }
+{
+    zero_part(storage, alloc, start, end - start, allocated)?;
+    if start == offset && end == offset + count {
+        return Ok(());
+    }
+    zero_edges(storage, alloc, offset, count, start, end)
+}
+
+/// Zeroes as data what stands before and behind the aligned part of a range, which is zeroed already.
+fn zero_edges<S: Storage>(
+    storage: &mut S,
+    alloc: Global,
+    offset: u64,
+    count: u64,
+    start: u64,
+    end: u64,
+) -> Result<(), Error>
+    requires part { IsAlignedPart (S.features storage.old).zero_align offset count start end }
+    requires some { start < end }
+    ensures written { (old : List ℕ) → HasZeroed {T = Unit {0}} (S.features storage.old) old start (end - start) (S.bytes storage.old) (Ok tt) → HasZeroed (S.features storage.old) old offset count (S.bytes storage.new) result }
+    ensures wraps { IsErrOf result Error.WrapAround → EdgeWraps (S.features storage.old) offset count }
+    ensures fits { OnOk result (¬ EdgeWraps (S.features storage.old) offset count) }
+    ensures features { S.features storage.new ≡ S.features storage.old }
+    ensures only { IfErr result IsExtRefusal }
+    ensures cause { CountsFaults (S.features storage.old).is_reliable (S.fault_count storage.old) (S.fault_count storage.new) result }
+{
+    let head = start - offset;
+    let tail = offset + count - end;
+    let zeroes = zero_buffer(alloc, head.max(tail) as usize)?;
+    zero_from(storage, alloc, &zeroes, offset, head)?;
+    zero_from(storage, alloc, &zeroes, end, tail)
+}
+
+/// Zeroes an aligned range by the storage's zero write, of the kind that allocates or of the other.
+fn zero_part<S: Storage>(
+    storage: &mut S,
+    alloc: Global,
+    offset: u64,
+    count: u64,
+    allocated: bool,
+) -> Result<(), Error>
+    requires { IsAlignedTo (S.features storage.old).zero_align offset count }
+    ensures written { HasZeroed (S.features storage.old) (S.bytes storage.old) offset count (S.bytes storage.new) result }
+    ensures offered { IsErrOf result Error.Unsupported → MayBeUnsupported (zero_support (S.features storage.old) allocated) (S.features storage.old).mem_align count }
+    ensures refused { zero_support (S.features storage.old) allocated ≡ AsData → count % (S.features storage.old).mem_align ≢ 0 → IsErrOf result Error.Unsupported }
+    ensures features { S.features storage.new ≡ S.features storage.old }
+    ensures only { IfErr result IsPureRefusal }
+    ensures cause { CountsFaults (S.features storage.old).is_reliable (S.fault_count storage.old) (S.fault_count storage.new) result }
+    ensures memory { IsErrOf result Error.Memory → zero_support (S.features storage.old) allocated ≡ InPlace → MayRunOut (S.features storage.old).zero_memory (length (S.bytes storage.old)) (offset + count) }
+{
+    if allocated {
+        storage.pure_write_allocated_zeroes(alloc, offset, count)
+    } else {
+        storage.pure_write_zeroes(alloc, offset, count)
+    }
+}
+
+/// Writes that many zeroes out of a buffer of zeroes.
+fn zero_from<S: Storage>(
+    storage: &mut S,
+    alloc: Global,
+    zeroes: &[u8],
+    offset: u64,
+    count: u64,
+) -> Result<(), Error>
+    requires zeroes { zeroes.now ≡ replicate (length zeroes.now) 0 }
+    requires enough { count ≤ length zeroes.now }
+    ensures written { ZeroedPart (S.features storage.old) (S.bytes storage.old) offset count (S.bytes storage.new) result }
+    ensures wraps { IsErrOf result Error.WrapAround ↔ Wraps (S.features storage.old) offset count }
+    ensures features { S.features storage.new ≡ S.features storage.old }
+    ensures only { IfErr result IsExtRefusal }
+    ensures cause { CountsFaults (S.features storage.old).is_reliable (S.fault_count storage.old) (S.fault_count storage.new) result }
+{
+    write_any(storage, alloc, &zeroes[..count as usize], offset)
+}
+
+/// How many bytes of a range stand before its first multiple of the request alignment. 0 where it starts on one.
+fn head_length<S: Storage>(storage: &S, offset: u64, count: u64) -> u64
+    requires { 0 < count }
+    ensures none { result ≡ 0 → offset % (S.features storage.now).req_align ≡ 0 }
+    ensures some { 0 < result → IsHead (S.features storage.now) offset count result }
+    ensures within { result ≤ len_align (S.features storage.now) }
+{
+    let request = request_align(storage);
+    let past = offset % request;
+    if past == 0 {
+        return 0;
+    }
+    (request - past).min(count)
+}
+
+/// Writes zeroes as data: up to the first multiple of the request alignment, where the range doesn't start at one,
+/// and then in whole pieces, all from one buffer.
+fn zero_as_data<S: Storage>(
+    storage: &mut S,
+    alloc: Global,
+    offset: u64,
+    count: u64,
+) -> Result<(), Error>
+    requires some { 0 < count }
+    requires ends { offset + count < 2 ^ 64 }
+    ensures written { HasZeroed (S.features storage.old) (S.bytes storage.old) offset count (S.bytes storage.new) result }
+    ensures wraps { IsErrOf result Error.WrapAround → DataWraps (S.features storage.old) offset count }
+    ensures fits { OnOk result (¬ DataWraps (S.features storage.old) offset count) }
+    ensures features { S.features storage.new ≡ S.features storage.old }
+    ensures only { IfErr result IsExtRefusal }
+    ensures cause { CountsFaults (S.features storage.old).is_reliable (S.fault_count storage.old) (S.fault_count storage.new) result }
+{
+    let piece = length_align(&*storage).max(ZERO_PIECE);
+    let zeroes = zero_buffer(alloc, piece.min(count) as usize)?;
+    let first = head_length(&*storage, offset, count);
+    if first == 0 {
+        return zero_pieces(storage, alloc, &zeroes, piece, offset, count);
+    }
+    zero_from(storage, alloc, &zeroes, offset, first)?;
+    if first == count {
+        return Ok(());
+    }
+    zero_pieces(storage, alloc, &zeroes, piece, offset + first, count - first)
+}
+
+/// Writes zeroes as data from a multiple of the request alignment on, in pieces from a buffer of zeroes.
+fn zero_pieces<S: Storage>(
+    storage: &mut S,
+    alloc: Global,
+    zeroes: &[u8],
+    piece: u64,
+    offset: u64,
+    count: u64,
+) -> Result<(), Error>
+    requires zeroes { zeroes.now ≡ replicate (length zeroes.now) 0 }
+    requires enough { min piece count ≤ length zeroes.now }
+    requires positive { 0 < piece }
+    requires whole { piece % len_align (S.features storage.old) ≡ 0 }
+    requires start { offset % (S.features storage.old).req_align ≡ 0 }
+    requires some { 0 < count }
+    requires ends { offset + count < 2 ^ 64 }
+    ensures written { HasZeroed (S.features storage.old) (S.bytes storage.old) offset count (S.bytes storage.new) result }
+    ensures wraps { IsErrOf result Error.WrapAround → Wraps (S.features storage.old) offset count }
+    ensures fits { OnOk result (¬ Wraps (S.features storage.old) offset count) }
+    ensures features { S.features storage.new ≡ S.features storage.old }
+    ensures only { IfErr result IsExtRefusal }
+    ensures cause { CountsFaults (S.features storage.old).is_reliable (S.fault_count storage.old) (S.fault_count storage.new) result }
+{
+    let mut done = 0;
+    while done < count {
+        let next = piece.min(count - done);
+        zero_from(storage, alloc, zeroes, offset + done, next)?;
+        done += next;
+    }
+    Ok(())
+}
