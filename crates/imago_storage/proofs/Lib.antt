@@ -1,4 +1,5 @@
 pub mod Alignment
+pub mod Powers
 pub mod Splices
 pub mod Outcomes
 pub mod ZeroPieces

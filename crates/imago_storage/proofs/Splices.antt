@@ -54,3 +54,6 @@ splice_written xs padded ys now at new n len e p l w =
 
 pub splice_length : (xs : List ℕ) (at : ℕ) (new : List ℕ) → length (splice xs at new) ≡ max (length xs) (at + length new)
 splice_length xs at new = length-splice xs at new
+
+pub zeroes_read_zero : (n p : ℕ) → get_or (replicate {A = ℕ} n 0) p 0 ≡ 0
+zeroes_read_zero n p = grind (arith, places)

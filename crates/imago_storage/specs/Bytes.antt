@@ -1,4 +1,4 @@
-use Rattle.std.specs.Prelude.{◌≡◌, ◌≢◌, ℕ, ◌+◌, ◌-◌, ◌<◌, ◌≤◌, ◌⊎◌, List, ◌++◌, length, take, drop, min, replicate, slice_index, EachIndex, Bool, IsTrue, Result, OnOk, OnErr}
+use Rattle.std.specs.Prelude.{◌≡◌, ◌≢◌, ℕ, ◌+◌, ◌-◌, ◌<◌, ◌≤◌, ◌⊎◌, List, ◌++◌, length, take, drop, min, max, replicate, slice_index, EachIndex, Bool, IsTrue, Result, OnOk, OnErr}
 use Rattle.imago_storage.specs.declared.error.Error.{Error}
 use Rattle.imago_storage.specs.declared.options.PreallocateMode.{PreallocateMode}
 use Rattle.imago_storage.specs.declared.options.PreallocateMode.TheVariants as Mode
@@ -8,6 +8,16 @@ use Rattle.imago_storage.specs.declared.options.PreallocateMode.TheVariants as M
 -- the bytes with these new ones from the offset on, and with zeroes where offsets are skipped
 unfoldable pub splice : List ℕ → ℕ → List ℕ → List ℕ
 splice bytes at new = take at (bytes ++ replicate (at - length bytes) 0) ++ new ++ drop (at + length new) bytes
+
+-- A splice, byte by byte: the new bytes in their range, every other one as it was.
+pub record IsSplice (bytes : List ℕ) (at : ℕ) (new now : List ℕ) : Type 0 where
+  pub inside : (p : ℕ) → at ≤ p → p < at + length new → slice_index now p ≡ slice_index new (p - at)
+  pub before : (p : ℕ) → p < at → slice_index now p ≡ slice_index bytes p
+  pub behind : (p : ℕ) → at + length new ≤ p → slice_index now p ≡ slice_index bytes p
+  pub size : length now ≡ max (length bytes) (at + length new)
+
+abbrev pub SpliceByOffset : Type 0
+SpliceByOffset = (bytes : List ℕ) (at : ℕ) (new : List ℕ) → IsSplice bytes at new (splice bytes at new)
 
 -- the bytes with zeroes behind them, up to that length at least
 abbrev pub zero_extended : List ℕ → ℕ → List ℕ

@@ -13,5 +13,6 @@ pub mod lent;
 pub mod mem;
 pub mod null;
 pub mod options;
+mod request;
 pub mod storage;
 mod zeroes;

@@ -130,8 +130,8 @@ impl MemStorage {
         }
     }
 
-    /// Sets both `mem_align` and `req_align`, and with them `zero_align`. `align.is_power_of_two()` tests what is
-    /// required.
+    /// Sets both `mem_align` and `req_align`, and with them `zero_align`. [`is_alignment`](crate::storage::is_alignment) tests
+    /// what is required.
     pub fn with_align(self, align: usize) -> Self
         requires { IsAlignment align }
         ensures bytes { ⟦<MemStorage as Storage>⟧.bytes result ≡ ⟦<MemStorage as Storage>⟧.bytes self }
@@ -141,8 +141,8 @@ impl MemStorage {
         self.with_aligns(align, align)
     }
 
-    /// Sets `mem_align` and `req_align`, and `zero_align` to the latter. `is_power_of_two()` of each tests what is
-    /// required.
+    /// Sets `mem_align` and `req_align`, and `zero_align` to the latter. [`is_alignment`](crate::storage::is_alignment) of
+    /// each tests what is required.
     pub fn with_aligns(self, mem_align: usize, req_align: usize) -> Self
         requires mem { IsAlignment mem_align }
         requires req { IsAlignment req_align }

@@ -5,6 +5,7 @@ ghost use Rattle.imago_storage.specs.Bytes.{splice, OldOrNew, WriteOutcome, IsRe
 ghost use Rattle.imago_storage.specs.Error.{IsDeviceOrMemory, IsPureRefusal};
 ghost use Rattle.imago_storage.specs.Faults.{CountsFaults};
 ghost use Rattle.imago_storage.specs.Features.{Features, InPlace, AsData, MayRunOut, MayBeUnsupported, zero_support, AreAlignments, IsAlignedRequest, IsAlignedTo};
+ghost use Rattle.imago_storage.specs.Powers.{IsAlignment};
 ghost use Rattle.imago_storage.specs.IoCount.{IoCount, AddsAtMost};
 
 use crate::error::Error;
@@ -15,6 +16,14 @@ pub use crate::options::{PreallocateMode, StorageCreateOptions, StorageOpenOptio
 
 /// The size up to which zeroes are written as data in one piece, in bytes.
 pub(crate) const ZERO_PIECE: u64 = 1048576;
+
+/// Whether that number can be an alignment: a power of two. It tests what constructors require of theirs.
+#[tactic(auto, using(crate::proofs::Powers::alignment_test))]
+pub fn is_alignment(align: usize) -> bool
+    ensures { IsTrue result ↔ IsAlignment align }
+{
+    align.is_power_of_two()
+}
 
 /// That many zero bytes. Refused, it is [`Error::Memory`].
 pub(crate) fn zero_buffer(alloc: Global, count: usize) -> Result<Vec<u8>, Error>

@@ -8,7 +8,7 @@ ghost use Rattle.imago_storage.specs.Zeroes.{HasZeroed, ZeroedPart, IsHead, Edge
 
 use crate::align::{aligned_part, length_align, request_align, zero_align};
 use crate::error::Error;
-use crate::ext::write_any;
+use crate::request::write_any;
 use crate::storage::{Storage, ZERO_PIECE, zero_buffer};
 use std::alloc::Global;
 

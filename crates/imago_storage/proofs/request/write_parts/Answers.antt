@@ -2,7 +2,7 @@ use Rattle.std.proofs.Common.{arith, ◌≡◌, ◌+◌, ◌-◌, ◌<◌, lengt
 use Rattle.std.proofs.lemmas.List.{take_rest}
 use Rattle.imago_storage.proofs.Blocks.{part_facts}
 use Rattle.imago_storage.proofs.Writes.{length-rest, first_refused, second_written}
-use Rattle.imago_storage.proofs.ext.write_parts.Goals as goal
+use Rattle.imago_storage.proofs.request.write_parts.Goals as goal
 
 pub write_blocks-requires : goal.write_blocks-requires
 write_blocks-requires g c = (part_facts c.requires).no_head c.if-head-eq0.true

@@ -3,7 +3,7 @@ use Rattle.std.proofs.lemmas.List.{length-take-le, take_all, take_rest}
 use Rattle.imago_storage.proofs.Blocks.{block_facts}
 use Rattle.imago_storage.proofs.Outcomes.{WriteOutcome_ok}
 use Rattle.imago_storage.proofs.Writes.{first_is_part, splice_is_part, first_refused, second_written}
-use Rattle.imago_storage.proofs.ext.write_blocks.Goals as goal
+use Rattle.imago_storage.proofs.request.write_blocks.Goals as goal
 
 pub returns-then-whole-eq0-clause-written : goal.returns-then-whole-eq0-clause-written
 returns-then-whole-eq0-clause-written g c =

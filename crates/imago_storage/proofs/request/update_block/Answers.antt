@@ -1,7 +1,7 @@
 use Rattle.std.proofs.Common.{arith, ◌≡◌, ◌+◌, ◌≤◌, length}
 use Rattle.imago_storage.specs.Bytes.{splice, zero_extended}
 use Rattle.imago_storage.proofs.Writes.{block_write, refused_at_once}
-use Rattle.imago_storage.proofs.ext.update_block.Goals as goal
+use Rattle.imago_storage.proofs.request.update_block.Goals as goal
 
 pub returns-in_err-pure_readv_mut-clause-written :
     goal.returns-in_err-pure_readv_mut-clause-written

@@ -1,0 +1,177 @@
+//! Reads, writes and discards of any range.
+ghost use Rattle.std.specs.Prelude.{◌≡◌, ◌+◌, ◌-◌, ◌<◌, ◌≤◌, ◌↔◌, ◌*◌, length, false, OnOk, IfErr, IsErrOf, IsOk};
+ghost use Rattle.std.specs.Int.{next_multiple_of};
+ghost use Rattle.imago_storage.specs.Blocks.{IsInParts, IsInBlocks};
+ghost use Rattle.imago_storage.specs.Bytes.{splice, zero_extended, WriteOutcome, IsReadAt, SameOutside};
+ghost use Rattle.imago_storage.specs.Error.{IsDeviceOrMemory, IsExtRefusal};
+ghost use Rattle.imago_storage.specs.Faults.{CountsFaults};
+ghost use Rattle.imago_storage.specs.Features.{IsAlignedRequest, MayRunOut, len_align};
+ghost use Rattle.imago_storage.specs.IoCount.{AddsAtMost, IsWriteWork};
+ghost use Rattle.imago_storage.specs.Padding.{padded_end, Wraps, aligned_start, aligned_end, RangeWraps};
+
+use crate::align::{aligned_part, discard_align, length_align, padded_request};
+use crate::bytes::overwrite;
+use crate::error::Error;
+use crate::storage::{Storage, zero_buffer};
+use std::alloc::Global;
+
+/// Reads a range: as it is where it is aligned, and else by way of a buffer of the padded range.
+#[tactic(auto, using(std::proofs::lemmas::List::places))]
+pub(crate) fn read_any<S: Storage>(
+    storage: &S,
+    alloc: Global,
+    buf: &mut [u8],
+    offset: u64,
+) -> Result<(), Error>
+    ensures empty { length buf.old ≡ 0 → IsOk result }
+    ensures bytes { OnOk result (IsReadAt (S.bytes storage.now) offset buf.new) }
+    ensures wraps { IsErrOf result Error.WrapAround ↔ Wraps (S.features storage.now) offset (length buf.old) }
+    ensures only { IfErr result IsExtRefusal }
+    ensures device { IsErrOf result Error.Device → (S.features storage.now).is_reliable ≡ false }
+    ensures memory { IsErrOf result Error.Memory → IsAlignedRequest (S.features storage.now) offset (length buf.old) → MayRunOut (S.features storage.now).read_memory (length (S.bytes storage.now)) (offset + length buf.old) }
+{
+    if buf.is_empty() {
+        return Ok(());
+    }
+    let Some((start, len)) = padded_request(storage, offset, buf.len() as u64) else {
+        return Err(Error::WrapAround);
+    };
+    if start == offset && len == buf.len() as u64 {
+        return storage.pure_readv(buf, offset);
+    }
+    let mut bounce = zero_buffer(alloc, len as usize)?;
+    storage.pure_readv(&mut bounce, start)?;
+    let head = (offset - start) as usize;
+    buf.copy_from_slice(&bounce[head..head + buf.len()]);
+    Ok(())
+}
+
+/// Writes a range: as it is where it is aligned, and else in up to three parts.
+pub(crate) fn write_any<S: Storage>(
+    storage: &mut S,
+    alloc: Global,
+    source: &[u8],
+    offset: u64,
+) -> Result<(), Error>
+    ensures empty { length source.now ≡ 0 → IsOk result × (storage.new ≡ storage.old) }
+    ensures written { 0 < length source.now → WriteOutcome (S.features storage.old).keeps_data (S.bytes storage.old) (splice (zero_extended (S.bytes storage.old) (padded_end (S.features storage.old) offset (length source.now))) offset source.now) (S.bytes storage.new) result }
+    ensures wraps { IsErrOf result Error.WrapAround ↔ Wraps (S.features storage.old) offset (length source.now) }
+    ensures unchanged { IsErrOf result Error.WrapAround → storage.new ≡ storage.old }
+    ensures features { S.features storage.new ≡ S.features storage.old }
+    ensures work { IsWriteWork (len_align (S.features storage.old)) (length source.now) (S.work storage.old) (S.work storage.new) }
+    ensures only { IfErr result IsExtRefusal }
+    ensures cause { CountsFaults (S.features storage.old).is_reliable (S.fault_count storage.old) (S.fault_count storage.new) result }
+    ensures memory { IsErrOf result Error.Memory → IsAlignedRequest (S.features storage.old) offset (length source.now) → MayRunOut (S.features storage.old).write_memory (length (S.bytes storage.old)) (offset + length source.now) }
+{
+    if source.is_empty() {
+        return Ok(());
+    }
+    let Some((start, len)) = padded_request(&*storage, offset, source.len() as u64) else {
+        return Err(Error::WrapAround);
+    };
+    if start == offset && len == source.len() as u64 {
+        return storage.pure_writev(source, offset);
+    }
+    // one block serves the first part and the last one
+    let mut block = zero_buffer(alloc, length_align(&*storage) as usize)?;
+    write_parts(storage, &mut block, source, offset, start, len)
+}
+
+/// Writes a request that isn't aligned: a first block of which it leaves a part, and then from a block's start on.
+fn write_parts<S: Storage>(
+    storage: &mut S,
+    block: &mut [u8],
+    source: &[u8],
+    offset: u64,
+    start: u64,
+    len: u64,
+) -> Result<(), Error>
+    requires { IsInParts (S.features storage.old) (length block.old) offset (length source.now) start len }
+    ensures written { WriteOutcome (S.features storage.old).keeps_data (S.bytes storage.old) (splice (zero_extended (S.bytes storage.old) (start + len)) offset source.now) (S.bytes storage.new) result }
+    ensures features { S.features storage.new ≡ S.features storage.old }
+    ensures work { AddsAtMost 2 (2 * length block.old) 3 len (S.work storage.old) (S.work storage.new) }
+    ensures only { IfErr result IsDeviceOrMemory }
+    ensures cause { CountsFaults (S.features storage.old).is_reliable (S.fault_count storage.old) (S.fault_count storage.new) result }
+{
+    let align = block.len();
+    let head = (offset - start) as usize;
+    if head == 0 {
+        return write_blocks(storage, block, source, offset);
+    }
+    if source.len() <= align - head {
+        return update_block(storage, block, source, start, head);
+    }
+    let first = align - head;
+    update_block(storage, block, &source[..first], start, head)?;
+    write_blocks(storage, block, &source[first..], start + align as u64)
+}
+
+/// Writes from a block's start on: whole blocks at once, then a part of the last one.
+fn write_blocks<S: Storage>(
+    storage: &mut S,
+    block: &mut [u8],
+    source: &[u8],
+    start: u64,
+) -> Result<(), Error>
+    requires { IsInBlocks (S.features storage.old) (length block.old) start (length source.now) }
+    ensures written { WriteOutcome (S.features storage.old).keeps_data (S.bytes storage.old) (splice (zero_extended (S.bytes storage.old) (start + next_multiple_of (length source.now) (length block.old))) start source.now) (S.bytes storage.new) result }
+    ensures features { S.features storage.new ≡ S.features storage.old }
+    ensures work { AddsAtMost 1 (length block.old) 2 (next_multiple_of (length source.now) (length block.old)) (S.work storage.old) (S.work storage.new) }
+    ensures only { IfErr result IsDeviceOrMemory }
+    ensures cause { CountsFaults (S.features storage.old).is_reliable (S.fault_count storage.old) (S.fault_count storage.new) result }
+{
+    let whole = source.len() / block.len() * block.len();
+    if whole == 0 {
+        return update_block(storage, block, source, start, 0);
+    }
+    storage.pure_writev(&source[..whole], start)?;
+    if whole == source.len() {
+        return Ok(());
+    }
+    update_block(storage, block, &source[whole..], start + whole as u64, 0)
+}
+
+/// Reads a block, changes a part of it, and writes it back.
+fn update_block<S: Storage>(
+    storage: &mut S,
+    block: &mut [u8],
+    source: &[u8],
+    start: u64,
+    head: usize,
+) -> Result<(), Error>
+    requires aligned { IsAlignedRequest (S.features storage.old) start (length block.old) }
+    requires fits { head + length source.now ≤ length block.old }
+    ensures written { WriteOutcome (S.features storage.old).keeps_data (S.bytes storage.old) (splice (zero_extended (S.bytes storage.old) (start + length block.old)) (start + head) source.now) (S.bytes storage.new) result }
+    ensures features { S.features storage.new ≡ S.features storage.old }
+    ensures work { AddsAtMost 1 (length block.old) 1 (length block.old) (S.work storage.old) (S.work storage.new) }
+    ensures only { IfErr result IsDeviceOrMemory }
+    ensures cause { CountsFaults (S.features storage.old).is_reliable (S.fault_count storage.old) (S.fault_count storage.new) result }
+{
+    storage.pure_readv_mut(block, start)?;
+    overwrite(block, source, head);
+    storage.pure_writev(block, start)
+}
+
+/// Discards the aligned part of a range, if it has one. A discard that isn't offered is no refusal.
+pub(crate) fn discard_any<S: Storage>(storage: &mut S, offset: u64, count: u64) -> Result<(), Error>
+    ensures bytes { SameOutside (aligned_start (S.features storage.old).discard_align offset) (aligned_end (S.features storage.old).discard_align offset count - aligned_start (S.features storage.old).discard_align offset) (S.bytes storage.old) (S.bytes storage.new) }
+    ensures wraps { IsErrOf result Error.WrapAround ↔ RangeWraps (S.features storage.old).discard_align offset count }
+    ensures unchanged { IsErrOf result Error.WrapAround → storage.new ≡ storage.old }
+    ensures nothing { aligned_end (S.features storage.old).discard_align offset count ≤ aligned_start (S.features storage.old).discard_align offset → storage.new ≡ storage.old }
+    ensures features { S.features storage.new ≡ S.features storage.old }
+    ensures only { IfErr result IsExtRefusal }
+    ensures cause { CountsFaults (S.features storage.old).is_reliable (S.fault_count storage.old) (S.fault_count storage.new) result }
+    ensures memory { IsErrOf result Error.Memory → MayRunOut (S.features storage.old).other_memory 0 0 }
+{
+    let align = discard_align(&*storage);
+    let Some((start, end)) = aligned_part(align, offset, count) else {
+        return Err(Error::WrapAround);
+    };
+    if end <= start {
+        return Ok(());
+    }
+    match storage.pure_discard(start, end - start) {
+        Err(Error::Unsupported) => Ok(()),
+        answer => answer,
+    }
+}
