@@ -25,9 +25,13 @@ open_options o = record {
   direct = o.direct;
 }
 
+-- the options that what is created is opened with
+abbrev pub opening_options : StorageCreateOptions → StorageOpenOptions
+opening_options o = o.open_opts
+
 abbrev pub create_options : StorageCreateOptions → CreateOptions
 create_options o = record {
-  to_open = open_options o.open_opts;
+  to_open = open_options (opening_options o);
   size = o.size;
   mode = o.prealloc_mode;
   overwrite = o.overwrite;

@@ -80,6 +80,23 @@ impl<S: Storage> Storage for &mut S {
         Storage::zero_in_place(&mut **self, offset, count, allocated)
     }
 
+    fn write_zeroes_as_data(&mut self, alloc: Global, offset: u64, count: u64) -> Result<(), Error> {
+        Storage::write_zeroes_as_data(&mut **self, alloc, offset, count)
+    }
+
+    fn pure_write_zeroes(&mut self, alloc: Global, offset: u64, count: u64) -> Result<(), Error> {
+        Storage::pure_write_zeroes(&mut **self, alloc, offset, count)
+    }
+
+    fn pure_write_allocated_zeroes(
+        &mut self,
+        alloc: Global,
+        offset: u64,
+        count: u64,
+    ) -> Result<(), Error> {
+        Storage::pure_write_allocated_zeroes(&mut **self, alloc, offset, count)
+    }
+
     fn pure_discard(&mut self, offset: u64, count: u64) -> Result<(), Error> {
         Storage::pure_discard(&mut **self, offset, count)
     }

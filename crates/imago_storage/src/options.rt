@@ -2,7 +2,7 @@
 ghost use Rattle.std.specs.Prelude.{◌≡◌, Option, Some, IfSome, option_map};
 ghost use Rattle.std.specs.Option.{option_copied};
 ghost use Rattle.std.specs.String.{string_bytes};
-ghost use Rattle.imago_storage.specs.Options.{OpenOptions, CreateOptions, open_options, create_options, no_open_options, no_create_options};
+ghost use Rattle.imago_storage.specs.Options.{OpenOptions, CreateOptions, open_options, opening_options, create_options, no_open_options, no_create_options};
 
 /// How new bytes of a storage that grows are allocated, and what they read as.
 #[derive(Clone, Copy, Debug, PartialEq, Eq)]
@@ -141,8 +141,8 @@ impl StorageCreateOptions {
 
     /// Changes the options that the created storage is opened with.
     pub fn modify_open_opts<F: FnOnce(StorageOpenOptions) -> StorageOpenOptions>(self, f: F) -> Self
-        requires { F.pre f self.open_opts }
-        ensures modified { F.post f self.open_opts result.open_opts }
+        requires { F.pre f (opening_options self) }
+        ensures modified { F.post f (opening_options self) (opening_options result) }
         ensures size { (create_options result).size ≡ (create_options self).size }
         ensures mode { (create_options result).mode ≡ (create_options self).mode }
         ensures overwrite { (create_options result).overwrite ≡ (create_options self).overwrite }
