@@ -42,5 +42,5 @@ alignment_test n fits = (
   λ h. (let p : IsPowerOfTwo n = one_digit n n (omega arith) (eqb-true _ _ h) in
       let top : IsPowerOfTwo (2 ^ 63) = (63, refl) in
       elim (cases_lt (2 ^ 63) n) [ inl l ↦ absurd (too_great n p l fits) | inr l ↦ power_divides n (2 ^ 63) p top l ]),
-  λ h. (let p : IsPowerOfTwo n = power_of_two n h in eq-eqb _ _ (ap count_ones p.1 ∙ digits_of_power p.0))
+  λ h. (let p : IsPowerOfTwo n = power_of_two n h in eq-eqb _ _ (ap count_ones p.1 ∙ digits_of_power p.0)),
 )

@@ -39,9 +39,13 @@ zeroed_each xs at n end p = elim (cases_lt p at) [
 
 pub length-zeroed : (xs : List ℕ) (at n end : ℕ) → at + n ≤ end → length (zeroed xs at n end) ≡ max (length xs) end
 unfolding zeroed
-length-zeroed xs at n end h = omega (arith, length-splice xs at (replicate n 0), length-replicate {A = ℕ} n 0,
-    length-append (splice xs at (replicate n 0)) (replicate (end - length (splice xs at (replicate n 0))) 0),
-    length-replicate {A = ℕ} (end - length (splice xs at (replicate n 0))) 0)
+length-zeroed xs at n end h = omega (
+  arith,
+  length-splice xs at (replicate n 0),
+  length-replicate {A = ℕ} n 0,
+  length-append (splice xs at (replicate n 0)) (replicate (end - length (splice xs at (replicate n 0))) 0),
+  length-replicate {A = ℕ} (end - length (splice xs at (replicate n 0))) 0,
+)
 
 -- each byte of a part of the zeroes is old or that of all the zeroes
 part_each : (xs : List ℕ) (at n end a m e p : ℕ) → at ≤ a → a + m ≤ at + n

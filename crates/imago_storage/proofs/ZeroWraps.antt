@@ -59,11 +59,13 @@ pub data_from_start : (f : Features) (at n : ℕ) → AreAlignments f → at % f
 data_from_start f at n a start =
     let here : aligned_start f.req_align at ≡ at = next_whole_zero at f.req_align (power_positive f.req_align a.req) start in
     let rest : at + n - at ≡ n = omega arith in
-    let none : min n (at - at) ≡ 0 = omega arith in
-    (λ w. inr (rw (here, rest) w), λ fits d. elim d [
-      | inl head ↦ let no : 0 < min n (aligned_start f.req_align at - at) = head.0 in absurd (omega (arith, no, here))
-      | inr all ↦ fits (rw (here, rest) at all)
-    ])
+    let none : min n (at - at) ≡ 0 = omega arith in (
+      λ w. inr (rw (here, rest) w),
+      λ fits d. elim d [
+        | inl head ↦ let no : 0 < min n (aligned_start f.req_align at - at) = head.0 in absurd (omega (arith, no, here))
+        | inr all ↦ fits (rw (here, rest) at all)
+      ],
+    )
 
 -- the first multiple of the request alignment behind an offset that isn't one
 pub first_multiple : (at a : ℕ) → 0 < at % a → 0 < a → aligned_start a at ≡ at + (a - at % a)

@@ -48,7 +48,9 @@ pub(crate) fn discard_align<S: Storage>(storage: &S) -> u64
 fn padded_range(request: u64, multiple: u64, offset: u64, count: u64) -> Option<(u64, u64)>
     requires request { 0 < request }
     requires multiple { 0 < multiple }
-    ensures { SomeIff result (offset - offset % request + next_multiple_of (offset % request + count) multiple < 2 ^ 64) (offset - offset % request, next_multiple_of (offset % request + count) multiple) }
+    ensures { SomeIff result
+        (offset - offset % request + next_multiple_of (offset % request + count) multiple < 2 ^ 64)
+        (offset - offset % request, next_multiple_of (offset % request + count) multiple) }
 {
     let head = offset % request;
     let start = offset - head;
@@ -61,7 +63,8 @@ fn padded_range(request: u64, multiple: u64, offset: u64, count: u64) -> Option<
 #[tactic(auto, using(crate::proofs::Padding::padded_request_of))]
 pub(crate) fn padded_request<S: Storage>(storage: &S, offset: u64, count: u64) -> Option<(u64, u64)>
     requires { 0 < count }
-    ensures { MatchOption result (Wraps (S.features storage.now) offset count) (λ p. IsPaddedRequest (S.features storage.now) offset count p.0 p.1) }
+    ensures { MatchOption result (Wraps (S.features storage.now) offset count)
+        (λ p. IsPaddedRequest (S.features storage.now) offset count p.0 p.1) }
 {
     let request = request_align(storage);
     let multiple = length_align(storage);
@@ -72,7 +75,8 @@ pub(crate) fn padded_request<S: Storage>(storage: &S, offset: u64, count: u64) -
 /// range's end, or its start rounded up, passes `u64::MAX`.
 pub(crate) fn aligned_part(align: u64, offset: u64, count: u64) -> Option<(u64, u64)>
     requires { 0 < align }
-    ensures { MatchOption result (RangeWraps align offset count) (λ p. IsAlignedPart align offset count p.0 p.1) }
+    ensures { MatchOption result (RangeWraps align offset count)
+        (λ p. IsAlignedPart align offset count p.0 p.1) }
 {
     let range_end = offset.checked_add(count)?;
     let start = offset.checked_next_multiple_of(align)?;

@@ -30,7 +30,10 @@ pub trait StorageExt: Storage {
         ensures wraps { IsErrOf result Error.WrapAround ↔ Wraps (Self.features self.now) offset (length buf.old) }
         ensures only { IfErr result IsExtRefusal }
         ensures device { IsErrOf result Error.Device → (Self.features self.now).is_reliable ≡ false }
-        ensures memory { IsErrOf result Error.Memory → IsAlignedRequest (Self.features self.now) offset (length buf.old) → MayRunOut (Self.features self.now).read_memory (length (Self.bytes self.now)) (offset + length buf.old) };
+        ensures memory { IsErrOf result Error.Memory
+            → IsAlignedRequest (Self.features self.now) offset (length buf.old)
+            → MayRunOut (Self.features self.now).read_memory (length (Self.bytes self.now))
+            (offset + length buf.old) };
 
     /// Reads as [`read`](Self::read) does.
     fn readv(&self, alloc: Global, buf: &mut [u8], offset: u64) -> Result<(), Error>
@@ -39,7 +42,10 @@ pub trait StorageExt: Storage {
         ensures wraps { IsErrOf result Error.WrapAround ↔ Wraps (Self.features self.now) offset (length buf.old) }
         ensures only { IfErr result IsExtRefusal }
         ensures device { IsErrOf result Error.Device → (Self.features self.now).is_reliable ≡ false }
-        ensures memory { IsErrOf result Error.Memory → IsAlignedRequest (Self.features self.now) offset (length buf.old) → MayRunOut (Self.features self.now).read_memory (length (Self.bytes self.now)) (offset + length buf.old) };
+        ensures memory { IsErrOf result Error.Memory
+            → IsAlignedRequest (Self.features self.now) offset (length buf.old)
+            → MayRunOut (Self.features self.now).read_memory (length (Self.bytes self.now))
+            (offset + length buf.old) };
 
     /// Writes the bytes at the offset. The storage grows to the padded end where that is longer, by zeroes.
     ///
@@ -51,26 +57,48 @@ pub trait StorageExt: Storage {
     /// from the source in one call.
     fn write(&mut self, alloc: Global, source: &[u8], offset: u64) -> Result<(), Error>
         ensures empty { length source.now ≡ 0 → IsOk result × (self.new ≡ self.old) }
-        ensures written { 0 < length source.now → WriteOutcome (Self.features self.old).keeps_data (Self.bytes self.old) (splice (zero_extended (Self.bytes self.old) (padded_end (Self.features self.old) offset (length source.now))) offset source.now) (Self.bytes self.new) result }
+        ensures written { 0 < length source.now
+            → WriteOutcome (Self.features self.old).keeps_data (Self.bytes self.old)
+            (splice
+            (zero_extended (Self.bytes self.old)
+            (padded_end (Self.features self.old) offset (length source.now)))
+            offset source.now)
+            (Self.bytes self.new) result }
         ensures wraps { IsErrOf result Error.WrapAround ↔ Wraps (Self.features self.old) offset (length source.now) }
         ensures unchanged { IsErrOf result Error.WrapAround → self.new ≡ self.old }
         ensures features { Self.features self.new ≡ Self.features self.old }
-        ensures work { IsWriteWork (len_align (Self.features self.old)) (length source.now) (Self.work self.old) (Self.work self.new) }
+        ensures work { IsWriteWork (len_align (Self.features self.old)) (length source.now) (Self.work self.old)
+            (Self.work self.new) }
         ensures only { IfErr result IsExtRefusal }
-        ensures cause { CountsFaults (Self.features self.old).is_reliable (Self.fault_count self.old) (Self.fault_count self.new) result }
-        ensures memory { IsErrOf result Error.Memory → IsAlignedRequest (Self.features self.old) offset (length source.now) → MayRunOut (Self.features self.old).write_memory (length (Self.bytes self.old)) (offset + length source.now) };
+        ensures cause { CountsFaults (Self.features self.old).is_reliable (Self.fault_count self.old)
+            (Self.fault_count self.new) result }
+        ensures memory { IsErrOf result Error.Memory
+            → IsAlignedRequest (Self.features self.old) offset (length source.now)
+            → MayRunOut (Self.features self.old).write_memory (length (Self.bytes self.old))
+            (offset + length source.now) };
 
     /// Writes as [`write`](Self::write) does.
     fn writev(&mut self, alloc: Global, source: &[u8], offset: u64) -> Result<(), Error>
         ensures empty { length source.now ≡ 0 → IsOk result × (self.new ≡ self.old) }
-        ensures written { 0 < length source.now → WriteOutcome (Self.features self.old).keeps_data (Self.bytes self.old) (splice (zero_extended (Self.bytes self.old) (padded_end (Self.features self.old) offset (length source.now))) offset source.now) (Self.bytes self.new) result }
+        ensures written { 0 < length source.now
+            → WriteOutcome (Self.features self.old).keeps_data (Self.bytes self.old)
+            (splice
+            (zero_extended (Self.bytes self.old)
+            (padded_end (Self.features self.old) offset (length source.now)))
+            offset source.now)
+            (Self.bytes self.new) result }
         ensures wraps { IsErrOf result Error.WrapAround ↔ Wraps (Self.features self.old) offset (length source.now) }
         ensures unchanged { IsErrOf result Error.WrapAround → self.new ≡ self.old }
         ensures features { Self.features self.new ≡ Self.features self.old }
-        ensures work { IsWriteWork (len_align (Self.features self.old)) (length source.now) (Self.work self.old) (Self.work self.new) }
+        ensures work { IsWriteWork (len_align (Self.features self.old)) (length source.now) (Self.work self.old)
+            (Self.work self.new) }
         ensures only { IfErr result IsExtRefusal }
-        ensures cause { CountsFaults (Self.features self.old).is_reliable (Self.fault_count self.old) (Self.fault_count self.new) result }
-        ensures memory { IsErrOf result Error.Memory → IsAlignedRequest (Self.features self.old) offset (length source.now) → MayRunOut (Self.features self.old).write_memory (length (Self.bytes self.old)) (offset + length source.now) };
+        ensures cause { CountsFaults (Self.features self.old).is_reliable (Self.fault_count self.old)
+            (Self.fault_count self.new) result }
+        ensures memory { IsErrOf result Error.Memory
+            → IsAlignedRequest (Self.features self.old) offset (length source.now)
+            → MayRunOut (Self.features self.old).write_memory (length (Self.bytes self.old))
+            (offset + length source.now) };
 
     /// Zeroes a range. The part of it that is aligned to the zero alignment goes to the storage's own zero write, and
     /// what stands before and behind it is written as zero bytes; the whole range is written so where it has no such
@@ -82,26 +110,57 @@ pub trait StorageExt: Storage {
     /// is between.
     fn write_zeroes(&mut self, alloc: Global, offset: u64, count: u64) -> Result<(), Error>
         ensures empty { count ≡ 0 → IsOk result × (self.new ≡ self.old) }
-        ensures written { 0 < count → HasZeroed (Self.features self.old) (Self.bytes self.old) offset count (Self.bytes self.new) result }
-        ensures wraps { 0 < count → RangeWraps (Self.features self.old).zero_align offset count → IsErrOf result Error.WrapAround × (self.new ≡ self.old) }
-        ensures may_wrap { IsErrOf result Error.WrapAround → MayWrap (Self.features self.old) (Self.features self.old).zeroes offset count }
-        ensures fits { 0 < count → OnOk result (FitsZeroes (Self.features self.old) (Self.features self.old).zeroes offset count) }
+        ensures written { 0 < count
+            → HasZeroed (Self.features self.old) (Self.bytes self.old) offset count
+            (Self.bytes self.new) result }
+        ensures wraps { 0 < count
+            → RangeWraps (Self.features self.old).zero_align offset count
+            → IsErrOf result Error.WrapAround × (self.new ≡ self.old) }
+        ensures may_wrap { IsErrOf result Error.WrapAround
+            → MayWrap (Self.features self.old) (Self.features self.old).zeroes offset count }
+        ensures fits { 0 < count
+            → OnOk result
+            (FitsZeroes (Self.features self.old) (Self.features self.old).zeroes offset count) }
         ensures features { Self.features self.new ≡ Self.features self.old }
         ensures only { IfErr result IsExtRefusal }
-        ensures cause { CountsFaults (Self.features self.old).is_reliable (Self.fault_count self.old) (Self.fault_count self.new) result }
-        ensures memory { IsErrOf result Error.Memory → IsAlignedTo (Self.features self.old).zero_align offset count → (Self.features self.old).zeroes ≡ InPlace → MayRunOut (Self.features self.old).zero_memory (length (Self.bytes self.old)) (offset + count) };
+        ensures cause { CountsFaults (Self.features self.old).is_reliable (Self.fault_count self.old)
+            (Self.fault_count self.new) result }
+        ensures memory { IsErrOf result Error.Memory
+            → IsAlignedTo (Self.features self.old).zero_align offset count
+            → (Self.features self.old).zeroes ≡ InPlace
+            → MayRunOut (Self.features self.old).zero_memory (length (Self.bytes self.old))
+            (offset + count) };
 
     /// Zeroes a range and allocates it, as [`write_zeroes`](Self::write_zeroes) does otherwise.
-    fn write_allocated_zeroes(&mut self, alloc: Global, offset: u64, count: u64) -> Result<(), Error>
+    fn write_allocated_zeroes(
+        &mut self,
+        alloc: Global,
+        offset: u64,
+        count: u64,
+    ) -> Result<(), Error>
         ensures empty { count ≡ 0 → IsOk result × (self.new ≡ self.old) }
-        ensures written { 0 < count → HasZeroed (Self.features self.old) (Self.bytes self.old) offset count (Self.bytes self.new) result }
-        ensures wraps { 0 < count → RangeWraps (Self.features self.old).zero_align offset count → IsErrOf result Error.WrapAround × (self.new ≡ self.old) }
-        ensures may_wrap { IsErrOf result Error.WrapAround → MayWrap (Self.features self.old) (Self.features self.old).allocated_zeroes offset count }
-        ensures fits { 0 < count → OnOk result (FitsZeroes (Self.features self.old) (Self.features self.old).allocated_zeroes offset count) }
+        ensures written { 0 < count
+            → HasZeroed (Self.features self.old) (Self.bytes self.old) offset count
+            (Self.bytes self.new) result }
+        ensures wraps { 0 < count
+            → RangeWraps (Self.features self.old).zero_align offset count
+            → IsErrOf result Error.WrapAround × (self.new ≡ self.old) }
+        ensures may_wrap { IsErrOf result Error.WrapAround
+            → MayWrap (Self.features self.old) (Self.features self.old).allocated_zeroes offset
+            count }
+        ensures fits { 0 < count
+            → OnOk result
+            (FitsZeroes (Self.features self.old) (Self.features self.old).allocated_zeroes
+            offset count) }
         ensures features { Self.features self.new ≡ Self.features self.old }
         ensures only { IfErr result IsExtRefusal }
-        ensures cause { CountsFaults (Self.features self.old).is_reliable (Self.fault_count self.old) (Self.fault_count self.new) result }
-        ensures memory { IsErrOf result Error.Memory → IsAlignedTo (Self.features self.old).zero_align offset count → (Self.features self.old).allocated_zeroes ≡ InPlace → MayRunOut (Self.features self.old).zero_memory (length (Self.bytes self.old)) (offset + count) };
+        ensures cause { CountsFaults (Self.features self.old).is_reliable (Self.fault_count self.old)
+            (Self.fault_count self.new) result }
+        ensures memory { IsErrOf result Error.Memory
+            → IsAlignedTo (Self.features self.old).zero_align offset count
+            → (Self.features self.old).allocated_zeroes ≡ InPlace
+            → MayRunOut (Self.features self.old).zero_memory (length (Self.bytes self.old))
+            (offset + count) };
 
     /// Says that a range is no longer needed. The part of it that is aligned to the discard alignment is unspecified
     /// afterwards, also where the call is refused; all other bytes, and the length, stay. A storage that offers no
@@ -110,14 +169,22 @@ pub trait StorageExt: Storage {
     /// [`Error::WrapAround`] is a range whose end, or whose start rounded up, passes `u64::MAX`, also where it is empty,
     /// and nothing changed. [`Error::Device`] and [`Error::Memory`] are passed on.
     fn discard(&mut self, offset: u64, count: u64) -> Result<(), Error>
-        ensures bytes { SameOutside (aligned_start (Self.features self.old).discard_align offset) (aligned_end (Self.features self.old).discard_align offset count - aligned_start (Self.features self.old).discard_align offset) (Self.bytes self.old) (Self.bytes self.new) }
-        ensures wraps { IsErrOf result Error.WrapAround ↔ RangeWraps (Self.features self.old).discard_align offset count }
+        ensures bytes { SameOutside (aligned_start (Self.features self.old).discard_align offset)
+            (aligned_end (Self.features self.old).discard_align offset count - aligned_start
+            (Self.features self.old).discard_align offset)
+            (Self.bytes self.old) (Self.bytes self.new) }
+        ensures wraps { IsErrOf result Error.WrapAround ↔ RangeWraps (Self.features self.old).discard_align offset
+            count }
         ensures unchanged { IsErrOf result Error.WrapAround → self.new ≡ self.old }
-        ensures nothing { aligned_end (Self.features self.old).discard_align offset count ≤ aligned_start (Self.features self.old).discard_align offset → self.new ≡ self.old }
+        ensures nothing { aligned_end (Self.features self.old).discard_align offset count ≤ aligned_start
+            (Self.features self.old).discard_align offset
+            → self.new ≡ self.old }
         ensures features { Self.features self.new ≡ Self.features self.old }
         ensures only { IfErr result IsExtRefusal }
-        ensures cause { CountsFaults (Self.features self.old).is_reliable (Self.fault_count self.old) (Self.fault_count self.new) result }
-        ensures memory { IsErrOf result Error.Memory → MayRunOut (Self.features self.old).other_memory 0 0 };
+        ensures cause { CountsFaults (Self.features self.old).is_reliable (Self.fault_count self.old)
+            (Self.fault_count self.new) result }
+        ensures memory { IsErrOf result Error.Memory
+            → MayRunOut (Self.features self.old).other_memory 0 0 };
 }
 
 impl<S: Storage> StorageExt for S {
@@ -141,7 +208,12 @@ impl<S: Storage> StorageExt for S {
         zero_any(self, alloc, offset, count, false)
     }
 
-    fn write_allocated_zeroes(&mut self, alloc: Global, offset: u64, count: u64) -> Result<(), Error> {
+    fn write_allocated_zeroes(
+        &mut self,
+        alloc: Global,
+        offset: u64,
+        count: u64,
+    ) -> Result<(), Error> {
         zero_any(self, alloc, offset, count, true)
     }
 
@@ -149,4 +221,3 @@ impl<S: Storage> StorageExt for S {
         discard_any(self, offset, count)
     }
 }
-

@@ -80,7 +80,12 @@ impl<S: Storage> Storage for &mut S {
         Storage::zero_in_place(&mut **self, offset, count, allocated)
     }
 
-    fn write_zeroes_as_data(&mut self, alloc: Global, offset: u64, count: u64) -> Result<(), Error> {
+    fn write_zeroes_as_data(
+        &mut self,
+        alloc: Global,
+        offset: u64,
+        count: u64,
+    ) -> Result<(), Error> {
         Storage::write_zeroes_as_data(&mut **self, alloc, offset, count)
     }
 

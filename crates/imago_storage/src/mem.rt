@@ -171,7 +171,8 @@ impl MemStorage {
         requires power { IsAlignment zero_align }
         requires whole { zero_align % (⟦<MemStorage as Storage>⟧.features self).req_align ≡ 0 }
         ensures bytes { ⟦<MemStorage as Storage>⟧.bytes result ≡ ⟦<MemStorage as Storage>⟧.bytes self }
-        ensures features { ⟦<MemStorage as Storage>⟧.features result ≡ record (⟦<MemStorage as Storage>⟧.features self) { zero_align = zero_align } }
+        ensures features { ⟦<MemStorage as Storage>⟧.features result ≡ record (⟦<MemStorage as Storage>⟧.features self)
+            { zero_align = zero_align } }
         ensures name { ⟦<MemStorage as Storage>⟧.filename result ≡ ⟦<MemStorage as Storage>⟧.filename self }
     {
         self.zero_align = zero_align;

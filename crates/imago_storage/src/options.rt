@@ -110,7 +110,8 @@ impl StorageCreateOptions {
 
     /// Sets the name of the file to create.
     pub fn filename(self, filename: String) -> Self
-        ensures { create_options result ≡ record (create_options self) { to_open = record (create_options self).to_open { filename = Some (string_bytes filename) } } }
+        ensures { create_options result ≡ record (create_options self)
+            { to_open = record (create_options self).to_open { filename = Some (string_bytes filename) } } }
     {
         self.modify_open_opts(|opts| opts.filename(filename))
     }

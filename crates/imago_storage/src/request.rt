@@ -28,7 +28,10 @@ pub(crate) fn read_any<S: Storage>(
     ensures wraps { IsErrOf result Error.WrapAround ↔ Wraps (S.features storage.now) offset (length buf.old) }
     ensures only { IfErr result IsExtRefusal }
     ensures device { IsErrOf result Error.Device → (S.features storage.now).is_reliable ≡ false }
-    ensures memory { IsErrOf result Error.Memory → IsAlignedRequest (S.features storage.now) offset (length buf.old) → MayRunOut (S.features storage.now).read_memory (length (S.bytes storage.now)) (offset + length buf.old) }
+    ensures memory { IsErrOf result Error.Memory
+        → IsAlignedRequest (S.features storage.now) offset (length buf.old)
+        → MayRunOut (S.features storage.now).read_memory (length (S.bytes storage.now))
+        (offset + length buf.old) }
 {
     if buf.is_empty() {
         return Ok(());
@@ -54,14 +57,25 @@ pub(crate) fn write_any<S: Storage>(
     offset: u64,
 ) -> Result<(), Error>
     ensures empty { length source.now ≡ 0 → IsOk result × (storage.new ≡ storage.old) }
-    ensures written { 0 < length source.now → WriteOutcome (S.features storage.old).keeps_data (S.bytes storage.old) (splice (zero_extended (S.bytes storage.old) (padded_end (S.features storage.old) offset (length source.now))) offset source.now) (S.bytes storage.new) result }
+    ensures written { 0 < length source.now
+        → WriteOutcome (S.features storage.old).keeps_data (S.bytes storage.old)
+        (splice
+        (zero_extended (S.bytes storage.old)
+        (padded_end (S.features storage.old) offset (length source.now)))
+        offset source.now)
+        (S.bytes storage.new) result }
     ensures wraps { IsErrOf result Error.WrapAround ↔ Wraps (S.features storage.old) offset (length source.now) }
     ensures unchanged { IsErrOf result Error.WrapAround → storage.new ≡ storage.old }
     ensures features { S.features storage.new ≡ S.features storage.old }
-    ensures work { IsWriteWork (len_align (S.features storage.old)) (length source.now) (S.work storage.old) (S.work storage.new) }
+    ensures work { IsWriteWork (len_align (S.features storage.old)) (length source.now) (S.work storage.old)
+        (S.work storage.new) }
     ensures only { IfErr result IsExtRefusal }
-    ensures cause { CountsFaults (S.features storage.old).is_reliable (S.fault_count storage.old) (S.fault_count storage.new) result }
-    ensures memory { IsErrOf result Error.Memory → IsAlignedRequest (S.features storage.old) offset (length source.now) → MayRunOut (S.features storage.old).write_memory (length (S.bytes storage.old)) (offset + length source.now) }
+    ensures cause { CountsFaults (S.features storage.old).is_reliable (S.fault_count storage.old)
+        (S.fault_count storage.new) result }
+    ensures memory { IsErrOf result Error.Memory
+        → IsAlignedRequest (S.features storage.old) offset (length source.now)
+        → MayRunOut (S.features storage.old).write_memory (length (S.bytes storage.old))
+        (offset + length source.now) }
 {
     if source.is_empty() {
         return Ok(());
@@ -87,11 +101,14 @@ fn write_parts<S: Storage>(
     len: u64,
 ) -> Result<(), Error>
     requires { IsInParts (S.features storage.old) (length block.old) offset (length source.now) start len }
-    ensures written { WriteOutcome (S.features storage.old).keeps_data (S.bytes storage.old) (splice (zero_extended (S.bytes storage.old) (start + len)) offset source.now) (S.bytes storage.new) result }
+    ensures written { WriteOutcome (S.features storage.old).keeps_data (S.bytes storage.old)
+        (splice (zero_extended (S.bytes storage.old) (start + len)) offset source.now)
+        (S.bytes storage.new) result }
     ensures features { S.features storage.new ≡ S.features storage.old }
     ensures work { AddsAtMost 2 (2 * length block.old) 3 len (S.work storage.old) (S.work storage.new) }
     ensures only { IfErr result IsDeviceOrMemory }
-    ensures cause { CountsFaults (S.features storage.old).is_reliable (S.fault_count storage.old) (S.fault_count storage.new) result }
+    ensures cause { CountsFaults (S.features storage.old).is_reliable (S.fault_count storage.old)
+        (S.fault_count storage.new) result }
 {
     let align = block.len();
     let head = (offset - start) as usize;
@@ -114,11 +131,18 @@ fn write_blocks<S: Storage>(
     start: u64,
 ) -> Result<(), Error>
     requires { IsInBlocks (S.features storage.old) (length block.old) start (length source.now) }
-    ensures written { WriteOutcome (S.features storage.old).keeps_data (S.bytes storage.old) (splice (zero_extended (S.bytes storage.old) (start + next_multiple_of (length source.now) (length block.old))) start source.now) (S.bytes storage.new) result }
+    ensures written { WriteOutcome (S.features storage.old).keeps_data (S.bytes storage.old)
+        (splice
+        (zero_extended (S.bytes storage.old)
+        (start + next_multiple_of (length source.now) (length block.old)))
+        start source.now)
+        (S.bytes storage.new) result }
     ensures features { S.features storage.new ≡ S.features storage.old }
-    ensures work { AddsAtMost 1 (length block.old) 2 (next_multiple_of (length source.now) (length block.old)) (S.work storage.old) (S.work storage.new) }
+    ensures work { AddsAtMost 1 (length block.old) 2 (next_multiple_of (length source.now) (length block.old))
+        (S.work storage.old) (S.work storage.new) }
     ensures only { IfErr result IsDeviceOrMemory }
-    ensures cause { CountsFaults (S.features storage.old).is_reliable (S.fault_count storage.old) (S.fault_count storage.new) result }
+    ensures cause { CountsFaults (S.features storage.old).is_reliable (S.fault_count storage.old)
+        (S.fault_count storage.new) result }
 {
     let whole = source.len() / block.len() * block.len();
     if whole == 0 {
@@ -141,11 +165,15 @@ fn update_block<S: Storage>(
 ) -> Result<(), Error>
     requires aligned { IsAlignedRequest (S.features storage.old) start (length block.old) }
     requires fits { head + length source.now ≤ length block.old }
-    ensures written { WriteOutcome (S.features storage.old).keeps_data (S.bytes storage.old) (splice (zero_extended (S.bytes storage.old) (start + length block.old)) (start + head) source.now) (S.bytes storage.new) result }
+    ensures written { WriteOutcome (S.features storage.old).keeps_data (S.bytes storage.old)
+        (splice (zero_extended (S.bytes storage.old) (start + length block.old)) (start + head)
+        source.now)
+        (S.bytes storage.new) result }
     ensures features { S.features storage.new ≡ S.features storage.old }
     ensures work { AddsAtMost 1 (length block.old) 1 (length block.old) (S.work storage.old) (S.work storage.new) }
     ensures only { IfErr result IsDeviceOrMemory }
-    ensures cause { CountsFaults (S.features storage.old).is_reliable (S.fault_count storage.old) (S.fault_count storage.new) result }
+    ensures cause { CountsFaults (S.features storage.old).is_reliable (S.fault_count storage.old)
+        (S.fault_count storage.new) result }
 {
     storage.pure_readv_mut(block, start)?;
     overwrite(block, source, head);
@@ -154,13 +182,19 @@ fn update_block<S: Storage>(
 
 /// Discards the aligned part of a range, if it has one. A discard that isn't offered is no refusal.
 pub(crate) fn discard_any<S: Storage>(storage: &mut S, offset: u64, count: u64) -> Result<(), Error>
-    ensures bytes { SameOutside (aligned_start (S.features storage.old).discard_align offset) (aligned_end (S.features storage.old).discard_align offset count - aligned_start (S.features storage.old).discard_align offset) (S.bytes storage.old) (S.bytes storage.new) }
+    ensures bytes { SameOutside (aligned_start (S.features storage.old).discard_align offset)
+        (aligned_end (S.features storage.old).discard_align offset count - aligned_start
+        (S.features storage.old).discard_align offset)
+        (S.bytes storage.old) (S.bytes storage.new) }
     ensures wraps { IsErrOf result Error.WrapAround ↔ RangeWraps (S.features storage.old).discard_align offset count }
     ensures unchanged { IsErrOf result Error.WrapAround → storage.new ≡ storage.old }
-    ensures nothing { aligned_end (S.features storage.old).discard_align offset count ≤ aligned_start (S.features storage.old).discard_align offset → storage.new ≡ storage.old }
+    ensures nothing { aligned_end (S.features storage.old).discard_align offset count ≤ aligned_start
+        (S.features storage.old).discard_align offset
+        → storage.new ≡ storage.old }
     ensures features { S.features storage.new ≡ S.features storage.old }
     ensures only { IfErr result IsExtRefusal }
-    ensures cause { CountsFaults (S.features storage.old).is_reliable (S.fault_count storage.old) (S.fault_count storage.new) result }
+    ensures cause { CountsFaults (S.features storage.old).is_reliable (S.fault_count storage.old)
+        (S.fault_count storage.new) result }
     ensures memory { IsErrOf result Error.Memory → MayRunOut (S.features storage.old).other_memory 0 0 }
 {
     let align = discard_align(&*storage);

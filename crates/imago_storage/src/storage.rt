@@ -9,10 +9,9 @@ ghost use Rattle.imago_storage.specs.Powers.{IsAlignment};
 ghost use Rattle.imago_storage.specs.IoCount.{IoCount, AddsAtMost};
 
 use crate::error::Error;
+pub use crate::options::{PreallocateMode, StorageCreateOptions, StorageOpenOptions};
 use std::alloc::Global;
 use std::fmt::Display;
-
-pub use crate::options::{PreallocateMode, StorageCreateOptions, StorageOpenOptions};
 
 /// The size up to which zeroes are written as data in one piece, in bytes.
 pub(crate) const ZERO_PIECE: u64 = 1048576;
@@ -123,7 +122,9 @@ pub trait Storage: Display + Drop + Sized {
         ensures bytes { OnOk result (IsReadAt (bytes self.now) offset buf.new) }
         ensures only { IfErr result IsDeviceOrMemory }
         ensures device { IsErrOf result Error.Device → (features self.now).is_reliable ≡ false }
-        ensures memory { IsErrOf result Error.Memory → MayRunOut (features self.now).read_memory (length (bytes self.now)) (offset + length buf.old) };
+        ensures memory { IsErrOf result Error.Memory
+            → MayRunOut (features self.now).read_memory (length (bytes self.now))
+            (offset + length buf.old) };
 
     /// Reads as [`pure_readv`](Self::pure_readv) does, through an exclusive borrow, so that a fault is counted.
     fn pure_readv_mut(&mut self, buf: &mut [u8], offset: u64) -> Result<(), Error>
@@ -133,45 +134,62 @@ pub trait Storage: Display + Drop + Sized {
         ensures features { features self.new ≡ features self.old }
         ensures work { AddsAtMost 1 (length buf.old) 0 0 (work self.old) (work self.new) }
         ensures only { IfErr result IsDeviceOrMemory }
-        ensures cause { CountsFaults (features self.old).is_reliable (fault_count self.old) (fault_count self.new) result }
-        ensures memory { IsErrOf result Error.Memory → MayRunOut (features self.old).read_memory (length (bytes self.old)) (offset + length buf.old) };
+        ensures cause { CountsFaults (features self.old).is_reliable (fault_count self.old) (fault_count self.new)
+            result }
+        ensures memory { IsErrOf result Error.Memory
+            → MayRunOut (features self.old).read_memory (length (bytes self.old))
+            (offset + length buf.old) };
 
     /// Writes the bytes at the offset. The storage grows to the end of the range, by zeroes where offsets are
     /// skipped. Refused, each byte of the range is old or new, all others are old, and the length is between.
     fn pure_writev(&mut self, source: &[u8], offset: u64) -> Result<(), Error>
         requires { IsAlignedRequest (features self.old) offset (length source.now) }
-        ensures written { WriteOutcome (features self.old).keeps_data (bytes self.old) (splice (bytes self.old) offset source.now) (bytes self.new) result }
-        ensures torn { OnErr result (OldOrNew (bytes self.old) (splice (bytes self.old) offset source.now) (bytes self.new)) }
-        ensures atomic { IsTrue (features self.old).atomic → OnErr result (bytes self.new ≡ bytes self.old) }
+        ensures written { WriteOutcome (features self.old).keeps_data (bytes self.old)
+            (splice (bytes self.old) offset source.now) (bytes self.new) result }
+        ensures torn { OnErr result
+            (OldOrNew (bytes self.old) (splice (bytes self.old) offset source.now) (bytes self.new)) }
+        ensures atomic { IsTrue (features self.old).atomic
+            → OnErr result (bytes self.new ≡ bytes self.old) }
         ensures features { features self.new ≡ features self.old }
         ensures work { AddsAtMost 0 0 1 (length source.now) (work self.old) (work self.new) }
         ensures only { IfErr result IsDeviceOrMemory }
-        ensures cause { CountsFaults (features self.old).is_reliable (fault_count self.old) (fault_count self.new) result }
-        ensures memory { IsErrOf result Error.Memory → MayRunOut (features self.old).write_memory (length (bytes self.old)) (offset + length source.now) };
+        ensures cause { CountsFaults (features self.old).is_reliable (fault_count self.old) (fault_count self.new)
+            result }
+        ensures memory { IsErrOf result Error.Memory
+            → MayRunOut (features self.old).write_memory (length (bytes self.old))
+            (offset + length source.now) };
 
     /// Zeroes a range with no buffer, `allocated` where it has to be allocated afterwards. A storage that can't do
     /// so answers [`Error::Unsupported`] with nothing changed, and zeroes are written as data in its place.
     fn zero_in_place(&mut self, offset: u64, count: u64, allocated: bool) -> Result<(), Error>
         requires { IsAlignedTo (features self.old).zero_align offset count }
-        ensures written { WriteOutcome (features self.old).keeps_data (bytes self.old) (splice (bytes self.old) offset (replicate count 0)) (bytes self.new) result }
-        ensures torn { OnErr result (OldOrNew (bytes self.old) (splice (bytes self.old) offset (replicate count 0)) (bytes self.new)) }
-        ensures atomic { IsTrue (features self.old).atomic → OnErr result (bytes self.new ≡ bytes self.old) }
+        ensures written { WriteOutcome (features self.old).keeps_data (bytes self.old)
+            (splice (bytes self.old) offset (replicate count 0)) (bytes self.new) result }
+        ensures torn { OnErr result
+            (OldOrNew (bytes self.old) (splice (bytes self.old) offset (replicate count 0))
+            (bytes self.new)) }
+        ensures atomic { IsTrue (features self.old).atomic
+            → OnErr result (bytes self.new ≡ bytes self.old) }
         ensures unchanged { IsErrOf result Error.Unsupported → bytes self.new ≡ bytes self.old }
         ensures features { features self.new ≡ features self.old }
         ensures only { IfErr result IsPureRefusal }
         ensures unsupported { IsErrOf result Error.Unsupported ↔ (zero_support (features self.old) allocated ≢ InPlace) }
-        ensures cause { CountsFaults (features self.old).is_reliable (fault_count self.old) (fault_count self.new) result }
-        ensures memory { IsErrOf result Error.Memory → MayRunOut (features self.old).zero_memory (length (bytes self.old)) (offset + count) };
+        ensures cause { CountsFaults (features self.old).is_reliable (fault_count self.old) (fault_count self.new)
+            result }
+        ensures memory { IsErrOf result Error.Memory
+            → MayRunOut (features self.old).zero_memory (length (bytes self.old)) (offset + count) };
 
     /// Zeroes a range by pure writes, in pieces of at most 1 MiB or one alignment, from one buffer. It is
     /// [`Error::Unsupported`], with nothing changed, where the count is no multiple of `mem_align`.
     fn write_zeroes_as_data(&mut self, alloc: Global, offset: u64, count: u64) -> Result<(), Error>
         requires { IsAlignedTo (features self.old).zero_align offset count }
-        ensures written { WriteOutcome (features self.old).keeps_data (bytes self.old) (splice (bytes self.old) offset (replicate count 0)) (bytes self.new) result }
+        ensures written { WriteOutcome (features self.old).keeps_data (bytes self.old)
+            (splice (bytes self.old) offset (replicate count 0)) (bytes self.new) result }
         ensures features { features self.new ≡ features self.old }
         ensures only { IfErr result IsPureRefusal }
         ensures unsupported { IsErrOf result Error.Unsupported ↔ (count % (features self.old).mem_align ≢ 0) }
-        ensures cause { CountsFaults (features self.old).is_reliable (fault_count self.old) (fault_count self.new) result }
+        ensures cause { CountsFaults (features self.old).is_reliable (fault_count self.old) (fault_count self.new)
+            result }
     {
         let mem_align = (*self).mem_align() as u64;
         let req_align = (*self).req_align() as u64;
@@ -195,15 +213,27 @@ pub trait Storage: Display + Drop + Sized {
     /// old, and the length is between.
     fn pure_write_zeroes(&mut self, alloc: Global, offset: u64, count: u64) -> Result<(), Error>
         requires { IsAlignedTo (features self.old).zero_align offset count }
-        ensures written { WriteOutcome (features self.old).keeps_data (bytes self.old) (splice (bytes self.old) offset (replicate count 0)) (bytes self.new) result }
-        ensures torn { (features self.old).zeroes ≡ InPlace → OnErr result (OldOrNew (bytes self.old) (splice (bytes self.old) offset (replicate count 0)) (bytes self.new)) }
-        ensures atomic { (features self.old).zeroes ≡ InPlace → IsTrue (features self.old).atomic → OnErr result (bytes self.new ≡ bytes self.old) }
+        ensures written { WriteOutcome (features self.old).keeps_data (bytes self.old)
+            (splice (bytes self.old) offset (replicate count 0)) (bytes self.new) result }
+        ensures torn { (features self.old).zeroes ≡ InPlace
+            → OnErr result
+            (OldOrNew (bytes self.old) (splice (bytes self.old) offset (replicate count 0))
+            (bytes self.new)) }
+        ensures atomic { (features self.old).zeroes ≡ InPlace
+            → IsTrue (features self.old).atomic
+            → OnErr result (bytes self.new ≡ bytes self.old) }
         ensures features { features self.new ≡ features self.old }
         ensures only { IfErr result IsPureRefusal }
-        ensures offered { IsErrOf result Error.Unsupported → MayBeUnsupported (features self.old).zeroes (features self.old).mem_align count }
-        ensures refused { (features self.old).zeroes ≡ AsData → count % (features self.old).mem_align ≢ 0 → IsErrOf result Error.Unsupported }
-        ensures cause { CountsFaults (features self.old).is_reliable (fault_count self.old) (fault_count self.new) result }
-        ensures memory { IsErrOf result Error.Memory → (features self.old).zeroes ≡ InPlace → MayRunOut (features self.old).zero_memory (length (bytes self.old)) (offset + count) }
+        ensures offered { IsErrOf result Error.Unsupported
+            → MayBeUnsupported (features self.old).zeroes (features self.old).mem_align count }
+        ensures refused { (features self.old).zeroes ≡ AsData
+            → count % (features self.old).mem_align ≢ 0
+            → IsErrOf result Error.Unsupported }
+        ensures cause { CountsFaults (features self.old).is_reliable (fault_count self.old) (fault_count self.new)
+            result }
+        ensures memory { IsErrOf result Error.Memory
+            → (features self.old).zeroes ≡ InPlace
+            → MayRunOut (features self.old).zero_memory (length (bytes self.old)) (offset + count) }
     {
         match self.zero_in_place(offset, count, false) {
             Err(Error::Unsupported) => self.write_zeroes_as_data(alloc, offset, count),
@@ -220,15 +250,28 @@ pub trait Storage: Display + Drop + Sized {
         count: u64,
     ) -> Result<(), Error>
         requires { IsAlignedTo (features self.old).zero_align offset count }
-        ensures written { WriteOutcome (features self.old).keeps_data (bytes self.old) (splice (bytes self.old) offset (replicate count 0)) (bytes self.new) result }
-        ensures torn { (features self.old).allocated_zeroes ≡ InPlace → OnErr result (OldOrNew (bytes self.old) (splice (bytes self.old) offset (replicate count 0)) (bytes self.new)) }
-        ensures atomic { (features self.old).allocated_zeroes ≡ InPlace → IsTrue (features self.old).atomic → OnErr result (bytes self.new ≡ bytes self.old) }
+        ensures written { WriteOutcome (features self.old).keeps_data (bytes self.old)
+            (splice (bytes self.old) offset (replicate count 0)) (bytes self.new) result }
+        ensures torn { (features self.old).allocated_zeroes ≡ InPlace
+            → OnErr result
+            (OldOrNew (bytes self.old) (splice (bytes self.old) offset (replicate count 0))
+            (bytes self.new)) }
+        ensures atomic { (features self.old).allocated_zeroes ≡ InPlace
+            → IsTrue (features self.old).atomic
+            → OnErr result (bytes self.new ≡ bytes self.old) }
         ensures features { features self.new ≡ features self.old }
         ensures only { IfErr result IsPureRefusal }
-        ensures offered { IsErrOf result Error.Unsupported → MayBeUnsupported (features self.old).allocated_zeroes (features self.old).mem_align count }
-        ensures refused { (features self.old).allocated_zeroes ≡ AsData → count % (features self.old).mem_align ≢ 0 → IsErrOf result Error.Unsupported }
-        ensures cause { CountsFaults (features self.old).is_reliable (fault_count self.old) (fault_count self.new) result }
-        ensures memory { IsErrOf result Error.Memory → (features self.old).allocated_zeroes ≡ InPlace → MayRunOut (features self.old).zero_memory (length (bytes self.old)) (offset + count) }
+        ensures offered { IsErrOf result Error.Unsupported
+            → MayBeUnsupported (features self.old).allocated_zeroes (features self.old).mem_align
+            count }
+        ensures refused { (features self.old).allocated_zeroes ≡ AsData
+            → count % (features self.old).mem_align ≢ 0
+            → IsErrOf result Error.Unsupported }
+        ensures cause { CountsFaults (features self.old).is_reliable (fault_count self.old) (fault_count self.new)
+            result }
+        ensures memory { IsErrOf result Error.Memory
+            → (features self.old).allocated_zeroes ≡ InPlace
+            → MayRunOut (features self.old).zero_memory (length (bytes self.old)) (offset + count) }
     {
         match self.zero_in_place(offset, count, true) {
             Err(Error::Unsupported) => self.write_zeroes_as_data(alloc, offset, count),
@@ -243,8 +286,10 @@ pub trait Storage: Display + Drop + Sized {
         ensures bytes { SameOutside offset count (bytes self.old) (bytes self.new) }
         ensures features { features self.new ≡ features self.old }
         ensures only { IfErr result IsPureRefusal }
-        ensures offered { IsErrOf result Error.Unsupported → (features self.old).offers_discard ≡ false }
-        ensures cause { CountsFaults (features self.old).is_reliable (fault_count self.old) (fault_count self.new) result }
+        ensures offered { IsErrOf result Error.Unsupported
+            → (features self.old).offers_discard ≡ false }
+        ensures cause { CountsFaults (features self.old).is_reliable (fault_count self.old) (fault_count self.new)
+            result }
         ensures memory { IsErrOf result Error.Memory → MayRunOut (features self.old).other_memory 0 0 }
     {
         let _ = offset;
@@ -257,7 +302,8 @@ pub trait Storage: Display + Drop + Sized {
         ensures unchanged { bytes self.new ≡ bytes self.old }
         ensures features { features self.new ≡ features self.old }
         ensures only { IfErr result IsDeviceOrMemory }
-        ensures cause { CountsFaults (features self.old).is_reliable (fault_count self.old) (fault_count self.new) result }
+        ensures cause { CountsFaults (features self.old).is_reliable (fault_count self.old) (fault_count self.new)
+            result }
         ensures memory { IsErrOf result Error.Memory → MayRunOut (features self.old).other_memory 0 0 };
 
     /// Syncs what is written to the hardware. No byte changes.
@@ -265,7 +311,8 @@ pub trait Storage: Display + Drop + Sized {
         ensures unchanged { bytes self.new ≡ bytes self.old }
         ensures features { features self.new ≡ features self.old }
         ensures only { IfErr result IsDeviceOrMemory }
-        ensures cause { CountsFaults (features self.old).is_reliable (fault_count self.old) (fault_count self.new) result }
+        ensures cause { CountsFaults (features self.old).is_reliable (fault_count self.old) (fault_count self.new)
+            result }
         ensures memory { IsErrOf result Error.Memory → MayRunOut (features self.old).other_memory 0 0 };
 
     /// Waits for all writes, zero writes and discards made before. No byte changes. By default nothing is done.
@@ -273,7 +320,8 @@ pub trait Storage: Display + Drop + Sized {
         ensures unchanged { bytes self.new ≡ bytes self.old }
         ensures features { features self.new ≡ features self.old }
         ensures only { IfErr result IsDeviceOrMemory }
-        ensures cause { CountsFaults (features self.old).is_reliable (fault_count self.old) (fault_count self.new) result }
+        ensures cause { CountsFaults (features self.old).is_reliable (fault_count self.old) (fault_count self.new)
+            result }
         ensures memory { IsErrOf result Error.Memory → MayRunOut (features self.old).other_memory 0 0 }
     {
         Ok(())
@@ -284,7 +332,8 @@ pub trait Storage: Display + Drop + Sized {
         ensures unchanged { bytes self.new ≡ bytes self.old }
         ensures features { features self.new ≡ features self.old }
         ensures only { IfErr result IsDeviceOrMemory }
-        ensures cause { CountsFaults (features self.old).is_reliable (fault_count self.old) (fault_count self.new) result }
+        ensures cause { CountsFaults (features self.old).is_reliable (fault_count self.old) (fault_count self.new)
+            result }
         ensures memory { IsErrOf result Error.Memory → MayRunOut (features self.old).other_memory 0 0 };
 
     /// Sets the length in bytes. Bytes that stay are kept; new ones are zero, or unspecified for
@@ -296,8 +345,10 @@ pub trait Storage: Display + Drop + Sized {
         ensures features { features self.new ≡ features self.old }
         ensures only { IfErr result IsPureRefusal }
         ensures offered { IsErrOf result Error.Unsupported → (features self.old).offers_resize ≡ false }
-        ensures cause { CountsFaults (features self.old).is_reliable (fault_count self.old) (fault_count self.new) result }
-        ensures memory { IsErrOf result Error.Memory → MayRunOut (features self.old).resize_memory (length (bytes self.old)) new_size };
+        ensures cause { CountsFaults (features self.old).is_reliable (fault_count self.old) (fault_count self.new)
+            result }
+        ensures memory { IsErrOf result Error.Memory
+            → MayRunOut (features self.old).resize_memory (length (bytes self.old)) new_size };
 
     /// The alignments are powers of two, and those of zero writes and discards multiples of that of requests.
     ghost lawful: { (s : Self) → AreAlignments (features s) };

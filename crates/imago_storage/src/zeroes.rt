@@ -23,14 +23,28 @@ pub(crate) fn zero_any<S: Storage>(
     allocated: bool,
 ) -> Result<(), Error>
     ensures empty { count ≡ 0 → IsOk result × (storage.new ≡ storage.old) }
-    ensures written { 0 < count → HasZeroed (S.features storage.old) (S.bytes storage.old) offset count (S.bytes storage.new) result }
-    ensures wraps { 0 < count → RangeWraps (S.features storage.old).zero_align offset count → IsErrOf result Error.WrapAround × (storage.new ≡ storage.old) }
-    ensures may_wrap { IsErrOf result Error.WrapAround → MayWrap (S.features storage.old) (zero_support (S.features storage.old) allocated) offset count }
-    ensures fits { 0 < count → OnOk result (FitsZeroes (S.features storage.old) (zero_support (S.features storage.old) allocated) offset count) }
+    ensures written { 0 < count
+        → HasZeroed (S.features storage.old) (S.bytes storage.old) offset count
+        (S.bytes storage.new) result }
+    ensures wraps { 0 < count
+        → RangeWraps (S.features storage.old).zero_align offset count
+        → IsErrOf result Error.WrapAround × (storage.new ≡ storage.old) }
+    ensures may_wrap { IsErrOf result Error.WrapAround
+        → MayWrap (S.features storage.old) (zero_support (S.features storage.old) allocated) offset
+        count }
+    ensures fits { 0 < count
+        → OnOk result
+        (FitsZeroes (S.features storage.old)
+        (zero_support (S.features storage.old) allocated) offset count) }
     ensures features { S.features storage.new ≡ S.features storage.old }
     ensures only { IfErr result IsExtRefusal }
-    ensures cause { CountsFaults (S.features storage.old).is_reliable (S.fault_count storage.old) (S.fault_count storage.new) result }
-    ensures memory { IsErrOf result Error.Memory → IsAlignedTo (S.features storage.old).zero_align offset count → zero_support (S.features storage.old) allocated ≡ InPlace → MayRunOut (S.features storage.old).zero_memory (length (S.bytes storage.old)) (offset + count) }
+    ensures cause { CountsFaults (S.features storage.old).is_reliable (S.fault_count storage.old)
+        (S.fault_count storage.new) result }
+    ensures memory { IsErrOf result Error.Memory
+        → IsAlignedTo (S.features storage.old).zero_align offset count
+        → zero_support (S.features storage.old) allocated ≡ InPlace
+        → MayRunOut (S.features storage.old).zero_memory (length (S.bytes storage.old))
+        (offset + count) }
 {
     if count == 0 {
         return Ok(());
@@ -54,13 +68,23 @@ fn zero_range<S: Storage>(
 ) -> Result<(), Error>
     requires part { IsAlignedPart (S.features storage.old).zero_align offset count start end }
     requires some { 0 < count }
-    ensures written { HasZeroed (S.features storage.old) (S.bytes storage.old) offset count (S.bytes storage.new) result }
-    ensures may_wrap { IsErrOf result Error.WrapAround → MayWrap (S.features storage.old) (zero_support (S.features storage.old) allocated) offset count }
-    ensures fits { OnOk result (FitsZeroes (S.features storage.old) (zero_support (S.features storage.old) allocated) offset count) }
+    ensures written { HasZeroed (S.features storage.old) (S.bytes storage.old) offset count (S.bytes storage.new)
+        result }
+    ensures may_wrap { IsErrOf result Error.WrapAround
+        → MayWrap (S.features storage.old) (zero_support (S.features storage.old) allocated) offset
+        count }
+    ensures fits { OnOk result
+        (FitsZeroes (S.features storage.old) (zero_support (S.features storage.old) allocated)
+        offset count) }
     ensures features { S.features storage.new ≡ S.features storage.old }
     ensures only { IfErr result IsExtRefusal }
-    ensures cause { CountsFaults (S.features storage.old).is_reliable (S.fault_count storage.old) (S.fault_count storage.new) result }
-    ensures memory { IsErrOf result Error.Memory → IsAlignedTo (S.features storage.old).zero_align offset count → zero_support (S.features storage.old) allocated ≡ InPlace → MayRunOut (S.features storage.old).zero_memory (length (S.bytes storage.old)) (offset + count) }
+    ensures cause { CountsFaults (S.features storage.old).is_reliable (S.fault_count storage.old)
+        (S.fault_count storage.new) result }
+    ensures memory { IsErrOf result Error.Memory
+        → IsAlignedTo (S.features storage.old).zero_align offset count
+        → zero_support (S.features storage.old) allocated ≡ InPlace
+        → MayRunOut (S.features storage.old).zero_memory (length (S.bytes storage.old))
+        (offset + count) }
 {
     if end <= start {
         return zero_as_data(storage, alloc, offset, count);
@@ -85,15 +109,26 @@ fn zero_part_and_edges<S: Storage>(
 ) -> Result<(), Error>
     requires part { IsAlignedPart (S.features storage.old).zero_align offset count start end }
     requires some { start < end }
-    ensures written { HasZeroed (S.features storage.old) (S.bytes storage.old) offset count (S.bytes storage.new) result }
+    ensures written { HasZeroed (S.features storage.old) (S.bytes storage.old) offset count (S.bytes storage.new)
+        result }
     ensures wraps { IsErrOf result Error.WrapAround → EdgeWraps (S.features storage.old) offset count }
     ensures fits { OnOk result (¬ EdgeWraps (S.features storage.old) offset count) }
-    ensures offered { IsErrOf result Error.Unsupported → MayBeUnsupported (zero_support (S.features storage.old) allocated) (S.features storage.old).mem_align (end - start) }
-    ensures refused { zero_support (S.features storage.old) allocated ≡ AsData → (end - start) % (S.features storage.old).mem_align ≢ 0 → IsErrOf result Error.Unsupported }
+    ensures offered { IsErrOf result Error.Unsupported
+        → MayBeUnsupported (zero_support (S.features storage.old) allocated)
+        (S.features storage.old).mem_align (end - start) }
+    ensures refused { zero_support (S.features storage.old) allocated ≡ AsData
+        → (end - start) % (S.features storage.old).mem_align ≢ 0
+        → IsErrOf result Error.Unsupported }
     ensures features { S.features storage.new ≡ S.features storage.old }
     ensures only { IfErr result IsZeroRefusal }
-    ensures cause { CountsFaults (S.features storage.old).is_reliable (S.fault_count storage.old) (S.fault_count storage.new) result }
-    ensures memory { IsErrOf result Error.Memory → start ≡ offset → end ≡ offset + count → zero_support (S.features storage.old) allocated ≡ InPlace → MayRunOut (S.features storage.old).zero_memory (length (S.bytes storage.old)) (offset + count) }
+    ensures cause { CountsFaults (S.features storage.old).is_reliable (S.fault_count storage.old)
+        (S.fault_count storage.new) result }
+    ensures memory { IsErrOf result Error.Memory
+        → start ≡ offset
+        → end ≡ offset + count
+        → zero_support (S.features storage.old) allocated ≡ InPlace
+        → MayRunOut (S.features storage.old).zero_memory (length (S.bytes storage.old))
+        (offset + count) }
 {
     zero_part(storage, alloc, start, end - start, allocated)?;
     if start == offset && end == offset + count {
@@ -113,12 +148,16 @@ fn zero_edges<S: Storage>(
 ) -> Result<(), Error>
     requires part { IsAlignedPart (S.features storage.old).zero_align offset count start end }
     requires some { start < end }
-    ensures written { (old : List ℕ) → HasZeroed {T = Unit {0}} (S.features storage.old) old start (end - start) (S.bytes storage.old) (Ok tt) → HasZeroed (S.features storage.old) old offset count (S.bytes storage.new) result }
+    ensures written { (old : List ℕ)
+        → HasZeroed {T = Unit {0}} (S.features storage.old) old start (end - start)
+        (S.bytes storage.old) (Ok tt)
+        → HasZeroed (S.features storage.old) old offset count (S.bytes storage.new) result }
     ensures wraps { IsErrOf result Error.WrapAround → EdgeWraps (S.features storage.old) offset count }
     ensures fits { OnOk result (¬ EdgeWraps (S.features storage.old) offset count) }
     ensures features { S.features storage.new ≡ S.features storage.old }
     ensures only { IfErr result IsExtRefusal }
-    ensures cause { CountsFaults (S.features storage.old).is_reliable (S.fault_count storage.old) (S.fault_count storage.new) result }
+    ensures cause { CountsFaults (S.features storage.old).is_reliable (S.fault_count storage.old)
+        (S.fault_count storage.new) result }
 {
     let head = start - offset;
     let tail = offset + count - end;
@@ -136,13 +175,22 @@ fn zero_part<S: Storage>(
     allocated: bool,
 ) -> Result<(), Error>
     requires { IsAlignedTo (S.features storage.old).zero_align offset count }
-    ensures written { HasZeroed (S.features storage.old) (S.bytes storage.old) offset count (S.bytes storage.new) result }
-    ensures offered { IsErrOf result Error.Unsupported → MayBeUnsupported (zero_support (S.features storage.old) allocated) (S.features storage.old).mem_align count }
-    ensures refused { zero_support (S.features storage.old) allocated ≡ AsData → count % (S.features storage.old).mem_align ≢ 0 → IsErrOf result Error.Unsupported }
+    ensures written { HasZeroed (S.features storage.old) (S.bytes storage.old) offset count (S.bytes storage.new)
+        result }
+    ensures offered { IsErrOf result Error.Unsupported
+        → MayBeUnsupported (zero_support (S.features storage.old) allocated)
+        (S.features storage.old).mem_align count }
+    ensures refused { zero_support (S.features storage.old) allocated ≡ AsData
+        → count % (S.features storage.old).mem_align ≢ 0
+        → IsErrOf result Error.Unsupported }
     ensures features { S.features storage.new ≡ S.features storage.old }
     ensures only { IfErr result IsPureRefusal }
-    ensures cause { CountsFaults (S.features storage.old).is_reliable (S.fault_count storage.old) (S.fault_count storage.new) result }
-    ensures memory { IsErrOf result Error.Memory → zero_support (S.features storage.old) allocated ≡ InPlace → MayRunOut (S.features storage.old).zero_memory (length (S.bytes storage.old)) (offset + count) }
+    ensures cause { CountsFaults (S.features storage.old).is_reliable (S.fault_count storage.old)
+        (S.fault_count storage.new) result }
+    ensures memory { IsErrOf result Error.Memory
+        → zero_support (S.features storage.old) allocated ≡ InPlace
+        → MayRunOut (S.features storage.old).zero_memory (length (S.bytes storage.old))
+        (offset + count) }
 {
     if allocated {
         storage.pure_write_allocated_zeroes(alloc, offset, count)
@@ -161,11 +209,13 @@ fn zero_from<S: Storage>(
 ) -> Result<(), Error>
     requires zeroes { zeroes.now ≡ replicate (length zeroes.now) 0 }
     requires enough { count ≤ length zeroes.now }
-    ensures written { ZeroedPart (S.features storage.old) (S.bytes storage.old) offset count (S.bytes storage.new) result }
+    ensures written { ZeroedPart (S.features storage.old) (S.bytes storage.old) offset count (S.bytes storage.new)
+        result }
     ensures wraps { IsErrOf result Error.WrapAround ↔ Wraps (S.features storage.old) offset count }
     ensures features { S.features storage.new ≡ S.features storage.old }
     ensures only { IfErr result IsExtRefusal }
-    ensures cause { CountsFaults (S.features storage.old).is_reliable (S.fault_count storage.old) (S.fault_count storage.new) result }
+    ensures cause { CountsFaults (S.features storage.old).is_reliable (S.fault_count storage.old)
+        (S.fault_count storage.new) result }
 {
     write_any(storage, alloc, &zeroes[..count as usize], offset)
 }
@@ -195,12 +245,14 @@ fn zero_as_data<S: Storage>(
 ) -> Result<(), Error>
     requires some { 0 < count }
     requires ends { offset + count < 2 ^ 64 }
-    ensures written { HasZeroed (S.features storage.old) (S.bytes storage.old) offset count (S.bytes storage.new) result }
+    ensures written { HasZeroed (S.features storage.old) (S.bytes storage.old) offset count (S.bytes storage.new)
+        result }
     ensures wraps { IsErrOf result Error.WrapAround → DataWraps (S.features storage.old) offset count }
     ensures fits { OnOk result (¬ DataWraps (S.features storage.old) offset count) }
     ensures features { S.features storage.new ≡ S.features storage.old }
     ensures only { IfErr result IsExtRefusal }
-    ensures cause { CountsFaults (S.features storage.old).is_reliable (S.fault_count storage.old) (S.fault_count storage.new) result }
+    ensures cause { CountsFaults (S.features storage.old).is_reliable (S.fault_count storage.old)
+        (S.fault_count storage.new) result }
 {
     let piece = length_align(&*storage).max(ZERO_PIECE);
     let zeroes = zero_buffer(alloc, piece.min(count) as usize)?;
@@ -212,7 +264,14 @@ fn zero_as_data<S: Storage>(
     if first == count {
         return Ok(());
     }
-    zero_pieces(storage, alloc, &zeroes, piece, offset + first, count - first)
+    zero_pieces(
+        storage,
+        alloc,
+        &zeroes,
+        piece,
+        offset + first,
+        count - first,
+    )
 }
 
 /// Writes zeroes as data from a multiple of the request alignment on, in pieces from a buffer of zeroes.
@@ -231,12 +290,14 @@ fn zero_pieces<S: Storage>(
     requires start { offset % (S.features storage.old).req_align ≡ 0 }
     requires some { 0 < count }
     requires ends { offset + count < 2 ^ 64 }
-    ensures written { HasZeroed (S.features storage.old) (S.bytes storage.old) offset count (S.bytes storage.new) result }
+    ensures written { HasZeroed (S.features storage.old) (S.bytes storage.old) offset count (S.bytes storage.new)
+        result }
     ensures wraps { IsErrOf result Error.WrapAround → Wraps (S.features storage.old) offset count }
     ensures fits { OnOk result (¬ Wraps (S.features storage.old) offset count) }
     ensures features { S.features storage.new ≡ S.features storage.old }
     ensures only { IfErr result IsExtRefusal }
-    ensures cause { CountsFaults (S.features storage.old).is_reliable (S.fault_count storage.old) (S.fault_count storage.new) result }
+    ensures cause { CountsFaults (S.features storage.old).is_reliable (S.fault_count storage.old)
+        (S.fault_count storage.new) result }
 {
     let mut done = 0;
     while done < count {

@@ -24,8 +24,8 @@ returns-in_err-zero_from-clause-wraps g c = λ wraps.
     let left : c.loop-done.done ≢ c.args.count = omega arith in
     let whole : c.loop-done.done % len_align f ≡ 0 = elim c.loop-done.invariant.whole [ inl w ↦ w | inr e ↦ absurd (left e) ] in
     piece_wraps f c.args.offset c.args.count c.loop-done.done c.min-next.result lawful c.requires.start whole (omega arith) c.requires.ends
-        (rw c.min-next.ensures (piece_kind (len_align f) c.args.piece (c.args.count - c.loop-done.done) c.requires.whole))
-        (rw c.loop-done.invariant.features at (c.zero_from.ensures.wraps.0 (same_refusal _ _ _ _ _ c.in_err-zero_from.was p.1 p.2 wraps)))
+    (rw c.min-next.ensures (piece_kind (len_align f) c.args.piece (c.args.count - c.loop-done.done) c.requires.whole))
+    (rw c.loop-done.invariant.features at (c.zero_from.ensures.wraps.0 (same_refusal _ _ _ _ _ c.in_err-zero_from.was p.1 p.2 wraps)))
 
 pub loop-done-preserved : goal.loop-done-preserved
 loop-done-preserved g c =
