@@ -26,7 +26,7 @@ pub(crate) fn length_align<S: Storage>(storage: &S) -> u64
 }
 
 /// The multiple that a zero write's offset and length have to be.
-pub(crate) fn zero_align<S: Storage>(storage: &S) -> u64
+pub fn zero_align<S: Storage>(storage: &S) -> u64
     ensures value { result ≡ (S.features storage.now).zero_align }
     ensures positive { 0 < result }
     ensures lawful { AreAlignments (S.features storage.now) }
@@ -35,7 +35,7 @@ pub(crate) fn zero_align<S: Storage>(storage: &S) -> u64
 }
 
 /// The multiple that a discard's offset and length have to be.
-pub(crate) fn discard_align<S: Storage>(storage: &S) -> u64
+pub fn discard_align<S: Storage>(storage: &S) -> u64
     ensures value { result ≡ (S.features storage.now).discard_align }
     ensures positive { 0 < result }
     ensures lawful { AreAlignments (S.features storage.now) }
@@ -73,7 +73,7 @@ pub(crate) fn padded_request<S: Storage>(storage: &S, offset: u64, count: u64) -
 
 /// The start and end of the aligned part of a range, which is empty where it ends by its start. `None` where the
 /// range's end, or its start rounded up, passes `u64::MAX`.
-pub(crate) fn aligned_part(align: u64, offset: u64, count: u64) -> Option<(u64, u64)>
+pub fn aligned_part(align: u64, offset: u64, count: u64) -> Option<(u64, u64)>
     requires { 0 < align }
     ensures { MatchOption result (RangeWraps align offset count)
         (λ p. IsAlignedPart align offset count p.0 p.1) }

@@ -4,7 +4,7 @@
 //! any range of it readable and writable, and says what a refused call leaves.
 #![tactic(auto)]
 
-mod align;
+pub mod align;
 mod bytes;
 pub mod error;
 pub mod ext;

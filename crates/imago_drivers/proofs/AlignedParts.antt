@@ -1,0 +1,32 @@
+use Rattle.std.proofs.Common.{◌≡◌, ℕ, ◌+◌, ◌-◌, ◌%◌, ◌^◌, ◌<◌, ◌≤◌, ◌⊎◌, ⊎_elim, inl, inr, arith, refl, sym, ◌∙◌, ap}
+use Rattle.std.proofs.Math.Nat.{mod_self, dvd-add, dvd_of_mod-eq-zero, mod-eq-zero_of_dvd}
+use Rattle.imago_storage.specs.Features.{Features, IsAlignedTo}
+use Rattle.imago_storage.specs.Padding.{aligned_start, aligned_end, RangeWraps, IsAlignedPart}
+use Rattle.imago_drivers.specs.Raw.{IsPartAlignedTo}
+
+start_whole : (align at : ℕ) → at % align ≡ 0 → aligned_start align at ≡ at
+start_whole align at e = let s : align - at % align ≡ align = omega (arith, e) in let z : (align - at % align) % align ≡ 0 = rw s (mod_self align) in omega arith
+
+end_whole : (align at n : ℕ) → at % align ≡ 0 → n % align ≡ 0 → aligned_end align at n ≡ at + n
+end_whole align at n e h = let z : (at + n) % align ≡ 0 = mod-eq-zero_of_dvd align (dvd-add align (dvd_of_mod-eq-zero align e) (dvd_of_mod-eq-zero align h)) in omega arith
+
+-- an aligned range is its own aligned part
+pub whole_start : (align at n start end : ℕ) → IsAlignedPart align at n start end → IsAlignedTo align at n → start ≡ at
+whole_start align at n start end p a = p.is_start ∙ start_whole align at a.start
+
+pub whole_length : (align at n start end : ℕ) → IsAlignedPart align at n start end → IsAlignedTo align at n → end - start ≡ n
+whole_length align at n start end p a = let s : start ≡ at = whole_start align at n start end p a in let e : end ≡ at + n = p.is_end ∙ end_whole align at n a.start a.whole in omega arith
+
+-- a range in the address space that wraps around where it is rounded up has no aligned part
+pub no_part : (align at n : ℕ) → at + n < 2 ^ 64 → RangeWraps align at n → IsPartAlignedTo align at n at 0
+no_part align at n h w = record {
+  len = ⊎_elim (λ a. absurd (omega arith)) (λ b. omega arith) w;
+  start = λ z. absurd (omega arith);
+}
+
+-- the aligned part of a range doesn't wrap around
+pub part_fits : (align at n start end : ℕ) → IsAlignedPart align at n start end → start < end → RangeWraps align start (end - start) → ⊥
+part_fits align at n start end p l w =
+    let a = p.aligned (omega arith) in
+    let s : aligned_start align start ≡ start = start_whole align start a.start in
+    ⊎_elim (λ x. omega (arith, a.ends)) (λ y. omega (arith, p.start_fits)) w

@@ -1,0 +1,5 @@
+pub mod StorageBytes
+pub mod AlignedParts
+pub mod RawSteps
+pub mod Ensured
+pub mod CopySteps

@@ -1,0 +1,15 @@
+use Rattle.std.proofs.Common.{◌≡◌, arith, length, false}
+use Rattle.imago_drivers.specs.Operation.{Read}
+use Rattle.imago_drivers.specs.Place.{IsAt}
+use Rattle.imago_drivers.specs.Raw.{raw_place}
+use Rattle.imago_drivers.proofs.RawSteps.{raw_at, read_refused}
+use Rattle.imago_drivers.proofs.raw.RawFormatDriverInstance.read_mapped.Goals as goal
+
+pub returns-clause-refusals : goal.returns-clause-refusals
+returns-clause-refusals g c =
+    let s = c.args.self.now in
+    let f = g.S.Storage.features s.storage in
+    let B = g.S.Storage.bytes s.storage in
+    let n = length c.args.buf.now in
+    read_refused f s.size B c.args._storage c.args.offset n c.read.result
+    c.read.ensures.empty c.read.ensures.only c.read.ensures.device (c.read.ensures.wraps).0 c.read.ensures.memory

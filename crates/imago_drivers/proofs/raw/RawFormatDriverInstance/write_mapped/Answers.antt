@@ -1,0 +1,39 @@
+use Rattle.std.proofs.Common.{◌≡◌, ◌+◌, ◌<◌, ◌≤◌, arith, length, true, false, ◌∙◌, sym, ap}
+use Rattle.std.specs.Prelude.{slice_index, IsTrue}
+use Rattle.imago_drivers.specs.Operation.{Write}
+use Rattle.imago_drivers.specs.Place.{IsAt}
+use Rattle.imago_drivers.specs.Raw.{raw_place, HasBytes}
+use Rattle.imago_drivers.proofs.StorageBytes.{zero_behind_write, either_bytes}
+use Rattle.imago_drivers.proofs.RawSteps.{raw_at, raw_inside, raw_put_on_ok, raw_put_on_err, request_refused}
+use Rattle.imago_drivers.proofs.raw.RawFormatDriverInstance.write_mapped.Goals as goal
+
+pub returns-clause-written : goal.returns-clause-written
+returns-clause-written g c =
+    let z : c.args._storage ≡ 0 = omega (arith, c.requires.known) in
+    rw z (raw_put_on_ok _ _ _ _ _ _ c.write_bytes.result c.write_bytes.ensures.written)
+
+pub returns-clause-torn : goal.returns-clause-torn
+returns-clause-torn g c =
+    let z : c.args._storage ≡ 0 = omega (arith, c.requires.known) in
+    rw z (raw_put_on_err _ _ _ _ _ _ c.write_bytes.result c.write_bytes.ensures.torn)
+
+pub invariant_of-self : goal.invariant_of-self
+invariant_of-self g c =
+    let s = c.args.self.now in
+    let w = c.write_bytes.ensures in
+    record {
+      fits = s.fits;
+      bounded = omega (arith, w.no_shorter, s.bounded);
+      zero_behind = λ k.
+          let k' : IsTrue (g.S.Storage.features s.storage).keeps_data = rw (← w.features) k in
+          zero_behind_write true c.args.offset (length c.args.source.now) s.size _ _ _ (λ h. raw_inside s.size (g.S.Storage.bytes s.storage) c.args._storage c.args.offset (length c.args.source.now) h c.requires.mapped)
+          (either_bytes _ _ _ _ _ c.write_bytes.result (w.written k') (w.torn k')) (s.zero_behind k');
+    }
+
+pub returns-clause-refusals : goal.returns-clause-refusals
+returns-clause-refusals g c =
+    let s = c.args.self.now in
+    let B = g.S.Storage.bytes s.storage in
+    let n = length c.args.source.now in
+    request_refused (g.S.Storage.features s.storage) s.size (length B) c.args.offset n Write _ (IsAt (raw_place s.size B) c.args._storage c.args.offset n) _ ⊥ c.write_bytes.result
+    (λ x h q. raw_at s.size B c.args._storage c.args.offset n x h q) c.write_bytes.ensures.empty c.write_bytes.ensures.only (λ e. tt) (λ x h q. c.write_bytes.ensures.wraps) c.write_bytes.ensures.memory

@@ -1,0 +1,17 @@
+use Rattle.std.proofs.Common.{rules, ◌≡◌, ◌-◌, ◌+◌, ◌<◌, ◌≤◌, ◌⊎◌, arith}
+use Rattle.std.specs.Prelude.{IsErrOf}
+use Rattle.imago_storage.specs.declared.error.Error.{Error}
+use Rattle.imago_storage.specs.Padding.{RangeWraps}
+use Rattle.imago_drivers.proofs.StorageBytes.{no_wrap}
+use Rattle.imago_drivers.proofs.AlignedParts.{whole_start, whole_length, part_fits}
+use Rattle.imago_drivers.proofs.raw.discard_part.Goals as goal
+
+pub returns-clause-whole : goal.returns-clause-whole
+returns-clause-whole g c = λ a. (whole_start _ _ _ _ _ c.in-Some.ensures (rw c.discard_align-align.ensures.value a), whole_length _ _ _ _ _ c.in-Some.ensures (rw c.discard_align-align.ensures.value a))
+
+pub returns-in_err-discard-clause-only : goal.returns-in_err-discard-clause-only
+returns-in_err-discard-clause-only g c =
+    let p = c.in-Some.ensures in
+    let fits : RangeWraps c.discard_align-align.result c.in-Some.start (c.in-Some.end - c.in-Some.start) → ⊥ = part_fits _ _ _ _ _ p (omega (arith, c.if-end-start.false)) in
+    let w : IsErrOf c.discard.result Error.WrapAround → ⊥ = λ e. fits (rw c.discard_align-align.ensures.value ((c.discard.ensures.wraps).0 e)) in
+    search (rules, no_wrap)

@@ -1,0 +1,17 @@
+use Rattle.std.proofs.Common.{◌≡◌, ◌<◌, ◌≤◌, length, arith, ⊎_elim, true, false, ap}
+use Rattle.std.proofs.lemmas.Bool.{cases_lt}
+use Rattle.std.proofs.lemmas.Result.{on_err_weaker, on_ok_weaker}
+use Rattle.imago_drivers.proofs.StorageBytes.{written_bytes, torn_bytes, no_bytes, on_success, on_refusal}
+use Rattle.imago_drivers.proofs.raw.write_bytes.Goals as goal
+
+pub returns-clause-written : goal.returns-clause-written
+returns-clause-written g c = λ k. ⊎_elim
+    (λ some. on_ok_weaker c.write.result (λ h. written_bytes _ c.args.source.now _ c.args.offset _ h) ((c.write.ensures.written some).done k))
+    (λ none. on_success c.write.result _ (no_bytes false c.args.offset c.args.source.now _ _ (omega arith) (ap g.S.Storage.bytes (c.write.ensures.empty (omega arith)).1)))
+    (cases_lt 0 (length c.args.source.now))
+
+pub returns-clause-torn : goal.returns-clause-torn
+returns-clause-torn g c = λ k. ⊎_elim
+    (λ some. on_err_weaker c.write.result (λ h. torn_bytes _ c.args.source.now _ c.args.offset _ h) ((c.write.ensures.written some).refused k))
+    (λ none. on_refusal c.write.result _ (no_bytes true c.args.offset c.args.source.now _ _ (omega arith) (ap g.S.Storage.bytes (c.write.ensures.empty (omega arith)).1)))
+    (cases_lt 0 (length c.args.source.now))

@@ -1,0 +1,32 @@
+use Rattle.std.proofs.Common.{rules, ◌≡◌, ◌-◌, ◌+◌, ◌<◌, ◌≤◌, arith}
+use Rattle.imago_storage.specs.Features.{IsAlignedTo}
+use Rattle.imago_drivers.proofs.StorageBytes.{zeroed_bytes, torn_zeroes, torn_in_range, on_refusal}
+use Rattle.imago_drivers.proofs.AlignedParts.{whole_start, whole_length}
+use Rattle.imago_drivers.proofs.raw.zero_part.Goals as goal
+
+pub returns-clause-whole : goal.returns-clause-whole
+returns-clause-whole g c = λ a. (whole_start _ _ _ _ _ c.in-Some.ensures (rw c.zero_align-align.ensures.value a), whole_length _ _ _ _ _ c.in-Some.ensures (rw c.zero_align-align.ensures.value a))
+
+pub returns-clause-zeroed : goal.returns-clause-zeroed
+returns-clause-zeroed g c = λ k.
+    let some : 0 < c.in-Some.end - c.in-Some.start = omega (arith, c.if-end-start.false) in
+    let z = c.in_ok-write_zeroes.ensures.written some in
+    zeroed_bytes _ _ c.in-Some.start (c.in-Some.end - c.in-Some.start) z.end (z.written.done k)
+
+pub returns-in_err-write_zeroes-clause-torn : goal.returns-in_err-write_zeroes-clause-torn
+returns-in_err-write_zeroes-clause-torn g c = λ k.
+    let some : 0 < c.in-Some.end - c.in-Some.start = omega (arith, c.if-end-start.false) in
+    let p = c.in-Some.ensures in
+    let z = c.in_err-write_zeroes.ensures.written some in
+    on_refusal _ _ (torn_in_range _ _ c.in-Some.start (c.in-Some.end - c.in-Some.start) c.args.offset c.args.count p.before (omega (arith, p.behind))
+    (torn_zeroes _ _ c.in-Some.start (c.in-Some.end - c.in-Some.start) z.end (z.written.refused k)))
+
+pub returns-in_err-write_zeroes-clause-memory : goal.returns-in_err-write_zeroes-clause-memory
+returns-in_err-write_zeroes-clause-memory g c = λ e a i.
+    let p = c.in-Some.ensures in
+    let b : IsAlignedTo c.zero_align-align.result c.args.offset c.args.count = rw c.zero_align-align.ensures.value a in
+    let s : c.in-Some.start ≡ c.args.offset = whole_start _ _ _ _ _ p b in
+    let n : c.in-Some.end - c.in-Some.start ≡ c.args.count = whole_length _ _ _ _ _ p b in
+    let m : c.in-Some.end - c.args.offset ≡ c.args.count = rw s at n in
+    let refused = rw (s, m) at c.in_err-write_zeroes.ensures.memory in
+    refused (search rules) a i

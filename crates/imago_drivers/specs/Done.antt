@@ -1,0 +1,73 @@
+use Rattle.std.specs.Prelude.{◌≡◌, ℕ, ◌+◌, ◌≤◌, ◌⊎◌, false, IsTrue, Result, IfOk, OnErr}
+use Rattle.imago_storage.specs.declared.error.Error.{Error}
+use Rattle.imago_drivers.specs.Operation.{Operation, Map, Read, Write}
+use Rattle.imago_drivers.specs.Place.{Value, values, IsAt, IsSpecialAt}
+use Rattle.imago_drivers.specs.Reasons.{Reasons, none}
+use Rattle.imago_drivers.specs.LayerBelow.{LayerBelow}
+use Rattle.imago_drivers.specs.Causes.{CauseOver}
+use Rattle.imago_drivers.specs.View.{View, EndsIn}
+use Rattle.imago_drivers.specs.Prepared.{IsFor}
+use Rattle.imago_drivers.specs.declared.mapping.PreparedDataMapping.{PreparedDataMapping}
+use Rattle.imago_drivers.specs.Changes.{Change, IsChanged, partly}
+
+-- A zero call or discard: what it did to the part that it answers, and, refused, to the range that it was asked for.
+pub record HasDone {St : Type 0} (how : (ℕ → Value) → ℕ → Change) (op : Operation) (o n : ℕ) (old new : View St) (result : Result (ℕ × ℕ) Error) : Type 0 where
+  -- the part is empty, or lies in the range
+  pub inside : IfOk result (λ r. (r.1 ≡ 0) ⊎ ((o ≤ r.0) × (r.0 + r.1 ≤ o + n)))
+  pub part : IfOk result (λ r. old.answers op o n r.0 r.1)
+  pub whole : old.no_memory op o n → IfOk result (λ r. (r.0 ≡ o) × (r.1 ≡ n))
+  pub done : IsTrue old.abilities.keeps_data → (below : ℕ → Value) → IfOk result (λ r. IsChanged r.0 r.1 (how below r.0) (values below old.place) (values below new.place))
+  pub refused : IsTrue old.abilities.keeps_data → (below : ℕ → Value) → OnErr result (IsChanged o n (partly (how below o)) (values below old.place) (values below new.place))
+
+-- why a changing call on a range may be refused; a failed device shows in the count of faults
+abbrev pub range_reasons : {St : Type 0} → View St → Operation → ℕ → ℕ → Reasons
+range_reasons v op o n = record none {
+  beyond_disk = EndsIn v.place o n;
+  cause = v.cause op o n;
+  device = Unit {0};
+  memory = v.no_memory op o n → ⊥;
+}
+
+-- the same for a call that is lent a layer
+abbrev pub lending_reasons : {St : Type 0} → View St → LayerBelow → Operation → ℕ → ℕ → Reasons
+lending_reasons v l op o n = record (range_reasons v op o n) { cause = CauseOver v.cause v.copies l op o n }
+
+-- why a call on the driver as a whole may be refused
+abbrev pub driver_reasons : {St : Type 0} → View St → Operation → ℕ → ℕ → Reasons
+driver_reasons v op o n = record (range_reasons v op o n) { beyond_disk = ⊥ }
+
+-- why a mapping may be refused: it takes no memory
+abbrev pub map_reasons : {St : Type 0} → View St → ℕ → ℕ → Reasons
+map_reasons v o n = record none { cause = v.cause Map o n; device = v.abilities.is_reliable ≡ false }
+
+-- Why a read of stored bytes may be refused: as a read of any places that stand there.
+abbrev pub stored_read_reasons : {St : Type 0} → View St → ℕ → ℕ → ℕ → Reasons
+stored_read_reasons v storage offset n = record none {
+  cause = λ e. (o : ℕ) → IsAt v.place storage offset n o → v.cause Read o n e;
+  device = v.abilities.is_reliable ≡ false;
+  memory = (o : ℕ) → IsAt v.place storage offset n o → v.no_memory Read o n → ⊥;
+}
+
+abbrev pub special_read_reasons : {St : Type 0} → View St → ℕ → ℕ → Reasons
+special_read_reasons v offset n = record none {
+  cause = λ e. (o : ℕ) → IsSpecialAt v.place offset n o → v.cause Read o n e;
+  device = v.abilities.is_reliable ≡ false;
+  memory = (o : ℕ) → IsSpecialAt v.place offset n o → v.no_memory Read o n → ⊥;
+}
+
+-- why a write of stored bytes may be refused: as a write of any places that stand there
+abbrev pub stored_write_reasons : {St : Type 0} → View St → ℕ → ℕ → ℕ → Reasons
+stored_write_reasons v storage offset n = record none {
+  cause = λ e. (o : ℕ) → IsAt v.place storage offset n o → v.cause Write o n e;
+  device = Unit {0};
+  memory = (o : ℕ) → IsAt v.place storage offset n o → v.no_memory Write o n → ⊥;
+}
+
+-- why a write into a prepared mapping may be refused: as a write of the places that it is for
+abbrev pub mapping_write_reasons : {St : Type 0} → View St → PreparedDataMapping St → ℕ → ℕ → Reasons
+mapping_write_reasons v m at n = record none {
+  cause = λ e. (o : ℕ) → IsFor v m at n o → v.cause Write o n e;
+  device = Unit {0};
+  memory = (o : ℕ) → IsFor v m at n o → v.no_memory Write o n → ⊥;
+  foreign_mapping = Unit {0};
+}

@@ -1,0 +1,134 @@
+use Rattle.std.specs.Prelude.{◌≡◌, ℕ, ◌+◌, ◌-◌, ◌<◌, ◌≤◌, ◌⊎◌, Bool, true, false, List, length, slice_index, if◌then◌else◌, nat_lt, min, None}
+use Rattle.imago_storage.specs.declared.error.Error.{Error}
+use Rattle.imago_storage.specs.declared.error.Error.TheVariants as E
+use Rattle.imago_storage.specs.Features.{Features, InPlace, MayRunOut, IsAlignedRequest, IsAlignedTo}
+use Rattle.imago_storage.specs.Padding.{Wraps, aligned_start, aligned_end}
+use Rattle.imago_storage.specs.Zeroes.{MayWrap}
+use Rattle.imago_storage.specs.declared.options.PreallocateMode.{PreallocateMode}
+use Rattle.imago_storage.specs.declared.options.PreallocateMode.TheVariants as StorageMode
+use Rattle.imago_drivers.specs.declared.format.PreallocateMode.{PreallocateMode as ImageMode}
+use Rattle.imago_drivers.specs.declared.format.PreallocateMode.TheVariants as Mode
+use Rattle.imago_drivers.specs.declared.format.Format.TheVariants as Format
+use Rattle.imago_drivers.specs.Operation.{Operation, Map, Read, Write, Zero, DiscardToZero, DiscardToAny, DiscardToBacking, Grow, Shrink, Flush}
+use Rattle.imago_drivers.specs.Place.{Place, Stored, End}
+use Rattle.imago_drivers.specs.Causes.{Causes}
+use Rattle.imago_drivers.specs.View.{View}
+
+-- a place of a raw image: below the size, the storage's byte at the same offset, writable
+abbrev pub raw_place : ℕ → List ℕ → ℕ → Place
+raw_place size bytes p = if nat_lt p size then Stored (slice_index bytes p) 0 p true else End
+
+-- an operation on that range wraps around at the storage; a read only inside the disk
+abbrev pub RequestWraps : Features → ℕ → Operation → ℕ → ℕ → Type 0
+RequestWraps f size Map o n = ⊥
+RequestWraps f size Read o n = (o + n ≤ size) × Wraps f o n
+RequestWraps f size Write o n = Wraps f o n
+RequestWraps f size Zero o n = MayWrap f f.zeroes o n
+RequestWraps f size DiscardToZero o n = MayWrap f f.zeroes o n
+RequestWraps f size DiscardToAny o n = ⊥
+RequestWraps f size DiscardToBacking o n = MayWrap f f.zeroes o n
+RequestWraps f size (Grow mode) o n = ⊥
+RequestWraps f size Shrink o n = ⊥
+RequestWraps f size Flush o n = ⊥
+
+-- A part of the range wraps around.
+pub record HasWrappingPart (range_wraps : ℕ → ℕ → Type 0) (o n : ℕ) : Type 0 where
+  pub from : ℕ
+  pub count : ℕ
+  pub above : o ≤ from
+  pub below : from + count ≤ o + n
+  pub wraps : range_wraps from count
+
+-- what a raw image offers: a resize where its storage does, and everything else
+abbrev pub raw_offers : Features → Operation → Bool
+raw_offers f (Grow mode) = f.offers_resize
+raw_offers f Shrink = f.offers_resize
+raw_offers f Map = true
+raw_offers f Read = true
+raw_offers f Write = true
+raw_offers f Zero = true
+raw_offers f DiscardToZero = true
+raw_offers f DiscardToAny = true
+raw_offers f DiscardToBacking = true
+raw_offers f Flush = true
+
+abbrev pub raw_cause : Features → ℕ → Causes
+raw_cause f size op o n E.WrapAround = HasWrappingPart (RequestWraps f size op) o n
+raw_cause f size op o n E.Unsupported = raw_offers f op ≡ false
+raw_cause f size op o n _ = ⊥
+
+-- a zero write of that range takes no memory: it is aligned, and done in place
+pub record IsZeroedInPlace (f : Features) (size len o n : ℕ) : Type 0 where
+  pub inside : o + n ≤ size
+  pub aligned : IsAlignedTo f.zero_align o n
+  pub in_place : f.zeroes ≡ InPlace
+  pub no_growth : MayRunOut f.zero_memory len (o + n) → ⊥
+
+-- an operation on a raw image over a storage of `len` bytes that takes no memory: aligned, inside, and none by the storage
+abbrev pub raw_no_memory : Features → ℕ → ℕ → Operation → ℕ → ℕ → Type 0
+raw_no_memory f size len Map o n = Unit {0}
+raw_no_memory f size len Read o n = (o + n ≤ size) × IsAlignedRequest f o n × (MayRunOut f.read_memory len (o + n) → ⊥)
+raw_no_memory f size len Write o n = (o + n ≤ size) × IsAlignedRequest f o n × (MayRunOut f.write_memory len (o + n) → ⊥)
+raw_no_memory f size len Zero o n = IsZeroedInPlace f size len o n
+raw_no_memory f size len DiscardToZero o n = IsZeroedInPlace f size len o n
+raw_no_memory f size len DiscardToAny o n = (o + n ≤ size) × IsAlignedTo f.discard_align o n × (MayRunOut f.other_memory 0 0 → ⊥)
+raw_no_memory f size len DiscardToBacking o n = IsZeroedInPlace f size len o n
+raw_no_memory f size len (Grow mode) o n = MayRunOut f.resize_memory len o → ⊥
+raw_no_memory f size len Shrink o n = MayRunOut f.resize_memory len o → ⊥
+raw_no_memory f size len Flush o n = MayRunOut f.other_memory 0 0 → ⊥
+
+-- how the storage of a raw image is grown
+abbrev pub storage_mode_of : ImageMode → PreallocateMode
+storage_mode_of Mode.None = StorageMode.None
+storage_mode_of Mode.Zero = StorageMode.Zero
+storage_mode_of Mode.FormatAllocate = StorageMode.Zero
+storage_mode_of Mode.FullAllocate = StorageMode.Allocate
+storage_mode_of Mode.WriteData = StorageMode.WriteData
+
+-- The n bytes from the offset on are those, or, where the change was torn, each maybe its old one; all others are as they were.
+pub record HasBytes (torn : Bool) (at n : ℕ) (byte : ℕ → ℕ) (old now : List ℕ) : Type 0 where
+  pub inside : (k : ℕ) → k < n → (slice_index now (at + k) ≡ byte k) ⊎ ((torn ≡ true) × (slice_index now (at + k) ≡ slice_index old (at + k)))
+  pub before : (p : ℕ) → p < at → slice_index now p ≡ slice_index old p
+  pub behind : (p : ℕ) → at + n ≤ p → slice_index now p ≡ slice_index old p
+
+-- The part is the one of the range that is aligned, or nothing.
+pub record IsPartAlignedTo (align o n part_start part_length : ℕ) : Type 0 where
+  pub len : part_length ≡ aligned_end align o n - aligned_start align o
+  pub start : 0 < part_length → part_start ≡ aligned_start align o
+
+-- which part of a range an operation on a raw image does: the mapped rest of the disk, or the aligned part
+abbrev pub raw_answers : Features → ℕ → Operation → ℕ → ℕ → ℕ → ℕ → Type 0
+raw_answers f size Map o n q m = m ≡ min n (size - o)
+raw_answers f size Write o n q m = m ≡ n
+raw_answers f size Zero o n q m = IsPartAlignedTo f.zero_align o n q m
+raw_answers f size DiscardToZero o n q m = IsPartAlignedTo f.zero_align o n q m
+raw_answers f size DiscardToBacking o n q m = IsPartAlignedTo f.zero_align o n q m
+raw_answers f size DiscardToAny o n q m = IsPartAlignedTo f.discard_align o n q m
+raw_answers f size Read o n q m = Unit {0}
+raw_answers f size (Grow mode) o n q m = Unit {0}
+raw_answers f size Shrink o n q m = Unit {0}
+raw_answers f size Flush o n q m = Unit {0}
+
+-- a raw image of that size over a storage
+abbrev pub raw_view : Features → ℕ → List ℕ → ℕ → Bool → View Unit
+raw_view f fault_count bytes size writable = record {
+  abilities = record {
+    format = Format.Raw;
+    is_writable = writable;
+    takes_backing = false;
+    is_reliable = f.is_reliable;
+    keeps_data = f.keeps_data;
+    zero_granularity = None;
+    offers = raw_offers f;
+  };
+  size = size;
+  place = raw_place size bytes;
+  fault_count = fault_count;
+  stores = record { count = 1; bytes = λ index. bytes };
+  special = λ offset. 0;
+  cause = raw_cause f size;
+  copies = λ op o n p. ⊥;
+  no_memory = raw_no_memory f size (length bytes);
+  answers = raw_answers f size;
+  pending = None;
+}

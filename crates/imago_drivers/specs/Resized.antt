@@ -1,0 +1,33 @@
+use Rattle.std.specs.Prelude.{◌≡◌, ℕ, ◌<◌, ◌≤◌, Bool, IsTrue, Result, OnOk, OnErr, min, max}
+use Rattle.imago_storage.specs.declared.error.Error.{Error}
+use Rattle.imago_drivers.specs.Place.{Value, Byte, values, SamePlaces}
+use Rattle.imago_drivers.specs.View.{View}
+use Rattle.imago_drivers.specs.Changes.{given_back}
+use Rattle.imago_drivers.specs.Frame.{IsKind, ReachesNoMore}
+use Rattle.imago_drivers.specs.declared.format.PreallocateMode.{PreallocateMode}
+use Rattle.imago_drivers.specs.declared.format.PreallocateMode.TheVariants as Mode
+
+-- what a new place of a growth shows
+abbrev pub grown_into : PreallocateMode → Bool → (ℕ → Value) → ℕ → Value → Type 0
+grown_into Mode.None takes_backing below p w = Unit {0}
+grown_into Mode.Zero takes_backing below p w = w ≡ Byte 0
+grown_into Mode.FormatAllocate takes_backing below p w = w ≡ given_back takes_backing below p
+grown_into Mode.FullAllocate takes_backing below p w = w ≡ given_back takes_backing below p
+grown_into Mode.WriteData takes_backing below p w = w ≡ given_back takes_backing below p
+
+-- A growth: the size is the larger one, old places show what they showed, and new ones what the mode says.
+pub record IsGrown {St : Type 0} (mode : PreallocateMode) (below : ℕ → Value) (new_size : ℕ) (old new : View St) : Type 0 where
+  pub size : new.size ≡ max old.size new_size
+  pub kept : IsTrue old.abilities.keeps_data → (p : ℕ) → p < old.size → values below new.place p ≡ values below old.place p
+  pub added : IsTrue old.abilities.keeps_data → (p : ℕ) → old.size ≤ p → p < new_size → grown_into mode old.abilities.takes_backing below p (values below new.place p)
+
+-- A cut: the size is the smaller one, and the places below it show what they showed.
+pub record IsCut {St : Type 0} (new_size : ℕ) (old new : View St) : Type 0 where
+  pub size : new.size ≡ min old.size new_size
+  pub kept : IsTrue old.abilities.keeps_data → (below : ℕ → Value) (p : ℕ) → p < new.size → values below new.place p ≡ values below old.place p
+
+-- A refused resize left everything.
+pub record IsSameDisk {St : Type 0} (old new : View St) : Type 0 where
+  pub size : new.size ≡ old.size
+  pub places : SamePlaces old.abilities.keeps_data old.place new.place
+  pub reaches : ReachesNoMore old new

@@ -1,0 +1,48 @@
+use Rattle.std.specs.Prelude.{◌≡◌, ℕ, Bool, List, Option}
+use Rattle.imago_drivers.specs.declared.format.Format.{Format}
+use Rattle.imago_drivers.specs.Operation.{Operation}
+use Rattle.imago_drivers.specs.Place.{Place, IsIn, End}
+use Rattle.imago_drivers.specs.Causes.{Causes, Copies}
+use Rattle.imago_drivers.specs.Pending.{Pending}
+
+-- What never changes in a driver.
+pub record Abilities : Type 0 where
+  pub format : Format
+  pub is_writable : Bool
+  -- places may lead to a layer below
+  pub takes_backing : Bool
+  -- its device never fails
+  pub is_reliable : Bool
+  -- its storages keep what is written
+  pub keeps_data : Bool
+  pub zero_granularity : Option ℕ
+  pub offers : Operation → Bool
+
+-- A driver's storages: how many there are, and the bytes of each, by its index.
+pub record Stores : Type 0 where
+  pub count : ℕ
+  pub bytes : ℕ → List ℕ
+
+-- A driver as its callers see it: a layer, which is a size and what stands at each offset, and what its calls may do.
+pub record View (St : Type 0) : Type 1 where
+  pub abilities : Abilities
+  -- the disk's size, in bytes
+  pub size : ℕ
+  pub place : ℕ → Place
+  -- how often the device failed in exclusive calls: a count that saturates
+  pub fault_count : ℕ
+  pub stores : Stores
+  -- the special byte at an offset
+  pub special : ℕ → ℕ
+  pub cause : Causes
+  pub copies : Copies
+  -- an operation on that range takes no memory, and does the whole of it
+  pub no_memory : Operation → ℕ → ℕ → Type 0
+  -- which part an operation on a range may answer: asked offset and length, then those of the part
+  pub answers : Operation → ℕ → ℕ → ℕ → ℕ → Type 0
+  -- the prepared mapping with state that isn't spent
+  pub pending : Option (Pending St)
+
+-- the layer's list of places ends inside the range
+abbrev pub EndsIn : (ℕ → Place) → ℕ → ℕ → Type 0
+EndsIn place o n = (p : ℕ) × IsIn o n p × (place p ≡ End)

@@ -1,0 +1,453 @@
+//! The interface of a format driver.
+ghost use Rattle.std.specs.Prelude.{◌≡◌, ℕ, ◌+◌, ◌<◌, ◌≤◌, ◌⊎◌, ◌↔◌, ◌&&◌, Option, None, Bool, true, false, List, length, slice_index, slice_get, EachIndex, OnOk, OnErr, IfOk, IfErr, IfSome, IsTrue, IsErrOf, MatchOption, is_some};
+ghost use Rattle.std.specs.Option.{option_copied};
+ghost use Rattle.imago_storage.specs.Error.{IsExtRefusal};
+ghost use Rattle.imago_storage.specs.Bytes.{IsReadAt};
+ghost use Rattle.imago_storage.specs.Faults.{CountsFaults};
+ghost use Rattle.imago_drivers.specs.Operation.{Map, Read, Write, Zero, DiscardToZero, DiscardToAny, DiscardToBacking, Grow, Shrink, Flush};
+ghost use Rattle.imago_drivers.specs.Place.{Refused, values, IsAt, AreWritable};
+ghost use Rattle.imago_drivers.specs.Reasons.{allowed, none};
+ghost use Rattle.imago_drivers.specs.LayerBelow.{lent};
+ghost use Rattle.imago_drivers.specs.Causes.{IsSettled, EveryOperation, AddsNone};
+ghost use Rattle.imago_drivers.specs.Pending.{ShowsRound};
+ghost use Rattle.imago_drivers.specs.View.{View};
+ghost use Rattle.imago_drivers.specs.Changes.{IsChanged, zeroes, unspecified, overwritten, to_backing};
+ghost use Rattle.imago_drivers.specs.Frame.{IsKind, IsFramed, IsUnchanged, ReachesNoMore};
+ghost use Rattle.imago_drivers.specs.Mapping.{IsRight};
+ghost use Rattle.imago_drivers.specs.Done.{HasDone, map_reasons, stored_read_reasons, special_read_reasons, stored_write_reasons, mapping_write_reasons, range_reasons, lending_reasons, driver_reasons};
+ghost use Rattle.imago_drivers.specs.Prepared.{IsPrepared, IsForeignWrite, IsFor, IsPut, IsWritten, IsDataMapping};
+ghost use Rattle.imago_drivers.specs.Commit.{IsCommit, IsCancel};
+ghost use Rattle.imago_drivers.specs.Resized.{IsGrown, IsCut, IsSameDisk};
+ghost use Rattle.imago_drivers.specs.Laws.{IsLawful, AreCauses};
+
+pub use crate::format::{Format, PreallocateMode};
+use crate::layer::LowerLayer;
+pub use crate::mapping::{PreparedDataMapping, ShallowMapping};
+use imago_storage::error::Error;
+use imago_storage::storage::Storage;
+use std::alloc::Global;
+use std::fmt::Display;
+
+/// A driver of an image format: it shows a disk, and maps each range of it to where its bytes stand.
+///
+/// Offsets, lengths and sizes are in bytes. Changing calls may be made on a writable driver while no prepared mapping
+/// with state waits to be spent, and only inside the disk; an image tests this before it calls its driver. Calls that
+/// are lent the layer below only read it.
+///
+/// A refused call answers [`Error::Device`] only where a device failed: in an exclusive call the count of faults shows
+/// it. It answers [`Error::Memory`] where memory was refused, [`Error::BeyondDisk`] where the driver's list of places
+/// ends inside the range, and [`Error::WrapAround`], [`Error::InvalidData`], [`Error::NoAccess`] and
+/// [`Error::Unsupported`] only where it is a cause of the call.
+pub trait FormatDriverInstance: Display + Drop {
+    /// What the driver's data stands in.
+    type Storage: Storage;
+
+    /// What a prepared mapping holds until it is committed.
+    type State: Drop;
+
+    /// The driver as its callers see it.
+    ghost view: { Self → View Self.State };
+
+    /// The storages that the format is found in, by their bytes.
+    ghost recognizes: { List ℕ → Bool };
+
+    /// The image's format.
+    fn format(&self) -> Format
+        ensures { result ≡ (view self.now).abilities.format };
+
+    /// The disk's size.
+    fn size(&self) -> u64
+        ensures { result ≡ (view self.now).size };
+
+    /// The granularity that ranges are zeroed with, if there is one. It is never 0.
+    fn zero_granularity(&self) -> Option<u64>
+        ensures { result ≡ (view self.now).abilities.zero_granularity };
+
+    /// Whether changing calls may be made.
+    fn writable(&self) -> bool
+        ensures { result ≡ (view self.now).abilities.is_writable };
+
+    /// Whether places may lead to a layer below.
+    fn takes_backing(&self) -> bool
+        ensures { result ≡ (view self.now).abilities.takes_backing };
+
+    /// Whether a prepared mapping with state waits to be spent.
+    fn has_prepared(&self) -> bool
+        ensures { result ≡ is_some (view self.now).pending };
+
+    /// Whether the storage has an image of this format, as far as can be told.
+    fn probe(alloc: Global, storage: &Self::Storage) -> Result<bool, Error>
+        ensures found { IfOk result (λ b. b ≡ recognizes (Self.Storage.bytes storage.now)) }
+        ensures only { IfErr result IsExtRefusal }
+        ensures device { IsErrOf result Error.Device
+            → (Self.Storage.features storage.now).is_reliable ≡ false };
+
+    /// The driver's storages, in the order of their indices. Refused, it is [`Error::Memory`].
+    fn collect_storage_dependencies(&self, alloc: Global) -> Result<Vec<&Self::Storage>, Error>
+        ensures count { IfOk result (λ v. length v.items ≡ (view self.now).stores.count) }
+        ensures bytes { IfOk result
+            (λ v. (i : ℕ)
+            → IfSome (slice_get v.items i)
+            (λ s. Self.Storage.bytes s.now ≡ (view self.now).stores.bytes i)) }
+        ensures memory { IfErr result (λ e. e ≡ Error.Memory) };
+
+    /// How many storages the driver has.
+    fn storage_count(&self) -> usize
+        ensures { result ≡ (view self.now).stores.count };
+
+    /// The storage of that index.
+    fn storage(&self, index: usize) -> Option<&Self::Storage>
+        ensures { MatchOption result ((view self.now).stores.count ≤ index)
+            (λ s. (index < (view self.now).stores.count) ×
+            (Self.Storage.bytes s.now ≡ (view self.now).stores.bytes index)) };
+
+    /// What the bytes from the offset on are, and how many of them. The length may pass `max_length`; it is 0 only at
+    /// the end, or where `max_length` is. A place that may not be read is answered by its refusal.
+    fn get_mapping(&self, offset: u64, max_length: u64) -> Result<(ShallowMapping, u64), Error>
+        ensures right { IfOk result (λ r. IsRight (view self.now).place offset max_length r.0 r.1) }
+        ensures part { IfOk result (λ r. (view self.now).answers Map offset max_length offset r.1) }
+        ensures whole { (view self.now).no_memory Read offset max_length
+            → IfOk result (λ r. max_length ≤ r.1) }
+        ensures refused_place { IfErr result
+            (λ e. (e ≡ Error.InvalidData) ⊎ (e ≡ Error.NoAccess)
+            → (view self.now).place offset ≡ Refused e) }
+        ensures refusals { IfErr result (allowed (map_reasons (view self.now) offset max_length)) };
+
+    /// Fills the buffer with bytes of a storage, as a mapping names them, with 0 past its end. Refused, the buffer is
+    /// unspecified.
+    fn read_mapped(
+        &self,
+        alloc: Global,
+        storage: usize,
+        buf: &mut [u8],
+        offset: u64,
+    ) -> Result<(), Error>
+        requires { storage < (view self.now).stores.count }
+        ensures bytes { OnOk result (IsReadAt ((view self.now).stores.bytes storage) offset buf.new) }
+        ensures refusals { IfErr result (allowed (stored_read_reasons (view self.now) storage offset (length buf.old))) };
+
+    /// Fills the buffer with special bytes, as a mapping names them. Refused, the buffer is unspecified.
+    fn readv_special(&self, alloc: Global, buf: &mut [u8], offset: u64) -> Result<(), Error>
+        ensures bytes { OnOk result
+            (EachIndex buf.new (λ k. slice_index buf.new k ≡ (view self.now).special (offset + k))) }
+        ensures refusals { IfErr result (allowed (special_read_reasons (view self.now) offset (length buf.old))) };
+
+    /// Writes bytes of a storage that a mapping names as writable. Refused, each place of the range is old or new.
+    fn write_mapped(
+        &mut self,
+        alloc: Global,
+        storage: usize,
+        source: &[u8],
+        offset: u64,
+    ) -> Result<(), Error>
+        requires writable { (view self.old).abilities.is_writable ≡ true }
+        requires spent { (view self.old).pending ≡ None }
+        requires known { storage < (view self.old).stores.count }
+        requires mapped { AreWritable (view self.old).place storage offset (length source.now) }
+        ensures written { OnOk result
+            (IsPut storage offset source.now false (view self.old).abilities.keeps_data
+            (view self.old).place (view self.new).place) }
+        ensures torn { OnErr result
+            (IsPut storage offset source.now true (view self.old).abilities.keeps_data
+            (view self.old).place (view self.new).place) }
+        ensures causes { OnOk result
+            ((o : ℕ)
+            → IsAt (view self.old).place storage offset (length source.now) o
+            → IsSettled EveryOperation (view self.old).cause (view self.new).cause
+            (view self.old).copies (view self.new).copies o (length source.now)) }
+        ensures reaches { ReachesNoMore (view self.old) (view self.new) }
+        ensures nothing_pending { (view self.new).pending ≡ None }
+        ensures framed { IsFramed (view self.old) (view self.new) }
+        ensures faults { CountsFaults (view self.old).abilities.is_reliable (view self.old).fault_count
+            (view self.new).fault_count result }
+        ensures refusals { IfErr result
+            (allowed (stored_write_reasons (view self.old) storage offset (length source.now))) };
+
+    /// Makes a part of the range explicit zeroes, and answers its offset and length: as much as the driver can at once,
+    /// maybe nothing. Refused, each byte of the range is as it was or zero.
+    fn ensure_zero_mapping(
+        &mut self,
+        alloc: Global,
+        offset: u64,
+        count: u64,
+    ) -> Result<(u64, u64), Error>
+        requires writable { (view self.old).abilities.is_writable ≡ true }
+        requires spent { (view self.old).pending ≡ None }
+        requires inside { offset + count ≤ (view self.old).size }
+        ensures done { HasDone (λ _ _. zeroes) Zero offset count (view self.old) (view self.new) result }
+        ensures causes { AddsNone (view self.old).cause (view self.new).cause (view self.old).copies
+            (view self.new).copies }
+        ensures reaches { ReachesNoMore (view self.old) (view self.new) }
+        ensures nothing_pending { (view self.new).pending ≡ None }
+        ensures framed { IsFramed (view self.old) (view self.new) }
+        ensures faults { CountsFaults (view self.old).abilities.is_reliable (view self.old).fault_count
+            (view self.new).fault_count result }
+        ensures refusals { IfErr result (allowed (range_reasons (view self.old) Zero offset count)) };
+
+    /// Gives up the data of a part of the range, which reads as zeroes afterwards, and answers its offset and length.
+    /// Refused, each byte of the range is as it was or zero.
+    fn discard_to_zero(
+        &mut self,
+        alloc: Global,
+        offset: u64,
+        count: u64,
+    ) -> Result<(u64, u64), Error>
+        requires writable { (view self.old).abilities.is_writable ≡ true }
+        requires spent { (view self.old).pending ≡ None }
+        requires inside { offset + count ≤ (view self.old).size }
+        ensures done { HasDone (λ _ _. zeroes) DiscardToZero offset count (view self.old) (view self.new) result }
+        ensures causes { AddsNone (view self.old).cause (view self.new).cause (view self.old).copies
+            (view self.new).copies }
+        ensures reaches { ReachesNoMore (view self.old) (view self.new) }
+        ensures nothing_pending { (view self.new).pending ≡ None }
+        ensures framed { IsFramed (view self.old) (view self.new) }
+        ensures faults { CountsFaults (view self.old).abilities.is_reliable (view self.old).fault_count
+            (view self.new).fault_count result }
+        ensures refusals { IfErr result (allowed (range_reasons (view self.old) DiscardToZero offset count)) };
+
+    /// Gives up the data of a part of the range, whose bytes are unspecified afterwards, and answers its offset and
+    /// length. Refused, the range is unspecified.
+    fn discard_to_any(
+        &mut self,
+        alloc: Global,
+        offset: u64,
+        count: u64,
+    ) -> Result<(u64, u64), Error>
+        requires writable { (view self.old).abilities.is_writable ≡ true }
+        requires spent { (view self.old).pending ≡ None }
+        requires inside { offset + count ≤ (view self.old).size }
+        ensures done { HasDone (λ _ _. unspecified) DiscardToAny offset count (view self.old) (view self.new)
+            result }
+        ensures causes { IfOk result
+            (λ r. IsSettled (λ op. op ≡ DiscardToAny) (view self.old).cause (view self.new).cause
+            (view self.old).copies (view self.new).copies r.0 r.1) }
+        ensures nothing_pending { (view self.new).pending ≡ None }
+        ensures framed { IsFramed (view self.old) (view self.new) }
+        ensures faults { CountsFaults (view self.old).abilities.is_reliable (view self.old).fault_count
+            (view self.new).fault_count result }
+        ensures refusals { IfErr result (allowed (range_reasons (view self.old) DiscardToAny offset count)) };
+
+    /// Gives up the data of a part of the range, whose bytes are as they were or those of the layer below afterwards,
+    /// and answers its offset and length. So are those of the range where it is refused.
+    fn discard_to_backing(
+        &mut self,
+        alloc: Global,
+        offset: u64,
+        count: u64,
+    ) -> Result<(u64, u64), Error>
+        requires writable { (view self.old).abilities.is_writable ≡ true }
+        requires spent { (view self.old).pending ≡ None }
+        requires inside { offset + count ≤ (view self.old).size }
+        ensures done { HasDone (to_backing (view self.old).abilities.takes_backing) DiscardToBacking offset count
+            (view self.old) (view self.new) result }
+        ensures causes { IfOk result
+            (λ r. IsSettled (λ op. op ≡ DiscardToBacking) (view self.old).cause
+            (view self.new).cause (view self.old).copies (view self.new).copies r.0 r.1) }
+        ensures nothing_pending { (view self.new).pending ≡ None }
+        ensures framed { IsFramed (view self.old) (view self.new) }
+        ensures faults { CountsFaults (view self.old).abilities.is_reliable (view self.old).fault_count
+            (view self.new).fault_count result }
+        ensures refusals { IfErr result (allowed (range_reasons (view self.old) DiscardToBacking offset count)) };
+
+    /// Prepares the writing of data at the offset: the mapping holds at least 1 byte and at most `count`, none for 0.
+    /// No place changes. The mapping is written by [`write_prepared`](Self::write_prepared), and spent by commit or
+    /// cancel. Without `overwrite` the bytes that it stands for begin as the disk's. Refused, nothing is prepared.
+    fn prepare_data_mapping<B: LowerLayer>(
+        &mut self,
+        alloc: Global,
+        below: Option<&B>,
+        offset: u64,
+        count: u64,
+        overwrite: bool,
+    ) -> Result<PreparedDataMapping<Self::State>, Error>
+        requires writable { (view self.old).abilities.is_writable ≡ true }
+        requires spent { (view self.old).pending ≡ None }
+        requires inside { offset + count ≤ (view self.old).size }
+        ensures prepared { IfOk result
+            (λ m. IsPrepared offset count overwrite
+            (values (lent B.as_layer_below below.entry).at (view self.old).place)
+            (view self.old) (view self.new) m) }
+        ensures unchanged { IsUnchanged (view self.old) (view self.new) }
+        ensures refused { OnErr result ((view self.new).pending ≡ None) }
+        ensures causes { IfOk result
+            (λ m. IsSettled EveryOperation (view self.old).cause (view self.new).cause
+            (view self.old).copies (view self.new).copies offset m.length) }
+        ensures faults { CountsFaults
+            ((view self.old).abilities.is_reliable &&
+            (lent B.as_layer_below below.entry).is_reliable)
+            (view self.old).fault_count (view self.new).fault_count result }
+        ensures refusals { IfErr result
+            (allowed
+            (lending_reasons (view self.old) (lent B.as_layer_below below.entry) Write
+            offset count)) };
+
+    /// Writes data into a prepared mapping, from its `at`-th byte on: to the places that it stands for, or, with a
+    /// state, to the bytes that wait for commit. Refused, each of these is old or new.
+    ///
+    /// [`Error::ForeignMapping`] is a mapping with a state that isn't the one prepared here, or one without that has a
+    /// byte of no writable place, or any where the driver isn't writable; nothing changed.
+    fn write_prepared(
+        &mut self,
+        alloc: Global,
+        mapping: &PreparedDataMapping<Self::State>,
+        source: &[u8],
+        at: u64,
+    ) -> Result<(), Error>
+        requires { at + length source.now ≤ mapping.now.length }
+        ensures foreign { IsErrOf result Error.ForeignMapping ↔ IsForeignWrite (view self.old) mapping.now }
+        ensures untouched { IsErrOf result Error.ForeignMapping → self.new ≡ self.old }
+        ensures written { OnOk result (IsWritten false (view self.old) (view self.new) mapping.now at source.now) }
+        ensures torn { OnErr result (IsWritten true (view self.old) (view self.new) mapping.now at source.now) }
+        ensures round { IsTrue (view self.old).abilities.keeps_data
+            → (below : _)
+            → ShowsRound (values below (view self.old).place) (view self.old).pending
+            → ShowsRound (values below (view self.new).place) (view self.new).pending }
+        ensures causes { OnOk result
+            ((o : ℕ)
+            → IsFor (view self.old) mapping.now at (length source.now) o
+            → IsSettled EveryOperation (view self.old).cause (view self.new).cause
+            (view self.old).copies (view self.new).copies o (length source.now)) }
+        ensures reaches { ReachesNoMore (view self.old) (view self.new) }
+        ensures framed { IsFramed (view self.old) (view self.new) }
+        ensures faults { CountsFaults (view self.old).abilities.is_reliable (view self.old).fault_count
+            (view self.new).fault_count result }
+        ensures refusals { IfErr result
+            (allowed (mapping_write_reasons (view self.old) mapping.now at (length source.now))) };
+
+    /// Spends a prepared mapping: what was written into it shows from now on. Without a state nothing changes.
+    ///
+    /// [`Error::ForeignMapping`] is a mapping with a state that isn't the one prepared here; nothing changed. Any other
+    /// refusal leaves each of its places old or as prepared, and nothing prepared.
+    fn commit_data_mapping(
+        &mut self,
+        mapping: PreparedDataMapping<Self::State>,
+    ) -> Result<(), Error>
+        ensures { IsCommit view self.old self.new mapping result };
+
+    /// Spends a prepared mapping, and forgets what was written into one with a state: the disk is as it was. A foreign
+    /// mapping changes nothing.
+    fn cancel_data_mapping(&mut self, mapping: PreparedDataMapping<Self::State>)
+        ensures { IsCancel view self.old self.new mapping };
+
+    /// Maps a part of the range, from the offset on, to bytes of a storage that may be written, and answers the
+    /// storage, the offset there and the length: at least 1 and at most `count`, 0 for 0. With `overwrite` that part is
+    /// unspecified afterwards, and, refused, the range. By default a mapping is prepared and committed.
+    fn ensure_data_mapping<B: LowerLayer>(
+        &mut self,
+        alloc: Global,
+        below: Option<&B>,
+        offset: u64,
+        count: u64,
+        overwrite: bool,
+    ) -> Result<(usize, u64, u64), Error>
+        requires writable { (view self.old).abilities.is_writable ≡ true }
+        requires spent { (view self.old).pending ≡ None }
+        requires inside { offset + count ≤ (view self.old).size }
+        ensures mapped { IfOk result (λ r. IsDataMapping offset count r.0 r.1 r.2 (view self.old) (view self.new)) }
+        ensures done { IsTrue (view self.old).abilities.keeps_data
+            → IfOk result
+            (λ r. IsChanged offset r.2 (overwritten overwrite)
+            (values (lent B.as_layer_below below.entry).at (view self.old).place)
+            (values (lent B.as_layer_below below.entry).at (view self.new).place)) }
+        ensures torn { IsTrue (view self.old).abilities.keeps_data
+            → OnErr result
+            (IsChanged offset count (overwritten overwrite)
+            (values (lent B.as_layer_below below.entry).at (view self.old).place)
+            (values (lent B.as_layer_below below.entry).at (view self.new).place)) }
+        ensures causes { IfOk result
+            (λ r. IsSettled EveryOperation (view self.old).cause (view self.new).cause
+            (view self.old).copies (view self.new).copies offset r.2) }
+        ensures reaches { ReachesNoMore (view self.old) (view self.new) }
+        ensures nothing_pending { (view self.new).pending ≡ None }
+        ensures framed { IsFramed (view self.old) (view self.new) }
+        ensures faults { CountsFaults
+            ((view self.old).abilities.is_reliable &&
+            (lent B.as_layer_below below.entry).is_reliable)
+            (view self.old).fault_count (view self.new).fault_count result }
+        ensures refusals { IfErr result
+            (allowed
+            (lending_reasons (view self.old) (lent B.as_layer_below below.entry) Write
+            offset count)) }
+    {
+        let mapping = self.prepare_data_mapping(alloc, below, offset, count, overwrite)?;
+        let (storage, start, length) = (mapping.storage(), mapping.offset(), mapping.length());
+        self.commit_data_mapping(mapping)?;
+        Ok((storage, start, length))
+    }
+
+    /// Grows the disk to that size, with new bytes as the mode says. It does nothing where the disk is as large already.
+    /// Refused, nothing changed.
+    fn resize_grow<B: LowerLayer>(
+        &mut self,
+        alloc: Global,
+        below: Option<&B>,
+        new_size: u64,
+        mode: PreallocateMode,
+    ) -> Result<(), Error>
+        requires writable { (view self.old).abilities.is_writable ≡ true }
+        requires spent { (view self.old).pending ≡ None }
+        ensures grown { OnOk result
+            (IsGrown mode (lent B.as_layer_below below.entry).at new_size (view self.old)
+            (view self.new)) }
+        ensures unchanged { OnErr result (IsSameDisk (view self.old) (view self.new)) }
+        ensures nothing_pending { (view self.new).pending ≡ None }
+        ensures kind { IsKind (view self.old) (view self.new) }
+        ensures faults { CountsFaults
+            ((view self.old).abilities.is_reliable &&
+            (lent B.as_layer_below below.entry).is_reliable)
+            (view self.old).fault_count (view self.new).fault_count result }
+        ensures refusals { IfErr result
+            (allowed
+            (record
+            (lending_reasons (view self.old) (lent B.as_layer_below below.entry)
+            (Grow mode) new_size 0)
+            { beyond_disk = ⊥ })) };
+
+    /// Cuts the disk to that size. It does nothing where the disk is as small already. Refused, nothing changed.
+    fn resize_shrink(&mut self, new_size: u64) -> Result<(), Error>
+        requires writable { (view self.old).abilities.is_writable ≡ true }
+        requires spent { (view self.old).pending ≡ None }
+        ensures cut { OnOk result (IsCut new_size (view self.old) (view self.new)) }
+        ensures unchanged { OnErr result (IsSameDisk (view self.old) (view self.new)) }
+        ensures nothing_pending { (view self.new).pending ≡ None }
+        ensures kind { IsKind (view self.old) (view self.new) }
+        ensures faults { CountsFaults (view self.old).abilities.is_reliable (view self.old).fault_count
+            (view self.new).fault_count result }
+        ensures refusals { IfErr result (allowed (driver_reasons (view self.old) Shrink new_size 0)) };
+
+    /// Writes what the driver and its storages buffer. No place changes, also where it is refused.
+    fn flush(&mut self) -> Result<(), Error>
+        ensures unchanged { IsUnchanged (view self.old) (view self.new) }
+        ensures pending { (view self.new).pending ≡ (view self.old).pending }
+        ensures causes { AddsNone (view self.old).cause (view self.new).cause (view self.old).copies
+            (view self.new).copies }
+        ensures faults { CountsFaults (view self.old).abilities.is_reliable (view self.old).fault_count
+            (view self.new).fault_count result }
+        ensures refusals { IfErr result (allowed (driver_reasons (view self.old) Flush 0 0)) };
+
+    /// Syncs what is written to the hardware. No place changes, also where it is refused.
+    fn sync(&mut self) -> Result<(), Error>
+        ensures unchanged { IsUnchanged (view self.old) (view self.new) }
+        ensures pending { (view self.new).pending ≡ (view self.old).pending }
+        ensures causes { AddsNone (view self.old).cause (view self.new).cause (view self.old).copies
+            (view self.new).copies }
+        ensures faults { CountsFaults (view self.old).abilities.is_reliable (view self.old).fault_count
+            (view self.new).fault_count result }
+        ensures refusals { IfErr result (allowed (driver_reasons (view self.old) Flush 0 0)) };
+
+    /// Drops what the driver and its storages cache. No place changes, also where it is refused.
+    fn invalidate_cache(&mut self) -> Result<(), Error>
+        ensures unchanged { IsUnchanged (view self.old) (view self.new) }
+        ensures pending { (view self.new).pending ≡ (view self.old).pending }
+        ensures causes { AddsNone (view self.old).cause (view self.new).cause (view self.old).copies
+            (view self.new).copies }
+        ensures faults { CountsFaults (view self.old).abilities.is_reliable (view self.old).fault_count
+            (view self.new).fault_count result }
+        ensures refusals { IfErr result (allowed (driver_reasons (view self.old) Flush 0 0)) };
+
+    /// The laws of the driver's places.
+    ghost lawful: { (d : Self) → IsLawful (view d) };
+
+    /// The laws of the driver's causes.
+    ghost causes_lawful: { (d : Self) → AreCauses (view d) };
+}

@@ -1,0 +1,42 @@
+//! The layer below a driver.
+ghost use Rattle.std.specs.Prelude.{◌≡◌, length, OnOk, IfErr};
+ghost use Rattle.imago_drivers.specs.Place.{HasValues};
+ghost use Rattle.imago_drivers.specs.LayerBelow.{LayerBelow, IsLayerBelow, no_layer, no_layer_lawful, below_reasons};
+ghost use Rattle.imago_drivers.specs.Reasons.{allowed};
+
+use imago_storage::error::Error;
+use std::alloc::Global;
+
+/// A layer that a driver can stand on: a disk that can be read.
+pub trait LowerLayer {
+    /// What a driver sees of the layer.
+    ghost as_layer_below: { Self → LayerBelow };
+
+    /// The size in bytes.
+    fn size(&self) -> u64
+        ensures { result ≡ (as_layer_below self.now).size };
+
+    /// Fills the buffer with the layer's bytes from the offset on, with 0 past its end. Refused, the buffer is
+    /// unspecified.
+    fn read(&self, alloc: Global, buf: &mut [u8], offset: u64) -> Result<(), Error>
+        ensures bytes { OnOk result (HasValues (as_layer_below self.now).at offset buf.new) }
+        ensures refusals { IfErr result (allowed (below_reasons (as_layer_below self.now) offset (length buf.old))) };
+
+    ghost lawful: { (b : Self) → IsLayerBelow (as_layer_below b) };
+}
+
+/// A layer of size 0, which reads as zeroes.
+impl LowerLayer for () {
+    ghost as_layer_below = { λ _. no_layer };
+
+    ghost lawful = { λ _. no_layer_lawful };
+
+    fn size(&self) -> u64 {
+        0
+    }
+
+    fn read(&self, _alloc: Global, buf: &mut [u8], _offset: u64) -> Result<(), Error> {
+        buf.fill(0);
+        Ok(())
+    }
+}

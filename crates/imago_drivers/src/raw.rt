@@ -1,0 +1,426 @@
+//! The driver of raw images.
+ghost use Rattle.std.specs.Prelude.{◌≡◌, ℕ, ◌+◌, ◌^◌, ◌<◌, ◌≤◌, ◌⊎◌, length, slice_index, IsTrue, IsOk, IfOk, IfErr, OnOk, OnErr, IsErrOf, true, false};
+ghost use Rattle.imago_storage.specs.Bytes.{SameOutside};
+ghost use Rattle.imago_storage.specs.Error.{IsDeviceOrMemory, IsExtRefusal};
+ghost use Rattle.imago_storage.specs.Faults.{CountsFaults};
+ghost use Rattle.imago_storage.specs.Features.{InPlace, MayRunOut, IsAlignedRequest, IsAlignedTo};
+ghost use Rattle.imago_storage.specs.Padding.{Wraps};
+ghost use Rattle.imago_storage.specs.Zeroes.{MayWrap};
+ghost use Rattle.imago_drivers.specs.Raw.{raw_view, IsPartAlignedTo, HasWrappingPart, HasBytes, storage_mode_of};
+ghost use Rattle.imago_drivers.specs.RawLaws.{raw_lawful, raw_causes};
+ghost use Rattle.imago_drivers.specs.Commit.{IsCommit, IsCancel};
+
+use crate::drivers::{
+    Format, FormatDriverInstance, PreallocateMode, PreparedDataMapping, ShallowMapping,
+};
+use crate::layer::LowerLayer;
+use imago_storage::align::{aligned_part, discard_align, zero_align};
+use imago_storage::error::Error;
+use imago_storage::ext::StorageExt;
+use imago_storage::storage::{self, Storage, StorageOpenOptions};
+use std::alloc::Global;
+use std::fmt::{self, Display, Formatter, Write};
+
+/// A disk whose bytes are those of its storage.
+///
+/// The disk's size is the storage's length when the image was opened. The storage may be longer afterwards, since
+/// writes are padded to its alignment; it is zero from the disk's size on.
+#[derive(Drop)]
+pub struct Raw<S: Storage> {
+    storage: S,
+    size: u64,
+    writable: bool,
+    ghost fits: { size < 2 ^ 64 },
+    ghost bounded: { size ≤ length (S.bytes storage) },
+    ghost zero_behind: { IsTrue (S.features storage).keeps_data → (p : ℕ) → size ≤ p → slice_index (S.bytes storage) p ≡ 0 },
+}
+
+impl<S: Storage> Raw<S> {
+    ghost use Rattle.imago_drivers.specs.RawImage.{storage_in, size_of, writability_of};
+
+    /// Opens the image that the storage is: a disk of the storage's length. It answers [`Error::Device`] and
+    /// [`Error::Memory`] where the storage's size does.
+    pub fn open_image(storage: S, writable: bool) -> Result<Self, Error>
+        ensures opened { IfOk result
+            (λ r. (storage_in r ≡ «storage») × (size_of r ≡ length (S.bytes storage)) ×
+            (writability_of r ≡ «writable»)) }
+        ensures only { IfErr result IsDeviceOrMemory }
+        ensures device { IsErrOf result Error.Device → (S.features storage).is_reliable ≡ false }
+        ensures memory { IsErrOf result Error.Memory → MayRunOut (S.features storage).other_memory 0 0 }
+    {
+        let size = storage.size()?;
+        Ok(Raw {
+            storage,
+            size,
+            writable,
+        })
+    }
+
+    /// Opens the image in the storage of that name, by [`Storage::open`]. What that, or the storage's size, is refused
+    /// for is passed on.
+    pub fn open_path(path: String, writable: bool) -> Result<Self, Error>
+        ensures { IfOk result
+            (λ r. (size_of r ≡ length (S.bytes (storage_in r))) × (writability_of r ≡ «writable»)) }
+    {
+        let options = StorageOpenOptions::new().filename(path).write(writable);
+        Raw::open_image(S::open(options)?, writable)
+    }
+
+    /// Gives the storage back.
+    pub fn into_inner(self) -> S
+        ensures { result ≡ storage_in self }
+    {
+        let Raw {
+            storage,
+            size: _,
+            writable: _,
+        } = self;
+        storage
+    }
+}
+
+impl<S: Storage> Display for Raw<S> {
+    fn fmt<W: Write>(&self, f: &mut Formatter<W>) -> fmt::Result {
+        write!(f, "raw[{}]", self.storage)
+    }
+}
+
+/// How the storage of a raw image grows.
+fn storage_mode(mode: PreallocateMode) -> storage::PreallocateMode
+    ensures { result ≡ storage_mode_of mode }
+{
+    match mode {
+        PreallocateMode::None => storage::PreallocateMode::None,
+        PreallocateMode::Zero | PreallocateMode::FormatAllocate => storage::PreallocateMode::Zero,
+        PreallocateMode::FullAllocate => storage::PreallocateMode::Allocate,
+        PreallocateMode::WriteData => storage::PreallocateMode::WriteData,
+    }
+}
+
+impl<S: Storage> FormatDriverInstance for Raw<S> {
+    type Storage = S;
+
+    type State = ();
+
+    ghost view = { λ r. raw_view (S.features r.storage) (S.fault_count r.storage) (S.bytes r.storage) r.size r.writable };
+
+    ghost recognizes = { λ _. true };
+
+    ghost lawful = { λ d. raw_lawful (S.features d.storage) (S.fault_count d.storage) (S.bytes d.storage) d.size d.writable };
+
+    ghost causes_lawful = { λ d. raw_causes (S.features d.storage) (S.fault_count d.storage) (S.bytes d.storage) d.size d.writable };
+
+    fn format(&self) -> Format {
+        Format::Raw
+    }
+
+    fn size(&self) -> u64 {
+        self.size
+    }
+
+    fn zero_granularity(&self) -> Option<u64> {
+        None
+    }
+
+    fn writable(&self) -> bool {
+        self.writable
+    }
+
+    fn takes_backing(&self) -> bool {
+        false
+    }
+
+    fn has_prepared(&self) -> bool {
+        false
+    }
+
+    fn probe(_alloc: Global, _storage: &S) -> Result<bool, Error> {
+        Ok(true)
+    }
+
+    fn collect_storage_dependencies(&self, alloc: Global) -> Result<Vec<&S>, Error> {
+        let mut storages = Vec::new(alloc);
+        match storages.push(&self.storage) {
+            Ok(()) => Ok(storages),
+            Err(_) => Err(Error::Memory),
+        }
+    }
+
+    fn storage_count(&self) -> usize {
+        1
+    }
+
+    fn storage(&self, index: usize) -> Option<&S> {
+        if index == 0 {
+            Some(&self.storage)
+        } else {
+            None
+        }
+    }
+
+    fn get_mapping(&self, offset: u64, max_length: u64) -> Result<(ShallowMapping, u64), Error> {
+        if offset >= self.size {
+            return Ok((ShallowMapping::Eof, 0));
+        }
+        let mapping = ShallowMapping::Raw {
+            storage: 0,
+            offset,
+            writable: true,
+        };
+        Ok((mapping, max_length.min(self.size - offset)))
+    }
+
+    fn read_mapped(
+        &self,
+        alloc: Global,
+        _storage: usize,
+        buf: &mut [u8],
+        offset: u64,
+    ) -> Result<(), Error> {
+        self.storage.read(alloc, buf, offset)
+    }
+
+    fn readv_special(&self, _alloc: Global, buf: &mut [u8], _offset: u64) -> Result<(), Error> {
+        if buf.is_empty() {
+            return Ok(());
+        }
+        Err(Error::Unsupported)
+    }
+
+    fn write_mapped(
+        &mut self,
+        alloc: Global,
+        _storage: usize,
+        source: &[u8],
+        offset: u64,
+    ) -> Result<(), Error> {
+        write_bytes(&mut self.storage, alloc, source, offset)
+    }
+
+    fn ensure_zero_mapping(
+        &mut self,
+        alloc: Global,
+        offset: u64,
+        count: u64,
+    ) -> Result<(u64, u64), Error> {
+        zero_part(&mut self.storage, alloc, offset, count)
+    }
+
+    fn discard_to_zero(
+        &mut self,
+        alloc: Global,
+        offset: u64,
+        count: u64,
+    ) -> Result<(u64, u64), Error> {
+        zero_part(&mut self.storage, alloc, offset, count)
+    }
+
+    fn discard_to_any(
+        &mut self,
+        _alloc: Global,
+        offset: u64,
+        count: u64,
+    ) -> Result<(u64, u64), Error> {
+        discard_part(&mut self.storage, offset, count)
+    }
+
+    fn discard_to_backing(
+        &mut self,
+        alloc: Global,
+        offset: u64,
+        count: u64,
+    ) -> Result<(u64, u64), Error> {
+        zero_part(&mut self.storage, alloc, offset, count)
+    }
+
+    fn prepare_data_mapping<B: LowerLayer>(
+        &mut self,
+        _alloc: Global,
+        _below: Option<&B>,
+        offset: u64,
+        count: u64,
+        _overwrite: bool,
+    ) -> Result<PreparedDataMapping<()>, Error> {
+        Ok(PreparedDataMapping::existing(0, offset, count))
+    }
+
+    fn write_prepared(
+        &mut self,
+        alloc: Global,
+        mapping: &PreparedDataMapping<()>,
+        source: &[u8],
+        at: u64,
+    ) -> Result<(), Error> {
+        if !self.writable {
+            return Err(Error::ForeignMapping);
+        }
+        if !mapping.is_nonblocking() {
+            return Err(Error::ForeignMapping);
+        }
+        if mapping.length == 0 {
+            return Ok(());
+        }
+        if mapping.storage != 0 {
+            return Err(Error::ForeignMapping);
+        }
+        if mapping.length > self.size {
+            return Err(Error::ForeignMapping);
+        }
+        if mapping.offset > self.size - mapping.length {
+            return Err(Error::ForeignMapping);
+        }
+        write_bytes(&mut self.storage, alloc, source, mapping.offset + at)
+    }
+
+    fn commit_data_mapping(&mut self, mapping: PreparedDataMapping<()>) -> Result<(), Error>
+        ensures { IsCommit ⟦<Raw<S> as FormatDriverInstance>⟧.view self.old self.new mapping result }
+    {
+        match mapping.into_state() {
+            None => Ok(()),
+            Some(()) => Err(Error::ForeignMapping),
+        }
+    }
+
+    fn cancel_data_mapping(&mut self, mapping: PreparedDataMapping<()>)
+        ensures { IsCancel ⟦<Raw<S> as FormatDriverInstance>⟧.view self.old self.new mapping }
+    {
+        let _ = mapping.into_state();
+    }
+
+    fn resize_grow<B: LowerLayer>(
+        &mut self,
+        _alloc: Global,
+        _below: Option<&B>,
+        new_size: u64,
+        mode: PreallocateMode,
+    ) -> Result<(), Error> {
+        if new_size <= self.size {
+            return Ok(());
+        }
+        self.storage.resize(new_size, storage_mode(mode))?;
+        self.size = new_size;
+        Ok(())
+    }
+
+    fn resize_shrink(&mut self, new_size: u64) -> Result<(), Error> {
+        if self.size <= new_size {
+            return Ok(());
+        }
+        self.storage
+            .resize(new_size, storage::PreallocateMode::None)?;
+        self.size = new_size;
+        Ok(())
+    }
+
+    fn flush(&mut self) -> Result<(), Error> {
+        self.storage.flush()
+    }
+
+    fn sync(&mut self) -> Result<(), Error> {
+        self.storage.sync()
+    }
+
+    fn invalidate_cache(&mut self) -> Result<(), Error> {
+        self.storage.invalidate_cache()
+    }
+}
+
+/// Writes bytes of a storage.
+pub(crate) fn write_bytes<S: Storage>(
+    storage: &mut S,
+    alloc: Global,
+    source: &[u8],
+    offset: u64,
+) -> Result<(), Error>
+    ensures empty { length source.now ≡ 0 → IsOk result }
+    ensures written { IsTrue (S.features storage.old).keeps_data
+        → OnOk result
+        (HasBytes false offset (length source.now) (λ k. slice_index source.now k)
+        (S.bytes storage.old) (S.bytes storage.new)) }
+    ensures torn { IsTrue (S.features storage.old).keeps_data
+        → OnErr result
+        (HasBytes true offset (length source.now) (λ k. slice_index source.now k)
+        (S.bytes storage.old) (S.bytes storage.new)) }
+    ensures no_shorter { length (S.bytes storage.old) ≤ length (S.bytes storage.new) }
+    ensures features { S.features storage.new ≡ S.features storage.old }
+    ensures only { IfErr result IsExtRefusal }
+    ensures wraps { IsErrOf result Error.WrapAround
+        → Wraps (S.features storage.old) offset (length source.now) }
+    ensures cause { CountsFaults (S.features storage.old).is_reliable (S.fault_count storage.old)
+        (S.fault_count storage.new) result }
+    ensures memory { IsErrOf result Error.Memory
+        → IsAlignedRequest (S.features storage.old) offset (length source.now)
+        → MayRunOut (S.features storage.old).write_memory (length (S.bytes storage.old))
+        (offset + length source.now) }
+{
+    storage.write(alloc, source, offset)
+}
+
+/// Zeroes the part of a range that is aligned to the storage's zero alignment, and answers it.
+fn zero_part<S: Storage>(
+    storage: &mut S,
+    alloc: Global,
+    offset: u64,
+    count: u64,
+) -> Result<(u64, u64), Error>
+    requires { offset + count < 2 ^ 64 }
+    ensures part { IfOk result (λ r. IsPartAlignedTo (S.features storage.old).zero_align offset count r.0 r.1) }
+    ensures inside { IfOk result (λ r. (r.1 ≡ 0) ⊎ ((offset ≤ r.0) × (r.0 + r.1 ≤ offset + count))) }
+    ensures whole { IsAlignedTo (S.features storage.old).zero_align offset count
+        → IfOk result (λ r. (r.0 ≡ offset) × (r.1 ≡ count)) }
+    ensures zeroed { IsTrue (S.features storage.old).keeps_data
+        → IfOk result
+        (λ r. HasBytes false r.0 r.1 (λ k. 0) (S.bytes storage.old) (S.bytes storage.new)) }
+    ensures torn { IsTrue (S.features storage.old).keeps_data
+        → OnErr result
+        (HasBytes true offset count (λ k. 0) (S.bytes storage.old) (S.bytes storage.new)) }
+    ensures no_shorter { length (S.bytes storage.old) ≤ length (S.bytes storage.new) }
+    ensures features { S.features storage.new ≡ S.features storage.old }
+    ensures only { IfErr result IsExtRefusal }
+    ensures wraps { IsErrOf result Error.WrapAround
+        → HasWrappingPart (MayWrap (S.features storage.old) (S.features storage.old).zeroes) offset
+        count }
+    ensures cause { CountsFaults (S.features storage.old).is_reliable (S.fault_count storage.old)
+        (S.fault_count storage.new) result }
+    ensures memory { IsErrOf result Error.Memory
+        → IsAlignedTo (S.features storage.old).zero_align offset count
+        → (S.features storage.old).zeroes ≡ InPlace
+        → MayRunOut (S.features storage.old).zero_memory (length (S.bytes storage.old))
+        (offset + count) }
+{
+    let align = zero_align(&*storage);
+    let Some((start, end)) = aligned_part(align, offset, count) else {
+        return Ok((offset, 0));
+    };
+    if end <= start {
+        return Ok((offset, 0));
+    }
+    storage.write_zeroes(alloc, start, end - start)?;
+    Ok((start, end - start))
+}
+
+/// Discards the part of a range that is aligned to the storage's discard alignment, and answers it.
+fn discard_part<S: Storage>(storage: &mut S, offset: u64, count: u64) -> Result<(u64, u64), Error>
+    requires { offset + count < 2 ^ 64 }
+    ensures part { IfOk result (λ r. IsPartAlignedTo (S.features storage.old).discard_align offset count r.0 r.1) }
+    ensures inside { IfOk result (λ r. (r.1 ≡ 0) ⊎ ((offset ≤ r.0) × (r.0 + r.1 ≤ offset + count))) }
+    ensures whole { IsAlignedTo (S.features storage.old).discard_align offset count
+        → IfOk result (λ r. (r.0 ≡ offset) × (r.1 ≡ count)) }
+    ensures discarded { IfOk result (λ r. SameOutside r.0 r.1 (S.bytes storage.old) (S.bytes storage.new)) }
+    ensures refused { OnErr result (SameOutside offset count (S.bytes storage.old) (S.bytes storage.new)) }
+    ensures features { S.features storage.new ≡ S.features storage.old }
+    ensures only { IfErr result IsDeviceOrMemory }
+    ensures cause { CountsFaults (S.features storage.old).is_reliable (S.fault_count storage.old)
+        (S.fault_count storage.new) result }
+    ensures memory { IsErrOf result Error.Memory → MayRunOut (S.features storage.old).other_memory 0 0 }
+{
+    let align = discard_align(&*storage);
+    let Some((start, end)) = aligned_part(align, offset, count) else {
+        return Ok((offset, 0));
+    };
+    if end <= start {
+        return Ok((offset, 0));
+    }
+    storage.discard(start, end - start)?;
+    Ok((start, end - start))
+}
