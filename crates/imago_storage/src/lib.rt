@@ -15,4 +15,6 @@ pub mod null;
 pub mod options;
 mod request;
 pub mod storage;
+#[cfg(test)]
+mod tests;
 mod zeroes;
