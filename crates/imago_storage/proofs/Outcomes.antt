@@ -1,4 +1,4 @@
-use Rattle.std.proofs.Common.{◌≡◌, ℕ, ◌≤◌, ◌<◌, ◌⊎◌, List, length, get_or, arith, inl, inr, refl, ◌∙◌, Bool, IsTrue, Result, Ok, Err, OnOk, OnErr}
+use Rattle.std.proofs.Common.{◌≡◌, ℕ, ◌≤◌, List, length, arith, inl, inr, refl, ◌∙◌, Bool, IsTrue, Result, Ok, Err, OnOk, OnErr}
 use Rattle.imago_storage.specs.Bytes.{OldOrNew, WriteOutcome}
 use Rattle.imago_storage.specs.Faults.{CountsFaults}
 use Rattle.imago_storage.specs.declared.error.Error.{Error}

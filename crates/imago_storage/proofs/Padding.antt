@@ -1,10 +1,10 @@
-use Rattle.std.proofs.Common.{◌≡◌, ℕ, ◌+◌, ◌-◌, ◌*◌, ◌%◌, ◌/◌, ◌^◌, ◌<◌, ◌≤◌, ◌⊎◌, ◌↔◌, arith, inl, inr, ap, ◌∙◌, sym}
+use Rattle.std.proofs.Common.{◌≡◌, ℕ, ◌+◌, ◌-◌, ◌*◌, ◌%◌, ◌/◌, ◌^◌, ◌<◌, ◌≤◌, arith, inl, inr, ap, ◌∙◌}
 use Rattle.std.proofs.Math.Nat.{dvd-add, dvd-mul_right, mod-eq-zero_of_dvd, mod_self, mod-eq_of_lt, div-add-mod, le_of_dvd, dvd_of_mod-eq-zero, add-mod_left}
 use Rattle.std.proofs.lemmas.Nat.Gcd.{dvd_refl}
 use Rattle.std.proofs.lemmas.Bool.{cases_lt}
 use Rattle.std.specs.Int.{next_multiple_of}
-use Rattle.imago_storage.specs.Features.{Features, AreAlignments, IsAlignedRequest, len_align}
-use Rattle.imago_storage.specs.Padding.{padded_start, padded_length, padded_end, Wraps, WrapCauses, IsPaddedRequest, aligned_start, aligned_end, IsAlignedPart}
+use Rattle.imago_storage.specs.Features.{Features, AreAlignments, len_align}
+use Rattle.imago_storage.specs.Padding.{padded_start, padded_length, padded_end, WrapCauses, IsPaddedRequest, aligned_start, aligned_end, IsAlignedPart}
 use Rattle.imago_storage.proofs.Alignment.{power_positive, max_power, max_first, multiple_add, multiple_sub, multiple_of_multiple}
 
 pub len_positive : (f : Features) → AreAlignments f → 0 < len_align f

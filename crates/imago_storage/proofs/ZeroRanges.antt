@@ -1,4 +1,4 @@
-use Rattle.std.proofs.Common.{◌≡◌, ℕ, ◌+◌, ◌-◌, ◌<◌, ◌≤◌, ◌⊎◌, List, length, replicate, get_or, max, arith, inl, inr, refl, sym, ap, ◌∙◌, Bool, Result, Ok, Err, IsOk}
+use Rattle.std.proofs.Common.{◌≡◌, ℕ, ◌+◌, ◌-◌, ◌<◌, ◌≤◌, ◌⊎◌, List, length, replicate, get_or, max, arith, inl, inr, refl, sym, ap, ◌∙◌, Result, Ok, Err, IsOk}
 use Rattle.std.proofs.lemmas.List.{length-append, length-replicate, get_or-replicate, append-nil}
 use Rattle.std.proofs.lemmas.Grind.{same_number_lists}
 use Rattle.std.proofs.lemmas.Bool.{cases_lt}

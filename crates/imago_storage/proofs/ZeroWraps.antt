@@ -1,9 +1,9 @@
-use Rattle.std.proofs.Common.{◌≡◌, ◌≢◌, ℕ, ◌+◌, ◌-◌, ◌*◌, ◌/◌, ◌%◌, ◌^◌, ◌<◌, ◌≤◌, ◌⊎◌, min, arith, inl, inr, refl, ap, ◌∙◌, sym}
+use Rattle.std.proofs.Common.{◌≡◌, ◌≢◌, ℕ, ◌+◌, ◌-◌, ◌*◌, ◌/◌, ◌%◌, ◌^◌, ◌<◌, ◌≤◌, ◌⊎◌, min, arith, inl, inr, ap, ◌∙◌, sym}
 use Rattle.std.proofs.Math.Nat.{add-mul-mod_self_left, div-add-mod, mod-eq_of_lt, mod-lt}
 use Rattle.std.proofs.lemmas.Bool.{cases_lt}
 use Rattle.std.specs.Int.{next_multiple_of}
 use Rattle.imago_storage.specs.Features.{Features, ZeroSupport, AsData, MayBeUnsupported, AreAlignments, IsAlignedTo, len_align}
-use Rattle.imago_storage.specs.Padding.{padded_start, padded_length, padded_end, Wraps, aligned_start, aligned_end, IsAlignedPart}
+use Rattle.imago_storage.specs.Padding.{padded_length, padded_end, Wraps, aligned_start, aligned_end, IsAlignedPart}
 use Rattle.imago_storage.specs.Zeroes.{DataWraps, EdgeWraps, MayWrap, FitsZeroes, IsHead}
 use Rattle.imago_storage.proofs.Alignment.{power_positive, multiple_add, multiple_of_multiple}
 use Rattle.imago_storage.proofs.Padding.{len_positive, len_whole, next_whole_zero, next_multiple, next_below}

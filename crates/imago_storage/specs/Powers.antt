@@ -1,4 +1,4 @@
-use Rattle.std.specs.Prelude.{◌≡◌, ℕ, ◌+◌, ◌-◌, ◌*◌, ◌/◌, ◌%◌, ◌^◌, ◌<◌, ◌≤◌}
+use Rattle.std.specs.Prelude.{◌≡◌, ℕ, ◌+◌, ◌-◌, ◌*◌, ◌/◌, ◌%◌, ◌^◌, ◌<◌}
 use Rattle.std.specs.Int.{IsPowerOfTwo}
 use Rattle.std.proofs.Common.{arith, inl, inr, zero, suc, ◌∙◌, ap, sym}
 use Rattle.std.proofs.Math.Nat.{mod-eq-zero_of_dvd, dvd-mul_right, mod-eq_of_lt, mod-zero, div-add-mod, pow-suc, mul_comm, mul_assoc, add-mul}

@@ -1,6 +1,6 @@
 use Rattle.std.proofs.Common.{◌≡◌, ◌+◌, arith, refl}
 use Rattle.std.proofs.lemmas.Grind.{common_steps}
-use Rattle.imago_storage.specs.Padding.{aligned_start, aligned_end}
+use Rattle.imago_storage.specs.Padding.{aligned_start}
 use Rattle.imago_storage.proofs.Padding.{aligned_part_of}
 use Rattle.imago_storage.proofs.align.aligned_part.Goals as goal
 

@@ -1,4 +1,4 @@
-use Rattle.std.proofs.Common.{arith, ◌≡◌, ◌+◌, ◌*◌, ◌/◌, ◌≤◌, length, take}
+use Rattle.std.proofs.Common.{arith, ◌≡◌, ◌+◌, ◌*◌, ◌/◌, length, take}
 use Rattle.std.proofs.lemmas.List.{length-take-le, take_all, take_rest}
 use Rattle.imago_storage.proofs.Blocks.{block_facts}
 use Rattle.imago_storage.proofs.Outcomes.{WriteOutcome_ok}

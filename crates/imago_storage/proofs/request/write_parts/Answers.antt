@@ -1,4 +1,4 @@
-use Rattle.std.proofs.Common.{arith, ◌≡◌, ◌+◌, ◌-◌, ◌<◌, length}
+use Rattle.std.proofs.Common.{arith, ◌≡◌, ◌+◌, ◌-◌, length}
 use Rattle.std.proofs.lemmas.List.{take_rest}
 use Rattle.imago_storage.proofs.Blocks.{part_facts}
 use Rattle.imago_storage.proofs.Writes.{length-rest, first_refused, second_written}

@@ -1,4 +1,4 @@
-use Rattle.std.proofs.Common.{◌≡◌, ◌≢◌, ◌-◌, ◌%◌, ℕ, min, arith}
+use Rattle.std.proofs.Common.{◌≡◌, ◌≢◌, ◌-◌, ◌%◌, min}
 use Rattle.imago_storage.proofs.ZeroWraps.{is_head}
 use Rattle.imago_storage.proofs.zeroes.head_length.Goals as goal
 

@@ -1,5 +1,5 @@
-use Rattle.std.proofs.Common.{◌≡◌, ◌<◌, ℕ, ◌+◌, length, take, replicate, arith, ap, ◌∙◌}
-use Rattle.std.proofs.lemmas.List.{length-take-le, take-replicate}
+use Rattle.std.proofs.Common.{◌≡◌, ℕ, length, take, replicate, ap, ◌∙◌}
+use Rattle.std.proofs.lemmas.List.{length-take-le}
 use Rattle.imago_storage.specs.Padding.{padded_end}
 use Rattle.imago_storage.proofs.ZeroPieces.{zero_front}
 use Rattle.imago_storage.proofs.ZeroRanges.{HasZeroed_written}

@@ -1,7 +1,6 @@
-use Rattle.std.proofs.Common.{◌≡◌, ◌<◌, ◌+◌, ◌-◌, ℕ, arith, sym}
+use Rattle.std.proofs.Common.{◌-◌, arith}
 use Rattle.std.proofs.lemmas.Result.{err_from_is_err_and}
 use Rattle.imago_storage.proofs.ZeroRanges.{HasZeroed_refused}
-use Rattle.imago_storage.proofs.ZeroWraps.{edge_fits, no_edges}
 use Rattle.imago_storage.proofs.zeroes.zero_part_and_edges.Goals as goal
 
 pub returns-in_err-zero_part-clause-written : goal.returns-in_err-zero_part-clause-written

@@ -1,4 +1,4 @@
-use Rattle.std.proofs.Common.{◌≡◌, ◌<◌, ◌+◌, ◌-◌, ℕ, arith, ap, Err, ◌∙◌}
+use Rattle.std.proofs.Common.{arith, ap, Err, ◌∙◌}
 use Rattle.imago_storage.proofs.Alignment.{power_positive}
 use Rattle.imago_storage.proofs.Outcomes.{OnOk_map, not_refused}
 use Rattle.imago_storage.proofs.ZeroRanges.{HasZeroed_again}

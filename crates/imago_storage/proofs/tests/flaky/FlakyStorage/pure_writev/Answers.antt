@@ -1,4 +1,4 @@
-use Rattle.std.proofs.Common.{◌≡◌, ℕ, ◌≤◌, length, true, Err, arith, refl}
+use Rattle.std.proofs.Common.{◌≤◌, length, true, Err, arith, refl}
 use Rattle.imago_storage.specs.Bytes.{splice}
 use Rattle.imago_storage.specs.declared.error.Error.TheVariants.{Device}
 use Rattle.imago_storage.proofs.Splices.{OldOrNew_old, splice_length}
