@@ -1,6 +1,6 @@
-use Rattle.std.proofs.Common.{◌≡◌, ℕ, ◌+◌, ◌-◌, ◌%◌, ◌^◌, ◌<◌, ◌≤◌, ◌⊎◌, ⊎_elim, inl, inr, arith, refl, sym, ◌∙◌, ap}
+use Rattle.std.proofs.Common.{◌≡◌, ℕ, ◌+◌, ◌-◌, ◌%◌, ◌^◌, ◌<◌, ⊎_elim, arith, ◌∙◌}
 use Rattle.std.proofs.Math.Nat.{mod_self, dvd-add, dvd_of_mod-eq-zero, mod-eq-zero_of_dvd}
-use Rattle.imago_storage.specs.Features.{Features, IsAlignedTo}
+use Rattle.imago_storage.specs.Features.{IsAlignedTo}
 use Rattle.imago_storage.specs.Padding.{aligned_start, aligned_end, RangeWraps, IsAlignedPart}
 use Rattle.imago_drivers.specs.Raw.{IsPartAlignedTo}
 

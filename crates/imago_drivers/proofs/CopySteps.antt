@@ -1,16 +1,16 @@
-use Rattle.std.proofs.Common.{◌≡◌, ℕ, ◌+◌, ◌<◌, ◌≤◌, ◌⊎◌, ⊎_elim, inl, inr, Bool, true, false, List, length, Option, Some, None, refl, sym, ap, ◌∙◌, arith, Result, Ok, Err}
+use Rattle.std.proofs.Common.{◌≡◌, ℕ, ◌+◌, ◌<◌, ◌≤◌, ◌⊎◌, ⊎_elim, inl, inr, Bool, true, false, List, length, Option, Some, None, refl, sym, ap, ◌∙◌, arith, Result}
 use Rattle.std.specs.Prelude.{slice_index, IsTrue, OnOk, OnErr}
 use Rattle.std.proofs.lemmas.Bool.{cases_lt}
 use Rattle.imago_storage.specs.Features.{Features}
 use Rattle.imago_drivers.specs.declared.mapping.PreparedDataMapping.{PreparedDataMapping}
 use Rattle.imago_drivers.specs.declared.copy_once.Waiting.{Waiting}
-use Rattle.imago_drivers.specs.Place.{Value, Byte, Stored, End, values, shown, HasValues, IsIn}
+use Rattle.imago_drivers.specs.Place.{Value, Byte, End, values, shown, HasValues}
 use Rattle.imago_drivers.specs.Pending.{Pending, IsOwn, ShowsRound}
 use Rattle.imago_drivers.specs.Operation.{Operation, Map, Read, Write, Zero, DiscardToZero, DiscardToAny, DiscardToBacking, Grow, Shrink, Flush}
 use Rattle.imago_drivers.specs.Causes.{IsSettled, EveryOperation}
 use Rattle.imago_drivers.specs.View.{View}
 use Rattle.imago_drivers.specs.Frame.{IsFramed, IsUnchanged, ReachesNoMore}
-use Rattle.imago_drivers.specs.Prepared.{IsPut, IsPrepared, is_foreign}
+use Rattle.imago_drivers.specs.Prepared.{IsPut, is_foreign}
 use Rattle.imago_drivers.specs.Commit.{is_committed}
 use Rattle.imago_drivers.specs.Raw.{HasBytes, raw_place}
 use Rattle.imago_drivers.specs.RawLaws.{raw_in, raw_out, raw_lower}

@@ -5,7 +5,7 @@ use Rattle.imago_storage.specs.declared.error.Error.{Error}
 use Rattle.imago_storage.specs.declared.error.Error.TheVariants as E
 use Rattle.imago_drivers.specs.Operation.{Operation}
 use Rattle.imago_drivers.specs.declared.mapping.PreparedDataMapping.{PreparedDataMapping}
-use Rattle.imago_drivers.specs.Place.{Value, Byte, Stored, values, shown, AreStoredAt, IsAt}
+use Rattle.imago_drivers.specs.Place.{Value, Byte, values, shown, AreStoredAt}
 use Rattle.imago_drivers.specs.Reasons.{allowed}
 use Rattle.imago_drivers.specs.LayerBelow.{LayerBelow}
 use Rattle.imago_drivers.specs.Causes.{Causes, Copies, IsSettled, EveryOperation}

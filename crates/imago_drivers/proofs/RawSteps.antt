@@ -6,10 +6,10 @@ use Rattle.imago_storage.specs.Error.{IsExtRefusal}
 use Rattle.imago_storage.specs.declared.error.Error.TheVariants as E
 use Rattle.imago_storage.specs.Features.{Features, MemoryUse, IsAlignedRequest, MayRunOut}
 use Rattle.imago_storage.specs.Padding.{Wraps}
-use Rattle.imago_drivers.specs.Operation.{Operation, Read, Write}
+use Rattle.imago_drivers.specs.Operation.{Operation, Read}
 use Rattle.imago_drivers.specs.Reasons.{none, allowed}
 use Rattle.imago_drivers.specs.declared.mapping.PreparedDataMapping.{PreparedDataMapping}
-use Rattle.imago_drivers.specs.Place.{Place, Stored, IsAt, AreWritable, HasStranger}
+use Rattle.imago_drivers.specs.Place.{Stored, IsAt, AreWritable, HasStranger}
 use Rattle.imago_drivers.specs.View.{View}
 use Rattle.imago_drivers.specs.Prepared.{IsPut, is_for, is_foreign_write, is_written}
 use Rattle.imago_drivers.specs.Raw.{raw_place, raw_cause, RequestWraps, HasBytes}

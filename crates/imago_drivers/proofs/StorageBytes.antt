@@ -1,10 +1,10 @@
-use Rattle.std.proofs.Common.{◌≡◌, ℕ, ◌+◌, ◌-◌, ◌<◌, ◌≤◌, ◌⊎◌, ⊎_elim, inl, inr, Bool, true, false, List, length, replicate, get_or, arith, refl, sym, ap, ◌∙◌}
+use Rattle.std.proofs.Common.{◌≡◌, ℕ, ◌+◌, ◌-◌, ◌<◌, ◌≤◌, ⊎_elim, inl, inr, Bool, true, false, List, length, replicate, get_or, arith, refl, ap, ◌∙◌}
 use Rattle.std.proofs.lemmas.Bool.{cases_lt}
 use Rattle.std.proofs.lemmas.List.{places, length-replicate}
 use Rattle.std.specs.Prelude.{slice_index, Result, Ok, Err, OnOk, OnErr, IfErr, IsErrOf}
 use Rattle.imago_storage.specs.declared.error.Error.{Error}
 use Rattle.imago_storage.specs.Error.{IsExtRefusal, IsDeviceOrMemory}
-use Rattle.imago_storage.specs.Bytes.{splice, zero_extended, OldOrNew, SameOutside}
+use Rattle.imago_storage.specs.Bytes.{splice, zero_extended, OldOrNew}
 use Rattle.imago_drivers.specs.Raw.{HasBytes}
 
 splice_inside : (xs : List ℕ) (at : ℕ) (new : List ℕ) (k : ℕ) → k < length new → get_or (splice xs at new) (at + k) 0 ≡ get_or new k 0

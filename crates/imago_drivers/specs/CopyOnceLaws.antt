@@ -1,4 +1,4 @@
-use Rattle.std.specs.Prelude.{◌≡◌, ℕ, ◌+◌, ◌<◌, ◌≤◌, Bool, true, false, List, slice_index, nat_lt, refl, Option}
+use Rattle.std.specs.Prelude.{◌≡◌, ℕ, ◌<◌, ◌≤◌, Bool, true, false, List, nat_lt, refl, Option}
 use Rattle.std.proofs.Common.{arith, sym, ◌∙◌, ⊎_elim}
 use Rattle.std.proofs.lemmas.Bool.{cases_lt}
 use Rattle.std.proofs.lemmas.Bool.Decides.{nat_tests}
@@ -7,9 +7,9 @@ use Rattle.imago_storage.specs.declared.error.Error.TheVariants as E
 use Rattle.imago_storage.specs.Features.{Features}
 use Rattle.imago_drivers.specs.declared.copy_once.Waiting.{Waiting}
 use Rattle.imago_drivers.specs.Operation.{Operation, Map, Read, Write, Zero, DiscardToZero, DiscardToAny, DiscardToBacking, Grow, Shrink, Flush}
-use Rattle.imago_drivers.specs.Place.{Place, Stored, Special, Lower, Refused, End}
+use Rattle.imago_drivers.specs.Place.{Place, Lower, End}
 use Rattle.imago_drivers.specs.Laws.{IsLawful, AreCauses, CauseBound}
-use Rattle.imago_drivers.specs.RawLaws.{raw_lawful, raw_in, raw_out}
+use Rattle.imago_drivers.specs.RawLaws.{raw_lawful}
 use Rattle.imago_drivers.specs.CopyOnce.{copy_place, copy_view, copy_cause, copy_offers, copy_copies}
 
 pub lower_in : (size : ℕ) (bytes : List ℕ) (p : ℕ) → p < size → copy_place false size bytes p ≡ Lower p false

@@ -1,4 +1,4 @@
-use Rattle.std.specs.Prelude.{◌≡◌, ℕ, ◌≤◌, Bool}
+use Rattle.std.specs.Prelude.{◌≡◌, ℕ, Bool}
 use Rattle.imago_drivers.specs.Place.{Lower, End, SamePlaces}
 use Rattle.imago_drivers.specs.View.{View}
 

@@ -19,3 +19,5 @@ pub mod RawLaws
 pub mod RawImage
 pub mod CopyOnce
 pub mod CopyOnceLaws
+pub mod Pattern
+pub mod PatternLaws

@@ -1,5 +1,4 @@
 use Rattle.std.specs.Prelude.{◌≡◌, ℕ, ◌+◌, ◌-◌, ◌<◌, ◌≤◌, ◌⊎◌, Bool, true, false, List, length, slice_index, if◌then◌else◌, nat_lt, min, None}
-use Rattle.imago_storage.specs.declared.error.Error.{Error}
 use Rattle.imago_storage.specs.declared.error.Error.TheVariants as E
 use Rattle.imago_storage.specs.Features.{Features, InPlace, MayRunOut, IsAlignedRequest, IsAlignedTo}
 use Rattle.imago_storage.specs.Padding.{Wraps, aligned_start, aligned_end}

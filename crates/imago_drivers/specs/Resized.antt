@@ -1,9 +1,8 @@
-use Rattle.std.specs.Prelude.{◌≡◌, ℕ, ◌<◌, ◌≤◌, Bool, IsTrue, Result, OnOk, OnErr, min, max}
-use Rattle.imago_storage.specs.declared.error.Error.{Error}
+use Rattle.std.specs.Prelude.{◌≡◌, ℕ, ◌<◌, ◌≤◌, Bool, IsTrue, min, max}
 use Rattle.imago_drivers.specs.Place.{Value, Byte, values, SamePlaces}
 use Rattle.imago_drivers.specs.View.{View}
 use Rattle.imago_drivers.specs.Changes.{given_back}
-use Rattle.imago_drivers.specs.Frame.{IsKind, ReachesNoMore}
+use Rattle.imago_drivers.specs.Frame.{ReachesNoMore}
 use Rattle.imago_drivers.specs.declared.format.PreallocateMode.{PreallocateMode}
 use Rattle.imago_drivers.specs.declared.format.PreallocateMode.TheVariants as Mode
 

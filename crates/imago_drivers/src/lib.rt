@@ -5,9 +5,12 @@
 //! refused one leaves. [`raw::Raw`] is the driver whose disk is its storage.
 #![tactic(auto)]
 
-pub mod copy_once;
+mod copy_once;
 pub mod drivers;
 pub mod format;
 pub mod layer;
 pub mod mapping;
+mod pattern;
 pub mod raw;
+#[cfg(test)]
+mod tests;

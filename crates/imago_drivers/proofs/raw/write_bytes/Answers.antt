@@ -1,4 +1,4 @@
-use Rattle.std.proofs.Common.{◌≡◌, ◌<◌, ◌≤◌, length, arith, ⊎_elim, true, false, ap}
+use Rattle.std.proofs.Common.{length, arith, ⊎_elim, true, false, ap}
 use Rattle.std.proofs.lemmas.Bool.{cases_lt}
 use Rattle.std.proofs.lemmas.Result.{on_err_weaker, on_ok_weaker}
 use Rattle.imago_drivers.proofs.StorageBytes.{written_bytes, torn_bytes, no_bytes, on_success, on_refusal}

@@ -1,4 +1,4 @@
-use Rattle.std.proofs.Common.{rules, ◌≡◌, ◌-◌, ◌+◌, ◌<◌, ◌≤◌, arith}
+use Rattle.std.proofs.Common.{rules, ◌≡◌, ◌-◌, ◌<◌, arith}
 use Rattle.imago_storage.specs.Features.{IsAlignedTo}
 use Rattle.imago_drivers.proofs.StorageBytes.{zeroed_bytes, torn_zeroes, torn_in_range, on_refusal}
 use Rattle.imago_drivers.proofs.AlignedParts.{whole_start, whole_length}

@@ -1,6 +1,5 @@
-use Rattle.std.proofs.Common.{arith, inr, ◌+◌, ◌≡◌, true, ap, ◌∙◌}
+use Rattle.std.proofs.Common.{arith, inr, ◌+◌, ◌≡◌, true}
 use Rattle.std.specs.Prelude.{slice_index}
-use Rattle.imago_drivers.specs.Mapping.{IsRight}
 use Rattle.imago_drivers.specs.RawLaws.{raw_in, raw_refused}
 use Rattle.imago_drivers.proofs.copy_once.CopyOnceFormatDriverInstance.get_mapping.Goals as goal
 

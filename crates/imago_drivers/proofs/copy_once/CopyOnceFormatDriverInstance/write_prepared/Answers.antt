@@ -1,4 +1,4 @@
-use Rattle.std.proofs.Common.{arith, inr, refl, sym, ap, ◌∙◌, ◌≡◌, ◌+◌, ◌<◌, ◌≤◌, length, true, false}
+use Rattle.std.proofs.Common.{arith, inr, refl, sym, ◌≡◌, ◌+◌, ◌<◌, ◌≤◌, true, false}
 use Rattle.std.specs.Prelude.{is_none}
 use Rattle.std.proofs.lemmas.Result.{on_err_weaker, on_ok_weaker}
 use Rattle.imago_drivers.specs.CopyOnce.{copy_view, copy_place}

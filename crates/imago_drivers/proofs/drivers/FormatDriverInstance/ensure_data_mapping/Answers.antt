@@ -1,5 +1,5 @@
-use Rattle.std.proofs.Common.{rules, ◌≡◌, arith, refl, ap, true, false, Ok, Err, ◌∙◌}
-use Rattle.std.specs.Prelude.{IsErrOf, IsTrue}
+use Rattle.std.proofs.Common.{rules, ap, false, Err, ◌∙◌}
+use Rattle.std.specs.Prelude.{IsErrOf}
 use Rattle.imago_storage.specs.declared.error.Error.{Error}
 use Rattle.imago_drivers.specs.LayerBelow.{lent}
 use Rattle.imago_drivers.proofs.StorageBytes.{on_refusal}

@@ -1,4 +1,4 @@
-use Rattle.std.proofs.Common.{◌≡◌, arith, refl, sym, ◌∙◌, ◌+◌}
+use Rattle.std.proofs.Common.{◌≡◌, arith, refl, ◌+◌}
 use Rattle.std.specs.Prelude.{slice_index}
 use Rattle.imago_drivers.specs.RawLaws.{raw_in}
 use Rattle.imago_drivers.proofs.raw.RawFormatDriverInstance.prepare_data_mapping.Goals as goal

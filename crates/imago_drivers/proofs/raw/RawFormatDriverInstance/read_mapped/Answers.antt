@@ -1,8 +1,5 @@
-use Rattle.std.proofs.Common.{◌≡◌, arith, length, false}
-use Rattle.imago_drivers.specs.Operation.{Read}
-use Rattle.imago_drivers.specs.Place.{IsAt}
-use Rattle.imago_drivers.specs.Raw.{raw_place}
-use Rattle.imago_drivers.proofs.RawSteps.{raw_at, read_refused}
+use Rattle.std.proofs.Common.{length}
+use Rattle.imago_drivers.proofs.RawSteps.{read_refused}
 use Rattle.imago_drivers.proofs.raw.RawFormatDriverInstance.read_mapped.Goals as goal
 
 pub returns-clause-refusals : goal.returns-clause-refusals

@@ -1,8 +1,8 @@
-use Rattle.std.proofs.Common.{◌≡◌, ◌+◌, ◌<◌, ◌≤◌, arith, length, true, false, ◌∙◌, sym, ap}
-use Rattle.std.specs.Prelude.{slice_index, IsTrue}
+use Rattle.std.proofs.Common.{◌≡◌, arith, length, true}
+use Rattle.std.specs.Prelude.{IsTrue}
 use Rattle.imago_drivers.specs.Operation.{Write}
 use Rattle.imago_drivers.specs.Place.{IsAt}
-use Rattle.imago_drivers.specs.Raw.{raw_place, HasBytes}
+use Rattle.imago_drivers.specs.Raw.{raw_place}
 use Rattle.imago_drivers.proofs.StorageBytes.{zero_behind_write, either_bytes}
 use Rattle.imago_drivers.proofs.RawSteps.{raw_at, raw_inside, raw_put_on_ok, raw_put_on_err, request_refused}
 use Rattle.imago_drivers.proofs.raw.RawFormatDriverInstance.write_mapped.Goals as goal

@@ -1,5 +1,5 @@
-use Rattle.std.proofs.Common.{arith, inr, refl, sym, ap, ◌∙◌, ◌≡◌, ◌+◌, ◌<◌, ◌≤◌, length, true, false}
-use Rattle.std.specs.Prelude.{is_none, slice_index, IsTrue}
+use Rattle.std.proofs.Common.{arith, inr, refl, sym, ◌≡◌, ◌+◌, ◌<◌, ◌≤◌, length, true, false}
+use Rattle.std.specs.Prelude.{is_none, IsTrue}
 use Rattle.std.proofs.lemmas.Result.{on_err_weaker, on_ok_weaker}
 use Rattle.imago_drivers.specs.Operation.{Write}
 use Rattle.imago_drivers.specs.Raw.{raw_view}
