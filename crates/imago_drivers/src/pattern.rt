@@ -1,5 +1,5 @@
 //! A read-only disk of one kind of place: explicit zeroes, special bytes, or all that the layer below has.
-ghost use Rattle.std.specs.Prelude.{false};
+ghost use Rattle.std.specs.Prelude.{false, IsErrOf};
 ghost use Rattle.imago_drivers.specs.Pattern.{pattern_view};
 ghost use Rattle.imago_drivers.specs.PatternLaws.{pattern_lawful, pattern_causes};
 ghost use Rattle.imago_drivers.specs.Commit.{IsCommit, IsCancel};
@@ -24,7 +24,8 @@ pub enum Kind {
     Below { writable: bool },
 }
 
-/// A read-only disk of one kind of place.
+/// A read-only disk of one kind of place. The calls that ask for a writable driver, or for one of its storages, can't be
+/// made on it; they refuse all the same.
 #[derive(Drop)]
 pub struct Pattern {
     pub(crate) kind: Kind,
@@ -118,8 +119,10 @@ impl FormatDriverInstance for Pattern {
         _storage: usize,
         _buf: &mut [u8],
         _offset: u64,
-    ) -> Result<(), Error> {
-        Ok(())
+    ) -> Result<(), Error>
+        ensures { IsErrOf result Error.Unsupported }
+    {
+        Err(Error::Unsupported)
     }
 
     fn readv_special(&self, _alloc: Global, buf: &mut [u8], _offset: u64) -> Result<(), Error> {
@@ -151,44 +154,54 @@ impl FormatDriverInstance for Pattern {
         _storage: usize,
         _source: &[u8],
         _offset: u64,
-    ) -> Result<(), Error> {
-        Ok(())
+    ) -> Result<(), Error>
+        ensures { IsErrOf result Error.Unsupported }
+    {
+        Err(Error::Unsupported)
     }
 
     fn ensure_zero_mapping(
         &mut self,
         _alloc: Global,
-        offset: u64,
+        _offset: u64,
         _count: u64,
-    ) -> Result<(u64, u64), Error> {
-        Ok((offset, 0))
+    ) -> Result<(u64, u64), Error>
+        ensures { IsErrOf result Error.Unsupported }
+    {
+        Err(Error::Unsupported)
     }
 
     fn discard_to_zero(
         &mut self,
         _alloc: Global,
-        offset: u64,
+        _offset: u64,
         _count: u64,
-    ) -> Result<(u64, u64), Error> {
-        Ok((offset, 0))
+    ) -> Result<(u64, u64), Error>
+        ensures { IsErrOf result Error.Unsupported }
+    {
+        Err(Error::Unsupported)
     }
 
     fn discard_to_any(
         &mut self,
         _alloc: Global,
-        offset: u64,
+        _offset: u64,
         _count: u64,
-    ) -> Result<(u64, u64), Error> {
-        Ok((offset, 0))
+    ) -> Result<(u64, u64), Error>
+        ensures { IsErrOf result Error.Unsupported }
+    {
+        Err(Error::Unsupported)
     }
 
     fn discard_to_backing(
         &mut self,
         _alloc: Global,
-        offset: u64,
+        _offset: u64,
         _count: u64,
-    ) -> Result<(u64, u64), Error> {
-        Ok((offset, 0))
+    ) -> Result<(u64, u64), Error>
+        ensures { IsErrOf result Error.Unsupported }
+    {
+        Err(Error::Unsupported)
     }
 
     fn prepare_data_mapping<B: LowerLayer>(
@@ -198,7 +211,9 @@ impl FormatDriverInstance for Pattern {
         _offset: u64,
         _count: u64,
         _overwrite: bool,
-    ) -> Result<PreparedDataMapping<()>, Error> {
+    ) -> Result<PreparedDataMapping<()>, Error>
+        ensures { IsErrOf result Error.Unsupported }
+    {
         Err(Error::Unsupported)
     }
 
@@ -227,18 +242,35 @@ impl FormatDriverInstance for Pattern {
         let _ = mapping.into_state();
     }
 
+    fn ensure_data_mapping<B: LowerLayer>(
+        &mut self,
+        _alloc: Global,
+        _below: Option<&B>,
+        _offset: u64,
+        _count: u64,
+        _overwrite: bool,
+    ) -> Result<(usize, u64, u64), Error>
+        ensures { IsErrOf result Error.Unsupported }
+    {
+        Err(Error::Unsupported)
+    }
+
     fn resize_grow<B: LowerLayer>(
         &mut self,
         _alloc: Global,
         _below: Option<&B>,
         _new_size: u64,
         _mode: PreallocateMode,
-    ) -> Result<(), Error> {
-        Ok(())
+    ) -> Result<(), Error>
+        ensures { IsErrOf result Error.Unsupported }
+    {
+        Err(Error::Unsupported)
     }
 
-    fn resize_shrink(&mut self, _new_size: u64) -> Result<(), Error> {
-        Ok(())
+    fn resize_shrink(&mut self, _new_size: u64) -> Result<(), Error>
+        ensures { IsErrOf result Error.Unsupported }
+    {
+        Err(Error::Unsupported)
     }
 
     fn flush(&mut self) -> Result<(), Error> {
