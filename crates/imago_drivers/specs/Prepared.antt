@@ -63,7 +63,7 @@ abbrev pub is_written : {St : Type 0} → Option St → Bool → View St → Vie
 is_written None torn old new m at bytes = IsPut m.storage (m.offset + at) bytes torn old.abilities.keeps_data old.place new.place × (new.pending ≡ old.pending)
 is_written {St} (Some s) torn old new m at bytes =
     SamePlaces old.abilities.keeps_data old.place new.place
-    × ((q : Pending St) → old.pending ≡ Some q → (r : Pending St) × (new.pending ≡ Some r)
+    × ((q : Pending St) → old.pending ≡ Some q → (r : Pending St) × (new.pending ≡ Some r) × (r ≡ record q { bytes = r.bytes })
     × (IsTrue old.abilities.keeps_data → IsPutApart q r at (length bytes) (or_torn torn (into bytes))))
 
 abbrev pub IsWritten : {St : Type 0} → Bool → View St → View St → PreparedDataMapping St → ℕ → List ℕ → Type 0
