@@ -1,0 +1,90 @@
+use Rattle.std.proofs.Common.{◌≡◌, ℕ, ◌+◌, ◌<◌, ◌≤◌, ◌⊎◌, inl, inr, ⊎_elim, Bool, true, false, ◌&&◌, Option, Some, None, refl, sym, ap, ◌∙◌, subst, arith, Box, Global}
+use Rattle.imago_storage.specs.declared.error.Error.{Error}
+use Rattle.imago_drivers.specs.Operation.{Operation, Read}
+use Rattle.imago_drivers.specs.Place.{Value, Byte, Place, Lower, End, shown, values}
+use Rattle.imago_drivers.specs.LayerBelow.{LayerBelow, lent}
+use Rattle.imago_drivers.specs.View.{View}
+use Rattle.imago_access.specs.declared.access.FormatAccess.{FormatAccess, FormatAccess', out-FormatAccess, roll-FormatAccess, rolls-FormatAccess', is-FormatAccess', FormatAccess-F, back-FormatAccess-backing}
+use Rattle.imago_access.specs.Chain.{driver, backing, unboxed, disk_value, is_reliable, IsReached, chain_cause, cause_below, chain_no_memory, no_memory_below, as_layer_below, lent_image}
+use Rattle.imago_access.specs.Target.{Target, target, followed, deeper, target_here}
+
+module _ {D St : Type 0} (view : D → View St) where
+  value_back : (inner : D) (b : Option (Box (FormatAccess D) Global)) → disk_value view (FormatAccess' inner (back-FormatAccess-backing D b)) ≡ values (lent_image view (unboxed b)).at (view inner).place
+  value_back inner None = refl
+  value_back inner (Some b) = refl
+
+  -- an image shows its driver's places over what the driver is lent
+  pub value_out : (x : FormatAccess D) → disk_value view x ≡ values (lent_image view (backing x)).at (view (driver x)).place
+  value_out x = ap (disk_value view) (is-FormatAccess' x) ∙ value_back (driver x) (out-FormatAccess D x).backing
+
+  pub value_at : (x : FormatAccess D) (p : ℕ) (pl : Place) → (view (driver x)).place p ≡ pl → disk_value view x p ≡ shown (lent_image view (backing x)).at pl
+  value_at x p pl h = ap (λ (f : ℕ → Value). f p) (value_out x) ∙ ap (shown (lent_image view (backing x)).at) h
+
+  pub value_lower : (x y : FormatAccess D) (p q : ℕ) (w : Bool) → backing x ≡ Some y → (view (driver x)).place p ≡ Lower q w → disk_value view x p ≡ disk_value view y q
+  value_lower x y p q w h k = value_at x p (Lower q w) k ∙ ap (λ (b : Option (FormatAccess D)). (lent_image view b).at q) h
+
+  reliable_back : (inner : D) (b : Option (Box (FormatAccess D) Global)) → is_reliable view (FormatAccess' inner (back-FormatAccess-backing D b)) ≡ ((view inner).abilities.is_reliable && (lent_image view (unboxed b)).is_reliable)
+  reliable_back inner None = refl
+  reliable_back inner (Some b) = refl
+
+  pub reliable_out : (x : FormatAccess D) → is_reliable view x ≡ ((view (driver x)).abilities.is_reliable && (lent_image view (backing x)).is_reliable)
+  reliable_out x = ap (is_reliable view) (is-FormatAccess' x) ∙ reliable_back (driver x) (out-FormatAccess D x).backing
+
+  pub reliable_here : (x : FormatAccess D) → (view (driver x)).abilities.is_reliable ≡ false → is_reliable view x ≡ false
+  reliable_here x h = reliable_out x ∙ ap (λ b. b && (lent_image view (backing x)).is_reliable) h
+
+  and_false : (a b : Bool) → b ≡ false → (a && b) ≡ false
+  and_false true b h = h
+  and_false false b h = refl
+
+  pub reliable_lower : (x y : FormatAccess D) → backing x ≡ Some y → is_reliable view y ≡ false → is_reliable view x ≡ false
+  reliable_lower x y h k = reliable_out x ∙ and_false _ _ (ap (λ (b : Option (FormatAccess D)). (lent_image view b).is_reliable) h ∙ k)
+
+  abbrev target_of : Option (FormatAccess D) → ℕ → Target
+  target_of None p = target_here End
+  target_of (Some x) p = target view x p
+
+  target_back : (inner : D) (b : Option (Box (FormatAccess D) Global)) (p : ℕ) → target view (FormatAccess' inner (back-FormatAccess-backing D b)) p ≡ followed (target_of (unboxed b)) ((view inner).place p)
+  target_back inner None p = refl
+  target_back inner (Some b) p = refl
+
+  target_out : (x : FormatAccess D) (p : ℕ) → target view x p ≡ followed (target_of (backing x)) ((view (driver x)).place p)
+  target_out x p = ap (λ (y : FormatAccess D). target view y p) (is-FormatAccess' x) ∙ target_back (driver x) (out-FormatAccess D x).backing p
+
+  pub target_lower : (x y : FormatAccess D) (p q : ℕ) (w : Bool) → backing x ≡ Some y → (view (driver x)).place p ≡ Lower q w → target view x p ≡ deeper 1 w (target view y q)
+  target_lower x y p q w h k = target_out x p ∙ ap (followed (target_of (backing x))) k ∙ ap (λ (b : Option (FormatAccess D)). deeper 1 w (target_of b q)) h
+
+  pub target_nothing : (x : FormatAccess D) (p q : ℕ) (w : Bool) → backing x ≡ None → (view (driver x)).place p ≡ Lower q w → target view x p ≡ deeper 1 w (target_here End)
+  target_nothing x p q w h k = target_out x p ∙ ap (followed (target_of (backing x))) k ∙ ap (λ (b : Option (FormatAccess D)). deeper 1 w (target_of b q)) h
+
+  -- a place that isn't a reference is where it leads
+  pub target_at : (x : FormatAccess D) (p : ℕ) (pl : Place) → (view (driver x)).place p ≡ pl → ((b : ℕ → Target) → followed b pl ≡ target_here pl) → target view x p ≡ target_here pl
+  target_at x p pl h k = target_out x p ∙ ap (followed (target_of (backing x))) h ∙ k (target_of (backing x))
+
+  -- a cause at the top
+  pub cause_here : (x : FormatAccess D) (op : Operation) (o n : ℕ) (e : Error) → (view (driver x)).cause op o n e → chain_cause view x op o n e
+  cause_here x op o n e h = subst (λ (y : FormatAccess D). chain_cause view y op o n e) (sym (is-FormatAccess' x)) (inl h)
+
+  from_below : (b : Option (Box (FormatAccess D) Global)) (y : FormatAccess D) (op : Operation) (q m : ℕ) (e : Error) → unboxed b ≡ Some y → chain_cause view y op q m e → cause_below view (back-FormatAccess-backing D b) op q m e
+  from_below None y op q m e h c = let z : ⊥ = cc in absurd z
+  from_below (Some b) y op q m e h c =
+      let k : b.value ≡ y = cc in
+      subst (λ (z : FormatAccess D). chain_cause view z op q m e) (sym k) c
+
+  -- a cause at the layer below, for what is reached there
+  pub cause_lower : (x y : FormatAccess D) (op : Operation) (o n q m : ℕ) (e : Error) → backing x ≡ Some y → IsReached (view (driver x)).place o n q m → chain_cause view y op q m e → chain_cause view x op o n e
+  cause_lower x y op o n q m e h r c = subst (λ (z : FormatAccess D). chain_cause view z op o n e) (sym (is-FormatAccess' x)) (inr (q, m, r, from_below (out-FormatAccess D x).backing y op q m e h c))
+
+  pub no_memory_here : (x : FormatAccess D) (o n : ℕ) → chain_no_memory view x o n → (view (driver x)).no_memory Read o n
+  no_memory_here x o n h = let k = subst (λ (y : FormatAccess D). chain_no_memory view y o n) (is-FormatAccess' x) h in k.0
+
+  from_no_memory : (b : Option (Box (FormatAccess D) Global)) (y : FormatAccess D) (q n : ℕ) → unboxed b ≡ Some y → no_memory_below view (back-FormatAccess-backing D b) q n → chain_no_memory view y q n
+  from_no_memory None y q n h c = let z : ⊥ = cc in absurd z
+  from_no_memory (Some b) y q n h c =
+      let k : b.value ≡ y = cc in
+      subst (λ (z : FormatAccess D). chain_no_memory view z q n) k c
+
+  pub no_memory_lower : (x y : FormatAccess D) (o n q : ℕ) → backing x ≡ Some y → chain_no_memory view x o n → IsReached (view (driver x)).place o n q n → chain_no_memory view y q n
+  no_memory_lower x y o n q h c r =
+      let k = subst (λ (z : FormatAccess D). chain_no_memory view z o n) (is-FormatAccess' x) c in
+      from_no_memory (out-FormatAccess D x).backing y q n h (k.1 q r)

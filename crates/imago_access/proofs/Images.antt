@@ -1,0 +1,176 @@
+use Rattle.std.proofs.Common.{◌≡◌, ℕ, ◌+◌, ◌<◌, ◌≤◌, ◌⊎◌, ◌&&◌, inl, inr, ⊎_elim, Bool, true, false, Option, Some, None, List, length, refl, sym, ap, ◌∙◌, subst, arith, Box, Global, Result, Ok, Err}
+use Rattle.std.specs.Prelude.{IsTrue, IfErr, IfOk, OnOk, OnErr, IsErrOf}
+use Rattle.std.specs.Option.{option_copied}
+use Rattle.imago_storage.specs.Faults.{CountsFaults}
+use Rattle.imago_drivers.specs.Frame.{IsFramed, IsKind, IsUnchanged}
+use Rattle.imago_drivers.specs.Done.{lending_reasons}
+use Rattle.imago_drivers.specs.Prepared.{IsPrepared}
+use Rattle.imago_drivers.specs.declared.mapping.PreparedDataMapping.{PreparedDataMapping}
+use Rattle.std.specs.Borrow.{Bor}
+use Rattle.imago_storage.specs.declared.error.Error.{Error}
+use Rattle.imago_drivers.specs.Operation.{Operation}
+use Rattle.imago_drivers.specs.Place.{Value, values, shown}
+use Rattle.imago_drivers.specs.LayerBelow.{LayerBelow, lent}
+use Rattle.imago_drivers.specs.View.{View}
+use Rattle.imago_drivers.specs.Reasons.{allowed}
+use Rattle.imago_drivers.specs.Changes.{IsChanged, into, partly, overwritten}
+use Rattle.imago_access.specs.declared.access.FormatAccess.{FormatAccess, FormatAccess', out-FormatAccess, roll-FormatAccess, out-roll-FormatAccess, rolls-FormatAccess', FormatAccess-F, back-FormatAccess-backing}
+use Rattle.imago_access.specs.Chain.{driver, backing, unboxed, disk_value, as_layer_below, lent_image}
+use Rattle.imago_access.specs.Lending.{with_driver}
+use Rattle.imago_access.specs.Calls.{FailsTest, IsTested, IsKept, IsRangeCall, IsWrite, range_refusals, devices_reliable, IsEnsured, IsPreparing}
+use Rattle.imago_access.specs.Writing.{HasWrittenAll}
+use Rattle.imago_access.proofs.Chains.{value_out}
+
+-- what a driver is lent, as the image below
+pub lent_is : {D St : Type 0} (view : D → View St) (r : Option (Bor (FormatAccess D))) (b : Option (FormatAccess D)) → option_copied r ≡ b → lent (as_layer_below view) r ≡ lent_image view b
+lent_is view None b h = ap (lent_image view) h
+lent_is view (Some r) b h = ap (lent_image view) h
+
+ok_more : {T E : Type 0} (r : Result T E) (P Q : T → Type 0) → ((t : T) → P t → Q t) → IfOk r P → IfOk r Q
+ok_more (Ok t) P Q f h = f t h
+ok_more (Err e) P Q f h = tt
+
+pub on_ok : {E : Type 0} (r : Result Unit E) (P : Type 0) → OnOk r P → IfOk r (λ u. P)
+on_ok (Ok t) P h = h
+on_ok (Err e) P h = tt
+
+err_more : {T E : Type 0} (r : Result T E) (P Q : Type 0) → (P → Q) → OnErr r P → OnErr r Q
+err_more (Ok t) P Q f h = tt
+err_more (Err e) P Q f h = f h
+
+refusals_more : {T E : Type 0} (r : Result T E) (P Q : E → Type 0) → ((e : E) → P e → Q e) → IfErr r P → IfErr r Q
+refusals_more (Ok t) P Q f h = tt
+refusals_more (Err e) P Q f h = f e h
+
+module _ {D : Type 0} (x : FormatAccess D) (d : D) where
+  pub driver_with : driver (with_driver x d) ≡ d
+  driver_with = ap (λ (r : FormatAccess-F D (FormatAccess D)). r.inner) (out-roll-FormatAccess D record { inner = d; backing = (out-FormatAccess D x).backing })
+
+  pub backing_with : backing (with_driver x d) ≡ backing x
+  backing_with = ap (λ (r : FormatAccess-F D (FormatAccess D)). unboxed r.backing) (out-roll-FormatAccess D record { inner = d; backing = (out-FormatAccess D x).backing })
+
+module _ {D St : Type 0} (view : D → View St) (x : FormatAccess D) (d : D) where
+  value_rolled : (b : Option (Box (FormatAccess D) Global)) → disk_value view (FormatAccess' d (back-FormatAccess-backing D b)) ≡ values (lent_image view (unboxed b)).at (view d).place
+  value_rolled None = refl
+  value_rolled (Some b) = refl
+
+  -- what an image shows with another driver
+  pub value_with : disk_value view (with_driver x d) ≡ values (lent_image view (backing x)).at (view d).place
+  value_with = ap (disk_value view) (rolls-FormatAccess' record { inner = d; backing = (out-FormatAccess D x).backing }) ∙ value_rolled (out-FormatAccess D x).backing
+
+  pub changed_image : (P : (ℕ → Value) → (ℕ → Value) → Type 0) → P (values (lent_image view (backing x)).at (view (driver x)).place) (values (lent_image view (backing x)).at (view d).place) → P (disk_value view x) (disk_value view (with_driver x d))
+  changed_image P h = let a = value_out view x in let b = value_with in rw (a, b) h
+
+-- what a test that passed rules out
+pub not_failed : {St : Type 0} (v : View St) (o n : ℕ) → v.abilities.is_writable ≡ true → o + n ≤ v.size → (e : Error) → FailsTest v o n e → ⊥
+not_failed v o n w fits e f = ⊎_elim (λ a. let x = sym w ∙ a.1 in let z : ⊥ = cc in z) (λ a. let x = a.2 in omega arith) f
+
+same_test : {St : Type 0} (v : View St) (o n : ℕ) (e x : Error) → FailsTest v o n e → FailsTest v o n x → e ≡ x
+same_test v o n e x f g = ⊎_elim
+    (λ a. ⊎_elim (λ b. a.0 ∙ sym b.0) (λ b. let y = sym a.1 ∙ b.1 in let z : ⊥ = cc in absurd z) g)
+    (λ a. ⊎_elim (λ b. let y = sym b.1 ∙ a.1 in let z : ⊥ = cc in absurd z) (λ b. a.0 ∙ sym b.0) g)
+    f
+
+-- a test that fails is no failed device
+test_device : {St T : Type 0} (v : View St) (o n : ℕ) (e : Error) → FailsTest v o n e → IsErrOf {T = T} (Err e) Error.Device → ⊥
+test_device v o n e f h = ⊎_elim (λ a. let x = a.0 in cc) (λ a. let x = a.0 in cc) f
+
+module _ {D St T : Type 0} (view : D → View St) (x : FormatAccess D) (op : Operation) (o n : ℕ) (effect : T → Type 0) (remains : Type 0) where
+  -- a call that a test refuses
+  pub failed_call : (e : Error) → FailsTest (view (driver x)) o n e → remains → (view (driver x)).pending ≡ None → IsRangeCall view op o n effect remains x x (Err e)
+  failed_call e f r p = record {
+    tested = λ z g. (ap (λ y. Err y) (same_test (view (driver x)) o n e z f g), refl);
+    done = λ k. tt;
+    torn = λ k. r;
+    same_size = refl;
+    kept = record { below = refl; kind = record { abilities = refl; store_count = refl } };
+    nothing_pending = p;
+    faults = record { later = omega arith; reliable = λ t. refl; device = λ h. absurd (test_device {T = T} (view (driver x)) o n e f h) };
+    refusals = inl f;
+  }
+
+  -- a call that passed its tests
+  pub passed_call : (d : D) (result : Result T Error) → (view (driver x)).abilities.is_writable ≡ true → o + n ≤ (view (driver x)).size
+      → (IsTrue (view (driver x)).abilities.keeps_data → IfOk result effect) → (IsTrue (view (driver x)).abilities.keeps_data → OnErr result remains)
+      → IsFramed (view (driver x)) (view d) → (view d).pending ≡ None
+      → CountsFaults (devices_reliable view x) (view (driver x)).fault_count (view d).fault_count result
+      → IfErr result (allowed (range_refusals view x op o n)) → IsRangeCall view op o n effect remains x (with_driver x d) result
+  passed_call d result w fits done torn framed spent faults refusals =
+      let e : driver (with_driver x d) ≡ d = driver_with x d in
+      record {
+        tested = λ z g. absurd (not_failed (view (driver x)) o n w fits z g);
+        done = done;
+        torn = torn;
+        same_size = ap (λ (y : D). (view y).size) e ∙ framed.size;
+        kept = record { below = backing_with x d; kind = subst (λ (y : D). IsKind (view (driver x)) (view y)) (sym e) framed.kind };
+        nothing_pending = subst (λ (y : D). (view y).pending ≡ None) (sym e) spent;
+        faults = subst (λ (y : D). CountsFaults (devices_reliable view x) (view (driver x)).fault_count (view y).fault_count result) (sym e) faults;
+        refusals = refusals_more result (allowed (range_refusals view x op o n)) _ (λ e h. inr h) refusals;
+      }
+
+pub image_write : {D St : Type 0} (view : D → View St) (x : FormatAccess D) (d : D) (o : ℕ) (bytes : List ℕ) (result : Result Unit Error) (l : LayerBelow) → l ≡ lent_image view (backing x)
+    → (view (driver x)).abilities.is_writable ≡ true → o + length bytes ≤ (view (driver x)).size → HasWrittenAll l (view (driver x)) (view d) o bytes result → IsWrite view x (with_driver x d) o bytes result
+image_write view x d o bytes result l e w fits h =
+    let k = subst (λ (m : LayerBelow). HasWrittenAll m (view (driver x)) (view d) o bytes result) e h in
+    passed_call view x Operation.Write o (length bytes) _ _ d result w fits
+    (λ keeps. on_ok result _ (ok_then result (λ c. changed_image view x d (λ a b. IsChanged o (length bytes) (into bytes) a b) c) (k.done keeps)))
+    (λ keeps. err_more result _ _ (λ c. changed_image view x d (λ a b. IsChanged o (length bytes) (partly (into bytes)) a b) c) (k.torn keeps))
+    k.framed k.spent k.faults k.refusals
+  where
+    ok_then : {P Q : Type 0} (r : Result Unit Error) → (P → Q) → OnOk r P → OnOk r Q
+    ok_then (Ok t) f h = f h
+    ok_then (Err e) f h = tt
+
+-- a data mapping by the driver, over what it is lent
+pub image_ensured : {D St : Type 0} (view : D → View St) (x : FormatAccess D) (d : D) (o n : ℕ) (w : Bool) (result : Result (ℕ × ℕ × ℕ) Error) (l : LayerBelow) → l ≡ lent_image view (backing x)
+    → (view (driver x)).abilities.is_writable ≡ true → o + n ≤ (view (driver x)).size
+    → (IsTrue (view (driver x)).abilities.keeps_data → IfOk result (λ r. IsChanged o r.2 (overwritten w) (values l.at (view (driver x)).place) (values l.at (view d).place)))
+    → (IsTrue (view (driver x)).abilities.keeps_data → OnErr result (IsChanged o n (overwritten w) (values l.at (view (driver x)).place) (values l.at (view d).place)))
+    → IsFramed (view (driver x)) (view d) → (view d).pending ≡ None
+    → CountsFaults ((view (driver x)).abilities.is_reliable && l.is_reliable) (view (driver x)).fault_count (view d).fault_count result
+    → IfErr result (allowed (lending_reasons (view (driver x)) l Operation.Write o n)) → IsEnsured view x (with_driver x d) o n w result
+image_ensured view x d o n w result l h writable fits done torn framed spent faults refusals =
+    passed_call view x Operation.Write o n _ _ d result writable fits
+    (λ k. ok_more result _ _ (λ r c. changed_image view x d (λ a b. IsChanged o r.2 (overwritten w) a b) c) (subst (λ (m : LayerBelow). IfOk result (λ r. IsChanged o r.2 (overwritten w) (values m.at (view (driver x)).place) (values m.at (view d).place))) h (done k)))
+    (λ k. err_more result _ _ (λ c. changed_image view x d (λ a b. IsChanged o n (overwritten w) a b) c) (subst (λ (m : LayerBelow). OnErr result (IsChanged o n (overwritten w) (values m.at (view (driver x)).place) (values m.at (view d).place))) h (torn k)))
+    framed spent
+    (subst (λ (m : LayerBelow). CountsFaults ((view (driver x)).abilities.is_reliable && m.is_reliable) (view (driver x)).fault_count (view d).fault_count result) h faults)
+    (subst (λ (m : LayerBelow). IfErr result (allowed (lending_reasons (view (driver x)) m Operation.Write o n))) h refusals)
+
+-- the preparing of a mapping by the driver, over what it is lent
+pub image_preparing : {D St T : Type 0} (view : D → View St) (x : FormatAccess D) (d : D) (o n : ℕ) (result : Result T Error) (l : LayerBelow) → l ≡ lent_image view (backing x)
+    → (view (driver x)).abilities.is_writable ≡ true → o + n ≤ (view (driver x)).size
+    → IsUnchanged (view (driver x)) (view d) → OnErr result ((view d).pending ≡ None)
+    → CountsFaults ((view (driver x)).abilities.is_reliable && l.is_reliable) (view (driver x)).fault_count (view d).fault_count result
+    → IfErr result (allowed (lending_reasons (view (driver x)) l Operation.Write o n)) → IsPreparing view x (with_driver x d) o n result
+image_preparing {D = D} view x d o n result l h writable fits unchanged spent faults refusals =
+    let e : driver (with_driver x d) ≡ d = driver_with x d in
+    let c = subst (λ (m : LayerBelow). CountsFaults ((view (driver x)).abilities.is_reliable && m.is_reliable) (view (driver x)).fault_count (view d).fault_count result) h faults in
+    record {
+      tested = λ z g. absurd (not_failed (view (driver x)) o n writable fits z g);
+      same_size = ap (λ (y : D). (view y).size) e ∙ unchanged.framed.size;
+      unchanged = λ k. changed_image view x d (λ a b. (p : ℕ) → b p ≡ a p) (λ p. ap (shown (lent_image view (backing x)).at) (unchanged.places.same k p));
+      kept = record { below = backing_with x d; kind = subst (λ (y : D). IsKind (view (driver x)) (view y)) (sym e) unchanged.framed.kind };
+      nothing_pending = err_more result _ _ (λ s. subst (λ (y : D). (view y).pending ≡ None) (sym e) s) spent;
+      faults = subst (λ (y : D). CountsFaults (devices_reliable view x) (view (driver x)).fault_count (view y).fault_count result) (sym e) c;
+      refusals = refusals_more result _ _ (λ z k. inr k) (subst (λ (m : LayerBelow). IfErr result (allowed (lending_reasons (view (driver x)) m Operation.Write o n))) h refusals);
+    }
+
+pub failed_preparing : {D St T : Type 0} (view : D → View St) (x : FormatAccess D) (o n : ℕ) (e : Error) → FailsTest (view (driver x)) o n e → (view (driver x)).pending ≡ None → IsPreparing {T = T} view x x o n (Err e)
+failed_preparing {T = T} view x o n e f p = record {
+  tested = λ z g. (ap (λ y. Err y) (same_test (view (driver x)) o n e z f g), refl);
+  same_size = refl;
+  unchanged = λ k q. refl;
+  kept = record { below = refl; kind = record { abilities = refl; store_count = refl } };
+  nothing_pending = p;
+  faults = record { later = omega arith; reliable = λ t. refl; device = λ h. absurd (test_device {T = T} (view (driver x)) o n e f h) };
+  refusals = inl f;
+}
+
+-- what is prepared over what the driver is lent is prepared over the disk
+pub image_prepared : {D St : Type 0} (view : D → View St) (x : FormatAccess D) (d : D) (o n : ℕ) (w : Bool) (m : PreparedDataMapping St) (l : LayerBelow) → l ≡ lent_image view (backing x)
+    → IsPrepared o n w (values l.at (view (driver x)).place) (view (driver x)) (view d) m → IsPrepared o n w (disk_value view x) (view (driver x)) (view (driver (with_driver x d))) m
+image_prepared {D = D} view x d o n w m l h p =
+    let a = subst (λ (k : LayerBelow). IsPrepared o n w (values k.at (view (driver x)).place) (view (driver x)) (view d) m) h p in
+    let b = subst (λ (f : ℕ → Value). IsPrepared o n w f (view (driver x)) (view d) m) (sym (value_out view x)) a in
+    subst (λ (y : D). IsPrepared o n w (disk_value view x) (view (driver x)) (view y) m) (sym (driver_with x d)) b

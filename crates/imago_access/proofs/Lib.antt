@@ -1,0 +1,13 @@
+pub mod Chains
+pub mod Descent
+pub mod Landed
+pub mod Weaker
+pub mod ReadSteps
+pub mod Values
+pub mod Written
+pub mod Writes
+pub mod Parts
+pub mod Images
+pub mod SizeSteps
+pub mod RunSteps
+pub mod Flat

@@ -1,0 +1,22 @@
+use Rattle.std.proofs.Common.{◌≡◌, ℕ, List, [], ◌∷◌, ◌++◌, refl, sym, ap, ◌∙◌, subst, Result, Ok, Err}
+use Rattle.imago_storage.specs.declared.error.Error.{Error}
+use Rattle.imago_drivers.specs.View.{View}
+use Rattle.imago_access.specs.declared.access.FormatAccess.{FormatAccess}
+use Rattle.imago_access.specs.declared.run.Call.{Call}
+use Rattle.imago_access.specs.declared.run.Reply.{Reply}
+use Rattle.imago_access.specs.Runs.{reply_of, Answers, IsStep, IsRun}
+
+pub answers : (result : Result Unit Error) (outcome : Result Unit Error → Type 0) → outcome result → Answers (reply_of result) outcome
+answers (Ok u) outcome h = h
+answers (Err e) outcome h = h
+
+-- the reply r is that of a result with this outcome
+pub answered : (r : Reply) (result : Result Unit Error) (outcome : Result Unit Error → Type 0) → r ≡ reply_of result → outcome result → Answers r outcome
+answered r result outcome e h = rw e (answers result outcome h)
+
+-- a run goes on by one step
+pub run_more : {D St : Type 0} (view : D → View St) (old mid new : FormatAccess D) (calls : List Call) (replies : List Reply) (call : Call) (reply : Reply) → IsRun view old calls replies mid → IsStep view mid call reply new → IsRun view old (calls ++ call ∷ []) (replies ++ reply ∷ []) new
+run_more {D} view old mid new [] [] call reply h s = (new, subst (λ (x : FormatAccess D). IsStep view x call reply new) h s, refl)
+run_more view old mid new [] (r ∷ rs) call reply h s = absurd h
+run_more view old mid new (c ∷ cs) [] call reply h s = absurd h
+run_more view old mid new (c ∷ cs) (r ∷ rs) call reply h s = (h.0, h.1, run_more view h.0 mid new cs rs call reply h.2 s)

@@ -1,0 +1,137 @@
+use Rattle.std.proofs.Common.{◌≡◌, ℕ, ◌+◌, ◌<◌, ◌≤◌, ◌⊎◌, ◌&&◌, inl, inr, ⊎_elim, Bool, true, false, Option, Some, None, refl, sym, ap, ◌∙◌, subst, arith, Result, Ok, Err, min, max}
+use Rattle.std.specs.Prelude.{IsTrue, IfErr, OnOk, OnErr, IsErrOf}
+use Rattle.imago_storage.specs.declared.error.Error.{Error}
+use Rattle.imago_storage.specs.Faults.{CountsFaults}
+use Rattle.imago_drivers.specs.Operation.{Operation, Grow, Shrink, Flush}
+use Rattle.imago_drivers.specs.declared.format.PreallocateMode.{PreallocateMode}
+use Rattle.imago_drivers.specs.Place.{Value, values, shown, SamePlaces}
+use Rattle.imago_drivers.specs.LayerBelow.{LayerBelow}
+use Rattle.imago_drivers.specs.View.{View}
+use Rattle.imago_drivers.specs.Reasons.{Reasons, allowed}
+use Rattle.imago_drivers.specs.Frame.{IsKind, IsUnchanged}
+use Rattle.imago_drivers.specs.Resized.{IsGrown, IsCut, IsSameDisk, grown_into}
+use Rattle.imago_drivers.specs.Done.{lending_reasons, driver_reasons}
+use Rattle.imago_access.specs.declared.access.FormatAccess.{FormatAccess}
+use Rattle.imago_access.specs.Chain.{driver, backing, disk_value, lent_image}
+use Rattle.imago_access.specs.Lending.{with_driver}
+use Rattle.imago_access.specs.Calls.{IsKept, devices_reliable, range_refusals}
+use Rattle.imago_access.specs.Sizes.{HasGrown, HasShrunk, IsSameImage, FailsWritable, IsResize, IsFlushed}
+use Rattle.imago_access.proofs.Weaker.{IsWeaker, allowed_more}
+use Rattle.imago_access.proofs.Images.{driver_with, backing_with, changed_image}
+
+ok_then : {P Q : Type 0} (r : Result Unit Error) → (P → Q) → OnOk r P → OnOk r Q
+ok_then (Ok t) f h = f h
+ok_then (Err e) f h = tt
+
+err_then : {P Q : Type 0} (r : Result Unit Error) → (P → Q) → OnErr r P → OnErr r Q
+err_then (Ok t) f h = tt
+err_then (Err e) f h = f h
+
+refused_then : (r : Result Unit Error) (P Q : Error → Type 0) → ((e : Error) → P e → Q e) → IfErr r P → IfErr r Q
+refused_then (Ok t) P Q f h = tt
+refused_then (Err e) P Q f h = f e h
+
+module _ {D St : Type 0} (view : D → View St) (x : FormatAccess D) (d : D) where
+  -- what is so for the driver is so for the image with it
+  pub with : (P : D → Type 0) → P d → P (driver (with_driver x d))
+  with P h = subst P (sym (driver_with x d)) h
+
+  pub kept_with : IsKind (view (driver x)) (view d) → IsKept view x (with_driver x d)
+  kept_with h = record { below = backing_with x d; kind = with (λ (y : D). IsKind (view (driver x)) (view y)) h }
+
+  same_values : SamePlaces (view (driver x)).abilities.keeps_data (view (driver x)).place (view d).place → IsTrue (view (driver x)).abilities.keeps_data → (p : ℕ) → disk_value view (with_driver x d) p ≡ disk_value view x p
+  same_values h k = changed_image view x d (λ a b. (p : ℕ) → b p ≡ a p) (λ p. ap (shown (lent_image view (backing x)).at) (h.same k p))
+
+  pub same_image : (view d).size ≡ (view (driver x)).size → SamePlaces (view (driver x)).abilities.keeps_data (view (driver x)).place (view d).place → IsSameImage view x (with_driver x d)
+  same_image s h = record { size = with (λ (y : D). (view y).size ≡ (view (driver x)).size) s; values = same_values h }
+
+  pub grown_image : (mode : PreallocateMode) (n : ℕ) → IsGrown mode (lent_image view (backing x)).at n (view (driver x)) (view d) → HasGrown view mode n x (with_driver x d)
+  grown_image mode n h = record {
+    size = with (λ (y : D). (view y).size ≡ max (view (driver x)).size n) h.size;
+    stays = λ k. changed_image view x d (λ a b. (p : ℕ) → p < (view (driver x)).size → b p ≡ a p) (h.kept k);
+    added = λ k. changed_image view x d (λ a b. (p : ℕ) → (view (driver x)).size ≤ p → p < n → grown_into mode (view (driver x)).abilities.takes_backing (lent_image view (backing x)).at p (b p)) (h.added k);
+  }
+
+  pub cut_image : (n : ℕ) → IsCut n (view (driver x)) (view d) → HasShrunk view n x (with_driver x d)
+  cut_image n h = record {
+    size = with (λ (y : D). (view y).size ≡ min (view (driver x)).size n) h.size;
+    stays = λ k p lt.
+        let s : (view (driver (with_driver x d))).size ≡ (view d).size = ap (λ (y : D). (view y).size) (driver_with x d) in
+        changed_image view x d (λ a b. (q : ℕ) → q < (view d).size → b q ≡ a q) (λ q i. h.kept k (lent_image view (backing x)).at q i) p (omega arith);
+  }
+
+  pub resized_image : (op : Operation) (n : ℕ) (effect : Type 0) (result : Result Unit Error) → (view (driver x)).abilities.is_writable ≡ true
+      → OnOk result effect → OnErr result (IsSameDisk (view (driver x)) (view d)) → IsKind (view (driver x)) (view d)
+      → CountsFaults (devices_reliable view x) (view (driver x)).fault_count (view d).fault_count result
+      → IfErr result (allowed (record (range_refusals view x op n 0) { beyond_disk = ⊥ })) → IsResize view op n effect x (with_driver x d) result
+  resized_image op n effect result w done same kind faults refusals = record {
+    tested = λ e f. absurd (let y = sym w ∙ f.1 in cc);
+    done = done;
+    unchanged = err_then result (λ h. same_image h.size h.places) same;
+    kept = kept_with kind;
+    faults = with (λ (y : D). CountsFaults (devices_reliable view x) (view (driver x)).fault_count (view y).fault_count result) faults;
+    refusals = refused_then result _ _ (λ e h. inr h) refusals;
+  }
+
+  pub flushed_image : (result : Result Unit Error) → IsUnchanged (view (driver x)) (view d) → (view d).pending ≡ (view (driver x)).pending
+      → CountsFaults (view (driver x)).abilities.is_reliable (view (driver x)).fault_count (view d).fault_count result
+      → IfErr result (allowed (driver_reasons (view (driver x)) Flush 0 0)) → IsFlushed view x (with_driver x d) result
+  flushed_image result h p faults refusals = record {
+    unchanged = same_image h.framed.size h.places;
+    kept = kept_with h.framed.kind;
+    pending = with (λ (y : D). (view y).pending ≡ (view (driver x)).pending) p;
+    faults = with (λ (y : D). CountsFaults (view (driver x)).abilities.is_reliable (view (driver x)).fault_count (view y).fault_count result) faults;
+    refusals = refusals;
+  }
+
+-- a resize of an image that isn't writable
+pub read_only_resize : {D St : Type 0} (view : D → View St) (x : FormatAccess D) (op : Operation) (n : ℕ) (effect : Type 0) (e : Error) → FailsWritable (view (driver x)) e → IsResize view op n effect x x (Err e)
+read_only_resize view x op n effect e w = record {
+  tested = λ z f. (ap (λ y. Err y) (w.0 ∙ sym f.0), refl);
+  done = tt;
+  unchanged = record { size = refl; values = λ k p. refl };
+  kept = record { below = refl; kind = record { abilities = refl; store_count = refl } };
+  faults = record { later = omega arith; reliable = λ t. refl; device = λ h. let y = w.0 in let z : ⊥ = cc in absurd z };
+  refusals = inl w;
+}
+
+grow_weaker : {D St : Type 0} (view : D → View St) (x : FormatAccess D) (l : LayerBelow) → l ≡ lent_image view (backing x) → (op : Operation) (n : ℕ) (e : Error)
+    → allowed (record (lending_reasons (view (driver x)) l op n 0) { beyond_disk = ⊥ }) e → allowed (record (range_refusals view x op n 0) { beyond_disk = ⊥ }) e
+grow_weaker view x l h op n e c = subst (λ (m : LayerBelow). allowed (record (lending_reasons (view (driver x)) m op n 0) { beyond_disk = ⊥ }) e) h c
+
+-- a growth by the driver, over what it is lent
+pub grow_image : {D St : Type 0} (view : D → View St) (x : FormatAccess D) (d : D) (l : LayerBelow) → l ≡ lent_image view (backing x) → (mode : PreallocateMode) (n : ℕ) (result : Result Unit Error) → (view (driver x)).abilities.is_writable ≡ true
+    → OnOk result (IsGrown mode l.at n (view (driver x)) (view d)) → OnErr result (IsSameDisk (view (driver x)) (view d)) → IsKind (view (driver x)) (view d)
+    → CountsFaults ((view (driver x)).abilities.is_reliable && l.is_reliable) (view (driver x)).fault_count (view d).fault_count result
+    → IfErr result (allowed (record (lending_reasons (view (driver x)) l (Grow mode) n 0) { beyond_disk = ⊥ })) → IsResize view (Grow mode) n (HasGrown view mode n x (with_driver x d)) x (with_driver x d) result
+grow_image view x d l h mode n result w grown same kind faults refusals =
+    resized_image view x d (Grow mode) n _ result w
+    (ok_then result (λ g. grown_image view x d mode n (subst (λ (m : LayerBelow). IsGrown mode m.at n (view (driver x)) (view d)) h g)) grown)
+    same kind
+    (subst (λ (m : LayerBelow). CountsFaults ((view (driver x)).abilities.is_reliable && m.is_reliable) (view (driver x)).fault_count (view d).fault_count result) h faults)
+    (refused_then result _ _ (grow_weaker view x l h (Grow mode) n) refusals)
+
+-- a driver's own refusal is one of the image
+pub shrink_image : {D St : Type 0} (view : D → View St) (x : FormatAccess D) (d : D) (n : ℕ) (result : Result Unit Error) → (view (driver x)).abilities.is_writable ≡ true
+    → OnOk result (IsCut n (view (driver x)) (view d)) → OnErr result (IsSameDisk (view (driver x)) (view d)) → IsKind (view (driver x)) (view d)
+    → CountsFaults (view (driver x)).abilities.is_reliable (view (driver x)).fault_count (view d).fault_count result
+    → IfErr result (allowed (driver_reasons (view (driver x)) Shrink n 0)) → IsResize view Shrink n (HasShrunk view n x (with_driver x d)) x (with_driver x d) result
+shrink_image view x d n result w cut same kind faults refusals =
+    resized_image view x d Shrink n _ result w (ok_then result (cut_image view x d n) cut) same kind
+    (record { later = faults.later; reliable = λ t. faults.reliable (and_left _ _ t); device = faults.device })
+    (refused_then result _ _ (λ e h. allowed_more _ _ weaker e h) refusals)
+  where
+    and_left : (a b : Bool) → IsTrue (a && b) → IsTrue a
+    and_left true b h = refl
+    and_left false b h = h
+
+    weaker : IsWeaker (driver_reasons (view (driver x)) Shrink n 0) (record (range_refusals view x Shrink n 0) { beyond_disk = ⊥ })
+    weaker = record {
+      read_only = λ h. h;
+      beyond_disk = λ h. h;
+      range_overflow = λ h. h;
+      cause = λ e c. inl c;
+      device = λ h. h;
+      memory = λ h. h;
+      foreign_mapping = λ h. h;
+    }

@@ -1,0 +1,36 @@
+use Rattle.std.proofs.Common.{arith, sym, ap, ◌∙◌, ◌≡◌, ◌+◌, Some}
+use Rattle.std.proofs.lemmas.Result.{err_from_is_err_and}
+use Rattle.imago_access.specs.Chain.{driver, backing, unboxed}
+use Rattle.imago_access.proofs.Chains.{no_memory_here}
+use Rattle.imago_access.proofs.Descent.{step_down, cut_short}
+use Rattle.imago_access.proofs.Landed.{descent_refused, descent_unreadable, refused_some}
+use Rattle.imago_access.proofs.access.FormatAccess.descend.Goals as goal
+
+pub loop-mapping-preserved : goal.loop-mapping-preserved
+loop-mapping-preserved g c =
+    let v = g.D.FormatDriverInstance.view in
+    let l = c.loop-mapping in
+    let r = c.in_ok-mapping in
+    let below : backing l.layer.now ≡ Some c.deref-layer.result.now = ap unboxed c.in-Some.is ∙ ap Some (sym c.deref-layer.ensures) in
+    let down = step_down v c.args.self.now c.args.offset c.args.max_length l.layer.now l.invariant.hops l.way.offset l.way.length l.way.writable l.invariant.leads r.mapping r.count r.ensures.part c.deref-layer.result.now c.in-Indirect.offset c.in-Indirect.writable below c.in-Indirect.is (λ h. r.ensures.whole (no_memory_here v l.layer.now l.way.offset l.way.length h)) in
+    record {
+      hops = l.invariant.hops + 1;
+      depth = let a = l.invariant.depth in let b = c.below-way.ensures.depth in omega arith;
+      leads = rw (c.below-way.ensures.offset, c.below-way.ensures.length, c.below-way.ensures.writable) down;
+    }
+
+pub returns-in_err-mapping-clause-refusals : goal.returns-in_err-mapping-clause-refusals
+returns-in_err-mapping-clause-refusals g c =
+    let p = err_from_is_err_and c.from_residual.result c.from_residual.ensures.1 in
+    let l = c.loop-mapping in
+    rw (p.1, p.2) (descent_refused g.D.FormatDriverInstance.view c.args.self.now c.args.offset c.args.max_length l.layer.now l.invariant.hops l.way.offset l.way.length l.way.writable l.invariant.leads g.met.D.FormatDriverInstance.causes_lawful c.in_err-mapping.field-0.0 c.in_err-mapping.ensures.refusals)
+
+pub returns-in_err-mapping-clause-refused_place : goal.returns-in_err-mapping-clause-refused_place
+returns-in_err-mapping-clause-refused_place g c =
+    let p = err_from_is_err_and c.from_residual.result c.from_residual.ensures.1 in
+    let v = g.D.FormatDriverInstance.view in
+    let l = c.loop-mapping in
+    let e = c.in_err-mapping.field-0.0 in
+    rw (p.1, p.2) (λ h. descent_unreadable v c.args.self.now c.args.offset c.args.max_length l.layer.now l.invariant.hops l.way.offset l.way.length l.way.writable l.invariant.leads e
+    (refused_some v c.args.self.now c.args.offset c.args.max_length l.layer.now l.invariant.hops l.way.offset l.way.length l.way.writable l.invariant.leads g.met.D.FormatDriverInstance.causes_lawful e c.in_err-mapping.ensures.refusals h)
+    (c.in_err-mapping.ensures.refused_place h))

@@ -1,0 +1,17 @@
+use Rattle.std.proofs.Common.{◌≡◌, ℕ, ◌+◌, ◌-◌, ◌<◌, ◌≤◌, ◌⊎◌, List, length, take}
+use Rattle.imago_drivers.specs.Place.{HasValues}
+use Rattle.imago_access.specs.Chain.{disk_value, chain_no_memory}
+use Rattle.imago_access.proofs.access.FormatAccess.read_range.Given as goal
+
+abbrev pub invariant-loop-done : goal.invariant-loop-done
+invariant-loop-done g l =
+    let view = g.D.FormatDriverInstance.view in
+    record {
+      within : l.done ≤ l.inside;
+      bounded : l.inside ≤ length l.buf;
+      values : HasValues (disk_value view l.self) l.offset (take l.done l.buf);
+      once : chain_no_memory view l.self l.offset l.inside → (l.done ≡ 0) ⊎ (l.done ≡ l.inside);
+    }
+
+abbrev pub decreases-loop-done : goal.decreases-loop-done
+decreases-loop-done g l = l.inside - l.done

@@ -1,0 +1,24 @@
+use Rattle.std.proofs.Common.{arith, length, ◌≡◌}
+use Rattle.std.proofs.lemmas.Result.{err_from_is_err_and}
+use Rattle.imago_drivers.specs.LayerBelow.{lent}
+use Rattle.imago_access.proofs.Writes.{nothing_written, wrote_next, refused_next, all_written}
+use Rattle.imago_access.proofs.write.write_all.Goals as goal
+
+pub loop-done-init : goal.loop-done-init
+loop-done-init g c = nothing_written g.D.FormatDriverInstance.view (lent g.B.LowerLayer.as_layer_below c.args.below) c.args.inner.now c.args.offset c.args.source.now (g.met.D.FormatDriverInstance.causes_lawful c.args.inner.now) c.requires.spent
+
+pub loop-done-preserved : goal.loop-done-preserved
+loop-done-preserved g c = wrote_next g.D.FormatDriverInstance.view (lent g.B.LowerLayer.as_layer_below c.args.below) c.args.inner.now c.args.offset c.args.source.now c.loop-done.inner c.write_first.new.inner c.loop-done.done c.loop-done.invariant c.in_ok-done.field-0 c.in_ok-done.ensures
+
+pub returns-in_err-done : goal.returns-in_err-done
+returns-in_err-done g c =
+    let p = err_from_is_err_and c.from_residual.result c.from_residual.ensures.1 in
+    rw (p.1, p.2) (refused_next g.D.FormatDriverInstance.view (lent g.B.LowerLayer.as_layer_below c.args.below) c.args.inner.now c.args.offset c.args.source.now c.loop-done.inner c.write_first.new.inner c.loop-done.done c.loop-done.invariant c.in_err-done.field-0.0 c.loop-done-test.true c.in_err-done.ensures)
+
+pub returns : goal.returns
+returns g c =
+    let e : c.loop-done.done ≡ length c.args.source.now = omega (arith, c.loop-done.invariant.within) in
+    all_written g.D.FormatDriverInstance.view (lent g.B.LowerLayer.as_layer_below c.args.below) c.args.inner.now c.args.offset c.args.source.now c.loop-done.inner c.loop-done.done e c.loop-done.invariant
+
+pub overflow_add-offset : goal.overflow_add-offset
+overflow_add-offset g c = omega (arith, c.loop-done.invariant.within)

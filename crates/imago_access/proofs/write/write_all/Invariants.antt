@@ -1,0 +1,10 @@
+use Rattle.std.proofs.Common.{◌≡◌, ℕ, ◌-◌, length}
+use Rattle.imago_drivers.specs.LayerBelow.{lent}
+use Rattle.imago_access.proofs.Writes.{IsWritingOn}
+use Rattle.imago_access.proofs.write.write_all.Given as goal
+
+abbrev pub invariant-loop-done : goal.invariant-loop-done
+invariant-loop-done g l = IsWritingOn g.D.FormatDriverInstance.view (lent g.B.LowerLayer.as_layer_below l.below) l.fn.inner l.inner l.offset l.source l.done
+
+abbrev pub decreases-loop-done : goal.decreases-loop-done
+decreases-loop-done g l = length l.source - l.done

@@ -1,0 +1,13 @@
+pub mod Chain
+pub mod Text
+pub mod Target
+pub mod Resolved
+pub mod Ways
+pub mod Named
+pub mod Writing
+pub mod Calls
+pub mod Sizes
+pub mod Runs
+pub mod Disk
+pub mod Lending
+pub mod ChainLaws

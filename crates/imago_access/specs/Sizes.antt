@@ -1,0 +1,55 @@
+use Rattle.std.specs.Prelude.{◌≡◌, ℕ, ◌<◌, ◌≤◌, ◌⊎◌, Bool, false, min, max, IsTrue, Result, IfErr, OnOk, OnErr, IsErrOf}
+use Rattle.imago_storage.specs.declared.error.Error.{Error}
+use Rattle.imago_storage.specs.Faults.{CountsFaults}
+use Rattle.imago_drivers.specs.Operation.{Operation, Grow, Shrink, Flush}
+use Rattle.imago_drivers.specs.declared.format.PreallocateMode.{PreallocateMode}
+use Rattle.imago_drivers.specs.Reasons.{allowed}
+use Rattle.imago_drivers.specs.View.{View}
+use Rattle.imago_drivers.specs.Resized.{grown_into}
+use Rattle.imago_drivers.specs.Done.{driver_reasons}
+use Rattle.imago_access.specs.declared.access.FormatAccess.{FormatAccess}
+use Rattle.imago_access.specs.Chain.{driver, backing, disk_value, lent_image}
+use Rattle.imago_access.specs.Calls.{IsKept, devices_reliable, range_refusals}
+
+-- A growth: the size is the larger one, old bytes stay, and new ones are what the mode says, over the layer below.
+pub record HasGrown {D St : Type 0} (view : D → View St) (mode : PreallocateMode) (new_size : ℕ) (old new : FormatAccess D) : Type 0 where
+  pub size : (view (driver new)).size ≡ max (view (driver old)).size new_size
+  pub stays : IsTrue (view (driver old)).abilities.keeps_data → (p : ℕ) → p < (view (driver old)).size → disk_value view new p ≡ disk_value view old p
+  pub added : IsTrue (view (driver old)).abilities.keeps_data → (p : ℕ) → (view (driver old)).size ≤ p → p < new_size
+      → grown_into mode (view (driver old)).abilities.takes_backing (lent_image view (backing old)).at p (disk_value view new p)
+
+-- A cut: the size is the smaller one, and the bytes below it stay.
+pub record HasShrunk {D St : Type 0} (view : D → View St) (new_size : ℕ) (old new : FormatAccess D) : Type 0 where
+  pub size : (view (driver new)).size ≡ min (view (driver old)).size new_size
+  pub stays : IsTrue (view (driver old)).abilities.keeps_data → (p : ℕ) → p < (view (driver new)).size → disk_value view new p ≡ disk_value view old p
+
+-- The disk is as it was.
+pub record IsSameImage {D St : Type 0} (view : D → View St) (old new : FormatAccess D) : Type 0 where
+  pub size : (view (driver new)).size ≡ (view (driver old)).size
+  pub values : IsTrue (view (driver old)).abilities.keeps_data → (p : ℕ) → disk_value view new p ≡ disk_value view old p
+
+-- the test of a resize
+abbrev pub FailsWritable : {St : Type 0} → View St → Error → Type 0
+FailsWritable v e = (e ≡ Error.ReadOnly) × (v.abilities.is_writable ≡ false)
+
+-- A resize: what holds where it succeeds; refused, the disk is as it was.
+pub record IsResize {D St : Type 0} (view : D → View St) (op : Operation) (new_size : ℕ) (effect : Type 0) (old new : FormatAccess D) (result : Result Unit Error) : Type 0 where
+  pub tested : (e : Error) → FailsWritable (view (driver old)) e → IsErrOf result e × (new ≡ old)
+  pub done : OnOk result effect
+  pub unchanged : OnErr result (IsSameImage view old new)
+  pub kept : IsKept view old new
+  pub faults : CountsFaults (devices_reliable view old) (view (driver old)).fault_count (view (driver new)).fault_count result
+  pub refusals : IfErr result (λ e. FailsWritable (view (driver old)) e ⊎ allowed (record (range_refusals view old op new_size 0) { beyond_disk = ⊥ }) e)
+
+-- A resize to a size: a cut where it is smaller, else a growth.
+pub record IsResizeTo {D St : Type 0} (view : D → View St) (new_size : ℕ) (mode : PreallocateMode) (old new : FormatAccess D) (result : Result Unit Error) : Type 0 where
+  pub cut : new_size < (view (driver old)).size → IsResize view Shrink new_size (HasShrunk view new_size old new) old new result
+  pub grown : (view (driver old)).size ≤ new_size → IsResize view (Grow mode) new_size (HasGrown view mode new_size old new) old new result
+
+-- A flush, a sync, or an invalidation of caches: no byte changes, at any result.
+pub record IsFlushed {D St : Type 0} (view : D → View St) (old new : FormatAccess D) (result : Result Unit Error) : Type 0 where
+  pub unchanged : IsSameImage view old new
+  pub kept : IsKept view old new
+  pub pending : (view (driver new)).pending ≡ (view (driver old)).pending
+  pub faults : CountsFaults (view (driver old)).abilities.is_reliable (view (driver old)).fault_count (view (driver new)).fault_count result
+  pub refusals : IfErr result (allowed (driver_reasons (view (driver old)) Flush 0 0))

@@ -1,0 +1,16 @@
+//! Images over chains of layers.
+//!
+//! An [`access::FormatAccess`] has a driver and, below it, another image that the driver may refer to, and so on to any
+//! depth. It maps, reads and writes the disk that the whole chain shows. [`run::run`] makes a list of calls on it.
+#![tactic(auto)]
+
+pub mod access;
+mod chain;
+mod flush;
+pub mod laws;
+pub mod mapping;
+mod prepare;
+mod read;
+mod resize;
+pub mod run;
+mod write;

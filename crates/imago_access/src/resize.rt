@@ -1,0 +1,75 @@
+//! Resizing an image.
+ghost use Rattle.std.specs.Prelude.{◌≡◌, None, true, IfErr, OnOk};
+ghost use Rattle.imago_drivers.specs.Operation.{Grow, Shrink};
+ghost use Rattle.imago_access.specs.Chain.{driver};
+ghost use Rattle.imago_access.specs.Sizes.{FailsWritable, IsResize, IsResizeTo, HasGrown, HasShrunk};
+
+use crate::access::{FormatAccess, below};
+use imago_drivers::drivers::{FormatDriverInstance, PreallocateMode};
+use imago_storage::error::Error;
+use std::alloc::Global;
+
+impl<D: FormatDriverInstance> FormatAccess<D> {
+    /// The test of a resize: the driver is writable.
+    fn test_writable(&self) -> Result<(), Error>
+        ensures passed { OnOk result ((D.view (driver self.now)).abilities.is_writable ≡ true) }
+        ensures failed { IfErr result (FailsWritable (D.view (driver self.now))) }
+    {
+        if !self.inner.writable() {
+            return Err(Error::ReadOnly);
+        }
+        Ok(())
+    }
+
+    /// Grows the disk to that size in bytes, with new bytes as the mode says. It does nothing where the disk is as large
+    /// already.
+    ///
+    /// [`Error::ReadOnly`] where the driver isn't writable. Refused, nothing changed.
+    pub fn resize_grow(
+        &mut self,
+        alloc: Global,
+        new_size: u64,
+        mode: PreallocateMode,
+    ) -> Result<(), Error>
+        requires { (D.view (driver self.old)).pending ≡ None }
+        ensures resized { IsResize D.view (Grow mode) new_size (HasGrown D.view mode new_size self.old self.new)
+            self.old self.new result }
+        ensures nothing_pending { (D.view (driver self.new)).pending ≡ None }
+    {
+        self.test_writable()?;
+        let lower = below(&self.backing);
+        self.inner.resize_grow(alloc, lower, new_size, mode)
+    }
+
+    /// Cuts the disk to that size in bytes. It does nothing where the disk is as small already.
+    ///
+    /// [`Error::ReadOnly`] where the driver isn't writable. Refused, nothing changed.
+    pub fn resize_shrink(&mut self, new_size: u64) -> Result<(), Error>
+        requires { (D.view (driver self.old)).pending ≡ None }
+        ensures resized { IsResize D.view Shrink new_size (HasShrunk D.view new_size self.old self.new) self.old
+            self.new result }
+        ensures nothing_pending { (D.view (driver self.new)).pending ≡ None }
+    {
+        self.test_writable()?;
+        self.inner.resize_shrink(new_size)
+    }
+
+    /// Cuts the disk to that size in bytes, or grows it to that size, with new bytes as the mode says.
+    ///
+    /// [`Error::ReadOnly`] where the driver isn't writable. Refused, nothing changed.
+    pub fn resize(
+        &mut self,
+        alloc: Global,
+        new_size: u64,
+        mode: PreallocateMode,
+    ) -> Result<(), Error>
+        requires { (D.view (driver self.old)).pending ≡ None }
+        ensures resized { IsResizeTo D.view new_size mode self.old self.new result }
+        ensures nothing_pending { (D.view (driver self.new)).pending ≡ None }
+    {
+        if new_size < self.size() {
+            return self.resize_shrink(new_size);
+        }
+        self.resize_grow(alloc, new_size, mode)
+    }
+}

@@ -1,0 +1,180 @@
+//! Lists of calls on an image.
+ghost use Rattle.std.specs.Prelude.{◌≡◌, ◌++◌, List, length, None, IfOk, IfErr, OnOk, OnErr};
+ghost use Rattle.imago_access.specs.declared.run.Reply.{Reply};
+ghost use Rattle.imago_drivers.specs.Place.{HasValues};
+ghost use Rattle.imago_drivers.specs.Reasons.{allowed};
+ghost use Rattle.imago_access.specs.Chain.{driver, disk_value};
+ghost use Rattle.imago_access.specs.Runs.{reply_of, buffer_reasons, IsStep, IsRun};
+
+use crate::access::FormatAccess;
+use crate::mapping::Mapping;
+use imago_drivers::drivers::{FormatDriverInstance, PreallocateMode};
+use imago_storage::error::Error;
+use std::alloc::Global;
+
+/// A call on an image. Offsets, lengths and sizes are in bytes.
+#[derive(Drop)]
+pub enum Call {
+    /// [`FormatAccess::read`], into a buffer of that length.
+    Read {
+        /// Where to read from.
+        offset: u64,
+        /// How much to read.
+        length: u64,
+    },
+    /// [`FormatAccess::write`].
+    Write {
+        /// Where to write to.
+        offset: u64,
+        /// What to write.
+        bytes: Vec<u8>,
+    },
+    /// [`FormatAccess::resize`].
+    Resize {
+        /// The new size.
+        size: u64,
+        /// What new bytes show.
+        mode: PreallocateMode,
+    },
+    /// [`FormatAccess::resize_grow`].
+    ResizeGrow {
+        /// The new size.
+        size: u64,
+        /// What new bytes show.
+        mode: PreallocateMode,
+    },
+    /// [`FormatAccess::resize_shrink`].
+    ResizeShrink {
+        /// The new size.
+        size: u64,
+    },
+    /// [`FormatAccess::get_mapping`].
+    GetMapping {
+        /// Where the range begins.
+        offset: u64,
+        /// How long it is at most.
+        max_length: u64,
+    },
+    /// [`FormatAccess::size`].
+    Size,
+    /// [`FormatAccess::flush`].
+    Flush,
+    /// [`FormatAccess::sync`].
+    Sync,
+    /// [`FormatAccess::invalidate_cache`].
+    InvalidateCache,
+}
+
+/// The reply to a call.
+#[derive(Drop)]
+pub enum Reply {
+    /// It succeeded, and answers nothing.
+    Done,
+    /// The bytes that were read.
+    Data(Vec<u8>),
+    /// The size.
+    Size(u64),
+    /// What a range is.
+    Mapped {
+        /// What the range is.
+        mapping: Mapping,
+        /// How long it is.
+        length: u64,
+    },
+    /// It was refused.
+    Refused(Error),
+}
+
+/// The reply to a call that answers nothing.
+fn done_or_refused(outcome: Result<(), Error>) -> Reply
+    ensures { result ≡ reply_of outcome }
+{
+    match outcome {
+        Ok(()) => Reply::Done,
+        Err(error) => Reply::Refused(error),
+    }
+}
+
+/// A buffer of that many zeroes.
+fn zeroes(alloc: Global, count: usize) -> Result<Vec<u8>, Error>
+    ensures buffer { IfOk result (λ v. length v.items ≡ count) }
+    ensures memory { IfErr result (λ e. e ≡ Error.Memory) }
+{
+    let mut bytes = Vec::new(alloc);
+    match bytes.resize(count, 0) {
+        Ok(()) => Ok(bytes),
+        Err(_) => Err(Error::Memory),
+    }
+}
+
+/// Reads into a buffer of its own.
+fn read_bytes<D: FormatDriverInstance>(
+    alloc: Global,
+    image: &FormatAccess<D>,
+    offset: u64,
+    count: u64,
+) -> Result<Vec<u8>, Error>
+    ensures bytes { IfOk result
+        (λ v. (length v.items ≡ count) × HasValues (disk_value D.view image.now) offset v.items) }
+    ensures refusals { IfErr result (allowed (buffer_reasons D.view image.now offset count)) }
+{
+    let mut bytes = zeroes(alloc, count as usize)?;
+    image.read(alloc, &mut bytes, offset)?;
+    Ok(bytes)
+}
+
+/// Makes one call, and answers its reply.
+fn step<D: FormatDriverInstance>(alloc: Global, image: &mut FormatAccess<D>, call: &Call) -> Reply
+    requires { (D.view (driver image.old)).pending ≡ None }
+    ensures step { IsStep D.view image.old call.now result image.new }
+    ensures spent { (D.view (driver image.new)).pending ≡ None }
+{
+    match call {
+        Call::Read { offset, length } => match read_bytes(alloc, image, *offset, *length) {
+            Ok(bytes) => Reply::Data(bytes),
+            Err(error) => Reply::Refused(error),
+        },
+        Call::GetMapping { offset, max_length } => match image.get_mapping(*offset, *max_length) {
+            Ok((mapping, length)) => Reply::Mapped { mapping, length },
+            Err(error) => Reply::Refused(error),
+        },
+        Call::Size => Reply::Size(image.size()),
+        Call::Write { offset, bytes } => done_or_refused(image.write(alloc, bytes, *offset)),
+        Call::Resize { size, mode } => done_or_refused(image.resize(alloc, *size, *mode)),
+        Call::ResizeGrow { size, mode } => done_or_refused(image.resize_grow(alloc, *size, *mode)),
+        Call::ResizeShrink { size } => done_or_refused(image.resize_shrink(*size)),
+        Call::Flush => done_or_refused(image.flush()),
+        Call::Sync => done_or_refused(image.sync()),
+        Call::InvalidateCache => done_or_refused(image.invalidate_cache()),
+    }
+}
+
+/// Makes the calls in order, and appends one reply for each. A refused call is a reply too, and the run goes on.
+///
+/// Room for all replies is taken first: [`Error::Memory`] where there is none, and then nothing changed.
+pub fn run<D: FormatDriverInstance>(
+    alloc: Global,
+    image: &mut FormatAccess<D>,
+    calls: &[Call],
+    replies: &mut Vec<Reply>,
+) -> Result<(), Error>
+    requires { (D.view (driver image.old)).pending ≡ None }
+    ensures run { OnOk result
+        ((rs : List Reply) × (replies.new.items ≡ replies.old.items ++ rs) × IsRun D.view
+        image.old calls.now rs image.new) }
+    ensures refused { OnErr result ((replies.new.items ≡ replies.old.items) × (image.new ≡ image.old)) }
+    ensures memory { IfErr result (λ e. e ≡ Error.Memory) }
+    ensures spent { (D.view (driver image.new)).pending ≡ None }
+{
+    if replies.reserve(calls.len()).is_err() {
+        return Err(Error::Memory);
+    }
+    for call in calls {
+        let reply = step(alloc, image, call);
+        match replies.push(reply) {
+            Ok(()) => {}
+            Err(_) => unreachable!(),
+        }
+    }
+    Ok(())
+}

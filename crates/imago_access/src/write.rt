@@ -1,0 +1,96 @@
+//! Writing to an image.
+ghost use Rattle.std.specs.Prelude.{◌≡◌, ◌+◌, ◌^◌, ◌<◌, ◌≤◌, None, true, length};
+ghost use Rattle.imago_drivers.specs.LayerBelow.{lent};
+ghost use Rattle.imago_access.specs.Chain.{driver};
+ghost use Rattle.imago_access.specs.Calls.{IsTested, IsWrite};
+ghost use Rattle.imago_access.specs.Writing.{HasWritten, HasWrittenAll};
+
+use crate::access::{FormatAccess, below};
+use imago_drivers::drivers::FormatDriverInstance;
+use imago_drivers::layer::LowerLayer;
+use imago_storage::error::Error;
+use std::alloc::Global;
+
+/// Writes the first bytes of a range, as many as one mapping holds, and answers how many these are.
+fn write_first<D: FormatDriverInstance, B: LowerLayer>(
+    inner: &mut D,
+    alloc: Global,
+    below: Option<&B>,
+    source: &[u8],
+    offset: u64,
+) -> Result<usize, Error>
+    requires some { 0 < length source.now }
+    requires writable { (D.view inner.old).abilities.is_writable ≡ true }
+    requires spent { (D.view inner.old).pending ≡ None }
+    requires inside { offset + length source.now ≤ (D.view inner.old).size }
+    ensures { HasWritten (lent B.as_layer_below below.entry) (D.view inner.old) (D.view inner.new) offset
+        source.now result }
+{
+    let mapping = inner.prepare_data_mapping(alloc, below, offset, source.len() as u64, true)?;
+    let count = mapping.length() as usize;
+    if let Err(error) = inner.write_prepared(alloc, &mapping, &source[..count], 0) {
+        inner.cancel_data_mapping(mapping);
+        return Err(error);
+    }
+    inner.commit_data_mapping(mapping)?;
+    Ok(count)
+}
+
+/// Writes a range, mapping after mapping.
+fn write_all<D: FormatDriverInstance, B: LowerLayer>(
+    inner: &mut D,
+    alloc: Global,
+    below: Option<&B>,
+    source: &[u8],
+    offset: u64,
+) -> Result<(), Error>
+    requires writable { (D.view inner.old).abilities.is_writable ≡ true }
+    requires spent { (D.view inner.old).pending ≡ None }
+    requires inside { offset + length source.now ≤ (D.view inner.old).size }
+    requires fits { offset + length source.now < 2 ^ 64 }
+    ensures { HasWrittenAll (lent B.as_layer_below below.entry) (D.view inner.old) (D.view inner.new) offset
+        source.now result }
+{
+    let mut done: usize = 0;
+    while done < source.len() {
+        done += write_first(inner, alloc, below, &source[done..], offset + done as u64)?;
+    }
+    Ok(())
+}
+
+impl<D: FormatDriverInstance> FormatAccess<D> {
+    /// The tests of a changing call on a range, in their order: the driver is writable, and the range lies in the disk.
+    pub(crate) fn test_range(&self, offset: u64, count: u64) -> Result<(), Error>
+        ensures { IsTested (D.view (driver self.now)) offset count result }
+    {
+        if !self.inner.writable() {
+            return Err(Error::ReadOnly);
+        }
+        let size = self.inner.size();
+        if offset > size || count > size - offset {
+            return Err(Error::BeyondDisk);
+        }
+        Ok(())
+    }
+
+    /// Writes the bytes at the offset. Nothing below the top layer changes.
+    ///
+    /// [`Error::ReadOnly`] where the driver isn't writable, then [`Error::BeyondDisk`] where the range passes the
+    /// disk's size, also for no bytes; nothing changed. Any other refusal leaves each byte of the range old or new, and
+    /// all others as they were.
+    pub fn write(&mut self, alloc: Global, source: &[u8], offset: u64) -> Result<(), Error>
+        requires { (D.view (driver self.old)).pending ≡ None }
+        ensures { IsWrite D.view self.old self.new offset source.now result }
+    {
+        self.test_range(offset, source.len() as u64)?;
+        write_all(&mut self.inner, alloc, below(&self.backing), source, offset)
+    }
+
+    /// The same as [`write`](Self::write).
+    pub fn writev(&mut self, alloc: Global, source: &[u8], offset: u64) -> Result<(), Error>
+        requires { (D.view (driver self.old)).pending ≡ None }
+        ensures { IsWrite D.view self.old self.new offset source.now result }
+    {
+        self.write(alloc, source, offset)
+    }
+}
