@@ -81,13 +81,13 @@ module _ {St : Type 0} (old mid new : View St) (below : ℕ → Value) (o n : �
         let own = a.2 in
         let start : q.start ≡ o = a.3 in
         let round : ShowsRound (values below old.place) (Some q) = rw (a.1) at (P.round keeps) in
-        let D1 = D.1 mid_keeps below (λ p h i j. same_value p ∙ round p h i j) in
-        let D2 : (k : ℕ) → k < m.length → (values below new.place (o + k) ≡ Byte (q.bytes (o + k))) ⊎ ((torn ≡ true) × (values below new.place (o + k) ≡ values below mid.place (o + k)))
-        = λ k h. let l : k < q.length = omega (arith, own.2) in rw start at (D1.inside k l) in
+        let changed = D.1 mid_keeps below (λ p h i j. same_value p ∙ round p h i j) in
+        let changed_here : (k : ℕ) → k < m.length → (values below new.place (o + k) ≡ Byte (q.bytes (o + k))) ⊎ ((torn ≡ true) × (values below new.place (o + k) ≡ values below mid.place (o + k)))
+        = λ k h. let l : k < q.length = omega (arith, own.2) in rw start at (changed.inside k l) in
         record {
-          inside = λ k h. part torn w q k (λ f. a.4 keeps f (o + k) (omega arith, omega arith)) (D2 k h);
-          before = λ p h. D1.before p (rw start h) ∙ same_value p;
-          behind = λ p h. let l : q.start + q.length ≤ p = omega (arith, own.2, start) in D1.behind p l ∙ same_value p;
+          inside = λ k h. part torn w q k (λ f. a.4 keeps f (o + k) (omega arith, omega arith)) (changed_here k h);
+          before = λ p h. changed.before p (rw start h) ∙ same_value p;
+          behind = λ p h. let l : q.start + q.length ≤ p = omega (arith, own.2, start) in changed.behind p l ∙ same_value p;
         }
 
     pub ensured_change : (torn : Bool) → is_committed mid.pending m.state torn mid new → IsChanged o m.length (overwritten w) (values below old.place) (values below new.place)
