@@ -192,12 +192,12 @@ impl MemStorage {
     {
         let MemStorage {
             name: _,
-            bytes,
+            bytes: taken,
             mem_align: _,
             req_align: _,
             zero_align: _,
         } = self;
-        bytes
+        taken
     }
 }
 

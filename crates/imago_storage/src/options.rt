@@ -195,12 +195,12 @@ impl StorageCreateOptions {
         ensures { open_options result ≡ (create_options self).to_open }
     {
         let StorageCreateOptions {
-            open_opts,
+            open_opts: for_opening,
             size: _,
             prealloc_mode: _,
             overwrite: _,
         } = self;
-        open_opts
+        for_opening
     }
 }
 
