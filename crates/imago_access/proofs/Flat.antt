@@ -107,7 +107,7 @@ module _ {D St : Type 0} (view : D → View St) (lawful : (d : D) → IsLawful (
   flush_keeps old new (R.Mapped m c) h = absurd h
 
   same_kept : (old new : FormatAccess D) → new ≡ old → IsKept view old new
-  same_kept old new e = subst (λ (x : FormatAccess D). IsKept view old x) (sym e) (record { below = refl; kind = record { abilities = refl; store_count = refl } })
+  same_kept old new e = subst (λ (x : FormatAccess D). IsKept view old x) (sym e) (record { below = refl; kind = record { abilities = refl; store_count = refl; store_features = λ i. refl } })
 
   write_step : (old new : FormatAccess D) (o : ℕ) (bytes : List ℕ) (r : Reply) → IsTrue (view (driver old)).abilities.keeps_data → IsDone r → Answers r (IsWrite view old new o bytes) → (disk view new ≡ splice (disk view old) o (map Byte bytes)) × IsKept view old new
   write_step old new o bytes R.Done k d h = (write_list old new o bytes k h, h.kept)

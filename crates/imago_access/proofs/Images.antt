@@ -83,7 +83,7 @@ module _ {D St T : Type 0} (view : D → View St) (x : FormatAccess D) (op : Ope
     done = λ k. tt;
     torn = λ k. r;
     same_size = refl;
-    kept = record { below = refl; kind = record { abilities = refl; store_count = refl } };
+    kept = record { below = refl; kind = record { abilities = refl; store_count = refl; store_features = λ i. refl } };
     nothing_pending = p;
     faults = record { later = omega arith; reliable = λ t. refl; device = λ h. absurd (test_device {T = T} (view (driver x)) o n e f h) };
     refusals = inl f;
@@ -161,7 +161,7 @@ failed_preparing {T = T} view x o n e f p = record {
   tested = λ z g. (ap (λ y. Err y) (same_test (view (driver x)) o n e z f g), refl);
   same_size = refl;
   unchanged = λ k q. refl;
-  kept = record { below = refl; kind = record { abilities = refl; store_count = refl } };
+  kept = record { below = refl; kind = record { abilities = refl; store_count = refl; store_features = λ i. refl } };
   nothing_pending = p;
   faults = record { later = omega arith; reliable = λ t. refl; device = λ h. absurd (test_device {T = T} (view (driver x)) o n e f h) };
   refusals = inl f;

@@ -90,7 +90,7 @@ read_only_resize view x op n effect e w = record {
   tested = λ z f. (ap (λ y. Err y) (w.0 ∙ sym f.0), refl);
   done = tt;
   unchanged = record { size = refl; values = λ k p. refl };
-  kept = record { below = refl; kind = record { abilities = refl; store_count = refl } };
+  kept = record { below = refl; kind = record { abilities = refl; store_count = refl; store_features = λ i. refl } };
   faults = record { later = omega arith; reliable = λ t. refl; device = λ h. let y = w.0 in let z : ⊥ = cc in absurd z };
   refusals = inl w;
 }

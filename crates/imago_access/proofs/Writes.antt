@@ -167,7 +167,7 @@ module _ {D St : Type 0} (view : D → View St) (l : LayerBelow) (old : D) (o : 
       causes = λ op a n q m e r h i j k c. laws.part op a n q m e j k c;
       copied = λ op a n q m p r h i j k c. laws.part_copied op a n q m p j k c;
     };
-    framed = record { kind = record { abilities = refl; store_count = refl }; size = refl; ends = λ p h. h };
+    framed = record { kind = record { abilities = refl; store_count = refl; store_features = λ i. refl }; size = refl; ends = λ p h. h };
     spent = spent;
     goes = record { later = omega arith; reliable = λ t. refl };
     once = λ h. inl (refl, refl);

@@ -27,7 +27,7 @@ settled_twice old mid new c d f o n s t = record {
 
 pub framed_twice : {St : Type 0} (a b c : View St) → IsFramed a b → IsFramed b c → IsFramed a c
 framed_twice a b c f g = record {
-  kind = record { abilities = g.kind.abilities ∙ f.kind.abilities; store_count = g.kind.store_count ∙ f.kind.store_count };
+  kind = record { abilities = g.kind.abilities ∙ f.kind.abilities; store_count = g.kind.store_count ∙ f.kind.store_count; store_features = λ i. g.kind.store_features i ∙ f.kind.store_features i };
   size = g.size ∙ f.size;
   ends = λ p h. f.ends p (g.ends p h);
 }

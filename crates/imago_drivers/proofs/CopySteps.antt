@@ -22,7 +22,7 @@ use Rattle.imago_drivers.proofs.RawSteps.{raw_put, if_ok, if_err, ok_of, err_of}
 pub same_bytes : (f g : Features) (count now_count : ℕ) (old new : List ℕ) (size : ℕ) (copied : Bool) (w : Option Waiting) → new ≡ old → g ≡ f
     → IsUnchanged (copy_view f count old size copied w) (copy_view g now_count new size copied w)
 same_bytes f g count now_count old new size copied w e h = rw (e, h) (record {
-  framed = record { kind = record { abilities = refl; store_count = refl }; size = refl; ends = λ p x. x };
+  framed = record { kind = record { abilities = refl; store_count = refl; store_features = λ i. refl }; size = refl; ends = λ p x. x };
   places = record { stored = λ p b s o v x. (b, x); same = λ k p. refl };
   reaches = λ p q v x. (v, x);
 })
@@ -94,7 +94,7 @@ copy_ends bytes now size true p e = ⊎_elim (λ below. let x = raw_in size now 
 copy_ends bytes now size false p e = ⊎_elim (λ below. let x = raw_in size now p below in let z : ⊥ = cc in absurd z) (λ above. lower_out size bytes p above) (cases_lt p size)
 
 pub copy_framed : (f : Features) (count now_count : ℕ) (bytes now : List ℕ) (size : ℕ) (copied : Bool) (w : Option Waiting) → IsFramed (copy_view f count bytes size copied w) (copy_view f now_count now size true None)
-copy_framed f count now_count bytes now size copied w = record { kind = record { abilities = refl; store_count = refl }; size = refl; ends = λ p e. copy_ends bytes now size copied p e }
+copy_framed f count now_count bytes now size copied w = record { kind = record { abilities = refl; store_count = refl; store_features = λ i. refl }; size = refl; ends = λ p e. copy_ends bytes now size copied p e }
 
 nothing_copied : (size : ℕ) (op : Operation) (o n p : ℕ) → copy_copies true size op o n p → ⊥
 nothing_copied size Write o n p c = let e = c.0 in let z : ⊥ = cc in z

@@ -74,7 +74,7 @@ copy_view f fault_count bytes size copied waiting = record {
   size = size;
   place = copy_place copied size bytes;
   fault_count = fault_count;
-  stores = record { count = 1; bytes = λ index. bytes };
+  stores = record { count = 1; bytes = λ index. bytes; features = λ index. f };
   special = λ offset. 0;
   cause = copy_cause;
   copies = copy_copies copied size;

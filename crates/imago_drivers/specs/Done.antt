@@ -1,4 +1,4 @@
-use Rattle.std.specs.Prelude.{◌≡◌, ℕ, ◌+◌, ◌≤◌, ◌⊎◌, false, IsTrue, Result, IfOk, OnErr}
+use Rattle.std.specs.Prelude.{◌≡◌, ℕ, ◌+◌, ◌≤◌, ◌⊎◌, max, false, IsTrue, Result, IfOk, OnErr}
 use Rattle.imago_storage.specs.declared.error.Error.{Error}
 use Rattle.imago_drivers.specs.Operation.{Operation, Map, Read, Write}
 use Rattle.imago_drivers.specs.Place.{Value, values, IsAt, IsSpecialAt}
@@ -36,9 +36,9 @@ lending_reasons v l op o n = record (range_reasons v op o n) { cause = CauseOver
 abbrev pub driver_reasons : {St : Type 0} → View St → Operation → ℕ → ℕ → Reasons
 driver_reasons v op o n = record (range_reasons v op o n) { beyond_disk = ⊥ }
 
--- why a mapping may be refused: it takes no memory
+-- why a mapping may be refused: it takes no memory, and looks at the place asked for, also where nothing more is
 abbrev pub map_reasons : {St : Type 0} → View St → ℕ → ℕ → Reasons
-map_reasons v o n = record none { cause = v.cause Map o n; device = v.abilities.is_reliable ≡ false }
+map_reasons v o n = record none { cause = v.cause Map o (max n 1); device = v.abilities.is_reliable ≡ false }
 
 -- Why a read of stored bytes may be refused: as a read of any places that stand there.
 abbrev pub stored_read_reasons : {St : Type 0} → View St → ℕ → ℕ → ℕ → Reasons

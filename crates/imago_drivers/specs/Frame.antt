@@ -2,10 +2,11 @@ use Rattle.std.specs.Prelude.{◌≡◌, ℕ, Bool}
 use Rattle.imago_drivers.specs.Place.{Lower, End, SamePlaces}
 use Rattle.imago_drivers.specs.View.{View}
 
--- What no call changes: what the driver is good for, and how many storages it has.
+-- What no call changes: what the driver is good for, how many storages it has, and what never changes in each of them.
 pub record IsKind {St : Type 0} (old new : View St) : Type 0 where
   pub abilities : new.abilities ≡ old.abilities
   pub store_count : new.stores.count ≡ old.stores.count
+  pub store_features : (index : ℕ) → new.stores.features index ≡ old.stores.features index
 
 -- What no call but a resize changes, whatever its storages keep: the size too, and no place becomes an end.
 pub record IsFramed {St : Type 0} (old new : View St) : Type 0 where

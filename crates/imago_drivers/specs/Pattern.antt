@@ -1,5 +1,6 @@
 use Rattle.std.specs.Prelude.{◌≡◌, ℕ, ◌+◌, ◌<◌, ◌≤◌, Bool, true, false, [], if◌then◌else◌, nat_lt, None}
 use Rattle.imago_storage.specs.declared.error.Error.TheVariants as E
+use Rattle.imago_storage.specs.Mem.{null_features}
 use Rattle.imago_drivers.specs.declared.format.Format.TheVariants as Format
 use Rattle.imago_drivers.specs.declared.pattern.Kind.{Kind}
 use Rattle.imago_drivers.specs.Operation.{Operation, Read}
@@ -55,7 +56,7 @@ pattern_view kind size = record {
   size = size;
   place = pattern_place kind size;
   fault_count = 0;
-  stores = record { count = 0; bytes = λ index. [] };
+  stores = record { count = 0; bytes = λ index. []; features = λ index. null_features };
   special = λ offset. pattern_byte kind;
   cause = pattern_cause kind size;
   copies = λ op o n p. ⊥;

@@ -123,7 +123,7 @@ raw_view f fault_count bytes size writable = record {
   size = size;
   place = raw_place size bytes;
   fault_count = fault_count;
-  stores = record { count = 1; bytes = λ index. bytes };
+  stores = record { count = 1; bytes = λ index. bytes; features = λ index. f };
   special = λ offset. 0;
   cause = raw_cause f size;
   copies = λ op o n p. ⊥;

@@ -1,4 +1,5 @@
 use Rattle.std.specs.Prelude.{◌≡◌, ℕ, Bool, List, Option}
+use Rattle.imago_storage.specs.Features.{Features}
 use Rattle.imago_drivers.specs.declared.format.Format.{Format}
 use Rattle.imago_drivers.specs.Operation.{Operation}
 use Rattle.imago_drivers.specs.Place.{Place, IsIn, End}
@@ -18,10 +19,11 @@ pub record Abilities : Type 0 where
   pub zero_granularity : Option ℕ
   pub offers : Operation → Bool
 
--- A driver's storages: how many there are, and the bytes of each, by its index.
+-- A driver's storages: how many there are, and of each, by its index, the bytes and what never changes in it.
 pub record Stores : Type 0 where
   pub count : ℕ
   pub bytes : ℕ → List ℕ
+  pub features : ℕ → Features
 
 -- A driver as its callers see it: a layer, which is a size and what stands at each offset, and what its calls may do.
 pub record View (St : Type 0) : Type 1 where

@@ -89,6 +89,10 @@ pub trait FormatDriverInstance: Display + Drop {
             (λ v. (i : ℕ)
             → IfSome (slice_get v.items i)
             (λ s. Self.Storage.bytes s.now ≡ (view self.now).stores.bytes i)) }
+        ensures features { IfOk result
+            (λ v. (i : ℕ)
+            → IfSome (slice_get v.items i)
+            (λ s. Self.Storage.features s.now ≡ (view self.now).stores.features i)) }
         ensures memory { IfErr result (λ e. e ≡ Error.Memory) };
 
     /// How many storages the driver has.
@@ -99,10 +103,12 @@ pub trait FormatDriverInstance: Display + Drop {
     fn storage(&self, index: usize) -> Option<&Self::Storage>
         ensures { MatchOption result ((view self.now).stores.count ≤ index)
             (λ s. (index < (view self.now).stores.count) ×
-            (Self.Storage.bytes s.now ≡ (view self.now).stores.bytes index)) };
+            (Self.Storage.bytes s.now ≡ (view self.now).stores.bytes index) ×
+            (Self.Storage.features s.now ≡ (view self.now).stores.features index)) };
 
     /// What the bytes from the offset on are, and how many of them. The length may pass `max_length`; it is 0 only at
-    /// the end, or where `max_length` is. A place that may not be read is answered by its refusal.
+    /// the end, or where `max_length` is. A place that may not be read is answered by its refusal. The place at the
+    /// offset is always looked at, also where `max_length` is 0.
     fn get_mapping(&self, offset: u64, max_length: u64) -> Result<(ShallowMapping, u64), Error>
         ensures right { IfOk result (λ r. IsRight (view self.now).place offset max_length r.0 r.1) }
         ensures part { IfOk result (λ r. (view self.now).answers Map offset max_length offset r.1) }
