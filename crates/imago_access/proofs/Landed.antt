@@ -1,4 +1,4 @@
-use Rattle.std.proofs.Common.{◌≡◌, ℕ, ◌+◌, ◌-◌, ◌^◌, ◌<◌, ◌≤◌, ◌⊎◌, ◌&&◌, inl, inr, ⊎_elim, Bool, true, false, Option, Some, None, refl, sym, ap, ◌∙◌, subst, arith, nat_eq, rules, zero, suc, min}
+use Rattle.std.proofs.Common.{◌≡◌, ℕ, ◌+◌, ◌-◌, ◌^◌, ◌<◌, ◌≤◌, ◌⊎◌, ◌&&◌, inl, inr, ⊎_elim, Bool, true, false, Option, Some, None, refl, sym, ap, ◌∙◌, subst, arith, nat_eq, rules, zero, suc, min, max}
 use Rattle.std.proofs.lemmas.Bool.{cases_lt}
 use Rattle.imago_storage.specs.declared.error.Error.{Error}
 use Rattle.imago_storage.specs.declared.error.Error.TheVariants as E
@@ -22,6 +22,7 @@ use Rattle.imago_access.specs.Resolved.{LeadsTo, IsResolved, IsEndOfImage, chain
 use Rattle.imago_access.specs.Ways.{IsPart, LeadsDown, HasLanded, resolved_mapping, resolved_length}
 use Rattle.imago_access.proofs.Chains.{value_at, reliable_here, target_nothing, target_at, cause_here}
 use Rattle.imago_access.proofs.Descent.{deeper_here}
+use Rattle.imago_access.proofs.Weaker.{IsWeaker}
 
 pub not_zero : (d : ℕ) → 0 < d → nat_eq d 0 ≡ false
 not_zero zero h = absurd (omega arith)
@@ -100,17 +101,23 @@ module _ {D St : Type 0} (view : D → View St) (x : FormatAccess D) (o most : �
         part.no_refusal e (subst (λ (a : ℕ). (view (driver layer)).place a ≡ Refused e) (sym t.1) k))
         (cases_lt 0 hops)
 
+  -- the range of a way that has some bytes to go is never empty
+  pub left_some : 0 < most → 0 < left
+  left_some h = ⊎_elim (λ (some : 0 < left). some) (λ (none : left ≤ 0). let e = down.empty (omega arith) in absurd (omega arith)) (cases_lt 0 left)
+
   -- a refused mapping of the layer, as one of the image
-  pub descent_refused : ((d : D) → AreCauses (view d)) → (e : Error) → allowed (map_reasons (view (driver layer)) at left) e → allowed (chain_map_reasons view x o most) e
-  descent_refused laws = refused
+  pub descent_refused : ((d : D) → AreCauses (view d)) → 0 < most → (e : Error) → allowed (map_reasons (view (driver layer)) at left) e → allowed (chain_map_reasons view x o most) e
+  descent_refused laws some = refused
     where
-      lifted : (e : Error) → (view (driver layer)).cause Map at left e → chain_cause view x Map o most e
+      lifted : (e : Error) → (view (driver layer)).cause Map at (max left 1) e → chain_cause view x Map o (max most 1) e
       lifted e c =
           let a : at ≡ at + 0 = omega arith in
           let b : o + 0 ≡ o = omega arith in
-          let here = subst (λ (p : ℕ). chain_cause view layer Map p left e) a (cause_here view layer Map at left e c) in
+          let n : max left 1 ≡ left = omega (arith, left_some some) in
+          let mapped = subst (λ (k : ℕ). (view (driver layer)).cause Map at k e) n c in
+          let here = subst (λ (p : ℕ). chain_cause view layer Map p left e) a (cause_here view layer Map at left e mapped) in
           let up = subst (λ (p : ℕ). chain_cause view x Map p left e) b (down.causes Map 0 left e (omega arith) here) in
-          chain_part view laws x Map o most o left e (omega arith) (omega (arith, down.within)) up
+          chain_part view laws x Map o (max most 1) o left e (omega arith) (omega (arith, down.within)) up
 
       refused : (e : Error) → allowed (map_reasons (view (driver layer)) at left) e → allowed (chain_map_reasons view x o most) e
       refused E.ReadOnly h = h
@@ -133,13 +140,6 @@ module _ {D St : Type 0} (view : D → View St) (x : FormatAccess D) (o most : �
       let b : o + 0 ≡ o = omega arith in
       let s : disk_value view x o ≡ disk_value view layer at = rw (a, b) at (down.shows 0 lt) in
       s ∙ value_at view layer at (Refused e) h
-
-  -- nor is the range of an offset that is refused for itself empty
-  pub refused_some : ((d : D) → AreCauses (view d)) → (e : Error) → allowed (map_reasons (view (driver layer)) at left) e → (e ≡ Error.InvalidData) ⊎ (e ≡ Error.NoAccess) → 0 < left
-  refused_some laws e h k = ⊎_elim
-      (λ i. let r = (laws (driver layer)).bound Map at left Error.InvalidData (subst (λ (z : Error). allowed (map_reasons (view (driver layer)) at left) z) i h) in omega (arith, r.1))
-      (λ i. let r = (laws (driver layer)).bound Map at left Error.NoAccess (subst (λ (z : Error). allowed (map_reasons (view (driver layer)) at left) z) i h) in omega (arith, r.1))
-      k
 
 module _ {D St : Type 0} (view : D → View St) (x : FormatAccess D) (o most : ℕ) (layer : FormatAccess D) where
   end_leads : (way : Way) → HasLanded view x o most layer way S.Eof → (i : ℕ) → i < resolved_length way S.Eof → LeadsTo (resolved_mapping way S.Eof) i (target view x (o + i))
@@ -198,10 +198,18 @@ module _ {D St : Type 0} (view : D → View St) (x : FormatAccess D) (o most : �
   landed_within way (S.Zero b) h = h.leads.within
   landed_within way (S.Special f) h = h.leads.within
 
+  -- the first offset leads to what the mapping names, if there is any
+  landed_here : (way : Way) (m : ShallowMapping) → HasLanded view x o most layer way m → 0 < most → IsEndOfImage (resolved_mapping way m) ⊎ LeadsTo (resolved_mapping way m) 0 (target view x o)
+  landed_here way m h some = ⊎_elim
+      (λ (first : 0 < resolved_length way m). let at : o + 0 ≡ o = omega arith in inr (subst (λ (p : ℕ). LeadsTo (resolved_mapping way m) 0 (target view x p)) at (landed_leads way m h 0 first)))
+      (λ (none : resolved_length way m ≤ 0). ⊎_elim inl (λ (e : most ≡ 0). absurd (omega arith)) (landed_empty way m h (omega arith)))
+      (cases_lt 0 (resolved_length way m))
+
   -- where a range has landed, what the way comes to is the right mapping of the image
-  pub landed_right : (way : Way) (m : ShallowMapping) → HasLanded view x o most layer way m → IsResolved view x o most (resolved_mapping way m) (resolved_length way m)
-  landed_right way m h = record {
+  landed_right : (way : Way) (m : ShallowMapping) → HasLanded view x o most layer way m → 0 < most → IsResolved view x o most (resolved_mapping way m) (resolved_length way m)
+  landed_right way m h some = record {
     leads = landed_leads way m h;
+    here = landed_here way m h some;
     eof = (
       (λ e. let r = eof_landed way m h e in end_top view x o most layer h.hops way.offset way.length way.writable h.leads m way.length h.part r.0 r.1),
       (λ e. let r = top_end view x o most layer h.hops way.offset way.length way.writable h.leads m way.length h.part e in landed_eof way m h r.0 r.1),
@@ -211,3 +219,36 @@ module _ {D St : Type 0} (view : D → View St) (x : FormatAccess D) (o most : �
     within = landed_within way m h;
     no_refusal = top_readable view x o most layer h.hops way.offset way.length way.writable h.leads m way.length h.part;
   }
+
+-- the mapping of at least one byte, cut to what was asked for, is right too
+cut_resolved : {D St : Type 0} (view : D → View St) (x : FormatAccess D) (o most : ℕ) (m : Mapping) (n : ℕ) → IsResolved view x o (max most 1) m n → IsResolved view x o most m (min n most)
+cut_resolved view x o most m n r = record {
+  leads = λ i lt. r.leads i (omega arith);
+  here = r.here;
+  eof = r.eof;
+  eof_empty = λ e. let z = r.eof_empty e in omega arith;
+  empty = λ e. ⊎_elim
+      (λ (some : 0 < most). ⊎_elim inl (λ (z : max most 1 ≡ 0). absurd (omega arith)) (r.empty (omega arith)))
+      (λ (none : most ≤ 0). inr (omega arith))
+      (cases_lt 0 most);
+  within = omega arith;
+  no_refusal = r.no_refusal;
+}
+
+pub landed_mapping : {D St : Type 0} (view : D → View St) (x : FormatAccess D) (o most : ℕ) (layer : FormatAccess D) (way : Way) (m : ShallowMapping) → HasLanded view x o (max most 1) layer way m
+    → IsResolved view x o most (resolved_mapping way m) (min (resolved_length way m) most)
+landed_mapping view x o most layer way m h =
+    let some : 0 < max most 1 = omega arith in
+    cut_resolved view x o most _ _ (landed_right view x o (max most 1) layer way m h some)
+
+-- a refusal of the mapping of at least one byte is one of the mapping
+pub asked_refused : {D St : Type 0} (view : D → View St) (x : FormatAccess D) (o most : ℕ) → IsWeaker (chain_map_reasons view x o (max most 1)) (chain_map_reasons view x o most)
+asked_refused view x o most = record {
+  read_only = λ h. h;
+  beyond_disk = λ h. h;
+  range_overflow = λ h. h;
+  cause = λ e c. let n : max (max most 1) 1 ≡ max most 1 = omega arith in subst (λ (k : ℕ). chain_cause view x Map o k e) n c;
+  device = λ h. h;
+  memory = λ h. h;
+  foreign_mapping = λ h. h;
+}

@@ -1,4 +1,4 @@
-use Rattle.std.proofs.Common.{◌≡◌, ℕ, ◌+◌, ◌-◌, ◌<◌, ◌≤◌, ◌⊎◌, inl, inr, ⊎_elim, Bool, true, false, List, Option, Some, None, length, get_or, refl, sym, ap, ◌∙◌, subst, arith, zero-add}
+use Rattle.std.proofs.Common.{◌≡◌, ℕ, ◌+◌, ◌-◌, ◌<◌, ◌≤◌, ◌⊎◌, inl, inr, ⊎_elim, Bool, true, false, List, Option, Some, None, length, get_or, refl, sym, ap, ◌∙◌, subst, arith, zero-add, max}
 use Rattle.std.specs.Prelude.{slice_index}
 use Rattle.std.proofs.lemmas.Bool.{cases_lt}
 use Rattle.imago_storage.specs.declared.error.Error.{Error}
@@ -133,13 +133,13 @@ known_storage view laws x o most layer way (S.Raw s f w) h lt =
     let n = h.part.names 0 (landed_length view x o most layer way (S.Raw s f w) h lt) in
     ((laws (driver layer)).stored (way.offset + 0) n.0 s (f + 0) w n.1).0
 
--- the refusal of a mapping is one of a read
-pub map_refused : {D St : Type 0} (view : D → View St) (x : FormatAccess D) (o n : ℕ) → IsWeaker (chain_map_reasons view x o n) (chunk_read_reasons view x o n)
-map_refused view x o n = record {
+-- the refusal of a mapping is one of a read of some bytes
+pub map_refused : {D St : Type 0} (view : D → View St) (x : FormatAccess D) (o n : ℕ) → 0 < n → IsWeaker (chain_map_reasons view x o n) (chunk_read_reasons view x o n)
+map_refused view x o n some = record {
   read_only = λ h. h;
   beyond_disk = λ h. h;
   range_overflow = λ h. h;
-  cause = λ e c. inr c;
+  cause = λ e c. let k : max n 1 ≡ n = omega arith in inr (subst (λ (m : ℕ). chain_cause view x Map o m e) k c);
   device = λ h. h;
   memory = λ h. absurd h;
   foreign_mapping = λ h. h;

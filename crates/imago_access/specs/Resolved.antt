@@ -1,4 +1,4 @@
-use Rattle.std.specs.Prelude.{◌≡◌, ℕ, ◌+◌, ◌<◌, ◌≤◌, ◌⊎◌, ◌↔◌, ◌&&◌, Bool, false}
+use Rattle.std.specs.Prelude.{◌≡◌, ℕ, ◌+◌, ◌<◌, ◌≤◌, ◌⊎◌, ◌↔◌, ◌&&◌, max, Bool, false}
 use Rattle.imago_storage.specs.declared.error.Error.{Error}
 use Rattle.imago_drivers.specs.Operation.{Map}
 use Rattle.imago_drivers.specs.Place.{Place, Stored, Zeroed, Special, Refused, End}
@@ -35,6 +35,8 @@ LeadsTo (M.Special layer offset) i t = (layer ≡ told_depth t.depth) × ((b : �
 pub record IsResolved {D St : Type 0} (view : D → View St) (x : FormatAccess D) (o most : ℕ) (m : Mapping) (n : ℕ) : Type 0 where
   -- each of its offsets leads to what it names
   pub leads : (i : ℕ) → i < n → LeadsTo m i (target view x (o + i))
+  -- so does the first one, also where nothing was asked for
+  pub here : IsEndOfImage m ⊎ LeadsTo m 0 (target view x o)
   -- the end is answered exactly past the top layer, and is empty
   pub eof : IsEndOfImage m ↔ ((view (driver x)).place o ≡ End)
   pub eof_empty : IsEndOfImage m → n ≡ 0
@@ -44,6 +46,6 @@ pub record IsResolved {D St : Type 0} (view : D → View St) (x : FormatAccess D
   -- a place that may not be read is answered by its refusal
   pub no_refusal : (e : Error) → (view (driver x)).place o ≡ Refused e → ⊥
 
--- why a mapping of an image may be refused: it takes no memory
+-- why a mapping of an image may be refused: it takes no memory, and looks at the offset asked for, also where nothing more is
 abbrev pub chain_map_reasons : {D St : Type 0} → (D → View St) → FormatAccess D → ℕ → ℕ → Reasons
-chain_map_reasons view x o n = record none { cause = chain_cause view x Map o n; device = is_reliable view x ≡ false }
+chain_map_reasons view x o n = record none { cause = chain_cause view x Map o (max n 1); device = is_reliable view x ≡ false }

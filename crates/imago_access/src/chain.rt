@@ -1,5 +1,5 @@
 //! The way of a range down the layers of an image.
-ghost use Rattle.std.specs.Prelude.{◌≡◌, ◌+◌, ◌-◌, ◌^◌, ◌≤◌, ◌⊎◌, ◌&&◌, ℕ, IfOk, IfErr, min};
+ghost use Rattle.std.specs.Prelude.{◌≡◌, ◌+◌, ◌-◌, ◌^◌, ◌<◌, ◌≤◌, ◌⊎◌, ◌&&◌, ℕ, IfOk, IfErr, min};
 ghost use Rattle.imago_drivers.specs.Operation.{Map, Read};
 ghost use Rattle.imago_drivers.specs.Place.{Refused, Unreadable};
 ghost use Rattle.imago_drivers.specs.Mapping.{IsRight};
@@ -139,12 +139,14 @@ impl<D: FormatDriverInstance> FormatAccess<D> {
         Ok((mapping, part_of(mapping, count, max_length)))
     }
 
-    /// Follows a range down to the layer that its first bytes stand in, with that driver's mapping of them.
+    /// Follows a range down to the layer that its first bytes stand in, with that driver's mapping of them. It asks each
+    /// driver for at least one byte.
     pub(crate) fn descend(
         &self,
         offset: u64,
         max_length: u64,
     ) -> Result<(&FormatAccess<D>, Way, ShallowMapping), Error>
+        requires { 0 < max_length }
         ensures landed { IfOk result (λ r. HasLanded D.view self.now offset max_length r.0.now r.1 r.2) }
         ensures refused_place { IfErr result
             (λ e. (e ≡ Error.InvalidData) ⊎ (e ≡ Error.NoAccess)
@@ -174,7 +176,7 @@ impl<D: FormatDriverInstance> FormatAccess<D> {
     }
 
     /// What the bytes from the offset on are, resolved through the layers, and how many of them: at most `max_length`,
-    /// and 0 only at the end of the image, or where `max_length` is.
+    /// and 0 only at the end of the image, or where `max_length` is. Also there the mapping is that of the offset.
     ///
     /// What the top layer leaves to a layer below that ends before, or to none, is an unallocated zero. It takes no
     /// memory. [`Error::InvalidData`] and [`Error::NoAccess`] are answered for an offset that may not be read.
@@ -185,7 +187,8 @@ impl<D: FormatDriverInstance> FormatAccess<D> {
             → disk_value D.view self.now offset ≡ Unreadable e) }
         ensures refusals { IfErr result (allowed (chain_map_reasons D.view self.now offset max_length)) }
     {
-        let (_layer, way, mapping) = self.descend(offset, max_length)?;
-        Ok(resolved(way, mapping))
+        let (_layer, way, mapping) = self.descend(offset, max_length.max(1))?;
+        let (mapping, count) = resolved(way, mapping);
+        Ok((mapping, count.min(max_length)))
     }
 }

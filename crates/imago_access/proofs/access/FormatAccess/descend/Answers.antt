@@ -3,7 +3,7 @@ use Rattle.std.proofs.lemmas.Result.{err_from_is_err_and}
 use Rattle.imago_access.specs.Chain.{driver, backing, unboxed}
 use Rattle.imago_access.proofs.Chains.{no_memory_here}
 use Rattle.imago_access.proofs.Descent.{step_down, cut_short}
-use Rattle.imago_access.proofs.Landed.{descent_refused, descent_unreadable, refused_some}
+use Rattle.imago_access.proofs.Landed.{descent_refused, descent_unreadable, left_some}
 use Rattle.imago_access.proofs.access.FormatAccess.descend.Goals as goal
 
 pub loop-mapping-preserved : goal.loop-mapping-preserved
@@ -23,7 +23,7 @@ pub returns-in_err-mapping-clause-refusals : goal.returns-in_err-mapping-clause-
 returns-in_err-mapping-clause-refusals g c =
     let p = err_from_is_err_and c.from_residual.result c.from_residual.ensures.1 in
     let l = c.loop-mapping in
-    rw (p.1, p.2) (descent_refused g.D.FormatDriverInstance.view c.args.self.now c.args.offset c.args.max_length l.layer.now l.invariant.hops l.way.offset l.way.length l.way.writable l.invariant.leads g.met.D.FormatDriverInstance.causes_lawful c.in_err-mapping.field-0.0 c.in_err-mapping.ensures.refusals)
+    rw (p.1, p.2) (descent_refused g.D.FormatDriverInstance.view c.args.self.now c.args.offset c.args.max_length l.layer.now l.invariant.hops l.way.offset l.way.length l.way.writable l.invariant.leads g.met.D.FormatDriverInstance.causes_lawful c.requires c.in_err-mapping.field-0.0 c.in_err-mapping.ensures.refusals)
 
 pub returns-in_err-mapping-clause-refused_place : goal.returns-in_err-mapping-clause-refused_place
 returns-in_err-mapping-clause-refused_place g c =
@@ -32,5 +32,5 @@ returns-in_err-mapping-clause-refused_place g c =
     let l = c.loop-mapping in
     let e = c.in_err-mapping.field-0.0 in
     rw (p.1, p.2) (λ h. descent_unreadable v c.args.self.now c.args.offset c.args.max_length l.layer.now l.invariant.hops l.way.offset l.way.length l.way.writable l.invariant.leads e
-    (refused_some v c.args.self.now c.args.offset c.args.max_length l.layer.now l.invariant.hops l.way.offset l.way.length l.way.writable l.invariant.leads g.met.D.FormatDriverInstance.causes_lawful e c.in_err-mapping.ensures.refusals h)
+    (left_some v c.args.self.now c.args.offset c.args.max_length l.layer.now l.invariant.hops l.way.offset l.way.length l.way.writable l.invariant.leads c.requires)
     (c.in_err-mapping.ensures.refused_place h))

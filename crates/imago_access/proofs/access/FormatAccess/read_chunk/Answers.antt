@@ -2,9 +2,15 @@ use Rattle.std.proofs.Common.{arith, ◌≡◌, length}
 use Rattle.std.proofs.lemmas.Grind.{common_steps}
 use Rattle.std.proofs.lemmas.Result.{err_from_is_err_and}
 use Rattle.imago_access.specs.Chain.{disk_value}
-use Rattle.imago_access.proofs.ReadSteps.{landed_values, landed_refused}
+use Rattle.imago_access.proofs.ReadSteps.{landed_values, landed_refused, map_refused}
+use Rattle.imago_access.proofs.Weaker.{allowed_more}
 use Rattle.imago_access.proofs.Values.{has_front}
 use Rattle.imago_access.proofs.access.FormatAccess.read_chunk.Goals as goal
+
+pub returns-in_err-layer-clause-refusals : goal.returns-in_err-layer-clause-refusals
+returns-in_err-layer-clause-refusals g c =
+    let p = err_from_is_err_and c.from_residual.result c.from_residual.ensures.1 in
+    rw (p.1, p.2) (allowed_more _ _ (map_refused g.D.FormatDriverInstance.view c.args.self.now c.args.offset (length c.args.buf.now) c.requires) c.in_err-layer.field-0.0 c.in_err-layer.ensures.refusals)
 
 pub returns-in_err-read_named-clause-refusals : goal.returns-in_err-read_named-clause-refusals
 returns-in_err-read_named-clause-refusals g c =
