@@ -9,5 +9,6 @@ pub mod Writes
 pub mod Parts
 pub mod Images
 pub mod SizeSteps
+pub mod Greatest
 pub mod RunSteps
 pub mod Flat

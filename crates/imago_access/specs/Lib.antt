@@ -9,5 +9,6 @@ pub mod Calls
 pub mod Sizes
 pub mod Runs
 pub mod Disk
+pub mod Alignments
 pub mod Lending
 pub mod ChainLaws

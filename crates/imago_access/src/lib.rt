@@ -5,6 +5,7 @@
 #![tactic(auto)]
 
 pub mod access;
+mod alignments;
 mod chain;
 mod flush;
 pub mod laws;
