@@ -1,188 +1,263 @@
-use Rattle.std.proofs.Common.{◌≡◌, ℕ, ◌+◌, ◌-◌, ◌^◌, ◌<◌, ◌≤◌, ◌⊎◌, ⊎_elim, inl, inr, Bool, true, false, List, [], ◌∷◌, ◌++◌, length, take, drop, map, get_or, refl, sym, ap, ◌∙◌, arith, subst, Result, Ok, Err, length-take, length-drop, length-append}
+use Rattle.std.proofs.Common.{◌≡◌, ℕ, ◌+◌, ◌-◌, ◌<◌, ◌≤◌, ◌⊎◌, ⊎_elim, inl, inr, Bool, true, false, List, [], ◌∷◌, ◌++◌, length, take, map, refl, sym, ap, ◌∙◌, arith, subst, Result, Ok, Err, length-take}
+use Rattle.std.proofs.Math.Path.{fun_ext}
 use Rattle.std.proofs.lemmas.Bool.{cases_lt}
-use Rattle.std.proofs.lemmas.List.{places, same_lists, length-map, get_or-map, get_or_past}
-use Rattle.std.proofs.lemmas.List.FromFn.{get_or-map-range_with_len, length-map-range_with_len}
-use Rattle.std.specs.Prelude.{IsTrue, slice_index}
+use Rattle.std.proofs.lemmas.List.{get_or_past, take_all}
+use Rattle.std.specs.Prelude.{IsTrue}
 use Rattle.imago_storage.specs.declared.error.Error.{Error}
-use Rattle.imago_drivers.specs.Place.{Value, Byte, HasValues}
-use Rattle.imago_drivers.specs.View.{View}
+use Rattle.imago_drivers.specs.declared.format.PreallocateMode.{PreallocateMode}
+use Rattle.imago_drivers.specs.Operation.{Operation, Write}
+use Rattle.imago_drivers.specs.Place.{Value, Byte}
+use Rattle.imago_drivers.specs.LayerBelow.{IsUnreadableIn, ReadBound}
+use Rattle.imago_drivers.specs.Reasons.{allowed}
+use Rattle.imago_drivers.specs.View.{View, Abilities}
 use Rattle.imago_drivers.specs.Laws.{IsLawful, AreCauses}
-use Rattle.imago_drivers.specs.Changes.{IsChanged, into}
+use Rattle.imago_drivers.specs.Changes.{IsChanged, into, partly, given_back}
 use Rattle.imago_access.specs.declared.access.FormatAccess.{FormatAccess}
 use Rattle.imago_access.specs.declared.run.Call.{Call}
 use Rattle.imago_access.specs.declared.run.Call.TheVariants as C
 use Rattle.imago_access.specs.declared.run.Reply.{Reply}
 use Rattle.imago_access.specs.declared.run.Reply.TheVariants as R
-use Rattle.imago_access.specs.Chain.{driver, disk_value}
+use Rattle.imago_access.specs.Chain.{driver, backing, disk_value, lent_image, read_cause}
 use Rattle.imago_access.specs.ChainLaws.{image_is_layer}
-use Rattle.imago_access.specs.Calls.{IsKept, IsWrite, FailsTest}
+use Rattle.imago_access.specs.Calls.{IsKept, IsWrite, FailsTest, range_refusals}
 use Rattle.imago_access.specs.Sizes.{IsSameImage, IsResize, IsResizeTo, IsFlushed, HasGrown, HasShrunk}
-use Rattle.imago_access.specs.Runs.{Answers, IsStep, IsRun}
-use Rattle.imago_access.specs.Disk.{listed, disk, splice, IsDone, IsRefused, IsDetermined, AreDetermined, after, after_all, IsPartOf, FitsDisk, AllFit, IsFlatRun}
-
-listed_at : (f : ℕ → Value) (n k : ℕ) (d : Value) → k < n → get_or (listed f n) k d ≡ f k
-listed_at f n k d h = let e : 0 + k ≡ k = omega arith in get_or-map-range_with_len f 0 n k k d h e
-
-listed_length : (f : ℕ → Value) (n : ℕ) → length (listed f n) ≡ n
-listed_length f n = length-map-range_with_len f 0 n
-
-same_listed : (f g : ℕ → Value) (m n : ℕ) → m ≡ n → ((p : ℕ) → g p ≡ f p) → listed g m ≡ listed f n
-same_listed f g m n e h = same_lists (listed g m) (listed f n) (listed_length g m ∙ e ∙ sym (listed_length f n))
-    (λ k d lt.
-    let a : k < m = omega (arith, listed_length g m) in
-    let b : k < n = omega arith in
-    listed_at g m k d a ∙ h k ∙ sym (listed_at f n k d b))
-
-splice_length : (xs ys : List Value) (o : ℕ) → o + length ys ≤ length xs → length (splice xs o ys) ≡ length xs
-splice_length xs ys o h = simp (length-append, length-take, length-drop) (omega arith)
-
-splice_before : (xs ys : List Value) (o k : ℕ) (d : Value) → o + length ys ≤ length xs → k < o → get_or (splice xs o ys) k d ≡ get_or xs k d
-splice_before xs ys o k d h j = grind (arith, places)
-
-splice_inside : (xs ys : List Value) (o k : ℕ) (d : Value) → o + length ys ≤ length xs → o ≤ k → k < o + length ys → get_or (splice xs o ys) k d ≡ get_or ys (k - o) d
-splice_inside xs ys o k d h i j = grind (arith, places)
-
-splice_behind : (xs ys : List Value) (o k : ℕ) (d : Value) → o + length ys ≤ length xs → o + length ys ≤ k → get_or (splice xs o ys) k d ≡ get_or xs k d
-splice_behind xs ys o k d h j = grind (arith, places)
-
--- values that change into these bytes, as lists
-pub written_list : (f g : ℕ → Value) (n o : ℕ) (bytes : List ℕ) → o + length bytes ≤ n → IsChanged o (length bytes) (into bytes) f g → listed g n ≡ splice (listed f n) o (map Byte bytes)
-written_list f g n o bytes fit c =
-    let len : length (map Byte bytes) ≡ length bytes = length-map bytes Byte in
-    let all : length (listed f n) ≡ n = listed_length f n in
-    let inside : o + length (map Byte bytes) ≤ length (listed f n) = omega arith in
-    same_lists (listed g n) (splice (listed f n) o (map Byte bytes)) (listed_length g n ∙ sym all ∙ sym (splice_length (listed f n) (map Byte bytes) o inside))
-    (λ k d lt.
-    let m : k < n = omega (arith, listed_length g n) in
-    listed_at g n k d m ∙
-    ⊎_elim
-    (λ (before : k < o). c.before k before ∙ sym (splice_before (listed f n) (map Byte bytes) o k d inside before ∙ listed_at f n k d m))
-    (λ (above : o ≤ k). ⊎_elim
-    (λ (under : k < o + length bytes).
-    let i : k - o < length bytes = omega arith in
-    let t : o + (k - o) ≡ k = omega arith in
-    let u : k < o + length (map Byte bytes) = omega arith in
-    let v : g k ≡ Byte (slice_index bytes (k - o)) = rw t at (c.inside (k - o) i) in
-    v ∙ sym (splice_inside (listed f n) (map Byte bytes) o k d inside above u ∙ get_or-map Byte bytes (k - o) 0 d i))
-    (λ (behind : o + length bytes ≤ k).
-    let u : o + length (map Byte bytes) ≤ k = omega arith in
-    c.behind k behind ∙ sym (splice_behind (listed f n) (map Byte bytes) o k d inside u ∙ listed_at f n k d m))
-    (cases_lt k (o + length bytes)))
-    (cases_lt k o))
+use Rattle.imago_access.specs.Runs.{Answers, IsStep, IsRun, IsReadReply, IsSizeReply, buffer_reasons}
+use Rattle.imago_access.specs.Disk.{values_from, disk, backed_value, value_at, splice, OldOrNewValues, IsTestRefusal, IsSpliced, IsTorn, IsExtended, IsSameWrite}
+use Rattle.imago_access.specs.Histories.{DoneOrRefused, IsDataOf, IsLengthOf, IsFlatStep, IsFlatHistory}
+use Rattle.imago_access.proofs.DiskLists.{listed_at, from_length, same_listed, spliced, written_list, torn_list, torn_values, cut_list, grown_list, extended_by, is_extended_none}
 
 bool_cases : (b : Bool) → (b ≡ true) ⊎ (b ≡ false)
 bool_cases true = inl refl
 bool_cases false = inr refl
 
-module _ {D St : Type 0} (view : D → View St) (lawful : (d : D) → IsLawful (view d)) (causes : (d : D) → AreCauses (view d)) where
-  -- a write that succeeded lies in the disk
-  write_fits : (old new : FormatAccess D) (o : ℕ) (bytes : List ℕ) → IsWrite view old new o bytes (Ok tt) → o + length bytes ≤ (view (driver old)).size
-  write_fits old new o bytes h = ⊎_elim
-      (λ (past : (view (driver old)).size < o + length bytes). ⊎_elim
-      (λ w. let z = (h.tested Error.BeyondDisk (inr (refl, w, past))).0 in let y : ⊥ = cc in absurd y)
-      (λ w. let z = (h.tested Error.ReadOnly (inl (refl, w))).0 in let y : ⊥ = cc in absurd y)
-      (bool_cases (view (driver old)).abilities.is_writable))
-      (λ (fits : o + length bytes ≤ (view (driver old)).size). fits)
-      (cases_lt (view (driver old)).size (o + length bytes))
+-- what holds of a call that answers nothing, by its reply
+done_or_refused : (r : Reply) (outcome : Result Unit Error → Type 0) (done : Type 0) (refused : Error → Type 0) → (outcome (Ok tt) → done) → ((e : Error) → outcome (Err e) → refused e) → Answers r outcome → DoneOrRefused r done refused
+done_or_refused R.Done outcome done refused f g h = f h
+done_or_refused (R.Refused e) outcome done refused f g h = g e h
+done_or_refused (R.Data b) outcome done refused f g h = absurd h
+done_or_refused (R.Size s) outcome done refused f g h = absurd h
+done_or_refused (R.Mapped m c) outcome done refused f g h = absurd h
 
-  pub write_list : (old new : FormatAccess D) (o : ℕ) (bytes : List ℕ) → IsTrue (view (driver old)).abilities.keeps_data → IsWrite view old new o bytes (Ok tt) → disk view new ≡ splice (disk view old) o (map Byte bytes)
-  write_list old new o bytes k h =
-      ap (listed (disk_value view new)) h.same_size ∙ written_list (disk_value view old) (disk_value view new) (view (driver old)).size o bytes (write_fits old new o bytes h) (h.done k)
+-- what holds at any result
+at_any_reply : (r : Reply) (outcome : Result Unit Error → Type 0) (claim : Type 0) → ((result : Result Unit Error) → outcome result → claim) → Answers r outcome → claim
+at_any_reply R.Done outcome claim f h = f (Ok tt) h
+at_any_reply (R.Refused e) outcome claim f h = f (Err e) h
+at_any_reply (R.Data b) outcome claim f h = absurd h
+at_any_reply (R.Size s) outcome claim f h = absurd h
+at_any_reply (R.Mapped m c) outcome claim f h = absurd h
+
+module _ {D St : Type 0} (view : D → View St) where
+  same_kept : (old new : FormatAccess D) → new ≡ old → IsKept view old new
+  same_kept old new e = subst (λ (x : FormatAccess D). IsKept view old x) (sym e) (record { below = refl; kind = record { abilities = refl; store_count = refl; store_features = λ i. refl } })
+
+  resize_kept : (old new : FormatAccess D) (n : ℕ) (mode : PreallocateMode) (result : Result Unit Error) → IsResizeTo view n mode old new result → IsKept view old new
+  resize_kept old new n mode result h = ⊎_elim (λ lt. (h.cut lt).kept) (λ le. (h.grown le).kept) (cases_lt n (view (driver old)).size)
+
+  step_kept : (old new : FormatAccess D) (call : Call) (r : Reply) → IsStep view old call r new → IsKept view old new
+  step_kept old new (C.Write o bytes) r h = at_any_reply r (IsWrite view old new o bytes.items) _ (λ result x. x.kept) h
+  step_kept old new (C.Read o n) r h = same_kept old new h.0
+  step_kept old new (C.GetMapping o n) r h = same_kept old new h.0
+  step_kept old new C.Size r h = same_kept old new h.0
+  step_kept old new C.Flush r h = at_any_reply r (IsFlushed view old new) _ (λ result x. x.kept) h
+  step_kept old new C.Sync r h = at_any_reply r (IsFlushed view old new) _ (λ result x. x.kept) h
+  step_kept old new C.InvalidateCache r h = at_any_reply r (IsFlushed view old new) _ (λ result x. x.kept) h
+  step_kept old new (C.Resize n mode) r h = at_any_reply r (IsResizeTo view n mode old new) _ (resize_kept old new n mode) h
+  step_kept old new (C.ResizeGrow n mode) r h = at_any_reply r (IsResize view _ n (HasGrown view mode n old new) old new) _ (λ result x. x.kept) h
+  step_kept old new (C.ResizeShrink n) r h = at_any_reply r (IsResize view _ n (HasShrunk view n old new) old new) _ (λ result x. x.kept) h
+
+  kept_twice : (old mid new : FormatAccess D) → IsKept view old mid → IsKept view mid new → IsKept view old new
+  kept_twice old mid new a b = record {
+    below = b.below ∙ a.below;
+    kind = record { abilities = b.kind.abilities ∙ a.kind.abilities; store_count = b.kind.store_count ∙ a.kind.store_count; store_features = λ i. b.kind.store_features i ∙ a.kind.store_features i };
+  }
+
+  -- a run changes no layer below
+  pub run_kept : (old new : FormatAccess D) (calls : List Call) (replies : List Reply) → IsRun view old calls replies new → IsKept view old new
+  run_kept old new [] [] h = same_kept old new h
+  run_kept old new [] (r ∷ rs) h = absurd h
+  run_kept old new (c ∷ cs) [] h = absurd h
+  run_kept old new (c ∷ cs) (r ∷ rs) h = kept_twice old h.0 new (step_kept old h.0 c r h.1) (run_kept h.0 new cs rs h.2)
+
+  -- so what its layers below show stays
+  same_backed : (old new : FormatAccess D) → IsKept view old new → backed_value view new ≡ backed_value view old
+  same_backed old new k =
+      ap (λ (a : Abilities). given_back a.takes_backing (lent_image view (backing new)).at) k.kind.abilities
+      ∙ ap (λ (b : _). given_back (view (driver old)).abilities.takes_backing (lent_image view b).at) k.below
 
   same_disk : (old new : FormatAccess D) → IsTrue (view (driver old)).abilities.keeps_data → IsSameImage view old new → disk view new ≡ disk view old
   same_disk old new k h = same_listed (disk_value view old) (disk_value view new) _ _ h.size (h.values k)
 
+  disk_length : (x : FormatAccess D) → length (disk view x) ≡ (view (driver x)).size
+  disk_length x = from_length (disk_value view x) 0 (view (driver x)).size
+
   flushed : (old new : FormatAccess D) (r : Reply) → IsTrue (view (driver old)).abilities.keeps_data → Answers r (IsFlushed view old new) → disk view new ≡ disk view old
-  flushed old new R.Done k h = same_disk old new k h.unchanged
-  flushed old new (R.Refused e) k h = same_disk old new k h.unchanged
-  flushed old new (R.Data b) k h = absurd h
-  flushed old new (R.Size s) k h = absurd h
-  flushed old new (R.Mapped m c) k h = absurd h
+  flushed old new r k h = at_any_reply r (IsFlushed view old new) _ (λ result x. same_disk old new k x.unchanged) h
 
-  flush_keeps : (old new : FormatAccess D) (r : Reply) → Answers r (IsFlushed view old new) → IsKept view old new
-  flush_keeps old new R.Done h = h.kept
-  flush_keeps old new (R.Refused e) h = h.kept
-  flush_keeps old new (R.Data b) h = absurd h
-  flush_keeps old new (R.Size s) h = absurd h
-  flush_keeps old new (R.Mapped m c) h = absurd h
+  resized : (old new : FormatAccess D) (op : Operation) (n : ℕ) (effect : Type 0) (done : Type 0) (r : Reply) → IsTrue (view (driver old)).abilities.keeps_data → (effect → done)
+      → Answers r (IsResize view op n effect old new) → DoneOrRefused r done (λ e. disk view new ≡ disk view old)
+  resized old new op n effect done r k f h = done_or_refused r (IsResize view op n effect old new) done _ (λ x. f x.done) (λ e x. same_disk old new k x.unchanged) h
 
-  same_kept : (old new : FormatAccess D) → new ≡ old → IsKept view old new
-  same_kept old new e = subst (λ (x : FormatAccess D). IsKept view old x) (sym e) (record { below = refl; kind = record { abilities = refl; store_count = refl; store_features = λ i. refl } })
+  shrunk : (old new : FormatAccess D) (n : ℕ) → IsTrue (view (driver old)).abilities.keeps_data → HasShrunk view n old new → disk view new ≡ take n (disk view old)
+  shrunk old new n k h = cut_list (disk_value view old) (disk_value view new) (view (driver old)).size (view (driver new)).size n h.size (h.stays k)
 
-  write_step : (old new : FormatAccess D) (o : ℕ) (bytes : List ℕ) (r : Reply) → IsTrue (view (driver old)).abilities.keeps_data → IsDone r → Answers r (IsWrite view old new o bytes) → (disk view new ≡ splice (disk view old) o (map Byte bytes)) × IsKept view old new
-  write_step old new o bytes R.Done k d h = (write_list old new o bytes k h, h.kept)
-  write_step old new o bytes (R.Refused e) k d h = absurd d
-  write_step old new o bytes (R.Data b) k d h = absurd d
-  write_step old new o bytes (R.Size s) k d h = absurd d
-  write_step old new o bytes (R.Mapped m c) k d h = absurd d
+  grown : (old new : FormatAccess D) (mode : PreallocateMode) (n : ℕ) → IsTrue (view (driver old)).abilities.keeps_data → HasGrown view mode n old new → IsExtended mode (backed_value view old) n (disk view old) (disk view new)
+  grown old new mode n k h =
+      let s = (view (driver old)).size in
+      let l : length (disk view old) ≡ (view (driver old)).size = disk_length old in
+      let e = grown_list (disk_value view old) (disk_value view new) (view (driver old)).size (view (driver new)).size n h.size (h.stays k) in
+      extended_by mode (view (driver old)).abilities.takes_backing (lent_image view (backing old)).at (disk_value view new) n (disk view old) (disk view new)
+      (e ∙ ap (λ (m : ℕ). disk view old ++ values_from (disk_value view new) m (n - m)) (sym l))
+      (λ p a b. h.added k p (omega arith) b)
 
-  refused_step : (old new : FormatAccess D) (r : Reply) (outcome : Result Unit Error → Type 0) → IsTrue (view (driver old)).abilities.keeps_data → ((e : Error) → outcome (Err e) → IsSameImage view old new × IsKept view old new) → IsRefused r → Answers r outcome → (disk view new ≡ disk view old) × IsKept view old new
-  refused_step old new (R.Refused e) outcome k f d h = let x = f e h in (same_disk old new k x.0, x.1)
-  refused_step old new R.Done outcome k f d h = absurd d
-  refused_step old new (R.Data b) outcome k f d h = absurd d
-  refused_step old new (R.Size s) outcome k f d h = absurd d
-  refused_step old new (R.Mapped m c) outcome k f d h = absurd d
-
-  resize_refused : (old new : FormatAccess D) (n : ℕ) (mode : _) (e : Error) → IsResizeTo view n mode old new (Err e) → IsSameImage view old new × IsKept view old new
-  resize_refused old new n mode e h = ⊎_elim
-      (λ lt. let r = h.cut lt in (r.unchanged, r.kept))
-      (λ le. let r = h.grown le in (r.unchanged, r.kept))
+  resized_to : (old new : FormatAccess D) (mode : PreallocateMode) (n : ℕ) → IsTrue (view (driver old)).abilities.keeps_data → IsResizeTo view n mode old new (Ok tt) → IsExtended mode (backed_value view old) n (take n (disk view old)) (disk view new)
+  resized_to old new mode n k h =
+      let l : length (disk view old) ≡ (view (driver old)).size = disk_length old in
+      ⊎_elim
+      (λ (lt : n < (view (driver old)).size).
+      let whole : n ≤ length (disk view old) = omega arith in
+      is_extended_none mode (backed_value view old) n (take n (disk view old)) (disk view new) (as_long n (disk view old) whole) (shrunk old new n k (h.cut lt).done))
+      (λ (le : (view (driver old)).size ≤ n).
+      let e : take n (disk view old) ≡ disk view old = take_all n (disk view old) (omega arith) in
+      subst (λ (xs : List Value). IsExtended mode (backed_value view old) n xs (disk view new)) (sym e) (grown old new mode n k (h.grown le).done))
       (cases_lt n (view (driver old)).size)
+    where
+      as_long : (n : ℕ) (xs : List Value) → n ≤ length xs → n ≤ length (take n xs)
+      as_long n xs h = omega (arith, length-take n xs)
 
-  -- one step that is determined
-  step_list : (old new : FormatAccess D) (call : Call) (r : Reply) → IsTrue (view (driver old)).abilities.keeps_data → IsDetermined call r → IsStep view old call r new → (disk view new ≡ after call (disk view old)) × IsKept view old new
-  step_list old new (C.Write o bytes) r k d h = write_step old new o bytes.items r k d h
-  step_list old new (C.Read o n) r k d h = (ap (disk view) h.0, same_kept old new h.0)
-  step_list old new (C.GetMapping o n) r k d h = (ap (disk view) h.0, same_kept old new h.0)
-  step_list old new C.Size r k d h = (ap (disk view) h.0, same_kept old new h.0)
-  step_list old new C.Flush r k d h = (flushed old new r k h, flush_keeps old new r h)
-  step_list old new C.Sync r k d h = (flushed old new r k h, flush_keeps old new r h)
-  step_list old new C.InvalidateCache r k d h = (flushed old new r k h, flush_keeps old new r h)
-  step_list old new (C.Resize n mode) r k d h = refused_step old new r (IsResizeTo view n mode old new) k (resize_refused old new n mode) d h
-  step_list old new (C.ResizeGrow n mode) r k d h = refused_step old new r (IsResize view _ n (HasGrown view mode n old new) old new) k (λ e x. (x.unchanged, x.kept)) d h
-  step_list old new (C.ResizeShrink n) r k d h = refused_step old new r (IsResize view _ n (HasShrunk view n old new) old new) k (λ e x. (x.unchanged, x.kept)) d h
+  resize_refused : (old new : FormatAccess D) (n : ℕ) (mode : PreallocateMode) (e : Error) → IsTrue (view (driver old)).abilities.keeps_data → IsResizeTo view n mode old new (Err e) → disk view new ≡ disk view old
+  resize_refused old new n mode e k h = same_disk old new k (⊎_elim (λ lt. (h.cut lt).unchanged) (λ le. (h.grown le).unchanged) (cases_lt n (view (driver old)).size))
+
+  -- a write past the end fails a test
+  past_fails : (x : FormatAccess D) (o n : ℕ) → (view (driver x)).size < o + n → (e : Error) × FailsTest (view (driver x)) o n e
+  past_fails x o n h = ⊎_elim
+      (λ w. (Error.BeyondDisk, inr (refl, w, h)))
+      (λ w. (Error.ReadOnly, inl (refl, w)))
+      (bool_cases (view (driver x)).abilities.is_writable)
+
+  -- a write that succeeded lies in the disk
+  write_fits : (old new : FormatAccess D) (o : ℕ) (bytes : List ℕ) → IsWrite view old new o bytes (Ok tt) → o + length bytes ≤ (view (driver old)).size
+  write_fits old new o bytes h = ⊎_elim
+      (λ (past : (view (driver old)).size < o + length bytes).
+      let f = past_fails old o (length bytes) past in
+      let z = (h.tested f.0 f.1).0 in
+      let y : ⊥ = cc in
+      absurd y)
+      (λ (fits : o + length bytes ≤ (view (driver old)).size). fits)
+      (cases_lt (view (driver old)).size (o + length bytes))
+
+  untouched : (old new : FormatAccess D) (o : ℕ) (bytes : List ℕ) (e : Error) → IsWrite view old new o bytes (Err e) → IsTestRefusal (disk view old) o bytes e → disk view new ≡ disk view old
+  untouched old new o bytes e h t = ap (disk view) (⊎_elim
+      (λ (read_only : e ≡ Error.ReadOnly). ⊎_elim
+      (λ f. (h.tested e f).1)
+      (λ a. let none : ⊥ = subst (allowed (range_refusals view old Write o (length bytes))) read_only a in absurd none)
+      h.refusals)
+      (λ (past : length (disk view old) < o + length bytes).
+      let f = past_fails old o (length bytes) (omega (arith, disk_length old)) in
+      (h.tested f.0 f.1).1)
+      t)
+
+module _ {D St : Type 0} (view : D → View St) (lawful : (d : D) → IsLawful (view d)) (causes : (d : D) → AreCauses (view d)) where
+  value_in_list : (x : FormatAccess D) (p : ℕ) → disk_value view x p ≡ value_at (disk view x) p
+  value_in_list x p =
+      let s = (view (driver x)).size in
+      ⊎_elim
+      (λ (below : p < s). sym (listed_at (disk_value view x) s p (Byte 0) below))
+      (λ (above : s ≤ p).
+      let past : length (disk view x) ≤ p = omega (arith, disk_length view x) in
+      (image_is_layer view causes lawful x).past p above ∙ sym (get_or_past (disk view x) p (Byte 0) past))
+      (cases_lt p s)
+
+  -- what an image shows is its list, with zeroes past its end
+  values_in_list : (x : FormatAccess D) → disk_value view x ≡ value_at (disk view x)
+  values_in_list x = fun_ext (value_in_list x)
+
+  module _ (old new : FormatAccess D) (o : ℕ) (bytes : List ℕ) where
+    in_list : (P : (ℕ → Value) → (ℕ → Value) → Type 0) → P (disk_value view old) (disk_value view new) → P (value_at (disk view old)) (value_at (disk view new))
+    in_list P h = subst (λ (f : ℕ → Value). P f (value_at (disk view new))) (values_in_list old) (subst (λ (f : ℕ → Value). P (disk_value view old) f) (values_in_list new) h)
+
+    from_list : (P : (ℕ → Value) → (ℕ → Value) → Type 0) → P (value_at (disk view old)) (value_at (disk view new)) → P (disk_value view old) (disk_value view new)
+    from_list P h = subst (λ (f : ℕ → Value). P f (disk_value view new)) (sym (values_in_list old)) (subst (λ (f : ℕ → Value). P (value_at (disk view old)) f) (sym (values_in_list new)) h)
+
+    module _ (same : (view (driver new)).size ≡ (view (driver old)).size) (fits : o + length bytes ≤ (view (driver old)).size) where
+      same_length : length (disk view new) ≡ length (disk view old)
+      same_length = disk_length view new ∙ same ∙ sym (disk_length view old)
+
+      inside : o + length bytes ≤ length (disk view old)
+      inside = omega (arith, fits, disk_length view old)
+
+      written : IsChanged o (length bytes) (into bytes) (disk_value view old) (disk_value view new) → disk view new ≡ splice (disk view old) o (map Byte bytes)
+      written c = written_list (disk view old) o bytes (disk view new) same_length inside (in_list (λ f g. IsChanged o (length bytes) (into bytes) f g) c)
+
+      torn : IsChanged o (length bytes) (partly (into bytes)) (disk_value view old) (disk_value view new) → OldOrNewValues (disk view old) (splice (disk view old) o (map Byte bytes)) (disk view new)
+      torn c = torn_list (disk view old) o bytes (disk view new) same_length inside (in_list (λ f g. IsChanged o (length bytes) (partly (into bytes)) f g) c)
+
+      pub same_write : IsSameWrite view old o bytes new
+      same_write = record {
+        written = (written, λ e. from_list (λ f g. IsChanged o (length bytes) (into bytes) f g) (subst (λ (ys : List Value). IsChanged o (length bytes) (into bytes) (value_at (disk view old)) (value_at ys)) (sym e) (spliced (disk view old) o bytes inside)));
+        torn = (torn, λ t. from_list (λ f g. IsChanged o (length bytes) (partly (into bytes)) f g) (torn_values (disk view old) o bytes (disk view new) inside t));
+      }
+
+  write_done : (old new : FormatAccess D) (o : ℕ) (bytes : List ℕ) → IsTrue (view (driver old)).abilities.keeps_data → IsWrite view old new o bytes (Ok tt) → IsSpliced (disk view old) o bytes (disk view new)
+  write_done old new o bytes k h =
+      let fits = write_fits view old new o bytes h in
+      (inside old new o bytes h.same_size fits, written old new o bytes h.same_size fits (h.done k))
+
+  write_refused : (old new : FormatAccess D) (o : ℕ) (bytes : List ℕ) (e : Error) → IsTrue (view (driver old)).abilities.keeps_data → IsWrite view old new o bytes (Err e) → IsTorn (disk view old) o bytes e (disk view new)
+  write_refused old new o bytes e k h = record {
+    old_or_new = ⊎_elim
+        (λ (past : (view (driver old)).size < o + length bytes).
+        let f = past_fails view old o (length bytes) past in
+        let same : disk view new ≡ disk view old = ap (disk view) (h.tested f.0 f.1).1 in
+        record { each = λ p. inl (ap (λ (xs : List Value). value_at xs p) same); same_length = ap (λ (xs : List Value). length xs) same })
+        (λ (fits : o + length bytes ≤ (view (driver old)).size). torn old new o bytes h.same_size fits (h.torn k))
+        (cases_lt (view (driver old)).size (o + length bytes));
+    untouched = untouched view old new o bytes e h;
+  }
+
+  unreadable_in_list : (x : FormatAccess D) (o n : ℕ) (e why : Error) → e ≡ why → IsUnreadableIn (disk_value view x) o n why → IsUnreadableIn (value_at (disk view x)) o n e
+  unreadable_in_list x o n e why same u = subst (λ (z : Error). IsUnreadableIn (value_at (disk view x)) o n z) (sym same) (u.0, u.1, sym (value_in_list x u.0) ∙ u.2)
+
+  bound : (x : FormatAccess D) (o n : ℕ) (e : Error) → read_cause view x o n e → ReadBound (disk_value view x) o n e
+  bound x o n e c = (image_is_layer view causes lawful x).bound o n e c
 
   -- what a read answers is the part of the list
-  read_part : (x : FormatAccess D) (o n : ℕ) (bytes : List ℕ) → length bytes ≡ n → HasValues (disk_value view x) o bytes → IsPartOf (disk view x) o n bytes
-  read_part x o n bytes len h = (
-    len,
-    λ k lt.
-        let i : k < length bytes = omega arith in
-        let s = (view (driver x)).size in
-        ⊎_elim
-        (λ (below : o + k < s). listed_at (disk_value view x) s (o + k) (Byte 0) below ∙ h k i)
-        (λ (above : s ≤ o + k).
-        let past : length (disk view x) ≤ o + k = omega (arith, listed_length (disk_value view x) s) in
-        get_or_past (disk view x) (o + k) (Byte 0) past ∙ sym ((image_is_layer view causes lawful x).past (o + k) above) ∙ h k i)
-        (cases_lt (o + k) s),
-  )
+  read_part : (x : FormatAccess D) (o n : ℕ) (r : Reply) → IsReadReply view x o n r → IsDataOf (disk view x) o n r
+  read_part x o n (R.Data bytes) h = (h.0, λ k lt. let i : k < length bytes.items = omega (arith, h.0) in sym (value_in_list x (o + k)) ∙ h.1 k i)
+  read_part x o n R.Done h = absurd h
+  read_part x o n (R.Size s) h = absurd h
+  read_part x o n (R.Mapped m c) h = absurd h
+  read_part x o n (R.Refused e) h = λ unreadable. ⊎_elim
+      (λ k. unreadable_in_list x o n e Error.InvalidData k (bound x o n Error.InvalidData (subst (allowed (buffer_reasons view x o n)) k h)))
+      (λ k. unreadable_in_list x o n e Error.NoAccess k (bound x o n Error.NoAccess (subst (allowed (buffer_reasons view x o n)) k h)))
+      unreadable
 
-  fits : (old new : FormatAccess D) (call : Call) (r : Reply) → IsStep view old call r new → FitsDisk (disk view old) call r
-  fits old new (C.Read o n) (R.Data bytes) h = read_part old o n bytes.items h.1.0 h.1.1
-  fits old new (C.Read o n) R.Done h = tt
-  fits old new (C.Read o n) (R.Size s) h = tt
-  fits old new (C.Read o n) (R.Mapped m c) h = tt
-  fits old new (C.Read o n) (R.Refused e) h = tt
-  fits old new (C.Write o bytes) r h = tt
-  fits old new (C.GetMapping o n) r h = tt
-  fits old new C.Size r h = tt
-  fits old new C.Flush r h = tt
-  fits old new C.Sync r h = tt
-  fits old new C.InvalidateCache r h = tt
-  fits old new (C.Resize n mode) r h = tt
-  fits old new (C.ResizeGrow n mode) r h = tt
-  fits old new (C.ResizeShrink n) r h = tt
+  size_reply : (x : FormatAccess D) (r : Reply) → IsSizeReply view x r → IsLengthOf (disk view x) r
+  size_reply x (R.Size s) h = h ∙ sym (disk_length view x)
+  size_reply x R.Done h = absurd h
+  size_reply x (R.Data bytes) h = absurd h
+  size_reply x (R.Mapped m c) h = absurd h
+  size_reply x (R.Refused e) h = absurd h
 
-  -- a run whose steps are all determined, over one flat list
-  pub flat_run : (old new : FormatAccess D) (calls : List Call) (replies : List Reply) → IsTrue (view (driver old)).abilities.keeps_data → AreDetermined calls replies → IsRun view old calls replies new → IsFlatRun view old calls replies new
-  flat_run old new [] [] k d h = record { disk_after = ap (disk view) h; replies_fit = tt }
-  flat_run old new [] (r ∷ rs) k d h = absurd h
-  flat_run old new (c ∷ cs) [] k d h = absurd h
-  flat_run old new (c ∷ cs) (r ∷ rs) k d h =
-      let s = step_list old h.0 c r k d.0 h.1 in
-      let keeps : IsTrue (view (driver h.0)).abilities.keeps_data = rw s.1.kind.abilities k in
-      let rest = flat_run h.0 new cs rs keeps d.1 h.2 in
-      record {
-        disk_after = rest.disk_after ∙ ap (after_all cs) s.0;
-        replies_fit = (fits old h.0 c r h.1, subst (λ (xs : List Value). AllFit xs cs rs) s.0 rest.replies_fit);
-      }
+  -- one step, on lists
+  flat_step : (old new : FormatAccess D) (call : Call) (r : Reply) → IsTrue (view (driver old)).abilities.keeps_data → IsStep view old call r new → IsFlatStep (backed_value view old) (disk view old) call r (disk view new)
+  flat_step old new (C.Read o n) r k h = (ap (disk view) h.0, read_part old o n r h.1)
+  flat_step old new C.Size r k h = (ap (disk view) h.0, size_reply old r h.1)
+  flat_step old new (C.GetMapping o n) r k h = ap (disk view) h.0
+  flat_step old new (C.Write o bytes) r k h = done_or_refused r (IsWrite view old new o bytes.items) _ _ (write_done old new o bytes.items k) (λ e x. write_refused old new o bytes.items e k x) h
+  flat_step old new C.Flush r k h = flushed view old new r k h
+  flat_step old new C.Sync r k h = flushed view old new r k h
+  flat_step old new C.InvalidateCache r k h = flushed view old new r k h
+  flat_step old new (C.Resize n mode) r k h = done_or_refused r (IsResizeTo view n mode old new) _ _ (resized_to view old new mode n k) (λ e x. resize_refused view old new n mode e k x) h
+  flat_step old new (C.ResizeGrow n mode) r k h = resized view old new _ n (HasGrown view mode n old new) _ r k (grown view old new mode n k) h
+  flat_step old new (C.ResizeShrink n) r k h = resized view old new _ n (HasShrunk view n old new) _ r k (shrunk view old new n k) h
+
+  -- a run, on lists
+  pub flat_history : (old new : FormatAccess D) (calls : List Call) (replies : List Reply) → IsTrue (view (driver old)).abilities.keeps_data → IsRun view old calls replies new → IsFlatHistory (backed_value view old) (disk view old) calls replies (disk view new)
+  flat_history old new [] [] k h = ap (disk view) h
+  flat_history old new [] (r ∷ rs) k h = absurd h
+  flat_history old new (c ∷ cs) [] k h = absurd h
+  flat_history old new (c ∷ cs) (r ∷ rs) k h =
+      let s = step_kept view old h.0 c r h.1 in
+      let keeps : IsTrue (view (driver h.0)).abilities.keeps_data = rw s.kind.abilities k in
+      let rest = flat_history h.0 new cs rs keeps h.2 in
+      (disk view h.0, flat_step old h.0 c r k h.1, subst (λ (below : ℕ → Value). IsFlatHistory below (disk view h.0) cs rs (disk view new)) (same_backed view old h.0 s) rest)

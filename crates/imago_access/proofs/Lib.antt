@@ -11,4 +11,7 @@ pub mod Images
 pub mod SizeSteps
 pub mod Greatest
 pub mod RunSteps
+pub mod DiskLists
 pub mod Flat
+pub mod Determined
+pub mod Successes

@@ -1,93 +1,70 @@
-use Rattle.std.specs.Prelude.{◌≡◌, ℕ, ◌+◌, ◌<◌, List, [], ◌∷◌, ◌++◌, length, take, drop, map, slice_index, get_or}
+use Rattle.std.specs.Prelude.{◌≡◌, ℕ, ◌+◌, ◌-◌, ◌<◌, ◌≤◌, ◌⊎◌, ◌↔◌, List, ◌++◌, length, take, drop, map, replicate, slice_index, get_or}
 use Rattle.std.specs.List.{range_with_len}
 use Rattle.imago_storage.specs.declared.error.Error.{Error}
+use Rattle.imago_drivers.specs.declared.format.PreallocateMode.{PreallocateMode}
+use Rattle.imago_drivers.specs.declared.format.PreallocateMode.TheVariants as Mode
 use Rattle.imago_drivers.specs.Place.{Value, Byte}
+use Rattle.imago_drivers.specs.Changes.{IsChanged, into, partly, given_back}
 use Rattle.imago_drivers.specs.View.{View}
 use Rattle.imago_access.specs.declared.access.FormatAccess.{FormatAccess}
-use Rattle.imago_access.specs.declared.run.Call.{Call}
-use Rattle.imago_access.specs.declared.run.Call.TheVariants as C
-use Rattle.imago_access.specs.declared.run.Reply.{Reply}
-use Rattle.imago_access.specs.declared.run.Reply.TheVariants as R
-use Rattle.imago_access.specs.Chain.{driver, disk_value}
+use Rattle.imago_access.specs.Chain.{driver, backing, disk_value, lent_image}
 
--- the first n of these values, as a list
-abbrev pub listed : (ℕ → Value) → ℕ → List Value
-listed f n = map f (range_with_len 0 n)
+-- the n values from the offset o on, as a list
+abbrev pub values_from : (ℕ → Value) → ℕ → ℕ → List Value
+values_from f o n = map f (range_with_len o n)
 
 -- the disk of an image, as a list: what a read of each offset gives
 abbrev pub disk : {D St : Type 0} → (D → View St) → FormatAccess D → List Value
-disk view x = listed (disk_value view x) (view (driver x)).size
+disk view x = values_from (disk_value view x) 0 (view (driver x)).size
+
+-- what an offset of an image shows where it is left to the layers below: 0 for a driver that takes none
+abbrev pub backed_value : {D St : Type 0} → (D → View St) → FormatAccess D → ℕ → Value
+backed_value view x = given_back (view (driver x)).abilities.takes_backing (lent_image view (backing x)).at
+
+-- the value at an offset of the list, 0 past its end
+abbrev pub value_at : List Value → ℕ → Value
+value_at xs p = get_or xs p (Byte 0)
 
 -- the list with these new ones from the offset on
 abbrev pub splice : List Value → ℕ → List Value → List Value
 splice xs at new = take at xs ++ new ++ drop (at + length new) xs
 
-abbrev pub IsDone : Reply → Type 0
-IsDone R.Done = Unit {0}
-IsDone (R.Refused e) = ⊥
-IsDone (R.Data bytes) = ⊥
-IsDone (R.Size size) = ⊥
-IsDone (R.Mapped mapping count) = ⊥
+-- Each offset has the old value or the target's, and no value comes or goes. A target is the old list with a range changed, so
+-- every value outside that range is as it was.
+pub record OldOrNewValues (old target now : List Value) : Type 0 where
+  pub each : (p : ℕ) → (value_at now p ≡ value_at old p) ⊎ (value_at now p ≡ value_at target p)
+  pub same_length : length now ≡ length old
 
-abbrev pub IsRefused : Reply → Type 0
-IsRefused (R.Refused e) = Unit {0}
-IsRefused R.Done = ⊥
-IsRefused (R.Data bytes) = ⊥
-IsRefused (R.Size size) = ⊥
-IsRefused (R.Mapped mapping count) = ⊥
+-- the first refusal of a write, which changes nothing: the image is read-only, or the range passes its end
+abbrev pub IsTestRefusal : List Value → ℕ → List ℕ → Error → Type 0
+IsTestRefusal xs o bytes e = (e ≡ Error.ReadOnly) ⊎ (length xs < o + length bytes)
 
--- The call says by its reply what the disk is afterwards: a write that succeeds, a resize that doesn't, and what changes nothing.
-abbrev pub IsDetermined : Call → Reply → Type 0
-IsDetermined (C.Write o bytes) r = IsDone r
-IsDetermined (C.Resize n mode) r = IsRefused r
-IsDetermined (C.ResizeGrow n mode) r = IsRefused r
-IsDetermined (C.ResizeShrink n) r = IsRefused r
-IsDetermined (C.Read o n) r = Unit {0}
-IsDetermined (C.GetMapping o n) r = Unit {0}
-IsDetermined C.Size r = Unit {0}
-IsDetermined C.Flush r = Unit {0}
-IsDetermined C.Sync r = Unit {0}
-IsDetermined C.InvalidateCache r = Unit {0}
+-- a write that succeeded: the range lies in the list, and the bytes are spliced in
+abbrev pub IsSpliced : List Value → ℕ → List ℕ → List Value → Type 0
+IsSpliced xs o bytes ys = (o + length bytes ≤ length xs) × (ys ≡ splice xs o (map Byte bytes))
 
-abbrev pub AreDetermined : List Call → List Reply → Type 0
-AreDetermined [] replies = Unit {0}
-AreDetermined (call ∷ calls) [] = Unit {0}
-AreDetermined (call ∷ calls) (reply ∷ replies) = IsDetermined call reply × AreDetermined calls replies
+-- A refused write: each value of the range is the old one or the new one, all others are the old ones.
+pub record IsTorn (xs : List Value) (o : ℕ) (bytes : List ℕ) (e : Error) (ys : List Value) : Type 0 where
+  pub old_or_new : OldOrNewValues xs (splice xs o (map Byte bytes)) ys
+  pub untouched : IsTestRefusal xs o bytes e → ys ≡ xs
 
--- the disk after a call that is determined
-abbrev pub after : Call → List Value → List Value
-after (C.Write o bytes) xs = splice xs o (map Byte bytes.items)
-after (C.Read o n) xs = xs
-after (C.Resize n mode) xs = xs
-after (C.ResizeGrow n mode) xs = xs
-after (C.ResizeShrink n) xs = xs
-after (C.GetMapping o n) xs = xs
-after C.Size xs = xs
-after C.Flush xs = xs
-after C.Sync xs = xs
-after C.InvalidateCache xs = xs
+-- the list, extended to n values: by zeroes, or by what the layers below have there
+abbrev pub extended : PreallocateMode → (ℕ → Value) → ℕ → List Value → List Value
+extended Mode.Zero below n xs = xs ++ replicate (n - length xs) (Byte 0)
+extended mode below n xs = xs ++ values_from below (length xs) (n - length xs)
 
--- the disk after calls that are determined: each write spliced in, in order
-abbrev pub after_all : List Call → List Value → List Value
-after_all [] xs = xs
-after_all (call ∷ calls) xs = after_all calls (after call xs)
+-- ys is such a list; what comes in without preallocation may be anything
+abbrev pub IsExtended : PreallocateMode → (ℕ → Value) → ℕ → List Value → List Value → Type 0
+IsExtended Mode.None below n xs ys = (added : List Value) × (length added ≡ n - length xs) × (ys ≡ xs ++ added)
+IsExtended mode below n xs ys = ys ≡ extended mode below n xs
 
 -- the data of a read are the part of the list at its offset, with zeroes past its end
 abbrev pub IsPartOf : List Value → ℕ → ℕ → List ℕ → Type 0
-IsPartOf xs o n bytes = (length bytes ≡ n) × ((k : ℕ) → k < n → get_or xs (o + k) (Byte 0) ≡ Byte (slice_index bytes k))
+IsPartOf xs o n bytes = (length bytes ≡ n) × ((k : ℕ) → k < n → value_at xs (o + k) ≡ Byte (slice_index bytes k))
 
-abbrev pub FitsDisk : List Value → Call → Reply → Type 0
-FitsDisk xs (C.Read o n) (R.Data bytes) = IsPartOf xs o n bytes.items
-FitsDisk xs call reply = Unit {0}
-
--- each data reply is the part, at its offset, of the list that stands at its point of the run
-abbrev pub AllFit : List Value → List Call → List Reply → Type 0
-AllFit xs [] replies = Unit {0}
-AllFit xs (call ∷ calls) [] = Unit {0}
-AllFit xs (call ∷ calls) (reply ∷ replies) = FitsDisk xs call reply × AllFit (after call xs) calls replies
-
--- A run over one flat list: the disk at its end is the first one with each write spliced in, and each data reply is the part of
--- the list as it stands then.
-pub record IsFlatRun {D St : Type 0} (view : D → View St) (old : FormatAccess D) (calls : List Call) (replies : List Reply) (new : FormatAccess D) : Type 0 where
-  pub disk_after : disk view new ≡ after_all calls (disk view old)
-  pub replies_fit : AllFit (disk view old) calls replies
+-- A write to an image, offset by offset and as a list: the two say the same.
+pub record IsSameWrite {D St : Type 0} (view : D → View St) (old : FormatAccess D) (o : ℕ) (bytes : List ℕ) (new : FormatAccess D) : Type 0 where
+  pub written : IsChanged o (length bytes) (into bytes) (disk_value view old) (disk_value view new)
+      ↔ (disk view new ≡ splice (disk view old) o (map Byte bytes))
+  pub torn : IsChanged o (length bytes) (partly (into bytes)) (disk_value view old) (disk_value view new)
+      ↔ OldOrNewValues (disk view old) (splice (disk view old) o (map Byte bytes)) (disk view new)

@@ -10,5 +10,7 @@ pub mod Sizes
 pub mod Runs
 pub mod Disk
 pub mod Alignments
+pub mod Histories
+pub mod Success
 pub mod Lending
 pub mod ChainLaws

@@ -1,20 +1,77 @@
-//! Laws of images that follow from what each call promises.
-ghost use Rattle.std.specs.Prelude.{List, IsTrue};
+//! Laws of images that follow from what each call promises. The functions do nothing.
+ghost use Rattle.std.specs.Prelude.{◌≡◌, ℕ, ◌+◌, ◌≤◌, List, length, IsTrue};
 ghost use Rattle.imago_access.specs.declared.access.FormatAccess.{FormatAccess};
 ghost use Rattle.imago_access.specs.declared.run.Call.{Call};
 ghost use Rattle.imago_access.specs.declared.run.Reply.{Reply};
 ghost use Rattle.imago_access.specs.Chain.{driver};
+ghost use Rattle.imago_access.specs.Calls.{IsKept};
 ghost use Rattle.imago_access.specs.Runs.{IsRun};
-ghost use Rattle.imago_access.specs.Disk.{AreDetermined, IsFlatRun};
+ghost use Rattle.imago_access.specs.Disk.{disk, backed_value, IsSameWrite};
+ghost use Rattle.imago_access.specs.Histories.{IsFlatHistory, AreDetermined, IsFlatRun};
+ghost use Rattle.imago_access.specs.Success.{ReadsSucceed, ReadableRangesAreRead, WritesSucceed, GrowthsSucceed, CutsSucceed};
 
 use imago_drivers::drivers::FormatDriverInstance;
 
-/// A run in which each write succeeds and no size changes is one over a flat list: the disk at its end is the first one
-/// with each write spliced in, in order, and the data of each read is the part of the list at its point of the run.
+/// Every run is a history of one flat list, from the first disk to the last: a write that succeeds is spliced in, a
+/// refused one leaves each byte of its range old or new and all others old, a resize cuts the list or extends it, and
+/// nothing else changes it; each read and each size answers the list as it stands then.
+pub fn flat_histories<D: FormatDriverInstance>()
+    ensures { (old new : FormatAccess D) (calls : List Call) (replies : List Reply)
+        → IsTrue (D.view (driver old)).abilities.keeps_data
+        → IsRun D.view old calls replies new
+        → IsFlatHistory (backed_value D.view old) (disk D.view old) calls replies (disk D.view new) }
+{}
+
+/// No run changes a layer below, or what the driver is good for, whatever its storages keep.
+pub fn runs_keep_layers_below<D: FormatDriverInstance>()
+    ensures { (old new : FormatAccess D) (calls : List Call) (replies : List Reply)
+        → IsRun D.view old calls replies new
+        → IsKept D.view old new }
+{}
+
+/// A run whose replies say what the disk is afterwards is one over a flat list: the disk at its end is the first one
+/// with each successful write, cut and growth applied, in order, and each read and each size answers the list at its
+/// point of the run. A write that a driver refused half-way doesn't say it, nor does a growth without preallocation.
 pub fn flat_runs<D: FormatDriverInstance>()
     ensures { (old new : FormatAccess D) (calls : List Call) (replies : List Reply)
         → IsTrue (D.view (driver old)).abilities.keeps_data
-        → AreDetermined calls replies
+        → AreDetermined (backed_value D.view old) (disk D.view old) calls replies
         → IsRun D.view old calls replies new
         → IsFlatRun D.view old calls replies new }
+{}
+
+/// A write inside a disk whose size stays is the same offset by offset as on lists, one that succeeds and a refused one.
+pub fn writes_on_lists<D: FormatDriverInstance>()
+    ensures { (old new : FormatAccess D) (o : ℕ) (bytes : List ℕ)
+        → (D.view (driver new)).size ≡ (D.view (driver old)).size
+        → o + length bytes ≤ (D.view (driver old)).size
+        → IsSameWrite D.view old o bytes new }
+{}
+
+/// A read of an image whose devices are reliable, with no cause of a refusal in the range, is refused for want of memory
+/// alone, and succeeds where no driver takes any.
+pub fn reads_succeed<D: FormatDriverInstance>()
+    ensures { ReadsSucceed D.view }
+{}
+
+/// A read of an image whose devices are reliable, and whose bytes in the range can all be read, is refused for nothing
+/// but want of memory, a range that wraps around at a storage, or special bytes that a driver doesn't read.
+pub fn readable_ranges_are_read<D: FormatDriverInstance>()
+    ensures { ReadableRangesAreRead D.view }
+{}
+
+/// A write of a range inside the disk, to a writable image whose devices are reliable, with no cause of a refusal, is
+/// refused for want of memory alone, and succeeds where the driver takes none.
+pub fn writes_succeed<D: FormatDriverInstance>()
+    ensures { WritesSucceed D.view }
+{}
+
+/// The same of a growth to a size, which is also refused where the driver doesn't offer it. A resize is a growth or a cut.
+pub fn growths_succeed<D: FormatDriverInstance>()
+    ensures { GrowthsSucceed D.view }
+{}
+
+/// The same of a cut to a size.
+pub fn cuts_succeed<D: FormatDriverInstance>()
+    ensures { CutsSucceed D.view }
 {}

@@ -1,4 +1,4 @@
-use Rattle.imago_access.proofs.Flat.{flat_run}
+use Rattle.imago_access.proofs.Determined.{flat_run}
 use Rattle.imago_access.proofs.laws.flat_runs.Goals as goal
 
 pub returns : goal.returns
