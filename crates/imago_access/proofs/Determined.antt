@@ -40,7 +40,7 @@ module _ (below : ℕ → Value) where
   step_after xs ys (C.ResizeShrink n) (R.Mapped m c) d h = absurd h
   step_after xs ys (C.Read o n) r d h = h.0
   step_after xs ys C.Size r d h = h.0
-  step_after xs ys (C.GetMapping o n) r d h = h
+  step_after xs ys (C.GetMapping o n) r d h = h.0
   step_after xs ys C.Flush r d h = h
   step_after xs ys C.Sync r d h = h
   step_after xs ys C.InvalidateCache r d h = h
@@ -52,7 +52,7 @@ module _ (below : ℕ → Value) where
   step_fits xs ys (C.Resize n mode) r h = tt
   step_fits xs ys (C.ResizeGrow n mode) r h = tt
   step_fits xs ys (C.ResizeShrink n) r h = tt
-  step_fits xs ys (C.GetMapping o n) r h = tt
+  step_fits xs ys (C.GetMapping o n) r h = h.1
   step_fits xs ys C.Flush r h = tt
   step_fits xs ys C.Sync r h = tt
   step_fits xs ys C.InvalidateCache r h = tt

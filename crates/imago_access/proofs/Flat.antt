@@ -19,11 +19,13 @@ use Rattle.imago_access.specs.declared.run.Reply.{Reply}
 use Rattle.imago_access.specs.declared.run.Reply.TheVariants as R
 use Rattle.imago_access.specs.Chain.{driver, backing, disk_value, lent_image, read_cause}
 use Rattle.imago_access.specs.ChainLaws.{image_is_layer}
+use Rattle.imago_access.specs.Target.{target}
 use Rattle.imago_access.specs.Calls.{IsKept, IsWrite, FailsTest, range_refusals}
 use Rattle.imago_access.specs.Sizes.{IsSameImage, IsResize, IsResizeTo, IsFlushed, HasGrown, HasShrunk}
-use Rattle.imago_access.specs.Runs.{Answers, IsStep, IsRun, IsReadReply, IsSizeReply, buffer_reasons}
+use Rattle.imago_access.specs.Runs.{Answers, IsStep, IsRun, IsReadReply, IsMappedReply, IsSizeReply, buffer_reasons}
 use Rattle.imago_access.specs.Disk.{values_from, disk, backed_value, value_at, splice, OldOrNewValues, IsTestRefusal, IsSpliced, IsTorn, IsExtended, IsSameWrite}
-use Rattle.imago_access.specs.Histories.{DoneOrRefused, IsDataOf, IsLengthOf, IsFlatStep, IsFlatHistory}
+use Rattle.imago_access.specs.Histories.{DoneOrRefused, IsDataOf, IsLengthOf, IsMappingOf, IsFlatStep, IsFlatHistory}
+use Rattle.imago_access.proofs.Targets.{target_shows, mapped_value}
 use Rattle.imago_access.proofs.DiskLists.{listed_at, from_length, same_listed, spliced, written_list, torn_list, torn_values, cut_list, grown_list, extended_by, is_extended_none}
 
 bool_cases : (b : Bool) → (b ≡ true) ⊎ (b ≡ false)
@@ -238,11 +240,18 @@ module _ {D St : Type 0} (view : D → View St) (lawful : (d : D) → IsLawful (
   size_reply x (R.Mapped m c) h = absurd h
   size_reply x (R.Refused e) h = absurd h
 
+  mapped_part : (x : FormatAccess D) (o n : ℕ) (r : Reply) → IsMappedReply view x o n r → IsMappingOf (disk view x) o n r
+  mapped_part x o n (R.Mapped m c) h = (h.within, λ k lt. mapped_value m k (target view x (o + k)) (value_at (disk view x) (o + k)) (sym (value_in_list x (o + k)) ∙ target_shows view x (o + k)) (h.leads k lt))
+  mapped_part x o n (R.Refused e) h = λ unreadable. sym (value_in_list x o) ∙ h.1 unreadable
+  mapped_part x o n R.Done h = absurd h
+  mapped_part x o n (R.Data bytes) h = absurd h
+  mapped_part x o n (R.Size s) h = absurd h
+
   -- one step, on lists
   flat_step : (old new : FormatAccess D) (call : Call) (r : Reply) → IsTrue (view (driver old)).abilities.keeps_data → IsStep view old call r new → IsFlatStep (backed_value view old) (disk view old) call r (disk view new)
   flat_step old new (C.Read o n) r k h = (ap (disk view) h.0, read_part old o n r h.1)
   flat_step old new C.Size r k h = (ap (disk view) h.0, size_reply old r h.1)
-  flat_step old new (C.GetMapping o n) r k h = ap (disk view) h.0
+  flat_step old new (C.GetMapping o n) r k h = (ap (disk view) h.0, mapped_part old o n r h.1)
   flat_step old new (C.Write o bytes) r k h = done_or_refused r (IsWrite view old new o bytes.items) _ _ (write_done old new o bytes.items k) (λ e x. write_refused old new o bytes.items e k x) h
   flat_step old new C.Flush r k h = flushed view old new r k h
   flat_step old new C.Sync r k h = flushed view old new r k h

@@ -11,6 +11,7 @@ pub mod Images
 pub mod SizeSteps
 pub mod Greatest
 pub mod RunSteps
+pub mod Targets
 pub mod DiskLists
 pub mod Flat
 pub mod Determined

@@ -1,11 +1,13 @@
-use Rattle.std.specs.Prelude.{◌≡◌, ◌≢◌, ℕ, ◌≤◌, ◌⊎◌, List, [], ◌∷◌, length, take, map}
+use Rattle.std.specs.Prelude.{◌≡◌, ◌≢◌, ℕ, ◌+◌, ◌<◌, ◌≤◌, ◌⊎◌, List, [], ◌∷◌, length, take, map}
 use Rattle.imago_storage.specs.declared.error.Error.{Error}
 use Rattle.imago_drivers.specs.declared.format.PreallocateMode.{PreallocateMode}
 use Rattle.imago_drivers.specs.declared.format.PreallocateMode.TheVariants as Mode
-use Rattle.imago_drivers.specs.Place.{Value, Byte}
+use Rattle.imago_drivers.specs.Place.{Value, Byte, Unreadable}
 use Rattle.imago_drivers.specs.LayerBelow.{IsUnreadableIn}
 use Rattle.imago_drivers.specs.View.{View}
 use Rattle.imago_access.specs.declared.access.FormatAccess.{FormatAccess}
+use Rattle.imago_access.specs.declared.mapping.Mapping.{Mapping}
+use Rattle.imago_access.specs.declared.mapping.Mapping.TheVariants as M
 use Rattle.imago_access.specs.declared.run.Call.{Call}
 use Rattle.imago_access.specs.declared.run.Call.TheVariants as C
 use Rattle.imago_access.specs.declared.run.Reply.{Reply}
@@ -30,6 +32,19 @@ abbrev pub IsLengthOf : List Value → Reply → Type 0
 IsLengthOf xs (R.Size size) = size ≡ length xs
 IsLengthOf xs reply = ⊥
 
+-- a value that a mapping names: zero, or a byte
+abbrev pub IsMappedTo : Mapping → Value → Type 0
+IsMappedTo (M.Zero explicit) v = v ≡ Byte 0
+IsMappedTo (M.Raw layer storage offset writable) v = (b : ℕ) × (v ≡ Byte b)
+IsMappedTo (M.Special layer offset) v = (b : ℕ) × (v ≡ Byte b)
+IsMappedTo M.Eof v = ⊥
+
+-- the reply to a request for a mapping: values of the list are what it names, or the first one can't be read
+abbrev pub IsMappingOf : List Value → ℕ → ℕ → Reply → Type 0
+IsMappingOf xs o n (R.Mapped mapping count) = (count ≤ n) × ((k : ℕ) → k < count → IsMappedTo mapping (value_at xs (o + k)))
+IsMappingOf xs o n (R.Refused e) = (e ≡ Error.InvalidData) ⊎ (e ≡ Error.NoAccess) → value_at xs o ≡ Unreadable e
+IsMappingOf xs o n reply = ⊥
+
 -- A call on the list xs, with that reply, may leave the list ys. `below` is what offsets show that are left to the layers below.
 abbrev pub IsFlatStep : (ℕ → Value) → List Value → Call → Reply → List Value → Type 0
 IsFlatStep below xs (C.Read o n) r ys = (ys ≡ xs) × IsDataOf xs o n r
@@ -38,7 +53,7 @@ IsFlatStep below xs (C.Resize n mode) r ys = DoneOrRefused r (IsExtended mode be
 IsFlatStep below xs (C.ResizeGrow n mode) r ys = DoneOrRefused r (IsExtended mode below n xs ys) (λ e. ys ≡ xs)
 IsFlatStep below xs (C.ResizeShrink n) r ys = DoneOrRefused r (ys ≡ take n xs) (λ e. ys ≡ xs)
 IsFlatStep below xs C.Size r ys = (ys ≡ xs) × IsLengthOf xs r
-IsFlatStep below xs (C.GetMapping o n) r ys = ys ≡ xs
+IsFlatStep below xs (C.GetMapping o n) r ys = (ys ≡ xs) × IsMappingOf xs o n r
 IsFlatStep below xs C.Flush r ys = ys ≡ xs
 IsFlatStep below xs C.Sync r ys = ys ≡ xs
 IsFlatStep below xs C.InvalidateCache r ys = ys ≡ xs
@@ -79,10 +94,11 @@ abbrev pub after_all : (ℕ → Value) → List Call → List Reply → List Val
 after_all below (call ∷ calls) (reply ∷ replies) xs = after_all below calls replies (after below call reply xs)
 after_all below calls replies xs = xs
 
--- the data of a read are the part of the list, and a size is its length
+-- the data of a read are the part of the list, a size is its length, and a mapping names what it has
 abbrev pub FitsList : List Value → Call → Reply → Type 0
 FitsList xs (C.Read o n) reply = IsDataOf xs o n reply
 FitsList xs C.Size reply = IsLengthOf xs reply
+FitsList xs (C.GetMapping o n) reply = IsMappingOf xs o n reply
 FitsList xs call reply = Unit {0}
 
 -- each reply fits the list that stands at its point of the run
@@ -90,8 +106,8 @@ abbrev pub AllFit : (ℕ → Value) → List Value → List Call → List Reply 
 AllFit below xs (call ∷ calls) (reply ∷ replies) = FitsList xs call reply × AllFit below (after below call reply xs) calls replies
 AllFit below xs calls replies = Unit {0}
 
--- A run over one flat list: the disk at its end is the first one with each successful call applied, in order, and each read
--- and each size answers the list as it stands then.
+-- A run over one flat list: the disk at its end is the first one with each successful call applied, in order, and each read,
+-- each size and each mapping answers the list as it stands then.
 pub record IsFlatRun {D St : Type 0} (view : D → View St) (old : FormatAccess D) (calls : List Call) (replies : List Reply) (new : FormatAccess D) : Type 0 where
   pub disk_after : disk view new ≡ after_all (backed_value view old) calls replies (disk view old)
   pub replies_fit : AllFit (backed_value view old) (disk view old) calls replies

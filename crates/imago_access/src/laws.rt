@@ -1,9 +1,11 @@
 //! Laws of images that follow from what each call promises. The functions do nothing.
 ghost use Rattle.std.specs.Prelude.{◌≡◌, ℕ, ◌+◌, ◌≤◌, List, length, IsTrue};
+ghost use Rattle.imago_drivers.specs.Place.{Byte, shown};
 ghost use Rattle.imago_access.specs.declared.access.FormatAccess.{FormatAccess};
 ghost use Rattle.imago_access.specs.declared.run.Call.{Call};
 ghost use Rattle.imago_access.specs.declared.run.Reply.{Reply};
-ghost use Rattle.imago_access.specs.Chain.{driver};
+ghost use Rattle.imago_access.specs.Chain.{driver, disk_value};
+ghost use Rattle.imago_access.specs.Target.{target};
 ghost use Rattle.imago_access.specs.Calls.{IsKept};
 ghost use Rattle.imago_access.specs.Runs.{IsRun};
 ghost use Rattle.imago_access.specs.Disk.{disk, backed_value, IsSameWrite};
@@ -14,7 +16,7 @@ use imago_drivers::drivers::FormatDriverInstance;
 
 /// Every run is a history of one flat list, from the first disk to the last: a write that succeeds is spliced in, a
 /// refused one leaves each byte of its range old or new and all others old, a resize cuts the list or extends it, and
-/// nothing else changes it; each read and each size answers the list as it stands then.
+/// nothing else changes it; each read, each size and each mapping answers the list as it stands then.
 pub fn flat_histories<D: FormatDriverInstance>()
     ensures { (old new : FormatAccess D) (calls : List Call) (replies : List Reply)
         → IsTrue (D.view (driver old)).abilities.keeps_data
@@ -30,8 +32,9 @@ pub fn runs_keep_layers_below<D: FormatDriverInstance>()
 {}
 
 /// A run whose replies say what the disk is afterwards is one over a flat list: the disk at its end is the first one
-/// with each successful write, cut and growth applied, in order, and each read and each size answers the list at its
-/// point of the run. A write that a driver refused half-way doesn't say it, nor does a growth without preallocation.
+/// with each successful write, cut and growth applied, in order, and each read, each size and each mapping answers the
+/// list at its point of the run. A write that a driver refused half-way doesn't say it, nor does a growth without
+/// preallocation.
 pub fn flat_runs<D: FormatDriverInstance>()
     ensures { (old new : FormatAccess D) (calls : List Call) (replies : List Reply)
         → IsTrue (D.view (driver old)).abilities.keeps_data
@@ -46,6 +49,11 @@ pub fn writes_on_lists<D: FormatDriverInstance>()
         → (D.view (driver new)).size ≡ (D.view (driver old)).size
         → o + length bytes ≤ (D.view (driver old)).size
         → IsSameWrite D.view old o bytes new }
+{}
+
+/// What a read of an offset gives is what stands where the offset leads, as its resolved mapping tells it.
+pub fn reads_show_targets<D: FormatDriverInstance>()
+    ensures { (x : FormatAccess D) (p : ℕ) → disk_value D.view x p ≡ shown (λ (q : ℕ). Byte 0) (target D.view x p).place }
 {}
 
 /// A read of an image whose devices are reliable, with no cause of a refusal in the range, is refused for want of memory
