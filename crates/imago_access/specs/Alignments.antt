@@ -24,7 +24,7 @@ abbrev mutual
   has_align_below view of None' align = ⊥
   has_align_below view of (Some' k x) align = has_align view of x align
 
--- The greatest of these alignments, and 1 where there is none. An alignment is never 0.
+-- The greatest of these alignments, each of which is at least 1, and 1 where there is none.
 pub record IsGreatest (among : ℕ → Type 0) (n : ℕ) : Type 0 where
   pub above : (align : ℕ) → among align → align ≤ n
   pub positive : 0 < n

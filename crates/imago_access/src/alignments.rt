@@ -18,10 +18,10 @@ fn storage_align<D: FormatDriverInstance>(driver: &D, index: usize, which: Align
     requires { index < (D.view driver.now).stores.count }
     ensures { result ≡ align_of which ((D.view driver.now).stores.features index) }
 {
-    match (driver.storage(index), which) {
-        (None, _) => 1, // never: the index is below the count
-        (Some(storage), Alignment::Request) => Storage::req_align(storage),
-        (Some(storage), Alignment::Memory) => Storage::mem_align(storage),
+    let storage = driver.storage(index).unwrap();
+    match which {
+        Alignment::Request => Storage::req_align(storage),
+        Alignment::Memory => Storage::mem_align(storage),
     }
 }
 
@@ -54,20 +54,22 @@ impl<D: FormatDriverInstance> FormatAccess<D> {
         }
     }
 
-    /// The greatest request alignment over all storages of all layers, in bytes, and 1 where there is none. Alignments
-    /// are powers of two, so that a multiple of it is one of each storage's. It takes no memory.
+    /// The greatest request alignment over all storages of all layers, in bytes, and 1 where there is none. It takes
+    /// no memory.
     ///
-    /// A storage takes a request as it is where its offset there is a multiple of this, and its length a multiple of
-    /// this and of [`mem_align`](Self::mem_align). Any other one it is given in a padded form.
+    /// A request that comes to a storage with offset and length that are multiples of it, and a length that is one of
+    /// [`mem_align`](Self::mem_align) too, is aligned there, whichever storage it is. Any other may be padded.
     pub fn req_align(&self) -> usize
         ensures { IsGreatest (has_align D.view (λ f. f.req_align) self.now) result }
     {
         self.greatest_align(Alignment::Request)
     }
 
-    /// The greatest memory alignment over all storages of all layers, in bytes, and 1 where there is none. The lengths
-    /// of requests that a storage takes as they are are multiples of it, beside [`req_align`](Self::req_align). It
-    /// takes no memory.
+    /// The greatest memory alignment over all storages of all layers, in bytes, and 1 where there is none. It takes
+    /// no memory.
+    ///
+    /// The length of a request that is aligned at every storage is a multiple of it and of
+    /// [`req_align`](Self::req_align).
     pub fn mem_align(&self) -> usize
         ensures { IsGreatest (has_align D.view (λ f. f.mem_align) self.now) result }
     {
