@@ -14,4 +14,6 @@ mod prepare;
 mod read;
 mod resize;
 pub mod run;
+#[cfg(test)]
+mod tests;
 mod write;

@@ -108,7 +108,7 @@ impl<D: FormatDriverInstance> FormatAccess<D> {
         ensures bytes { OnOk result (HasValues (disk_value D.view self.now) offset buf.new) }
         ensures refusals { IfErr result (allowed (read_reasons D.view self.now offset (length buf.old))) }
     {
-        self.read_range(alloc, buf, offset)
+        self.read(alloc, buf, offset)
     }
 }
 
