@@ -6,3 +6,5 @@
 
 pub mod counting;
 pub mod faulty;
+#[cfg(test)]
+mod tests;

@@ -1,0 +1,117 @@
+//! What one write reads and writes at its storage.
+use super::set_up::{opened, runs, stored};
+use crate::counting::{Counting, Counts};
+use imago_drivers::drivers::FormatDriverInstance;
+use imago_storage::error::Error;
+use imago_storage::ext::StorageExt;
+use imago_storage::storage::Storage;
+use std::alloc::Global;
+use std::process::Abort;
+
+/// A storage of 20000 bytes in blocks of 4096.
+fn counting(rt: &impl Abort, alloc: Global) -> Counting {
+    Counting::new(stored(rt, alloc, &[(20000, 0xa5)]).with_align(4096))
+}
+
+/// Whether that range has the source's byte, and all others theirs.
+fn has_written(bytes: &[u8], count: usize, offset: u64) -> bool {
+    for i in 0..20000 {
+        let place = i as u64;
+        let inside = offset <= place && place - offset < count as u64;
+        let byte = if inside { 0x3c } else { 0xa5 };
+        if bytes.get(i) != Some(&byte) {
+            return false;
+        }
+    }
+    true
+}
+
+/// The calls of one write at the storage. `None` where memory was refused.
+fn counted(rt: &impl Abort, alloc: Global, count: usize, offset: u64) -> Option<Counts> {
+    let mut storage = counting(rt, alloc);
+    let source = runs(rt, alloc, &[(count, 0x3c)]);
+    let answer = storage.write(alloc, &source, offset);
+    if answer == Err(Error::Memory) {
+        return None;
+    }
+    assert_eq!(rt; answer, Ok(()));
+    assert!(rt;
+        has_written(storage.as_bytes(), count, offset),
+        "{count} at {offset}"
+    );
+    Some(storage.counts())
+}
+
+/// The same write through an image.
+fn counted_by_image(rt: &impl Abort, alloc: Global, count: usize, offset: u64) -> Option<Counts> {
+    let mut image = opened(rt, counting(rt, alloc));
+    let source = runs(rt, alloc, &[(count, 0x3c)]);
+    let answer = image.write(alloc, &source, offset);
+    if answer == Err(Error::Memory) {
+        return None;
+    }
+    assert_eq!(rt; answer, Ok(()));
+    let storage = image.inner().storage(0).expect(rt, "a raw image's storage");
+    assert!(rt;
+        has_written(storage.as_bytes(), count, offset),
+        "{count} at {offset}"
+    );
+    Some(storage.counts())
+}
+
+/// Reads and writes, and the bytes of each.
+fn row(reads: u64, bytes_read: u64, writes: u64, bytes_written: u64) -> Counts {
+    Counts {
+        reads,
+        bytes_read,
+        writes,
+        bytes_written,
+    }
+}
+
+/// What one write of so many bytes at an offset counts.
+fn rows() -> [(usize, u64, Counts); 5] {
+    [
+        (9000, 1000, row(2, 8192, 3, 12288)),
+        (4096, 4095, row(2, 8192, 2, 8192)),
+        (4097, 4096, row(1, 4096, 2, 8192)),
+        (1, 9999, row(1, 4096, 1, 4096)),
+        (8192, 4096, row(0, 0, 1, 8192)),
+    ]
+}
+
+#[test]
+fn only_partly_written_blocks_are_read(rt: HostRuntime) {
+    let alloc = rt.alloc();
+    for (count, offset, expected) in rows() {
+        let counts = match counted(&rt, alloc, count, offset) {
+            Some(counts) => Some(counts),
+            None => counted(&rt, alloc, count, offset),
+        };
+        assert_eq!(rt; counts, Some(expected), "{count} at {offset}");
+    }
+}
+
+#[test]
+fn an_image_writes_no_more_than_its_storage(rt: HostRuntime) {
+    let alloc = rt.alloc();
+    for (count, offset, expected) in rows() {
+        let counts = match counted_by_image(&rt, alloc, count, offset) {
+            Some(counts) => Some(counts),
+            None => counted_by_image(&rt, alloc, count, offset),
+        };
+        assert_eq!(rt; counts, Some(expected), "{count} at {offset}");
+    }
+}
+
+#[test]
+fn shared_reads_and_zero_writes_are_not_counted(rt: HostRuntime) {
+    let alloc = rt.alloc();
+    let mut storage = counting(&rt, alloc);
+    assert_eq!(rt; storage.write_zeroes(alloc, 4096, 8192), Ok(()));
+    let mut buf = [1; 4096];
+    assert_eq!(rt; storage.read(alloc, &mut buf, 8192), Ok(()));
+    assert_eq!(rt; buf, [0; 4096]);
+    assert_eq!(rt; storage.counts(), row(0, 0, 0, 0));
+    assert_eq!(rt; storage.size(), Ok(20000));
+}

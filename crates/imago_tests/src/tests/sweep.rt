@@ -1,0 +1,210 @@
+//! A failure at each call of a change, with each tear, over several alignments.
+use super::set_up::{opened, runs};
+use crate::faulty::{Faulty, Tear};
+use imago_storage::error::Error;
+use imago_storage::ext::StorageExt;
+use imago_storage::mem::MemStorage;
+use imago_storage::storage::is_alignment;
+use std::alloc::Global;
+use std::process::Abort;
+
+/// The length of the storage, and the range that is changed. It begins and ends inside a block of 8 and of 512.
+const SIZE: usize = 2048;
+
+const OFFSET: usize = 515;
+
+const COUNT: usize = 1030;
+
+const TEARS: [Tear; 4] = [Tear::Nothing, Tear::All, Tear::First(3), Tear::Odd];
+
+/// A change of the range.
+#[derive(Clone, Copy, PartialEq, Eq)]
+enum Change {
+    /// A write of an image over the storage, which is lent to it.
+    Image,
+    /// A write of the storage.
+    Write,
+    /// Zeroes, in place.
+    Zero,
+    /// Zeroes that are allocated, in place.
+    ZeroAllocated,
+    /// Zeroes as data, since the storage offers no zero writes.
+    ZeroAsData,
+}
+
+/// The byte at an offset before the change.
+fn old_byte(offset: usize) -> u8 {
+    (offset % 100) as u8 + 1
+}
+
+/// The byte at an offset afterwards.
+fn new_byte(change: Change, offset: usize) -> u8 {
+    if offset < OFFSET || offset >= OFFSET + COUNT {
+        return old_byte(offset);
+    }
+    match change {
+        Change::Image | Change::Write => (offset % 100) as u8 + 101,
+        _ => 0,
+    }
+}
+
+/// The bytes before the change.
+fn before(rt: &impl Abort, alloc: Global) -> Vec<u8> {
+    let mut bytes = runs(rt, alloc, &[(SIZE, 0)]);
+    for (i, byte) in bytes.iter_mut().enumerate() {
+        *byte = old_byte(i);
+    }
+    bytes
+}
+
+/// Whether each byte is the old or the new one.
+fn is_between(change: Change, bytes: &[u8]) -> bool {
+    for (i, &byte) in bytes.iter().enumerate() {
+        if byte != old_byte(i) && byte != new_byte(change, i) {
+            return false;
+        }
+    }
+    bytes.len() == SIZE
+}
+
+/// Whether each byte is the new one.
+fn is_done(change: Change, bytes: &[u8]) -> bool {
+    for (i, &byte) in bytes.iter().enumerate() {
+        if byte != new_byte(change, i) {
+            return false;
+        }
+    }
+    bytes.len() == SIZE
+}
+
+/// Writes by an image that the storage is lent to.
+fn write_by_image(
+    rt: &impl Abort,
+    alloc: Global,
+    storage: &mut Faulty,
+    source: &[u8],
+    offset: u64,
+) -> Result<(), Error> {
+    let mut image = opened(rt, storage);
+    image.write(alloc, source, offset)
+}
+
+/// Makes the change.
+fn make(
+    rt: &impl Abort,
+    alloc: Global,
+    storage: &mut Faulty,
+    change: Change,
+    source: &[u8],
+) -> Result<(), Error> {
+    let offset = OFFSET as u64;
+    let count = COUNT as u64;
+    match change {
+        Change::Image => write_by_image(rt, alloc, storage, source, offset),
+        Change::Write => storage.write(alloc, source, offset),
+        Change::ZeroAllocated => storage.write_allocated_zeroes(alloc, offset, count),
+        Change::Zero | Change::ZeroAsData => storage.write_zeroes(alloc, offset, count),
+    }
+}
+
+/// A storage in blocks of that length, which fails at that call.
+fn armed(
+    rt: &impl Abort,
+    alloc: Global,
+    align: usize,
+    change: Change,
+    pass: u64,
+    tear: Tear,
+) -> Faulty {
+    assert!(rt; is_alignment(align));
+    let inner = MemStorage::new(before(rt, alloc)).with_align(align);
+    let mut storage = Faulty::new(inner);
+    if change == Change::ZeroAsData {
+        storage = storage.without_zero_writes();
+    }
+    storage.arm(pass, tear);
+    storage
+}
+
+/// Makes the change with a failure at that call, and answers whether it was refused. Once the device has failed, it is
+/// made again and succeeds.
+fn is_refused(
+    rt: &impl Abort,
+    alloc: Global,
+    align: usize,
+    change: Change,
+    pass: u64,
+    tear: Tear,
+) -> bool {
+    let mut source = runs(rt, alloc, &[(COUNT, 0)]);
+    for (i, byte) in source.iter_mut().enumerate() {
+        *byte = new_byte(change, OFFSET.saturating_add(i));
+    }
+    let mut storage = armed(rt, alloc, align, change, pass, tear);
+    let mut answer = make(rt, alloc, &mut storage, change, &source);
+    if answer == Err(Error::Memory) {
+        assert!(rt;
+            is_between(change, storage.as_bytes()),
+            "no memory at {pass}"
+        );
+        storage = armed(rt, alloc, align, change, pass, tear);
+        answer = make(rt, alloc, &mut storage, change, &source);
+    }
+    if answer == Ok(()) {
+        assert!(rt; is_done(change, storage.as_bytes()), "done at {pass}");
+        assert_eq!(rt; storage.faults(), 0);
+        return false;
+    }
+    assert_eq!(rt; answer, Err(Error::Device), "{align} {pass}");
+    assert!(rt; is_between(change, storage.as_bytes()), "refused at {pass}");
+    assert_eq!(rt; storage.faults(), 1);
+    let mut again = make(rt, alloc, &mut storage, change, &source);
+    if again == Err(Error::Memory) {
+        again = make(rt, alloc, &mut storage, change, &source);
+    }
+    assert_eq!(rt; again, Ok(()), "{align} {pass}");
+    assert!(rt; is_done(change, storage.as_bytes()), "made again at {pass}");
+    true
+}
+
+/// How many calls a change makes: it is refused at each of them, and at none behind them.
+fn calls(rt: &impl Abort, alloc: Global, align: usize, change: Change, tear: Tear) -> u64 {
+    for pass in 0..10 {
+        if !is_refused(rt, alloc, align, change, pass, tear) {
+            return pass;
+        }
+    }
+    10
+}
+
+/// Sweeps over the alignments and tears, with the calls that the change makes in blocks of 1 byte and of more.
+fn sweep(rt: &impl Abort, alloc: Global, change: Change, of_bytes: u64, of_blocks: u64) {
+    for tear in TEARS {
+        assert_eq!(rt; calls(rt, alloc, 1, change, tear), of_bytes);
+        assert_eq!(rt; calls(rt, alloc, 8, change, tear), of_blocks);
+        assert_eq!(rt; calls(rt, alloc, 512, change, tear), of_blocks);
+    }
+}
+
+// a block is read and written at each end, and the blocks between are written
+#[test]
+fn an_image_write_fails_at_each_call(rt: HostRuntime) {
+    sweep(&rt, rt.alloc(), Change::Image, 1, 5);
+}
+
+#[test]
+fn a_storage_write_fails_at_each_call(rt: HostRuntime) {
+    sweep(&rt, rt.alloc(), Change::Write, 1, 5);
+}
+
+#[test]
+fn a_zero_write_fails_at_each_call(rt: HostRuntime) {
+    sweep(&rt, rt.alloc(), Change::Zero, 1, 5);
+    sweep(&rt, rt.alloc(), Change::ZeroAllocated, 1, 5);
+}
+
+// up to the first block as data, and from there on: both read and write a block, and whole blocks are written
+#[test]
+fn a_zero_write_as_data_fails_at_each_call(rt: HostRuntime) {
+    sweep(&rt, rt.alloc(), Change::ZeroAsData, 1, 5);
+}
