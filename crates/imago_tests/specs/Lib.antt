@@ -1,3 +1,6 @@
 pub mod Counting
 pub mod Faulty
 pub mod FaultyPlan
+pub mod Pattern
+pub mod PatternLaws
+pub mod TestDriver

@@ -6,5 +6,7 @@
 
 pub mod counting;
 pub mod faulty;
+pub mod pattern;
+pub mod test_driver;
 #[cfg(test)]
 mod tests;

@@ -1,6 +1,7 @@
-//! Tests that cross crates: images over storages that fail or count, with what each call leaves.
+//! Tests that cross crates: images over storages that fail or count, and chains of mixed drivers, with what each call leaves.
 //!
 //! Each test passes as well where one of its requests for memory is refused.
+mod chains;
 mod counts;
 mod images;
 mod parts;
