@@ -21,3 +21,4 @@ pub mod CopyOnce
 pub mod CopyOnceLaws
 pub mod Pattern
 pub mod PatternLaws
+pub mod Worked

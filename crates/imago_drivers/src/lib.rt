@@ -8,6 +8,7 @@
 mod copy_once;
 pub mod drivers;
 pub mod format;
+pub mod laws;
 pub mod layer;
 pub mod mapping;
 mod pattern;
