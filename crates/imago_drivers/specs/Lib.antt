@@ -19,6 +19,4 @@ pub mod RawLaws
 pub mod RawImage
 pub mod CopyOnce
 pub mod CopyOnceLaws
-pub mod Pattern
-pub mod PatternLaws
 pub mod Worked

@@ -11,7 +11,6 @@ pub mod format;
 pub mod laws;
 pub mod layer;
 pub mod mapping;
-mod pattern;
 pub mod raw;
 #[cfg(test)]
 mod tests;

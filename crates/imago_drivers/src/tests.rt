@@ -5,7 +5,6 @@ mod copies;
 mod extremes;
 mod growth;
 mod mappings;
-mod patterns;
 mod reaching;
 mod recorder;
 mod set_up;
