@@ -1,19 +1,14 @@
-use Rattle.std.proofs.Common.{◌≡◌, ◌↔◌, ℕ, List, ap}
+use Rattle.std.proofs.Common.{◌≡◌, ◌↔◌, ℕ, ap}
 use Rattle.std.proofs.Math.Path.{subst⁻¹}
 use Rattle.std.specs.Prelude.{Result, OnOk, IfErr}
-use Rattle.imago_storage.specs.Features.{Features}
 use Rattle.imago_storage.specs.declared.error.Error.{Error}
 use Rattle.imago_drivers.specs.Causes.{IsSettled, EveryOperation}
 use Rattle.imago_drivers.specs.Commit.{IsCommit, IsCancel}
 use Rattle.imago_drivers.specs.Done.{mapping_write_reasons}
 use Rattle.imago_drivers.specs.Prepared.{IsFor, IsForeignWrite}
-use Rattle.imago_drivers.specs.Raw.{raw_view}
 use Rattle.imago_drivers.specs.Reasons.{allowed}
 use Rattle.imago_drivers.specs.View.{View}
 use Rattle.imago_drivers.specs.declared.mapping.PreparedDataMapping.{PreparedDataMapping}
-use Rattle.imago_tests.specs.Pattern.{pattern_view}
-use Rattle.imago_tests.specs.TestDriver.{view_of}
-use Rattle.imago_tests.specs.declared.test_driver.TestDriver.{TestDriver}
 
 -- What a driver promises of a commit and of a cancel, one that holds it promises too.
 module _ {A Self St : Type 0} (holding : A → Self) (view : Self → View St) (old new : A) (m : PreparedDataMapping St) where
@@ -43,10 +38,6 @@ module _ {A Self St : Type 0} (holding : A → Self) (view : Self → View St) (
     later = x.later;
     reliable = x.reliable;
   }
-
--- the view of a test driver, from what a storage is to its callers
-abbrev pub test_view : {S : Type 0} {g : _} {h : _} → (S → Features) → (S → ℕ) → (S → List ℕ) → TestDriver S g h → View Unit
-test_view features fault_count bytes = view_of (λ r. raw_view (features r.storage) (fault_count r.storage) (bytes r.storage) r.size r.writable) (λ p. pattern_view p.kind p.size)
 
 -- What is said of a write into a mapping is said of a driver that is known to be another one.
 module _ {D St : Type 0} (view : D → View St) {d e : D} (is : d ≡ e) (m : PreparedDataMapping St) where

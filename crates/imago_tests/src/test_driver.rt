@@ -1,12 +1,6 @@
 //! One of several drivers, so that an image's layers can have different ones.
-ghost use Rattle.std.specs.Prelude.{◌≡◌};
 ghost use Rattle.imago_drivers.specs.Commit.{IsCommit, IsCancel};
-ghost use Rattle.imago_drivers.specs.Laws.{IsLawful, AreCauses};
-ghost use Rattle.imago_drivers.specs.RawImage.{storage_in, writability_of, size_of as raw_size};
-ghost use Rattle.imago_drivers.specs.RawLaws.{raw_lawful, raw_causes};
-ghost use Rattle.imago_tests.specs.Pattern.{kind_of, size_of};
-ghost use Rattle.imago_tests.specs.PatternLaws.{pattern_lawful, pattern_causes};
-ghost use Rattle.imago_tests.specs.TestDriver.{view_of, each_view};
+ghost use Rattle.imago_tests.specs.TestDriver.{test_view, test_lawful, test_causes};
 
 use crate::pattern::Pattern;
 use imago_drivers::drivers::{
@@ -29,7 +23,7 @@ pub enum TestDriver<S: Storage> {
 }
 
 /// The same call on whichever driver it is.
-macro_rules! for_each {
+macro_rules! dispatch {
     ($self:expr, $driver:ident => $call:expr) => {
         match $self {
             TestDriver::Raw($driver) => $call,
@@ -40,7 +34,7 @@ macro_rules! for_each {
 
 impl<S: Storage> Display for TestDriver<S> {
     fn fmt<W: Write>(&self, f: &mut Formatter<W>) -> fmt::Result {
-        for_each!(self, driver => write!(f, "{driver}"))
+        dispatch!(self, driver => write!(f, "{driver}"))
     }
 }
 
@@ -49,36 +43,36 @@ impl<S: Storage> FormatDriverInstance for TestDriver<S> {
 
     type State = ();
 
-    ghost view = { λ d. view_of ⟦<Raw<S> as FormatDriverInstance>⟧.view ⟦<Pattern as FormatDriverInstance>⟧.view d };
+    ghost view = { λ d. test_view S.features S.fault_count S.bytes d };
 
     ghost recognizes = { ⟦<Raw<S> as FormatDriverInstance>⟧.recognizes };
 
-    ghost lawful = { λ d. each_view IsLawful ⟦<Raw<S> as FormatDriverInstance>⟧.view ⟦<Pattern as FormatDriverInstance>⟧.view (λ r. raw_lawful (S.features (storage_in r)) (S.fault_count (storage_in r)) (S.bytes (storage_in r)) (raw_size r) (writability_of r)) (λ p. pattern_lawful (kind_of p) (size_of p)) d };
+    ghost lawful = { λ d. test_lawful S.features S.fault_count S.bytes d };
 
-    ghost causes_lawful = { λ d. each_view AreCauses ⟦<Raw<S> as FormatDriverInstance>⟧.view ⟦<Pattern as FormatDriverInstance>⟧.view (λ r. raw_causes (S.features (storage_in r)) (S.fault_count (storage_in r)) (S.bytes (storage_in r)) (raw_size r) (writability_of r)) (λ p. pattern_causes (kind_of p) (size_of p)) d };
+    ghost causes_lawful = { λ d. test_causes S.features S.fault_count S.bytes d };
 
     fn format(&self) -> Format {
-        for_each!(self, driver => driver.format())
+        dispatch!(self, driver => driver.format())
     }
 
     fn size(&self) -> u64 {
-        for_each!(self, driver => driver.size())
+        dispatch!(self, driver => driver.size())
     }
 
     fn zero_granularity(&self) -> Option<u64> {
-        for_each!(self, driver => driver.zero_granularity())
+        dispatch!(self, driver => driver.zero_granularity())
     }
 
     fn writable(&self) -> bool {
-        for_each!(self, driver => driver.writable())
+        dispatch!(self, driver => driver.writable())
     }
 
     fn takes_backing(&self) -> bool {
-        for_each!(self, driver => driver.takes_backing())
+        dispatch!(self, driver => driver.takes_backing())
     }
 
     fn has_prepared(&self) -> bool {
-        for_each!(self, driver => driver.has_prepared())
+        dispatch!(self, driver => driver.has_prepared())
     }
 
     fn probe(alloc: Global, storage: &S) -> Result<bool, Error> {
@@ -93,7 +87,7 @@ impl<S: Storage> FormatDriverInstance for TestDriver<S> {
     }
 
     fn storage_count(&self) -> usize {
-        for_each!(self, driver => driver.storage_count())
+        dispatch!(self, driver => driver.storage_count())
     }
 
     fn storage(&self, index: usize) -> Option<&S> {
@@ -104,7 +98,7 @@ impl<S: Storage> FormatDriverInstance for TestDriver<S> {
     }
 
     fn get_mapping(&self, offset: u64, max_length: u64) -> Result<(ShallowMapping, u64), Error> {
-        for_each!(self, driver => driver.get_mapping(offset, max_length))
+        dispatch!(self, driver => driver.get_mapping(offset, max_length))
     }
 
     fn read_mapped(
@@ -114,11 +108,11 @@ impl<S: Storage> FormatDriverInstance for TestDriver<S> {
         buf: &mut [u8],
         offset: u64,
     ) -> Result<(), Error> {
-        for_each!(self, driver => driver.read_mapped(alloc, storage, buf, offset))
+        dispatch!(self, driver => driver.read_mapped(alloc, storage, buf, offset))
     }
 
     fn readv_special(&self, alloc: Global, buf: &mut [u8], offset: u64) -> Result<(), Error> {
-        for_each!(self, driver => driver.readv_special(alloc, buf, offset))
+        dispatch!(self, driver => driver.readv_special(alloc, buf, offset))
     }
 
     fn write_mapped(
@@ -128,7 +122,7 @@ impl<S: Storage> FormatDriverInstance for TestDriver<S> {
         source: &[u8],
         offset: u64,
     ) -> Result<(), Error> {
-        for_each!(self, driver => driver.write_mapped(alloc, storage, source, offset))
+        dispatch!(self, driver => driver.write_mapped(alloc, storage, source, offset))
     }
 
     fn ensure_zero_mapping(
@@ -137,7 +131,7 @@ impl<S: Storage> FormatDriverInstance for TestDriver<S> {
         offset: u64,
         count: u64,
     ) -> Result<(u64, u64), Error> {
-        for_each!(self, driver => driver.ensure_zero_mapping(alloc, offset, count))
+        dispatch!(self, driver => driver.ensure_zero_mapping(alloc, offset, count))
     }
 
     fn discard_to_zero(
@@ -146,7 +140,7 @@ impl<S: Storage> FormatDriverInstance for TestDriver<S> {
         offset: u64,
         count: u64,
     ) -> Result<(u64, u64), Error> {
-        for_each!(self, driver => driver.discard_to_zero(alloc, offset, count))
+        dispatch!(self, driver => driver.discard_to_zero(alloc, offset, count))
     }
 
     fn discard_to_any(
@@ -155,7 +149,7 @@ impl<S: Storage> FormatDriverInstance for TestDriver<S> {
         offset: u64,
         count: u64,
     ) -> Result<(u64, u64), Error> {
-        for_each!(self, driver => driver.discard_to_any(alloc, offset, count))
+        dispatch!(self, driver => driver.discard_to_any(alloc, offset, count))
     }
 
     fn discard_to_backing(
@@ -164,7 +158,7 @@ impl<S: Storage> FormatDriverInstance for TestDriver<S> {
         offset: u64,
         count: u64,
     ) -> Result<(u64, u64), Error> {
-        for_each!(self, driver => driver.discard_to_backing(alloc, offset, count))
+        dispatch!(self, driver => driver.discard_to_backing(alloc, offset, count))
     }
 
     fn prepare_data_mapping<B: LowerLayer>(
@@ -175,7 +169,7 @@ impl<S: Storage> FormatDriverInstance for TestDriver<S> {
         count: u64,
         overwrite: bool,
     ) -> Result<PreparedDataMapping<()>, Error> {
-        for_each!(self, driver => driver.prepare_data_mapping(alloc, below, offset, count, overwrite))
+        dispatch!(self, driver => driver.prepare_data_mapping(alloc, below, offset, count, overwrite))
     }
 
     fn write_prepared(
@@ -185,19 +179,19 @@ impl<S: Storage> FormatDriverInstance for TestDriver<S> {
         source: &[u8],
         at: u64,
     ) -> Result<(), Error> {
-        for_each!(self, driver => driver.write_prepared(alloc, mapping, source, at))
+        dispatch!(self, driver => driver.write_prepared(alloc, mapping, source, at))
     }
 
     fn commit_data_mapping(&mut self, mapping: PreparedDataMapping<()>) -> Result<(), Error>
         ensures { IsCommit ⟦<TestDriver<S> as FormatDriverInstance>⟧.view self.old self.new mapping result }
     {
-        for_each!(self, driver => driver.commit_data_mapping(mapping))
+        dispatch!(self, driver => driver.commit_data_mapping(mapping))
     }
 
     fn cancel_data_mapping(&mut self, mapping: PreparedDataMapping<()>)
         ensures { IsCancel ⟦<TestDriver<S> as FormatDriverInstance>⟧.view self.old self.new mapping }
     {
-        for_each!(self, driver => driver.cancel_data_mapping(mapping))
+        dispatch!(self, driver => driver.cancel_data_mapping(mapping))
     }
 
     fn ensure_data_mapping<B: LowerLayer>(
@@ -208,7 +202,7 @@ impl<S: Storage> FormatDriverInstance for TestDriver<S> {
         count: u64,
         overwrite: bool,
     ) -> Result<(usize, u64, u64), Error> {
-        for_each!(self, driver => driver.ensure_data_mapping(alloc, below, offset, count, overwrite))
+        dispatch!(self, driver => driver.ensure_data_mapping(alloc, below, offset, count, overwrite))
     }
 
     fn resize_grow<B: LowerLayer>(
@@ -218,22 +212,22 @@ impl<S: Storage> FormatDriverInstance for TestDriver<S> {
         new_size: u64,
         mode: PreallocateMode,
     ) -> Result<(), Error> {
-        for_each!(self, driver => driver.resize_grow(alloc, below, new_size, mode))
+        dispatch!(self, driver => driver.resize_grow(alloc, below, new_size, mode))
     }
 
     fn resize_shrink(&mut self, new_size: u64) -> Result<(), Error> {
-        for_each!(self, driver => driver.resize_shrink(new_size))
+        dispatch!(self, driver => driver.resize_shrink(new_size))
     }
 
     fn flush(&mut self) -> Result<(), Error> {
-        for_each!(self, driver => driver.flush())
+        dispatch!(self, driver => driver.flush())
     }
 
     fn sync(&mut self) -> Result<(), Error> {
-        for_each!(self, driver => driver.sync())
+        dispatch!(self, driver => driver.sync())
     }
 
     fn invalidate_cache(&mut self) -> Result<(), Error> {
-        for_each!(self, driver => driver.invalidate_cache())
+        dispatch!(self, driver => driver.invalidate_cache())
     }
 }

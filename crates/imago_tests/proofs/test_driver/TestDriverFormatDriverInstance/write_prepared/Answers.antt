@@ -1,6 +1,7 @@
 use Rattle.std.specs.Prelude.{length}
 use Rattle.imago_tests.specs.declared.test_driver.TestDriver.TheVariants as T
-use Rattle.imago_tests.proofs.Variants.{test_view, foreign_at, causes_at, refusals_at}
+use Rattle.imago_tests.specs.TestDriver.{test_view}
+use Rattle.imago_tests.proofs.Variants.{foreign_at, causes_at, refusals_at}
 use Rattle.imago_tests.proofs.test_driver.TestDriverFormatDriverInstance.write_prepared.Goals as goal
 
 pub returns-in-Raw-clause-foreign : goal.returns-in-Raw-clause-foreign
