@@ -80,6 +80,29 @@ fn a_driver_that_is_exchanged_shows_its_own_disk(rt: HostRuntime) {
     assert!(rt; image.backing().is_some());
 }
 
+/// An image of alignments 64 and 4096 above one of 512 and 8, for requests and for their lengths, where there is memory
+/// for it.
+fn aligned_layers(rt: &impl Abort, alloc: Global) -> Option<MemImage> {
+    let lower = MemStorage::new(copied(rt, alloc, &[1])).with_aligns(8, 512);
+    let upper = MemStorage::new(copied(rt, alloc, &[2])).with_aligns(4096, 64);
+    match Box::new(alloc, FormatAccess::new(raw(rt, lower, false))) {
+        Ok(below) => Some(FormatAccess::with_backing(raw(rt, upper, false), below)),
+        Err(_) => None,
+    }
+}
+
+#[test]
+fn alignments_are_the_greatest_of_all_layers(rt: HostRuntime) {
+    let alloc = rt.alloc();
+    let image = match aligned_layers(&rt, alloc) {
+        Some(image) => image,
+        None => aligned_layers(&rt, alloc).expect(&rt, "memory for a layer"),
+    };
+    assert_eq!(rt; (image.req_align(), image.mem_align()), (512, 4096));
+    let null = FormatAccess::new(raw(&rt, Null::new(1), false));
+    assert_eq!(rt; (null.req_align(), null.mem_align()), (1, 1));
+}
+
 /// The layers below the top one of the long chain.
 const DEPTH: usize = 100_000;
 
