@@ -4,11 +4,12 @@ use crate::faulty::{Faulty, Tear};
 use imago_access::access::FormatAccess;
 use imago_access::mapping::Mapping;
 use imago_access::run::{Call, Reply, run};
-use imago_drivers::drivers::PreallocateMode;
+use imago_drivers::drivers::{FormatDriverInstance, PreallocateMode};
 use imago_drivers::raw::Raw;
 use imago_storage::error::Error;
 use imago_storage::ext::StorageExt;
 use std::alloc::Global;
+use std::mem::replace;
 use std::process::Abort;
 
 /// The size of the disk, and the length of its storage.
@@ -106,19 +107,37 @@ fn a_read_fails_and_a_write_does_not(rt: HostRuntime) {
     let alloc = rt.alloc();
     let mut storage = Faulty::new(stored(&rt, alloc, &[(4, 0xff)]));
     storage.fail_reads(true);
-    let mut image = opened(&rt, &mut storage);
+    let mut image = opened(&rt, storage);
     let mut buf = [0; 4];
     assert_eq!(rt; image.read(alloc, &mut buf, 0), Err(Error::Device));
     assert_eq!(rt; image.write(alloc, &[1, 2], 1), Ok(()));
-    drop(image);
+    // another driver takes the place of the image's, whose storage comes back
+    let other = Faulty::new(stored(&rt, alloc, &[(1, 0)]));
+    let other = Raw::open_image(other, true).expect(&rt, "a driver");
+    let mut storage = replace(image.inner_mut(), other).into_inner();
     storage.fail_reads(false);
-    let image = opened(&rt, &mut storage);
+    let image = opened(&rt, storage);
     let read = read_back(&rt, alloc, &image, 4, 0);
     assert_eq!(rt; read.as_slice(), [0xff, 1, 2, 0xff].as_slice());
-    drop(image);
+    assert_eq!(rt; storage_of(&rt, &image).faults(), 0);
+}
+
+#[test]
+fn a_driver_reads_a_storage_that_is_lent(rt: HostRuntime) {
+    let alloc = rt.alloc();
+    let mut storage = Faulty::new(stored(&rt, alloc, &[(4, 0xff)]));
+    storage.fail_reads(true);
+    let mut buf = [0; 2];
+    let raw = Raw::open_image(&mut storage, false).expect(&rt, "a driver");
+    assert_eq!(rt; raw.read_mapped(alloc, 0, &mut buf, 3), Err(Error::Device));
+    drop(raw);
+    storage.fail_reads(false);
+    let raw = Raw::open_image(&mut storage, false).expect(&rt, "a driver");
+    assert_eq!(rt; raw.read_mapped(alloc, 0, &mut buf, 3), Ok(()));
+    assert_eq!(rt; buf, [0xff, 0]);
+    drop(raw);
     assert_eq!(rt; storage.write_zeroes(alloc, 0, 4), Ok(()));
     assert_eq!(rt; storage.as_bytes(), [0; 4].as_slice());
-    assert_eq!(rt; storage.faults(), 0);
 }
 
 /// Calls on an image of 16 bytes ff in blocks of 8. The first write stops in its first block, and the growth is refused.

@@ -1,6 +1,8 @@
 //! A failure at each call of a change, with each tear, over several alignments.
-use super::set_up::{opened, runs};
+use super::set_up::{opened, runs, storage_of};
 use crate::faulty::{Faulty, Tear};
+use imago_access::access::FormatAccess;
+use imago_drivers::raw::Raw;
 use imago_storage::error::Error;
 use imago_storage::ext::StorageExt;
 use imago_storage::mem::MemStorage;
@@ -20,7 +22,7 @@ const TEARS: [Tear; 4] = [Tear::Nothing, Tear::All, Tear::First(3), Tear::Odd];
 /// A change of the range.
 #[derive(Clone, Copy, PartialEq, Eq)]
 enum Change {
-    /// A write of an image over the storage, which is lent to it.
+    /// A write of an image over the storage.
     Image,
     /// A write of the storage.
     Write,
@@ -77,53 +79,64 @@ fn is_done(change: Change, bytes: &[u8]) -> bool {
     bytes.len() == SIZE
 }
 
-/// Writes by an image that the storage is lent to.
-fn write_by_image(
-    rt: &impl Abort,
-    alloc: Global,
-    storage: &mut Faulty,
-    source: &[u8],
-    offset: u64,
-) -> Result<(), Error> {
-    let mut image = opened(rt, storage);
-    image.write(alloc, source, offset)
+/// What is changed: a storage, or the image over one.
+#[derive(Drop)]
+enum Subject {
+    Storage(Faulty),
+    Image(FormatAccess<Raw<Faulty>>),
 }
 
-/// Makes the change.
-fn make(
-    rt: &impl Abort,
-    alloc: Global,
-    storage: &mut Faulty,
-    change: Change,
-    source: &[u8],
-) -> Result<(), Error> {
-    let offset = OFFSET as u64;
-    let count = COUNT as u64;
-    match change {
-        Change::Image => write_by_image(rt, alloc, storage, source, offset),
-        Change::Write => storage.write(alloc, source, offset),
-        Change::ZeroAllocated => storage.write_allocated_zeroes(alloc, offset, count),
-        Change::Zero | Change::ZeroAsData => storage.write_zeroes(alloc, offset, count),
+impl Subject {
+    /// A subject in blocks of that length, whose storage fails at that call.
+    fn armed(
+        rt: &impl Abort,
+        alloc: Global,
+        align: usize,
+        change: Change,
+        pass: u64,
+        tear: Tear,
+    ) -> Subject {
+        assert!(rt; is_alignment(align));
+        let inner = MemStorage::new(before(rt, alloc)).with_align(align);
+        let mut storage = Faulty::new(inner);
+        storage.arm(pass, tear);
+        match change {
+            Change::Image => Subject::Image(opened(rt, storage)),
+            Change::ZeroAsData => Subject::Storage(storage.without_zero_writes()),
+            _ => Subject::Storage(storage),
+        }
+    }
+
+    /// The storage.
+    fn storage(&self, rt: &impl Abort) -> &Faulty {
+        match self {
+            Subject::Storage(storage) => storage,
+            Subject::Image(image) => storage_of(rt, image),
+        }
+    }
+
+    /// Makes the change.
+    fn make(&mut self, alloc: Global, change: Change, source: &[u8]) -> Result<(), Error> {
+        let offset = OFFSET as u64;
+        let count = COUNT as u64;
+        match self {
+            Subject::Image(image) => image.write(alloc, source, offset),
+            Subject::Storage(storage) => match change {
+                Change::Image | Change::Write => storage.write(alloc, source, offset),
+                Change::ZeroAllocated => storage.write_allocated_zeroes(alloc, offset, count),
+                Change::Zero | Change::ZeroAsData => storage.write_zeroes(alloc, offset, count),
+            },
+        }
     }
 }
 
-/// A storage in blocks of that length, which fails at that call.
-fn armed(
-    rt: &impl Abort,
-    alloc: Global,
-    align: usize,
-    change: Change,
-    pass: u64,
-    tear: Tear,
-) -> Faulty {
-    assert!(rt; is_alignment(align));
-    let inner = MemStorage::new(before(rt, alloc)).with_align(align);
-    let mut storage = Faulty::new(inner);
-    if change == Change::ZeroAsData {
-        storage = storage.without_zero_writes();
+/// The bytes that a write of the range writes.
+fn written(rt: &impl Abort, alloc: Global, change: Change) -> Vec<u8> {
+    let mut source = runs(rt, alloc, &[(COUNT, 0)]);
+    for (i, byte) in source.iter_mut().enumerate() {
+        *byte = new_byte(change, OFFSET.saturating_add(i));
     }
-    storage.arm(pass, tear);
-    storage
+    source
 }
 
 /// Makes the change with a failure at that call, and answers whether it was refused. Once the device has failed, it is
@@ -136,34 +149,40 @@ fn is_refused(
     pass: u64,
     tear: Tear,
 ) -> bool {
-    let mut source = runs(rt, alloc, &[(COUNT, 0)]);
-    for (i, byte) in source.iter_mut().enumerate() {
-        *byte = new_byte(change, OFFSET.saturating_add(i));
-    }
-    let mut storage = armed(rt, alloc, align, change, pass, tear);
-    let mut answer = make(rt, alloc, &mut storage, change, &source);
+    let source = written(rt, alloc, change);
+    let mut subject = Subject::armed(rt, alloc, align, change, pass, tear);
+    let mut answer = subject.make(alloc, change, &source);
     if answer == Err(Error::Memory) {
         assert!(rt;
-            is_between(change, storage.as_bytes()),
+            is_between(change, subject.storage(rt).as_bytes()),
             "no memory at {pass}"
         );
-        storage = armed(rt, alloc, align, change, pass, tear);
-        answer = make(rt, alloc, &mut storage, change, &source);
+        subject = Subject::armed(rt, alloc, align, change, pass, tear);
+        answer = subject.make(alloc, change, &source);
     }
     if answer == Ok(()) {
-        assert!(rt; is_done(change, storage.as_bytes()), "done at {pass}");
-        assert_eq!(rt; storage.faults(), 0);
+        assert!(rt;
+            is_done(change, subject.storage(rt).as_bytes()),
+            "done at {pass}"
+        );
+        assert_eq!(rt; subject.storage(rt).faults(), 0);
         return false;
     }
     assert_eq!(rt; answer, Err(Error::Device), "{align} {pass}");
-    assert!(rt; is_between(change, storage.as_bytes()), "refused at {pass}");
-    assert_eq!(rt; storage.faults(), 1);
-    let mut again = make(rt, alloc, &mut storage, change, &source);
+    assert!(rt;
+        is_between(change, subject.storage(rt).as_bytes()),
+        "refused at {pass}"
+    );
+    assert_eq!(rt; subject.storage(rt).faults(), 1);
+    let mut again = subject.make(alloc, change, &source);
     if again == Err(Error::Memory) {
-        again = make(rt, alloc, &mut storage, change, &source);
+        again = subject.make(alloc, change, &source);
     }
     assert_eq!(rt; again, Ok(()), "{align} {pass}");
-    assert!(rt; is_done(change, storage.as_bytes()), "made again at {pass}");
+    assert!(rt;
+        is_done(change, subject.storage(rt).as_bytes()),
+        "made again at {pass}"
+    );
     true
 }
 
