@@ -1,7 +1,6 @@
 //! What no clause says: worked examples, printed text, each public function once, chains too long for the stack.
 //!
 //! Each test passes as well where one of its requests for memory is refused.
-mod alignments;
 mod layers;
 mod prepared;
 mod ranges;
