@@ -1,0 +1,4 @@
+//! Images, and what their ranges are.
+
+pub use imago_access::access::FormatAccess;
+pub use imago_access::mapping::Mapping;

@@ -1,0 +1,5 @@
+//! Image formats, under the paths of the Rust crate.
+
+pub use crate::access;
+pub use imago_drivers::drivers;
+pub use imago_drivers::drivers::{Format, PreallocateMode};

@@ -1,0 +1,18 @@
+//! Access to virtual disk images.
+//!
+//! A [`Storage`] holds bytes, a driver shows a disk that stands in storages, and a [`FormatAccess`] reads and writes the
+//! disk of a driver and of the images below it. Names and modules are those of the Rust crate imago; everything here is
+//! defined in `imago_storage`, `imago_drivers` and `imago_access`, and their documentation says what each item does.
+#![tactic(auto)]
+
+pub mod access;
+pub mod format;
+pub mod storage;
+
+pub use access::{FormatAccess, Mapping};
+pub use imago_access::run;
+pub use imago_drivers::drivers::{FormatDriverInstance, PreparedDataMapping, ShallowMapping};
+pub use imago_drivers::{drivers, layer, raw};
+pub use imago_storage::ext::StorageExt;
+pub use imago_storage::{error, ext, mem, null};
+pub use storage::{Storage, StorageCreateOptions, StorageOpenOptions};

@@ -1,0 +1,6 @@
+//! Storages, and requests of any range on them.
+
+pub use imago_storage::ext;
+pub use imago_storage::storage::{
+    PreallocateMode, Storage, StorageCreateOptions, StorageOpenOptions, is_alignment,
+};
