@@ -1,0 +1,3 @@
+pub mod Words
+pub mod ScriptStorage
+pub mod Storages

@@ -1,0 +1,76 @@
+//! What a script answers to a command.
+
+use crate::session::Image;
+use crate::words::NO_BYTES;
+use imago::error::{Error, ErrorKind};
+use imago::run::Reply;
+use std::io::{self, Write};
+
+/// The answer to a command.
+#[derive(Drop)]
+pub enum Answer<'a> {
+    /// It is done, and answers nothing.
+    Done,
+    /// What an image is.
+    Shown(&'a Image),
+    /// What a call on an image replied.
+    Replied(Reply),
+    /// It is refused.
+    Refused(ErrorKind),
+}
+
+impl<'a> From<Result<Answer<'a>, Error>> for Answer<'a> {
+    fn from(outcome: Result<Answer<'a>, Error>) -> Answer<'a> {
+        match outcome {
+            Ok(answer) => answer,
+            Err(error) => Answer::Refused(error.kind()),
+        }
+    }
+}
+
+impl<'a> Answer<'a> {
+    /// Prints the answer's line.
+    pub fn print<W: Write>(&self, output: &mut W) -> io::Result<()> {
+        match self {
+            Answer::Done => writeln!(output, "ok"),
+            Answer::Shown(image) => writeln!(output, "ok {image}"),
+            Answer::Replied(reply) => print_reply(reply, output),
+            Answer::Refused(kind) => writeln!(output, "err {kind:?}"),
+        }
+    }
+}
+
+/// Prints the line of a reply.
+fn print_reply<W: Write>(reply: &Reply, output: &mut W) -> io::Result<()> {
+    match reply {
+        Reply::Done => writeln!(output, "ok"),
+        Reply::Data(bytes) => print_bytes(bytes, output),
+        Reply::Size(size) => writeln!(output, "ok {size}"),
+        Reply::Mapped { mapping, length } => writeln!(output, "ok {length} {mapping}"),
+        Reply::Refused(error) => {
+            let kind = error.kind();
+            writeln!(output, "err {kind:?}")
+        }
+    }
+}
+
+/// How many bytes are turned into digits at a time.
+const PIECE: usize = 4096;
+
+/// Prints a line of bytes, in hex. It takes no memory, however many they are.
+fn print_bytes<W: Write>(bytes: &[u8], output: &mut W) -> io::Result<()> {
+    if bytes.is_empty() {
+        return writeln!(output, "ok {NO_BYTES}");
+    }
+    write!(output, "ok ")?;
+    let mut digits = [0; 2 * PIECE];
+    let mut rest = bytes;
+    'pieces: while !rest.is_empty() {
+        let (piece, others) = rest.split_at(rest.len().min(PIECE));
+        let digits = &mut digits[..2 * piece.len()];
+        let _ = hex::encode_to_slice(piece, &mut *digits);
+        output.write_all(digits)?;
+        rest = others;
+    }
+    writeln!(output)
+}

@@ -1,0 +1,124 @@
+//! What a line of a script says.
+ghost use Rattle.std.specs.Prelude.{◌≤◌, ◌↔◌, IsSome};
+
+use crate::words::{Alignment, Hex, byte, mode, number, words_of, writability};
+use imago::run::Call;
+
+/// The longest read, in bytes.
+const LONGEST_READ: u64 = 16777216;
+
+/// A command.
+pub enum Command<'a> {
+    /// Adds a storage of equal bytes in memory.
+    Mem {
+        /// Its name.
+        name: &'a str,
+        /// Its length in bytes.
+        length: u64,
+        /// What each byte is.
+        byte: u8,
+        /// What the length of a request at it is a multiple of.
+        mem_align: Alignment,
+        /// What the offset and the length of a request at it are multiples of.
+        req_align: Alignment,
+    },
+    /// Adds a storage of these bytes in memory.
+    Hex {
+        /// Its name.
+        name: &'a str,
+        /// Its bytes.
+        bytes: Hex<'a>,
+    },
+    /// Adds a null storage.
+    Null {
+        /// Its name.
+        name: &'a str,
+        /// Its length in bytes.
+        size: u64,
+    },
+    /// Opens a storage as a raw image.
+    OpenRaw {
+        /// The storage's name.
+        name: &'a str,
+        /// Whether the image can be written to.
+        writable: bool,
+    },
+    /// Prints what the open image is.
+    Show,
+    /// Writes to the open image.
+    Write {
+        /// Where to, in bytes.
+        offset: u64,
+        /// What to write.
+        bytes: Hex<'a>,
+    },
+    /// Another call on the open image.
+    Call(Call),
+}
+
+/// The command that a line is, or `None` where it is malformed.
+pub fn command_of(line: &[u8]) -> Option<Command<'_>> {
+    let (words, count) = words_of(line)?;
+    match words.get(..count)? {
+        &["mem", name, length, fill, mem_align, req_align] => Some(Command::Mem {
+            name,
+            length: number(length)?,
+            byte: byte(fill)?,
+            mem_align: Alignment::of(mem_align)?,
+            req_align: Alignment::of(req_align)?,
+        }),
+        &["hex", name, bytes] => Some(Command::Hex {
+            name,
+            bytes: Hex::of(bytes)?,
+        }),
+        &["null", name, size] => Some(Command::Null {
+            name,
+            size: number(size)?,
+        }),
+        &["open", "raw", name, access] => Some(Command::OpenRaw {
+            name,
+            writable: writability(access)?,
+        }),
+        &["show"] => Some(Command::Show),
+        &["write", offset, bytes] => Some(Command::Write {
+            offset: number(offset)?,
+            bytes: Hex::of(bytes)?,
+        }),
+        words => Some(Command::Call(call_of(words)?)),
+    }
+}
+
+/// The call that words are, of those that take no bytes.
+fn call_of(words: &[&str]) -> Option<Call> {
+    match words {
+        &["size"] => Some(Call::Size),
+        &["read", offset, length] => read_of(number(offset)?, number(length)?),
+        &["resize", size, growth] => Some(Call::Resize {
+            size: number(size)?,
+            mode: mode(growth)?,
+        }),
+        &["grow", size, growth] => Some(Call::ResizeGrow {
+            size: number(size)?,
+            mode: mode(growth)?,
+        }),
+        &["shrink", size] => Some(Call::ResizeShrink {
+            size: number(size)?,
+        }),
+        &["flush"] => Some(Call::Flush),
+        &["sync"] => Some(Call::Sync),
+        _ => None,
+    }
+}
+
+/// A read that isn't too long.
+fn read_of(offset: u64, count: u64) -> Option<Call>
+    ensures { IsSome result ↔ (count ≤ 16777216) }
+{
+    if count > LONGEST_READ {
+        return None;
+    }
+    Some(Call::Read {
+        offset,
+        length: count,
+    })
+}

@@ -1,0 +1,46 @@
+//! Scripts, what they print, and how they end.
+
+mod bad_lines;
+mod examples;
+mod faults;
+mod rows;
+
+use crate::script::script;
+use std::alloc::Global;
+use std::process::Abort;
+
+/// What a script prints, and its status.
+fn outcome(alloc: Global, mut text: &[u8]) -> (u8, Vec<u8>) {
+    let mut output = Vec::new(alloc);
+    let status = script(alloc, &mut text, &mut output);
+    (status, output)
+}
+
+/// Whether a script told that memory was refused, or ended for it.
+fn ran_out(status: u8, output: &[u8]) -> bool {
+    status == 1
+        || output
+            .split(|byte| *byte == b'\n')
+            .any(|line| line == b"err OutOfMemory".as_slice())
+}
+
+/// A script prints that, and ends with that status.
+///
+/// A test's run refuses one request for memory at most. So a script that ran out of it runs again, and has its memory then.
+fn check(rt: &(impl Abort + AllocGlobal), text: &[u8], printed: &str, status: u8) {
+    let (got, output) = outcome(rt.alloc(), text);
+    if got == status && output.as_slice() == printed.as_bytes() {
+        return;
+    }
+    assert!(rt; ran_out(got, &output), "{output:?}");
+    let (got, output) = outcome(rt.alloc(), text);
+    assert_eq!(rt; output.as_slice(), printed.as_bytes());
+    assert_eq!(rt; got, status);
+}
+
+#[test]
+fn the_examples_print_what_stands_beside_them(rt: HostRuntime) {
+    for (_name, text, printed) in examples::EXAMPLES {
+        check(&rt, text.as_bytes(), printed, 0);
+    }
+}

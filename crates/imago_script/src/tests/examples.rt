@@ -1,0 +1,117 @@
+//! The scripts of examples/, and what they print. tools/examples-in-tests writes this file.
+
+/// The name of each example, its script, and what that prints.
+pub(super) const EXAMPLES: [(&str, &str, &str); 3] = [
+    (
+        "alignment",
+        "# A storage that takes requests of whole blocks of 4 bytes alone, and a disk of 10 bytes on it.
+mem a 10 a5 4 4
+open raw a rw
+# One byte is written: its block is read, changed, and written back. The bytes around it stay as they were.
+write 5 01
+read 3 5
+# The disk ends inside its last block. A write there makes the storage longer, by zeroes, and the disk stays.
+write 9 02
+size
+read 8 4
+# A disk that grows into that block finds zeroes there.
+grow 12 zero
+size
+read 8 4
+# Past the end of the disk nothing is written, also where the storage's block would go on.
+write 12 03
+read 8 6
+",
+        "ok
+ok
+ok
+ok a5a501a5a5
+ok
+ok 10
+ok a5020000
+ok
+ok 12
+ok a5020000
+err UnexpectedEof
+ok a50200000000
+",
+    ),
+    (
+        "first",
+        "# A disk of 16 zero bytes in memory, opened as a raw image that may be written to.
+mem a 16 00 1 1
+open raw a rw
+show
+size
+# Two bytes are written at offset 3, and six are read from the start.
+write 3 0102
+read 0 6
+flush
+",
+        "ok
+ok
+ok raw[mem:a]
+ok 16
+ok
+ok 000000010200
+ok
+",
+    ),
+    (
+        "sizes",
+        "# A disk of the bytes 01 02 03 04.
+hex a 01020304
+open raw a rw
+# What is read past the end is zero. A write has to stay inside.
+read 2 4
+read 100 2
+write 3 aabb
+# The disk is cut, and grows again by zeroes.
+shrink 2
+size
+grow 4 zero
+read 0 4
+# grow never cuts, shrink never grows, resize does either.
+grow 1 zero
+shrink 9
+size
+resize 6 zero
+resize 3 none
+size
+read 0 6
+# There can't be memory for a disk of this size: nothing changes, and the script goes on.
+grow 18446744073709551615 zero
+size
+# Zeroes take none. A disk that is opened to be read alone isn't resized.
+null n 18446744073709551615
+open raw n ro
+size
+shrink 1
+read 18446744073709551614 2
+",
+        "ok
+ok
+ok 03040000
+ok 0000
+err UnexpectedEof
+ok
+ok 2
+ok
+ok 01020000
+ok
+ok
+ok 4
+ok
+ok
+ok 3
+ok 010200000000
+err OutOfMemory
+ok 3
+ok
+ok
+ok 18446744073709551615
+err Other
+ok 0000
+",
+    ),
+];

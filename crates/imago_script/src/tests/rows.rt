@@ -1,0 +1,97 @@
+//! Scripts that were worked out by hand.
+
+use super::check;
+
+/// Scripts whose every line is a command, and what they print.
+const ROWS: [(&str, &str); 17] = [
+    (
+        "mem a 16 00 1 1\nopen raw a rw\nwrite 3 0102\nread 0 6\n",
+        "ok\nok\nok\nok 000000010200\n",
+    ),
+    // No lines at all; only lines that say nothing; a last line with no end; hex of no bytes.
+    ("", ""),
+    ("\n#\n# size\n#\tsize\r\n\n", ""),
+    (
+        "hex a -\nopen raw a rw\nsize\nread 0 0\nwrite 0 -\nread 0 1",
+        "ok\nok\nok 0\nok -\nok\nok 00\n",
+    ),
+    // Every digit of hex in either case, and numbers with zeroes in front.
+    (
+        "hex a 0123456789abcdefABCDEF\nopen raw a ro\nread 00000000000000000000000 011\n",
+        "ok\nok\nok 0123456789abcdefabcdef\n",
+    ),
+    // A disk that ends inside a block, a write there, and a growth over its padding.
+    (
+        "mem a 10000 a5 4096 4096\nopen raw a rw\nshow\nwrite 9999 01\nread 9998 4\ngrow 11000 zero\nsize\nread 9999 3\n\
+         write 11000 ff\nread 0 0\n",
+        "ok\nok\nok raw[mem:a]\nok\nok a5010000\nok\nok 11000\nok 010000\nerr UnexpectedEof\nok -\n",
+    ),
+    // A read that is shorter than a block.
+    (
+        "mem a 4 ff 4 4\nopen raw a rw\nread 0 4\nread 0 3\n",
+        "ok\nok\nok ffffffff\nok ffffff\n",
+    ),
+    // Requests at the greatest offsets, on blocks and without: past the end of the disk they read as zeroes.
+    (
+        "mem a 1 5a 4096 4096\nopen raw a rw\nread 18446744073709551605 12\nwrite 18446744073709551605 010203040506\n\
+         read 18446744073709551515 5\nwrite 18446744073709551515 01\nsize\n",
+        "ok\nok\nok 000000000000000000000000\nerr UnexpectedEof\nok 0000000000\nerr UnexpectedEof\nok 1\n",
+    ),
+    // Reads over the end; no write past it, also of nothing.
+    (
+        "hex a 01020304\nopen raw a rw\nread 2 6\nread 18446744073709551615 2\nwrite 18446744073709551615 00\n\
+         write 3 0506\nwrite 4 -\nwrite 5 -\nread 0 4\n",
+        "ok\nok\nok 030400000000\nok 0000\nerr UnexpectedEof\nerr UnexpectedEof\nok\nerr UnexpectedEof\nok 01020304\n",
+    ),
+    // Opened to be read alone: no changing call, also one that would change nothing.
+    (
+        "hex a 01020304\nopen raw a ro\nwrite 0 -\nwrite 18446744073709551615 00\nresize 4 none\ngrow 0 zero\nshrink 9\n\
+         flush\nsync\nread 0 4\nsize\n",
+        "ok\nok\nerr Other\nerr Other\nerr Other\nerr Other\nerr Other\nok\nok\nok 01020304\nok 4\n",
+    ),
+    // Sizes: what was cut is gone; a growth to less and a cut to more do nothing.
+    (
+        "hex a 01020304\nopen raw a rw\nshrink 2\ngrow 4 zero\nread 0 4\ngrow 1 zero\nshrink 9\nsize\nresize 2 data\n\
+         resize 3 full\ngrow 5 format\ngrow 6 none\nsize\nread 0 5\nread 0 2\n",
+        "ok\nok\nok\nok\nok 01020000\nok\nok\nok 4\nok\nok\nok\nok\nok 6\nok 0102000000\nok 0102\n",
+    ),
+    // Zeroes of any length.
+    (
+        "null n 7\nopen raw n rw\nshow\nwrite 0 ff\nread 0 7\nsize\nresize 9 zero\nshow\n",
+        "ok\nok\nok raw[null:[7B]]\nok\nok 00000000000000\nok 7\nok\nok raw[null:[9B]]\n",
+    ),
+    (
+        "null n 18446744073709551615\nopen raw n rw\nread 18446744073709551614 2\nwrite 18446744073709551614 01\nsize\n",
+        "ok\nok\nok 0000\nok\nok 18446744073709551615\n",
+    ),
+    // With no open image.
+    (
+        "size\nshow\nread 0 16777216\nwrite 0 00\nresize 0 none\ngrow 0 none\nshrink 0\nflush\nsync\nopen raw a ro\n",
+        "err NotFound\nerr NotFound\nerr NotFound\nerr NotFound\nerr NotFound\nerr NotFound\nerr NotFound\nerr NotFound\n\
+         err NotFound\nerr NotFound\n",
+    ),
+    // An opening replaces the open image where it succeeds, and takes the storage out.
+    (
+        "hex a 01\nhex b 02\nopen raw a ro\nopen raw c ro\nread 0 1\nopen raw b ro\nread 0 1\nopen raw a ro\nread 0 1\n",
+        "ok\nok\nok\nerr NotFound\nok 01\nok\nok 02\nerr NotFound\nok 02\n",
+    ),
+    // Of storages with one name, of whatever kind, the first added is opened first.
+    (
+        "hex a 01\nnull a 5\nhex b 09\nhex a 02\nopen raw a rw\nread 0 1\nopen raw a rw\nshow\nopen raw a rw\nread 0 1\n\
+         open raw a rw\nopen raw b rw\nread 0 1\n",
+        "ok\nok\nok\nok\nok\nok 01\nok\nok raw[null:[5B]]\nok\nok 02\nerr NotFound\nok\nok 09\n",
+    ),
+    // There can't be memory for so many bytes; the script goes on, and nothing changed.
+    (
+        "mem a 18446744073709551615 00 1 1\nopen raw a ro\nmem b 1 77 1 1\nopen raw b rw\n\
+         grow 18446744073709551615 zero\nresize 9223372036854775808 none\nsize\nread 0 1\n",
+        "err OutOfMemory\nerr NotFound\nok\nok\nerr OutOfMemory\nerr OutOfMemory\nok 1\nok 77\n",
+    ),
+];
+
+#[test]
+fn rows(rt: HostRuntime) {
+    for (text, printed) in ROWS {
+        check(&rt, text.as_bytes(), printed, 0);
+    }
+}
