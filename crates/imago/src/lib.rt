@@ -8,6 +8,8 @@
 pub mod access;
 pub mod format;
 pub mod storage;
+#[cfg(test)]
+mod tests;
 
 pub use access::{FormatAccess, Mapping};
 pub use imago_access::run;

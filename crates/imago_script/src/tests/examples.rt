@@ -46,7 +46,6 @@ size
 # Two bytes are written at offset 3, and six are read from the start.
 write 3 0102
 read 0 6
-flush
 ",
         "ok
 ok
@@ -54,7 +53,6 @@ ok raw[mem:a]
 ok 16
 ok
 ok 000000010200
-ok
 ",
     ),
     (
