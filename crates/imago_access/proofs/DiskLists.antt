@@ -196,3 +196,43 @@ extended_known Mode.WriteData below n xs ys f h = h
 -- what is known of the list is known of its first n values
 pub filled_cut : (mode : PreallocateMode) (n : ℕ) (xs : List Value) → IsFilled mode n xs → IsFilled mode n (take n xs)
 filled_cut mode n xs f = ⊎_elim (λ (le : n ≤ length xs). inl (omega (arith, length-take n xs))) (λ no. inr no) f
+
+-- an extended list is the list, and as many values more as it lacks
+extended_parts : (mode : PreallocateMode) (below : ℕ → Value) (n : ℕ) (xs ys : List Value) → IsExtended mode below n xs ys → (added : List Value) × (length added ≡ n - length xs) × (ys ≡ xs ++ added)
+extended_parts Mode.None below n xs ys h = h
+extended_parts Mode.Zero below n xs ys h = (replicate (n - length xs) (Byte 0), length-replicate (n - length xs) (Byte 0), h)
+extended_parts Mode.FormatAllocate below n xs ys h = (values_from below (length xs) (n - length xs), from_length below (length xs) (n - length xs), h)
+extended_parts Mode.FullAllocate below n xs ys h = (values_from below (length xs) (n - length xs), from_length below (length xs) (n - length xs), h)
+extended_parts Mode.WriteData below n xs ys h = (values_from below (length xs) (n - length xs), from_length below (length xs) (n - length xs), h)
+
+pub extended_length : (mode : PreallocateMode) (below : ℕ → Value) (n : ℕ) (xs ys : List Value) → IsExtended mode below n xs ys → length ys ≡ length xs + (n - length xs)
+extended_length mode below n xs ys h =
+    let x = extended_parts mode below n xs ys h in
+    let a : length ys ≡ length (xs ++ x.0) = ap (λ (zs : List Value). length zs) x.2 in
+    let b : length (xs ++ x.0) ≡ length xs + length x.0 = length-append xs x.0 in
+    let c : length x.0 ≡ n - length xs = x.1 in
+    omega arith
+
+pub extended_before : (mode : PreallocateMode) (below : ℕ → Value) (n : ℕ) (xs ys : List Value) → IsExtended mode below n xs ys → (p : ℕ) → p < length xs → value_at ys p ≡ value_at xs p
+extended_before mode below n xs ys h p lt =
+    let x = extended_parts mode below n xs ys h in
+    ap (λ (zs : List Value). value_at zs p) x.2 ∙ get_or_append_left xs x.0 (Byte 0) p lt
+
+behind : (xs ys added : List Value) (p : ℕ) → ys ≡ xs ++ added → length xs ≤ p → value_at ys p ≡ value_at added (p - length xs)
+behind xs ys added p e le = ap (λ (zs : List Value). value_at zs p) e ∙ get_or-append_right xs added p (Byte 0) le
+
+given_behind : (v : ℕ → Value) (n : ℕ) (xs ys : List Value) (p : ℕ) → ys ≡ xs ++ values_from v (length xs) (n - length xs) → length xs ≤ p → p < n → value_at ys p ≡ v p
+given_behind v n xs ys p e le lt =
+    let m : p - length xs < n - length xs = omega arith in
+    let q : length xs + (p - length xs) ≡ p = omega arith in
+    behind xs ys (values_from v (length xs) (n - length xs)) p e le ∙ from_at v (length xs) (n - length xs) (p - length xs) (Byte 0) m ∙ ap v q
+
+pub extended_added : (mode : PreallocateMode) (takes_backing : Bool) (below : ℕ → Value) (n : ℕ) (xs ys : List Value) → IsExtended mode (given_back takes_backing below) n xs ys
+    → (p : ℕ) → length xs ≤ p → p < n → grown_into mode takes_backing below p (value_at ys p)
+extended_added Mode.None t below n xs ys h p le lt = tt
+extended_added Mode.Zero t below n xs ys h p le lt =
+    let m : p - length xs < n - length xs = omega arith in
+    behind xs ys (replicate (n - length xs) (Byte 0)) p h le ∙ get_or-replicate (n - length xs) (p - length xs) (Byte 0) (Byte 0) m
+extended_added Mode.FormatAllocate t below n xs ys h p le lt = given_behind (given_back t below) n xs ys p h le lt
+extended_added Mode.FullAllocate t below n xs ys h p le lt = given_behind (given_back t below) n xs ys p h le lt
+extended_added Mode.WriteData t below n xs ys h p le lt = given_behind (given_back t below) n xs ys p h le lt

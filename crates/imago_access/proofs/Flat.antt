@@ -89,7 +89,7 @@ module _ {D St : Type 0} (view : D → View St) where
   same_disk : (old new : FormatAccess D) → IsTrue (view (driver old)).abilities.keeps_data → IsSameImage view old new → disk view new ≡ disk view old
   same_disk old new k h = same_listed (disk_value view old) (disk_value view new) _ _ h.size (h.values k)
 
-  disk_length : (x : FormatAccess D) → length (disk view x) ≡ (view (driver x)).size
+  pub disk_length : (x : FormatAccess D) → length (disk view x) ≡ (view (driver x)).size
   disk_length x = from_length (disk_value view x) 0 (view (driver x)).size
 
   flushed : (old new : FormatAccess D) (r : Reply) → IsTrue (view (driver old)).abilities.keeps_data → Answers r (IsFlushed view old new) → disk view new ≡ disk view old
@@ -99,10 +99,10 @@ module _ {D St : Type 0} (view : D → View St) where
       → Answers r (IsResize view op n effect old new) → DoneOrRefused r done (λ e. disk view new ≡ disk view old)
   resized old new op n effect done r k f h = done_or_refused r (IsResize view op n effect old new) done _ (λ x. f x.done) (λ e x. same_disk old new k x.unchanged) h
 
-  shrunk : (old new : FormatAccess D) (n : ℕ) → IsTrue (view (driver old)).abilities.keeps_data → HasShrunk view n old new → disk view new ≡ take n (disk view old)
+  pub shrunk : (old new : FormatAccess D) (n : ℕ) → IsTrue (view (driver old)).abilities.keeps_data → HasShrunk view n old new → disk view new ≡ take n (disk view old)
   shrunk old new n k h = cut_list (disk_value view old) (disk_value view new) (view (driver old)).size (view (driver new)).size n h.size (h.stays k)
 
-  grown : (old new : FormatAccess D) (mode : PreallocateMode) (n : ℕ) → IsTrue (view (driver old)).abilities.keeps_data → HasGrown view mode n old new → IsExtended mode (backed_value view old) n (disk view old) (disk view new)
+  pub grown : (old new : FormatAccess D) (mode : PreallocateMode) (n : ℕ) → IsTrue (view (driver old)).abilities.keeps_data → HasGrown view mode n old new → IsExtended mode (backed_value view old) n (disk view old) (disk view new)
   grown old new mode n k h =
       let s = (view (driver old)).size in
       let l : length (disk view old) ≡ (view (driver old)).size = disk_length old in
@@ -159,7 +159,7 @@ module _ {D St : Type 0} (view : D → View St) where
       t)
 
 module _ {D St : Type 0} (view : D → View St) (lawful : (d : D) → IsLawful (view d)) (causes : (d : D) → AreCauses (view d)) where
-  value_in_list : (x : FormatAccess D) (p : ℕ) → disk_value view x p ≡ value_at (disk view x) p
+  pub value_in_list : (x : FormatAccess D) (p : ℕ) → disk_value view x p ≡ value_at (disk view x) p
   value_in_list x p =
       let s = (view (driver x)).size in
       ⊎_elim

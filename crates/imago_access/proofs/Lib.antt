@@ -14,5 +14,6 @@ pub mod RunSteps
 pub mod Targets
 pub mod DiskLists
 pub mod Flat
+pub mod Resizes
 pub mod Determined
 pub mod Successes

@@ -8,6 +8,7 @@ use Rattle.imago_drivers.specs.Changes.{IsChanged, into, partly, given_back}
 use Rattle.imago_drivers.specs.View.{View}
 use Rattle.imago_access.specs.declared.access.FormatAccess.{FormatAccess}
 use Rattle.imago_access.specs.Chain.{driver, backing, disk_value, lent_image}
+use Rattle.imago_access.specs.Sizes.{HasGrown, HasShrunk}
 
 -- the n values from the offset o on, as a list
 abbrev pub values_from : (ℕ → Value) → ℕ → ℕ → List Value
@@ -68,3 +69,8 @@ pub record IsSameWrite {D St : Type 0} (view : D → View St) (old : FormatAcces
       ↔ (disk view new ≡ splice (disk view old) o (map Byte bytes))
   pub torn : IsChanged o (length bytes) (partly (into bytes)) (disk_value view old) (disk_value view new)
       ↔ OldOrNewValues (disk view old) (splice (disk view old) o (map Byte bytes)) (disk view new)
+
+-- A resize of an image, offset by offset and as a list: the two say the same.
+pub record IsSameResize {D St : Type 0} (view : D → View St) (old : FormatAccess D) (mode : PreallocateMode) (n : ℕ) (new : FormatAccess D) : Type 0 where
+  pub cut : HasShrunk view n old new ↔ (disk view new ≡ take n (disk view old))
+  pub growth : HasGrown view mode n old new ↔ IsExtended mode (backed_value view old) n (disk view old) (disk view new)

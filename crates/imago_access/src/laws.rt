@@ -1,6 +1,7 @@
 //! Laws of images that follow from what each call promises. The functions do nothing.
 ghost use Rattle.std.specs.Prelude.{◌≡◌, ℕ, ◌+◌, ◌≤◌, List, length, IsTrue};
 ghost use Rattle.imago_drivers.specs.Place.{Byte, shown};
+ghost use Rattle.imago_drivers.specs.declared.format.PreallocateMode.{PreallocateMode};
 ghost use Rattle.imago_access.specs.declared.access.FormatAccess.{FormatAccess};
 ghost use Rattle.imago_access.specs.declared.run.Call.{Call};
 ghost use Rattle.imago_access.specs.declared.run.Reply.{Reply};
@@ -8,7 +9,7 @@ ghost use Rattle.imago_access.specs.Chain.{driver, disk_value};
 ghost use Rattle.imago_access.specs.Target.{target};
 ghost use Rattle.imago_access.specs.Calls.{IsKept};
 ghost use Rattle.imago_access.specs.Runs.{IsRun};
-ghost use Rattle.imago_access.specs.Disk.{disk, backed_value, IsSameWrite};
+ghost use Rattle.imago_access.specs.Disk.{disk, backed_value, IsSameWrite, IsSameResize};
 ghost use Rattle.imago_access.specs.Histories.{IsFlatHistory, AreDetermined, IsFlatRun};
 ghost use Rattle.imago_access.specs.Success.{ReadsSucceed, ReadableRangesAreRead, WritesSucceed, GrowthsSucceed, CutsSucceed};
 
@@ -49,6 +50,13 @@ pub fn writes_on_lists<D: FormatDriverInstance>()
         → (D.view (driver new)).size ≡ (D.view (driver old)).size
         → o + length bytes ≤ (D.view (driver old)).size
         → IsSameWrite D.view old o bytes new }
+{}
+
+/// A cut or a growth of an image over storages that keep data is the same offset by offset as on lists.
+pub fn resizes_on_lists<D: FormatDriverInstance>()
+    ensures { (old new : FormatAccess D) (mode : PreallocateMode) (n : ℕ)
+        → IsTrue (D.view (driver old)).abilities.keeps_data
+        → IsSameResize D.view old mode n new }
 {}
 
 /// What a read of an offset gives is what stands where the offset leads, as its resolved mapping tells it.
