@@ -1,4 +1,4 @@
-use Rattle.std.proofs.Common.{◌≡◌, ℕ, ◌<◌, ◌≤◌, List, length, take, min, max, sym, ap, ◌∙◌, arith, subst, length-take}
+use Rattle.std.proofs.Common.{◌≡◌, ℕ, ◌<◌, ◌≤◌, List, length, take, min, sym, ap, ◌∙◌, arith, subst, length-take}
 use Rattle.std.proofs.lemmas.List.{get_or-take}
 use Rattle.std.specs.Prelude.{IsTrue}
 use Rattle.imago_drivers.specs.declared.format.PreallocateMode.{PreallocateMode}

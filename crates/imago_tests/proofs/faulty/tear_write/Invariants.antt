@@ -1,4 +1,4 @@
-use Rattle.std.proofs.Common.{◌≡◌, ◌≤◌, length}
+use Rattle.std.proofs.Common.{◌≡◌, length}
 use Rattle.std.specs.Prelude.{slice_index}
 use Rattle.imago_storage.specs.Mem.{mem_features}
 use Rattle.imago_tests.proofs.Torn.{IsTearing}

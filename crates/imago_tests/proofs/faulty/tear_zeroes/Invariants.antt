@@ -1,4 +1,4 @@
-use Rattle.std.proofs.Common.{◌≡◌, ◌≤◌}
+use Rattle.std.proofs.Common.{◌≡◌}
 use Rattle.imago_storage.specs.Mem.{mem_features}
 use Rattle.imago_tests.proofs.Torn.{IsTearing}
 use Rattle.imago_tests.proofs.faulty.tear_zeroes.Given as goal
