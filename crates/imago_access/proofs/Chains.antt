@@ -1,11 +1,10 @@
-use Rattle.std.proofs.Common.{◌≡◌, ℕ, ◌+◌, ◌<◌, ◌≤◌, ◌⊎◌, inl, inr, ⊎_elim, Bool, true, false, ◌&&◌, Option, Some, None, refl, sym, ap, ◌∙◌, subst, arith, Box, Global}
+use Rattle.std.proofs.Common.{◌≡◌, ℕ, inl, inr, Bool, true, false, ◌&&◌, Option, Some, None, refl, sym, ap, ◌∙◌, subst, Box, Global}
 use Rattle.imago_storage.specs.declared.error.Error.{Error}
 use Rattle.imago_drivers.specs.Operation.{Operation, Read}
-use Rattle.imago_drivers.specs.Place.{Value, Byte, Place, Lower, End, shown, values}
-use Rattle.imago_drivers.specs.LayerBelow.{LayerBelow, lent}
+use Rattle.imago_drivers.specs.Place.{Value, Place, Lower, End, shown, values}
 use Rattle.imago_drivers.specs.View.{View}
-use Rattle.imago_access.specs.declared.access.FormatAccess.{FormatAccess, FormatAccess', out-FormatAccess, roll-FormatAccess, rolls-FormatAccess', is-FormatAccess', FormatAccess-F, back-FormatAccess-backing}
-use Rattle.imago_access.specs.Chain.{driver, backing, unboxed, disk_value, is_reliable, IsReached, chain_cause, cause_below, chain_no_memory, no_memory_below, as_layer_below, lent_image}
+use Rattle.imago_access.specs.declared.access.FormatAccess.{FormatAccess, FormatAccess', out-FormatAccess, is-FormatAccess', back-FormatAccess-backing}
+use Rattle.imago_access.specs.Chain.{driver, backing, unboxed, disk_value, is_reliable, IsReached, chain_cause, cause_below, chain_no_memory, no_memory_below, lent_image}
 use Rattle.imago_access.specs.Target.{Target, target, followed, deeper, target_here}
 
 module _ {D St : Type 0} (view : D → View St) where

@@ -1,24 +1,16 @@
-use Rattle.std.proofs.Common.{◌≡◌, ℕ, ◌+◌, ◌-◌, ◌<◌, ◌≤◌, ◌⊎◌, ◌&&◌, inl, inr, ⊎_elim, Bool, true, false, Option, Some, None, refl, sym, ap, ◌∙◌, subst, arith, nat_eq, rules, zero, suc}
+use Rattle.std.proofs.Common.{◌≡◌, ℕ, ◌+◌, ◌<◌, ◌≤◌, ◌⊎◌, ◌&&◌, inl, inr, ⊎_elim, Bool, true, false, Some, refl, sym, ap, ◌∙◌, subst, arith}
 use Rattle.std.proofs.lemmas.Bool.{cases_lt}
 use Rattle.imago_storage.specs.declared.error.Error.{Error}
-use Rattle.imago_storage.specs.declared.error.Error.TheVariants as E
-use Rattle.imago_drivers.specs.Operation.{Operation, Map, Read}
-use Rattle.imago_drivers.specs.Place.{Value, Byte, Unreadable, Place, Stored, Zeroed, Special, Lower, Refused, End, shown}
+use Rattle.imago_drivers.specs.Place.{Place, Lower, Refused, End}
 use Rattle.imago_drivers.specs.View.{View}
-use Rattle.imago_drivers.specs.Reasons.{allowed}
-use Rattle.imago_drivers.specs.Laws.{IsLawful, AreCauses}
-use Rattle.imago_drivers.specs.Done.{map_reasons}
 use Rattle.imago_drivers.specs.Mapping.{Names, IsEof, IsRight}
 use Rattle.imago_drivers.specs.declared.mapping.ShallowMapping.{ShallowMapping}
 use Rattle.imago_drivers.specs.declared.mapping.ShallowMapping.TheVariants as S
 use Rattle.imago_access.specs.declared.access.FormatAccess.{FormatAccess}
-use Rattle.imago_access.specs.declared.chain.Way.{Way}
-use Rattle.imago_access.specs.Chain.{driver, backing, disk_value, is_reliable, chain_cause, chain_no_memory, IsReached}
-use Rattle.imago_access.specs.ChainLaws.{chain_part}
-use Rattle.imago_access.specs.Target.{Target, target, deeper, target_here, told_depth}
-use Rattle.imago_access.specs.Resolved.{LeadsTo, LeadsToZero, IsResolved, IsEndOfImage, chain_map_reasons}
-use Rattle.imago_access.specs.Ways.{NamesOrEnds, IsPart, part_length, LeadsDown, IsBottom, HasLanded, resolved_mapping, resolved_length}
-use Rattle.imago_access.proofs.Chains.{value_lower, reliable_here, reliable_lower, target_lower, target_nothing, target_at, cause_here, cause_lower, no_memory_here, no_memory_lower}
+use Rattle.imago_access.specs.Chain.{driver, backing, chain_no_memory}
+use Rattle.imago_access.specs.Target.{Target, target, deeper, target_here}
+use Rattle.imago_access.specs.Ways.{NamesOrEnds, IsPart, part_length, LeadsDown}
+use Rattle.imago_access.proofs.Chains.{value_lower, reliable_lower, target_lower, cause_lower, no_memory_lower}
 
 and_true : (g : Bool) → (g && true) ≡ g
 and_true true = refl

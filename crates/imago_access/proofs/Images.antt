@@ -1,4 +1,4 @@
-use Rattle.std.proofs.Common.{◌≡◌, ℕ, ◌+◌, ◌<◌, ◌≤◌, ◌⊎◌, ◌&&◌, inl, inr, ⊎_elim, Bool, true, false, Option, Some, None, List, length, refl, sym, ap, ◌∙◌, subst, arith, Box, Global, Result, Ok, Err}
+use Rattle.std.proofs.Common.{◌≡◌, ℕ, ◌+◌, ◌≤◌, ◌&&◌, inl, inr, ⊎_elim, Bool, true, Option, Some, None, List, length, refl, sym, ap, ◌∙◌, subst, arith, Box, Global, Result, Ok, Err}
 use Rattle.std.specs.Prelude.{IsTrue, IfErr, IfOk, OnOk, OnErr, IsErrOf}
 use Rattle.std.specs.Option.{option_copied}
 use Rattle.imago_storage.specs.Faults.{CountsFaults}
@@ -14,10 +14,10 @@ use Rattle.imago_drivers.specs.LayerBelow.{LayerBelow, lent}
 use Rattle.imago_drivers.specs.View.{View}
 use Rattle.imago_drivers.specs.Reasons.{allowed}
 use Rattle.imago_drivers.specs.Changes.{IsChanged, into, partly, overwritten}
-use Rattle.imago_access.specs.declared.access.FormatAccess.{FormatAccess, FormatAccess', out-FormatAccess, roll-FormatAccess, out-roll-FormatAccess, rolls-FormatAccess', FormatAccess-F, back-FormatAccess-backing}
+use Rattle.imago_access.specs.declared.access.FormatAccess.{FormatAccess, FormatAccess', out-FormatAccess, out-roll-FormatAccess, rolls-FormatAccess', FormatAccess-F, back-FormatAccess-backing}
 use Rattle.imago_access.specs.Chain.{driver, backing, unboxed, disk_value, as_layer_below, lent_image}
 use Rattle.imago_access.specs.Lending.{with_driver}
-use Rattle.imago_access.specs.Calls.{FailsTest, IsTested, IsKept, IsRangeCall, IsWrite, range_refusals, devices_reliable, IsEnsured, IsPreparing}
+use Rattle.imago_access.specs.Calls.{FailsTest, IsRangeCall, IsWrite, range_refusals, devices_reliable, IsEnsured, IsPreparing}
 use Rattle.imago_access.specs.Writing.{HasWrittenAll}
 use Rattle.imago_access.proofs.Chains.{value_out}
 

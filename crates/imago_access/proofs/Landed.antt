@@ -1,9 +1,9 @@
-use Rattle.std.proofs.Common.{◌≡◌, ℕ, ◌+◌, ◌-◌, ◌^◌, ◌<◌, ◌≤◌, ◌⊎◌, ◌&&◌, inl, inr, ⊎_elim, Bool, true, false, Option, Some, None, refl, sym, ap, ◌∙◌, subst, arith, nat_eq, rules, zero, suc, min, max}
+use Rattle.std.proofs.Common.{◌≡◌, ℕ, ◌+◌, ◌<◌, ◌≤◌, ◌⊎◌, ◌&&◌, inl, inr, ⊎_elim, Bool, true, false, None, refl, sym, ap, ◌∙◌, subst, arith, nat_eq, rules, zero, suc, min, max}
 use Rattle.std.proofs.lemmas.Bool.{cases_lt}
 use Rattle.imago_storage.specs.declared.error.Error.{Error}
 use Rattle.imago_storage.specs.declared.error.Error.TheVariants as E
-use Rattle.imago_drivers.specs.Operation.{Operation, Map, Read}
-use Rattle.imago_drivers.specs.Place.{Value, Byte, Unreadable, Place, Stored, Zeroed, Special, Lower, Refused, End, shown}
+use Rattle.imago_drivers.specs.Operation.{Map}
+use Rattle.imago_drivers.specs.Place.{Unreadable, Place, Stored, Zeroed, Special, Lower, Refused, End}
 use Rattle.imago_drivers.specs.View.{View}
 use Rattle.imago_drivers.specs.Reasons.{allowed}
 use Rattle.imago_drivers.specs.Laws.{AreCauses}
@@ -14,8 +14,7 @@ use Rattle.imago_drivers.specs.declared.mapping.ShallowMapping.TheVariants as S
 use Rattle.imago_access.specs.declared.access.FormatAccess.{FormatAccess}
 use Rattle.imago_access.specs.declared.chain.Way.{Way}
 use Rattle.imago_access.specs.declared.mapping.Mapping.{Mapping}
-use Rattle.imago_access.specs.declared.mapping.Mapping.TheVariants as Mapping
-use Rattle.imago_access.specs.Chain.{driver, backing, disk_value, is_reliable, chain_cause}
+use Rattle.imago_access.specs.Chain.{driver, backing, disk_value, chain_cause}
 use Rattle.imago_access.specs.ChainLaws.{chain_part}
 use Rattle.imago_access.specs.Target.{Target, target, followed, deeper, target_here, told_depth}
 use Rattle.imago_access.specs.Resolved.{LeadsTo, IsResolved, IsEndOfImage, chain_map_reasons}

@@ -1,8 +1,7 @@
-use Rattle.std.proofs.Common.{◌≡◌, ℕ, ◌+◌, ◌<◌, ◌≤◌, ◌⊎◌, ◌&&◌, Bool, true, false, List, length, take, Option, None, refl, sym, ap, ◌∙◌, arith, Result, Ok, Err, subst, length-take}
+use Rattle.std.proofs.Common.{◌≡◌, ℕ, ◌<◌, ◌&&◌, Bool, true, false, List, length, take, ap, ◌∙◌, arith, Ok, Err, subst, length-take}
 use Rattle.std.specs.Prelude.{IsTrue, IsErrOf}
 use Rattle.imago_storage.specs.declared.error.Error.{Error}
-use Rattle.imago_storage.specs.Faults.{CountsFaults, RoseOrSaturated}
-use Rattle.imago_drivers.specs.Operation.{Operation}
+use Rattle.imago_storage.specs.Faults.{RoseOrSaturated}
 use Rattle.imago_drivers.specs.declared.mapping.PreparedDataMapping.{PreparedDataMapping}
 use Rattle.imago_drivers.specs.Place.{Value, values}
 use Rattle.imago_drivers.specs.Reasons.{allowed}
@@ -11,7 +10,7 @@ use Rattle.imago_drivers.specs.Causes.{IsSettled, EveryOperation}
 use Rattle.imago_drivers.specs.Pending.{ShowsRound}
 use Rattle.imago_drivers.specs.View.{View}
 use Rattle.imago_drivers.specs.Laws.{IsLawful}
-use Rattle.imago_drivers.specs.Changes.{IsChanged, into, partly}
+use Rattle.imago_drivers.specs.Changes.{into}
 use Rattle.imago_drivers.specs.Frame.{IsFramed, IsUnchanged}
 use Rattle.imago_drivers.specs.Done.{mapping_write_reasons}
 use Rattle.imago_drivers.specs.Prepared.{IsPrepared, IsWritten, IsForeignWrite, is_written, is_for}

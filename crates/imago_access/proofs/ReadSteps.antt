@@ -1,22 +1,21 @@
-use Rattle.std.proofs.Common.{◌≡◌, ℕ, ◌+◌, ◌-◌, ◌<◌, ◌≤◌, ◌⊎◌, inl, inr, ⊎_elim, Bool, true, false, List, Option, Some, None, length, get_or, refl, sym, ap, ◌∙◌, subst, arith, zero-add, max}
+use Rattle.std.proofs.Common.{◌≡◌, ℕ, ◌+◌, ◌-◌, ◌<◌, ◌≤◌, ◌⊎◌, inl, inr, ⊎_elim, Bool, List, Option, length, refl, sym, ap, ◌∙◌, subst, arith, max}
 use Rattle.std.specs.Prelude.{slice_index}
 use Rattle.std.proofs.lemmas.Bool.{cases_lt}
 use Rattle.imago_storage.specs.declared.error.Error.{Error}
-use Rattle.imago_drivers.specs.Operation.{Operation, Map, Read}
-use Rattle.imago_drivers.specs.Place.{Value, Byte, Place, Stored, Zeroed, Special, Lower, Refused, End, shown, values, HasValues, IsAt, IsSpecialAt}
+use Rattle.imago_drivers.specs.Operation.{Map, Read}
+use Rattle.imago_drivers.specs.Place.{Value, Byte, Place, shown, HasValues}
 use Rattle.imago_drivers.specs.View.{View}
-use Rattle.imago_drivers.specs.Reasons.{Reasons, allowed}
+use Rattle.imago_drivers.specs.Reasons.{allowed}
 use Rattle.imago_drivers.specs.Laws.{IsLawful, AreCauses}
 use Rattle.imago_drivers.specs.Done.{stored_read_reasons, special_read_reasons}
-use Rattle.imago_drivers.specs.Mapping.{Names, IsEof}
 use Rattle.imago_drivers.specs.declared.mapping.ShallowMapping.{ShallowMapping}
 use Rattle.imago_drivers.specs.declared.mapping.ShallowMapping.TheVariants as S
 use Rattle.imago_access.specs.declared.access.FormatAccess.{FormatAccess}
 use Rattle.imago_access.specs.declared.chain.Way.{Way}
-use Rattle.imago_access.specs.Chain.{driver, backing, disk_value, is_reliable, chain_cause, chain_no_memory, lent_image, read_cause, read_reasons, no_memory_to_read, inside_part}
+use Rattle.imago_access.specs.Chain.{driver, backing, disk_value, chain_cause, chain_no_memory, lent_image, read_reasons, inside_part}
 use Rattle.imago_access.specs.ChainLaws.{chain_part}
 use Rattle.imago_access.specs.Resolved.{chain_map_reasons}
-use Rattle.imago_access.specs.Ways.{NamesOrEnds, IsPart, LeadsDown, IsBottom, HasLanded}
+use Rattle.imago_access.specs.Ways.{NamesOrEnds, IsBottom, HasLanded}
 use Rattle.imago_access.specs.Named.{IsKnown, IsNamedAt, own_values, named_read_reasons, chunk_read_reasons}
 use Rattle.imago_access.proofs.Chains.{value_out, reliable_here, cause_here, no_memory_here}
 use Rattle.imago_access.proofs.Weaker.{IsWeaker, allowed_more}

@@ -1,13 +1,13 @@
-use Rattle.std.proofs.Common.{◌≡◌, ℕ, ◌+◌, ◌<◌, ◌≤◌, ◌⊎◌, ◌&&◌, inl, inr, ⊎_elim, Bool, true, false, Option, Some, None, refl, sym, ap, ◌∙◌, subst, arith, Result, Ok, Err, min, max}
-use Rattle.std.specs.Prelude.{IsTrue, IfErr, OnOk, OnErr, IsErrOf}
+use Rattle.std.proofs.Common.{◌≡◌, ℕ, ◌<◌, ◌≤◌, ◌&&◌, inl, inr, Bool, true, false, refl, sym, ap, ◌∙◌, subst, arith, Result, Ok, Err, min, max}
+use Rattle.std.specs.Prelude.{IsTrue, IfErr, OnOk, OnErr}
 use Rattle.imago_storage.specs.declared.error.Error.{Error}
 use Rattle.imago_storage.specs.Faults.{CountsFaults}
 use Rattle.imago_drivers.specs.Operation.{Operation, Grow, Shrink, Flush}
 use Rattle.imago_drivers.specs.declared.format.PreallocateMode.{PreallocateMode}
-use Rattle.imago_drivers.specs.Place.{Value, values, shown, SamePlaces}
+use Rattle.imago_drivers.specs.Place.{shown, SamePlaces}
 use Rattle.imago_drivers.specs.LayerBelow.{LayerBelow}
 use Rattle.imago_drivers.specs.View.{View}
-use Rattle.imago_drivers.specs.Reasons.{Reasons, allowed}
+use Rattle.imago_drivers.specs.Reasons.{allowed}
 use Rattle.imago_drivers.specs.Frame.{IsKind, IsUnchanged}
 use Rattle.imago_drivers.specs.Resized.{IsGrown, IsCut, IsSameDisk, grown_into}
 use Rattle.imago_drivers.specs.Done.{lending_reasons, driver_reasons}

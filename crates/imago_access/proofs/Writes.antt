@@ -1,23 +1,21 @@
-use Rattle.std.proofs.Common.{◌≡◌, ◌≢◌, ℕ, ◌+◌, ◌-◌, ◌^◌, ◌<◌, ◌≤◌, ◌⊎◌, ◌&&◌, ⊎_elim, inl, inr, Bool, true, false, List, length, take, drop, get_or, Option, Some, None, refl, sym, ap, ◌∙◌, arith, Result, Ok, Err, subst, length-take, length-drop, get_or-take, get_or-drop}
+use Rattle.std.proofs.Common.{◌≡◌, ℕ, ◌+◌, ◌-◌, ◌<◌, ◌≤◌, ◌⊎◌, ◌&&◌, ⊎_elim, inl, inr, Bool, true, false, List, length, take, drop, None, refl, sym, ap, ◌∙◌, arith, Result, Ok, Err, subst, length-take, length-drop, get_or-take, get_or-drop}
 use Rattle.std.proofs.lemmas.Bool.{cases_lt}
-use Rattle.std.proofs.lemmas.List.{take_all}
-use Rattle.std.specs.Prelude.{IsTrue, IfErr, IsErrOf, slice_index}
+use Rattle.std.specs.Prelude.{IsTrue, IsErrOf, slice_index}
 use Rattle.imago_storage.specs.declared.error.Error.{Error}
 use Rattle.imago_storage.specs.Faults.{CountsFaults, RoseOrSaturated}
 use Rattle.imago_drivers.specs.Operation.{Operation}
-use Rattle.imago_drivers.specs.declared.mapping.PreparedDataMapping.{PreparedDataMapping}
-use Rattle.imago_drivers.specs.Place.{Value, Byte, values, shown, IsIn, SamePlaces}
-use Rattle.imago_drivers.specs.Reasons.{Reasons, allowed}
+use Rattle.imago_drivers.specs.Place.{Value, Byte, values, shown}
+use Rattle.imago_drivers.specs.Reasons.{allowed}
 use Rattle.imago_drivers.specs.LayerBelow.{LayerBelow}
 use Rattle.imago_drivers.specs.Causes.{Causes, Copies, IsSettled, EveryOperation}
 use Rattle.imago_drivers.specs.View.{View}
-use Rattle.imago_drivers.specs.Laws.{IsLawful, AreCauses}
+use Rattle.imago_drivers.specs.Laws.{AreCauses}
 use Rattle.imago_drivers.specs.Changes.{Change, IsChanged, into, partly}
 use Rattle.imago_drivers.specs.Frame.{IsFramed, IsUnchanged}
 use Rattle.imago_drivers.specs.Done.{lending_reasons}
 use Rattle.imago_access.specs.Writing.{HasWritten, HasWrittenAll}
 use Rattle.imago_access.proofs.Weaker.{IsWeaker, allowed_more}
-use Rattle.imago_access.proofs.Written.{settled_twice, framed_twice}
+use Rattle.imago_access.proofs.Written.{framed_twice}
 
 and_left : (a b : Bool) → IsTrue (a && b) → IsTrue a
 and_left true b h = refl

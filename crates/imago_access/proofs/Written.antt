@@ -1,12 +1,11 @@
-use Rattle.std.proofs.Common.{◌≡◌, ◌≢◌, ℕ, ◌+◌, ◌-◌, ◌^◌, ◌<◌, ◌≤◌, ◌⊎◌, ◌&&◌, ⊎_elim, inl, inr, Bool, true, false, List, length, take, get_or, Option, Some, None, refl, sym, ap, ◌∙◌, arith, Result, Ok, Err, length-take, get_or-take, subst}
+use Rattle.std.proofs.Common.{◌≡◌, ℕ, ◌+◌, ◌<◌, ◌≤◌, ◌⊎◌, ⊎_elim, inl, inr, Bool, true, false, List, length, take, Option, Some, None, refl, sym, ap, ◌∙◌, arith, length-take, get_or-take, subst}
 use Rattle.std.proofs.lemmas.Bool.{cases_lt}
-use Rattle.std.specs.Prelude.{IsTrue, IfErr, IsErrOf, slice_index}
+use Rattle.std.specs.Prelude.{IsTrue, slice_index}
 use Rattle.imago_storage.specs.declared.error.Error.{Error}
 use Rattle.imago_storage.specs.declared.error.Error.TheVariants as E
-use Rattle.imago_storage.specs.Faults.{CountsFaults, RoseOrSaturated}
 use Rattle.imago_drivers.specs.Operation.{Operation}
 use Rattle.imago_drivers.specs.declared.mapping.PreparedDataMapping.{PreparedDataMapping}
-use Rattle.imago_drivers.specs.Place.{Value, Byte, Place, Stored, values, shown, AreStoredAt, IsAt, SamePlaces}
+use Rattle.imago_drivers.specs.Place.{Value, Byte, Stored, values, shown, AreStoredAt, SamePlaces}
 use Rattle.imago_drivers.specs.Reasons.{allowed}
 use Rattle.imago_drivers.specs.LayerBelow.{LayerBelow}
 use Rattle.imago_drivers.specs.Causes.{Causes, Copies, IsSettled, EveryOperation}
@@ -16,7 +15,7 @@ use Rattle.imago_drivers.specs.Laws.{IsLawful}
 use Rattle.imago_drivers.specs.Changes.{Change, IsChanged, or_torn, into, partly}
 use Rattle.imago_drivers.specs.Frame.{IsFramed, IsUnchanged}
 use Rattle.imago_drivers.specs.Done.{lending_reasons, mapping_write_reasons}
-use Rattle.imago_drivers.specs.Prepared.{IsPrepared, IsPut, IsPutApart, is_written, is_foreign, is_foreign_write, is_for}
+use Rattle.imago_drivers.specs.Prepared.{IsPrepared, IsPut, is_written, is_foreign, is_foreign_write, is_for}
 use Rattle.imago_drivers.specs.Commit.{is_committed, commit_reasons, prepared_bytes}
 
 pub settled_twice : (old mid new : Causes) (c d f : Copies) (o n : ℕ) → IsSettled EveryOperation old mid c d o n → IsSettled EveryOperation mid new d f o n → IsSettled EveryOperation old new c f o n

@@ -1,4 +1,4 @@
-use Rattle.std.specs.Prelude.{◌≡◌, ℕ, ◌<◌, ◌≤◌, ◌⊎◌, Bool, false, min, max, IsTrue, Result, IfErr, OnOk, OnErr, IsErrOf}
+use Rattle.std.specs.Prelude.{◌≡◌, ℕ, ◌<◌, ◌≤◌, ◌⊎◌, false, min, max, IsTrue, Result, IfErr, OnOk, OnErr, IsErrOf}
 use Rattle.imago_storage.specs.declared.error.Error.{Error}
 use Rattle.imago_storage.specs.Faults.{CountsFaults}
 use Rattle.imago_drivers.specs.Operation.{Operation, Grow, Shrink, Flush}

@@ -9,7 +9,6 @@ use Rattle.imago_drivers.specs.declared.mapping.ShallowMapping.TheVariants as S
 use Rattle.imago_access.specs.declared.access.FormatAccess.{FormatAccess}
 use Rattle.imago_access.specs.declared.chain.Way.{Way}
 use Rattle.imago_access.specs.declared.mapping.Mapping.{Mapping}
-use Rattle.imago_access.specs.declared.mapping.Mapping.TheVariants as Mapping
 use Rattle.imago_access.specs.Chain.{driver, backing, disk_value, is_reliable, chain_cause, chain_no_memory}
 use Rattle.imago_access.specs.Target.{target, deeper, told_depth}
 

@@ -1,4 +1,4 @@
-use Rattle.std.proofs.Common.{◌≡◌, ℕ, ◌+◌, ◌-◌, ◌≤◌, ◌++◌, List, length, take, None, vec_len, vec_capacity}
+use Rattle.std.proofs.Common.{◌≡◌, ◌+◌, ◌-◌, ◌≤◌, ◌++◌, List, length, take, None, vec_len, vec_capacity}
 use Rattle.imago_access.specs.declared.run.Reply.{Reply}
 use Rattle.imago_access.specs.Chain.{driver}
 use Rattle.imago_access.specs.Runs.{IsRun}

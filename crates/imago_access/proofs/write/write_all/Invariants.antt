@@ -1,4 +1,4 @@
-use Rattle.std.proofs.Common.{◌≡◌, ℕ, ◌-◌, length}
+use Rattle.std.proofs.Common.{◌-◌, length}
 use Rattle.imago_drivers.specs.LayerBelow.{lent}
 use Rattle.imago_access.proofs.Writes.{IsWritingOn}
 use Rattle.imago_access.proofs.write.write_all.Given as goal

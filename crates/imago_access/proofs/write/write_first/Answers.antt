@@ -1,7 +1,7 @@
-use Rattle.std.proofs.Common.{ap, take, Ok, Err, subst}
+use Rattle.std.proofs.Common.{ap, take, Err}
 use Rattle.std.proofs.lemmas.Result.{err_from_is_err_and}
 use Rattle.imago_drivers.specs.LayerBelow.{lent}
-use Rattle.imago_access.proofs.Writes.{goes_on, failed_device}
+use Rattle.imago_access.proofs.Writes.{goes_on}
 use Rattle.imago_access.proofs.Parts.{part_committed, part_torn, part_cancelled}
 use Rattle.imago_access.proofs.write.write_first.Goals as goal
 

@@ -1,8 +1,8 @@
 use Rattle.std.proofs.Common.{arith, sym, ap, ◌∙◌, ◌≡◌, ◌+◌, Some}
 use Rattle.std.proofs.lemmas.Result.{err_from_is_err_and}
-use Rattle.imago_access.specs.Chain.{driver, backing, unboxed}
+use Rattle.imago_access.specs.Chain.{backing, unboxed}
 use Rattle.imago_access.proofs.Chains.{no_memory_here}
-use Rattle.imago_access.proofs.Descent.{step_down, cut_short}
+use Rattle.imago_access.proofs.Descent.{step_down}
 use Rattle.imago_access.proofs.Landed.{descent_refused, descent_unreadable, left_some}
 use Rattle.imago_access.proofs.access.FormatAccess.descend.Goals as goal
 

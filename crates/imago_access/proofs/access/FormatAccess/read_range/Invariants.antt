@@ -1,4 +1,4 @@
-use Rattle.std.proofs.Common.{◌≡◌, ℕ, ◌+◌, ◌-◌, ◌<◌, ◌≤◌, ◌⊎◌, List, length, take}
+use Rattle.std.proofs.Common.{◌≡◌, ◌-◌, ◌≤◌, ◌⊎◌, length, take}
 use Rattle.imago_drivers.specs.Place.{HasValues}
 use Rattle.imago_access.specs.Chain.{disk_value, chain_no_memory}
 use Rattle.imago_access.proofs.access.FormatAccess.read_range.Given as goal
