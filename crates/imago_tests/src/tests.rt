@@ -1,6 +1,6 @@
 //! Tests that cross crates: images over storages that fail or count, and chains of mixed drivers, with what each call leaves.
 //!
-//! Each test passes as well where one of its requests for memory is refused.
+//! Each test is written to pass where one of its requests for memory is refused, too.
 mod chains;
 mod counts;
 mod images;
