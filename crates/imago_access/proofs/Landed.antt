@@ -14,7 +14,7 @@ use Rattle.imago_drivers.specs.declared.mapping.ShallowMapping.TheVariants as S
 use Rattle.imago_access.specs.declared.access.FormatAccess.{FormatAccess}
 use Rattle.imago_access.specs.declared.chain.Way.{Way}
 use Rattle.imago_access.specs.declared.mapping.Mapping.{Mapping}
-use Rattle.imago_access.specs.Chain.{driver, backing, disk_value, chain_cause}
+use Rattle.imago_access.specs.Chain.{driver, backing, disk_value, chain_cause, chain_no_memory}
 use Rattle.imago_access.specs.ChainLaws.{chain_part}
 use Rattle.imago_access.specs.Target.{Target, target, followed, deeper, target_here, told_depth}
 use Rattle.imago_access.specs.Resolved.{LeadsTo, IsResolved, IsEndOfImage, chain_map_reasons}
@@ -197,6 +197,17 @@ module _ {D St : Type 0} (view : D → View St) (x : FormatAccess D) (o most : �
   landed_within way (S.Zero b) h = h.leads.within
   landed_within way (S.Special f) h = h.leads.within
 
+  -- a way that has kept its length maps all of it, or is at the end
+  pub landed_whole : (way : Way) (m : ShallowMapping) → way.length ≡ most → (resolved_length way m ≡ most) ⊎ IsEndOfImage (resolved_mapping way m)
+  landed_whole way S.Eof e = ⊎_elim
+      (λ (below : 0 < way.depth). let z = not_zero way.depth below in rw z (inl e))
+      (λ (top : way.depth ≤ 0). let z = is_zero way.depth (omega arith) in rw z (inr tt))
+      (cases_lt 0 way.depth)
+  landed_whole way (S.Raw s f v) e = inl e
+  landed_whole way (S.Indirect q v) e = inl e
+  landed_whole way (S.Zero b) e = inl e
+  landed_whole way (S.Special f) e = inl e
+
   -- the first offset leads to what the mapping names, if there is any
   landed_here : (way : Way) (m : ShallowMapping) → HasLanded view x o most layer way m → 0 < most → IsEndOfImage (resolved_mapping way m) ⊎ LeadsTo (resolved_mapping way m) 0 (target view x o)
   landed_here way m h some = ⊎_elim
@@ -239,6 +250,18 @@ pub landed_mapping : {D St : Type 0} (view : D → View St) (x : FormatAccess D)
 landed_mapping view x o most layer way m h =
     let some : 0 < max most 1 = omega arith in
     cut_resolved view x o most _ _ (landed_right view x o (max most 1) layer way m h some)
+
+-- where no driver takes memory, all that was asked for is mapped at once, or it is the end
+pub whole_mapping : {D St : Type 0} (view : D → View St) (x : FormatAccess D) (o most : ℕ) (layer : FormatAccess D) (way : Way) (m : ShallowMapping) → HasLanded view x o (max most 1) layer way m
+    → chain_no_memory view x o most → (min (resolved_length way m) most ≡ most) ⊎ IsEndOfImage (resolved_mapping way m)
+whole_mapping view x o most layer way m h free = ⊎_elim
+    (λ (some : 0 < most).
+    let n : max most 1 ≡ most = omega arith in
+    let w = (h.leads.whole (subst (λ (c : ℕ). chain_no_memory view x o c) (sym n) free)).0 in
+    let k : way.length ≡ max most 1 = w in
+    ⊎_elim (λ (e : resolved_length way m ≡ max most 1). inl (omega arith)) inr (landed_whole view x o (max most 1) layer way m k))
+    (λ (none : most ≤ 0). inl (omega arith))
+    (cases_lt 0 most)
 
 -- a refusal of the mapping of at least one byte is one of the mapping
 pub asked_refused : {D St : Type 0} (view : D → View St) (x : FormatAccess D) (o most : ℕ) → IsWeaker (chain_map_reasons view x o (max most 1)) (chain_map_reasons view x o most)

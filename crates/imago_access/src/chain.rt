@@ -5,8 +5,8 @@ ghost use Rattle.imago_drivers.specs.Place.{Refused, Unreadable};
 ghost use Rattle.imago_drivers.specs.Mapping.{IsRight};
 ghost use Rattle.imago_drivers.specs.Reasons.{allowed};
 ghost use Rattle.imago_drivers.specs.Done.{map_reasons};
-ghost use Rattle.imago_access.specs.Chain.{driver, backing, disk_value};
-ghost use Rattle.imago_access.specs.Resolved.{IsResolved, chain_map_reasons};
+ghost use Rattle.imago_access.specs.Chain.{driver, backing, disk_value, chain_no_memory};
+ghost use Rattle.imago_access.specs.Resolved.{IsResolved, IsEndOfImage, chain_map_reasons};
 ghost use Rattle.imago_access.specs.Ways.{IsPart, HasLanded, part_length, resolved_mapping, resolved_length};
 
 use crate::access::FormatAccess;
@@ -178,10 +178,13 @@ impl<D: FormatDriverInstance> FormatAccess<D> {
     /// What the bytes from the offset on are, resolved through the layers, and how many of them: at most `max_length`,
     /// and 0 only at the end of the image, or where `max_length` is. Also there the mapping is that of the offset.
     ///
-    /// What the top layer leaves to a layer below that ends before, or to none, is an unallocated zero. It takes no
-    /// memory. [`Error::InvalidData`] and [`Error::NoAccess`] are answered for an offset that may not be read.
+    /// What the top layer leaves to a layer below that ends before, or to none, is an unallocated zero. Where the drivers
+    /// map the range at once, so does the image. It takes no memory. [`Error::InvalidData`] and [`Error::NoAccess`] are
+    /// answered for an offset that may not be read.
     pub fn get_mapping(&self, offset: u64, max_length: u64) -> Result<(Mapping, u64), Error>
         ensures right { IfOk result (λ r. IsResolved D.view self.now offset max_length r.0 r.1) }
+        ensures whole { chain_no_memory D.view self.now offset max_length
+            → IfOk result (λ r. (r.1 ≡ max_length) ⊎ IsEndOfImage r.0) }
         ensures refused_place { IfErr result
             (λ e. (e ≡ Error.InvalidData) ⊎ (e ≡ Error.NoAccess)
             → disk_value D.view self.now offset ≡ Unreadable e) }

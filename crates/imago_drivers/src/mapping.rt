@@ -1,5 +1,6 @@
 //! What a range of a layer is, and where the data of a range is to be written.
 ghost use Rattle.std.specs.Prelude.{◌≡◌, Option, Some, None, is_none};
+ghost use Rattle.std.specs.Option.{option_copied};
 ghost use Rattle.imago_drivers.specs.Parts.{storage_of, offset_of, length_of, state_of};
 
 use std::fmt::{self, Formatter, Write};
@@ -108,6 +109,13 @@ impl<St> PreparedDataMapping<St> {
         ensures { result ≡ is_none (state_of self.now) }
     {
         self.state.is_none()
+    }
+
+    /// What its driver put into the mapping, where there is something to commit. For drivers.
+    pub fn state(&self) -> Option<&St>
+        ensures { option_copied result ≡ state_of self.now }
+    {
+        self.state.as_ref()
     }
 
     /// Spends the mapping, and gives what its driver put into it. For drivers.
