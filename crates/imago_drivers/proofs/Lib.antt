@@ -2,4 +2,3 @@ pub mod StorageBytes
 pub mod AlignedParts
 pub mod RawSteps
 pub mod Ensured
-pub mod CopySteps

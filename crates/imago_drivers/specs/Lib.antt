@@ -17,6 +17,4 @@ pub mod Laws
 pub mod Raw
 pub mod RawLaws
 pub mod RawImage
-pub mod CopyOnce
-pub mod CopyOnceLaws
 pub mod Worked

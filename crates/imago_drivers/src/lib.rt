@@ -5,12 +5,12 @@
 //! refused one leaves. [`raw::Raw`] is the driver whose disk is its storage.
 #![tactic(auto)]
 
-mod copy_once;
 pub mod drivers;
 pub mod format;
 pub mod laws;
 pub mod layer;
 pub mod mapping;
 pub mod raw;
+pub mod stored;
 #[cfg(test)]
 mod tests;

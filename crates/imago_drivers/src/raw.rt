@@ -14,6 +14,7 @@ use crate::drivers::{
     Format, FormatDriverInstance, PreallocateMode, PreparedDataMapping, ShallowMapping,
 };
 use crate::layer::LowerLayer;
+use crate::stored::write_bytes;
 use imago_storage::align::{aligned_part, discard_align, zero_align};
 use imago_storage::error::Error;
 use imago_storage::ext::StorageExt;
@@ -323,37 +324,6 @@ impl<S: Storage> FormatDriverInstance for Raw<S> {
     fn invalidate_cache(&mut self) -> Result<(), Error> {
         self.storage.invalidate_cache()
     }
-}
-
-/// Writes bytes of a storage.
-pub(crate) fn write_bytes<S: Storage>(
-    storage: &mut S,
-    alloc: Global,
-    source: &[u8],
-    offset: u64,
-) -> Result<(), Error>
-    ensures empty { length source.now ≡ 0 → IsOk result }
-    ensures written { IsTrue (S.features storage.old).keeps_data
-        → OnOk result
-        (HasBytes false offset (length source.now) (λ k. slice_index source.now k)
-        (S.bytes storage.old) (S.bytes storage.new)) }
-    ensures torn { IsTrue (S.features storage.old).keeps_data
-        → OnErr result
-        (HasBytes true offset (length source.now) (λ k. slice_index source.now k)
-        (S.bytes storage.old) (S.bytes storage.new)) }
-    ensures no_shorter { length (S.bytes storage.old) ≤ length (S.bytes storage.new) }
-    ensures features { S.features storage.new ≡ S.features storage.old }
-    ensures only { IfErr result IsExtRefusal }
-    ensures wraps { IsErrOf result Error.WrapAround
-        → Wraps (S.features storage.old) offset (length source.now) }
-    ensures cause { CountsFaults (S.features storage.old).is_reliable (S.fault_count storage.old)
-        (S.fault_count storage.new) result }
-    ensures memory { IsErrOf result Error.Memory
-        → IsAlignedRequest (S.features storage.old) offset (length source.now)
-        → MayRunOut (S.features storage.old).write_memory (length (S.bytes storage.old))
-        (offset + length source.now) }
-{
-    storage.write(alloc, source, offset)
 }
 
 /// Zeroes the part of a range that is aligned to the storage's zero alignment, and answers it.

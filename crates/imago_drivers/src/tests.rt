@@ -1,7 +1,6 @@
 //! What no clause says: rows worked out by hand, of the drivers alone, each public function once, printed text, and that
 //! calls reach the storage.
 mod answers;
-mod copies;
 mod extremes;
 mod growth;
 mod mappings;

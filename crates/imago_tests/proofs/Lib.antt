@@ -1,2 +1,3 @@
 pub mod Torn
 pub mod Variants
+pub mod CopySteps

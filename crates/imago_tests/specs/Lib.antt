@@ -4,3 +4,5 @@ pub mod FaultyPlan
 pub mod Pattern
 pub mod PatternLaws
 pub mod TestDriver
+pub mod CopyOnce
+pub mod CopyOnceLaws

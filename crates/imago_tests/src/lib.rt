@@ -4,6 +4,7 @@
 //! that alone.
 #![tactic(auto)]
 
+pub mod copy_once;
 pub mod counting;
 pub mod faulty;
 pub mod pattern;

@@ -2,6 +2,7 @@
 //!
 //! Each test is written to pass where one of its requests for memory is refused, too.
 mod chains;
+mod copies;
 mod counts;
 mod images;
 mod parts;

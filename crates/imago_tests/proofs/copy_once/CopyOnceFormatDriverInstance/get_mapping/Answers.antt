@@ -1,7 +1,7 @@
 use Rattle.std.proofs.Common.{arith, inr, ◌+◌, ◌≡◌, true}
 use Rattle.std.specs.Prelude.{slice_index}
 use Rattle.imago_drivers.specs.RawLaws.{raw_in, raw_refused}
-use Rattle.imago_drivers.proofs.copy_once.CopyOnceFormatDriverInstance.get_mapping.Goals as goal
+use Rattle.imago_tests.proofs.copy_once.CopyOnceFormatDriverInstance.get_mapping.Goals as goal
 
 pub returns-clause-right : goal.returns-clause-right
 returns-clause-right g c =

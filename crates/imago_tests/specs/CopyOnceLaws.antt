@@ -5,12 +5,12 @@ use Rattle.std.proofs.lemmas.Bool.Decides.{nat_tests}
 use Rattle.imago_storage.specs.declared.error.Error.{Error}
 use Rattle.imago_storage.specs.declared.error.Error.TheVariants as E
 use Rattle.imago_storage.specs.Features.{Features}
-use Rattle.imago_drivers.specs.declared.copy_once.Waiting.{Waiting}
+use Rattle.imago_tests.specs.declared.copy_once.Waiting.{Waiting}
 use Rattle.imago_drivers.specs.Operation.{Operation, Map, Read, Write, Zero, DiscardToZero, DiscardToAny, DiscardToBacking, Grow, Shrink, Flush}
 use Rattle.imago_drivers.specs.Place.{Place, Lower, End}
 use Rattle.imago_drivers.specs.Laws.{IsLawful, AreCauses, CauseBound}
 use Rattle.imago_drivers.specs.RawLaws.{raw_lawful}
-use Rattle.imago_drivers.specs.CopyOnce.{copy_place, copy_view, copy_cause, copy_offers, copy_copies}
+use Rattle.imago_tests.specs.CopyOnce.{copy_place, copy_view, copy_cause, copy_offers, copy_copies}
 
 pub lower_in : (size : ℕ) (bytes : List ℕ) (p : ℕ) → p < size → copy_place false size bytes p ≡ Lower p false
 lower_in size bytes p h = let t : nat_lt p size ≡ true = grind (arith, nat_tests) in rw t refl

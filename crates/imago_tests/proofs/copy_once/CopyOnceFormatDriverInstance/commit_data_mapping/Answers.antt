@@ -1,7 +1,7 @@
 use Rattle.std.proofs.Common.{◌+◌, arith, refl}
-use Rattle.imago_drivers.specs.CopyOnce.{copy_view}
-use Rattle.imago_drivers.proofs.CopySteps.{copy_done, own_is_known, own_has_state, copy_reaches, copy_framed, copy_settled}
-use Rattle.imago_drivers.proofs.copy_once.CopyOnceFormatDriverInstance.commit_data_mapping.Goals as goal
+use Rattle.imago_tests.specs.CopyOnce.{copy_view}
+use Rattle.imago_tests.proofs.CopySteps.{copy_done, own_is_known, own_has_state, copy_reaches, copy_framed, copy_settled}
+use Rattle.imago_tests.proofs.copy_once.CopyOnceFormatDriverInstance.commit_data_mapping.Goals as goal
 
 pub returns : goal.returns
 returns g c =

@@ -5,15 +5,15 @@ ghost use Rattle.imago_drivers.specs.Place.{HasValues};
 ghost use Rattle.imago_drivers.specs.LayerBelow.{lent, below_reasons};
 ghost use Rattle.imago_drivers.specs.Reasons.{allowed};
 ghost use Rattle.imago_drivers.specs.Pending.{IsOwn};
-ghost use Rattle.imago_drivers.specs.CopyOnce.{copy_view, copy_pending, WaitsInside};
-ghost use Rattle.imago_drivers.specs.CopyOnceLaws.{copy_lawful, copy_causes};
+ghost use Rattle.imago_tests.specs.CopyOnce.{copy_view, copy_pending, WaitsInside};
+ghost use Rattle.imago_tests.specs.CopyOnceLaws.{copy_lawful, copy_causes};
 ghost use Rattle.imago_drivers.specs.Commit.{IsCommit, IsCancel};
 
-use crate::drivers::{
+use imago_drivers::drivers::{
     Format, FormatDriverInstance, PreallocateMode, PreparedDataMapping, ShallowMapping,
 };
-use crate::layer::LowerLayer;
-use crate::raw::write_bytes;
+use imago_drivers::layer::LowerLayer;
+use imago_drivers::stored::write_bytes;
 use imago_storage::error::Error;
 use imago_storage::ext::StorageExt;
 use imago_storage::storage::Storage;
@@ -62,12 +62,12 @@ impl<S: Storage> CopyOnce<S> {
         let Some(waiting) = &self.waiting else {
             return false;
         };
-        let Some(ticket) = &mapping.state else {
+        let Some(ticket) = mapping.state() else {
             return false;
         };
-        mapping.storage == 0
-            && mapping.offset == waiting.start
-            && mapping.length == waiting.length
+        mapping.storage() == 0
+            && mapping.offset() == waiting.start
+            && mapping.length() == waiting.length
             && *ticket == waiting.ticket
     }
 }
@@ -282,28 +282,29 @@ impl<S: Storage> FormatDriverInstance for CopyOnce<S> {
         source: &[u8],
         at: u64,
     ) -> Result<(), Error> {
+        let (start, length) = (mapping.offset(), mapping.length());
         if !mapping.is_nonblocking() {
             if !self.is_waiting(mapping) {
                 return Err(Error::ForeignMapping);
             }
-            return write_bytes(&mut self.storage, alloc, source, mapping.offset + at);
+            return write_bytes(&mut self.storage, alloc, source, start + at);
         }
-        if mapping.length == 0 {
+        if length == 0 {
             return Ok(());
         }
         if !self.copied {
             return Err(Error::ForeignMapping);
         }
-        if mapping.storage != 0 {
+        if mapping.storage() != 0 {
             return Err(Error::ForeignMapping);
         }
-        if mapping.length > self.size {
+        if length > self.size {
             return Err(Error::ForeignMapping);
         }
-        if mapping.offset > self.size - mapping.length {
+        if start > self.size - length {
             return Err(Error::ForeignMapping);
         }
-        write_bytes(&mut self.storage, alloc, source, mapping.offset + at)
+        write_bytes(&mut self.storage, alloc, source, start + at)
     }
 
     fn commit_data_mapping(&mut self, mapping: PreparedDataMapping<u64>) -> Result<(), Error>

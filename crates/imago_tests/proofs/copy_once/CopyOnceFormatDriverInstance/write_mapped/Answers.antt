@@ -1,6 +1,6 @@
 use Rattle.std.proofs.Common.{◌≡◌, arith}
-use Rattle.imago_drivers.proofs.CopySteps.{copy_put_on_ok, copy_put_on_err}
-use Rattle.imago_drivers.proofs.copy_once.CopyOnceFormatDriverInstance.write_mapped.Goals as goal
+use Rattle.imago_tests.proofs.CopySteps.{copy_put_on_ok, copy_put_on_err}
+use Rattle.imago_tests.proofs.copy_once.CopyOnceFormatDriverInstance.write_mapped.Goals as goal
 
 pub returns-clause-written : goal.returns-clause-written
 returns-clause-written g c =

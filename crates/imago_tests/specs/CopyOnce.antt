@@ -2,7 +2,7 @@ use Rattle.std.specs.Prelude.{◌≡◌, ℕ, ◌+◌, ◌<◌, ◌≤◌, Bool,
 use Rattle.imago_storage.specs.declared.error.Error.TheVariants as E
 use Rattle.imago_storage.specs.Features.{Features}
 use Rattle.imago_drivers.specs.declared.format.Format.TheVariants as Format
-use Rattle.imago_drivers.specs.declared.copy_once.Waiting.{Waiting}
+use Rattle.imago_tests.specs.declared.copy_once.Waiting.{Waiting}
 use Rattle.imago_drivers.specs.Operation.{Operation, Map, Read, Write, Zero, DiscardToZero, DiscardToAny, DiscardToBacking, Grow, Shrink, Flush}
 use Rattle.imago_drivers.specs.Place.{Place, Lower, End}
 use Rattle.imago_drivers.specs.Causes.{Causes}

@@ -2,10 +2,10 @@ use Rattle.std.proofs.Common.{◌≡◌, ℕ, arith, refl, ◌+◌, ◌<◌, tru
 use Rattle.std.specs.Prelude.{slice_index, IsTrue}
 use Rattle.imago_drivers.specs.Place.{Byte, values}
 use Rattle.imago_drivers.specs.LayerBelow.{lent}
-use Rattle.imago_drivers.specs.CopyOnce.{copy_place}
+use Rattle.imago_tests.specs.CopyOnce.{copy_place}
 use Rattle.imago_drivers.specs.RawLaws.{raw_in}
-use Rattle.imago_drivers.proofs.CopySteps.{copied_below}
-use Rattle.imago_drivers.proofs.copy_once.CopyOnceFormatDriverInstance.prepare_data_mapping.Goals as goal
+use Rattle.imago_tests.proofs.CopySteps.{copied_below}
+use Rattle.imago_tests.proofs.copy_once.CopyOnceFormatDriverInstance.prepare_data_mapping.Goals as goal
 
 pub returns-then-self-clause-prepared : goal.returns-then-self-clause-prepared
 returns-then-self-clause-prepared g c =

@@ -1,5 +1,5 @@
-use Rattle.imago_drivers.proofs.CopySteps.{same_bytes}
-use Rattle.imago_drivers.proofs.copy_once.CopyOnceFormatDriverInstance.sync.Goals as goal
+use Rattle.imago_tests.proofs.CopySteps.{same_bytes}
+use Rattle.imago_tests.proofs.copy_once.CopyOnceFormatDriverInstance.sync.Goals as goal
 
 pub returns-clause-unchanged : goal.returns-clause-unchanged
 returns-clause-unchanged g c =

@@ -3,7 +3,7 @@ use Rattle.std.specs.Prelude.{slice_index, IsTrue, OnOk, OnErr}
 use Rattle.std.proofs.lemmas.Bool.{cases_lt}
 use Rattle.imago_storage.specs.Features.{Features}
 use Rattle.imago_drivers.specs.declared.mapping.PreparedDataMapping.{PreparedDataMapping}
-use Rattle.imago_drivers.specs.declared.copy_once.Waiting.{Waiting}
+use Rattle.imago_tests.specs.declared.copy_once.Waiting.{Waiting}
 use Rattle.imago_drivers.specs.Place.{Value, Byte, End, values, shown, HasValues}
 use Rattle.imago_drivers.specs.Pending.{Pending, IsOwn, ShowsRound}
 use Rattle.imago_drivers.specs.Operation.{Operation, Map, Read, Write, Zero, DiscardToZero, DiscardToAny, DiscardToBacking, Grow, Shrink, Flush}
@@ -14,8 +14,8 @@ use Rattle.imago_drivers.specs.Prepared.{IsPut, is_foreign}
 use Rattle.imago_drivers.specs.Commit.{is_committed}
 use Rattle.imago_drivers.specs.Raw.{HasBytes, raw_place}
 use Rattle.imago_drivers.specs.RawLaws.{raw_in, raw_out, raw_lower}
-use Rattle.imago_drivers.specs.CopyOnce.{copy_place, copy_view, copy_pending, copy_cause, copy_copies, WaitsInside}
-use Rattle.imago_drivers.specs.CopyOnceLaws.{lower_in, lower_out, lower_only, copy_causes}
+use Rattle.imago_tests.specs.CopyOnce.{copy_place, copy_view, copy_pending, copy_cause, copy_copies, WaitsInside}
+use Rattle.imago_tests.specs.CopyOnceLaws.{lower_in, lower_out, lower_only, copy_causes}
 use Rattle.imago_drivers.proofs.RawSteps.{raw_put, if_ok, if_err, ok_of, err_of}
 
 -- a call that changes no byte changes no place

@@ -2,7 +2,7 @@ use Rattle.std.proofs.Common.{length, arith, ⊎_elim, true, false, ap}
 use Rattle.std.proofs.lemmas.Bool.{cases_lt}
 use Rattle.std.proofs.lemmas.Result.{on_err_weaker, on_ok_weaker}
 use Rattle.imago_drivers.proofs.StorageBytes.{written_bytes, torn_bytes, no_bytes, on_success, on_refusal}
-use Rattle.imago_drivers.proofs.raw.write_bytes.Goals as goal
+use Rattle.imago_drivers.proofs.stored.write_bytes.Goals as goal
 
 pub returns-clause-written : goal.returns-clause-written
 returns-clause-written g c = λ k. ⊎_elim

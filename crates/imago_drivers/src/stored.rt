@@ -1,0 +1,48 @@
+//! Bytes of a storage, for drivers whose places stand in one.
+ghost use Rattle.std.specs.Prelude.{◌≡◌, ◌+◌, ◌≤◌, length, slice_index, IsTrue, IsOk, IfErr, OnOk, OnErr, IsErrOf, true, false};
+ghost use Rattle.imago_storage.specs.Error.{IsExtRefusal};
+ghost use Rattle.imago_storage.specs.Faults.{CountsFaults};
+ghost use Rattle.imago_storage.specs.Features.{MayRunOut, IsAlignedRequest};
+ghost use Rattle.imago_storage.specs.Padding.{Wraps};
+ghost use Rattle.imago_drivers.specs.Raw.{HasBytes};
+
+use imago_storage::error::Error;
+use imago_storage::ext::StorageExt;
+use imago_storage::storage::Storage;
+use std::alloc::Global;
+
+/// Writes bytes of a storage, at its `offset`-th byte. Refused, each byte of the range is old or new. No byte outside the
+/// range changes, and the storage becomes no shorter, maybe longer: what is added behind the range is zero.
+///
+/// It is refused as [`StorageExt::write`] is: [`Error::WrapAround`] where a request of the storage's alignment around the
+/// range would end past `u64::MAX`, [`Error::Memory`] only where the storage takes memory or the range isn't aligned, and
+/// [`Error::Device`] only where a device failed.
+pub fn write_bytes<S: Storage>(
+    storage: &mut S,
+    alloc: Global,
+    source: &[u8],
+    offset: u64,
+) -> Result<(), Error>
+    ensures empty { length source.now ≡ 0 → IsOk result }
+    ensures written { IsTrue (S.features storage.old).keeps_data
+        → OnOk result
+        (HasBytes false offset (length source.now) (λ k. slice_index source.now k)
+        (S.bytes storage.old) (S.bytes storage.new)) }
+    ensures torn { IsTrue (S.features storage.old).keeps_data
+        → OnErr result
+        (HasBytes true offset (length source.now) (λ k. slice_index source.now k)
+        (S.bytes storage.old) (S.bytes storage.new)) }
+    ensures no_shorter { length (S.bytes storage.old) ≤ length (S.bytes storage.new) }
+    ensures features { S.features storage.new ≡ S.features storage.old }
+    ensures only { IfErr result IsExtRefusal }
+    ensures wraps { IsErrOf result Error.WrapAround
+        → Wraps (S.features storage.old) offset (length source.now) }
+    ensures cause { CountsFaults (S.features storage.old).is_reliable (S.fault_count storage.old)
+        (S.fault_count storage.new) result }
+    ensures memory { IsErrOf result Error.Memory
+        → IsAlignedRequest (S.features storage.old) offset (length source.now)
+        → MayRunOut (S.features storage.old).write_memory (length (S.bytes storage.old))
+        (offset + length source.now) }
+{
+    storage.write(alloc, source, offset)
+}
