@@ -1,14 +1,48 @@
 //! Each public function of a raw image that the other tests don't call, and printed text.
-use super::set_up::{filled, is_ready, stored, storing, write_at};
-use super::wide::WideNull;
-use crate::drivers::{Format, FormatDriverInstance, PreparedDataMapping};
+use super::device::Device;
+use super::set_up::{filled, holds, is_ready, storing, writable, write_at};
+use crate::drivers::{Format, FormatDriverInstance};
 use crate::raw::Raw;
 use imago_storage::error::Error;
 use imago_storage::mem::MemStorage;
 use imago_storage::null::Null;
-use imago_storage::storage::Storage;
 use std::alloc::Global;
-use std::test::Fail;
+use std::process::Abort;
+
+#[test]
+fn plain_answers(rt: HostRuntime) {
+    let raw = writable(&rt, storing(&rt, rt.alloc(), &[1, 2, 3]));
+    assert_eq!(rt; raw.format(), Format::Raw);
+    assert_eq!(rt; raw.zero_granularity(), None);
+    assert!(rt; !raw.takes_backing() && !raw.has_prepared());
+}
+
+#[test]
+fn the_only_storage(rt: HostRuntime) {
+    let alloc = rt.alloc();
+    let raw = writable(&rt, storing(&rt, alloc, &[1, 2, 3]));
+    let own = raw
+        .collect_storage_dependencies(alloc)
+        .expect(&rt, "a list");
+    assert_eq!(rt; (own.len(), raw.storage_count()), (1, 1));
+    assert_eq!(rt; own[0].as_bytes(), [1, 2, 3].as_slice());
+    assert!(rt; raw.storage(1).is_none());
+}
+
+/// A read of special bytes answers so.
+fn reads_special(rt: &impl Abort, alloc: Global, buf: &mut [u8], expected: Result<(), Error>) {
+    let raw = writable(rt, storing(rt, alloc, b"KDMV"));
+    assert_eq!(rt; raw.readv_special(alloc, buf, 0), expected);
+}
+
+#[test]
+fn any_bytes_are_raw_and_none_are_special(rt: HostRuntime) {
+    let alloc = rt.alloc();
+    let storage = storing(&rt, alloc, b"KDMV");
+    assert_eq!(rt; Raw::probe(alloc, &storage), Ok(true));
+    reads_special(&rt, alloc, &mut [0; 2], Err(Error::Unsupported));
+    reads_special(&rt, alloc, &mut [], Ok(()));
+}
 
 /// Maps the range to bytes of a storage, and writes them there.
 fn write_through<D: FormatDriverInstance>(
@@ -32,72 +66,62 @@ fn write_through<D: FormatDriverInstance>(
 }
 
 #[test]
-fn plain_answers(rt: HostRuntime) -> Result<(), Fail> {
-    let raw = Raw::open_image(storing(&rt, &[1, 2, 3])?, true)?;
-    assert_eq!(rt; raw.format(), Format::Raw);
-    assert_eq!(rt; raw.zero_granularity(), None);
-    assert!(rt; !raw.takes_backing() && !raw.has_prepared());
-    let own = raw.collect_storage_dependencies(rt.alloc())?;
-    assert_eq!(rt; (own.len(), raw.storage_count()), (1, 1));
-    assert_eq!(rt; own[0].as_bytes(), [1, 2, 3].as_slice());
-    assert!(rt; raw.storage(1).is_none());
-    let storage = storing(&rt, b"KDMV")?;
-    assert_eq!(rt; Raw::probe(rt.alloc(), &storage), Ok(true));
-    let mut buf = [0; 2];
-    assert_eq!(rt;
-        raw.readv_special(rt.alloc(), &mut buf, 0),
-        Err(Error::Unsupported)
-    );
-    assert_eq!(rt; raw.readv_special(rt.alloc(), &mut [], 0), Ok(()));
-    Ok(())
-}
-
-#[test]
-fn mapped_writes(rt: HostRuntime) -> Result<(), Fail> {
-    let mut raw = Raw::open_image(filled(&rt, 0, 4)?, true)?;
-    write_through(&mut raw, rt.alloc(), &[0xaa, 0xbb], 1)?;
-    assert_eq!(rt; stored(&raw), [0, 0xaa, 0xbb, 0].as_slice());
+fn mapped_writes(rt: HostRuntime) {
+    let alloc = rt.alloc();
+    let mut raw = writable(&rt, filled(&rt, alloc, 0, 4));
+    let written = write_through(&mut raw, alloc, &[0xaa, 0xbb], 1);
+    assert_eq!(rt; written, Ok(()));
+    holds(&rt, &raw, &[0, 0xaa, 0xbb, 0]);
     let storage: MemStorage = raw.into_inner();
     assert_eq!(rt; storage.as_bytes(), [0, 0xaa, 0xbb, 0].as_slice());
-    Ok(())
 }
 
 #[test]
-fn a_lent_storage(rt: HostRuntime) -> Result<(), Fail> {
-    let mut storage = filled(&rt, 0, 4)?;
-    let mut raw = Raw::open_image(&mut storage, true)?;
-    let written = write_at(&mut raw, rt.alloc(), &[1], 3);
+fn a_lent_storage(rt: HostRuntime) {
+    let alloc = rt.alloc();
+    let mut storage = filled(&rt, alloc, 0, 4);
+    let mut raw = Raw::open_image(&mut storage, true).expect(&rt, "an image");
+    let written = write_at(&mut raw, alloc, &[1], 3);
     assert_eq!(rt; (written, raw.size()), (Ok(()), 4));
     drop(raw);
     assert_eq!(rt; storage.as_bytes(), [0, 0, 0, 1].as_slice());
-    Ok(())
+}
+
+/// What is opened by that path: its size and whether it may be written.
+fn opens(
+    rt: &impl Abort,
+    alloc: Global,
+    path: &str,
+    writable: bool,
+    expected: Result<(u64, bool), Error>,
+) {
+    let path = String::from_str(alloc, path).expect(rt, "memory for a path");
+    let found = match Raw::<Device>::open_path(path, writable) {
+        Ok(raw) => Ok((raw.size(), raw.writable())),
+        Err(refusal) => Err(refusal),
+    };
+    assert_eq!(rt; found, expected);
 }
 
 #[test]
-fn an_image_by_its_path(rt: HostRuntime) -> Result<(), Fail> {
-    let path = String::from_str(rt.alloc(), "wide")?;
-    let raw = Raw::<WideNull>::open_path(path, true)?;
-    assert_eq!(rt; (raw.size(), raw.writable()), (8192, true));
-    let path = String::from_str(rt.alloc(), "narrow")?;
-    let missing = Raw::<WideNull>::open_path(path, true);
-    assert_eq!(rt; missing.err(), Some(Error::NotFound));
-    let path = String::from_str(rt.alloc(), "wide")?;
+fn an_image_by_its_path(rt: HostRuntime) {
+    let alloc = rt.alloc();
+    opens(&rt, alloc, "wide", true, Ok((8192, true)));
+    opens(&rt, alloc, "narrow", true, Err(Error::NotFound));
     // it is opened as it is to be used
-    let refused = Raw::<WideNull>::open_path(path, false);
-    assert_eq!(rt; refused.err(), Some(Error::Denied));
-    let path = String::from_str(rt.alloc(), "a")?;
+    opens(&rt, alloc, "wide", false, Err(Error::Denied));
+    let path = String::from_str(alloc, "a").expect(&rt, "memory for a path");
     let in_memory = Raw::<MemStorage>::open_path(path, false);
     assert_eq!(rt; in_memory.err(), Some(Error::Unsupported));
-    Ok(())
 }
 
 #[test]
-fn texts(rt: HostRuntime) -> Result<(), Fail> {
-    let raw = Raw::open_image(filled(&rt, 0, 8)?, true)?;
-    let text = format!(in rt.alloc(); "{}", raw)?;
+fn texts(rt: HostRuntime) {
+    let alloc = rt.alloc();
+    let raw = writable(&rt, filled(&rt, alloc, 0, 8));
+    let text = format!(in alloc; "{}", raw).expect(&rt, "memory for a text");
     assert_eq!(rt; text.as_str(), "raw[mem:[8B]]");
-    let null = Raw::open_image(Null::new(7), false)?;
-    let text = format!(in rt.alloc(); "{}", null)?;
+    let null = Raw::open_image(Null::new(7), false).expect(&rt, "an image");
+    let text = format!(in alloc; "{}", null).expect(&rt, "memory for a text");
     assert_eq!(rt; text.as_str(), "raw[null:[7B]]");
-    Ok(())
 }

@@ -1,49 +1,80 @@
 //! The greatest sizes and offsets.
-use super::set_up::{is_ready, read_stored, same_offset, write_at};
-use super::wide::WideNull;
+use super::device::Device;
+use super::set_up::{RangeCall, same_offset, take_part, write_at};
 use crate::drivers::FormatDriverInstance;
 use crate::raw::Raw;
 use imago_storage::error::Error;
-use imago_storage::null::Null;
-use std::test::Fail;
+use std::alloc::Global;
+use std::process::Abort;
 
-#[test]
-fn the_last_byte_of_the_longest_disk(rt: HostRuntime) -> Result<(), Fail> {
-    let last = u64::MAX - 1;
-    let mut raw = Raw::open_image(Null::new(u64::MAX), true)?;
-    assert_eq!(rt; raw.get_mapping(last, 2), Ok((same_offset(last), 1)));
+/// The last byte's end.
+const END: u64 = u64::MAX;
+
+/// The byte of the storage at that offset is read so.
+fn reads(
+    rt: &impl Abort,
+    alloc: Global,
+    raw: &Raw<Device>,
+    offset: u64,
+    expected: Result<u8, Error>,
+) {
     let mut buf = [0x77];
-    read_stored(&raw, rt.alloc(), &mut buf, last)?;
-    assert_eq!(rt; buf, [0]);
-    assert_eq!(rt; write_at(&mut raw, rt.alloc(), &[1], last), Ok(()));
-    assert_eq!(rt; raw.size(), u64::MAX);
-    Ok(())
+    assert!(rt; raw.storage_count() > 0);
+    let read = raw.read_mapped(alloc, 0, &mut buf, offset);
+    assert_eq!(rt; read.and(Ok(buf[0])), expected);
+}
+
+/// A write of one byte answers so, and the disk stays the longest.
+fn writes(
+    rt: &impl Abort,
+    alloc: Global,
+    raw: &mut Raw<Device>,
+    offset: u64,
+    expected: Result<(), Error>,
+) {
+    assert_eq!(rt; write_at(raw, alloc, &[1], offset), expected);
+    assert_eq!(rt; raw.size(), END);
 }
 
 #[test]
-fn the_last_block_of_the_longest_disk(rt: HostRuntime) -> Result<(), Fail> {
+fn the_last_byte_of_the_longest_disk(rt: HostRuntime) {
     let alloc = rt.alloc();
-    let end = u64::MAX;
-    let mut raw = Raw::open_image(WideNull::new(end), true)?;
-    let mut buf = [0x77];
-    assert_eq!(rt; read_stored(&raw, alloc, &mut buf, end - 4096), Ok(()));
-    assert_eq!(rt; buf, [0]);
-    let wraps = Err(Error::WrapAround);
-    assert_eq!(rt; read_stored(&raw, alloc, &mut buf, end - 4095), wraps);
-    assert_eq!(rt; write_at(&mut raw, alloc, &[1], end - 4095), wraps);
+    let mut raw = Raw::open_image(Device::new(END, 1), true).expect(&rt, "an image");
+    let mapped = raw.get_mapping(END - 1, 2);
+    assert_eq!(rt; mapped, Ok((same_offset(END - 1), 1)));
+    reads(&rt, alloc, &raw, END - 1, Ok(0));
+    writes(&rt, alloc, &mut raw, END - 1, Ok(()));
+}
+
+/// The call takes no part of the range, and the disk stays the longest.
+fn takes_nothing(
+    rt: &impl Abort,
+    alloc: Global,
+    raw: &mut Raw<Device>,
+    call: RangeCall,
+    offset: u64,
+    count: u64,
+) {
+    let part = take_part(raw, alloc, call, offset, count);
+    assert_eq!(rt; (part, raw.size()), (Ok((offset, 0)), END));
+}
+
+#[test]
+fn the_last_block_of_the_longest_disk(rt: HostRuntime) {
+    let alloc = rt.alloc();
+    let mut raw = Raw::open_image(Device::new(END, 4096), true).expect(&rt, "an image");
+    reads(&rt, alloc, &raw, END - 4096, Ok(0));
+    reads(&rt, alloc, &raw, END - 4095, Err(Error::WrapAround));
+    writes(&rt, alloc, &mut raw, END - 4095, Err(Error::WrapAround));
     // there is no aligned part below the greatest offset
-    assert!(rt; is_ready(&raw, end - 4096, 4096));
-    assert_eq!(rt;
-        raw.ensure_zero_mapping(alloc, end - 4096, 4096),
-        Ok((end - 4096, 0))
+    takes_nothing(
+        &rt,
+        alloc,
+        &mut raw,
+        RangeCall::EnsureZero,
+        END - 4096,
+        4096,
     );
-    assert!(rt; is_ready(&raw, end - 10, 5));
-    assert_eq!(rt;
-        raw.ensure_zero_mapping(alloc, end - 10, 5),
-        Ok((end - 10, 0))
-    );
-    assert!(rt; is_ready(&raw, end - 10, 5));
-    assert_eq!(rt; raw.discard_to_any(alloc, end - 10, 5), Ok((end - 10, 0)));
-    assert_eq!(rt; raw.size(), end);
-    Ok(())
+    takes_nothing(&rt, alloc, &mut raw, RangeCall::EnsureZero, END - 10, 5);
+    takes_nothing(&rt, alloc, &mut raw, RangeCall::DiscardToAny, END - 10, 5);
 }

@@ -1,71 +1,113 @@
 //! Mappings of raw images, and writes into prepared ones.
-use super::set_up::{filled, is_ready, read_stored, same_offset, stored, storing, write_inside};
+use super::set_up::{filled, holds, is_ready, same_offset, storing, writable, write_inside};
 use crate::drivers::{FormatDriverInstance, PreparedDataMapping, ShallowMapping};
 use crate::raw::Raw;
 use imago_storage::error::Error;
-use std::test::Fail;
+use imago_storage::mem::MemStorage;
+use std::alloc::Global;
+use std::process::Abort;
+
+/// The range is mapped so, and so much of it.
+fn maps(
+    rt: &impl Abort,
+    raw: &Raw<MemStorage>,
+    range: (u64, u64),
+    expected: (ShallowMapping, u64),
+) {
+    assert_eq!(rt; raw.get_mapping(range.0, range.1), Ok(expected));
+}
+
+/// The bytes of the image's storage from that offset on.
+fn reads(rt: &impl Abort, alloc: Global, raw: &Raw<MemStorage>, offset: u64, expected: [u8; 6]) {
+    let mut buf = [0x77; 6];
+    assert!(rt; raw.storage_count() > 0);
+    let read = raw.read_mapped(alloc, 0, &mut buf, offset);
+    assert_eq!(rt; (read, buf), (Ok(()), expected));
+}
 
 #[test]
-fn a_disk_of_four_bytes(rt: HostRuntime) -> Result<(), Fail> {
-    let end = (ShallowMapping::Eof, 0);
-    for writable in [false, true] {
-        let raw = Raw::open_image(storing(&rt, &[1, 2, 3, 4])?, writable)?;
-        assert_eq!(rt; raw.writable(), writable);
-        assert_eq!(rt; is_ready(&raw, 0, 0), writable);
-        assert_eq!(rt; raw.get_mapping(2, 6), Ok((same_offset(2), 2)));
-        assert_eq!(rt; raw.get_mapping(0, 3), Ok((same_offset(0), 3)));
-        assert_eq!(rt; raw.get_mapping(4, 1), Ok(end));
-        assert_eq!(rt; raw.get_mapping(u64::MAX, 2), Ok(end));
-        let mut buf = [0x77; 6];
-        read_stored(&raw, rt.alloc(), &mut buf, 2)?;
-        assert_eq!(rt; buf, [3, 4, 0, 0, 0, 0]);
+fn a_disk_of_four_bytes(rt: HostRuntime) {
+    let alloc = rt.alloc();
+    for may_write in [false, true] {
+        let storage = storing(&rt, alloc, &[1, 2, 3, 4]);
+        let raw = Raw::open_image(storage, may_write).expect(&rt, "an image");
+        assert_eq!(rt;
+            (raw.writable(), is_ready(&raw, 0, 0)),
+            (may_write, may_write)
+        );
+        maps(&rt, &raw, (2, 6), (same_offset(2), 2));
+        maps(&rt, &raw, (0, 3), (same_offset(0), 3));
+        maps(&rt, &raw, (4, 1), (ShallowMapping::Eof, 0));
+        maps(&rt, &raw, (u64::MAX, 2), (ShallowMapping::Eof, 0));
+        reads(&rt, alloc, &raw, 2, [3, 4, 0, 0, 0, 0]);
     }
-    Ok(())
+}
+
+/// The mapping prepared for four bytes from 2 on, which are all of it, and need no commit.
+fn prepared(rt: &impl Abort, alloc: Global, raw: &mut Raw<MemStorage>) -> PreparedDataMapping<()> {
+    assert!(rt; is_ready(&*raw, 2, 4));
+    let prepared = raw.prepare_data_mapping(alloc, Some(&()), 2, 4, false);
+    let mapping = prepared.expect(rt, "a mapping");
+    assert_eq!(rt; (mapping.length(), mapping.is_nonblocking()), (4, true));
+    mapping
+}
+
+/// A write into the mapping answers so.
+fn writes_inside(
+    rt: &impl Abort,
+    alloc: Global,
+    raw: &mut Raw<MemStorage>,
+    mapping: &PreparedDataMapping<()>,
+    source: &[u8],
+    at: u64,
+    expected: Result<(), Error>,
+) {
+    assert_eq!(rt; write_inside(raw, alloc, mapping, source, at), expected);
+}
+
+/// A commit of the mapping answers so.
+fn commits(
+    rt: &impl Abort,
+    raw: &mut Raw<MemStorage>,
+    mapping: PreparedDataMapping<()>,
+    expected: Result<(), Error>,
+) {
+    assert_eq!(rt; raw.commit_data_mapping(mapping), expected);
 }
 
 #[test]
-fn a_prepared_mapping_takes_what_fits(rt: HostRuntime) -> Result<(), Fail> {
-    let mut raw = Raw::open_image(filled(&rt, 0, 8)?, true)?;
-    assert!(rt; is_ready(&raw, 2, 4));
-    let mapping = raw.prepare_data_mapping(rt.alloc(), Some(&()), 2, 4, false)?;
-    let (count, nonblocking) = (mapping.length(), mapping.is_nonblocking());
-    let first = write_inside(&mut raw, rt.alloc(), &mapping, &[0xaa, 0xbb], 2);
-    let long = write_inside(&mut raw, rt.alloc(), &mapping, &[1, 2, 3, 4, 5], 0);
+fn a_prepared_mapping_takes_what_fits(rt: HostRuntime) {
+    let alloc = rt.alloc();
+    let mut raw = writable(&rt, filled(&rt, alloc, 0, 8));
+    let mapping = prepared(&rt, alloc, &mut raw);
+    writes_inside(&rt, alloc, &mut raw, &mapping, &[0xaa, 0xbb], 2, Ok(()));
+    let beyond = Err(Error::BeyondDisk);
+    writes_inside(&rt, alloc, &mut raw, &mapping, &[1, 2, 3, 4, 5], 0, beyond);
     raw.cancel_data_mapping(mapping);
-    assert_eq!(rt; (count, nonblocking), (4, true));
-    assert_eq!(rt; (first, long), (Ok(()), Err(Error::BeyondDisk)));
-    assert_eq!(rt; stored(&raw), [0, 0, 0, 0, 0xaa, 0xbb, 0, 0].as_slice());
-    assert!(rt; is_ready(&raw, 2, 4));
-    let mapping = raw.prepare_data_mapping(rt.alloc(), Some(&()), 2, 4, false)?;
-    let written = write_inside(&mut raw, rt.alloc(), &mapping, &[1, 2, 3, 4], 0);
-    raw.commit_data_mapping(mapping)?;
-    written?;
-    assert_eq!(rt; stored(&raw), [0, 0, 1, 2, 3, 4, 0, 0].as_slice());
-    Ok(())
+    holds(&rt, &raw, &[0, 0, 0, 0, 0xaa, 0xbb, 0, 0]);
+    let mapping = prepared(&rt, alloc, &mut raw);
+    writes_inside(&rt, alloc, &mut raw, &mapping, &[1, 2, 3, 4], 0, Ok(()));
+    commits(&rt, &mut raw, mapping, Ok(()));
+    holds(&rt, &raw, &[0, 0, 1, 2, 3, 4, 0, 0]);
+}
+
+/// A write into a mapping of four bytes from there on is refused as foreign.
+fn is_foreign(rt: &impl Abort, alloc: Global, raw: &mut Raw<MemStorage>, offset: u64) {
+    let mapping = PreparedDataMapping::existing(0, offset, 4);
+    let written = raw.write_prepared(alloc, &mapping, &[1], 0);
+    raw.cancel_data_mapping(mapping);
+    assert_eq!(rt; written, Err(Error::ForeignMapping));
 }
 
 #[test]
-fn foreign_mappings(rt: HostRuntime) -> Result<(), Fail> {
-    let mut raw = Raw::open_image(filled(&rt, 0, 8)?, true)?;
-    let mapping = PreparedDataMapping::existing(0, 100, 4);
-    assert_eq!(rt;
-        raw.write_prepared(rt.alloc(), &mapping, &[1], 0),
-        Err(Error::ForeignMapping)
-    );
-    raw.cancel_data_mapping(mapping);
+fn foreign_mappings(rt: HostRuntime) {
+    let alloc = rt.alloc();
+    let mut raw = writable(&rt, filled(&rt, alloc, 0, 8));
+    is_foreign(&rt, alloc, &mut raw, 100);
     let foreign = PreparedDataMapping::to_commit(0, 0, 4, ());
-    assert_eq!(rt;
-        raw.commit_data_mapping(foreign),
-        Err(Error::ForeignMapping)
-    );
-    assert_eq!(rt; stored(&raw), [0; 8].as_slice());
-    let mut read_only = Raw::open_image(filled(&rt, 0, 8)?, false)?;
-    let mapping = PreparedDataMapping::existing(0, 0, 4);
-    assert_eq!(rt;
-        read_only.write_prepared(rt.alloc(), &mapping, &[1], 0),
-        Err(Error::ForeignMapping)
-    );
-    read_only.cancel_data_mapping(mapping);
-    assert_eq!(rt; stored(&read_only), [0; 8].as_slice());
-    Ok(())
+    commits(&rt, &mut raw, foreign, Err(Error::ForeignMapping));
+    holds(&rt, &raw, &[0; 8]);
+    let mut read_only = Raw::open_image(filled(&rt, alloc, 0, 8), false).expect(&rt, "an image");
+    is_foreign(&rt, alloc, &mut read_only, 0);
+    holds(&rt, &read_only, &[0; 8]);
 }

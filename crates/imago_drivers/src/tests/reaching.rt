@@ -1,64 +1,91 @@
 //! That calls which no clause sees reach the storage, and what refused resizes leave.
-use super::recorder::{Calls, Recorder};
-use super::set_up::{filled, grow, shrink, stored};
+use super::device::Device;
+use super::set_up::{filled, grow, grows, has_sizes, holds, shrink, writable};
 use crate::drivers::{FormatDriverInstance, PreallocateMode};
 use crate::raw::Raw;
 use imago_storage::error::Error;
-use imago_storage::mem::MemStorage;
-use imago_storage::null::Null;
 use imago_storage::storage::Storage;
-use std::test::Fail;
+use std::alloc::Global;
+use std::process::Abort;
 
-/// What reached the storage of a raw image, and its length.
-fn reached<S: Storage>(raw: &Raw<Recorder<S>>) -> (Option<Calls>, Option<u64>) {
-    match raw.storage(0) {
-        Some(storage) => (Some(storage.calls()), storage.size().ok()),
-        None => (None, None),
-    }
+/// An image of 1024 bytes whose device fails at the next resizes, as many as asked.
+fn on_a_device(rt: &impl Abort, refused_resizes: u64) -> Raw<Device> {
+    let mut device = Device::new(1024, 1);
+    device.refuse_resizes(refused_resizes);
+    Raw::open_image(device, true).expect(rt, "an image")
+}
+
+/// So many flushes, syncs and invalidations reached the storage.
+fn was_reached(rt: &impl Abort, raw: &Raw<Device>, expected: [u64; 3]) {
+    let storage = raw.storage(0).expect(rt, "a storage");
+    assert_eq!(rt; storage.calls(), expected);
 }
 
 #[test]
-fn flush_sync_and_invalidation_reach_the_storage(rt: HostRuntime) -> Result<(), Fail> {
-    let mut raw = Raw::open_image(Recorder::new(filled(&rt, 1, 4)?, 0), true)?;
-    let mut calls = Calls {
-        flushes: 0,
-        syncs: 0,
-        invalidations: 0,
-    };
-    assert_eq!(rt; reached(&raw).0, Some(calls));
-    raw.flush()?;
-    calls.flushes = 1;
-    assert_eq!(rt; reached(&raw).0, Some(calls));
-    raw.sync()?;
-    calls.syncs = 1;
-    assert_eq!(rt; reached(&raw).0, Some(calls));
-    raw.invalidate_cache()?;
-    calls.invalidations = 1;
-    assert_eq!(rt; reached(&raw).0, Some(calls));
-    Ok(())
+fn flush_sync_and_invalidation_reach_the_storage(rt: HostRuntime) {
+    let mut raw = on_a_device(&rt, 0);
+    was_reached(&rt, &raw, [0, 0, 0]);
+    raw.flush().expect(&rt, "a flush");
+    was_reached(&rt, &raw, [1, 0, 0]);
+    raw.sync().expect(&rt, "a sync");
+    was_reached(&rt, &raw, [1, 1, 0]);
+    raw.invalidate_cache().expect(&rt, "an invalidation");
+    was_reached(&rt, &raw, [1, 1, 1]);
+}
+
+/// A growth answers so.
+fn grows_on_device(
+    rt: &impl Abort,
+    alloc: Global,
+    raw: &mut Raw<Device>,
+    size: u64,
+    expected: Result<(), Error>,
+) {
+    assert_eq!(rt; grow(raw, alloc, size, PreallocateMode::None), expected);
+}
+
+/// A cut answers so.
+fn shrinks_on_device(
+    rt: &impl Abort,
+    raw: &mut Raw<Device>,
+    size: u64,
+    expected: Result<(), Error>,
+) {
+    assert_eq!(rt; shrink(raw, size), expected);
+}
+
+/// Both the disk and its storage are so long.
+fn is_long(rt: &impl Abort, raw: &Raw<Device>, size: u64) {
+    let storage = raw.storage(0).expect(rt, "a storage");
+    assert_eq!(rt; (raw.size(), storage.size()), (size, Ok(size)));
 }
 
 #[test]
-fn a_refused_resize_leaves_both_sizes(rt: HostRuntime) -> Result<(), Fail> {
-    let mut raw = Raw::open_image(Recorder::new(Null::new(1024), 2), true)?;
-    let mode = PreallocateMode::None;
-    assert_eq!(rt; grow(&mut raw, rt.alloc(), 2048, mode), Err(Error::Device));
-    assert_eq!(rt; (raw.size(), reached(&raw).1), (1024, Some(1024)));
-    assert_eq!(rt; shrink(&mut raw, 512), Err(Error::Device));
-    assert_eq!(rt; (raw.size(), reached(&raw).1), (1024, Some(1024)));
-    grow(&mut raw, rt.alloc(), 2048, mode)?;
-    assert_eq!(rt; (raw.size(), reached(&raw).1), (2048, Some(2048)));
-    shrink(&mut raw, 512)?;
-    assert_eq!(rt; (raw.size(), reached(&raw).1), (512, Some(512)));
-    Ok(())
+fn a_refused_resize_leaves_both_sizes(rt: HostRuntime) {
+    let alloc = rt.alloc();
+    let mut raw = on_a_device(&rt, 2);
+    grows_on_device(&rt, alloc, &mut raw, 2048, Err(Error::Device));
+    is_long(&rt, &raw, 1024);
+    shrinks_on_device(&rt, &mut raw, 512, Err(Error::Device));
+    is_long(&rt, &raw, 1024);
+    grows_on_device(&rt, alloc, &mut raw, 2048, Ok(()));
+    is_long(&rt, &raw, 2048);
+    shrinks_on_device(&rt, &mut raw, 512, Ok(()));
+    is_long(&rt, &raw, 512);
 }
 
 #[test]
-fn a_growth_that_no_memory_can_hold_changes_nothing(rt: HostRuntime) -> Result<(), Fail> {
-    let mut raw: Raw<MemStorage> = Raw::open_image(filled(&rt, 0xff, 4)?, true)?;
-    let grown = grow(&mut raw, rt.alloc(), u64::MAX, PreallocateMode::Zero);
-    assert_eq!(rt; grown, Err(Error::Memory));
-    assert_eq!(rt; raw.size(), 4);
-    assert_eq!(rt; stored(&raw), [0xff; 4].as_slice());
-    Ok(())
+fn a_growth_that_no_memory_can_hold_changes_nothing(rt: HostRuntime) {
+    let alloc = rt.alloc();
+    let mut raw = writable(&rt, filled(&rt, alloc, 0xff, 4));
+    grows(
+        &rt,
+        alloc,
+        &mut raw,
+        u64::MAX,
+        PreallocateMode::Zero,
+        Err(Error::Memory),
+    );
+    has_sizes(&rt, &raw, 4, 4);
+    holds(&rt, &raw, &[0xff; 4]);
 }

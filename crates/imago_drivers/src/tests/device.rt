@@ -1,5 +1,7 @@
-//! A storage of zeroes whose requests are aligned to 4096.
-ghost use Rattle.std.specs.Prelude.{◌≡◌, ℕ, replicate, None, refl};
+//! A storage of zeroes that records what reaches it, and that can refuse resizes.
+ghost use Rattle.std.specs.Prelude.{◌≡◌, ℕ, replicate, None, false};
+ghost use Rattle.std.proofs.Math.Nat.{mod_self};
+ghost use Rattle.imago_storage.specs.Powers.{IsAlignment, power_of_two};
 ghost use Rattle.imago_storage.specs.Mem.{null_features};
 ghost use Rattle.imago_storage.specs.IoCount.{no_work};
 
@@ -7,38 +9,62 @@ use imago_storage::error::Error;
 use imago_storage::storage::{PreallocateMode, Storage, StorageOpenOptions};
 use std::fmt;
 
-/// Zeroes of any length, up to `u64::MAX` bytes, whose alignments are all 4096.
+/// Zeroes of any length, up to `u64::MAX` bytes, whose alignments are all the same. It counts its flushes, syncs and
+/// invalidations, and its device fails at the next resizes. Its count of faults stands at the greatest value from the
+/// start, so a fault needn't raise it.
 #[derive(Drop)]
-pub(super) struct WideNull {
+pub(super) struct Device {
     size: u64,
+    align: usize,
+    calls: [u64; 3],
+    refused_resizes: u64,
+    ghost power: { IsAlignment align },
 }
 
-impl WideNull {
-    pub(super) fn new(size: u64) -> Self {
-        WideNull { size }
+impl Device {
+    /// A storage that nothing has reached yet.
+    pub(super) fn new(size: u64, align: usize) -> Self
+        requires { IsAlignment align }
+    {
+        Device {
+            size,
+            align,
+            calls: [0; 3],
+            refused_resizes: 0,
+        }
+    }
+
+    /// Its next resizes are refused, as many as asked.
+    pub(super) fn refuse_resizes(&mut self, count: u64) {
+        self.refused_resizes = count;
+    }
+
+    /// How many flushes, syncs and invalidations reached it. The numbers saturate.
+    pub(super) fn calls(&self) -> [u64; 3] {
+        self.calls
     }
 }
 
-impl fmt::Display for WideNull {
+impl fmt::Display for Device {
     fn fmt<W: fmt::Write>(&self, f: &mut fmt::Formatter<W>) -> fmt::Result {
-        write!(f, "wide")
+        write!(f, "device")
     }
 }
 
-impl Storage for WideNull {
+impl Storage for Device {
     ghost bytes = { λ s. replicate s.size 0 };
 
-    ghost features = { λ _. record null_features { mem_align = 4096; req_align = 4096; zero_align = 4096; discard_align = 4096 } };
+    ghost features = { λ s. record null_features { mem_align = s.align; req_align = s.align; zero_align = s.align; discard_align = s.align; is_reliable = false } };
 
-    ghost fault_count = { λ _. 0 };
+    ghost fault_count = { λ _. 18446744073709551615 };
 
     ghost work = { λ _. no_work };
 
     ghost filename = { λ _. None };
 
-    ghost lawful = { λ _. record { mem = (12, refl); req = (12, refl); zero = (12, refl); discard = (12, refl); zero_whole = refl; discard_whole = refl } };
+    ghost lawful = { λ s. let p = power_of_two s.align s.power in record { mem = p; req = p; zero = p; discard = p; zero_whole = mod_self s.align; discard_whole = mod_self s.align } };
 
-    /// Opens `wide`, which has 8192 bytes.
+    /// Opens `wide`, which has 8192 bytes, aligned to 4096.
     fn open(opts: StorageOpenOptions) -> Result<Self, Error> {
         let is_known = match opts.get_filename() {
             Some(name) => name == "wide",
@@ -50,23 +76,23 @@ impl Storage for WideNull {
         if !opts.get_writable() {
             return Err(Error::Denied);
         }
-        Ok(WideNull { size: 8192 })
+        Ok(Device::new(8192, 4096))
     }
 
     fn mem_align(&self) -> usize {
-        4096
+        self.align
     }
 
     fn req_align(&self) -> usize {
-        4096
+        self.align
     }
 
     fn zero_align(&self) -> usize {
-        4096
+        self.align
     }
 
     fn discard_align(&self) -> usize {
-        4096
+        self.align
     }
 
     fn size(&self) -> Result<u64, Error> {
@@ -103,19 +129,26 @@ impl Storage for WideNull {
     }
 
     fn flush(&mut self) -> Result<(), Error> {
+        self.calls[0] = self.calls[0].saturating_add(1);
         Ok(())
     }
 
     fn sync(&mut self) -> Result<(), Error> {
+        self.calls[1] = self.calls[1].saturating_add(1);
         Ok(())
     }
 
     fn invalidate_cache(&mut self) -> Result<(), Error> {
+        self.calls[2] = self.calls[2].saturating_add(1);
         Ok(())
     }
 
     fn resize(&mut self, new_size: u64, mode: PreallocateMode) -> Result<(), Error> {
         let _ = mode;
+        if self.refused_resizes > 0 {
+            self.refused_resizes -= 1;
+            return Err(Error::Device);
+        }
         self.size = new_size;
         Ok(())
     }
