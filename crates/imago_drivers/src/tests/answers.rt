@@ -1,6 +1,6 @@
 //! Each public function of a raw image that the other tests don't call, and printed text.
 use super::device::Device;
-use super::set_up::{filled, holds, is_ready, storing, writable, write_at};
+use super::set_up::{filled, holds, is_ready, storing, writable};
 use crate::drivers::{Format, FormatDriverInstance};
 use crate::raw::Raw;
 use imago_storage::error::Error;
@@ -44,25 +44,25 @@ fn any_bytes_are_raw_and_none_are_special(rt: HostRuntime) {
     reads_special(&rt, alloc, &mut [], Ok(()));
 }
 
-/// Maps the range to bytes of a storage, and writes them there.
-fn write_through<D: FormatDriverInstance>(
-    driver: &mut D,
+/// Maps the range to bytes of the storage, and writes them there.
+fn write_through(
+    raw: &mut Raw<MemStorage>,
     alloc: Global,
     source: &[u8],
     offset: u64,
 ) -> Result<(), Error> {
     let count = source.len() as u64;
-    if !is_ready(&*driver, offset, count) {
+    if !is_ready(&*raw, offset, count) {
         return Err(Error::BeyondDisk);
     }
-    let mapped = driver.ensure_data_mapping(alloc, Some(&()), offset, count, false)?;
+    let mapped = raw.ensure_data_mapping(alloc, Some(&()), offset, count, false)?;
     if mapped.2 != count {
         return Err(Error::BeyondDisk);
     }
-    if mapped.0 >= driver.storage_count() {
+    if mapped.0 >= raw.storage_count() {
         return Err(Error::BeyondDisk);
     }
-    driver.write_mapped(alloc, mapped.0, source, mapped.1)
+    raw.write_mapped(alloc, mapped.0, source, mapped.1)
 }
 
 #[test]
@@ -76,13 +76,30 @@ fn mapped_writes(rt: HostRuntime) {
     assert_eq!(rt; storage.as_bytes(), [0, 0xaa, 0xbb, 0].as_slice());
 }
 
+/// A write of one byte to a lent storage succeeds.
+fn writes_lent(
+    rt: &impl Abort,
+    alloc: Global,
+    raw: &mut Raw<&mut MemStorage>,
+    offset: u64,
+    byte: u8,
+) {
+    assert!(rt; raw.writable() && !raw.has_prepared() && offset < raw.size());
+    let prepared = raw.prepare_data_mapping(alloc, Some(&()), offset, 1, true);
+    let mapping = prepared.expect(rt, "a mapping");
+    assert_eq!(rt; mapping.length(), 1);
+    let written = raw.write_prepared(alloc, &mapping, &[byte], 0);
+    let committed = raw.commit_data_mapping(mapping);
+    assert_eq!(rt; (written, committed), (Ok(()), Ok(())));
+}
+
 #[test]
 fn a_lent_storage(rt: HostRuntime) {
     let alloc = rt.alloc();
     let mut storage = filled(&rt, alloc, 0, 4);
     let mut raw = Raw::open_image(&mut storage, true).expect(&rt, "an image");
-    let written = write_at(&mut raw, alloc, &[1], 3);
-    assert_eq!(rt; (written, raw.size()), (Ok(()), 4));
+    writes_lent(&rt, alloc, &mut raw, 3, 1);
+    assert_eq!(rt; raw.size(), 4);
     drop(raw);
     assert_eq!(rt; storage.as_bytes(), [0, 0, 0, 1].as_slice());
 }

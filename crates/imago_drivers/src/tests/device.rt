@@ -1,10 +1,12 @@
 //! A storage of zeroes that records what reaches it, and that can refuse resizes.
-ghost use Rattle.std.specs.Prelude.{◌≡◌, ℕ, replicate, None, false};
+ghost use Rattle.std.specs.Prelude.{◌≡◌, ℕ, ◌+◌, ◌≤◌, IsTrue, replicate, None, true, false};
 ghost use Rattle.std.proofs.Math.Nat.{mod_self};
 ghost use Rattle.imago_storage.specs.Powers.{IsAlignment, power_of_two};
 ghost use Rattle.imago_storage.specs.Mem.{null_features};
 ghost use Rattle.imago_storage.specs.IoCount.{no_work};
 
+use crate::drivers::FormatDriverInstance;
+use crate::raw::Raw;
 use imago_storage::error::Error;
 use imago_storage::storage::{PreallocateMode, Storage, StorageOpenOptions};
 use std::fmt;
@@ -152,4 +154,19 @@ impl Storage for Device {
         self.size = new_size;
         Ok(())
     }
+}
+
+/// Whether a changing call may be made on that range of the image.
+pub(super) fn is_ready(raw: &Raw<Device>, offset: u64, count: u64) -> bool
+    ensures writable { IsTrue result → (⟦<Raw<Device> as FormatDriverInstance>⟧.view raw.now).abilities.is_writable ≡ true }
+    ensures spent { IsTrue result → (⟦<Raw<Device> as FormatDriverInstance>⟧.view raw.now).pending ≡ None }
+    ensures inside { IsTrue result → offset + count ≤ (⟦<Raw<Device> as FormatDriverInstance>⟧.view raw.now).size }
+{
+    if !raw.writable() {
+        return false;
+    }
+    if raw.has_prepared() {
+        return false;
+    }
+    count <= raw.size() && offset <= raw.size() - count
 }

@@ -1,6 +1,6 @@
 //! The greatest sizes and offsets.
-use super::device::Device;
-use super::set_up::{RangeCall, same_offset, take_part, write_at};
+use super::device::{Device, is_ready};
+use super::set_up::same_offset;
 use crate::drivers::FormatDriverInstance;
 use crate::raw::Raw;
 use imago_storage::error::Error;
@@ -32,8 +32,17 @@ fn writes(
     offset: u64,
     expected: Result<(), Error>,
 ) {
-    assert_eq!(rt; write_at(raw, alloc, &[1], offset), expected);
-    assert_eq!(rt; raw.size(), END);
+    assert!(rt; is_ready(&*raw, offset, 1));
+    let prepared = raw.prepare_data_mapping(alloc, Some(&()), offset, 1, true);
+    let mapping = prepared.expect(rt, "a mapping");
+    assert_eq!(rt; mapping.length(), 1);
+    let written = raw.write_prepared(alloc, &mapping, &[1], 0);
+    if written.is_ok() {
+        raw.commit_data_mapping(mapping).expect(rt, "a commit");
+    } else {
+        raw.cancel_data_mapping(mapping);
+    }
+    assert_eq!(rt; (written, raw.size()), (expected, END));
 }
 
 #[test]
@@ -46,16 +55,23 @@ fn the_last_byte_of_the_longest_disk(rt: HostRuntime) {
     writes(&rt, alloc, &mut raw, END - 1, Ok(()));
 }
 
-/// The call takes no part of the range, and the disk stays the longest.
-fn takes_nothing(
+/// No part of the range is zeroed, and the disk stays the longest.
+fn zeroes_nothing(rt: &impl Abort, alloc: Global, raw: &mut Raw<Device>, offset: u64, count: u64) {
+    assert!(rt; is_ready(&*raw, offset, count));
+    let part = raw.ensure_zero_mapping(alloc, offset, count);
+    assert_eq!(rt; (part, raw.size()), (Ok((offset, 0)), END));
+}
+
+/// No part of the range is discarded, and the disk stays the longest.
+fn discards_nothing(
     rt: &impl Abort,
     alloc: Global,
     raw: &mut Raw<Device>,
-    call: RangeCall,
     offset: u64,
     count: u64,
 ) {
-    let part = take_part(raw, alloc, call, offset, count);
+    assert!(rt; is_ready(&*raw, offset, count));
+    let part = raw.discard_to_any(alloc, offset, count);
     assert_eq!(rt; (part, raw.size()), (Ok((offset, 0)), END));
 }
 
@@ -67,14 +83,7 @@ fn the_last_block_of_the_longest_disk(rt: HostRuntime) {
     reads(&rt, alloc, &raw, END - 4095, Err(Error::WrapAround));
     writes(&rt, alloc, &mut raw, END - 4095, Err(Error::WrapAround));
     // there is no aligned part below the greatest offset
-    takes_nothing(
-        &rt,
-        alloc,
-        &mut raw,
-        RangeCall::EnsureZero,
-        END - 4096,
-        4096,
-    );
-    takes_nothing(&rt, alloc, &mut raw, RangeCall::EnsureZero, END - 10, 5);
-    takes_nothing(&rt, alloc, &mut raw, RangeCall::DiscardToAny, END - 10, 5);
+    zeroes_nothing(&rt, alloc, &mut raw, END - 4096, 4096);
+    zeroes_nothing(&rt, alloc, &mut raw, END - 10, 5);
+    discards_nothing(&rt, alloc, &mut raw, END - 10, 5);
 }

@@ -1,7 +1,7 @@
 //! Resizes of raw images.
 use super::set_up::{
-    RangeCall, filled, grows, has_sizes, holds, holds_at, is_ready, shrink, storing, takes,
-    writable, writes,
+    RangeCall, commits, filled, grows, has_sizes, holds, holds_at, is_ready, prepared, storing,
+    takes, writable, writes_inside,
 };
 use crate::drivers::{FormatDriverInstance, PreallocateMode, PreparedDataMapping};
 use crate::raw::Raw;
@@ -16,26 +16,14 @@ fn maps_byte(rt: &impl Abort, alloc: Global, raw: &mut Raw<MemStorage>, offset: 
     assert_eq!(rt; mapped, Ok((0, offset, 1)));
 }
 
-/// Writes a byte of the storage as one that is mapped already.
-fn overwrites_byte(
-    rt: &impl Abort,
-    alloc: Global,
-    raw: &mut Raw<MemStorage>,
-    offset: u64,
-    byte: u8,
-) {
-    let mapping = PreparedDataMapping::existing(0, offset, 1);
-    let written = raw.write_prepared(alloc, &mapping, &[byte], 0);
-    let committed = raw.commit_data_mapping(mapping);
-    assert_eq!(rt; (written, committed), (Ok(()), Ok(())));
-}
-
 #[test]
 fn writes_pad_the_storage_and_growth_cuts_it(rt: HostRuntime) {
     let alloc = rt.alloc();
     let mut raw = writable(&rt, filled(&rt, alloc, 0xa5, 10000).with_align(4096));
     maps_byte(&rt, alloc, &mut raw, 9999);
-    overwrites_byte(&rt, alloc, &mut raw, 9999, 1);
+    let mapping = PreparedDataMapping::existing(0, 9999, 1);
+    writes_inside(&rt, alloc, &mut raw, &mapping, &[1], 0, Ok(()));
+    commits(&rt, &mut raw, mapping, Ok(()));
     has_sizes(&rt, &raw, 10000, 12288);
     holds_at(&rt, &raw, 9998, &[0xa5, 1, 0]);
     grows(&rt, alloc, &mut raw, 11000, PreallocateMode::Zero, Ok(()));
@@ -48,7 +36,9 @@ fn writes_pad_the_storage_and_growth_cuts_it(rt: HostRuntime) {
 fn an_alignment_longer_than_the_disk(rt: HostRuntime) {
     let alloc = rt.alloc();
     let mut raw = writable(&rt, storing(&rt, alloc, &[1, 2, 3]).with_align(1048576));
-    writes(&rt, alloc, &mut raw, &[0xff], 1);
+    let mapping = prepared(&rt, alloc, &mut raw, 1, 1, true);
+    writes_inside(&rt, alloc, &mut raw, &mapping, &[0xff], 0, Ok(()));
+    commits(&rt, &mut raw, mapping, Ok(()));
     has_sizes(&rt, &raw, 3, 1048576);
     holds_at(&rt, &raw, 0, &[1, 0xff, 3, 0, 0]);
     grows(&rt, alloc, &mut raw, 5, PreallocateMode::Zero, Ok(()));
@@ -58,7 +48,8 @@ fn an_alignment_longer_than_the_disk(rt: HostRuntime) {
 
 /// A cut to that size succeeds.
 fn shrinks(rt: &impl Abort, raw: &mut Raw<MemStorage>, size: u64) {
-    assert_eq!(rt; shrink(raw, size), Ok(()));
+    assert!(rt; is_ready(&*raw, 0, 0));
+    assert_eq!(rt; raw.resize_shrink(size), Ok(()));
 }
 
 #[test]

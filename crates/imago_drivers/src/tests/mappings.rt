@@ -1,5 +1,7 @@
 //! Mappings of raw images, and writes into prepared ones.
-use super::set_up::{filled, holds, is_ready, same_offset, storing, writable, write_inside};
+use super::set_up::{
+    commits, filled, holds, is_ready, prepared, same_offset, storing, writable, writes_inside,
+};
 use crate::drivers::{FormatDriverInstance, PreparedDataMapping, ShallowMapping};
 use crate::raw::Raw;
 use imago_storage::error::Error;
@@ -25,6 +27,11 @@ fn reads(rt: &impl Abort, alloc: Global, raw: &Raw<MemStorage>, offset: u64, exp
     assert_eq!(rt; (read, buf), (Ok(()), expected));
 }
 
+/// Whether the disk may be changed.
+fn takes_changes(rt: &impl Abort, raw: &Raw<MemStorage>, expected: bool) {
+    assert_eq!(rt; (raw.writable(), is_ready(raw, 0, 0)), (expected, expected));
+}
+
 #[test]
 fn a_disk_of_four_bytes(rt: HostRuntime) {
     let alloc = rt.alloc();
@@ -43,49 +50,24 @@ fn a_disk_of_four_bytes(rt: HostRuntime) {
     }
 }
 
-/// The mapping prepared for four bytes from 2 on, which are all of it, and need no commit.
-fn prepared(rt: &impl Abort, alloc: Global, raw: &mut Raw<MemStorage>) -> PreparedDataMapping<()> {
-    assert!(rt; is_ready(&*raw, 2, 4));
-    let prepared = raw.prepare_data_mapping(alloc, Some(&()), 2, 4, false);
-    let mapping = prepared.expect(rt, "a mapping");
+/// The mapping prepared for four bytes from 2 on, which is of all of them and needs no commit.
+fn of_four(rt: &impl Abort, alloc: Global, raw: &mut Raw<MemStorage>) -> PreparedDataMapping<()> {
+    let mapping = prepared(rt, alloc, raw, 2, 4, false);
     assert_eq!(rt; (mapping.length(), mapping.is_nonblocking()), (4, true));
     mapping
-}
-
-/// A write into the mapping answers so.
-fn writes_inside(
-    rt: &impl Abort,
-    alloc: Global,
-    raw: &mut Raw<MemStorage>,
-    mapping: &PreparedDataMapping<()>,
-    source: &[u8],
-    at: u64,
-    expected: Result<(), Error>,
-) {
-    assert_eq!(rt; write_inside(raw, alloc, mapping, source, at), expected);
-}
-
-/// A commit of the mapping answers so.
-fn commits(
-    rt: &impl Abort,
-    raw: &mut Raw<MemStorage>,
-    mapping: PreparedDataMapping<()>,
-    expected: Result<(), Error>,
-) {
-    assert_eq!(rt; raw.commit_data_mapping(mapping), expected);
 }
 
 #[test]
 fn a_prepared_mapping_takes_what_fits(rt: HostRuntime) {
     let alloc = rt.alloc();
     let mut raw = writable(&rt, filled(&rt, alloc, 0, 8));
-    let mapping = prepared(&rt, alloc, &mut raw);
+    let mapping = of_four(&rt, alloc, &mut raw);
     writes_inside(&rt, alloc, &mut raw, &mapping, &[0xaa, 0xbb], 2, Ok(()));
     let beyond = Err(Error::BeyondDisk);
     writes_inside(&rt, alloc, &mut raw, &mapping, &[1, 2, 3, 4, 5], 0, beyond);
     raw.cancel_data_mapping(mapping);
     holds(&rt, &raw, &[0, 0, 0, 0, 0xaa, 0xbb, 0, 0]);
-    let mapping = prepared(&rt, alloc, &mut raw);
+    let mapping = of_four(&rt, alloc, &mut raw);
     writes_inside(&rt, alloc, &mut raw, &mapping, &[1, 2, 3, 4], 0, Ok(()));
     commits(&rt, &mut raw, mapping, Ok(()));
     holds(&rt, &raw, &[0, 0, 1, 2, 3, 4, 0, 0]);
@@ -94,9 +76,16 @@ fn a_prepared_mapping_takes_what_fits(rt: HostRuntime) {
 /// A write into a mapping of four bytes from there on is refused as foreign.
 fn is_foreign(rt: &impl Abort, alloc: Global, raw: &mut Raw<MemStorage>, offset: u64) {
     let mapping = PreparedDataMapping::existing(0, offset, 4);
-    let written = raw.write_prepared(alloc, &mapping, &[1], 0);
+    writes_inside(
+        rt,
+        alloc,
+        raw,
+        &mapping,
+        &[1],
+        0,
+        Err(Error::ForeignMapping),
+    );
     raw.cancel_data_mapping(mapping);
-    assert_eq!(rt; written, Err(Error::ForeignMapping));
 }
 
 #[test]

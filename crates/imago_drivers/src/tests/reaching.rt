@@ -1,6 +1,6 @@
 //! That calls which no clause sees reach the storage, and what refused resizes leave.
-use super::device::Device;
-use super::set_up::{filled, grow, grows, has_sizes, holds, shrink, writable};
+use super::device::{Device, is_ready};
+use super::set_up::{filled, grows, has_sizes, holds, writable};
 use crate::drivers::{FormatDriverInstance, PreallocateMode};
 use crate::raw::Raw;
 use imago_storage::error::Error;
@@ -41,7 +41,9 @@ fn grows_on_device(
     size: u64,
     expected: Result<(), Error>,
 ) {
-    assert_eq!(rt; grow(raw, alloc, size, PreallocateMode::None), expected);
+    assert!(rt; is_ready(&*raw, 0, 0));
+    let grown = raw.resize_grow(alloc, Some(&()), size, PreallocateMode::None);
+    assert_eq!(rt; grown, expected);
 }
 
 /// A cut answers so.
@@ -51,7 +53,8 @@ fn shrinks_on_device(
     size: u64,
     expected: Result<(), Error>,
 ) {
-    assert_eq!(rt; shrink(raw, size), expected);
+    assert!(rt; is_ready(&*raw, 0, 0));
+    assert_eq!(rt; raw.resize_shrink(size), expected);
 }
 
 /// Both the disk and its storage are so long.

@@ -1,5 +1,6 @@
-//! What the tests share: images to start from, calls that a driver's conditions are tested for at run time, and what is
-//! seen. But for `is_ready` they have no clauses, and those of the tests are of one type, so that proofs stay short.
+//! What the tests share: images to start from, calls of them whose conditions are tested at run time, and what is seen.
+//!
+//! All are of one type, and but for `is_ready` they have no clauses, so that the proofs of what calls them stay short.
 ghost use Rattle.std.specs.Prelude.{◌≡◌, ◌+◌, ◌≤◌, IsTrue, None, true};
 
 use crate::drivers::{FormatDriverInstance, PreallocateMode, PreparedDataMapping, ShallowMapping};
@@ -10,106 +11,18 @@ use std::alloc::Global;
 use std::process::Abort;
 
 /// Whether a changing call may be made on that range.
-pub(super) fn is_ready<D: FormatDriverInstance>(driver: &D, offset: u64, count: u64) -> bool
-    ensures writable { IsTrue result → (D.view driver.now).abilities.is_writable ≡ true }
-    ensures spent { IsTrue result → (D.view driver.now).pending ≡ None }
-    ensures inside { IsTrue result → offset + count ≤ (D.view driver.now).size }
+pub(super) fn is_ready(raw: &Raw<MemStorage>, offset: u64, count: u64) -> bool
+    ensures writable { IsTrue result → (⟦<Raw<MemStorage> as FormatDriverInstance>⟧.view raw.now).abilities.is_writable ≡ true }
+    ensures spent { IsTrue result → (⟦<Raw<MemStorage> as FormatDriverInstance>⟧.view raw.now).pending ≡ None }
+    ensures inside { IsTrue result → offset + count ≤ (⟦<Raw<MemStorage> as FormatDriverInstance>⟧.view raw.now).size }
 {
-    if !driver.writable() {
+    if !raw.writable() {
         return false;
     }
-    if driver.has_prepared() {
+    if raw.has_prepared() {
         return false;
     }
-    count <= driver.size() && offset <= driver.size() - count
-}
-
-/// Writes into a prepared mapping, if the bytes fit.
-pub(super) fn write_inside<D: FormatDriverInstance>(
-    driver: &mut D,
-    alloc: Global,
-    mapping: &PreparedDataMapping<D::State>,
-    source: &[u8],
-    at: u64,
-) -> Result<(), Error> {
-    let count = source.len() as u64;
-    if count > mapping.length() {
-        return Err(Error::BeyondDisk);
-    }
-    if at > mapping.length() - count {
-        return Err(Error::BeyondDisk);
-    }
-    driver.write_prepared(alloc, mapping, source, at)
-}
-
-/// Writes as an image does: prepares for overwriting, writes, and commits, or cancels where the write is refused.
-pub(super) fn write_at<D: FormatDriverInstance>(
-    driver: &mut D,
-    alloc: Global,
-    source: &[u8],
-    offset: u64,
-) -> Result<(), Error> {
-    let count = source.len() as u64;
-    if !is_ready(&*driver, offset, count) {
-        return Err(Error::BeyondDisk);
-    }
-    let mapping = driver.prepare_data_mapping(alloc, Some(&()), offset, count, true)?;
-    match write_inside(driver, alloc, &mapping, source, 0) {
-        Ok(()) => driver.commit_data_mapping(mapping),
-        Err(refusal) => {
-            driver.cancel_data_mapping(mapping);
-            Err(refusal)
-        }
-    }
-}
-
-/// Grows the disk, if it may be changed.
-pub(super) fn grow<D: FormatDriverInstance>(
-    driver: &mut D,
-    alloc: Global,
-    size: u64,
-    mode: PreallocateMode,
-) -> Result<(), Error> {
-    if !is_ready(&*driver, 0, 0) {
-        return Err(Error::ReadOnly);
-    }
-    driver.resize_grow(alloc, Some(&()), size, mode)
-}
-
-/// Shrinks the disk, if it may be changed.
-pub(super) fn shrink<D: FormatDriverInstance>(driver: &mut D, size: u64) -> Result<(), Error> {
-    if !is_ready(&*driver, 0, 0) {
-        return Err(Error::ReadOnly);
-    }
-    driver.resize_shrink(size)
-}
-
-/// A call that takes a part of a range.
-#[derive(Clone, Copy)]
-pub(super) enum RangeCall {
-    EnsureZero,
-    DiscardToZero,
-    DiscardToAny,
-    DiscardToBacking,
-}
-
-/// Makes that call, if it may be made on the range.
-pub(super) fn take_part<D: FormatDriverInstance>(
-    driver: &mut D,
-    alloc: Global,
-    call: RangeCall,
-    offset: u64,
-    count: u64,
-) -> Result<(u64, u64), Error> {
-    if !is_ready(&*driver, offset, count) {
-        return Err(Error::BeyondDisk);
-    }
-    match call {
-        RangeCall::EnsureZero => driver.ensure_zero_mapping(alloc, offset, count),
-        RangeCall::DiscardToZero => driver.discard_to_zero(alloc, offset, count),
-        RangeCall::DiscardToAny => driver.discard_to_any(alloc, offset, count),
-        RangeCall::DiscardToBacking => driver.discard_to_backing(alloc, offset, count),
-    }
+    count <= raw.size() && offset <= raw.size() - count
 }
 
 /// A storage of that many equal bytes.
@@ -151,15 +64,47 @@ pub(super) fn has_sizes(rt: &impl Abort, raw: &Raw<MemStorage>, disk: u64, stora
     assert_eq!(rt; (raw.size(), stored(raw).len()), (disk, storage));
 }
 
-/// A write of these bytes succeeds.
-pub(super) fn writes(
+/// The mapping that is prepared for the range.
+pub(super) fn prepared(
     rt: &impl Abort,
     alloc: Global,
     raw: &mut Raw<MemStorage>,
-    source: &[u8],
     offset: u64,
+    count: u64,
+    overwrite: bool,
+) -> PreparedDataMapping<()> {
+    assert!(rt; is_ready(&*raw, offset, count));
+    let prepared = raw.prepare_data_mapping(alloc, Some(&()), offset, count, overwrite);
+    prepared.expect(rt, "a mapping")
+}
+
+/// A write into the mapping answers so. What doesn't fit is beyond the disk.
+pub(super) fn writes_inside(
+    rt: &impl Abort,
+    alloc: Global,
+    raw: &mut Raw<MemStorage>,
+    mapping: &PreparedDataMapping<()>,
+    source: &[u8],
+    at: u64,
+    expected: Result<(), Error>,
 ) {
-    assert_eq!(rt; write_at(raw, alloc, source, offset), Ok(()));
+    let count = source.len() as u64;
+    let written = if count <= mapping.length() && at <= mapping.length() - count {
+        raw.write_prepared(alloc, mapping, source, at)
+    } else {
+        Err(Error::BeyondDisk)
+    };
+    assert_eq!(rt; written, expected);
+}
+
+/// A commit of the mapping answers so.
+pub(super) fn commits(
+    rt: &impl Abort,
+    raw: &mut Raw<MemStorage>,
+    mapping: PreparedDataMapping<()>,
+    expected: Result<(), Error>,
+) {
+    assert_eq!(rt; raw.commit_data_mapping(mapping), expected);
 }
 
 /// A growth answers so.
@@ -171,19 +116,37 @@ pub(super) fn grows(
     mode: PreallocateMode,
     expected: Result<(), Error>,
 ) {
-    assert_eq!(rt; grow(raw, alloc, size, mode), expected);
+    assert!(rt; is_ready(&*raw, 0, 0));
+    let grown = raw.resize_grow(alloc, Some(&()), size, mode);
+    assert_eq!(rt; grown, expected);
 }
 
-/// The call takes that part of the range: its offset and length.
+/// A call that takes a part of a range.
+#[derive(Clone, Copy)]
+pub(super) enum RangeCall {
+    EnsureZero,
+    DiscardToZero,
+    DiscardToAny,
+    DiscardToBacking,
+}
+
+/// The call takes that part of the range. Both are an offset and a length.
 pub(super) fn takes(
     rt: &impl Abort,
     alloc: Global,
     raw: &mut Raw<MemStorage>,
     call: RangeCall,
-    range: (u64, u64),
-    part: (u64, u64),
+    (offset, count): (u64, u64),
+    expected: (u64, u64),
 ) {
-    assert_eq!(rt; take_part(raw, alloc, call, range.0, range.1), Ok(part));
+    assert!(rt; is_ready(&*raw, offset, count));
+    let part = match call {
+        RangeCall::EnsureZero => raw.ensure_zero_mapping(alloc, offset, count),
+        RangeCall::DiscardToZero => raw.discard_to_zero(alloc, offset, count),
+        RangeCall::DiscardToAny => raw.discard_to_any(alloc, offset, count),
+        RangeCall::DiscardToBacking => raw.discard_to_backing(alloc, offset, count),
+    };
+    assert_eq!(rt; part, Ok(expected));
 }
 
 /// What a raw image maps each offset of its disk to.
