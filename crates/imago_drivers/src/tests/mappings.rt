@@ -19,7 +19,7 @@ fn maps(
     assert_eq!(rt; raw.get_mapping(range.0, range.1), Ok(expected));
 }
 
-/// The bytes of the image's storage from that offset on.
+/// The image's storage has these bytes from that offset on.
 fn reads(rt: &impl Abort, alloc: Global, raw: &Raw<MemStorage>, offset: u64, expected: [u8; 6]) {
     let mut buf = [0x77; 6];
     assert!(rt; raw.storage_count() > 0);
@@ -27,7 +27,7 @@ fn reads(rt: &impl Abort, alloc: Global, raw: &Raw<MemStorage>, offset: u64, exp
     assert_eq!(rt; (read, buf), (Ok(()), expected));
 }
 
-/// Whether the disk may be changed.
+/// The image is writable, and its disk may be changed, or neither.
 fn takes_changes(rt: &impl Abort, raw: &Raw<MemStorage>, expected: bool) {
     assert_eq!(rt; (raw.writable(), is_ready(raw, 0, 0)), (expected, expected));
 }
@@ -38,10 +38,7 @@ fn a_disk_of_four_bytes(rt: HostRuntime) {
     for may_write in [false, true] {
         let storage = storing(&rt, alloc, &[1, 2, 3, 4]);
         let raw = Raw::open_image(storage, may_write).expect(&rt, "an image");
-        assert_eq!(rt;
-            (raw.writable(), is_ready(&raw, 0, 0)),
-            (may_write, may_write)
-        );
+        takes_changes(&rt, &raw, may_write);
         maps(&rt, &raw, (2, 6), (same_offset(2), 2));
         maps(&rt, &raw, (0, 3), (same_offset(0), 3));
         maps(&rt, &raw, (4, 1), (ShallowMapping::Eof, 0));
