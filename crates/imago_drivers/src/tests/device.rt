@@ -11,6 +11,14 @@ use imago_storage::error::Error;
 use imago_storage::storage::{PreallocateMode, Storage, StorageOpenOptions};
 use std::fmt;
 
+/// How many of the calls that no contract sees reached a storage. The numbers saturate.
+#[derive(Clone, Copy, Debug, PartialEq, Eq, Drop)]
+pub(super) struct Calls {
+    pub(super) flushes: u64,
+    pub(super) syncs: u64,
+    pub(super) invalidations: u64,
+}
+
 /// Zeroes of any length, up to `u64::MAX` bytes, whose alignments are all the same. It counts its flushes, syncs and
 /// invalidations, and its device fails at the next resizes. Its count of faults stands at the greatest value from the
 /// start, so a fault needn't raise it.
@@ -18,7 +26,7 @@ use std::fmt;
 pub(super) struct Device {
     size: u64,
     align: usize,
-    calls: [u64; 3],
+    calls: Calls,
     refused_resizes: u64,
     ghost power: { IsAlignment align },
 }
@@ -31,7 +39,11 @@ impl Device {
         Device {
             size,
             align,
-            calls: [0; 3],
+            calls: Calls {
+                flushes: 0,
+                syncs: 0,
+                invalidations: 0,
+            },
             refused_resizes: 0,
         }
     }
@@ -41,8 +53,8 @@ impl Device {
         self.refused_resizes = count;
     }
 
-    /// How many flushes, syncs and invalidations reached it. The numbers saturate.
-    pub(super) fn calls(&self) -> [u64; 3] {
+    /// What reached it.
+    pub(super) fn calls(&self) -> Calls {
         self.calls
     }
 }
@@ -131,17 +143,17 @@ impl Storage for Device {
     }
 
     fn flush(&mut self) -> Result<(), Error> {
-        self.calls[0] = self.calls[0].saturating_add(1);
+        self.calls.flushes = self.calls.flushes.saturating_add(1);
         Ok(())
     }
 
     fn sync(&mut self) -> Result<(), Error> {
-        self.calls[1] = self.calls[1].saturating_add(1);
+        self.calls.syncs = self.calls.syncs.saturating_add(1);
         Ok(())
     }
 
     fn invalidate_cache(&mut self) -> Result<(), Error> {
-        self.calls[2] = self.calls[2].saturating_add(1);
+        self.calls.invalidations = self.calls.invalidations.saturating_add(1);
         Ok(())
     }
 

@@ -1,5 +1,5 @@
 //! That calls which no clause sees reach the storage, and what refused resizes leave.
-use super::device::{Device, is_ready};
+use super::device::{Calls, Device, is_ready};
 use super::set_up::{filled, grows, has_sizes, holds, writable};
 use crate::drivers::{FormatDriverInstance, PreallocateMode};
 use crate::raw::Raw;
@@ -15,8 +15,8 @@ fn on_a_device(rt: &impl Abort, refused_resizes: u64) -> Raw<Device> {
     Raw::open_image(device, true).expect(rt, "an image")
 }
 
-/// So many flushes, syncs and invalidations reached the storage.
-fn was_reached(rt: &impl Abort, raw: &Raw<Device>, expected: [u64; 3]) {
+/// So many calls reached the storage.
+fn was_reached(rt: &impl Abort, raw: &Raw<Device>, expected: Calls) {
     let storage = raw.storage(0).expect(rt, "a storage");
     assert_eq!(rt; storage.calls(), expected);
 }
@@ -24,13 +24,21 @@ fn was_reached(rt: &impl Abort, raw: &Raw<Device>, expected: [u64; 3]) {
 #[test]
 fn flush_sync_and_invalidation_reach_the_storage(rt: HostRuntime) {
     let mut raw = on_a_device(&rt, 0);
-    was_reached(&rt, &raw, [0, 0, 0]);
+    let mut calls = Calls {
+        flushes: 0,
+        syncs: 0,
+        invalidations: 0,
+    };
+    was_reached(&rt, &raw, calls);
     raw.flush().expect(&rt, "a flush");
-    was_reached(&rt, &raw, [1, 0, 0]);
+    calls.flushes = 1;
+    was_reached(&rt, &raw, calls);
     raw.sync().expect(&rt, "a sync");
-    was_reached(&rt, &raw, [1, 1, 0]);
+    calls.syncs = 1;
+    was_reached(&rt, &raw, calls);
     raw.invalidate_cache().expect(&rt, "an invalidation");
-    was_reached(&rt, &raw, [1, 1, 1]);
+    calls.invalidations = 1;
+    was_reached(&rt, &raw, calls);
 }
 
 /// A growth answers so.
