@@ -7,6 +7,7 @@ use imago_storage::error::Error;
 use imago_storage::mem::MemStorage;
 use imago_storage::null::Null;
 use std::alloc::Global;
+use std::fmt::Display;
 use std::process::Abort;
 
 #[test]
@@ -17,15 +18,20 @@ fn plain_answers(rt: HostRuntime) {
     assert!(rt; !raw.takes_backing() && !raw.has_prepared());
 }
 
+/// The image collects one storage, of these bytes.
+fn collects(rt: &impl Abort, alloc: Global, raw: &Raw<MemStorage>, expected: &[u8]) {
+    let collected = raw.collect_storage_dependencies(alloc);
+    let own = collected.expect(rt, "a list");
+    assert_eq!(rt; own.len(), 1);
+    assert_eq!(rt; own[0].as_bytes(), expected);
+}
+
 #[test]
 fn the_only_storage(rt: HostRuntime) {
     let alloc = rt.alloc();
     let raw = writable(&rt, storing(&rt, alloc, &[1, 2, 3]));
-    let own = raw
-        .collect_storage_dependencies(alloc)
-        .expect(&rt, "a list");
-    assert_eq!(rt; (own.len(), raw.storage_count()), (1, 1));
-    assert_eq!(rt; own[0].as_bytes(), [1, 2, 3].as_slice());
+    collects(&rt, alloc, &raw, &[1, 2, 3]);
+    assert_eq!(rt; raw.storage_count(), 1);
     assert!(rt; raw.storage(1).is_none());
 }
 
@@ -76,31 +82,23 @@ fn mapped_writes(rt: HostRuntime) {
     assert_eq!(rt; storage.as_bytes(), [0, 0xaa, 0xbb, 0].as_slice());
 }
 
-/// A write of one byte to a lent storage succeeds.
-fn writes_lent(
-    rt: &impl Abort,
-    alloc: Global,
-    raw: &mut Raw<&mut MemStorage>,
-    offset: u64,
-    byte: u8,
-) {
-    assert!(rt; raw.writable() && !raw.has_prepared() && offset < raw.size());
-    let prepared = raw.prepare_data_mapping(alloc, Some(&()), offset, 1, true);
+/// The last byte is written to a lent storage of four.
+fn writes_lent(rt: &impl Abort, alloc: Global, storage: &mut MemStorage, byte: u8) {
+    let mut raw = Raw::open_image(storage, true).expect(rt, "an image");
+    assert!(rt; raw.writable() && !raw.has_prepared() && raw.size() == 4);
+    let prepared = raw.prepare_data_mapping(alloc, Some(&()), 3, 1, true);
     let mapping = prepared.expect(rt, "a mapping");
     assert_eq!(rt; mapping.length(), 1);
     let written = raw.write_prepared(alloc, &mapping, &[byte], 0);
     let committed = raw.commit_data_mapping(mapping);
-    assert_eq!(rt; (written, committed), (Ok(()), Ok(())));
+    assert_eq!(rt; (written, committed, raw.size()), (Ok(()), Ok(()), 4));
 }
 
 #[test]
 fn a_lent_storage(rt: HostRuntime) {
     let alloc = rt.alloc();
     let mut storage = filled(&rt, alloc, 0, 4);
-    let mut raw = Raw::open_image(&mut storage, true).expect(&rt, "an image");
-    writes_lent(&rt, alloc, &mut raw, 3, 1);
-    assert_eq!(rt; raw.size(), 4);
-    drop(raw);
+    writes_lent(&rt, alloc, &mut storage, 1);
     assert_eq!(rt; storage.as_bytes(), [0, 0, 0, 1].as_slice());
 }
 
@@ -132,13 +130,17 @@ fn an_image_by_its_path(rt: HostRuntime) {
     assert_eq!(rt; in_memory.err(), Some(Error::Unsupported));
 }
 
+/// The value is printed so.
+fn prints<T: Display>(rt: &impl Abort, alloc: Global, value: &T, expected: &str) {
+    let text = format!(in alloc; "{value}").expect(rt, "memory for a text");
+    assert_eq!(rt; text.as_str(), expected);
+}
+
 #[test]
 fn texts(rt: HostRuntime) {
     let alloc = rt.alloc();
     let raw = writable(&rt, filled(&rt, alloc, 0, 8));
-    let text = format!(in alloc; "{}", raw).expect(&rt, "memory for a text");
-    assert_eq!(rt; text.as_str(), "raw[mem:[8B]]");
+    prints(&rt, alloc, &raw, "raw[mem:[8B]]");
     let null = Raw::open_image(Null::new(7), false).expect(&rt, "an image");
-    let text = format!(in alloc; "{}", null).expect(&rt, "memory for a text");
-    assert_eq!(rt; text.as_str(), "raw[null:[7B]]");
+    prints(&rt, alloc, &null, "raw[null:[7B]]");
 }
