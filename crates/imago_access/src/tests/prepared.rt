@@ -1,10 +1,43 @@
 //! Prepared mappings of a raw image, spent one way or the other, and those of others.
-use super::set_up::{MemImage, image_of, is_spent, read_back};
-use crate::access::FormatAccess;
+use super::set_up::{MemImage, image_of, is_spent, reads};
 use imago_drivers::drivers::{FormatDriverInstance, PreparedDataMapping};
+use imago_drivers::raw::Raw;
 use imago_storage::error::Error;
+use imago_storage::mem::MemStorage;
 use std::alloc::Global;
 use std::process::Abort;
+
+/// A prepared mapping of such an image.
+type Prepared = PreparedDataMapping<<Raw<MemStorage> as FormatDriverInstance>::State>;
+
+/// Prepares 4 bytes at offset 2.
+fn prepare(rt: &impl Abort, alloc: Global, image: &mut MemImage) -> Result<Prepared, Error> {
+    assert!(rt; is_spent(image));
+    image.prepare_data_mapping(alloc, 2, 4, false)
+}
+
+/// Writes the bytes that fit into a mapping.
+fn write_inside(
+    rt: &impl Abort,
+    alloc: Global,
+    image: &mut MemImage,
+    mapping: &Prepared,
+    source: &[u8],
+) -> Result<(), Error> {
+    if source.len() as u64 <= mapping.length() {
+        return image.write_prepared(alloc, mapping, source, 0);
+    }
+    image.write_prepared(alloc, mapping, &source[..mapping.length() as usize], 0)
+}
+
+/// Commits a mapping, or cancels it.
+fn spend(image: &mut MemImage, mapping: Prepared, commits: bool) -> Result<(), Error> {
+    if commits {
+        return image.commit_data_mapping(mapping);
+    }
+    image.cancel_data_mapping(mapping);
+    Ok(())
+}
 
 /// Prepares 4 bytes at offset 2, writes into them, and spends the mapping. Answers its length, and whether it has
 /// nothing to commit.
@@ -15,86 +48,74 @@ fn prepare_and_spend(
     source: &[u8],
     commits: bool,
 ) -> Result<(u64, bool), Error> {
-    assert!(rt; is_spent(image));
-    let mapping = image.prepare_data_mapping(alloc, 2, 4, false)?;
+    let mapping = prepare(rt, alloc, image)?;
     let told = (mapping.length(), mapping.is_nonblocking());
-    let written = write_inside(image, alloc, &mapping, source);
-    if !commits {
-        image.cancel_data_mapping(mapping);
-        written?;
-        return Ok(told);
-    }
-    image.commit_data_mapping(mapping)?;
+    let written = write_inside(rt, alloc, image, &mapping, source);
+    spend(image, mapping, commits)?;
     written?;
     Ok(told)
 }
 
-/// Writes the bytes that fit into a mapping.
-fn write_inside<D: FormatDriverInstance>(
-    image: &mut FormatAccess<D>,
+/// Maps a range for overwriting.
+fn overwritten(
+    rt: &impl Abort,
     alloc: Global,
-    mapping: &PreparedDataMapping<D::State>,
-    source: &[u8],
-) -> Result<(), Error> {
-    if source.len() as u64 <= mapping.length() {
-        return image.write_prepared(alloc, mapping, source, 0);
-    }
-    image.write_prepared(alloc, mapping, &source[..mapping.length() as usize], 0)
+    image: &mut MemImage,
+    offset: u64,
+    count: u64,
+) -> Result<(usize, u64, u64), Error> {
+    assert!(rt; is_spent(image));
+    image.ensure_data_mapping(alloc, offset, count, true)
 }
 
 #[test]
 fn bytes_without_a_commit_state_show_at_once(rt: HostRuntime) {
     let alloc = rt.alloc();
     let mut image = image_of(&rt, alloc, &[0; 8], true);
-    assert_eq!(rt;
-        prepare_and_spend(&rt, alloc, &mut image, &[0xaa, 0xbb], false),
-        Ok((4, true))
-    );
-    assert_eq!(rt;
-        read_back(&rt, alloc, &image, 0),
-        [0, 0, 0xaa, 0xbb, 0, 0, 0, 0]
-    );
-    assert_eq!(rt;
-        prepare_and_spend(&rt, alloc, &mut image, &[1, 2, 3, 4, 5], true),
-        Ok((4, true))
-    );
-    assert_eq!(rt; read_back(&rt, alloc, &image, 0), [0, 0, 1, 2, 3, 4, 0, 0]);
-    assert!(rt; is_spent(&image));
-    assert_eq!(rt; image.ensure_data_mapping(alloc, 5, 2, true), Ok((0, 5, 2)));
+    let told = prepare_and_spend(&rt, alloc, &mut image, &[0xaa, 0xbb], false);
+    assert_eq!(rt; told, Ok((4, true)));
+    reads(&rt, alloc, &image, 0, &[0, 0, 0xaa, 0xbb, 0, 0, 0, 0]);
+    let told = prepare_and_spend(&rt, alloc, &mut image, &[1, 2, 3, 4, 5], true);
+    assert_eq!(rt; told, Ok((4, true)));
+    reads(&rt, alloc, &image, 0, &[0, 0, 1, 2, 3, 4, 0, 0]);
+    assert_eq!(rt; overwritten(&rt, alloc, &mut image, 5, 2), Ok((0, 5, 2)));
+}
+
+/// Writes a byte into a mapping that isn't the image's, and cancels it.
+fn write_into(
+    rt: &impl Abort,
+    alloc: Global,
+    image: &mut MemImage,
+    offset: u64,
+) -> Result<(), Error> {
+    let given = PreparedDataMapping::existing(0, offset, 4);
+    let answer = image.write_prepared(alloc, &given, &[1], 0);
+    image.cancel_data_mapping(given);
+    answer
 }
 
 #[test]
 fn mappings_of_others_change_nothing(rt: HostRuntime) {
     let alloc = rt.alloc();
     let mut image = image_of(&rt, alloc, &[0; 8], true);
-    let outside = PreparedDataMapping::existing(0, 100, 4);
-    let answer = image.write_prepared(alloc, &outside, &[1], 0);
-    image.cancel_data_mapping(outside);
-    assert_eq!(rt; answer, Err(Error::ForeignMapping));
-    let foreign = PreparedDataMapping::to_commit(0, 0, 4, ());
-    assert_eq!(rt;
-        image.commit_data_mapping(foreign),
-        Err(Error::ForeignMapping)
-    );
-    assert_eq!(rt; read_back(&rt, alloc, &image, 0), [0; 8]);
+    let foreign = Err(Error::ForeignMapping);
+    assert_eq!(rt; write_into(&rt, alloc, &mut image, 100), foreign);
+    let given = PreparedDataMapping::to_commit(0, 0, 4, ());
+    assert_eq!(rt; spend(&mut image, given, true), foreign);
+    reads(&rt, alloc, &image, 0, &[0; 8]);
 }
 
 #[test]
 fn a_read_only_image_takes_no_prepared_write(rt: HostRuntime) {
     let alloc = rt.alloc();
     let mut image = image_of(&rt, alloc, &[5; 4], false);
-    let given = PreparedDataMapping::existing(0, 0, 4);
-    let answer = image.write_prepared(alloc, &given, &[1], 0);
-    image.cancel_data_mapping(given);
-    assert_eq!(rt; answer, Err(Error::ForeignMapping));
     assert_eq!(rt;
-        prepare_and_spend(&rt, alloc, &mut image, &[1], true),
-        Err(Error::ReadOnly)
+        write_into(&rt, alloc, &mut image, 0),
+        Err(Error::ForeignMapping)
     );
-    assert!(rt; is_spent(&image));
-    assert_eq!(rt;
-        image.ensure_data_mapping(alloc, 0, 4, true),
-        Err(Error::ReadOnly)
-    );
-    assert_eq!(rt; read_back(&rt, alloc, &image, 0), [5; 4]);
+    let told = prepare_and_spend(&rt, alloc, &mut image, &[1], true);
+    assert_eq!(rt; told, Err(Error::ReadOnly));
+    let refused = Err(Error::ReadOnly);
+    assert_eq!(rt; overwritten(&rt, alloc, &mut image, 0, 4), refused);
+    reads(&rt, alloc, &image, 0, &[5; 4]);
 }

@@ -1,5 +1,5 @@
 //! Lists of calls.
-use super::set_up::{copied, image_of, is_spent, printed, read_back};
+use super::set_up::{MemImage, copied, image_of, is_spent, printed, reads};
 use crate::run::{Call, Reply, run};
 use imago_drivers::drivers::PreallocateMode;
 use imago_storage::error::Error;
@@ -21,6 +21,29 @@ impl Display for Told<'_> {
             Reply::Refused(error) => write!(f, "{error:?}"),
         }
     }
+}
+
+/// The reply to a call is told so.
+fn is_told(rt: &impl Abort, alloc: Global, call: usize, reply: &Reply, expected: &str) {
+    let told = printed(rt, alloc, &Told(reply));
+    assert_eq!(rt; told.as_str(), expected, "to call {call}");
+}
+
+/// Makes the calls, unless memory for the replies is refused. Answers whether it did: if not, no reply is appended.
+fn makes(
+    rt: &impl Abort,
+    alloc: Global,
+    image: &mut MemImage,
+    calls: &[Call],
+    replies: &mut Vec<Reply>,
+) -> bool {
+    assert!(rt; is_spent(image));
+    let before = replies.len();
+    if run(alloc, image, calls, replies).is_ok() {
+        return true;
+    }
+    assert_eq!(rt; replies.len(), before);
+    false
 }
 
 /// The calls of a run on an image of 4 zeroes.
@@ -89,8 +112,7 @@ const REPLIES: [&str; 15] = [
 fn replies_of_a_run(rt: &impl Abort, alloc: Global) -> Option<Vec<Reply>> {
     let mut image = image_of(rt, alloc, &[0; 4], true);
     let mut replies = Vec::new(alloc);
-    assert!(rt; is_spent(&image));
-    if run(alloc, &mut image, &calls(rt, alloc), &mut replies).is_err() {
+    if !makes(rt, alloc, &mut image, &calls(rt, alloc), &mut replies) {
         return None;
     }
     for reply in &replies {
@@ -110,8 +132,7 @@ fn each_call_has_its_reply(rt: HostRuntime) {
     };
     assert_eq!(rt; replies.len(), 15);
     for i in 0..15 {
-        let told = printed(&rt, alloc, &Told(&replies[i]));
-        assert_eq!(rt; told.as_str(), REPLIES[i], "to call {i}");
+        is_told(&rt, alloc, i, &replies[i], REPLIES[i]);
     }
 }
 
@@ -130,18 +151,12 @@ fn a_run_appends_and_goes_on_after_a_refusal(rt: HostRuntime) {
     let calls = [longest, write, Call::Size];
     let mut replies = Vec::new(alloc);
     for _ in 0..3 {
-        assert!(rt; is_spent(&image));
-        let before = replies.len();
-        match run(alloc, &mut image, &calls, &mut replies) {
-            Ok(()) => {}
-            Err(_) => assert_eq!(rt; replies.len(), before),
-        }
+        let _ = makes(&rt, alloc, &mut image, &calls, &mut replies);
     }
     assert!(rt; replies.len() >= 6);
     let told = ["Memory", "ReadOnly", "size 4"];
     for i in 0..6 {
-        let reply = printed(&rt, alloc, &Told(&replies[i]));
-        assert_eq!(rt; reply.as_str(), told[i % 3], "reply {i}");
+        is_told(&rt, alloc, i, &replies[i], told[i % 3]);
     }
-    assert_eq!(rt; read_back(&rt, alloc, &image, 0), [1, 2, 3, 4]);
+    reads(&rt, alloc, &image, 0, &[1, 2, 3, 4]);
 }

@@ -1,6 +1,7 @@
 //! What the tests share: images to start from, and calls that go on after a refusal for memory.
 //!
 //! A test's run refuses one request for memory at most. So what is refused is tried again, and has its memory then.
+//! What makes a call has no clauses and is about one type of images: so the proofs of the tests stay short.
 ghost use Rattle.std.specs.Prelude.{◌≡◌, IsTrue, None};
 ghost use Rattle.imago_access.specs.Chain.{driver};
 
@@ -9,13 +10,16 @@ use imago_drivers::drivers::{FormatDriverInstance, PreallocateMode};
 use imago_drivers::raw::Raw;
 use imago_storage::error::Error;
 use imago_storage::mem::MemStorage;
-use imago_storage::storage::Storage;
+use imago_storage::null::Null;
 use std::alloc::Global;
 use std::fmt::Display;
 use std::process::Abort;
 
 /// An image in memory.
 pub(super) type MemImage = FormatAccess<Raw<MemStorage>>;
+
+/// An image of zeroes.
+pub(super) type NullImage = FormatAccess<Raw<Null>>;
 
 /// Whether a changing call may be made: no prepared mapping waits to be spent.
 pub(super) fn is_spent<D: FormatDriverInstance>(image: &FormatAccess<D>) -> bool
@@ -40,14 +44,29 @@ pub(super) fn printed<T: Display>(rt: &impl Abort, alloc: Global, value: &T) -> 
     }
 }
 
+/// A storage of these bytes.
+pub(super) fn storing(rt: &impl Abort, alloc: Global, bytes: &[u8]) -> MemStorage {
+    MemStorage::new(copied(rt, alloc, bytes))
+}
+
 /// The driver of the raw image that a storage is.
-pub(super) fn raw<S: Storage>(rt: &impl Abort, storage: S, writable: bool) -> Raw<S> {
+pub(super) fn raw(rt: &impl Abort, storage: MemStorage, writable: bool) -> Raw<MemStorage> {
     Raw::open_image(storage, writable).expect(rt, "a raw image")
+}
+
+/// The raw image that a storage is.
+pub(super) fn image_on(rt: &impl Abort, storage: MemStorage, writable: bool) -> MemImage {
+    FormatAccess::new(raw(rt, storage, writable))
 }
 
 /// A raw image of these bytes.
 pub(super) fn image_of(rt: &impl Abort, alloc: Global, bytes: &[u8], writable: bool) -> MemImage {
-    FormatAccess::new(raw(rt, MemStorage::new(copied(rt, alloc, bytes)), writable))
+    image_on(rt, storing(rt, alloc, bytes), writable)
+}
+
+/// A raw image of that many zeroes.
+pub(super) fn null_image(rt: &impl Abort, size: u64, writable: bool) -> NullImage {
+    FormatAccess::new(Raw::open_image(Null::new(size), writable).expect(rt, "a raw image"))
 }
 
 /// The bytes of an image's storage.
@@ -58,62 +77,93 @@ pub(super) fn stored(image: &MemImage) -> &[u8] {
     }
 }
 
-/// Reads so many bytes, and no other error than for memory.
-pub(super) fn read_back<D: FormatDriverInstance, const N: usize>(
+/// The disk has that size.
+pub(super) fn has_size(rt: &impl Abort, image: &MemImage, expected: u64) {
+    assert_eq!(rt; image.size(), expected);
+}
+
+/// From the offset on, these bytes are read: 8 at most.
+pub(super) fn reads(
     rt: &impl Abort,
     alloc: Global,
-    image: &FormatAccess<D>,
+    image: &MemImage,
     offset: u64,
-) -> [u8; N] {
-    let mut buf = [0x77; N];
+    expected: &[u8],
+) {
+    let mut buf = [0x77; 8];
+    let count = expected.len();
+    assert!(rt; count <= 8);
+    let mut answer = image.read(alloc, &mut buf[..count], offset);
+    if answer == Err(Error::Memory) {
+        answer = image.read(alloc, &mut buf[..count], offset);
+    }
+    assert_eq!(rt; answer, Ok(()));
+    assert_eq!(rt; &buf[..count], expected);
+}
+
+/// Of an image of zeroes, two zeroes are read from the offset on.
+pub(super) fn reads_zeroes(rt: &impl Abort, alloc: Global, image: &NullImage, offset: u64) {
+    let mut buf = [0x77; 2];
     let mut answer = image.read(alloc, &mut buf, offset);
     if answer == Err(Error::Memory) {
         answer = image.read(alloc, &mut buf, offset);
     }
     assert_eq!(rt; answer, Ok(()));
-    buf
+    assert_eq!(rt; buf, [0, 0]);
 }
 
-/// Writes bytes.
-pub(super) fn write<D: FormatDriverInstance>(
+/// A write.
+fn write(
     rt: &impl Abort,
     alloc: Global,
-    image: &mut FormatAccess<D>,
+    image: &mut MemImage,
     source: &[u8],
     offset: u64,
 ) -> Result<(), Error> {
     assert!(rt; is_spent(image));
-    let answer = image.write(alloc, source, offset);
-    if answer != Err(Error::Memory) {
-        return answer;
-    }
-    assert!(rt; is_spent(image));
     image.write(alloc, source, offset)
 }
 
-/// Grows the disk.
-pub(super) fn grow<D: FormatDriverInstance>(
+/// A write has that answer.
+pub(super) fn writes(
     rt: &impl Abort,
     alloc: Global,
-    image: &mut FormatAccess<D>,
-    new_size: u64,
+    image: &mut MemImage,
+    source: &[u8],
+    offset: u64,
+    expected: Result<(), Error>,
+) {
+    let mut answer = write(rt, alloc, image, source, offset);
+    if answer == Err(Error::Memory) {
+        answer = write(rt, alloc, image, source, offset);
+    }
+    assert_eq!(rt; answer, expected);
+}
+
+/// A growth.
+fn grow(
+    rt: &impl Abort,
+    alloc: Global,
+    image: &mut MemImage,
+    size: u64,
     mode: PreallocateMode,
 ) -> Result<(), Error> {
     assert!(rt; is_spent(image));
-    let answer = image.resize_grow(alloc, new_size, mode);
-    if answer != Err(Error::Memory) {
-        return answer;
-    }
-    assert!(rt; is_spent(image));
-    image.resize_grow(alloc, new_size, mode)
+    image.resize_grow(alloc, size, mode)
 }
 
-/// Cuts the disk.
-pub(super) fn shrink<D: FormatDriverInstance>(
+/// A growth to that size has that answer.
+pub(super) fn grows(
     rt: &impl Abort,
-    image: &mut FormatAccess<D>,
-    new_size: u64,
-) -> Result<(), Error> {
-    assert!(rt; is_spent(image));
-    image.resize_shrink(new_size)
+    alloc: Global,
+    image: &mut MemImage,
+    size: u64,
+    mode: PreallocateMode,
+    expected: Result<(), Error>,
+) {
+    let mut answer = grow(rt, alloc, image, size, mode);
+    if answer == Err(Error::Memory) {
+        answer = grow(rt, alloc, image, size, mode);
+    }
+    assert_eq!(rt; answer, expected);
 }

@@ -1,8 +1,6 @@
 //! Printed texts.
-use super::set_up::{image_of, printed, raw};
-use crate::access::FormatAccess;
+use super::set_up::{image_of, null_image, printed};
 use crate::mapping::Mapping;
-use imago_storage::null::Null;
 
 /// Mappings, and how each is printed.
 const MAPPINGS: [(Mapping, &str); 6] = [
@@ -38,8 +36,9 @@ const MAPPINGS: [(Mapping, &str); 6] = [
 
 #[test]
 fn mappings_are_printed(rt: HostRuntime) {
+    let alloc = rt.alloc();
     for (mapping, text) in MAPPINGS {
-        assert_eq!(rt; printed(&rt, rt.alloc(), &mapping).as_str(), text);
+        assert_eq!(rt; printed(&rt, alloc, &mapping).as_str(), text);
     }
 }
 
@@ -48,6 +47,6 @@ fn images_are_printed_as_their_drivers(rt: HostRuntime) {
     let alloc = rt.alloc();
     let image = image_of(&rt, alloc, &[0; 8], true);
     assert_eq!(rt; printed(&rt, alloc, &image).as_str(), "raw[mem:[8B]]");
-    let null = FormatAccess::new(raw(&rt, Null::new(7), false));
+    let null = null_image(&rt, 7, false);
     assert_eq!(rt; printed(&rt, alloc, &null).as_str(), "raw[null:[7B]]");
 }
