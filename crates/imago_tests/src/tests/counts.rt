@@ -1,7 +1,9 @@
 //! What one write reads and writes at its storage.
-use super::set_up::{opened, runs, stored};
+use super::set_up::{in_blocks, runs, stored};
 use crate::counting::{Counting, Counts};
+use imago_access::access::FormatAccess;
 use imago_drivers::drivers::FormatDriverInstance;
+use imago_drivers::raw::Raw;
 use imago_storage::error::Error;
 use imago_storage::ext::StorageExt;
 use imago_storage::storage::Storage;
@@ -10,7 +12,7 @@ use std::process::Abort;
 
 /// A storage of 20000 bytes in blocks of 4096.
 fn counting(rt: &impl Abort, alloc: Global) -> Counting {
-    Counting::new(stored(rt, alloc, &[(20000, 0xa5)]).with_align(4096))
+    Counting::new(in_blocks(rt, stored(rt, alloc, &[(20000, 0xa5)]), 4096))
 }
 
 /// Whether that range has the source's byte, and all others theirs.
@@ -26,11 +28,14 @@ fn has_written(bytes: &[u8], count: usize, offset: u64) -> bool {
     true
 }
 
-/// The calls of one write at the storage. `None` where memory was refused.
-fn counted(rt: &impl Abort, alloc: Global, count: usize, offset: u64) -> Option<Counts> {
-    let mut storage = counting(rt, alloc);
-    let source = runs(rt, alloc, &[(count, 0x3c)]);
-    let answer = storage.write(alloc, &source, offset);
+/// What a write of that range was answered and counted. `None` where memory was refused.
+fn counted(
+    rt: &impl Abort,
+    storage: &Counting,
+    answer: Result<(), Error>,
+    count: usize,
+    offset: u64,
+) -> Option<Counts> {
     if answer == Err(Error::Memory) {
         return None;
     }
@@ -42,21 +47,22 @@ fn counted(rt: &impl Abort, alloc: Global, count: usize, offset: u64) -> Option<
     Some(storage.counts())
 }
 
+/// The calls of one write at the storage. `None` where memory was refused.
+fn write(rt: &impl Abort, alloc: Global, count: usize, offset: u64) -> Option<Counts> {
+    let mut storage = counting(rt, alloc);
+    let source = runs(rt, alloc, &[(count, 0x3c)]);
+    let answer = storage.write(alloc, &source, offset);
+    counted(rt, &storage, answer, count, offset)
+}
+
 /// The same write through an image.
-fn counted_by_image(rt: &impl Abort, alloc: Global, count: usize, offset: u64) -> Option<Counts> {
-    let mut image = opened(rt, counting(rt, alloc));
+fn write_by_image(rt: &impl Abort, alloc: Global, count: usize, offset: u64) -> Option<Counts> {
+    let raw = Raw::open_image(counting(rt, alloc), true).expect(rt, "a driver");
+    let mut image = FormatAccess::new(raw);
     let source = runs(rt, alloc, &[(count, 0x3c)]);
     let answer = image.write(alloc, &source, offset);
-    if answer == Err(Error::Memory) {
-        return None;
-    }
-    assert_eq!(rt; answer, Ok(()));
     let storage = image.inner().storage(0).expect(rt, "a raw image's storage");
-    assert!(rt;
-        has_written(storage.as_bytes(), count, offset),
-        "{count} at {offset}"
-    );
-    Some(storage.counts())
+    counted(rt, storage, answer, count, offset)
 }
 
 /// Reads and writes, and the bytes of each.
@@ -84,9 +90,9 @@ fn rows() -> [(usize, u64, Counts); 5] {
 fn only_partly_written_blocks_are_read(rt: HostRuntime) {
     let alloc = rt.alloc();
     for (count, offset, expected) in rows() {
-        let counts = match counted(&rt, alloc, count, offset) {
+        let counts = match write(&rt, alloc, count, offset) {
             Some(counts) => Some(counts),
-            None => counted(&rt, alloc, count, offset),
+            None => write(&rt, alloc, count, offset),
         };
         assert_eq!(rt; counts, Some(expected), "{count} at {offset}");
     }
@@ -96,22 +102,37 @@ fn only_partly_written_blocks_are_read(rt: HostRuntime) {
 fn an_image_writes_no_more_than_its_storage(rt: HostRuntime) {
     let alloc = rt.alloc();
     for (count, offset, expected) in rows() {
-        let counts = match counted_by_image(&rt, alloc, count, offset) {
+        let counts = match write_by_image(&rt, alloc, count, offset) {
             Some(counts) => Some(counts),
-            None => counted_by_image(&rt, alloc, count, offset),
+            None => write_by_image(&rt, alloc, count, offset),
         };
         assert_eq!(rt; counts, Some(expected), "{count} at {offset}");
     }
+}
+
+/// Zeroes a range.
+fn zero(alloc: Global, storage: &mut Counting, offset: u64, count: u64) -> Result<(), Error> {
+    storage.write_zeroes(alloc, offset, count)
+}
+
+/// Reads bytes of the storage.
+fn read(alloc: Global, storage: &Counting, buf: &mut [u8], offset: u64) -> Result<(), Error> {
+    storage.read(alloc, buf, offset)
+}
+
+/// The storage has that length and those counts.
+fn is_left(rt: &impl Abort, storage: &Counting, size: u64, counts: Counts) {
+    assert_eq!(rt; storage.size(), Ok(size));
+    assert_eq!(rt; storage.counts(), counts);
 }
 
 #[test]
 fn shared_reads_and_zero_writes_are_not_counted(rt: HostRuntime) {
     let alloc = rt.alloc();
     let mut storage = counting(&rt, alloc);
-    assert_eq!(rt; storage.write_zeroes(alloc, 4096, 8192), Ok(()));
+    assert_eq!(rt; zero(alloc, &mut storage, 4096, 8192), Ok(()));
     let mut buf = [1; 4096];
-    assert_eq!(rt; storage.read(alloc, &mut buf, 8192), Ok(()));
+    assert_eq!(rt; read(alloc, &storage, &mut buf, 8192), Ok(()));
     assert_eq!(rt; buf, [0; 4096]);
-    assert_eq!(rt; storage.counts(), row(0, 0, 0, 0));
-    assert_eq!(rt; storage.size(), Ok(20000));
+    is_left(&rt, &storage, 20000, row(0, 0, 0, 0));
 }

@@ -1,59 +1,73 @@
 //! Images over a storage that fails at one call.
-use super::set_up::{opened, read_back, runs, storage_of, stored};
+use super::set_up::{
+    Image, Step, faulty, in_blocks, inside, is_left, make, opened, runs, storage_of, stored, zero,
+};
 use crate::faulty::{Faulty, Tear};
-use imago_access::access::FormatAccess;
 use imago_access::mapping::Mapping;
 use imago_access::run::{Call, Reply, run};
 use imago_drivers::drivers::{FormatDriverInstance, PreallocateMode};
 use imago_drivers::raw::Raw;
 use imago_storage::error::Error;
-use imago_storage::ext::StorageExt;
 use std::alloc::Global;
 use std::mem::replace;
 use std::process::Abort;
 
-/// The size of the disk, and the length of its storage.
-fn sizes(rt: &impl Abort, image: &FormatAccess<Raw<Faulty>>) -> (u64, usize) {
-    (image.size(), storage_of(rt, image).as_bytes().len())
+/// The disk and its storage have that size.
+fn is_long(rt: &impl Abort, image: &Image, expected: u64) {
+    let (size, storage) = inside(rt, image);
+    assert_eq!(rt; size, expected);
+    assert_eq!(rt; storage.as_bytes().len() as u64, expected);
+}
+
+/// Grows a disk of that size, or cuts it.
+fn resize(alloc: Global, image: &mut Image, before: u64, size: u64) -> Result<(), Error> {
+    let step = if size < before {
+        Step::Shrink(size)
+    } else {
+        Step::Grow(size)
+    };
+    make(alloc, image, step)
+}
+
+/// A growth or a cut is answered like that, and leaves that size. Where memory is refused, the size is as it was.
+fn resizes(
+    rt: &impl Abort,
+    alloc: Global,
+    image: &mut Image,
+    size: u64,
+    expected: Result<(), Error>,
+    left: u64,
+) {
+    let (before, _) = inside(rt, image);
+    let mut answer = resize(alloc, image, before, size);
+    if answer == Err(Error::Memory) {
+        is_long(rt, image, before);
+        answer = resize(alloc, image, before, size);
+    }
+    assert_eq!(rt; answer, expected);
+    is_long(rt, image, left);
 }
 
 #[test]
 fn a_refused_resize_changes_neither_size(rt: HostRuntime) {
     let alloc = rt.alloc();
-    let mut storage = Faulty::new(stored(&rt, alloc, &[(1024, 0)]));
+    let mut storage = faulty(&rt, alloc, &[(1024, 0)]);
     storage.refuse_resizes(2);
     let mut image = opened(&rt, storage);
-    assert_eq!(rt;
-        image.resize_grow(alloc, 2048, PreallocateMode::None),
-        Err(Error::Device)
-    );
-    assert_eq!(rt; sizes(&rt, &image), (1024, 1024));
-    assert_eq!(rt; image.resize_shrink(512), Err(Error::Device));
-    assert_eq!(rt; sizes(&rt, &image), (1024, 1024));
+    resizes(&rt, alloc, &mut image, 2048, Err(Error::Device), 1024);
+    resizes(&rt, alloc, &mut image, 512, Err(Error::Device), 1024);
     assert_eq!(rt; storage_of(&rt, &image).faults(), 2);
-    let mut grown = image.resize_grow(alloc, 2048, PreallocateMode::None);
-    if grown == Err(Error::Memory) {
-        assert_eq!(rt; sizes(&rt, &image), (1024, 1024));
-        grown = image.resize_grow(alloc, 2048, PreallocateMode::None);
-    }
-    assert_eq!(rt; grown, Ok(()));
-    assert_eq!(rt; sizes(&rt, &image), (2048, 2048));
-    assert_eq!(rt; image.resize_shrink(512), Ok(()));
-    assert_eq!(rt; sizes(&rt, &image), (512, 512));
+    resizes(&rt, alloc, &mut image, 2048, Ok(()), 2048);
+    resizes(&rt, alloc, &mut image, 512, Ok(()), 512);
 }
 
 /// Ten zeroes at 3 of an image of 16 bytes ff in blocks of 8, over a storage that is armed. The calls are the read and
 /// the write of the first block, then those of the last.
-fn ten_zeroes(
-    rt: &impl Abort,
-    alloc: Global,
-    pass: u64,
-    tear: Tear,
-) -> (FormatAccess<Raw<Faulty>>, Result<(), Error>) {
-    let mut storage = Faulty::new(stored(rt, alloc, &[(16, 0xff)]).with_align(8));
+fn ten_zeroes(rt: &impl Abort, alloc: Global, pass: u64, tear: Tear) -> (Image, Result<(), Error>) {
+    let mut storage = Faulty::new(in_blocks(rt, stored(rt, alloc, &[(16, 0xff)]), 8));
     storage.arm(pass, tear);
     let mut image = opened(rt, storage);
-    let answer = image.write(alloc, &[0; 10], 3);
+    let answer = make(alloc, &mut image, Step::Write(&[0; 10], 3));
     (image, answer)
 }
 
@@ -69,7 +83,7 @@ fn leaves(
     let (mut image, mut answer) = ten_zeroes(rt, alloc, pass, tear);
     if answer == Err(Error::Memory) {
         // the block of memory is taken before the first call
-        assert_eq!(rt; storage_of(rt, &image).as_bytes(), [0xff; 16].as_slice());
+        is_left(rt, storage_of(rt, &image), &[0xff; 16], 0);
         let (next, reply) = ten_zeroes(rt, alloc, pass, tear);
         image = next;
         answer = reply;
@@ -81,13 +95,8 @@ fn leaves(
             left[offset] = 0;
         }
     }
-    assert_eq!(rt;
-        storage_of(rt, &image).as_bytes(),
-        left.as_slice(),
-        "{pass}"
-    );
     let faults = if expected == Ok(()) { 0 } else { 1 };
-    assert_eq!(rt; storage_of(rt, &image).faults(), faults, "{pass}");
+    is_left(rt, storage_of(rt, &image), &left, faults);
 }
 
 #[test]
@@ -102,41 +111,57 @@ fn a_write_stops_at_each_call(rt: HostRuntime) {
     leaves(&rt, alloc, 4, Tear::All, Ok(()), &whole);
 }
 
+/// The storage of an image, in whose place another driver is put.
+fn taken_out(rt: &impl Abort, alloc: Global, image: &mut Image) -> Faulty {
+    let other = Raw::open_image(faulty(rt, alloc, &[(1, 0)]), true).expect(rt, "a driver");
+    replace(image.inner_mut(), other).into_inner()
+}
+
 #[test]
 fn a_read_fails_and_a_write_does_not(rt: HostRuntime) {
     let alloc = rt.alloc();
-    let mut storage = Faulty::new(stored(&rt, alloc, &[(4, 0xff)]));
+    let mut storage = faulty(&rt, alloc, &[(4, 0xff)]);
     storage.fail_reads(true);
     let mut image = opened(&rt, storage);
     let mut buf = [0; 4];
-    assert_eq!(rt; image.read(alloc, &mut buf, 0), Err(Error::Device));
-    assert_eq!(rt; image.write(alloc, &[1, 2], 1), Ok(()));
-    // another driver takes the place of the image's, whose storage comes back
-    let other = Faulty::new(stored(&rt, alloc, &[(1, 0)]));
-    let other = Raw::open_image(other, true).expect(&rt, "a driver");
-    let mut storage = replace(image.inner_mut(), other).into_inner();
+    assert_eq!(rt;
+        make(alloc, &mut image, Step::Read(&mut buf, 0)),
+        Err(Error::Device)
+    );
+    assert_eq!(rt; make(alloc, &mut image, Step::Write(&[1, 2], 1)), Ok(()));
+    let mut storage = taken_out(&rt, alloc, &mut image);
     storage.fail_reads(false);
-    let image = opened(&rt, storage);
-    let read = read_back(&rt, alloc, &image, 4, 0);
-    assert_eq!(rt; read.as_slice(), [0xff, 1, 2, 0xff].as_slice());
+    let mut image = opened(&rt, storage);
+    assert_eq!(rt; make(alloc, &mut image, Step::Read(&mut buf, 0)), Ok(()));
+    assert_eq!(rt; buf, [0xff, 1, 2, 0xff]);
     assert_eq!(rt; storage_of(&rt, &image).faults(), 0);
+}
+
+/// Reads bytes at 3 by a driver whose storage is lent to it.
+fn read_by_driver(
+    rt: &impl Abort,
+    alloc: Global,
+    storage: &mut Faulty,
+    buf: &mut [u8],
+) -> Result<(), Error> {
+    let raw = Raw::open_image(storage, false).expect(rt, "a driver");
+    raw.read_mapped(alloc, 0, buf, 3)
 }
 
 #[test]
 fn a_driver_reads_a_storage_that_is_lent(rt: HostRuntime) {
     let alloc = rt.alloc();
-    let mut storage = Faulty::new(stored(&rt, alloc, &[(4, 0xff)]));
-    storage.fail_reads(true);
+    let mut storage = faulty(&rt, alloc, &[(4, 0xff)]);
     let mut buf = [0; 2];
-    let raw = Raw::open_image(&mut storage, false).expect(&rt, "a driver");
-    assert_eq!(rt; raw.read_mapped(alloc, 0, &mut buf, 3), Err(Error::Device));
-    drop(raw);
+    storage.fail_reads(true);
+    assert_eq!(rt;
+        read_by_driver(&rt, alloc, &mut storage, &mut buf),
+        Err(Error::Device)
+    );
     storage.fail_reads(false);
-    let raw = Raw::open_image(&mut storage, false).expect(&rt, "a driver");
-    assert_eq!(rt; raw.read_mapped(alloc, 0, &mut buf, 3), Ok(()));
+    assert_eq!(rt; read_by_driver(&rt, alloc, &mut storage, &mut buf), Ok(()));
     assert_eq!(rt; buf, [0xff, 0]);
-    drop(raw);
-    assert_eq!(rt; storage.write_zeroes(alloc, 0, 4), Ok(()));
+    assert_eq!(rt; zero(alloc, &mut storage, 0, 4), Ok(()));
     assert_eq!(rt; storage.as_bytes(), [0; 4].as_slice());
 }
 
@@ -243,23 +268,30 @@ fn lacked_memory(replies: &[Reply]) -> bool {
     false
 }
 
+/// The replies to the calls. `None` where there was no room for them.
+fn run_all(alloc: Global, image: &mut Image, calls: &[Call]) -> Option<Vec<Reply>> {
+    let mut replies = Vec::new(alloc);
+    match run(alloc, image, calls, &mut replies) {
+        Ok(()) => Some(replies),
+        Err(_) => None,
+    }
+}
+
 /// The replies to a run of the calls, and the bytes that the storage has then. `None` where memory was refused.
 fn replies_to(rt: &impl Abort, alloc: Global, calls: &[Call]) -> Option<Vec<Reply>> {
-    let mut storage = Faulty::new(stored(rt, alloc, &[(16, 0xff)]).with_align(8));
+    let mut storage = Faulty::new(in_blocks(rt, stored(rt, alloc, &[(16, 0xff)]), 8));
     storage.arm(1, Tear::First(4));
     storage.refuse_resizes(1);
     let mut image = opened(rt, storage);
-    let mut replies = Vec::new(alloc);
-    if run(alloc, &mut image, calls, &mut replies).is_err() {
+    let Some(replies) = run_all(alloc, &mut image, calls) else {
         assert_eq!(rt; storage_of(rt, &image).faults(), 0);
         return None;
-    }
+    };
     if lacked_memory(&replies) {
         return None;
     }
     let left = runs(rt, alloc, &[(3, 0xff), (10, 0), (1, 0xff)]);
-    assert_eq!(rt; storage_of(rt, &image).as_bytes(), left.as_slice());
-    assert_eq!(rt; storage_of(rt, &image).faults(), 2);
+    is_left(rt, storage_of(rt, &image), &left, 2);
     Some(replies)
 }
 

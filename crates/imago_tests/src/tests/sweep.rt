@@ -1,12 +1,10 @@
 //! A failure at each call of a change, with each tear, over several alignments.
-use super::set_up::{opened, runs, storage_of};
+use super::set_up::{
+    Image, Step, in_blocks, make, opened, runs, storage_of, store, zero, zero_allocated,
+};
 use crate::faulty::{Faulty, Tear};
-use imago_access::access::FormatAccess;
-use imago_drivers::raw::Raw;
 use imago_storage::error::Error;
-use imago_storage::ext::StorageExt;
 use imago_storage::mem::MemStorage;
-use imago_storage::storage::is_alignment;
 use std::alloc::Global;
 use std::process::Abort;
 
@@ -83,7 +81,7 @@ fn is_done(change: Change, bytes: &[u8]) -> bool {
 #[derive(Drop)]
 enum Subject {
     Storage(Faulty),
-    Image(FormatAccess<Raw<Faulty>>),
+    Image(Image),
 }
 
 impl Subject {
@@ -96,9 +94,8 @@ impl Subject {
         pass: u64,
         tear: Tear,
     ) -> Subject {
-        assert!(rt; is_alignment(align));
-        let inner = MemStorage::new(before(rt, alloc)).with_align(align);
-        let mut storage = Faulty::new(inner);
+        let inner = MemStorage::new(before(rt, alloc));
+        let mut storage = Faulty::new(in_blocks(rt, inner, align));
         storage.arm(pass, tear);
         match change {
             Change::Image => Subject::Image(opened(rt, storage)),
@@ -120,21 +117,55 @@ impl Subject {
         let offset = OFFSET as u64;
         let count = COUNT as u64;
         match self {
-            Subject::Image(image) => image.write(alloc, source, offset),
+            Subject::Image(image) => make(alloc, image, Step::Write(source, offset)),
             Subject::Storage(storage) => match change {
-                Change::Image | Change::Write => storage.write(alloc, source, offset),
-                Change::ZeroAllocated => storage.write_allocated_zeroes(alloc, offset, count),
-                Change::Zero | Change::ZeroAsData => storage.write_zeroes(alloc, offset, count),
+                Change::Image | Change::Write => store(alloc, storage, source, offset),
+                Change::ZeroAllocated => zero_allocated(alloc, storage, offset, count),
+                Change::Zero | Change::ZeroAsData => zero(alloc, storage, offset, count),
             },
         }
     }
+
+    /// Makes the change a second time where memory is refused.
+    fn make_for_sure(&mut self, alloc: Global, change: Change, source: &[u8]) -> Result<(), Error> {
+        match self.make(alloc, change, source) {
+            Err(Error::Memory) => self.make(alloc, change, source),
+            answer => answer,
+        }
+    }
+
+    /// Each byte is the old or the new one.
+    fn is_between(&self, rt: &impl Abort, change: Change, pass: u64) {
+        assert!(rt;
+            is_between(change, self.storage(rt).as_bytes()),
+            "refused at {pass}"
+        );
+    }
+
+    /// Each byte is the new one.
+    fn is_done(&self, rt: &impl Abort, change: Change, pass: u64) {
+        assert!(rt;
+            is_done(change, self.storage(rt).as_bytes()),
+            "done at {pass}"
+        );
+    }
+
+    /// The device has failed so often.
+    fn has_failed(&self, rt: &impl Abort, faults: u64) {
+        assert_eq!(rt; self.storage(rt).faults(), faults);
+    }
+}
+
+/// The byte at a place of the range afterwards.
+fn byte_inside(change: Change, place: usize) -> u8 {
+    new_byte(change, OFFSET.saturating_add(place))
 }
 
 /// The bytes that a write of the range writes.
 fn written(rt: &impl Abort, alloc: Global, change: Change) -> Vec<u8> {
     let mut source = runs(rt, alloc, &[(COUNT, 0)]);
     for (i, byte) in source.iter_mut().enumerate() {
-        *byte = new_byte(change, OFFSET.saturating_add(i));
+        *byte = byte_inside(change, i);
     }
     source
 }
@@ -153,36 +184,21 @@ fn is_refused(
     let mut subject = Subject::armed(rt, alloc, align, change, pass, tear);
     let mut answer = subject.make(alloc, change, &source);
     if answer == Err(Error::Memory) {
-        assert!(rt;
-            is_between(change, subject.storage(rt).as_bytes()),
-            "no memory at {pass}"
-        );
+        subject.is_between(rt, change, pass);
         subject = Subject::armed(rt, alloc, align, change, pass, tear);
         answer = subject.make(alloc, change, &source);
     }
     if answer == Ok(()) {
-        assert!(rt;
-            is_done(change, subject.storage(rt).as_bytes()),
-            "done at {pass}"
-        );
-        assert_eq!(rt; subject.storage(rt).faults(), 0);
+        subject.is_done(rt, change, pass);
+        subject.has_failed(rt, 0);
         return false;
     }
     assert_eq!(rt; answer, Err(Error::Device), "{align} {pass}");
-    assert!(rt;
-        is_between(change, subject.storage(rt).as_bytes()),
-        "refused at {pass}"
-    );
-    assert_eq!(rt; subject.storage(rt).faults(), 1);
-    let mut again = subject.make(alloc, change, &source);
-    if again == Err(Error::Memory) {
-        again = subject.make(alloc, change, &source);
-    }
+    subject.is_between(rt, change, pass);
+    subject.has_failed(rt, 1);
+    let again = subject.make_for_sure(alloc, change, &source);
     assert_eq!(rt; again, Ok(()), "{align} {pass}");
-    assert!(rt;
-        is_done(change, subject.storage(rt).as_bytes()),
-        "made again at {pass}"
-    );
+    subject.is_done(rt, change, pass);
     true
 }
 
