@@ -2,7 +2,7 @@
 ghost use Rattle.std.specs.Prelude.{◌≡◌, IsTrue, None};
 ghost use Rattle.imago_access.specs.Chain.{driver};
 
-use super::set_up::{runs, stored};
+use super::set_up::stored;
 use crate::copy_once::CopyOnce;
 use imago_access::access::FormatAccess;
 use imago_access::mapping::Mapping;
