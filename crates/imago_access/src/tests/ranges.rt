@@ -1,6 +1,7 @@
 //! Reads and writes of ranges, at the ends of disks and of offsets.
 use super::set_up::{
-    MemImage, NullImage, has_size, image_of, is_spent, null_image, reads, reads_zeroes, writes,
+    MemImage, NullImage, has_size, image_of, is_spent, null_image, reads, reads_zeroes, write,
+    writes,
 };
 use imago_drivers::drivers::FormatDriverInstance;
 use imago_drivers::layer::LowerLayer;
@@ -65,18 +66,6 @@ fn a_write_past_the_end_changes_nothing(rt: HostRuntime) {
     reads(&rt, alloc, &image, 0, &[1, 2, 3, 4, 0]);
 }
 
-/// A write to an image of zeroes.
-fn write_zeroes(
-    rt: &impl Abort,
-    alloc: Global,
-    image: &mut NullImage,
-    source: &[u8],
-    offset: u64,
-) -> Result<(), Error> {
-    assert!(rt; is_spent(image));
-    image.write(alloc, source, offset)
-}
-
 /// A write to an image of zeroes has that answer.
 fn keeps_zeroes(
     rt: &impl Abort,
@@ -86,11 +75,7 @@ fn keeps_zeroes(
     offset: u64,
     expected: Result<(), Error>,
 ) {
-    let mut answer = write_zeroes(rt, alloc, image, source, offset);
-    if answer == Err(Error::Memory) {
-        answer = write_zeroes(rt, alloc, image, source, offset);
-    }
-    assert_eq!(rt; answer, expected);
+    assert_eq!(rt; write(rt, alloc, image, source, offset), expected);
 }
 
 /// How many bytes of an image of zeroes are mapped to be written.

@@ -112,14 +112,19 @@ pub(super) fn reads_zeroes(rt: &impl Abort, alloc: Global, image: &NullImage, of
     assert_eq!(rt; buf, [0, 0]);
 }
 
-/// A write.
-fn write(
+/// The answer to a write.
+pub(super) fn write<D: FormatDriverInstance>(
     rt: &impl Abort,
     alloc: Global,
-    image: &mut MemImage,
+    image: &mut FormatAccess<D>,
     source: &[u8],
     offset: u64,
 ) -> Result<(), Error> {
+    assert!(rt; is_spent(image));
+    let answer = image.write(alloc, source, offset);
+    if answer != Err(Error::Memory) {
+        return answer;
+    }
     assert!(rt; is_spent(image));
     image.write(alloc, source, offset)
 }
@@ -133,21 +138,22 @@ pub(super) fn writes(
     offset: u64,
     expected: Result<(), Error>,
 ) {
-    let mut answer = write(rt, alloc, image, source, offset);
-    if answer == Err(Error::Memory) {
-        answer = write(rt, alloc, image, source, offset);
-    }
-    assert_eq!(rt; answer, expected);
+    assert_eq!(rt; write(rt, alloc, image, source, offset), expected);
 }
 
-/// A growth.
-fn grow(
+/// The answer to a growth.
+fn grow<D: FormatDriverInstance>(
     rt: &impl Abort,
     alloc: Global,
-    image: &mut MemImage,
+    image: &mut FormatAccess<D>,
     size: u64,
     mode: PreallocateMode,
 ) -> Result<(), Error> {
+    assert!(rt; is_spent(image));
+    let answer = image.resize_grow(alloc, size, mode);
+    if answer != Err(Error::Memory) {
+        return answer;
+    }
     assert!(rt; is_spent(image));
     image.resize_grow(alloc, size, mode)
 }
@@ -161,9 +167,5 @@ pub(super) fn grows(
     mode: PreallocateMode,
     expected: Result<(), Error>,
 ) {
-    let mut answer = grow(rt, alloc, image, size, mode);
-    if answer == Err(Error::Memory) {
-        answer = grow(rt, alloc, image, size, mode);
-    }
-    assert_eq!(rt; answer, expected);
+    assert_eq!(rt; grow(rt, alloc, image, size, mode), expected);
 }
