@@ -91,7 +91,7 @@ fn has(
     Ok(())
 }
 
-/// Layers of these kinds above a raw image of 1024 zeroes, where one mapping is for the first 512 and printed like that.
+/// Above a raw image of 1024 zeroes, layers of these kinds map the first 512 bytes as one, printed like that.
 fn is_mapped_above_zeroes(
     rt: &impl Abort,
     alloc: Global,

@@ -145,12 +145,16 @@ fn each_kind_of_call_is_counted(rt: HostRuntime) {
     assert_eq!(rt; storage.faults(), 2);
 }
 
-/// Whether the first MiB is zero, and each odd byte of the second one, and all others of three are ff.
+/// What is left at an offset: zero in the first MiB, and at each odd offset of the second one.
+fn left_at(offset: usize) -> u8 {
+    let zeroed = offset < 1048576 || offset < 2097152 && offset % 2 == 1;
+    if zeroed { 0 } else { 0xff }
+}
+
+/// Whether three MiB are left, with each byte as it should be.
 fn is_zeroed_into_its_second_piece(bytes: &[u8]) -> bool {
     for (i, &byte) in bytes.iter().enumerate() {
-        let zeroed = i < 1048576 || i < 2097152 && i % 2 == 1;
-        let expected = if zeroed { 0 } else { 0xff };
-        if byte != expected {
+        if byte != left_at(i) {
             return false;
         }
     }
