@@ -1,6 +1,5 @@
 //! The interface of a format driver.
 ghost use Rattle.std.specs.Prelude.{◌≡◌, ℕ, ◌+◌, ◌<◌, ◌≤◌, ◌⊎◌, ◌↔◌, ◌&&◌, Option, None, Bool, true, false, List, length, slice_index, slice_get, EachIndex, OnOk, OnErr, IfOk, IfErr, IfSome, IsTrue, IsErrOf, MatchOption, is_some};
-ghost use Rattle.std.specs.Option.{option_copied};
 ghost use Rattle.imago_storage.specs.Error.{IsExtRefusal};
 ghost use Rattle.imago_storage.specs.Bytes.{IsReadAt};
 ghost use Rattle.imago_storage.specs.Faults.{CountsFaults};

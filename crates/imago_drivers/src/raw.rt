@@ -1,10 +1,9 @@
 //! The driver of raw images.
-ghost use Rattle.std.specs.Prelude.{◌≡◌, ℕ, ◌+◌, ◌^◌, ◌<◌, ◌≤◌, ◌⊎◌, length, slice_index, IsTrue, IsOk, IfOk, IfErr, OnOk, OnErr, IsErrOf, true, false};
+ghost use Rattle.std.specs.Prelude.{◌≡◌, ℕ, ◌+◌, ◌^◌, ◌<◌, ◌≤◌, ◌⊎◌, length, slice_index, IsTrue, IfOk, IfErr, OnErr, IsErrOf, true, false};
 ghost use Rattle.imago_storage.specs.Bytes.{SameOutside};
 ghost use Rattle.imago_storage.specs.Error.{IsDeviceOrMemory, IsExtRefusal};
 ghost use Rattle.imago_storage.specs.Faults.{CountsFaults};
-ghost use Rattle.imago_storage.specs.Features.{InPlace, MayRunOut, IsAlignedRequest, IsAlignedTo};
-ghost use Rattle.imago_storage.specs.Padding.{Wraps};
+ghost use Rattle.imago_storage.specs.Features.{InPlace, MayRunOut, IsAlignedTo};
 ghost use Rattle.imago_storage.specs.Zeroes.{MayWrap};
 ghost use Rattle.imago_drivers.specs.Raw.{raw_view, IsPartAlignedTo, HasWrappingPart, HasBytes, storage_mode_of};
 ghost use Rattle.imago_drivers.specs.RawLaws.{raw_lawful, raw_causes};
