@@ -52,35 +52,35 @@ part_facts {f} {a} {at} {n} {start} {len} r =
       rest_ends = rest;
     }
 
--- Bytes in blocks: the whole ones, of `n / a * a` bytes, and a part of one more, where any is left.
-pub record BlockFacts (f : Features) (a at n : ℕ) : Type 0 where
-  pub fits : n / a * a ≤ n
-  pub split : IsSplit (n / a * a) at n (at + n / a * a) (at + next_multiple_of n a)
-  pub all : n / a * a ≡ n → at + n ≡ at + next_multiple_of n a
-  pub one_more : n / a * a < n → at + n / a * a + a ≡ at + next_multiple_of n a
-  pub one_block : n / a * a ≡ 0 → at + a ≡ at + next_multiple_of n a
-  pub first : IsAlignedRequest f at (n / a * a)
-  pub last : n / a * a < n → IsAlignedRequest f (at + n / a * a) a
+-- Bytes in blocks: the `whole` bytes of those that are filled, and a part of one more, where any is left.
+pub record BlockFacts (f : Features) (a at n whole : ℕ) : Type 0 where
+  pub fits : whole ≤ n
+  pub split : IsSplit whole at n (at + whole) (at + next_multiple_of n a)
+  pub all : whole ≡ n → at + n ≡ at + next_multiple_of n a
+  pub one_more : whole < n → at + whole + a ≡ at + next_multiple_of n a
+  pub one_block : whole ≡ 0 → at + a ≡ at + next_multiple_of n a
+  pub first : IsAlignedRequest f at whole
+  pub last : whole < n → IsAlignedRequest f (at + whole) a
 
-pub block_facts : {f : Features} {a at n : ℕ} → IsInBlocks f a at n → BlockFacts f a at n
-block_facts {f} {a} {at} {n} r =
+pub block_facts : {f : Features} {a at n : ℕ} (whole : ℕ) → whole ≡ n / a * a → IsInBlocks f a at n → BlockFacts f a at n whole
+block_facts {f} {a} {at} {n} whole is r =
     let positive : 0 < a = rw r.is_block (len_positive f r.lawful) in
-    let fits : n / a * a ≤ n = omega (arith, div-add-mod' n a) in
+    let fits : whole ≤ n = omega (arith, is, div-add-mod' n a) in
     let covers : n ≤ next_multiple_of n a = omega arith in
     let ends = r.ends in
-    let more : n / a * a < n → at + n / a * a + a ≡ at + next_multiple_of n a = λ h.
-    let m : (a - n % a) % a ≡ a - n % a = mod-eq_of_lt (omega (arith, div-add-mod' n a)) in
-    omega (arith, div-add-mod' n a) in
-    let whole : n / a * a % len_align f ≡ 0 = rw (← r.is_block) (mod-eq-zero_of_dvd a (dvd-mul_left a (n / a))) in
+    let more : whole < n → at + whole + a ≡ at + next_multiple_of n a = λ h.
+    let m : (a - n % a) % a ≡ a - n % a = mod-eq_of_lt (omega (arith, is, div-add-mod' n a)) in
+    omega (arith, is, div-add-mod' n a) in
+    let step : whole % len_align f ≡ 0 = rw (← r.is_block, is) (mod-eq-zero_of_dvd a (dvd-mul_left a (n / a))) in
     record {
       fits = fits;
       split = record { inside = fits; first = omega arith; longer = omega arith; covers = omega arith };
-      all = λ h. let same : next_multiple_of n a ≡ n = next_whole_zero n a positive (omega (arith, div-add-mod' n a)) in omega (arith, same);
+      all = λ h. let same : next_multiple_of n a ≡ n = next_whole_zero n a positive (omega (arith, is, div-add-mod' n a)) in omega (arith, same);
       one_more = more;
-      one_block = λ h. let left : n / a * a < n = omega (arith, r.some) in omega (arith, more left);
-      first = record { start = r.start; whole = whole; ends = omega arith };
+      one_block = λ h. let left : whole < n = omega (arith, r.some) in omega (arith, more left);
+      first = record { start = r.start; whole = step; ends = omega arith };
       last = λ h. record {
-        start = multiple_add f.req_align at (n / a * a) r.start (multiple_of_multiple f.req_align (len_align f) (n / a * a) whole (len_whole f r.lawful));
+        start = multiple_add f.req_align at whole r.start (multiple_of_multiple f.req_align (len_align f) whole step (len_whole f r.lawful));
         whole = rw (← r.is_block) (mod_self a);
         ends = omega (arith, more h);
       };

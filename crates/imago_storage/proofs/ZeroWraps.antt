@@ -1,4 +1,4 @@
-use Rattle.std.proofs.Common.{◌≡◌, ◌≢◌, ℕ, ◌+◌, ◌-◌, ◌*◌, ◌/◌, ◌%◌, ◌^◌, ◌<◌, ◌≤◌, ◌⊎◌, min, arith, inl, inr, ap, ◌∙◌, sym}
+use Rattle.std.proofs.Common.{◌≡◌, ◌≢◌, ℕ, ◌+◌, ◌-◌, ◌*◌, ◌/◌, ◌%◌, ◌^◌, ◌<◌, ◌≤◌, ◌⊎◌, min, arith, inl, inr, ⊎_elim, ap, ◌∙◌, sym}
 use Rattle.std.proofs.Math.Nat.{add-mul-mod_self_left, div-add-mod, mod-eq_of_lt, mod-lt}
 use Rattle.std.proofs.lemmas.Bool.{cases_lt}
 use Rattle.std.specs.Int.{next_multiple_of}
@@ -150,8 +150,12 @@ fits_by_data f z at n start end p some refused fits = record {
 pub wrap_without_part : (f : Features) (z : ZeroSupport) (at n start end : ℕ) → IsAlignedPart f.zero_align at n start end → 0 < n → end ≤ start → DataWraps f at n → MayWrap f z at n
 wrap_without_part f z at n start end p some none w = record { some = some; why = inr (inr (inl (λ has. omega (arith, has, p.is_start, p.is_end, none)), w)) }
 
-pub wrap_by_edges : (f : Features) (z : ZeroSupport) (at n start end : ℕ) → IsAlignedPart f.zero_align at n start end → 0 < n → start < end → EdgeWraps f at n → MayWrap f z at n
-wrap_by_edges f z at n start end p some has w = record { some = some; why = inr (inl (omega (arith, p.is_start, p.is_end), w)) }
+pub wrap_by_edges : (f : Features) (z : ZeroSupport) (at n start end : ℕ) → IsAlignedPart f.zero_align at n start end → 0 < n → start < end → EdgeWraps f at n
+    → (z ≡ AsData → (end - start) % f.mem_align ≢ 0 → ⊥) → MayWrap f z at n
+wrap_by_edges f z at n start end p some has w even = record { some = some; why = inr (inl (omega (arith, p.is_start, p.is_end), rw (← p.is_start, ← p.is_end) offered, w)) }
+  where
+    offered : z ≡ AsData → (end - start) % f.mem_align ≡ 0
+    offered made = ⊎_elim (λ (odd : 0 < (end - start) % f.mem_align). absurd (even made (λ e. omega (arith, e)))) (λ (none : (end - start) % f.mem_align ≤ 0). omega arith) (cases_lt 0 ((end - start) % f.mem_align))
 
 pub wrap_by_data : (f : Features) (z : ZeroSupport) (at n start end : ℕ) → IsAlignedPart f.zero_align at n start end → 0 < n → MayBeUnsupported z f.mem_align (end - start) → DataWraps f at n → MayWrap f z at n
 wrap_by_data f z at n start end p some refused w = record { some = some; why = inr (inr (inr (rw (← p.is_start, ← p.is_end) refused), w)) }

@@ -6,6 +6,7 @@ pub mod IoCount
 pub mod Options
 pub mod Powers
 pub mod Mem
+pub mod MemParts
 pub mod Padding
 pub mod Blocks
 pub mod Zeroes

@@ -43,10 +43,14 @@ HasPart f at n = aligned_start f.zero_align at < aligned_end f.zero_align at n
 abbrev pub part_length : Features → ℕ → ℕ → ℕ
 part_length f at n = aligned_end f.zero_align at n - aligned_start f.zero_align at
 
+-- a pure zero write of so many bytes isn't refused as unsupported for certain: as data it takes whole multiples alone
+abbrev pub MayBeOffered : ZeroSupport → ℕ → ℕ → Type 0
+MayBeOffered z mem len = z ≡ AsData → len % mem ≡ 0
+
 -- A zero write of the range may wrap around: the range does, or its edges, or the range as data where it is made so.
 pub record MayWrap (f : Features) (z : ZeroSupport) (at n : ℕ) : Type 0 where
   pub some : 0 < n
-  pub why : RangeWraps f.zero_align at n ⊎ (HasPart f at n × EdgeWraps f at n) ⊎ (((¬ HasPart f at n) ⊎ MayBeUnsupported z f.mem_align (part_length f at n)) × DataWraps f at n)
+  pub why : RangeWraps f.zero_align at n ⊎ (HasPart f at n × MayBeOffered z f.mem_align (part_length f at n) × EdgeWraps f at n) ⊎ (((¬ HasPart f at n) ⊎ MayBeUnsupported z f.mem_align (part_length f at n)) × DataWraps f at n)
 
 -- A zero write of the range that succeeded didn't wrap around: nothing of it did that had to be written.
 pub record FitsZeroes (f : Features) (z : ZeroSupport) (at n : ℕ) : Type 0 where

@@ -1,9 +1,10 @@
 //! The alignments of a storage, and the aligned ranges around and inside a range.
-ghost use Rattle.std.specs.Prelude.{◌≡◌, ℕ, ◌+◌, ◌-◌, ◌%◌, ◌^◌, ◌<◌, ◌≤◌, MatchOption};
+ghost use Rattle.std.specs.Prelude.{◌≡◌, ℕ, ◌+◌, ◌-◌, ◌*◌, ◌/◌, ◌%◌, ◌^◌, ◌<◌, ◌≤◌, MatchOption};
 ghost use Rattle.std.specs.Int.{next_multiple_of};
 ghost use Rattle.std.specs.Option.{SomeIff};
 ghost use Rattle.imago_storage.specs.Features.{AreAlignments, len_align};
 ghost use Rattle.imago_storage.specs.Padding.{Wraps, IsPaddedRequest, RangeWraps, IsAlignedPart};
+ghost use Rattle.imago_storage.specs.Zeroes.{IsHead};
 
 use crate::storage::Storage;
 
@@ -81,4 +82,27 @@ pub fn aligned_part(align: u64, offset: u64, count: u64) -> Option<(u64, u64)>
     let range_end = offset.checked_add(count)?;
     let start = offset.checked_next_multiple_of(align)?;
     Some((start, range_end - range_end % align))
+}
+
+/// How many bytes of a range stand before its first multiple of the request alignment. 0 where it starts on one.
+pub(crate) fn head_length<S: Storage>(storage: &S, offset: u64, count: u64) -> u64
+    requires { 0 < count }
+    ensures none { result ≡ 0 → offset % (S.features storage.now).req_align ≡ 0 }
+    ensures some { 0 < result → IsHead (S.features storage.now) offset count result }
+    ensures within { result ≤ len_align (S.features storage.now) }
+{
+    let request = request_align(storage);
+    let past = offset % request;
+    if past == 0 {
+        return 0;
+    }
+    (request - past).min(count)
+}
+
+/// How many bytes of so many are whole blocks.
+pub(crate) fn whole_blocks(len: usize, block: usize) -> usize
+    requires { 0 < block }
+    ensures { result ≡ len / block * block }
+{
+    len / block * block
 }

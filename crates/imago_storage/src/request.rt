@@ -9,7 +9,7 @@ ghost use Rattle.imago_storage.specs.Features.{IsAlignedRequest, MayRunOut, len_
 ghost use Rattle.imago_storage.specs.IoCount.{AddsAtMost, IsWriteWork};
 ghost use Rattle.imago_storage.specs.Padding.{padded_end, Wraps, aligned_start, aligned_end, RangeWraps};
 
-use crate::align::{aligned_part, discard_align, length_align, padded_request};
+use crate::align::{aligned_part, discard_align, length_align, padded_request, whole_blocks};
 use crate::bytes::overwrite;
 use crate::error::Error;
 use crate::storage::{Storage, zero_buffer};
@@ -144,7 +144,7 @@ fn write_blocks<S: Storage>(
     ensures cause { CountsFaults (S.features storage.old).is_reliable (S.fault_count storage.old)
         (S.fault_count storage.new) result }
 {
-    let whole = source.len() / block.len() * block.len();
+    let whole = whole_blocks(source.len(), block.len());
     if whole == 0 {
         return update_block(storage, block, source, start, 0);
     }

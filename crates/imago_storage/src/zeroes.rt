@@ -4,9 +4,9 @@ ghost use Rattle.imago_storage.specs.Error.{IsExtRefusal, IsPureRefusal, IsZeroR
 ghost use Rattle.imago_storage.specs.Faults.{CountsFaults};
 ghost use Rattle.imago_storage.specs.Features.{Features, InPlace, AsData, MayRunOut, MayBeUnsupported, IsAlignedTo, len_align, zero_support};
 ghost use Rattle.imago_storage.specs.Padding.{Wraps, RangeWraps, IsAlignedPart};
-ghost use Rattle.imago_storage.specs.Zeroes.{HasZeroed, ZeroedPart, IsHead, EdgeWraps, DataWraps, MayWrap, FitsZeroes};
+ghost use Rattle.imago_storage.specs.Zeroes.{HasZeroed, ZeroedPart, EdgeWraps, DataWraps, MayWrap, FitsZeroes};
 
-use crate::align::{aligned_part, length_align, request_align, zero_align};
+use crate::align::{aligned_part, head_length, length_align, zero_align};
 use crate::error::Error;
 use crate::request::write_any;
 use crate::storage::{Storage, ZERO_PIECE, zero_buffer};
@@ -218,21 +218,6 @@ fn zero_from<S: Storage>(
         (S.fault_count storage.new) result }
 {
     write_any(storage, alloc, &zeroes[..count as usize], offset)
-}
-
-/// How many bytes of a range stand before its first multiple of the request alignment. 0 where it starts on one.
-fn head_length<S: Storage>(storage: &S, offset: u64, count: u64) -> u64
-    requires { 0 < count }
-    ensures none { result ≡ 0 → offset % (S.features storage.now).req_align ≡ 0 }
-    ensures some { 0 < result → IsHead (S.features storage.now) offset count result }
-    ensures within { result ≤ len_align (S.features storage.now) }
-{
-    let request = request_align(storage);
-    let past = offset % request;
-    if past == 0 {
-        return 0;
-    }
-    (request - past).min(count)
 }
 
 /// Writes zeroes as data: up to the first multiple of the request alignment, where the range doesn't start at one,

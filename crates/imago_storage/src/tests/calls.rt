@@ -82,16 +82,22 @@ fn no_storage_of_this_crate_is_opened_by_name(rt: HostRuntime) {
     is_not_opened::<&mut MemStorage>(&rt);
 }
 
-#[test]
-fn names_in_memory_are_kept_as_they_are(rt: HostRuntime) {
-    let alloc = rt.alloc();
-    let mut storage = MemStorage::named(owned(&rt, alloc, "a.img"), runs(&rt, alloc, &[]));
+/// A path relative to the storage is taken as it is.
+fn keeps_paths<S: Storage>(rt: &impl Abort, alloc: Global, storage: &S) {
     let mut path = storage.resolve_relative_path(alloc, "b.img");
     if path.is_err() {
         path = storage.resolve_relative_path(alloc, "b.img");
     }
-    assert_eq!(rt; path.expect(&rt, "memory for a path").as_str(), "b.img");
+    assert_eq!(rt; path.expect(rt, "memory for a path").as_str(), "b.img");
+}
+
+#[test]
+fn names_in_memory_are_kept_as_they_are(rt: HostRuntime) {
+    let alloc = rt.alloc();
+    let mut storage = MemStorage::named(owned(&rt, alloc, "a.img"), runs(&rt, alloc, &[]));
+    keeps_paths(&rt, alloc, &storage);
     let lent = &mut storage;
+    keeps_paths(&rt, alloc, &lent);
     assert_eq!(rt; lent.get_filename(), Some("a.img"));
     let refused = Null::new(1).resolve_relative_path(alloc, "b.img");
     assert!(rt; refused.is_err_and(|e| e == Error::Unsupported));

@@ -1,4 +1,4 @@
-use Rattle.std.proofs.Common.{arith, ◌≡◌, ◌+◌, ◌*◌, ◌/◌, length, take}
+use Rattle.std.proofs.Common.{arith, ◌≡◌, ◌+◌, length, take}
 use Rattle.std.proofs.lemmas.List.{length-take-le, take_all, take_rest}
 use Rattle.imago_storage.proofs.Blocks.{block_facts}
 use Rattle.imago_storage.proofs.Outcomes.{WriteOutcome_ok}
@@ -7,35 +7,34 @@ use Rattle.imago_storage.proofs.request.write_blocks.Goals as goal
 
 pub returns-then-whole-eq0-clause-written : goal.returns-then-whole-eq0-clause-written
 returns-then-whole-eq0-clause-written g c =
-    let none : length c.args.source.now / length c.args.block.now * length c.args.block.now ≡ 0 = grind arith in
     let at : c.args.start + 0 ≡ c.args.start = omega arith in
-    rw (at, (block_facts c.requires).one_block none) at c.update_block.ensures.written
+    rw (at, (block_facts c.whole_blocks-whole.result c.whole_blocks-whole.ensures c.requires).one_block c.if-whole-eq0.true) at c.update_block.ensures.written
 
 pub pure_writev-requires : goal.pure_writev-requires
-pure_writev-requires g c = let b = block_facts c.requires in rw (length-take-le _ c.args.source.now b.fits) b.first
+pure_writev-requires g c = let b = block_facts c.whole_blocks-whole.result c.whole_blocks-whole.ensures c.requires in rw (length-take-le _ c.args.source.now b.fits) b.first
 
 pub returns-in_err-pure_writev-clause-written : goal.returns-in_err-pure_writev-clause-written
 returns-in_err-pure_writev-clause-written g c =
-    let b = block_facts c.requires in
+    let b = block_facts c.whole_blocks-whole.result c.whole_blocks-whole.ensures c.requires in
     let first = rw (first_is_part _ _ _ c.args.source.now b.fits) at c.pure_writev.ensures.written in
     first_refused _ c.from_residual.result c.args.source.now b.split first c.in_err-pure_writev.was c.from_residual.ensures.1
 
 pub returns-then-whole-source-clause-written : goal.returns-then-whole-source-clause-written
 returns-then-whole-source-clause-written g c =
-    let whole = length c.args.source.now / length c.args.block.now * length c.args.block.now in
+    let whole = c.whole_blocks-whole.result in
     let all : take whole c.args.source.now ≡ c.args.source.now = take_all whole c.args.source.now (omega (arith, c.if-whole-source.true)) in
-    let written = rw (all, splice_is_part _ _ c.args.source.now _ ((block_facts c.requires).all c.if-whole-source.true)) at c.pure_writev.ensures.written in
+    let written = rw (all, splice_is_part _ _ c.args.source.now _ ((block_facts c.whole_blocks-whole.result c.whole_blocks-whole.ensures c.requires).all c.if-whole-source.true)) at c.pure_writev.ensures.written in
     WriteOutcome_ok _ _ _ _ _ _ tt c.in_ok-pure_writev.was written
 
 pub update_block-requires-2-clause-aligned : goal.update_block-requires-2-clause-aligned
 update_block-requires-2-clause-aligned g c =
-    let b = block_facts c.requires in
+    let b = block_facts c.whole_blocks-whole.result c.whole_blocks-whole.ensures c.requires in
     rw c.in_ok-pure_writev.ensures.features (b.last (omega (arith, b.fits, c.if-whole-source.false)))
 
 pub returns-clause-written : goal.returns-clause-written
 returns-clause-written g c =
-    let b = block_facts c.requires in
-    let whole = length c.args.source.now / length c.args.block.now * length c.args.block.now in
+    let b = block_facts c.whole_blocks-whole.result c.whole_blocks-whole.ensures c.requires in
+    let whole = c.whole_blocks-whole.result in
     let at : c.args.start + whole + 0 ≡ c.args.start + whole = omega arith in
     let end = b.one_more (omega (arith, b.fits, c.if-whole-source.false)) in
     let first = rw (first_is_part _ _ _ c.args.source.now b.fits) at c.pure_writev.ensures.written in

@@ -31,6 +31,7 @@ returns-in-Err-Unsupported-clause-fits g c =
 
 pub returns-in-Err-clause-may_wrap : goal.returns-in-Err-clause-may_wrap
 returns-in-Err-clause-may_wrap g c = λ w. wrap_by_edges _ _ _ _ _ _ c.requires.part c.requires.some (omega arith) (c.zero_part_and_edges.ensures.wraps (c.in-Err.is ∙ w))
+    (λ made odd. let u = c.zero_part_and_edges.ensures.refused made odd in let e = c.in-Err.is ∙ w in let z : ⊥ = cc in z)
 
 pub returns-in-Err-clause-memory : goal.returns-in-Err-clause-memory
 returns-in-Err-clause-memory g c = λ m aligned.

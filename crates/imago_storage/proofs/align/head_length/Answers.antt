@@ -1,6 +1,6 @@
 use Rattle.std.proofs.Common.{◌≡◌, ◌≢◌, ◌-◌, ◌%◌, min}
 use Rattle.imago_storage.proofs.ZeroWraps.{is_head}
-use Rattle.imago_storage.proofs.zeroes.head_length.Goals as goal
+use Rattle.imago_storage.proofs.align.head_length.Goals as goal
 
 pub returns-clause-some : goal.returns-clause-some
 returns-clause-some g c = λ some.
