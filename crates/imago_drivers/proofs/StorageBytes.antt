@@ -1,4 +1,4 @@
-use Rattle.std.proofs.Common.{◌≡◌, ℕ, ◌+◌, ◌-◌, ◌<◌, ◌≤◌, ⊎_elim, inl, inr, Bool, true, false, List, length, replicate, get_or, arith, refl, ap, ◌∙◌}
+use Rattle.std.proofs.Common.{◌≡◌, ℕ, ◌+◌, ◌-◌, ◌<◌, ◌≤◌, ⊎_elim, inl, inr, Bool, true, false, List, length, replicate, get_or, max, arith, refl, ap, ◌∙◌}
 use Rattle.std.proofs.lemmas.Bool.{cases_lt}
 use Rattle.std.proofs.lemmas.List.{places, length-replicate}
 use Rattle.std.specs.Prelude.{slice_index, Result, Ok, Err, OnOk, OnErr, IfErr, IsErrOf}
@@ -29,6 +29,11 @@ written_bytes old xs now at end e = record {
   before = λ p h. rw e (splice_before (zero_extended old end) at xs p h ∙ extended old end p);
   behind = λ p h. rw e (splice_behind (zero_extended old end) at xs p h ∙ extended old end p);
 }
+
+-- a write makes a storage no longer than to the end that it is padded to
+pub longest_write : (old xs : List ℕ) (at end now : ℕ) → at + length xs ≤ end → now ≤ length (splice (zero_extended old end) at xs) → now ≤ max (length old) end
+unfolding splice
+longest_write old xs at end now inside h = grind (arith, places)
 
 same_byte : (old target now : List ℕ) (p : ℕ) → OldOrNew old target now → slice_index target p ≡ slice_index old p → slice_index now p ≡ slice_index old p
 same_byte old target now p o e = ⊎_elim (λ a. a) (λ b. b ∙ e) (o.each p)

@@ -1,8 +1,9 @@
 //! The interface of a format driver.
-ghost use Rattle.std.specs.Prelude.{◌≡◌, ℕ, ◌+◌, ◌<◌, ◌≤◌, ◌⊎◌, ◌↔◌, ◌&&◌, Option, None, Bool, true, false, List, length, slice_index, slice_get, EachIndex, OnOk, OnErr, IfOk, IfErr, IfSome, IsTrue, IsErrOf, MatchOption, is_some};
+ghost use Rattle.std.specs.Prelude.{◌≡◌, ℕ, ◌+◌, ◌<◌, ◌≤◌, ◌⊎◌, ◌↔◌, ◌&&◌, Option, None, Bool, true, false, List, length, slice_index, slice_get, EachIndex, OnOk, OnErr, IfOk, IfErr, IfSome, IsOk, IsTrue, IsErrOf, MatchOption, is_some};
 ghost use Rattle.imago_storage.specs.Error.{IsExtRefusal};
 ghost use Rattle.imago_storage.specs.Bytes.{IsReadAt};
 ghost use Rattle.imago_storage.specs.Faults.{CountsFaults};
+ghost use Rattle.imago_drivers.specs.Parts.{length_of};
 ghost use Rattle.imago_drivers.specs.Operation.{Map, Read, Write, Zero, DiscardToZero, DiscardToAny, DiscardToBacking, Grow, Shrink, Flush};
 ghost use Rattle.imago_drivers.specs.Place.{Refused, values, IsAt, AreWritable};
 ghost use Rattle.imago_drivers.specs.Reasons.{allowed, none};
@@ -276,7 +277,7 @@ pub trait FormatDriverInstance: Display + Drop {
         ensures refused { OnErr result ((view self.new).pending ≡ None) }
         ensures causes { IfOk result
             (λ m. IsSettled EveryOperation (view self.old).cause (view self.new).cause
-            (view self.old).copies (view self.new).copies offset m.length) }
+            (view self.old).copies (view self.new).copies offset (length_of m)) }
         ensures faults { CountsFaults
             ((view self.old).abilities.is_reliable &&
             (lent B.as_layer_below below.entry).is_reliable)
@@ -298,7 +299,7 @@ pub trait FormatDriverInstance: Display + Drop {
         source: &[u8],
         at: u64,
     ) -> Result<(), Error>
-        requires { at + length source.now ≤ mapping.now.length }
+        requires { at + length source.now ≤ length_of mapping.now }
         ensures foreign { IsErrOf result Error.ForeignMapping ↔ IsForeignWrite (view self.old) mapping.now }
         ensures untouched { IsErrOf result Error.ForeignMapping → self.new ≡ self.old }
         ensures written { OnOk result (IsWritten false (view self.old) (view self.new) mapping.now at source.now) }
@@ -380,8 +381,8 @@ pub trait FormatDriverInstance: Display + Drop {
         Ok((storage, start, length))
     }
 
-    /// Grows the disk to that size, with new bytes as the mode says. It does nothing where the disk is as large already.
-    /// Refused, nothing changed.
+    /// Grows the disk to that size, with new bytes as the mode says. It does nothing where the disk is as large already,
+    /// and then isn't refused. Refused, nothing changed.
     fn resize_grow<B: LowerLayer>(
         &mut self,
         alloc: Global,
@@ -394,6 +395,7 @@ pub trait FormatDriverInstance: Display + Drop {
         ensures grown { OnOk result
             (IsGrown mode (lent B.as_layer_below below.entry).at new_size (view self.old)
             (view self.new)) }
+        ensures idle { new_size ≤ (view self.old).size → IsOk result }
         ensures unchanged { OnErr result (IsSameDisk (view self.old) (view self.new)) }
         ensures nothing_pending { (view self.new).pending ≡ None }
         ensures kind { IsKind (view self.old) (view self.new) }
@@ -408,11 +410,13 @@ pub trait FormatDriverInstance: Display + Drop {
             (Grow mode) new_size 0)
             { beyond_disk = ⊥ })) };
 
-    /// Cuts the disk to that size. It does nothing where the disk is as small already. Refused, nothing changed.
+    /// Cuts the disk to that size. It does nothing where the disk is as small already, and then isn't refused. Refused,
+    /// nothing changed.
     fn resize_shrink(&mut self, new_size: u64) -> Result<(), Error>
         requires writable { (view self.old).abilities.is_writable ≡ true }
         requires spent { (view self.old).pending ≡ None }
         ensures cut { OnOk result (IsCut new_size (view self.old) (view self.new)) }
+        ensures idle { (view self.old).size ≤ new_size → IsOk result }
         ensures unchanged { OnErr result (IsSameDisk (view self.old) (view self.new)) }
         ensures nothing_pending { (view self.new).pending ≡ None }
         ensures kind { IsKind (view self.old) (view self.new) }

@@ -1,9 +1,9 @@
 //! Bytes of a storage, for drivers whose places stand in one.
-ghost use Rattle.std.specs.Prelude.{◌≡◌, ◌+◌, ◌≤◌, length, slice_index, IsTrue, IsOk, IfErr, OnOk, OnErr, IsErrOf, true, false};
+ghost use Rattle.std.specs.Prelude.{◌≡◌, ◌+◌, ◌≤◌, max, length, slice_index, IsTrue, IsOk, IfErr, OnOk, OnErr, IsErrOf, true, false};
 ghost use Rattle.imago_storage.specs.Error.{IsExtRefusal};
 ghost use Rattle.imago_storage.specs.Faults.{CountsFaults};
 ghost use Rattle.imago_storage.specs.Features.{MayRunOut, IsAlignedRequest};
-ghost use Rattle.imago_storage.specs.Padding.{Wraps};
+ghost use Rattle.imago_storage.specs.Padding.{Wraps, padded_end};
 ghost use Rattle.imago_drivers.specs.Raw.{HasBytes};
 
 use imago_storage::error::Error;
@@ -12,7 +12,8 @@ use imago_storage::storage::Storage;
 use std::alloc::Global;
 
 /// Writes bytes of a storage, at its `offset`-th byte. Refused, each byte of the range is old or new. No byte outside the
-/// range changes, and the storage becomes no shorter, maybe longer: what is added behind the range is zero.
+/// range changes. The storage becomes no shorter, and no longer than the padded end of the range, less than one alignment
+/// past it; what is added behind the range is zero.
 ///
 /// It is refused as [`StorageExt::write`] is: [`Error::WrapAround`] where a request of the storage's alignment around the
 /// range would end past `u64::MAX`, [`Error::Memory`] only where the storage takes memory or the range isn't aligned, and
@@ -33,6 +34,9 @@ pub fn write_bytes<S: Storage>(
         (HasBytes true offset (length source.now) (λ k. slice_index source.now k)
         (S.bytes storage.old) (S.bytes storage.new)) }
     ensures no_shorter { length (S.bytes storage.old) ≤ length (S.bytes storage.new) }
+    ensures no_longer { length (S.bytes storage.new)
+        ≤ max (length (S.bytes storage.old))
+        (padded_end (S.features storage.old) offset (length source.now)) }
     ensures features { S.features storage.new ≡ S.features storage.old }
     ensures only { IfErr result IsExtRefusal }
     ensures wraps { IsErrOf result Error.WrapAround

@@ -2,6 +2,7 @@
 use super::device::Device;
 use super::set_up::{filled, holds, is_ready, storing, writable};
 use crate::drivers::{Format, FormatDriverInstance};
+use crate::layer::LowerLayer;
 use crate::raw::Raw;
 use imago_storage::error::Error;
 use imago_storage::mem::MemStorage;
@@ -143,4 +144,12 @@ fn texts(rt: HostRuntime) {
     prints(&rt, alloc, &raw, "raw[mem:[8B]]");
     let null = Raw::open_image(Null::new(7), false).expect(&rt, "an image");
     prints(&rt, alloc, &null, "raw[null:[7B]]");
+}
+
+#[test]
+fn no_layer_has_no_bytes(rt: HostRuntime) {
+    let mut buf = [1; 4];
+    assert_eq!(rt; LowerLayer::size(&()), 0);
+    assert_eq!(rt; LowerLayer::read(&(), rt.alloc(), &mut buf, 3), Ok(()));
+    assert_eq!(rt; buf, [0; 4]);
 }

@@ -27,6 +27,7 @@ pub(super) struct Device {
     size: u64,
     align: usize,
     calls: Calls,
+    mode: Option<PreallocateMode>,
     refused_resizes: u64,
     ghost power: { IsAlignment align },
 }
@@ -44,6 +45,7 @@ impl Device {
                 syncs: 0,
                 invalidations: 0,
             },
+            mode: None,
             refused_resizes: 0,
         }
     }
@@ -51,6 +53,11 @@ impl Device {
     /// Its next resizes are refused, as many as asked.
     pub(super) fn refuse_resizes(&mut self, count: u64) {
         self.refused_resizes = count;
+    }
+
+    /// What the last resize was to do with new bytes.
+    pub(super) fn mode(&self) -> Option<PreallocateMode> {
+        self.mode
     }
 
     /// What reached it.
@@ -158,7 +165,7 @@ impl Storage for Device {
     }
 
     fn resize(&mut self, new_size: u64, mode: PreallocateMode) -> Result<(), Error> {
-        let _ = mode;
+        self.mode = Some(mode);
         if self.refused_resizes > 0 {
             self.refused_resizes -= 1;
             return Err(Error::Device);

@@ -59,11 +59,15 @@ fn a_prepared_mapping_takes_what_fits(rt: HostRuntime) {
     let alloc = rt.alloc();
     let mut raw = writable(&rt, filled(&rt, alloc, 0, 8));
     let mapping = of_four(&rt, alloc, &mut raw);
-    writes_inside(&rt, alloc, &mut raw, &mapping, &[0xaa, 0xbb], 2, Ok(()));
+    writes_inside(&rt, alloc, &mut raw, &mapping, &[0xaa, 0xbb], 0, Ok(()));
+    raw.cancel_data_mapping(mapping);
+    holds(&rt, &raw, &[0, 0, 0xaa, 0xbb, 0, 0, 0, 0]);
+    let mapping = of_four(&rt, alloc, &mut raw);
+    writes_inside(&rt, alloc, &mut raw, &mapping, &[0xcc, 0xdd], 2, Ok(()));
     let beyond = Err(Error::BeyondDisk);
     writes_inside(&rt, alloc, &mut raw, &mapping, &[1, 2, 3, 4, 5], 0, beyond);
     raw.cancel_data_mapping(mapping);
-    holds(&rt, &raw, &[0, 0, 0, 0, 0xaa, 0xbb, 0, 0]);
+    holds(&rt, &raw, &[0, 0, 0xaa, 0xbb, 0xcc, 0xdd, 0, 0]);
     let mapping = of_four(&rt, alloc, &mut raw);
     writes_inside(&rt, alloc, &mut raw, &mapping, &[1, 2, 3, 4], 0, Ok(()));
     commits(&rt, &mut raw, mapping, Ok(()));

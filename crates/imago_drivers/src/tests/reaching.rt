@@ -4,7 +4,7 @@ use super::set_up::{filled, grows, has_sizes, holds, writable};
 use crate::drivers::{FormatDriverInstance, PreallocateMode};
 use crate::raw::Raw;
 use imago_storage::error::Error;
-use imago_storage::storage::Storage;
+use imago_storage::storage::{self, Storage};
 use std::alloc::Global;
 use std::process::Abort;
 
@@ -47,10 +47,11 @@ fn grows_on_device(
     alloc: Global,
     raw: &mut Raw<Device>,
     size: u64,
+    mode: PreallocateMode,
     expected: Result<(), Error>,
 ) {
     assert!(rt; is_ready(&*raw, 0, 0));
-    let grown = raw.resize_grow(alloc, Some(&()), size, PreallocateMode::None);
+    let grown = raw.resize_grow(alloc, Some(&()), size, mode);
     assert_eq!(rt; grown, expected);
 }
 
@@ -75,14 +76,51 @@ fn is_long(rt: &impl Abort, raw: &Raw<Device>, size: u64) {
 fn a_refused_resize_leaves_both_sizes(rt: HostRuntime) {
     let alloc = rt.alloc();
     let mut raw = on_a_device(&rt, 2);
-    grows_on_device(&rt, alloc, &mut raw, 2048, Err(Error::Device));
+    let mode = PreallocateMode::None;
+    grows_on_device(&rt, alloc, &mut raw, 2048, mode, Err(Error::Device));
     is_long(&rt, &raw, 1024);
     shrinks_on_device(&rt, &mut raw, 512, Err(Error::Device));
     is_long(&rt, &raw, 1024);
-    grows_on_device(&rt, alloc, &mut raw, 2048, Ok(()));
+    grows_on_device(&rt, alloc, &mut raw, 2048, mode, Ok(()));
     is_long(&rt, &raw, 2048);
     shrinks_on_device(&rt, &mut raw, 512, Ok(()));
     is_long(&rt, &raw, 512);
+}
+
+/// A growth in that mode asks the storage for this one.
+fn asks_for(
+    rt: &impl Abort,
+    alloc: Global,
+    mode: PreallocateMode,
+    expected: storage::PreallocateMode,
+) {
+    let mut raw = on_a_device(rt, 0);
+    grows_on_device(rt, alloc, &mut raw, 2048, mode, Ok(()));
+    let storage = raw.storage(0).expect(rt, "a storage");
+    assert_eq!(rt; storage.mode(), Some(expected));
+}
+
+#[test]
+fn each_mode_of_a_growth_reaches_the_storage(rt: HostRuntime) {
+    let alloc = rt.alloc();
+    for (mode, expected) in [
+        (PreallocateMode::None, storage::PreallocateMode::None),
+        (PreallocateMode::Zero, storage::PreallocateMode::Zero),
+        (
+            PreallocateMode::FormatAllocate,
+            storage::PreallocateMode::Zero,
+        ),
+        (
+            PreallocateMode::FullAllocate,
+            storage::PreallocateMode::Allocate,
+        ),
+        (
+            PreallocateMode::WriteData,
+            storage::PreallocateMode::WriteData,
+        ),
+    ] {
+        asks_for(&rt, alloc, mode, expected);
+    }
 }
 
 #[test]

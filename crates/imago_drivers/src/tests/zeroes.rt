@@ -13,6 +13,13 @@ fn in_blocks_of_eight(rt: &impl Abort, alloc: Global) -> Raw<MemStorage> {
     writable(rt, MemStorage::new(bytes).with_zero_align(8))
 }
 
+/// Eight bytes of one kind and eight of another.
+fn halves(first: u8, second: u8) -> [u8; 16] {
+    let mut bytes = [first; 16];
+    bytes[8..].fill(second);
+    bytes
+}
+
 #[test]
 fn only_the_aligned_part_is_zeroed(rt: HostRuntime) {
     let alloc = rt.alloc();
@@ -25,9 +32,9 @@ fn only_the_aligned_part_is_zeroed(rt: HostRuntime) {
         (3, 13),
         (8, 8),
     );
-    holds_at(&rt, &raw, 6, &[0xff, 0xff, 0, 0]);
+    holds(&rt, &raw, &halves(0xff, 0));
     takes(&rt, alloc, &mut raw, RangeCall::EnsureZero, (1, 6), (1, 0));
-    holds_at(&rt, &raw, 1, &[0xff]);
+    holds(&rt, &raw, &halves(0xff, 0));
     takes(
         &rt,
         alloc,
@@ -36,6 +43,7 @@ fn only_the_aligned_part_is_zeroed(rt: HostRuntime) {
         (0, 8),
         (0, 8),
     );
+    holds(&rt, &raw, &halves(0, 0));
     takes(
         &rt,
         alloc,
@@ -44,7 +52,8 @@ fn only_the_aligned_part_is_zeroed(rt: HostRuntime) {
         (2, 3),
         (2, 3),
     );
-    holds_at(&rt, &raw, 0, &[0]);
+    holds_at(&rt, &raw, 0, &[0; 2]);
+    holds_at(&rt, &raw, 5, &[0; 11]);
 }
 
 #[test]
