@@ -1,4 +1,4 @@
-use Rattle.std.proofs.Common.{◌≡◌, ℕ, inl, inr, Bool, true, false, ◌&&◌, Option, Some, None, refl, sym, ap, ◌∙◌, subst, Box, Global}
+use Rattle.std.proofs.Common.{◌<◌, ◌≡◌, ℕ, inl, inr, Bool, true, false, ◌&&◌, Option, Some, None, refl, sym, ap, ◌∙◌, subst, Box, Global}
 use Rattle.imago_storage.specs.declared.error.Error.{Error}
 use Rattle.imago_drivers.specs.Operation.{Operation, Read}
 use Rattle.imago_drivers.specs.Place.{Value, Place, Lower, End, shown, values}
@@ -71,8 +71,8 @@ module _ {D St : Type 0} (view : D → View St) where
       subst (λ (z : FormatAccess D). chain_cause view z op q m e) (sym k) c
 
   -- a cause at the layer below, for what is reached there
-  pub cause_lower : (x y : FormatAccess D) (op : Operation) (o n q m : ℕ) (e : Error) → backing x ≡ Some y → IsReached (view (driver x)).place o n q m → chain_cause view y op q m e → chain_cause view x op o n e
-  cause_lower x y op o n q m e h r c = subst (λ (z : FormatAccess D). chain_cause view z op o n e) (sym (is-FormatAccess' x)) (inr (q, m, r, from_below (out-FormatAccess D x).backing y op q m e h c))
+  pub cause_lower : (x y : FormatAccess D) (op : Operation) (o n q m : ℕ) (e : Error) → backing x ≡ Some y → 0 < m → IsReached (view (driver x)).place o n q m → chain_cause view y op q m e → chain_cause view x op o n e
+  cause_lower x y op o n q m e h p r c = subst (λ (z : FormatAccess D). chain_cause view z op o n e) (sym (is-FormatAccess' x)) (inr (q, m, p, r, from_below (out-FormatAccess D x).backing y op q m e h c))
 
   pub no_memory_here : (x : FormatAccess D) (o n : ℕ) → chain_no_memory view x o n → (view (driver x)).no_memory Read o n
   no_memory_here x o n h = let k = subst (λ (y : FormatAccess D). chain_no_memory view y o n) (is-FormatAccess' x) h in k.0

@@ -37,7 +37,7 @@ module _ {D St : Type 0} (view : D → View St) (x : FormatAccess D) (o most : �
   at_the_top = record {
     targets = λ i h. sym (deeper_none (target view x (o + i)));
     shows = λ i h. refl;
-    causes = λ op i m e h c. c;
+    causes = λ op i m e p h c. c;
     reliable = λ h. h;
     within = omega arith;
     empty = λ h. h;
@@ -52,7 +52,7 @@ module _ {D St : Type 0} (view : D → View St) (x : FormatAccess D) (o most : �
     cut_short all = record {
       targets = λ i h. down.targets i (omega (arith, part.within));
       shows = λ i h. down.shows i (omega (arith, part.within));
-      causes = λ op i k e h c. down.causes op i k e (omega (arith, part.within)) c;
+      causes = λ op i k e p h c. down.causes op i k e p (omega (arith, part.within)) c;
       reliable = down.reliable;
       within = omega (arith, part.within, down.within);
       empty = λ h. down.empty (part.empty h);
@@ -67,7 +67,7 @@ module _ {D St : Type 0} (view : D → View St) (x : FormatAccess D) (o most : �
     step_down y q v b s all = record {
       targets = λ i h. down.targets i (omega (arith, part.within)) ∙ ap (deeper hops w) (target_lower view layer y (at + i) (q + i) v b (named i h)) ∙ deeper_deeper hops w v (target view y (q + i));
       shows = λ i h. down.shows i (omega (arith, part.within)) ∙ value_lower view layer y (at + i) (q + i) v b (named i h);
-      causes = λ op i k e h c. down.causes op i k e (omega (arith, part.within)) (cause_lower view layer y op (at + i) k (q + i) k e b (λ j lt.
+      causes = λ op i k e p h c. down.causes op i k e p (omega (arith, part.within)) (cause_lower view layer y op (at + i) k (q + i) k e b p (λ j lt.
           let a : at + (i + j) ≡ at + i + j = omega arith in
           let d : q + (i + j) ≡ q + i + j = omega arith in
           (j, lt, v, rw (a, d) at (named (i + j) (omega arith)))) c);

@@ -241,7 +241,7 @@ module _ {D St : Type 0} (view : D → View St) (lawful : (d : D) → IsLawful (
   size_reply x (R.Refused e) h = absurd h
 
   mapped_part : (x : FormatAccess D) (o n : ℕ) (r : Reply) → IsMappedReply view x o n r → IsMappingOf (disk view x) o n r
-  mapped_part x o n (R.Mapped m c) h = (h.within, λ k lt. mapped_value m k (target view x (o + k)) (value_at (disk view x) (o + k)) (sym (value_in_list x (o + k)) ∙ target_shows view x (o + k)) (h.leads k lt))
+  mapped_part x o n (R.Mapped m c) h = (h.0.within, λ k lt. mapped_value m k (target view x (o + k)) (value_at (disk view x) (o + k)) (sym (value_in_list x (o + k)) ∙ target_shows view x (o + k)) (h.0.leads k lt))
   mapped_part x o n (R.Refused e) h = λ unreadable. sym (value_in_list x o) ∙ h.1 unreadable
   mapped_part x o n R.Done h = absurd h
   mapped_part x o n (R.Data bytes) h = absurd h

@@ -115,7 +115,7 @@ module _ {D St : Type 0} (view : D → View St) (x : FormatAccess D) (o most : �
           let n : max left 1 ≡ left = omega (arith, left_some some) in
           let mapped = subst (λ (k : ℕ). (view (driver layer)).cause Map at k e) n c in
           let here = subst (λ (p : ℕ). chain_cause view layer Map p left e) a (cause_here view layer Map at left e mapped) in
-          let up = subst (λ (p : ℕ). chain_cause view x Map p left e) b (down.causes Map 0 left e (omega arith) here) in
+          let up = subst (λ (p : ℕ). chain_cause view x Map p left e) b (down.causes Map 0 left e (left_some some) (omega arith) here) in
           chain_part view laws x Map o (max most 1) o left e (omega arith) (omega (arith, down.within)) up
 
       refused : (e : Error) → allowed (map_reasons (view (driver layer)) at left) e → allowed (chain_map_reasons view x o most) e

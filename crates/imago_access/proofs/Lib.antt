@@ -1,6 +1,7 @@
 pub mod Chains
 pub mod Descent
 pub mod Landed
+pub mod Lengths
 pub mod Weaker
 pub mod ReadSteps
 pub mod Values

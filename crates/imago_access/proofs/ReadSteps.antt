@@ -81,6 +81,9 @@ bottom_below {D = D} view layer m q i w b e =
     let c = subst (λ (z : ShallowMapping). IsBottom z layer) e b in
     ap (λ (y : Option (FormatAccess D)). (lent_image view y).at (q + i)) c
 
+landed_length : {D St : Type 0} (view : D → View St) (x : FormatAccess D) (o most : ℕ) (layer : FormatAccess D) (way : Way) (m : ShallowMapping) → HasLanded view x o most layer way m → 0 < most → 0 < way.length
+landed_length view x o most layer way m h lt = ⊎_elim (λ (z : 0 < way.length). z) (λ (z : way.length ≤ 0). let e = h.leads.empty (omega arith) in absurd (omega arith)) (cases_lt 0 way.length)
+
 module _ {D St : Type 0} (view : D → View St) (laws : (d : D) → IsLawful (view d)) (causes : (d : D) → AreCauses (view d)) (x : FormatAccess D) (o most : ℕ) (layer : FormatAccess D) (way : Way) (m : ShallowMapping) (h : HasLanded view x o most layer way m) where
   -- what the driver's own places show is what the image shows
   pub landed_values : (buf : List ℕ) → length buf ≡ way.length → HasValues (own_values (view (driver layer)).place) way.offset buf → HasValues (disk_value view x) o buf
@@ -94,11 +97,8 @@ module _ {D St : Type 0} (view : D → View St) (laws : (d : D) → IsLawful (vi
   pub landed_named : IsNamedAt (view (driver layer)).place m way.offset way.length
   landed_named = h.part.names
 
-  pub landed_some : 0 < most → 0 < way.length
-  landed_some lt = ⊎_elim (λ (z : 0 < way.length). z) (λ (z : way.length ≤ 0). let e = h.leads.empty (omega arith) in absurd (omega arith)) (cases_lt 0 way.length)
-
-  landed_weaker : IsWeaker (named_read_reasons (view (driver layer)) m way.length) (chunk_read_reasons view x o most)
-  landed_weaker = record {
+  landed_weaker : 0 < most → IsWeaker (named_read_reasons (view (driver layer)) m way.length) (chunk_read_reasons view x o most)
+  landed_weaker some = record {
     read_only = λ z. z;
     beyond_disk = λ z. z;
     range_overflow = λ z. z;
@@ -106,22 +106,19 @@ module _ {D St : Type 0} (view : D → View St) (laws : (d : D) → IsLawful (vi
         let a : way.offset ≡ way.offset + 0 = omega arith in
         let b : o + 0 ≡ o = omega arith in
         let here = subst (λ (p : ℕ). chain_cause view layer Read p way.length e) a (cause_here view layer Read way.offset way.length e (c way.offset h.part.names)) in
-        let up = subst (λ (p : ℕ). chain_cause view x Read p way.length e) b (h.leads.causes Read 0 way.length e (omega arith) here) in
+        let up = subst (λ (p : ℕ). chain_cause view x Read p way.length e) b (h.leads.causes Read 0 way.length e (landed_length view x o most layer way m h some) (omega arith) here) in
         inl (chain_part view causes x Read o most o way.length e (omega arith) (omega (arith, h.leads.within)) up);
     device = λ z. h.leads.reliable (reliable_here view layer z);
     memory = λ c all. let w = h.leads.whole all in c way.offset h.part.names (no_memory_here view layer way.offset way.length w.1);
     foreign_mapping = λ z. z;
   }
 
-landed_length : {D St : Type 0} (view : D → View St) (x : FormatAccess D) (o most : ℕ) (layer : FormatAccess D) (way : Way) (m : ShallowMapping) → HasLanded view x o most layer way m → 0 < most → 0 < way.length
-landed_length view x o most layer way m h lt = ⊎_elim (λ (z : 0 < way.length). z) (λ (z : way.length ≤ 0). let e = h.leads.empty (omega arith) in absurd (omega arith)) (cases_lt 0 way.length)
-
 -- a refused read of the layer, as one of the image
 pub landed_refused : {D St : Type 0} (view : D → View St) (laws : (d : D) → IsLawful (view d)) (causes : (d : D) → AreCauses (view d)) (x : FormatAccess D) (o most : ℕ) (layer : FormatAccess D) (way : Way) (m : ShallowMapping) → HasLanded view x o most layer way m
-    → (n : ℕ) (e : Error) → allowed (named_read_reasons (view (driver layer)) m n) e → n ≡ way.length → allowed (chunk_read_reasons view x o most) e
-landed_refused view laws causes x o most layer way m h n e c len =
+    → 0 < most → (n : ℕ) (e : Error) → allowed (named_read_reasons (view (driver layer)) m n) e → n ≡ way.length → allowed (chunk_read_reasons view x o most) e
+landed_refused view laws causes x o most layer way m h some n e c len =
     let k = subst (λ (a : ℕ). allowed (named_read_reasons (view (driver layer)) m a) e) len c in
-    allowed_more _ _ (landed_weaker view laws causes x o most layer way m h) e k
+    allowed_more _ _ (landed_weaker view laws causes x o most layer way m h some) e k
 
 pub known_storage : {D St : Type 0} (view : D → View St) (laws : (d : D) → IsLawful (view d)) (x : FormatAccess D) (o most : ℕ) (layer : FormatAccess D) (way : Way) (m : ShallowMapping) → HasLanded view x o most layer way m → 0 < most → IsKnown m (view (driver layer)).stores.count
 known_storage view laws x o most layer way S.Eof h lt = tt

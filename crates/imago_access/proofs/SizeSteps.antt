@@ -1,10 +1,11 @@
 use Rattle.std.proofs.Common.{◌≡◌, ℕ, ◌<◌, ◌≤◌, ◌&&◌, inl, inr, Bool, true, false, refl, sym, ap, ◌∙◌, subst, arith, Result, Ok, Err, min, max}
-use Rattle.std.specs.Prelude.{IsTrue, IfErr, OnOk, OnErr}
+use Rattle.std.specs.Prelude.{IsTrue, IsOk, IfErr, OnOk, OnErr}
 use Rattle.imago_storage.specs.declared.error.Error.{Error}
 use Rattle.imago_storage.specs.Faults.{CountsFaults}
 use Rattle.imago_drivers.specs.Operation.{Operation, Grow, Shrink, Flush}
 use Rattle.imago_drivers.specs.declared.format.PreallocateMode.{PreallocateMode}
-use Rattle.imago_drivers.specs.Place.{shown, SamePlaces}
+use Rattle.imago_drivers.specs.Place.{shown, values, SamePlaces}
+use Rattle.imago_drivers.specs.Pending.{ShowsRound}
 use Rattle.imago_drivers.specs.LayerBelow.{LayerBelow}
 use Rattle.imago_drivers.specs.View.{View}
 use Rattle.imago_drivers.specs.Reasons.{allowed}
@@ -14,9 +15,8 @@ use Rattle.imago_drivers.specs.Done.{lending_reasons, driver_reasons}
 use Rattle.imago_access.specs.declared.access.FormatAccess.{FormatAccess}
 use Rattle.imago_access.specs.Chain.{driver, backing, disk_value, lent_image}
 use Rattle.imago_access.specs.Lending.{with_driver}
-use Rattle.imago_access.specs.Calls.{IsKept, devices_reliable, range_refusals}
-use Rattle.imago_access.specs.Sizes.{HasGrown, HasShrunk, IsSameImage, FailsWritable, IsResize, IsFlushed}
-use Rattle.imago_access.proofs.Weaker.{IsWeaker, allowed_more}
+use Rattle.imago_access.specs.Calls.{IsKept, range_refusals}
+use Rattle.imago_access.specs.Sizes.{HasGrown, HasShrunk, IsSameImage, FailsWritable, IsIdle, IsResize, IsFlushed, resize_reliable, resize_refusals}
 use Rattle.imago_access.proofs.Images.{driver_with, backing_with, changed_image}
 
 ok_then : {P Q : Type 0} (r : Result Unit Error) → (P → Q) → OnOk r P → OnOk r Q
@@ -61,15 +61,16 @@ module _ {D St : Type 0} (view : D → View St) (x : FormatAccess D) (d : D) whe
   }
 
   pub resized_image : (op : Operation) (n : ℕ) (effect : Type 0) (result : Result Unit Error) → (view (driver x)).abilities.is_writable ≡ true
-      → OnOk result effect → OnErr result (IsSameDisk (view (driver x)) (view d)) → IsKind (view (driver x)) (view d)
-      → CountsFaults (devices_reliable view x) (view (driver x)).fault_count (view d).fault_count result
-      → IfErr result (allowed (record (range_refusals view x op n 0) { beyond_disk = ⊥ })) → IsResize view op n effect x (with_driver x d) result
-  resized_image op n effect result w done same kind faults refusals = record {
+      → OnOk result effect → (IsIdle op (view (driver x)).size n → IsOk result) → OnErr result (IsSameDisk (view (driver x)) (view d)) → IsKind (view (driver x)) (view d)
+      → CountsFaults (resize_reliable view x op) (view (driver x)).fault_count (view d).fault_count result
+      → IfErr result (allowed (resize_refusals view x op n)) → IsResize view op n effect x (with_driver x d) result
+  resized_image op n effect result w done idle same kind faults refusals = record {
     tested = λ e f. absurd (let y = sym w ∙ f.1 in cc);
     done = done;
+    idle = λ t i. idle i;
     unchanged = err_then result (λ h. same_image h.size h.places) same;
     kept = kept_with kind;
-    faults = with (λ (y : D). CountsFaults (devices_reliable view x) (view (driver x)).fault_count (view y).fault_count result) faults;
+    faults = with (λ (y : D). CountsFaults (resize_reliable view x op) (view (driver x)).fault_count (view y).fault_count result) faults;
     refusals = refused_then result _ _ (λ e h. inr h) refusals;
   }
 
@@ -84,11 +85,18 @@ module _ {D St : Type 0} (view : D → View St) (x : FormatAccess D) (d : D) whe
     refusals = refusals;
   }
 
+  -- what a commit will show round the prepared range is what the image shows there
+  pub round_image : (ShowsRound (values (lent_image view (backing x)).at (view (driver x)).place) (view (driver x)).pending → ShowsRound (values (lent_image view (backing x)).at (view d).place) (view d).pending)
+      → ShowsRound (disk_value view x) (view (driver x)).pending → ShowsRound (disk_value view (with_driver x d)) (view (driver (with_driver x d))).pending
+  round_image h = with (λ (y : D). ShowsRound (disk_value view x) (view (driver x)).pending → ShowsRound (disk_value view (with_driver x d)) (view y).pending)
+      (changed_image view x d (λ a b. ShowsRound a (view (driver x)).pending → ShowsRound b (view d).pending) h)
+
 -- a resize of an image that isn't writable
 pub read_only_resize : {D St : Type 0} (view : D → View St) (x : FormatAccess D) (op : Operation) (n : ℕ) (effect : Type 0) (e : Error) → FailsWritable (view (driver x)) e → IsResize view op n effect x x (Err e)
 read_only_resize view x op n effect e w = record {
   tested = λ z f. (ap (λ y. Err y) (w.0 ∙ sym f.0), refl);
   done = tt;
+  idle = λ t i. let y = sym t ∙ w.1 in let z : ⊥ = cc in absurd z;
   unchanged = record { size = refl; values = λ k p. refl };
   kept = record { below = refl; kind = record { abilities = refl; store_count = refl; store_features = λ i. refl } };
   faults = record { later = omega arith; reliable = λ t. refl; device = λ h. let y = w.0 in let z : ⊥ = cc in absurd z };
@@ -101,37 +109,20 @@ grow_weaker view x l h op n e c = subst (λ (m : LayerBelow). allowed (record (l
 
 -- a growth by the driver, over what it is lent
 pub grow_image : {D St : Type 0} (view : D → View St) (x : FormatAccess D) (d : D) (l : LayerBelow) → l ≡ lent_image view (backing x) → (mode : PreallocateMode) (n : ℕ) (result : Result Unit Error) → (view (driver x)).abilities.is_writable ≡ true
-    → OnOk result (IsGrown mode l.at n (view (driver x)) (view d)) → OnErr result (IsSameDisk (view (driver x)) (view d)) → IsKind (view (driver x)) (view d)
+    → OnOk result (IsGrown mode l.at n (view (driver x)) (view d)) → (n ≤ (view (driver x)).size → IsOk result) → OnErr result (IsSameDisk (view (driver x)) (view d)) → IsKind (view (driver x)) (view d)
     → CountsFaults ((view (driver x)).abilities.is_reliable && l.is_reliable) (view (driver x)).fault_count (view d).fault_count result
     → IfErr result (allowed (record (lending_reasons (view (driver x)) l (Grow mode) n 0) { beyond_disk = ⊥ })) → IsResize view (Grow mode) n (HasGrown view mode n x (with_driver x d)) x (with_driver x d) result
-grow_image view x d l h mode n result w grown same kind faults refusals =
+grow_image view x d l h mode n result w grown idle same kind faults refusals =
     resized_image view x d (Grow mode) n _ result w
     (ok_then result (λ g. grown_image view x d mode n (subst (λ (m : LayerBelow). IsGrown mode m.at n (view (driver x)) (view d)) h g)) grown)
-    same kind
+    idle same kind
     (subst (λ (m : LayerBelow). CountsFaults ((view (driver x)).abilities.is_reliable && m.is_reliable) (view (driver x)).fault_count (view d).fault_count result) h faults)
     (refused_then result _ _ (grow_weaker view x l h (Grow mode) n) refusals)
 
--- a driver's own refusal is one of the image
+-- a cut by the driver
 pub shrink_image : {D St : Type 0} (view : D → View St) (x : FormatAccess D) (d : D) (n : ℕ) (result : Result Unit Error) → (view (driver x)).abilities.is_writable ≡ true
-    → OnOk result (IsCut n (view (driver x)) (view d)) → OnErr result (IsSameDisk (view (driver x)) (view d)) → IsKind (view (driver x)) (view d)
+    → OnOk result (IsCut n (view (driver x)) (view d)) → ((view (driver x)).size ≤ n → IsOk result) → OnErr result (IsSameDisk (view (driver x)) (view d)) → IsKind (view (driver x)) (view d)
     → CountsFaults (view (driver x)).abilities.is_reliable (view (driver x)).fault_count (view d).fault_count result
     → IfErr result (allowed (driver_reasons (view (driver x)) Shrink n 0)) → IsResize view Shrink n (HasShrunk view n x (with_driver x d)) x (with_driver x d) result
-shrink_image view x d n result w cut same kind faults refusals =
-    resized_image view x d Shrink n _ result w (ok_then result (cut_image view x d n) cut) same kind
-    (record { later = faults.later; reliable = λ t. faults.reliable (and_left _ _ t); device = faults.device })
-    (refused_then result _ _ (λ e h. allowed_more _ _ weaker e h) refusals)
-  where
-    and_left : (a b : Bool) → IsTrue (a && b) → IsTrue a
-    and_left true b h = refl
-    and_left false b h = h
-
-    weaker : IsWeaker (driver_reasons (view (driver x)) Shrink n 0) (record (range_refusals view x Shrink n 0) { beyond_disk = ⊥ })
-    weaker = record {
-      read_only = λ h. h;
-      beyond_disk = λ h. h;
-      range_overflow = λ h. h;
-      cause = λ e c. inl c;
-      device = λ h. h;
-      memory = λ h. h;
-      foreign_mapping = λ h. h;
-    }
+shrink_image view x d n result w cut idle same kind faults refusals =
+    resized_image view x d Shrink n _ result w (ok_then result (cut_image view x d n) cut) idle same kind faults refusals

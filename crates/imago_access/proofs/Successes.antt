@@ -1,25 +1,27 @@
-use Rattle.std.proofs.Common.{◌≡◌, ℕ, ◌+◌, ◌^◌, ◌<◌, ◌≤◌, ◌⊎◌, inl, inr, ⊎_elim, Bool, true, false, List, length, refl, sym, ◌∙◌, arith, Result, Ok, Err}
-use Rattle.std.specs.Prelude.{IfErr}
+use Rattle.std.proofs.Common.{◌≡◌, ℕ, ◌+◌, ◌^◌, ◌<◌, ◌≤◌, ◌⊎◌, ◌&&◌, inl, inr, ⊎_elim, Bool, true, false, List, length, refl, sym, ◌∙◌, arith, Result, Ok, Err}
+use Rattle.std.specs.Prelude.{IfErr, IsOk, IsErrOf, max}
 use Rattle.imago_storage.specs.declared.error.Error.{Error}
 use Rattle.imago_storage.specs.declared.error.Error.TheVariants as E
 use Rattle.imago_storage.specs.Faults.{CountsFaults}
 use Rattle.imago_drivers.specs.declared.format.PreallocateMode.{PreallocateMode}
 use Rattle.imago_drivers.specs.Place.{Value}
 use Rattle.imago_drivers.specs.LayerBelow.{ReadBound}
-use Rattle.imago_drivers.specs.Operation.{Operation, Write, Grow, Shrink}
+use Rattle.imago_drivers.specs.Operation.{Operation, Map, Write, Grow, Shrink}
 use Rattle.imago_drivers.specs.View.{View}
 use Rattle.imago_drivers.specs.Laws.{IsLawful, AreCauses}
 use Rattle.imago_drivers.specs.Reasons.{Reasons, allowed}
 use Rattle.imago_access.specs.declared.access.FormatAccess.{FormatAccess}
-use Rattle.imago_access.specs.Chain.{driver, disk_value, is_reliable, read_cause, read_reasons, no_memory_to_read}
+use Rattle.imago_access.specs.Chain.{driver, disk_value, is_reliable, chain_cause, read_cause, read_reasons, no_memory_to_read}
+use Rattle.imago_access.specs.Resolved.{chain_map_reasons}
 use Rattle.imago_access.specs.ChainLaws.{image_is_layer}
-use Rattle.imago_access.specs.Calls.{IsWrite, range_refusals, devices_reliable}
-use Rattle.imago_access.specs.Sizes.{IsResize, HasGrown, HasShrunk}
-use Rattle.imago_access.specs.Success.{Succeeds, IsReadable, IsMildRefusal, IsSound, IsReadyToWrite, IsReadyToResize, SucceedsIfOffered}
+use Rattle.imago_access.specs.Calls.{FailsTest, range_refusals, devices_reliable}
+use Rattle.imago_drivers.specs.Done.{driver_reasons}
+use Rattle.imago_access.specs.Sizes.{IsResize, HasGrown, HasShrunk, FailsWritable}
+use Rattle.imago_access.specs.Success.{Succeeds, IsReadable, IsMildRefusal, IsReadyToWrite, IsReadyToResize, HasSoundDevice, SucceedsIfOffered, change_cause}
 use Rattle.imago_access.proofs.Images.{not_failed}
 
 -- a refusal that is for nothing else is for want of memory, or has a cause
-cause_or_memory : (r : Reasons) (e : Error) → (r.read_only → ⊥) → (r.beyond_disk → ⊥) → (r.range_overflow → ⊥) → (e ≡ Error.Device → r.device → ⊥) → (r.foreign_mapping → ⊥) → allowed r e → ((e ≡ Error.Memory) × r.memory) ⊎ r.cause e
+cause_or_memory : (r : Reasons) (e : Error) → (r.read_only → ⊥) → (r.beyond_disk → ⊥) → (r.range_overflow → ⊥) → (e ≡ Error.Device → r.device → ⊥) → (e ≡ Error.ForeignMapping → r.foreign_mapping → ⊥) → allowed r e → ((e ≡ Error.Memory) × r.memory) ⊎ r.cause e
 cause_or_memory r E.ReadOnly a b c d f h = absurd (a h)
 cause_or_memory r E.BeyondDisk a b c d f h = absurd (b h)
 cause_or_memory r E.RangeOverflow a b c d f h = absurd (c h)
@@ -29,7 +31,7 @@ cause_or_memory r E.Unsupported a b c d f h = inr h
 cause_or_memory r E.NoAccess a b c d f h = inr h
 cause_or_memory r E.Device a b c d f h = absurd (d refl h)
 cause_or_memory r E.Memory a b c d f h = inl (refl, h)
-cause_or_memory r E.ForeignMapping a b c d f h = absurd (f h)
+cause_or_memory r E.ForeignMapping a b c d f h = absurd (f refl h)
 cause_or_memory r E.Denied a b c d f h = absurd h
 cause_or_memory r E.NotFound a b c d f h = absurd h
 
@@ -63,51 +65,73 @@ succeeds_if_offered b (Err e) h = record {
 }
 
 -- a reliable device whose count of faults can rise doesn't fail
-no_fault : (is_reliable : Bool) (before now : ℕ) (e : Error) → is_reliable ≡ true → before + 1 < 2 ^ 64 → CountsFaults {T = Unit {0}} is_reliable before now (Err e) → e ≡ Error.Device → ⊥
+no_fault : {T : Type 0} (is_reliable : Bool) (before now : ℕ) (e : Error) → is_reliable ≡ true → before + 1 < 2 ^ 64 → CountsFaults {T = T} is_reliable before now (Err e) → e ≡ Error.Device → ⊥
 no_fault b before now e r lt f d =
     let same : now ≡ before = f.reliable r in
     let rose = f.device (cc) in
     ⊎_elim (λ (k : before < now). omega arith) (λ (k : 2 ^ 64 ≤ now + 1). omega arith) rose
+
+-- a call of the driver that counts on its own device alone
+pub driver_succeeds : {St takes_none : Type 0} (old : View St) (now : ℕ) (r : Reasons) (result : Result Unit Error) → HasSoundDevice old → (r.read_only → ⊥) → (r.beyond_disk → ⊥) → (r.range_overflow → ⊥)
+    → (IsErrOf result Error.ForeignMapping → r.foreign_mapping → ⊥) → ((e : Error) → r.cause e → ⊥) → (r.memory → takes_none → ⊥)
+    → CountsFaults old.abilities.is_reliable old.fault_count now result → IfErr result (allowed r) → Succeeds takes_none result
+driver_succeeds old now r (Ok t) s a b c f k m faults h = succeeds (Ok t) tt
+driver_succeeds old now r (Err e) s a b c f k m faults h = succeeds (Err e) (⊎_elim (λ w. (w.0, m w.1)) (λ z. absurd (k e z))
+    (cause_or_memory r e a b c (λ d z. no_fault old.abilities.is_reliable old.fault_count now e s.reliable s.counts faults d) (λ d z. f (cc) z) h))
 
 module _ {D St : Type 0} (view : D → View St) where
   pub read_succeeds : (x : FormatAccess D) (o n : ℕ) (result : Result Unit Error) → is_reliable view x ≡ true
       → ((e : Error) → read_cause view x o n e → ⊥) → IfErr result (allowed (read_reasons view x o n)) → Succeeds (no_memory_to_read view x o n) result
   read_succeeds x o n (Ok t) r c h = succeeds (Ok t) tt
   read_succeeds x o n (Err e) r c h = succeeds (Err e) (⊎_elim (λ m. m) (λ k. absurd (c e k))
-      (cause_or_memory (read_reasons view x o n) e (λ z. z) (λ z. z) (λ z. z) (λ d z. both_ways (is_reliable view x) r z) (λ z. z) h))
+      (cause_or_memory (read_reasons view x o n) e (λ z. z) (λ z. z) (λ z. z) (λ d z. both_ways (is_reliable view x) r z) (λ d z. z) h))
 
   pub readable_is_read : ((d : D) → IsLawful (view d)) → ((d : D) → AreCauses (view d)) → (x : FormatAccess D) (o n : ℕ) (result : Result Unit Error) → is_reliable view x ≡ true
       → IsReadable (disk_value view x) o n → IfErr result (allowed (read_reasons view x o n)) → IfErr result IsMildRefusal
   readable_is_read lawful causes x o n (Ok t) r g h = tt
   readable_is_read lawful causes x o n (Err e) r g h = ⊎_elim (λ m. inl m.0) (λ k. mild (disk_value view x) o n e g ((image_is_layer view causes lawful x).bound o n e k))
-      (cause_or_memory (read_reasons view x o n) e (λ z. z) (λ z. z) (λ z. z) (λ d z. both_ways (is_reliable view x) r z) (λ z. z) h)
+      (cause_or_memory (read_reasons view x o n) e (λ z. z) (λ z. z) (λ z. z) (λ d z. both_ways (is_reliable view x) r z) (λ d z. z) h)
 
-  -- neither the driver nor what it is lent fails
-  sound : (old : FormatAccess D) (now : ℕ) (e : Error) → IsSound view old → CountsFaults {T = Unit {0}} (devices_reliable view old) (view (driver old)).fault_count now (Err e) → e ≡ Error.Device → ⊥
-  sound old now e s f = no_fault (devices_reliable view old) (view (driver old)).fault_count now e s.reliable s.counts f
+  pub mapping_succeeds : {T : Type 0} (x : FormatAccess D) (o n : ℕ) (result : Result T Error) → is_reliable view x ≡ true
+      → ((e : Error) → chain_cause view x Map o (max n 1) e → ⊥) → IfErr result (allowed (chain_map_reasons view x o n)) → IsOk result
+  mapping_succeeds x o n (Ok t) r c h = refl
+  mapping_succeeds x o n (Err e) r c h = absurd (⊎_elim (λ m. m.1) (λ k. c e k)
+      (cause_or_memory (chain_map_reasons view x o n) e (λ z. z) (λ z. z) (λ z. z) (λ d z. both_ways (is_reliable view x) r z) (λ d z. z) h))
 
-  pub write_succeeds : (old new : FormatAccess D) (o : ℕ) (bytes : List ℕ) (result : Result Unit Error) → IsReadyToWrite view old o (length bytes)
-      → IsWrite view old new o bytes result → Succeeds ((view (driver old)).no_memory Write o (length bytes)) result
-  write_succeeds old new o bytes (Ok t) g h = succeeds (Ok t) tt
-  write_succeeds old new o bytes (Err e) g h = succeeds (Err e) (⊎_elim
-      (λ f. absurd (not_failed (view (driver old)) o (length bytes) g.sound.writable g.inside e f))
+  -- a call on a range, whatever it answers
+  pub range_succeeds : {T : Type 0} (old new : FormatAccess D) (o n : ℕ) (result : Result T Error) → IsReadyToWrite view old o n
+      → CountsFaults (devices_reliable view old) (view (driver old)).fault_count (view (driver new)).fault_count result
+      → IfErr result (λ e. FailsTest (view (driver old)) o n e ⊎ allowed (range_refusals view old Write o n) e) → Succeeds ((view (driver old)).no_memory Write o n) result
+  range_succeeds old new o n (Ok t) g f h = succeeds (Ok t) tt
+  range_succeeds {T} old new o n (Err e) g f h = succeeds (Err e) (⊎_elim
+      (λ k. absurd (not_failed (view (driver old)) o n g.sound.writable g.inside e k))
       (λ a. ⊎_elim (λ m. m) (λ k. absurd (g.no_cause e k))
-      (cause_or_memory (range_refusals view old Write o (length bytes)) e (λ z. z) g.no_end (λ z. z) (λ d z. sound old (view (driver new)).fault_count e g.sound h.faults d) (λ z. z) a))
-      h.refusals)
+      (cause_or_memory (range_refusals view old Write o n) e (λ z. z) g.no_end (λ z. z) (λ d z. no_fault {T = T} (devices_reliable view old) (view (driver old)).fault_count (view (driver new)).fault_count e g.sound.reliable g.sound.counts f d) (λ d z. z) a))
+      h)
 
-  resize_succeeds : (old new : FormatAccess D) (op : Operation) (n : ℕ) (effect : Type 0) (result : Result Unit Error) → IsReadyToResize view old op n
-      → IsResize view op n effect old new result → SucceedsIfOffered ((view (driver old)).abilities.offers op) ((view (driver old)).no_memory op n 0) result
-  resize_succeeds old new op n effect (Ok t) g h = succeeds_if_offered _ (Ok t) tt
-  resize_succeeds old new op n effect (Err e) g h = succeeds_if_offered _ (Err e) (⊎_elim
+  -- what is left of a refusal of a resize that may count on its devices
+  resize_left : (old new : FormatAccess D) (op : Operation) (n : ℕ) (r : Reasons) (b : Bool) (e : Error) → IsReadyToResize view old op n → b ≡ true
+      → (r.read_only → ⊥) → (r.beyond_disk → ⊥) → (r.range_overflow → ⊥) → (r.foreign_mapping → ⊥) → ((z : Error) → r.cause z → change_cause view old op n 0 z)
+      → CountsFaults {T = Unit {0}} b (view (driver old)).fault_count (view (driver new)).fault_count (Err e) → FailsWritable (view (driver old)) e ⊎ allowed r e
+      → ((e ≡ Error.Memory) × r.memory) ⊎ ((e ≡ Error.Unsupported) × ((view (driver old)).abilities.offers op ≡ false))
+  resize_left old new op n r b e g reliable ro bd ov fo over faults refused = ⊎_elim
       (λ f. absurd (both_ways (view (driver old)).abilities.is_writable g.sound.writable f.1))
-      (λ a. ⊎_elim (λ m. inl m) (λ k. inr (g.no_cause e k))
-      (cause_or_memory (record (range_refusals view old op n 0) { beyond_disk = ⊥ }) e (λ z. z) (λ z. z) (λ z. z) (λ d z. sound old (view (driver new)).fault_count e g.sound h.faults d) (λ z. z) a))
-      h.refusals)
+      (λ a. ⊎_elim (λ m. inl m) (λ k. inr (g.no_cause e (over e k)))
+      (cause_or_memory r e ro bd ov (λ d z. no_fault b (view (driver old)).fault_count (view (driver new)).fault_count e reliable g.sound.counts faults d) (λ d z. fo z) a))
+      refused
 
   pub growth_succeeds : (old new : FormatAccess D) (mode : PreallocateMode) (n : ℕ) (result : Result Unit Error) → IsReadyToResize view old (Grow mode) n
       → IsResize view (Grow mode) n (HasGrown view mode n old new) old new result → SucceedsIfOffered ((view (driver old)).abilities.offers (Grow mode)) ((view (driver old)).no_memory (Grow mode) n 0) result
-  growth_succeeds old new mode n result g h = resize_succeeds old new (Grow mode) n (HasGrown view mode n old new) result g h
+  growth_succeeds old new mode n (Ok t) g h = succeeds_if_offered _ (Ok t) tt
+  growth_succeeds old new mode n (Err e) g h = succeeds_if_offered _ (Err e)
+      (resize_left old new (Grow mode) n (record (range_refusals view old (Grow mode) n 0) { beyond_disk = ⊥ }) (devices_reliable view old) e g g.sound.reliable (λ z. z) (λ z. z) (λ z. z) (λ z. z) (λ z c. c) h.faults h.refusals)
+
+  and_left : (a b : Bool) → (a && b) ≡ true → a ≡ true
+  and_left true b h = refl
+  and_left false b h = h
 
   pub cut_succeeds : (old new : FormatAccess D) (n : ℕ) (result : Result Unit Error) → IsReadyToResize view old Shrink n
       → IsResize view Shrink n (HasShrunk view n old new) old new result → SucceedsIfOffered ((view (driver old)).abilities.offers Shrink) ((view (driver old)).no_memory Shrink n 0) result
-  cut_succeeds old new n result g h = resize_succeeds old new Shrink n (HasShrunk view n old new) result g h
+  cut_succeeds old new n (Ok t) g h = succeeds_if_offered _ (Ok t) tt
+  cut_succeeds old new n (Err e) g h = succeeds_if_offered _ (Err e)
+      (resize_left old new Shrink n (driver_reasons (view (driver old)) Shrink n 0) (view (driver old)).abilities.is_reliable e g (and_left _ _ g.sound.reliable) (λ z. z) (λ z. z) (λ z. z) (λ z. z) (λ z c. inl c) h.faults h.refusals)

@@ -49,7 +49,7 @@ abbrev mutual
   -- a cause of refusal for that range at the top, or, for what is reached there, at a layer below
   pub chain_cause : {D St : Type 0} → (D → View St) → FormatAccess D → Operation → ℕ → ℕ → Error → Type 0
   chain_cause view (FormatAccess' inner below) op o n e =
-      (view inner).cause op o n e ⊎ ((q : ℕ) × (m : ℕ) × IsReached (view inner).place o n q m × cause_below view below op q m e)
+      (view inner).cause op o n e ⊎ ((q : ℕ) × (m : ℕ) × (0 < m) × IsReached (view inner).place o n q m × cause_below view below op q m e)
 
   pub cause_below : {D St : Type 0} → (D → View St) → Held-FormatAccess-backing D → Operation → ℕ → ℕ → Error → Type 0
   cause_below view None' op q m e = ⊥

@@ -2,6 +2,7 @@ pub mod Chain
 pub mod Text
 pub mod Target
 pub mod Resolved
+pub mod Lengths
 pub mod Ways
 pub mod Named
 pub mod Writing

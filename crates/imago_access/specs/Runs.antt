@@ -11,6 +11,7 @@ use Rattle.imago_access.specs.declared.run.Reply.{Reply}
 use Rattle.imago_access.specs.declared.run.Reply.TheVariants as R
 use Rattle.imago_access.specs.Chain.{driver, disk_value, read_reasons}
 use Rattle.imago_access.specs.Resolved.{IsResolved, chain_map_reasons}
+use Rattle.imago_access.specs.Lengths.{IsFullLength}
 use Rattle.imago_access.specs.Calls.{IsWrite}
 use Rattle.imago_access.specs.Sizes.{IsResize, IsResizeTo, HasGrown, HasShrunk, IsFlushed}
 
@@ -39,7 +40,7 @@ IsReadReply view x o n _ = ⊥
 
 -- so does a mapping: the one of the image at that moment
 abbrev pub IsMappedReply : {D St : Type 0} → (D → View St) → FormatAccess D → ℕ → ℕ → Reply → Type 0
-IsMappedReply view x o n (R.Mapped mapping count) = IsResolved view x o n mapping count
+IsMappedReply view x o n (R.Mapped mapping count) = IsResolved view x o n mapping count × IsFullLength view x o n mapping count
 IsMappedReply view x o n (R.Refused e) = allowed (chain_map_reasons view x o n) e × ((e ≡ Error.InvalidData) ⊎ (e ≡ Error.NoAccess) → disk_value view x o ≡ Unreadable e)
 IsMappedReply view x o n _ = ⊥
 

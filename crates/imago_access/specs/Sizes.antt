@@ -1,9 +1,9 @@
-use Rattle.std.specs.Prelude.{◌≡◌, ℕ, ◌<◌, ◌≤◌, ◌⊎◌, false, min, max, IsTrue, Result, IfErr, OnOk, OnErr, IsErrOf}
+use Rattle.std.specs.Prelude.{◌≡◌, ℕ, ◌<◌, ◌≤◌, ◌⊎◌, Bool, true, false, min, max, IsTrue, Result, IsOk, IfErr, OnOk, OnErr, IsErrOf}
 use Rattle.imago_storage.specs.declared.error.Error.{Error}
 use Rattle.imago_storage.specs.Faults.{CountsFaults}
 use Rattle.imago_drivers.specs.Operation.{Operation, Grow, Shrink, Flush}
 use Rattle.imago_drivers.specs.declared.format.PreallocateMode.{PreallocateMode}
-use Rattle.imago_drivers.specs.Reasons.{allowed}
+use Rattle.imago_drivers.specs.Reasons.{Reasons, allowed}
 use Rattle.imago_drivers.specs.View.{View}
 use Rattle.imago_drivers.specs.Resized.{grown_into}
 use Rattle.imago_drivers.specs.Done.{driver_reasons}
@@ -32,14 +32,32 @@ pub record IsSameImage {D St : Type 0} (view : D → View St) (old new : FormatA
 abbrev pub FailsWritable : {St : Type 0} → View St → Error → Type 0
 FailsWritable v e = (e ≡ Error.ReadOnly) × (v.abilities.is_writable ≡ false)
 
+-- there is nothing to do: the disk has that size already, or a larger one for a growth, a smaller one for a cut
+abbrev pub IsIdle : Operation → ℕ → ℕ → Type 0
+IsIdle (Grow mode) size new_size = new_size ≤ size
+IsIdle Shrink size new_size = size ≤ new_size
+IsIdle _ size new_size = ⊥
+
+-- whose devices a resize counts on: a growth is lent the layer below, a cut is not
+abbrev pub resize_reliable : {D St : Type 0} → (D → View St) → FormatAccess D → Operation → Bool
+resize_reliable view x Shrink = (view (driver x)).abilities.is_reliable
+resize_reliable view x _ = devices_reliable view x
+
+-- why a resize may be refused, once its test passed
+abbrev pub resize_refusals : {D St : Type 0} → (D → View St) → FormatAccess D → Operation → ℕ → Reasons
+resize_refusals view x Shrink new_size = driver_reasons (view (driver x)) Shrink new_size 0
+resize_refusals view x op new_size = record (range_refusals view x op new_size 0) { beyond_disk = ⊥ }
+
 -- A resize: what holds where it succeeds; refused, the disk is as it was.
 pub record IsResize {D St : Type 0} (view : D → View St) (op : Operation) (new_size : ℕ) (effect : Type 0) (old new : FormatAccess D) (result : Result Unit Error) : Type 0 where
   pub tested : (e : Error) → FailsWritable (view (driver old)) e → IsErrOf result e × (new ≡ old)
   pub done : OnOk result effect
+  -- where there is nothing to do it isn't refused, once its test has passed
+  pub idle : (view (driver old)).abilities.is_writable ≡ true → IsIdle op (view (driver old)).size new_size → IsOk result
   pub unchanged : OnErr result (IsSameImage view old new)
   pub kept : IsKept view old new
-  pub faults : CountsFaults (devices_reliable view old) (view (driver old)).fault_count (view (driver new)).fault_count result
-  pub refusals : IfErr result (λ e. FailsWritable (view (driver old)) e ⊎ allowed (record (range_refusals view old op new_size 0) { beyond_disk = ⊥ }) e)
+  pub faults : CountsFaults (resize_reliable view old op) (view (driver old)).fault_count (view (driver new)).fault_count result
+  pub refusals : IfErr result (λ e. FailsWritable (view (driver old)) e ⊎ allowed (resize_refusals view old op new_size) e)
 
 -- A resize to a size: a cut where it is smaller, else a growth.
 pub record IsResizeTo {D St : Type 0} (view : D → View St) (new_size : ℕ) (mode : PreallocateMode) (old new : FormatAccess D) (result : Result Unit Error) : Type 0 where

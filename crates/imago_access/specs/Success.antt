@@ -1,15 +1,22 @@
-use Rattle.std.specs.Prelude.{◌≡◌, ℕ, ◌+◌, ◌^◌, ◌<◌, ◌≤◌, ◌⊎◌, Bool, true, false, List, length, Result, IfErr, IsOk}
+use Rattle.std.specs.Prelude.{◌≡◌, ℕ, ◌+◌, ◌^◌, ◌<◌, ◌≤◌, ◌⊎◌, ◌↔◌, max, Bool, true, false, None, List, length, Result, IfErr, IsOk, IsErrOf}
 use Rattle.imago_storage.specs.declared.error.Error.{Error}
 use Rattle.imago_drivers.specs.declared.format.PreallocateMode.{PreallocateMode}
-use Rattle.imago_drivers.specs.Operation.{Operation, Write, Grow, Shrink}
+use Rattle.imago_storage.specs.Faults.{CountsFaults}
+use Rattle.imago_drivers.specs.Operation.{Operation, Map, Write, Grow, Shrink, Flush}
 use Rattle.imago_drivers.specs.Place.{Value, Unreadable, IsIn}
 use Rattle.imago_drivers.specs.Causes.{CauseOver}
 use Rattle.imago_drivers.specs.Reasons.{allowed}
 use Rattle.imago_drivers.specs.View.{View, EndsIn}
 use Rattle.imago_access.specs.declared.access.FormatAccess.{FormatAccess}
-use Rattle.imago_access.specs.Chain.{driver, backing, disk_value, lent_image, is_reliable, read_cause, read_reasons, no_memory_to_read}
-use Rattle.imago_access.specs.Calls.{devices_reliable, IsWrite}
-use Rattle.imago_access.specs.Sizes.{IsResize, HasGrown, HasShrunk}
+use Rattle.imago_access.specs.declared.mapping.Mapping.{Mapping}
+use Rattle.imago_drivers.specs.Done.{mapping_write_reasons}
+use Rattle.imago_drivers.specs.Prepared.{IsForeign, IsForeignWrite, IsFor}
+use Rattle.imago_drivers.specs.Commit.{IsCommit}
+use Rattle.imago_drivers.specs.declared.mapping.PreparedDataMapping.{PreparedDataMapping}
+use Rattle.imago_access.specs.Chain.{driver, backing, disk_value, lent_image, is_reliable, chain_cause, read_cause, read_reasons, no_memory_to_read}
+use Rattle.imago_access.specs.Resolved.{chain_map_reasons}
+use Rattle.imago_access.specs.Calls.{devices_reliable, IsWrite, IsEnsured, IsPreparing}
+use Rattle.imago_access.specs.Sizes.{IsResize, IsFlushed, HasGrown, HasShrunk}
 
 -- The call is refused for want of memory alone, and succeeds where it takes none.
 pub record Succeeds {T : Type 0} (takes_none : Type 0) (result : Result T Error) : Type 0 where
@@ -33,6 +40,11 @@ abbrev pub ReadableRangesAreRead : {D St : Type 0} → (D → View St) → Type 
 ReadableRangesAreRead {D} view = (x : FormatAccess D) (o n : ℕ) (result : Result Unit Error) → is_reliable view x ≡ true
     → IsReadable (disk_value view x) o n → IfErr result (allowed (read_reasons view x o n)) → IfErr result IsMildRefusal
 
+-- a mapping of a chain of reliable devices, with no cause of a refusal: it takes no memory, so it succeeds
+abbrev pub MappingsSucceed : {D St : Type 0} → (D → View St) → Type 0
+MappingsSucceed {D} view = (x : FormatAccess D) (o n : ℕ) (result : Result (Mapping × ℕ) Error) → is_reliable view x ≡ true
+    → ((e : Error) → chain_cause view x Map o (max n 1) e → ⊥) → IfErr result (allowed (chain_map_reasons view x o n)) → IsOk result
+
 -- A changing call may count on the image: it is writable, its devices don't fail, nor those of a layer that it is lent, and the
 -- count of faults is below its greatest value.
 pub record IsSound {D St : Type 0} (view : D → View St) (x : FormatAccess D) : Type 0 where
@@ -54,6 +66,49 @@ pub record IsReadyToWrite {D St : Type 0} (view : D → View St) (x : FormatAcce
 abbrev pub WritesSucceed : {D St : Type 0} → (D → View St) → Type 0
 WritesSucceed {D} view = (old new : FormatAccess D) (o : ℕ) (bytes : List ℕ) (result : Result Unit Error) → IsReadyToWrite view old o (length bytes)
     → IsWrite view old new o bytes result → Succeeds ((view (driver old)).no_memory Write o (length bytes)) result
+
+-- a data mapping, for overwriting or not, and the preparing of one
+abbrev pub DataMappingsSucceed : {D St : Type 0} → (D → View St) → Type 0
+DataMappingsSucceed {D} view = (old new : FormatAccess D) (o n : ℕ) (overwrite : Bool) (result : Result (ℕ × ℕ × ℕ) Error) → IsReadyToWrite view old o n
+    → IsEnsured view old new o n overwrite result → Succeeds ((view (driver old)).no_memory Write o n) result
+
+abbrev pub PreparesSucceed : {D St : Type 0} → (D → View St) → Type 0
+PreparesSucceed {D} {St} view = (old new : FormatAccess D) (o n : ℕ) (result : Result (PreparedDataMapping St) Error) → IsReadyToWrite view old o n
+    → IsPreparing view old new o n result → Succeeds ((view (driver old)).no_memory Write o n) result
+
+-- the driver's device doesn't fail, and the count of faults is below its greatest value
+pub record HasSoundDevice {St : Type 0} (v : View St) : Type 0 where
+  pub reliable : v.abilities.is_reliable ≡ true
+  pub counts : v.fault_count + 1 < 2 ^ 64
+
+-- A write into a prepared mapping that is the driver's own, with no cause of a refusal for any places that it is for.
+pub record IsReadyForPrepared {St : Type 0} (v : View St) (m : PreparedDataMapping St) (at n : ℕ) : Type 0 where
+  pub device : HasSoundDevice v
+  pub own : IsForeignWrite v m → ⊥
+  pub no_cause : (e : Error) → ((o : ℕ) → IsFor v m at n o → v.cause Write o n e) → ⊥
+
+abbrev pub PreparedWritesSucceed : {D St : Type 0} → (D → View St) → Type 0
+PreparedWritesSucceed {D} {St} view = (old new : FormatAccess D) (m : PreparedDataMapping St) (at n : ℕ) (result : Result Unit Error) → IsReadyForPrepared (view (driver old)) m at n
+    → (IsErrOf result Error.ForeignMapping ↔ IsForeignWrite (view (driver old)) m)
+    → CountsFaults (view (driver old)).abilities.is_reliable (view (driver old)).fault_count (view (driver new)).fault_count result
+    → IfErr result (allowed (mapping_write_reasons (view (driver old)) m at n))
+    → Succeeds ((o : ℕ) × IsFor (view (driver old)) m at n o × (view (driver old)).no_memory Write o n) result
+
+-- A commit of a mapping that is no foreign one, with no cause of a refusal. With no state it takes no memory.
+pub record IsReadyToCommit {St : Type 0} (v : View St) (m : PreparedDataMapping St) : Type 0 where
+  pub device : HasSoundDevice v
+  pub own : IsForeign v m → ⊥
+  pub no_cause : (e : Error) → ((o : ℕ) → IsFor v m 0 m.length o → v.cause Write o m.length e) → ⊥
+
+abbrev pub CommitsSucceed : {D St : Type 0} → (D → View St) → Type 0
+CommitsSucceed {D} {St} view = (old new : FormatAccess D) (m : PreparedDataMapping St) (result : Result Unit Error) → IsReadyToCommit (view (driver old)) m
+    → IsCommit view (driver old) (driver new) m result → Succeeds (m.state ≡ None) result
+
+-- a flush, a sync or an invalidation of caches, on a device that doesn't fail
+abbrev pub FlushesSucceed : {D St : Type 0} → (D → View St) → Type 0
+FlushesSucceed {D} view = (old new : FormatAccess D) (result : Result Unit Error) → HasSoundDevice (view (driver old))
+    → ((e : Error) → (view (driver old)).cause Flush 0 0 e → ⊥)
+    → IsFlushed view old new result → Succeeds ((view (driver old)).no_memory Flush 0 0) result
 
 -- The test of a resize passes, and each cause of a refusal is that the driver doesn't offer it.
 pub record IsReadyToResize {D St : Type 0} (view : D → View St) (x : FormatAccess D) (op : Operation) (new_size : ℕ) : Type 0 where

@@ -37,7 +37,7 @@ part_length _ n most = n
 pub record LeadsDown {D St : Type 0} (view : D → View St) (x : FormatAccess D) (o most : ℕ) (layer : FormatAccess D) (hops at left : ℕ) (w : Bool) : Type 0 where
   pub targets : (i : ℕ) → i < left → target view x (o + i) ≡ deeper hops w (target view layer (at + i))
   pub shows : (i : ℕ) → i < left → disk_value view x (o + i) ≡ disk_value view layer (at + i)
-  pub causes : (op : Operation) (i m : ℕ) (e : Error) → i + m ≤ left → chain_cause view layer op (at + i) m e → chain_cause view x op (o + i) m e
+  pub causes : (op : Operation) (i m : ℕ) (e : Error) → 0 < m → i + m ≤ left → chain_cause view layer op (at + i) m e → chain_cause view x op (o + i) m e
   pub reliable : is_reliable view layer ≡ false → is_reliable view x ≡ false
   pub within : left ≤ most
   pub empty : left ≡ 0 → most ≡ 0

@@ -7,6 +7,7 @@ ghost use Rattle.imago_drivers.specs.Reasons.{allowed};
 ghost use Rattle.imago_drivers.specs.Done.{map_reasons};
 ghost use Rattle.imago_access.specs.Chain.{driver, backing, disk_value, chain_no_memory};
 ghost use Rattle.imago_access.specs.Resolved.{IsResolved, IsEndOfImage, chain_map_reasons};
+ghost use Rattle.imago_access.specs.Lengths.{IsOwnLength, IsResolvedLength, IsFullLength};
 ghost use Rattle.imago_access.specs.Ways.{IsPart, HasLanded, part_length, resolved_mapping, resolved_length};
 
 use crate::access::FormatAccess;
@@ -128,6 +129,7 @@ impl<D: FormatDriverInstance> FormatAccess<D> {
     /// The same, with the end going on to the end of the range.
     fn map_part(&self, offset: u64, max_length: u64) -> Result<(ShallowMapping, u64), Error>
         ensures part { IfOk result (λ r. IsPart (D.view (driver self.now)).place offset max_length r.0 r.1) }
+        ensures length { IfOk result (λ r. IsOwnLength (D.view (driver self.now)) offset max_length r.1) }
         ensures whole { (D.view (driver self.now)).no_memory Read offset max_length
             → IfOk result (λ r. r.1 ≡ max_length) }
         ensures refused_place { IfErr result
@@ -148,6 +150,7 @@ impl<D: FormatDriverInstance> FormatAccess<D> {
     ) -> Result<(&FormatAccess<D>, Way, ShallowMapping), Error>
         requires { 0 < max_length }
         ensures landed { IfOk result (λ r. HasLanded D.view self.now offset max_length r.0.now r.1 r.2) }
+        ensures length { IfOk result (λ r. IsResolvedLength D.view self.now offset max_length r.1.length) }
         ensures refused_place { IfErr result
             (λ e. (e ≡ Error.InvalidData) ⊎ (e ≡ Error.NoAccess)
             → disk_value D.view self.now offset ≡ Unreadable e) }
@@ -178,11 +181,12 @@ impl<D: FormatDriverInstance> FormatAccess<D> {
     /// What the bytes from the offset on are, resolved through the layers, and how many of them: at most `max_length`,
     /// and 0 only at the end of the image, or where `max_length` is. Also there the mapping is that of the offset.
     ///
-    /// What the top layer leaves to a layer below that ends before, or to none, is an unallocated zero. Where the drivers
-    /// map the range at once, so does the image. It takes no memory. [`Error::InvalidData`] and [`Error::NoAccess`] are
+    /// What the top layer leaves to a layer below that ends before, or to none, is an unallocated zero. It is as
+    /// long as the drivers on the way map at once. It takes no memory. [`Error::InvalidData`] and [`Error::NoAccess`] are
     /// answered for an offset that may not be read.
     pub fn get_mapping(&self, offset: u64, max_length: u64) -> Result<(Mapping, u64), Error>
         ensures right { IfOk result (λ r. IsResolved D.view self.now offset max_length r.0 r.1) }
+        ensures length { IfOk result (λ r. IsFullLength D.view self.now offset max_length r.0 r.1) }
         ensures whole { chain_no_memory D.view self.now offset max_length
             → IfOk result (λ r. (r.1 ≡ max_length) ⊎ IsEndOfImage r.0) }
         ensures refused_place { IfErr result

@@ -11,7 +11,7 @@ ghost use Rattle.imago_access.specs.Calls.{IsKept};
 ghost use Rattle.imago_access.specs.Runs.{IsRun};
 ghost use Rattle.imago_access.specs.Disk.{disk, backed_value, IsSameWrite, IsSameResize};
 ghost use Rattle.imago_access.specs.Histories.{IsFlatHistory, AreDetermined, IsFlatRun};
-ghost use Rattle.imago_access.specs.Success.{ReadsSucceed, ReadableRangesAreRead, WritesSucceed, GrowthsSucceed, CutsSucceed};
+ghost use Rattle.imago_access.specs.Success.{ReadsSucceed, ReadableRangesAreRead, MappingsSucceed, WritesSucceed, DataMappingsSucceed, PreparesSucceed, PreparedWritesSucceed, CommitsSucceed, GrowthsSucceed, CutsSucceed, FlushesSucceed};
 
 use imago_drivers::drivers::FormatDriverInstance;
 
@@ -76,10 +76,25 @@ pub fn readable_ranges_are_read<D: FormatDriverInstance>()
     ensures { ReadableRangesAreRead D.view }
 {}
 
+/// A mapping of an image whose devices are reliable, with no cause of a refusal in the range, succeeds.
+pub fn mappings_succeed<D: FormatDriverInstance>()
+    ensures { MappingsSucceed D.view }
+{}
+
 /// A write of a range inside the disk, to a writable image whose devices are reliable, with no cause of a refusal, is
 /// refused for want of memory alone, and succeeds where the driver takes none.
 pub fn writes_succeed<D: FormatDriverInstance>()
     ensures { WritesSucceed D.view }
+{}
+
+/// The same of a data mapping.
+pub fn data_mappings_succeed<D: FormatDriverInstance>()
+    ensures { DataMappingsSucceed D.view }
+{}
+
+/// The same of the preparing of a data mapping.
+pub fn prepares_succeed<D: FormatDriverInstance>()
+    ensures { PreparesSucceed D.view }
 {}
 
 /// The same of a growth to a size, which is also refused where the driver doesn't offer it. A resize is a growth or a cut.
@@ -90,4 +105,20 @@ pub fn growths_succeed<D: FormatDriverInstance>()
 /// The same of a cut to a size.
 pub fn cuts_succeed<D: FormatDriverInstance>()
     ensures { CutsSucceed D.view }
+{}
+
+/// A write into a prepared mapping of the image's own, with no cause of a refusal, is refused for want of memory alone
+/// where the driver's device is reliable, and succeeds where the driver takes none.
+pub fn prepared_writes_succeed<D: FormatDriverInstance>()
+    ensures { PreparedWritesSucceed D.view }
+{}
+
+/// The same of the commit of a mapping, which takes none where the mapping has no state.
+pub fn commits_succeed<D: FormatDriverInstance>()
+    ensures { CommitsSucceed D.view }
+{}
+
+/// The same of a flush, a sync and an invalidation of caches.
+pub fn flushes_succeed<D: FormatDriverInstance>()
+    ensures { FlushesSucceed D.view }
 {}

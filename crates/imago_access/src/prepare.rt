@@ -1,7 +1,8 @@
 //! Data mappings of an image.
-ghost use Rattle.std.specs.Prelude.{◌≡◌, ◌+◌, ◌≤◌, ◌↔◌, None, true, false, length, IfOk, IfErr, OnOk, OnErr, IsErrOf};
+ghost use Rattle.std.specs.Prelude.{◌≡◌, ◌+◌, ◌≤◌, ◌↔◌, None, true, false, length, IsTrue, IfOk, IfErr, OnOk, OnErr, IsErrOf};
 ghost use Rattle.imago_storage.specs.Faults.{CountsFaults};
 ghost use Rattle.imago_drivers.specs.Parts.{length_of};
+ghost use Rattle.imago_drivers.specs.Pending.{ShowsRound};
 ghost use Rattle.imago_drivers.specs.Reasons.{allowed};
 ghost use Rattle.imago_drivers.specs.Done.{mapping_write_reasons};
 ghost use Rattle.imago_drivers.specs.Prepared.{IsPrepared, IsDataMapping, IsForeignWrite, IsWritten};
@@ -85,6 +86,9 @@ impl<D: FormatDriverInstance> FormatAccess<D> {
         ensures torn { OnErr result
             (IsWritten true (D.view (driver self.old)) (D.view (driver self.new)) mapping.now at
             source.now) }
+        ensures round { IsTrue (D.view (driver self.old)).abilities.keeps_data
+            → ShowsRound (disk_value D.view self.old) (D.view (driver self.old)).pending
+            → ShowsRound (disk_value D.view self.new) (D.view (driver self.new)).pending }
         ensures same_size { (D.view (driver self.new)).size ≡ (D.view (driver self.old)).size }
         ensures kept { IsKept D.view self.old self.new }
         ensures faults { CountsFaults (D.view (driver self.old)).abilities.is_reliable

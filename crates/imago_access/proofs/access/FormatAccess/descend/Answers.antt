@@ -1,8 +1,9 @@
 use Rattle.std.proofs.Common.{arith, sym, ap, ◌∙◌, ◌≡◌, ◌+◌, Some}
 use Rattle.std.proofs.lemmas.Result.{err_from_is_err_and}
-use Rattle.imago_access.specs.Chain.{backing, unboxed}
+use Rattle.imago_access.specs.Chain.{driver, backing, unboxed}
 use Rattle.imago_access.proofs.Chains.{no_memory_here}
 use Rattle.imago_access.proofs.Descent.{step_down}
+use Rattle.imago_access.proofs.Lengths.{bottom_of, length_lower, length_landed, some_named, reference_here}
 use Rattle.imago_access.proofs.Landed.{descent_refused, descent_unreadable, left_some}
 use Rattle.imago_access.proofs.access.FormatAccess.descend.Goals as goal
 
@@ -13,8 +14,11 @@ loop-mapping-preserved g c =
     let r = c.in_ok-mapping in
     let below : backing l.layer.now ≡ Some c.deref-layer.result.now = ap unboxed c.in-Some.is ∙ ap Some (sym c.deref-layer.ensures) in
     let down = step_down v c.args.self.now c.args.offset c.args.max_length l.layer.now l.invariant.hops l.way.offset l.way.length l.way.writable l.invariant.leads r.mapping r.count r.ensures.part c.deref-layer.result.now c.in-Indirect.offset c.in-Indirect.writable below c.in-Indirect.is (λ h. r.ensures.whole (no_memory_here v l.layer.now l.way.offset l.way.length h)) in
+    let some = some_named v c.args.self.now c.args.offset c.args.max_length l.layer.now l.invariant.hops l.way.offset l.way.length l.way.writable l.invariant.leads r.mapping r.count r.ensures.part c.requires in
+    let place = reference_here (v (driver l.layer.now)).place l.way.offset l.way.length r.mapping r.count r.ensures.part c.in-Indirect.offset c.in-Indirect.writable c.in-Indirect.is some in
     record {
       hops = l.invariant.hops + 1;
+      length = rw (c.below-way.ensures.offset, c.below-way.ensures.length) (λ n h. l.invariant.length n (length_lower v l.layer.now c.deref-layer.result.now l.way.offset c.in-Indirect.offset l.way.length r.count n c.in-Indirect.writable below place r.ensures.length h));
       depth = let a = l.invariant.depth in let b = c.below-way.ensures.depth in omega arith;
       leads = rw (c.below-way.ensures.offset, c.below-way.ensures.length, c.below-way.ensures.writable) down;
     }
@@ -34,3 +38,11 @@ returns-in_err-mapping-clause-refused_place g c =
     rw (p.1, p.2) (λ h. descent_unreadable v c.args.self.now c.args.offset c.args.max_length l.layer.now l.invariant.hops l.way.offset l.way.length l.way.writable l.invariant.leads e
     (left_some v c.args.self.now c.args.offset c.args.max_length l.layer.now l.invariant.hops l.way.offset l.way.length l.way.writable l.invariant.leads c.requires)
     (c.in_err-mapping.ensures.refused_place h))
+
+pub returns-in_default-clause-length : goal.returns-in_default-clause-length
+returns-in_default-clause-length g c =
+    let v = g.D.FormatDriverInstance.view in
+    let l = c.loop-mapping in
+    let r = c.in_ok-mapping in
+    let some = some_named v c.args.self.now c.args.offset c.args.max_length l.layer.now l.invariant.hops l.way.offset l.way.length l.way.writable l.invariant.leads r.mapping r.count r.ensures.part c.requires in
+    rw c.cut-in_default.ensures (length_landed v c.args.self.now c.args.offset c.args.max_length l.layer.now l.way.offset l.way.length r.mapping r.count l.invariant.length r.ensures.part r.ensures.length (bottom_of r.mapping l.layer.now c.in_default.not-Indirect) some)

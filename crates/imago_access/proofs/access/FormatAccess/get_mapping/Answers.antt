@@ -1,6 +1,7 @@
 use Rattle.std.proofs.lemmas.Result.{err_from_is_err_and}
 use Rattle.imago_access.proofs.Weaker.{allowed_more}
 use Rattle.imago_access.proofs.Landed.{landed_mapping, whole_mapping, asked_refused}
+use Rattle.imago_access.proofs.Lengths.{full_length}
 use Rattle.imago_access.proofs.access.FormatAccess.get_mapping.Goals as goal
 
 pub returns-clause-right : goal.returns-clause-right
@@ -8,6 +9,12 @@ returns-clause-right g c =
     let r = c.in_ok-_layer in
     let landed = rw c.max.ensures at r.ensures.landed in
     rw (c.min.ensures, c.resolved-mapping.ensures.mapping, c.resolved-mapping.ensures.length) (landed_mapping g.D.FormatDriverInstance.view c.args.self.now c.args.offset c.args.max_length r._layer.now r.way r.mapping landed)
+
+pub returns-clause-length : goal.returns-clause-length
+returns-clause-length g c =
+    let r = c.in_ok-_layer in
+    let length = rw c.max.ensures at r.ensures.length in
+    rw (c.min.ensures, c.resolved-mapping.ensures.mapping, c.resolved-mapping.ensures.length) (full_length g.D.FormatDriverInstance.view c.args.self.now c.args.offset c.args.max_length r.way r.mapping length)
 
 pub returns-clause-whole : goal.returns-clause-whole
 returns-clause-whole g c free =

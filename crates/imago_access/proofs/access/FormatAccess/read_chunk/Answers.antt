@@ -16,7 +16,7 @@ pub returns-in_err-read_named-clause-refusals : goal.returns-in_err-read_named-c
 returns-in_err-read_named-clause-refusals g c =
     let p = err_from_is_err_and c.from_residual-in_err-read_named.result c.from_residual-in_err-read_named.ensures.1 in
     let r = c.in_ok-layer in
-    rw (p.1, p.2) (landed_refused g.D.FormatDriverInstance.view g.met.D.FormatDriverInstance.lawful g.met.D.FormatDriverInstance.causes_lawful c.args.self.now c.args.offset (length c.args.buf.now) r.layer.now r.way r.mapping r.ensures.landed _ c.in_err-read_named.field-0.0 c.in_err-read_named.ensures.refusals (grind (arith, common_steps)))
+    rw (p.1, p.2) (landed_refused g.D.FormatDriverInstance.view g.met.D.FormatDriverInstance.lawful g.met.D.FormatDriverInstance.causes_lawful c.args.self.now c.args.offset (length c.args.buf.now) r.layer.now r.way r.mapping r.ensures.landed c.requires _ c.in_err-read_named.field-0.0 c.in_err-read_named.ensures.refusals (grind (arith, common_steps)))
 
 pub returns-clause-bytes : goal.returns-clause-bytes
 returns-clause-bytes g c =

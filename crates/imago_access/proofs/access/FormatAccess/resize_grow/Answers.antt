@@ -10,7 +10,7 @@ returns-clause-resized g c =
     let r = c.resize_grow in
     let v = g.D.FormatDriverInstance.view in
     let x = c.args.self.now in
-    grow_image v x r.new.self _ (lent_is v c.below-lower.result (backing x) c.below-lower.ensures) c.args.mode c.args.new_size r.result c.in_ok-test_writable.ensures.passed r.ensures.grown r.ensures.unchanged r.ensures.kind r.ensures.faults r.ensures.refusals
+    grow_image v x r.new.self _ (lent_is v c.below-lower.result (backing x) c.below-lower.ensures) c.args.mode c.args.new_size r.result c.in_ok-test_writable.ensures.passed r.ensures.grown r.ensures.idle r.ensures.unchanged r.ensures.kind r.ensures.faults r.ensures.refusals
 
 pub returns-in_err-test_writable-clause-resized : goal.returns-in_err-test_writable-clause-resized
 returns-in_err-test_writable-clause-resized g c =

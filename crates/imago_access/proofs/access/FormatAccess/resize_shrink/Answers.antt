@@ -7,7 +7,7 @@ pub returns-clause-resized : goal.returns-clause-resized
 returns-clause-resized g c =
     let r = c.resize_shrink in
     let v = g.D.FormatDriverInstance.view in
-    shrink_image v c.args.self.now r.new.self c.args.new_size r.result c.in_ok-test_writable.ensures.passed r.ensures.cut r.ensures.unchanged r.ensures.kind r.ensures.faults r.ensures.refusals
+    shrink_image v c.args.self.now r.new.self c.args.new_size r.result c.in_ok-test_writable.ensures.passed r.ensures.cut r.ensures.idle r.ensures.unchanged r.ensures.kind r.ensures.faults r.ensures.refusals
 
 pub returns-in_err-test_writable-clause-resized : goal.returns-in_err-test_writable-clause-resized
 returns-in_err-test_writable-clause-resized g c =

@@ -1,0 +1,5 @@
+use Rattle.imago_access.proofs.Successes.{range_succeeds}
+use Rattle.imago_access.proofs.laws.data_mappings_succeed.Goals as goal
+
+pub returns : goal.returns
+returns g c = λ old new o n overwrite result ready h. range_succeeds g.D.FormatDriverInstance.view old new o n result ready h.faults h.refusals
