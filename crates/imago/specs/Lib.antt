@@ -33,6 +33,7 @@ pub use Rattle.imago_access.specs.Chain
 pub use Rattle.imago_access.specs.Text
 pub use Rattle.imago_access.specs.Target
 pub use Rattle.imago_access.specs.Resolved
+pub use Rattle.imago_access.specs.Lengths
 pub use Rattle.imago_access.specs.Ways
 pub use Rattle.imago_access.specs.Named
 pub use Rattle.imago_access.specs.Writing
@@ -40,5 +41,6 @@ pub use Rattle.imago_access.specs.Calls
 pub use Rattle.imago_access.specs.Sizes
 pub use Rattle.imago_access.specs.Runs
 pub use Rattle.imago_access.specs.Disk
+pub use Rattle.imago_access.specs.Alignments
 pub use Rattle.imago_access.specs.Lending
 pub use Rattle.imago_access.specs.ChainLaws

@@ -16,12 +16,21 @@ fn outcome(alloc: Global, mut text: &[u8]) -> (u8, Vec<u8>) {
     (status, output)
 }
 
-/// Whether a script told that memory was refused, or ended for it.
-fn ran_out(status: u8, output: &[u8]) -> bool {
-    status == 1
-        || output
-            .split(|byte| *byte == b'\n')
-            .any(|line| line == b"err OutOfMemory".as_slice())
+/// The line that tells of refused memory.
+const NO_MEMORY: &[u8] = b"err OutOfMemory\n";
+
+/// Whether a script told that memory was refused. Where it ended for that, this is its last line, behind those that it was to
+/// print.
+fn ran_out(status: u8, output: &[u8], printed: &[u8]) -> bool {
+    if status == 1 {
+        let Some(end) = output.len().checked_sub(NO_MEMORY.len()) else {
+            return false;
+        };
+        return &output[end..] == NO_MEMORY && printed.starts_with(&output[..end]);
+    }
+    output
+        .split(|byte| *byte == b'\n')
+        .any(|line| line == b"err OutOfMemory".as_slice())
 }
 
 /// A script prints that, and ends with that status.
@@ -32,7 +41,7 @@ fn check(rt: &(impl Abort + AllocGlobal), text: &[u8], printed: &str, status: u8
     if got == status && output.as_slice() == printed.as_bytes() {
         return;
     }
-    assert!(rt; ran_out(got, &output), "{output:?}");
+    assert!(rt; ran_out(got, &output, printed.as_bytes()), "{output:?}");
     let (got, output) = outcome(rt.alloc(), text);
     assert_eq!(rt; output.as_slice(), printed.as_bytes());
     assert_eq!(rt; got, status);

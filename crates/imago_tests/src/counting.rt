@@ -5,7 +5,7 @@ ghost use Rattle.imago_storage.specs.Error.{IsDeviceOrMemory};
 ghost use Rattle.imago_storage.specs.Faults.{CountsFaults};
 ghost use Rattle.imago_storage.specs.Features.{IsAlignedRequest, MayRunOut};
 ghost use Rattle.imago_storage.specs.IoCount.{no_work};
-ghost use Rattle.imago_storage.specs.Mem.{mem_lawful};
+ghost use Rattle.imago_storage.specs.MemParts.{alignments_of};
 ghost use Rattle.imago_tests.specs.Counting.{io_count, after_read, after_write};
 
 use imago_storage::error::Error;
@@ -27,11 +27,23 @@ pub struct Counts {
     pub bytes_written: u64,
 }
 
+/// How many of the calls that no contract sees reached the storage. The numbers saturate.
+#[derive(Clone, Copy, Debug, PartialEq, Eq, Drop)]
+pub struct Reached {
+    /// Flushes.
+    pub flushes: u64,
+    /// Syncs.
+    pub syncs: u64,
+    /// Droppings of caches.
+    pub invalidations: u64,
+}
+
 /// Bytes in memory, and a count of the reads and writes of them.
 #[derive(Drop)]
 pub struct Counting {
     inner: MemStorage,
     counts: Counts,
+    reached: Reached,
 }
 
 impl Counting {
@@ -50,6 +62,11 @@ impl Counting {
                 writes: 0,
                 bytes_written: 0,
             },
+            reached: Reached {
+                flushes: 0,
+                syncs: 0,
+                invalidations: 0,
+            },
         }
     }
 
@@ -58,6 +75,11 @@ impl Counting {
         ensures { io_count result ≡ ⟦<Counting as Storage>⟧.work self.now }
     {
         self.counts
+    }
+
+    /// The calls that no contract sees.
+    pub fn reached(&self) -> Reached {
+        self.reached
     }
 
     /// The bytes.
@@ -85,7 +107,7 @@ impl Storage for Counting {
 
     ghost filename = { λ s. ⟦<MemStorage as Storage>⟧.filename s.inner };
 
-    ghost lawful = { λ s. mem_lawful s.inner.mem_align s.inner.req_align s.inner.zero_align s.inner.mem_power s.inner.req_power s.inner.zero_power s.inner.zero_whole };
+    ghost lawful = { λ s. alignments_of s.inner };
 
     fn mem_align(&self) -> usize {
         self.inner.mem_align()
@@ -176,14 +198,17 @@ impl Storage for Counting {
     }
 
     fn flush(&mut self) -> Result<(), Error> {
+        self.reached.flushes = self.reached.flushes.saturating_add(1);
         self.inner.flush()
     }
 
     fn sync(&mut self) -> Result<(), Error> {
+        self.reached.syncs = self.reached.syncs.saturating_add(1);
         self.inner.sync()
     }
 
     fn invalidate_cache(&mut self) -> Result<(), Error> {
+        self.reached.invalidations = self.reached.invalidations.saturating_add(1);
         self.inner.invalidate_cache()
     }
 

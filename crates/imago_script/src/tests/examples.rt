@@ -14,12 +14,13 @@ read 3 5
 write 9 02
 size
 read 8 4
+# Past the end of the disk nothing is written, though its block goes on.
+write 10 03
 # A disk that grows into that block finds zeroes there.
 grow 12 zero
 size
 read 8 4
-# Past the end of the disk nothing is written, also where the storage's block would go on.
-write 12 03
+# Past the end of the disk zeroes are read.
 read 8 6
 ",
         "ok
@@ -29,10 +30,10 @@ ok a5a501a5a5
 ok
 ok 10
 ok a5020000
+err UnexpectedEof
 ok
 ok 12
 ok a5020000
-err UnexpectedEof
 ok a50200000000
 ",
     ),

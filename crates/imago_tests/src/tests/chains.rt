@@ -168,16 +168,19 @@ fn a_pattern_is_not_written_through(rt: HostRuntime) -> Result<(), Fail> {
     has(&rt, alloc, &image, 0, &[(2, 0x11)])
 }
 
+/// The layers above the one that is read.
+const DEPTH: usize = 100_000;
+
 #[test]
 fn a_chain_of_many_layers_is_read(rt: HostRuntime) -> Result<(), Fail> {
     let alloc = rt.alloc();
     let mut image = ones(&rt, alloc, 16)?;
-    for _ in 0..500 {
+    for _ in 0..DEPTH {
         image = above(alloc, BELOW, 16, image)?;
     }
     has(&rt, alloc, &image, 14, &[(2, 0x11), (2, 0)])?;
     let mapping = Mapping::Raw {
-        layer: 500,
+        layer: DEPTH,
         storage: 0,
         offset: 14,
         writable: true,

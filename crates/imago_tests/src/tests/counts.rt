@@ -1,7 +1,8 @@
 //! What one write reads and writes at its storage.
 use super::set_up::{in_blocks, runs, stored};
-use crate::counting::{Counting, Counts};
+use crate::counting::{Counting, Counts, Reached};
 use imago_access::access::FormatAccess;
+use imago_access::run::{Call, run};
 use imago_drivers::drivers::FormatDriverInstance;
 use imago_drivers::raw::Raw;
 use imago_storage::error::Error;
@@ -57,8 +58,7 @@ fn write(rt: &impl Abort, alloc: Global, count: usize, offset: u64) -> Option<Co
 
 /// The same write through an image.
 fn write_by_image(rt: &impl Abort, alloc: Global, count: usize, offset: u64) -> Option<Counts> {
-    let raw = Raw::open_image(counting(rt, alloc), true).expect(rt, "a driver");
-    let mut image = FormatAccess::new(raw);
+    let mut image = opened(rt, alloc);
     let source = runs(rt, alloc, &[(count, 0x3c)]);
     let answer = image.write(alloc, &source, offset);
     let storage = image.inner().storage(0).expect(rt, "a raw image's storage");
@@ -108,6 +108,77 @@ fn an_image_writes_no_more_than_its_storage(rt: HostRuntime) {
         };
         assert_eq!(rt; counts, Some(expected), "{count} at {offset}");
     }
+}
+
+/// An image over such a storage.
+type CountedImage = FormatAccess<Raw<Counting>>;
+
+/// A writable one.
+fn opened(rt: &impl Abort, alloc: Global) -> CountedImage {
+    FormatAccess::new(Raw::open_image(counting(rt, alloc), true).expect(rt, "a driver"))
+}
+
+/// So many flushes, syncs and droppings of caches reached the storage.
+fn was_reached(
+    rt: &impl Abort,
+    image: &CountedImage,
+    flushes: u64,
+    syncs: u64,
+    invalidations: u64,
+) {
+    let storage = image.inner().storage(0).expect(rt, "a raw image's storage");
+    let expected = Reached {
+        flushes,
+        syncs,
+        invalidations,
+    };
+    assert_eq!(rt; storage.reached(), expected);
+}
+
+#[test]
+fn flushes_of_an_image_reach_its_storage(rt: HostRuntime) {
+    let mut image = opened(&rt, rt.alloc());
+    was_reached(&rt, &image, 0, 0, 0);
+    image.flush().expect(&rt, "a flush");
+    was_reached(&rt, &image, 1, 0, 0);
+    image.sync().expect(&rt, "a sync");
+    was_reached(&rt, &image, 1, 1, 0);
+    image.invalidate_cache().expect(&rt, "an invalidation");
+    was_reached(&rt, &image, 1, 1, 1);
+}
+
+/// Runs a flush, two syncs and an invalidation. Answers whether there was room for the replies.
+fn runs_flushes(alloc: Global, image: &mut CountedImage) -> bool {
+    let calls = [Call::Flush, Call::Sync, Call::Sync, Call::InvalidateCache];
+    let mut replies = Vec::new(alloc);
+    run(alloc, image, &calls, &mut replies).is_ok()
+}
+
+#[test]
+fn flushes_of_a_run_reach_the_storage(rt: HostRuntime) {
+    let alloc = rt.alloc();
+    let mut image = opened(&rt, alloc);
+    assert!(rt; runs_flushes(alloc, &mut image) || runs_flushes(alloc, &mut image));
+    was_reached(&rt, &image, 1, 2, 1);
+}
+
+/// Flushes, syncs and drops the caches of a storage, once each.
+fn flush_each<S: Storage>(mut storage: S) -> Result<(), Error> {
+    storage.flush()?;
+    storage.sync()?;
+    storage.invalidate_cache()
+}
+
+#[test]
+fn flushes_of_a_lent_storage_reach_it(rt: HostRuntime) {
+    let mut storage = counting(&rt, rt.alloc());
+    assert_eq!(rt; flush_each(&mut storage), Ok(()));
+    let expected = Reached {
+        flushes: 1,
+        syncs: 1,
+        invalidations: 1,
+    };
+    assert_eq!(rt; storage.reached(), expected);
 }
 
 /// Zeroes a range.
