@@ -38,7 +38,7 @@ IsIdle (Grow mode) size new_size = new_size ≤ size
 IsIdle Shrink size new_size = size ≤ new_size
 IsIdle _ size new_size = ⊥
 
--- whose devices a resize counts on: a growth is lent the layer below, a cut is not
+-- whether the devices that a resize counts on never fail: a growth is lent the layer below, a cut is not
 abbrev pub resize_reliable : {D St : Type 0} → (D → View St) → FormatAccess D → Operation → Bool
 resize_reliable view x Shrink = (view (driver x)).abilities.is_reliable
 resize_reliable view x _ = devices_reliable view x

@@ -27,7 +27,7 @@ pub record Succeeds {T : Type 0} (takes_none : Type 0) (result : Result T Error)
 abbrev pub IsReadable : (ℕ → Value) → ℕ → ℕ → Type 0
 IsReadable at o n = (p : ℕ) (e : Error) → IsIn o n p → at p ≡ Unreadable e → ⊥
 
--- what is left to refuse a read for where devices are reliable and each byte can be read: memory, or what storages and drivers lack
+-- what is left to refuse a read for where devices are reliable and each byte can be read: memory, a wrap-around at a storage, or what a driver doesn't offer
 abbrev pub IsMildRefusal : Error → Type 0
 IsMildRefusal e = (e ≡ Error.Memory) ⊎ ((e ≡ Error.WrapAround) ⊎ (e ≡ Error.Unsupported))
 

@@ -181,8 +181,8 @@ impl<D: FormatDriverInstance> FormatAccess<D> {
     /// What the bytes from the offset on are, resolved through the layers, and how many of them: at most `max_length`,
     /// and 0 only at the end of the image, or where `max_length` is. Also there the mapping is that of the offset.
     ///
-    /// What the top layer leaves to a layer below that ends before, or to none, is an unallocated zero. It is as
-    /// long as the drivers on the way map at once. It takes no memory. [`Error::InvalidData`] and [`Error::NoAccess`] are
+    /// What the top layer leaves to a layer below that ends before, or to none, is an unallocated zero. The
+    /// mapping is as long as the drivers on the way map at once. It takes no memory. [`Error::InvalidData`] and [`Error::NoAccess`] are
     /// answered for an offset that may not be read.
     pub fn get_mapping(&self, offset: u64, max_length: u64) -> Result<(Mapping, u64), Error>
         ensures right { IfOk result (λ r. IsResolved D.view self.now offset max_length r.0 r.1) }

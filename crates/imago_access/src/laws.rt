@@ -81,8 +81,9 @@ pub fn mappings_succeed<D: FormatDriverInstance>()
     ensures { MappingsSucceed D.view }
 {}
 
-/// A write of a range inside the disk, to a writable image whose devices are reliable, with no cause of a refusal, is
-/// refused for want of memory alone, and succeeds where the driver takes none.
+/// A write of a range inside the disk, and not past the driver's places, to a writable image whose devices are reliable
+/// and whose count of faults is below its greatest value, with no cause of a refusal, is refused for want of memory
+/// alone, and succeeds where the driver takes none.
 pub fn writes_succeed<D: FormatDriverInstance>()
     ensures { WritesSucceed D.view }
 {}
@@ -97,7 +98,8 @@ pub fn prepares_succeed<D: FormatDriverInstance>()
     ensures { PreparesSucceed D.view }
 {}
 
-/// The same of a growth to a size, which is also refused where the driver doesn't offer it. A resize is a growth or a cut.
+/// The same of a growth to a size, which may also be refused as unsupported, where the driver doesn't offer it. A resize is
+/// a growth or a cut.
 pub fn growths_succeed<D: FormatDriverInstance>()
     ensures { GrowthsSucceed D.view }
 {}
@@ -108,7 +110,8 @@ pub fn cuts_succeed<D: FormatDriverInstance>()
 {}
 
 /// A write into a prepared mapping of the image's own, with no cause of a refusal, is refused for want of memory alone
-/// where the driver's device is reliable, and succeeds where the driver takes none.
+/// where the driver's device is reliable and its count of faults below the greatest value, and succeeds where the driver
+/// takes none.
 pub fn prepared_writes_succeed<D: FormatDriverInstance>()
     ensures { PreparedWritesSucceed D.view }
 {}

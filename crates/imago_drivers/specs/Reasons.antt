@@ -16,7 +16,7 @@ pub record Reasons : Type 1 where
 abbrev pub none : Reasons
 none = record { read_only = ⊥; beyond_disk = ⊥; range_overflow = ⊥; cause = λ _. ⊥; device = ⊥; memory = ⊥; foreign_mapping = ⊥ }
 
--- that refusal has one of these reasons; gates alone answer the last two
+-- that refusal has one of these reasons; no call of a driver answers the last two
 abbrev pub allowed : Reasons → Error → Type 0
 allowed r E.ReadOnly = r.read_only
 allowed r E.BeyondDisk = r.beyond_disk

@@ -22,6 +22,7 @@ pub trait LowerLayer {
         ensures bytes { OnOk result (HasValues (as_layer_below self.now).at offset buf.new) }
         ensures refusals { IfErr result (allowed (below_reasons (as_layer_below self.now) offset (length buf.old))) };
 
+    /// What holds of each layer: it is zero past its size, and a cause for a part of a range is one for the whole.
     ghost lawful: { (b : Self) → IsLayerBelow (as_layer_below b) };
 }
 

@@ -11,9 +11,9 @@ use imago_storage::ext::StorageExt;
 use imago_storage::storage::Storage;
 use std::alloc::Global;
 
-/// Writes bytes of a storage, at its `offset`-th byte. Refused, each byte of the range is old or new. No byte outside the
-/// range changes. The storage becomes no shorter, and no longer than the padded end of the range, less than one alignment
-/// past it; what is added behind the range is zero.
+/// Writes bytes of a storage, at its `offset`-th byte. Where the storage keeps data: refused, each byte of the range is
+/// old or new; no byte outside the range changes, and what is added behind it is zero. The storage becomes no shorter,
+/// and, where it grows, no longer than the padded end of the range, less than one alignment past it.
 ///
 /// It is refused as [`StorageExt::write`] is: [`Error::WrapAround`] where a request of the storage's alignment around the
 /// range would end past `u64::MAX`, [`Error::Memory`] only where the storage takes memory or the range isn't aligned, and

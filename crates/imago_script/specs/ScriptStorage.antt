@@ -6,7 +6,7 @@ use Rattle.imago_storage.specs.Features.{AreAlignments}
 use Rattle.imago_storage.specs.Mem.{null_features, null_lawful}
 use Rattle.imago_storage.specs.MemParts.{features_of, alignments_of}
 
--- what the storage that it is has
+-- a member of a script's storage: that of the storage in memory, or of the null one, that it holds
 abbrev pub by_kind : {T : Type 0} → (MemStorage → T) → (NullStorage → T) → ScriptStorage → T
 by_kind of_mem of_null (Mem storage) = of_mem storage
 by_kind of_mem of_null (Null storage) = of_null storage

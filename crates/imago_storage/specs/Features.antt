@@ -53,7 +53,7 @@ pub record AreAlignments (f : Features) : Type 0 where
   pub zero_whole : f.zero_align % f.req_align ≡ 0
   pub discard_whole : f.discard_align % f.req_align ≡ 0
 
--- the multiple that a read's or write's length has to be
+-- what a read's or write's length has to be a multiple of
 abbrev pub len_align : Features → ℕ
 len_align f = max f.req_align f.mem_align
 

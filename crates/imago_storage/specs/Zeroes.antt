@@ -25,8 +25,8 @@ EdgeWraps f at n = Wraps f at (aligned_start f.zero_align at - at) ⊎ Wraps f (
 abbrev pub DataWraps : Features → ℕ → ℕ → Type 0
 DataWraps f at n = Wraps f at (min n (aligned_start f.req_align at - at)) ⊎ Wraps f (aligned_start f.req_align at) (at + n - aligned_start f.req_align at)
 
--- The first bytes of a range, up to its first multiple of the request alignment where it doesn't start on one. What
--- they and the rest do when they are padded is what the whole does as data.
+-- The first bytes of a range, up to its first multiple of the request alignment where it doesn't start on one. Where they or
+-- the rest wrap around once padded, the whole does as data; where neither does, the whole doesn't.
 pub record IsHead (f : Features) (at n first : ℕ) : Type 0 where
   pub positive : 0 < first
   pub within : first ≤ n

@@ -8,7 +8,7 @@ ghost use Rattle.imago_storage.specs.Zeroes.{IsHead};
 
 use crate::storage::Storage;
 
-/// The multiple that a request's offset has to be.
+/// What a request's offset has to be a multiple of.
 pub(crate) fn request_align<S: Storage>(storage: &S) -> u64
     ensures value { result ≡ (S.features storage.now).req_align }
     ensures positive { 0 < result }
@@ -17,7 +17,7 @@ pub(crate) fn request_align<S: Storage>(storage: &S) -> u64
     storage.req_align() as u64
 }
 
-/// The multiple that a request's length has to be.
+/// What a request's length has to be a multiple of.
 pub(crate) fn length_align<S: Storage>(storage: &S) -> u64
     ensures value { result ≡ len_align (S.features storage.now) }
     ensures positive { 0 < result }
@@ -26,7 +26,7 @@ pub(crate) fn length_align<S: Storage>(storage: &S) -> u64
     storage.req_align().max(storage.mem_align()) as u64
 }
 
-/// The multiple that a zero write's offset and length have to be.
+/// What a zero write's offset and length have to be multiples of.
 pub fn zero_align<S: Storage>(storage: &S) -> u64
     ensures value { result ≡ (S.features storage.now).zero_align }
     ensures positive { 0 < result }
@@ -35,7 +35,7 @@ pub fn zero_align<S: Storage>(storage: &S) -> u64
     storage.zero_align() as u64
 }
 
-/// The multiple that a discard's offset and length have to be.
+/// What a discard's offset and length have to be multiples of.
 pub fn discard_align<S: Storage>(storage: &S) -> u64
     ensures value { result ≡ (S.features storage.now).discard_align }
     ensures positive { 0 < result }
@@ -99,7 +99,7 @@ pub(crate) fn head_length<S: Storage>(storage: &S, offset: u64, count: u64) -> u
     (request - past).min(count)
 }
 
-/// How many bytes of so many are whole blocks.
+/// The length of the whole blocks at the front of `len` bytes.
 pub(crate) fn whole_blocks(len: usize, block: usize) -> usize
     requires { 0 < block }
     ensures { result ≡ len / block * block }

@@ -84,7 +84,7 @@ sparse_copies table (Grow mode) o n p = ⊥
 sparse_copies table Shrink o n p = ⊥
 sparse_copies table Flush o n p = ⊥
 
--- Zero calls and discards take no memory, and do the whole of a range with no barred entry inside the table.
+-- Zero calls and discards take no memory, and do the whole of a range with no barred entry inside the table; a cut takes none.
 abbrev pub sparse_no_memory : List Origin → Operation → ℕ → ℕ → Type 0
 sparse_no_memory table Map o n = ⊥
 sparse_no_memory table Read o n = ⊥

@@ -1,6 +1,6 @@
-//! Drivers for tests that use each part of the driver interface.
+//! A driver for tests: a disk held as a table over two storages.
 //!
-//! They keep the laws of the interface by proof, so that a test of what stands above them tests that alone.
+//! It keeps the laws of the driver interface by proof, so that a test of what stands above it tests that alone.
 #![tactic(auto)]
 
 mod pair;

@@ -30,7 +30,8 @@ pub struct Settings {
     pub granularity: u64,
     /// Whether it may be written.
     pub writable: bool,
-    /// Each commit fails as [`Error::Device`] once it has made so many bytes show.
+    /// Each commit of a write that waits fails as [`Error::Device`] once it has made this many bytes show. `None` lets all
+    /// succeed.
     pub fail_commit_after: Option<u64>,
 }
 
@@ -43,7 +44,7 @@ pub struct Waiting {
 }
 
 /// A disk held as a table that says of each of its bytes where it comes from: one of two storages at the same offset,
-/// nowhere, or the layer below.
+/// nowhere (an explicit zero), the layer below, or nothing that may be read.
 ///
 /// The table may be shorter than the disk. The disk is never grown then.
 #[derive(Drop)]

@@ -52,7 +52,7 @@ pub(crate) fn entry(table: &[Origin], offset: u64) -> Option<Origin>
     Some(table[offset as usize])
 }
 
-/// How many entries from the offset on are that one, at most so many.
+/// How many entries from the offset on are that one, at most `most`.
 pub(crate) fn run_of(table: &[Origin], offset: u64, origin: Origin, most: u64) -> u64
     ensures most { result ≤ most }
     ensures inside { 0 < result → offset + result ≤ length table.now }
@@ -72,7 +72,7 @@ pub(crate) fn run_of(table: &[Origin], offset: u64, origin: Origin, most: u64) -
     rest
 }
 
-/// How many entries from the offset on are there and not barred, at most so many.
+/// How many entries from the offset on are there and not barred, at most `most`.
 pub(crate) fn clear_run(table: &[Origin], offset: u64, most: u64) -> u64
     ensures most { result ≤ most }
     ensures inside { 0 < result → offset + result ≤ length table.now }
@@ -94,7 +94,7 @@ pub(crate) fn clear_run(table: &[Origin], offset: u64, most: u64) -> u64
     rest
 }
 
-/// Makes the entries of a range that one.
+/// Sets each entry of a range to that origin.
 pub(crate) fn put_run(table: &mut Vec<Origin>, offset: u64, count: u64, origin: Origin)
     requires { 0 < count → offset + count ≤ length table.old.items }
     ensures { IsFilled offset count origin table.old.items table.new.items }
