@@ -14,6 +14,4 @@ mod prepare;
 mod read;
 mod resize;
 pub mod run;
-#[cfg(test)]
-mod tests;
 mod write;

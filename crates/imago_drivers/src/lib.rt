@@ -12,5 +12,3 @@ pub mod layer;
 pub mod mapping;
 pub mod raw;
 pub mod stored;
-#[cfg(test)]
-mod tests;

@@ -15,6 +15,4 @@ pub mod null;
 pub mod options;
 mod request;
 pub mod storage;
-#[cfg(test)]
-mod tests;
 mod zeroes;

@@ -1,5 +1,2 @@
-pub mod TableSteps
-pub mod PairSteps
-pub mod SparseSteps
-pub mod CommitSteps
-pub mod PrepareSteps
+pub mod Variants
+pub mod CopySteps

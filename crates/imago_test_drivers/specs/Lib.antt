@@ -1,5 +1,5 @@
-pub mod Table
-pub mod Pair
-pub mod Sparse
-pub mod SparseLaws
-pub mod SparseImage
+pub mod Pattern
+pub mod PatternLaws
+pub mod TestDriver
+pub mod CopyOnce
+pub mod CopyOnceLaws

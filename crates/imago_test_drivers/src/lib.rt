@@ -1,10 +1,8 @@
-//! A driver for tests: a disk held as a table over two storages.
+//! Drivers for tests: patterns of places that no storage holds, a copy on the first write, and an enum of drivers.
 //!
-//! It keeps the laws of the driver interface by proof, so that a test of what stands above it tests that alone.
+//! They keep the laws of the driver interface by proof, so that a test of what stands above them tests that alone.
 #![tactic(auto)]
 
-mod pair;
-pub mod sparse;
-pub mod table;
-#[cfg(test)]
-mod tests;
+pub mod copy_once;
+pub mod pattern;
+pub mod test_driver;

@@ -1,0 +1,9 @@
+use Rattle.imago_test_drivers.specs.declared.test_driver.TestDriver.TheVariants as T
+use Rattle.imago_test_drivers.proofs.Variants.{commit_of}
+use Rattle.imago_test_drivers.proofs.test_driver.TestDriverFormatDriverInstance.commit_data_mapping.Goals as goal
+
+pub returns-in-Raw : goal.returns-in-Raw
+returns-in-Raw g c = rw c.in-Raw.is (commit_of (λ r. T.Raw r) _ _ _ _ _ c.commit_data_mapping.ensures)
+
+pub returns-in-Pattern : goal.returns-in-Pattern
+returns-in-Pattern g c = rw c.in-Pattern.is (commit_of (λ p. T.Pattern p) _ _ _ _ _ c.commit_data_mapping-in-Pattern.ensures)

@@ -1,0 +1,3 @@
+pub mod Counting
+pub mod Faulty
+pub mod FaultyPlan

@@ -1,0 +1,7 @@
+//! Storages for tests: one that fails where a test says so, and one that counts what reaches it.
+//!
+//! They keep the laws of a storage by proof, so that a test of what stands above them tests that alone.
+#![tactic(auto)]
+
+pub mod counting;
+pub mod faulty;

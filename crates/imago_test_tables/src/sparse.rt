@@ -1,0 +1,486 @@
+//! A disk held as a table with one entry for each byte, over two storages.
+ghost use Rattle.std.specs.Prelude.{◌≡◌, ◌≢◌, ℕ, ◌+◌, ◌^◌, ◌<◌, ◌≤◌, ◌⊎◌, ◌↔◌, ◌&&◌, length, slice_index, slice_get, IsTrue, IfOk, IfErr, OnOk, OnErr, IsErrOf, MatchOption, IfSome, Option, Some, None, true, false};
+ghost use Rattle.std.specs.Option.{ForSome};
+ghost use Rattle.imago_drivers.specs.Parts.{storage_of, offset_of, length_of, state_of};
+ghost use Rattle.imago_drivers.specs.Place.{HasValues, IsIn, values};
+ghost use Rattle.imago_drivers.specs.LayerBelow.{lent, below_reasons};
+ghost use Rattle.imago_drivers.specs.Reasons.{allowed};
+ghost use Rattle.imago_drivers.specs.Pending.{IsOwn};
+ghost use Rattle.imago_drivers.specs.Commit.{IsCommit, IsCancel};
+ghost use Rattle.imago_test_tables.specs.Pair.{at_index};
+ghost use Rattle.imago_test_tables.specs.Table.{IsFree};
+ghost use Rattle.imago_test_tables.specs.Sparse.{sparse_view, sparse_pending, sparse_place, WaitsApart, HasOldByte, HasOldBytes, mapping_of, origin_for, waiting_write};
+ghost use Rattle.imago_test_tables.specs.SparseLaws.{sparse_lawful, sparse_causes};
+
+use crate::pair::Pair;
+use crate::table::{Origin, entry, grow, put_part, put_run, run_of, storage_index, stored_origin};
+use imago_drivers::drivers::{
+    Format, FormatDriverInstance, PreallocateMode, PreparedDataMapping, ShallowMapping,
+};
+use imago_drivers::layer::LowerLayer;
+use imago_storage::error::Error;
+use imago_storage::storage::Storage;
+use std::alloc::Global;
+use std::fmt::{self, Display, Formatter, Write};
+
+/// What never changes in a sparse disk.
+#[derive(Clone, Copy)]
+pub struct Settings {
+    /// The granularity that the disk tells, in bytes.
+    pub granularity: u64,
+    /// Whether it may be written.
+    pub writable: bool,
+    /// Each commit of a write that waits fails as [`Error::Device`] once it has made this many bytes show. `None` lets all
+    /// succeed.
+    pub fail_commit_after: Option<u64>,
+}
+
+/// A prepared write whose bytes nothing shows yet.
+#[derive(Clone, Copy)]
+pub struct Waiting {
+    pub(crate) start: u64,
+    pub(crate) length: u64,
+    pub(crate) ticket: u64,
+}
+
+/// A disk held as a table that says of each of its bytes where it comes from: one of two storages at the same offset,
+/// nowhere (an explicit zero), the layer below, or nothing that may be read.
+///
+/// The table may be shorter than the disk. The disk is never grown then.
+#[derive(Drop)]
+pub struct Sparse<S: Storage> {
+    storages: Pair<S>,
+    table: Vec<Origin>,
+    size: u64,
+    settings: Settings,
+    short: bool,
+    waiting: Option<Waiting>,
+    tickets: u64,
+    faults: u64,
+    ghost fits: { size < 2 ^ 64 },
+    ghost bounded: { length table.items ≤ size },
+    ghost filled: { short ≡ false → length table.items ≡ size },
+    ghost granular: { 0 < settings.granularity },
+    ghost waits_apart: { ForSome waiting (λ w. WaitsApart table.items w) },
+}
+
+impl<S: Storage> Sparse<S> {
+    ghost use Rattle.imago_test_tables.specs.SparseImage.{table_of, size_of, settings_of, first_in, second_in};
+
+    /// A disk of that size over two storages. There is none where the table is longer than the disk, or the granularity
+    /// is 0.
+    pub fn new(
+        first: S,
+        second: S,
+        table: Vec<Origin>,
+        size: u64,
+        settings: Settings,
+    ) -> Option<Self>
+        ensures { MatchOption result ((size < length table.items) ⊎ (settings.granularity ≡ 0))
+            (λ d. (table_of d ≡ table.items) × (size_of d ≡ «size») × (settings_of d ≡ «settings») ×
+            (first_in d ≡ «first») × (second_in d ≡ «second»)) }
+    {
+        let entries = table.len() as u64;
+        if size < entries || settings.granularity == 0 {
+            return None;
+        }
+        Some(Sparse {
+            storages: Pair { first, second },
+            table,
+            size,
+            settings,
+            short: entries < size,
+            waiting: None,
+            tickets: 0,
+            faults: 0,
+        })
+    }
+
+    /// Whether the mapping is the write that waits.
+    fn is_waiting(&self, mapping: &PreparedDataMapping<u64>) -> bool
+        ensures { IsTrue result ↔ IsOwn
+            (sparse_pending
+            ((S.features self.now.storages.first).keeps_data && (S.features self.now.storages.second).keeps_data)
+            (S.bytes self.now.storages.first) self.now.waiting)
+            mapping.now }
+    {
+        let Some(waiting) = &self.waiting else {
+            return false;
+        };
+        let Some(ticket) = mapping.state() else {
+            return false;
+        };
+        mapping.storage() == 0
+            && mapping.offset() == waiting.start
+            && mapping.length() == waiting.length
+            && *ticket == waiting.ticket
+    }
+
+    /// Lets a write of that range wait for its commit.
+    fn wait(&mut self, start: u64, count: u64) -> PreparedDataMapping<u64>
+        requires inside { start + count ≤ length self.old.table.items }
+        requires free { (p : ℕ) → IsIn start count p → IsFree (slice_get self.old.table.items p) }
+        ensures storage { storage_of result ≡ 0 }
+        ensures start { offset_of result ≡ «start» }
+        ensures count { length_of result ≡ «count» }
+        ensures state { state_of result ≡ Some self.new.tickets }
+        ensures waits { self.new.waiting ≡ Some (waiting_write «start» «count» self.new.tickets) }
+        ensures storages { self.new.storages ≡ self.old.storages }
+        ensures table { self.new.table ≡ self.old.table }
+        ensures size { self.new.size ≡ self.old.size }
+        ensures settings { self.new.settings ≡ self.old.settings }
+        ensures short { self.new.short ≡ self.old.short }
+        ensures faults { self.new.faults ≡ self.old.faults }
+    {
+        let ticket = self.tickets.wrapping_add(1);
+        self.tickets = ticket;
+        self.waiting = Some(Waiting {
+            start,
+            length: count,
+            ticket,
+        });
+        PreparedDataMapping::to_commit(0, start, count, ticket)
+    }
+}
+
+/// The bytes of a range of entries of that origin that stand in no storage.
+fn old_bytes<B: LowerLayer>(
+    alloc: Global,
+    below: Option<&B>,
+    offset: u64,
+    count: u64,
+    origin: Origin,
+) -> Result<Vec<u8>, Error>
+    requires { IsFree (Some origin) }
+    ensures count { IfOk result (λ v. length v.items ≡ «count») }
+    ensures bytes { IfOk result
+        (λ v. HasOldBytes (lent B.as_layer_below below.entry).at offset origin v.items) }
+    ensures refusals { IfErr result
+        (λ e. (e ≡ Error.Memory) ⊎ ((origin ≡ Origin.Lower) ×
+        allowed (below_reasons (lent B.as_layer_below below.entry) offset count) e)) }
+{
+    let Ok(mut bytes) = vec![in alloc; 0u8; count as usize] else {
+        return Err(Error::Memory);
+    };
+    let Some(layer) = below else {
+        return Ok(bytes);
+    };
+    if origin != Origin::Lower {
+        return Ok(bytes);
+    }
+    layer.read(alloc, &mut bytes, offset)?;
+    Ok(bytes)
+}
+
+impl<S: Storage> Display for Sparse<S> {
+    fn fmt<W: Write>(&self, f: &mut Formatter<W>) -> fmt::Result {
+        write!(
+            f,
+            "sparse[{}, {}]",
+            self.storages.first, self.storages.second
+        )
+    }
+}
+
+impl<S: Storage> FormatDriverInstance for Sparse<S> {
+    type Storage = S;
+
+    type State = u64;
+
+    ghost view = { λ d. sparse_view (S.features d.storages.first) (S.features d.storages.second) (S.fault_count d.storages.first + S.fault_count d.storages.second + d.faults) (S.bytes d.storages.first) (S.bytes d.storages.second) d.table.items d.size d.settings d.short d.waiting };
+
+    ghost recognizes = { λ _. false };
+
+    ghost lawful = { λ d. sparse_lawful (S.features d.storages.first) (S.features d.storages.second) (S.fault_count d.storages.first + S.fault_count d.storages.second + d.faults) (S.bytes d.storages.first) (S.bytes d.storages.second) d.table.items d.size d.settings d.short d.waiting d.bounded d.granular };
+
+    ghost causes_lawful = { λ d. sparse_causes (S.features d.storages.first) (S.features d.storages.second) (S.fault_count d.storages.first + S.fault_count d.storages.second + d.faults) (S.bytes d.storages.first) (S.bytes d.storages.second) d.table.items d.size d.settings d.short d.waiting };
+
+    fn format(&self) -> Format {
+        Format::Raw
+    }
+
+    fn size(&self) -> u64 {
+        self.size
+    }
+
+    fn zero_granularity(&self) -> Option<u64> {
+        Some(self.settings.granularity)
+    }
+
+    fn writable(&self) -> bool {
+        self.settings.writable
+    }
+
+    fn takes_backing(&self) -> bool {
+        true
+    }
+
+    fn has_prepared(&self) -> bool {
+        self.waiting.is_some()
+    }
+
+    fn probe(_alloc: Global, _storage: &S) -> Result<bool, Error> {
+        Ok(false)
+    }
+
+    fn collect_storage_dependencies(&self, alloc: Global) -> Result<Vec<&S>, Error> {
+        match Vec::from_array(alloc, [&self.storages.first, &self.storages.second]) {
+            Ok(storages) => Ok(storages),
+            Err(_) => Err(Error::Memory),
+        }
+    }
+
+    fn storage_count(&self) -> usize {
+        2
+    }
+
+    fn storage(&self, index: usize) -> Option<&S> {
+        self.storages.get(index)
+    }
+
+    fn get_mapping(&self, offset: u64, max_length: u64) -> Result<(ShallowMapping, u64), Error> {
+        let Some(origin) = entry(&self.table, offset) else {
+            return Ok((ShallowMapping::Eof, 0));
+        };
+        let mapping = shallow_mapping(origin, offset)?;
+        Ok((mapping, run_of(&self.table, offset, origin, max_length)))
+    }
+
+    fn read_mapped(
+        &self,
+        alloc: Global,
+        storage: usize,
+        buf: &mut [u8],
+        offset: u64,
+    ) -> Result<(), Error> {
+        self.storages.read(alloc, storage, buf, offset)
+    }
+
+    fn readv_special(&self, _alloc: Global, buf: &mut [u8], _offset: u64) -> Result<(), Error> {
+        if buf.is_empty() {
+            return Ok(());
+        }
+        Err(Error::Unsupported)
+    }
+
+    fn write_mapped(
+        &mut self,
+        alloc: Global,
+        storage: usize,
+        source: &[u8],
+        offset: u64,
+    ) -> Result<(), Error> {
+        self.storages.write(alloc, storage, source, offset)
+    }
+
+    fn ensure_zero_mapping(
+        &mut self,
+        _alloc: Global,
+        offset: u64,
+        count: u64,
+    ) -> Result<(u64, u64), Error> {
+        put_part(&mut self.table, offset, count, Origin::Zero)
+    }
+
+    fn discard_to_zero(
+        &mut self,
+        _alloc: Global,
+        offset: u64,
+        count: u64,
+    ) -> Result<(u64, u64), Error> {
+        put_part(&mut self.table, offset, count, Origin::Zero)
+    }
+
+    fn discard_to_any(
+        &mut self,
+        _alloc: Global,
+        offset: u64,
+        count: u64,
+    ) -> Result<(u64, u64), Error> {
+        let given_up = Origin::Lower;
+        put_part(&mut self.table, offset, count, given_up)
+    }
+
+    fn discard_to_backing(
+        &mut self,
+        _alloc: Global,
+        offset: u64,
+        count: u64,
+    ) -> Result<(u64, u64), Error> {
+        put_part(&mut self.table, offset, count, Origin::Lower)
+    }
+
+    fn prepare_data_mapping<B: LowerLayer>(
+        &mut self,
+        alloc: Global,
+        below: Option<&B>,
+        offset: u64,
+        count: u64,
+        overwrite: bool,
+    ) -> Result<PreparedDataMapping<u64>, Error> {
+        if count == 0 {
+            return Ok(PreparedDataMapping::existing(0, 0, 0));
+        }
+        let Some(origin) = entry(&self.table, offset) else {
+            return Err(Error::BeyondDisk);
+        };
+        if let Origin::Barred = origin {
+            return Err(Error::NoAccess);
+        }
+        let run = run_of(&self.table, offset, origin, count);
+        if let Some(index) = storage_index(origin) {
+            return Ok(PreparedDataMapping::existing(index, offset, run));
+        }
+        if overwrite {
+            return Ok(self.wait(offset, run));
+        }
+        match old_bytes(alloc, below, offset, run, origin) {
+            Ok(bytes) => {
+                self.storages.write(alloc, 0, &bytes, offset)?;
+                Ok(self.wait(offset, run))
+            }
+            Err(Error::Device) => {
+                self.faults = self.faults.saturating_add(1);
+                Err(Error::Device)
+            }
+            Err(e) => Err(e),
+        }
+    }
+
+    fn write_prepared(
+        &mut self,
+        alloc: Global,
+        mapping: &PreparedDataMapping<u64>,
+        source: &[u8],
+        at: u64,
+    ) -> Result<(), Error> {
+        let (index, start, count) = (mapping.storage(), mapping.offset(), mapping.length());
+        if !mapping.is_nonblocking() {
+            if !self.is_waiting(mapping) {
+                return Err(Error::ForeignMapping);
+            }
+            return self.storages.write(alloc, 0, source, start + at);
+        }
+        if !self.settings.writable {
+            return Err(Error::ForeignMapping);
+        }
+        if count == 0 {
+            return Ok(());
+        }
+        let Some(origin) = stored_origin(index) else {
+            return Err(Error::ForeignMapping);
+        };
+        if run_of(&self.table, start, origin, count) < count {
+            return Err(Error::ForeignMapping);
+        }
+        self.storages.write(alloc, index, source, start + at)
+    }
+
+    fn commit_data_mapping(&mut self, mapping: PreparedDataMapping<u64>) -> Result<(), Error>
+        ensures { IsCommit ⟦<Sparse<S> as FormatDriverInstance>⟧.view self.old self.new mapping result }
+    {
+        let own = self.is_waiting(&mapping);
+        let (start, count) = (mapping.offset(), mapping.length());
+        let Some(_) = mapping.into_state() else {
+            return Ok(());
+        };
+        if !own {
+            return Err(Error::ForeignMapping);
+        }
+        self.waiting = None;
+        let Some(most) = self.settings.fail_commit_after else {
+            put_run(&mut self.table, start, count, Origin::First);
+            return Ok(());
+        };
+        put_run(&mut self.table, start, count.min(most), Origin::First);
+        self.faults = self.faults.saturating_add(1);
+        Err(Error::Device)
+    }
+
+    fn cancel_data_mapping(&mut self, mapping: PreparedDataMapping<u64>)
+        ensures { IsCancel ⟦<Sparse<S> as FormatDriverInstance>⟧.view self.old self.new mapping }
+    {
+        let own = self.is_waiting(&mapping);
+        let _ = mapping.into_state();
+        if own {
+            self.waiting = None;
+        }
+    }
+
+    fn resize_grow<B: LowerLayer>(
+        &mut self,
+        _alloc: Global,
+        _below: Option<&B>,
+        new_size: u64,
+        mode: PreallocateMode,
+    ) -> Result<(), Error> {
+        if new_size <= self.size {
+            return Ok(());
+        }
+        if self.short {
+            return Err(Error::Unsupported);
+        }
+        let Some(origin) = new_origin(mode) else {
+            return Err(Error::Unsupported);
+        };
+        grow(&mut self.table, new_size, origin)?;
+        self.size = new_size;
+        Ok(())
+    }
+
+    fn resize_shrink(&mut self, new_size: u64) -> Result<(), Error> {
+        if self.size <= new_size {
+            return Ok(());
+        }
+        self.table.truncate(new_size as usize);
+        self.size = new_size;
+        Ok(())
+    }
+
+    fn flush(&mut self) -> Result<(), Error> {
+        self.storages.flush()
+    }
+
+    fn sync(&mut self) -> Result<(), Error> {
+        self.storages.sync()
+    }
+
+    fn invalidate_cache(&mut self) -> Result<(), Error> {
+        self.storages.invalidate_cache()
+    }
+}
+
+/// The origin of the bytes that a growth adds, if it is offered.
+fn new_origin(mode: PreallocateMode) -> Option<Origin>
+    ensures { result ≡ origin_for mode }
+{
+    match mode {
+        PreallocateMode::None | PreallocateMode::Zero => Some(Origin::Zero),
+        PreallocateMode::FormatAllocate => Some(Origin::Lower),
+        PreallocateMode::FullAllocate | PreallocateMode::WriteData => None,
+    }
+}
+
+/// The mapping of bytes of that origin at the offset. [`Error::NoAccess`] is an entry that is barred.
+fn shallow_mapping(origin: Origin, offset: u64) -> Result<ShallowMapping, Error>
+    ensures { result ≡ mapping_of origin offset }
+{
+    match origin {
+        Origin::First => Ok(ShallowMapping::Raw {
+            storage: 0,
+            offset,
+            writable: true,
+        }),
+        Origin::Second => Ok(ShallowMapping::Raw {
+            storage: 1,
+            offset,
+            writable: true,
+        }),
+        Origin::Zero => Ok(ShallowMapping::Zero { explicit: true }),
+        Origin::Lower => Ok(ShallowMapping::Indirect {
+            offset,
+            writable: false,
+        }),
+        Origin::Barred => Err(Error::NoAccess),
+    }
+}

@@ -1,3 +1,0 @@
-pub mod Torn
-pub mod Variants
-pub mod CopySteps

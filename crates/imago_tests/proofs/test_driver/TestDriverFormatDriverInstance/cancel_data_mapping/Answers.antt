@@ -1,9 +1,0 @@
-use Rattle.imago_tests.specs.declared.test_driver.TestDriver.TheVariants as T
-use Rattle.imago_tests.proofs.Variants.{cancel_of}
-use Rattle.imago_tests.proofs.test_driver.TestDriverFormatDriverInstance.cancel_data_mapping.Goals as goal
-
-pub returns-in-Raw : goal.returns-in-Raw
-returns-in-Raw g c = rw c.in-Raw.is (cancel_of (λ r. T.Raw r) _ _ _ _ c.cancel_data_mapping.ensures)
-
-pub returns-in-Pattern : goal.returns-in-Pattern
-returns-in-Pattern g c = rw c.in-Pattern.is (cancel_of (λ p. T.Pattern p) _ _ _ _ c.cancel_data_mapping-in-Pattern.ensures)

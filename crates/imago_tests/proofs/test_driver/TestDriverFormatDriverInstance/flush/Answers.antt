@@ -1,7 +1,0 @@
-use Rattle.imago_tests.proofs.test_driver.TestDriverFormatDriverInstance.flush.Goals as goal
-
-pub returns-in-Raw-clause-unchanged : goal.returns-in-Raw-clause-unchanged
-returns-in-Raw-clause-unchanged g c = rw c.in-Raw.is c.flush.ensures.unchanged
-
-pub returns-in-Pattern-clause-unchanged : goal.returns-in-Pattern-clause-unchanged
-returns-in-Pattern-clause-unchanged g c = rw c.in-Pattern.is c.flush-in-Pattern.ensures.unchanged
