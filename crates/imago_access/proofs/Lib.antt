@@ -18,3 +18,5 @@ pub mod Flat
 pub mod Resizes
 pub mod Determined
 pub mod Successes
+pub mod ZeroSteps
+pub mod ZeroLoops

@@ -103,7 +103,7 @@ settled_next old mid new c d f o m n s t = record {
 }
 
 -- a chunk, and then the next
-changed_next : (o c n : ℕ) (how : Change) (old mid new : ℕ → Value) → ((k : ℕ) (v v' w : Value) → how k v w → how k v' w) → IsChanged o c how old mid → IsChanged (o + c) n (λ k. how (c + k)) mid new → IsChanged o (c + n) how old new
+pub changed_next : (o c n : ℕ) (how : Change) (old mid new : ℕ → Value) → ((k : ℕ) (v v' w : Value) → how k v w → how k v' w) → IsChanged o c how old mid → IsChanged (o + c) n (λ k. how (c + k)) mid new → IsChanged o (c + n) how old new
 changed_next o c n how old mid new any a b = record {
   inside = λ k h. ⊎_elim
       (λ below.

@@ -15,3 +15,4 @@ pub mod Histories
 pub mod Success
 pub mod Lending
 pub mod ChainLaws
+pub mod Zeroing

@@ -15,3 +15,4 @@ mod read;
 mod resize;
 pub mod run;
 mod write;
+mod zero;

@@ -12,7 +12,7 @@ use imago_storage::error::Error;
 use std::alloc::Global;
 
 /// Writes the first bytes of a range, as many as one mapping holds, and answers how many these are.
-fn write_first<D: FormatDriverInstance, B: LowerLayer>(
+pub(crate) fn write_first<D: FormatDriverInstance, B: LowerLayer>(
     inner: &mut D,
     alloc: Global,
     below: Option<&B>,

@@ -1,0 +1,294 @@
+//! Zeroing ranges of an image.
+ghost use Rattle.std.specs.Prelude.{◌≡◌, ℕ, ◌+◌, ◌-◌, ◌<◌, ◌≤◌, ◌^◌, None, true, IsTrue, IfOk, IfErr, IsOk, length, slice_index, EachIndex};
+ghost use Rattle.imago_drivers.specs.Operation.{Zero};
+ghost use Rattle.imago_drivers.specs.LayerBelow.{lent};
+ghost use Rattle.imago_drivers.specs.Place.{Byte};
+ghost use Rattle.imago_access.specs.Chain.{driver, disk_value, as_layer_below};
+ghost use Rattle.imago_access.specs.Zeroing.{operation_of, AreZero, IsPartlyZeroed, Carries, HasZeroed, HasZeroedPart, IsZeroedByDriver, data_reasons, zero_reasons};
+
+use crate::access::{FormatAccess, below};
+use crate::mapping::Mapping;
+use crate::write::write_first;
+use imago_drivers::drivers::FormatDriverInstance;
+use imago_storage::error::Error;
+use std::alloc::Global;
+
+/// The most zeroes that are written as data at once, in bytes.
+const ZERO_PIECE: u64 = 1048576;
+
+/// Which call of the driver zeroes what it can.
+#[derive(Clone, Copy)]
+pub(crate) enum ZeroCall {
+    /// [`FormatDriverInstance::ensure_zero_mapping`].
+    EnsureZero,
+    /// [`FormatDriverInstance::discard_to_zero`].
+    DiscardToZero,
+}
+
+impl<D: FormatDriverInstance> FormatAccess<D> {
+    /// Has the driver zero what it can of a range, and answers which part that is.
+    fn zero_part(
+        &mut self,
+        alloc: Global,
+        call: ZeroCall,
+        offset: u64,
+        count: u64,
+    ) -> Result<(u64, u64), Error>
+        requires writable { (D.view (driver self.old)).abilities.is_writable ≡ true }
+        requires spent { (D.view (driver self.old)).pending ≡ None }
+        requires inside { offset + count ≤ (D.view (driver self.old)).size }
+        ensures { HasZeroedPart D.view (operation_of call) offset count self.old self.new result }
+    {
+        match call {
+            ZeroCall::EnsureZero => self.inner.ensure_zero_mapping(alloc, offset, count),
+            ZeroCall::DiscardToZero => self.inner.discard_to_zero(alloc, offset, count),
+        }
+    }
+
+    /// Whether a range maps as zeroes, explicit ones or not, as far as its mappings can be had.
+    fn maps_as_zero(&self, offset: u64, count: u64) -> bool
+        requires { offset + count < 2 ^ 64 }
+        ensures { IsTrue result → AreZero (disk_value D.view self.now) offset count }
+    {
+        let mut done: u64 = 0;
+        while done < count {
+            match self.get_mapping(offset + done, count - done) {
+                Ok((Mapping::Zero { .. }, length)) => done += length,
+                _ => return false,
+            }
+        }
+        true
+    }
+
+    /// Where the whole granules of a range begin: rounded down where what stands before the range in its first granule
+    /// maps as zero, rounded up where not.
+    fn first_granule(&self, granule: u64, offset: u64) -> u64
+        requires some { 0 < granule }
+        requires fits { offset < 2 ^ 64 }
+        ensures { (p : ℕ) → result ≤ p → p < offset → disk_value D.view self.now p ≡ Byte 0 }
+    {
+        let head = offset % granule;
+        let start = offset - head;
+        if self.maps_as_zero(start, head) {
+            return start;
+        }
+        start.saturating_add(granule)
+    }
+
+    /// Where the whole granules of a range end: rounded up, but for the disk's end, where what stands behind the range in
+    /// its last granule maps as zero, rounded down where not.
+    fn last_granule(&self, granule: u64, end: u64) -> u64
+        requires some { 0 < granule }
+        requires inside { end ≤ (D.view (driver self.now)).size }
+        ensures inside { result ≤ (D.view (driver self.now)).size }
+        ensures zero { (p : ℕ) → end ≤ p → p < result → disk_value D.view self.now p ≡ Byte 0 }
+    {
+        let tail = end % granule;
+        if tail == 0 {
+            return end;
+        }
+        let start = end - tail;
+        let whole = start.saturating_add(granule).min(self.size());
+        if self.maps_as_zero(end, whole - end) {
+            return whole;
+        }
+        start
+    }
+
+    /// Has the driver zero what it can from one offset to another. Its refusals are ignored.
+    fn zero_granules(&mut self, alloc: Global, start: u64, end: u64)
+        requires writable { (D.view (driver self.old)).abilities.is_writable ≡ true }
+        requires spent { (D.view (driver self.old)).pending ≡ None }
+        requires inside { end ≤ (D.view (driver self.old)).size }
+        ensures { IsZeroedByDriver D.view start (end - start) self.old self.new }
+    {
+        let mut done = start;
+        while done < end {
+            match self.zero_part(alloc, ZeroCall::EnsureZero, done, end - done) {
+                Ok((from, length)) if length > 0 => done = from + length,
+                _ => return,
+            }
+        }
+    }
+
+    /// Zeroes whole granules of a range where the driver has a granularity. A granule that begins before the range, or ends behind
+    /// it, is zeroed where it maps as zero there.
+    fn try_granules(&mut self, alloc: Global, offset: u64, count: u64)
+        requires writable { (D.view (driver self.old)).abilities.is_writable ≡ true }
+        requires spent { (D.view (driver self.old)).pending ≡ None }
+        requires inside { offset + count ≤ (D.view (driver self.old)).size }
+        requires fits { offset + count < 2 ^ 64 }
+        ensures { IsZeroedByDriver D.view offset count self.old self.new }
+    {
+        if let Some(granule) = self.inner.zero_granularity() {
+            let start = self.first_granule(granule, offset);
+            let end = self.last_granule(granule, offset + count);
+            self.zero_granules(alloc, start, end);
+        }
+    }
+
+    /// Writes the first of these zeroes at the offset, as many as one mapping holds, and answers how many these are.
+    fn write_zero_piece(
+        &mut self,
+        alloc: Global,
+        zeroes: &[u8],
+        offset: u64,
+    ) -> Result<usize, Error>
+        requires some { 0 < length zeroes.now }
+        requires zeroes { EachIndex zeroes.now (λ k. slice_index zeroes.now k ≡ 0) }
+        requires writable { (D.view (driver self.old)).abilities.is_writable ≡ true }
+        requires spent { (D.view (driver self.old)).pending ≡ None }
+        requires inside { offset + length zeroes.now ≤ (D.view (driver self.old)).size }
+        ensures some { IfOk result (λ n. (0 < n) × (n ≤ length zeroes.now)) }
+        ensures zeroed { HasZeroed D.view offset (length zeroes.now) (λ n. n)
+            (data_reasons D.view self.old offset (length zeroes.now)) self.old self.new result }
+    {
+        write_first(&mut self.inner, alloc, below(&self.backing), zeroes, offset)
+    }
+
+    /// Zeroes the first bytes of a range, and answers how many these are: what maps as explicit zeroes already, or what one
+    /// write of these zeroes puts there.
+    fn zero_first(
+        &mut self,
+        alloc: Global,
+        zeroes: &[u8],
+        offset: u64,
+        count: u64,
+    ) -> Result<u64, Error>
+        requires some { 0 < count }
+        requires stock { 0 < length zeroes.now }
+        requires zeroes { EachIndex zeroes.now (λ k. slice_index zeroes.now k ≡ 0) }
+        requires writable { (D.view (driver self.old)).abilities.is_writable ≡ true }
+        requires spent { (D.view (driver self.old)).pending ≡ None }
+        requires inside { offset + count ≤ (D.view (driver self.old)).size }
+        requires fits { offset + count < 2 ^ 64 }
+        ensures some { IfOk result (λ n. (0 < n) × (n ≤ count)) }
+        ensures zeroed { HasZeroed D.view offset count (λ n. n) (data_reasons D.view self.old offset count)
+            self.old self.new result }
+    {
+        let (mapping, length) = self.get_mapping(offset, count)?;
+        if let Mapping::Zero { explicit: true } = mapping {
+            return Ok(length);
+        }
+        let piece = piece_of(length, count, zeroes.len() as u64);
+        match self.write_zero_piece(alloc, &zeroes[..piece as usize], offset) {
+            Ok(written) => Ok(written as u64),
+            Err(error) => Err(error),
+        }
+    }
+
+    /// Zeroes a range by writes of zeroes, but for what is an explicit zero already.
+    fn zero_as_data(&mut self, alloc: Global, offset: u64, count: u64) -> Result<(), Error>
+        requires some { 0 < count }
+        requires writable { (D.view (driver self.old)).abilities.is_writable ≡ true }
+        requires spent { (D.view (driver self.old)).pending ≡ None }
+        requires inside { offset + count ≤ (D.view (driver self.old)).size }
+        requires fits { offset + count < 2 ^ 64 }
+        ensures { HasZeroed D.view offset count (λ u. count) (data_reasons D.view self.old offset count)
+            self.old self.new result }
+    {
+        let zeroes = zero_bytes(alloc, count.min(ZERO_PIECE) as usize)?;
+        let mut done: u64 = 0;
+        while done < count {
+            done += self.zero_first(alloc, &zeroes, offset + done, count - done)?;
+        }
+        Ok(())
+    }
+
+    /// Zeroes what the driver's own call left of a range: by whole granules as far as that goes, then as data.
+    fn fill_zeroes(&mut self, alloc: Global, offset: u64, count: u64) -> Result<(), Error>
+        requires writable { (D.view (driver self.old)).abilities.is_writable ≡ true }
+        requires spent { (D.view (driver self.old)).pending ≡ None }
+        requires inside { offset + count ≤ (D.view (driver self.old)).size }
+        requires fits { offset + count < 2 ^ 64 }
+        ensures empty { count ≡ 0 → IsOk result × (self.new ≡ self.old) }
+        ensures zeroed { HasZeroed D.view offset count (λ u. count) (data_reasons D.view self.old offset count)
+            self.old self.new result }
+    {
+        if count == 0 {
+            return Ok(());
+        }
+        self.try_granules(alloc, offset, count);
+        self.zero_as_data(alloc, offset, count)
+    }
+
+    /// Zeroes the first bytes of a range, and answers how many these are: the part that the driver's own call zeroes, with what
+    /// stands before it, or all where that call does nothing.
+    fn zero_next(
+        &mut self,
+        alloc: Global,
+        call: ZeroCall,
+        offset: u64,
+        count: u64,
+    ) -> Result<u64, Error>
+        requires some { 0 < count }
+        requires writable { (D.view (driver self.old)).abilities.is_writable ≡ true }
+        requires spent { (D.view (driver self.old)).pending ≡ None }
+        requires inside { offset + count ≤ (D.view (driver self.old)).size }
+        requires fits { offset + count < 2 ^ 64 }
+        ensures some { IfOk result (λ n. (0 < n) × (n ≤ count)) }
+        ensures whole { (D.view (driver self.old)).no_memory (operation_of call) offset count
+            → IfOk result (λ n. n ≡ count) }
+        ensures zeroed { HasZeroed D.view offset count (λ n. n)
+            (zero_reasons D.view self.old (operation_of call) offset count) self.old self.new
+            result }
+    {
+        let (start, length) = self.zero_part(alloc, call, offset, count)?;
+        if length == 0 {
+            self.fill_zeroes(alloc, offset, count)?;
+            return Ok(count);
+        }
+        self.fill_zeroes(alloc, offset, start - offset)?;
+        Ok(start - offset + length)
+    }
+
+    /// Zeroes a range, by the driver's own call as far as it goes, and by the soft path else.
+    pub(crate) fn zero_range(
+        &mut self,
+        alloc: Global,
+        call: ZeroCall,
+        offset: u64,
+        count: u64,
+    ) -> Result<(), Error>
+        requires writable { (D.view (driver self.old)).abilities.is_writable ≡ true }
+        requires spent { (D.view (driver self.old)).pending ≡ None }
+        requires inside { offset + count ≤ (D.view (driver self.old)).size }
+        requires fits { offset + count < 2 ^ 64 }
+        ensures { HasZeroed D.view offset count (λ u. count)
+            (zero_reasons D.view self.old (operation_of call) offset count) self.old self.new
+            result }
+    {
+        let mut done: u64 = 0;
+        while done < count {
+            done += self.zero_next(alloc, call, offset + done, count - done)?;
+        }
+        Ok(())
+    }
+}
+
+/// How much of a range is written at once: what one mapping is for, or, at an end, what was asked for, up to so many zeroes.
+fn piece_of(mapped: u64, count: u64, most: u64) -> u64
+    requires some { 0 < count }
+    requires stock { 0 < most }
+    requires within { mapped ≤ count }
+    ensures some { 0 < result }
+    ensures within { result ≤ count }
+    ensures most { result ≤ most }
+{
+    if mapped == 0 {
+        return count.min(most);
+    }
+    mapped.min(most)
+}
+
+/// A buffer of that many zeroes. Refused, it is [`Error::Memory`].
+pub(crate) fn zero_bytes(alloc: Global, count: usize) -> Result<Vec<u8>, Error>
+    ensures len { IfOk result (λ v. length v.items ≡ count) }
+    ensures zeroes { IfOk result (λ v. EachIndex v.items (λ k. slice_index v.items k ≡ 0)) }
+    ensures memory { IfErr result (λ e. e ≡ Error.Memory) }
+{
+    match vec![in alloc; 0u8; count] {
+        Ok(zeroes) => Ok(zeroes),
+        Err(_) => Err(Error::Memory),
+    }
+}
