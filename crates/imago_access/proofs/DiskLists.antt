@@ -9,7 +9,7 @@ use Rattle.imago_drivers.specs.Place.{Value, Byte}
 use Rattle.imago_drivers.specs.Changes.{IsChanged, into, partly, given_back}
 use Rattle.imago_drivers.specs.Resized.{grown_into}
 use Rattle.imago_access.specs.Disk.{values_from, value_at, splice, OldOrNewValues, extended, IsExtended}
-use Rattle.imago_access.specs.Histories.{IsFilled}
+use Rattle.imago_access.specs.Determined.{IsFilled}
 
 pub from_at : (f : ℕ → Value) (o n k : ℕ) (d : Value) → k < n → get_or (values_from f o n) k d ≡ f (o + k)
 from_at f o n k d h = get_or-map-range_with_len f o n k (o + k) d h refl

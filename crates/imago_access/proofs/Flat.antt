@@ -2,7 +2,7 @@ use Rattle.std.proofs.Common.{◌≡◌, ℕ, ◌+◌, ◌-◌, ◌<◌, ◌≤�
 use Rattle.std.proofs.Math.Path.{fun_ext}
 use Rattle.std.proofs.lemmas.Bool.{cases_lt}
 use Rattle.std.proofs.lemmas.List.{get_or_past, take_all}
-use Rattle.std.specs.Prelude.{IsTrue}
+use Rattle.std.specs.Prelude.{IsTrue, IfOk, IfErr}
 use Rattle.imago_storage.specs.declared.error.Error.{Error}
 use Rattle.imago_drivers.specs.declared.format.PreallocateMode.{PreallocateMode}
 use Rattle.imago_drivers.specs.Operation.{Operation, Write}
@@ -17,14 +17,14 @@ use Rattle.imago_access.specs.declared.run.Call.{Call}
 use Rattle.imago_access.specs.declared.run.Call.TheVariants as C
 use Rattle.imago_access.specs.declared.run.Reply.{Reply}
 use Rattle.imago_access.specs.declared.run.Reply.TheVariants as R
-use Rattle.imago_access.specs.Chain.{driver, backing, disk_value, lent_image, read_cause}
+use Rattle.imago_access.specs.Chain.{driver, backing, disk_value, lent_image, read_cause, read_reasons}
 use Rattle.imago_access.specs.ChainLaws.{image_is_layer}
 use Rattle.imago_access.specs.Target.{target}
 use Rattle.imago_access.specs.Calls.{IsKept, IsWrite, FailsTest, range_refusals}
 use Rattle.imago_access.specs.Sizes.{IsSameImage, IsResize, IsResizeTo, IsFlushed, HasGrown, HasShrunk}
-use Rattle.imago_access.specs.Runs.{Answers, IsStep, IsRun, IsReadReply, IsMappedReply, IsSizeReply, buffer_reasons}
+use Rattle.imago_access.specs.Runs.{Answers, told_done, told_mapping, IsReadRefusal, IsBufferRead, IsMapped, IsStep, IsRun}
 use Rattle.imago_access.specs.Disk.{values_from, disk, backed_value, value_at, splice, OldOrNewValues, IsTestRefusal, IsSpliced, IsTorn, IsExtended, IsSameWrite}
-use Rattle.imago_access.specs.Histories.{DoneOrRefused, IsDataOf, IsLengthOf, IsMappingOf, IsFlatStep, IsFlatHistory}
+use Rattle.imago_access.specs.Histories.{DoneOrRefused, IsDataOf, IsMappingOf, IsSame, IsFlatStep, IsFlatHistory}
 use Rattle.imago_access.proofs.Targets.{target_shows, mapped_value}
 use Rattle.imago_access.proofs.DiskLists.{listed_at, from_length, same_listed, spliced, written_list, torn_list, torn_values, cut_list, grown_list, extended_by, is_extended_none}
 
@@ -32,21 +32,14 @@ bool_cases : (b : Bool) → (b ≡ true) ⊎ (b ≡ false)
 bool_cases true = inl refl
 bool_cases false = inr refl
 
--- what holds of a call that answers nothing, by its reply
-done_or_refused : (r : Reply) (outcome : Result Unit Error → Type 0) (done : Type 0) (refused : Error → Type 0) → (outcome (Ok tt) → done) → ((e : Error) → outcome (Err e) → refused e) → Answers r outcome → DoneOrRefused r done refused
-done_or_refused R.Done outcome done refused f g h = f h
-done_or_refused (R.Refused e) outcome done refused f g h = g e h
-done_or_refused (R.Data b) outcome done refused f g h = absurd h
-done_or_refused (R.Size s) outcome done refused f g h = absurd h
-done_or_refused (R.Mapped m c) outcome done refused f g h = absurd h
-
--- what holds at any result
-at_any_reply : (r : Reply) (outcome : Result Unit Error → Type 0) (claim : Type 0) → ((result : Result Unit Error) → outcome result → claim) → Answers r outcome → claim
-at_any_reply R.Done outcome claim f h = f (Ok tt) h
-at_any_reply (R.Refused e) outcome claim f h = f (Err e) h
-at_any_reply (R.Data b) outcome claim f h = absurd h
-at_any_reply (R.Size s) outcome claim f h = absurd h
-at_any_reply (R.Mapped m c) outcome claim f h = absurd h
+-- what holds of a call by its result holds by its reply
+done_or_refused : {T : Type 0} (told : T → Reply) (r : Reply) (outcome : Result T Error → Type 0) (done : T → Type 0) (refused : Error → Type 0) → ((t : T) → outcome (Ok t) → done t) → ((e : Error) → outcome (Err e) → refused e)
+    → Answers told r outcome → DoneOrRefused told r done refused
+done_or_refused told r outcome done refused f g h = (h.0, h.1, by h.0 h.2)
+  where
+    by : (result : Result _ Error) → outcome result → IfOk result done × IfErr result refused
+    by (Ok t) x = (f t x, tt)
+    by (Err e) x = (tt, g e x)
 
 module _ {D St : Type 0} (view : D → View St) where
   same_kept : (old new : FormatAccess D) → new ≡ old → IsKept view old new
@@ -56,16 +49,16 @@ module _ {D St : Type 0} (view : D → View St) where
   resize_kept old new n mode result h = ⊎_elim (λ lt. (h.cut lt).kept) (λ le. (h.grown le).kept) (cases_lt n (view (driver old)).size)
 
   step_kept : (old new : FormatAccess D) (call : Call) (r : Reply) → IsStep view old call r new → IsKept view old new
-  step_kept old new (C.Write o bytes) r h = at_any_reply r (IsWrite view old new o bytes.items) _ (λ result x. x.kept) h
+  step_kept old new (C.Write o bytes) r h = h.2.kept
   step_kept old new (C.Read o n) r h = same_kept old new h.0
   step_kept old new (C.GetMapping o n) r h = same_kept old new h.0
   step_kept old new C.Size r h = same_kept old new h.0
-  step_kept old new C.Flush r h = at_any_reply r (IsFlushed view old new) _ (λ result x. x.kept) h
-  step_kept old new C.Sync r h = at_any_reply r (IsFlushed view old new) _ (λ result x. x.kept) h
-  step_kept old new C.InvalidateCache r h = at_any_reply r (IsFlushed view old new) _ (λ result x. x.kept) h
-  step_kept old new (C.Resize n mode) r h = at_any_reply r (IsResizeTo view n mode old new) _ (resize_kept old new n mode) h
-  step_kept old new (C.ResizeGrow n mode) r h = at_any_reply r (IsResize view _ n (HasGrown view mode n old new) old new) _ (λ result x. x.kept) h
-  step_kept old new (C.ResizeShrink n) r h = at_any_reply r (IsResize view _ n (HasShrunk view n old new) old new) _ (λ result x. x.kept) h
+  step_kept old new C.Flush r h = h.2.kept
+  step_kept old new C.Sync r h = h.2.kept
+  step_kept old new C.InvalidateCache r h = h.2.kept
+  step_kept old new (C.Resize n mode) r h = resize_kept old new n mode h.0 h.2
+  step_kept old new (C.ResizeGrow n mode) r h = h.2.kept
+  step_kept old new (C.ResizeShrink n) r h = h.2.kept
 
   kept_twice : (old mid new : FormatAccess D) → IsKept view old mid → IsKept view mid new → IsKept view old new
   kept_twice old mid new a b = record {
@@ -92,12 +85,12 @@ module _ {D St : Type 0} (view : D → View St) where
   pub disk_length : (x : FormatAccess D) → length (disk view x) ≡ (view (driver x)).size
   disk_length x = from_length (disk_value view x) 0 (view (driver x)).size
 
-  flushed : (old new : FormatAccess D) (r : Reply) → IsTrue (view (driver old)).abilities.keeps_data → Answers r (IsFlushed view old new) → disk view new ≡ disk view old
-  flushed old new r k h = at_any_reply r (IsFlushed view old new) _ (λ result x. same_disk old new k x.unchanged) h
+  flushed : (old new : FormatAccess D) (r : Reply) → IsTrue (view (driver old)).abilities.keeps_data → Answers told_done r (IsFlushed view old new) → IsSame (disk view old) r (disk view new)
+  flushed old new r k h = done_or_refused told_done r (IsFlushed view old new) _ _ (λ u x. same_disk old new k x.unchanged) (λ e x. same_disk old new k x.unchanged) h
 
   resized : (old new : FormatAccess D) (op : Operation) (n : ℕ) (effect : Type 0) (done : Type 0) (r : Reply) → IsTrue (view (driver old)).abilities.keeps_data → (effect → done)
-      → Answers r (IsResize view op n effect old new) → DoneOrRefused r done (λ e. disk view new ≡ disk view old)
-  resized old new op n effect done r k f h = done_or_refused r (IsResize view op n effect old new) done _ (λ x. f x.done) (λ e x. same_disk old new k x.unchanged) h
+      → Answers told_done r (IsResize view op n effect old new) → DoneOrRefused told_done r (λ u. done) (λ e. disk view new ≡ disk view old)
+  resized old new op n effect done r k f h = done_or_refused told_done r (IsResize view op n effect old new) (λ u. done) _ (λ u x. f x.done) (λ e x. same_disk old new k x.unchanged) h
 
   pub shrunk : (old new : FormatAccess D) (n : ℕ) → IsTrue (view (driver old)).abilities.keeps_data → HasShrunk view n old new → disk view new ≡ take n (disk view old)
   shrunk old new n k h = cut_list (disk_value view old) (disk_value view new) (view (driver old)).size (view (driver new)).size n h.size (h.stays k)
@@ -130,9 +123,9 @@ module _ {D St : Type 0} (view : D → View St) where
   resize_refused old new n mode e k h = same_disk old new k (⊎_elim (λ lt. (h.cut lt).unchanged) (λ le. (h.grown le).unchanged) (cases_lt n (view (driver old)).size))
 
   -- a write past the end fails a test
-  past_fails : (x : FormatAccess D) (o n : ℕ) → (view (driver x)).size < o + n → (e : Error) × FailsTest (view (driver x)) o n e
+  past_fails : (x : FormatAccess D) (o n : ℕ) → (view (driver x)).size < o + n → (e : Error) × FailsTest (view (driver x)) Write o n e
   past_fails x o n h = ⊎_elim
-      (λ w. (Error.BeyondDisk, inr (refl, w, h)))
+      (λ w. (Error.BeyondDisk, inr (inr (refl, w, (λ z. z), h))))
       (λ w. (Error.ReadOnly, inl (refl, w)))
       (bool_cases (view (driver x)).abilities.is_writable)
 
@@ -147,7 +140,7 @@ module _ {D St : Type 0} (view : D → View St) where
       (λ (fits : o + length bytes ≤ (view (driver old)).size). fits)
       (cases_lt (view (driver old)).size (o + length bytes))
 
-  untouched : (old new : FormatAccess D) (o : ℕ) (bytes : List ℕ) (e : Error) → IsWrite view old new o bytes (Err e) → IsTestRefusal (disk view old) o bytes e → disk view new ≡ disk view old
+  untouched : (old new : FormatAccess D) (o : ℕ) (bytes : List ℕ) (e : Error) → IsWrite view old new o bytes (Err e) → IsTestRefusal (disk view old) o (length bytes) e → disk view new ≡ disk view old
   untouched old new o bytes e h t = ap (disk view) (⊎_elim
       (λ (read_only : e ≡ Error.ReadOnly). ⊎_elim
       (λ f. (h.tested e f).1)
@@ -222,41 +215,37 @@ module _ {D St : Type 0} (view : D → View St) (lawful : (d : D) → IsLawful (
   bound : (x : FormatAccess D) (o n : ℕ) (e : Error) → read_cause view x o n e → ReadBound (disk_value view x) o n e
   bound x o n e c = (image_is_layer view causes lawful x).bound o n e c
 
+  -- a refused read: the buffer's memory, or the read's own reasons
+  read_refused : (x : FormatAccess D) (o n : ℕ) (e : Error) → IsReadRefusal view x o n e → (e ≡ Error.InvalidData) ⊎ (e ≡ Error.NoAccess) → IsUnreadableIn (value_at (disk view x)) o n e
+  read_refused x o n e h unreadable = ⊎_elim
+      (λ m. let no : ⊥ = ⊎_elim (λ k. let z = sym m.0 ∙ k in cc) (λ k. let z = sym m.0 ∙ k in cc) unreadable in absurd no)
+      (λ a. ⊎_elim
+      (λ k. unreadable_in_list x o n e Error.InvalidData k (bound x o n Error.InvalidData (subst (allowed (read_reasons view x o n)) k a)))
+      (λ k. unreadable_in_list x o n e Error.NoAccess k (bound x o n Error.NoAccess (subst (allowed (read_reasons view x o n)) k a)))
+      unreadable)
+      h
+
   -- what a read answers is the part of the list
-  read_part : (x : FormatAccess D) (o n : ℕ) (r : Reply) → IsReadReply view x o n r → IsDataOf (disk view x) o n r
-  read_part x o n (R.Data bytes) h = (h.0, λ k lt. let i : k < length bytes.items = omega (arith, h.0) in sym (value_in_list x (o + k)) ∙ h.1 k i)
-  read_part x o n R.Done h = absurd h
-  read_part x o n (R.Size s) h = absurd h
-  read_part x o n (R.Mapped m c) h = absurd h
-  read_part x o n (R.Refused e) h = λ unreadable. ⊎_elim
-      (λ k. unreadable_in_list x o n e Error.InvalidData k (bound x o n Error.InvalidData (subst (allowed (buffer_reasons view x o n)) k h)))
-      (λ k. unreadable_in_list x o n e Error.NoAccess k (bound x o n Error.NoAccess (subst (allowed (buffer_reasons view x o n)) k h)))
-      unreadable
+  read_part : (x : FormatAccess D) (o n : ℕ) (r : Reply) → Answers R.Data r (IsBufferRead view x o n) → IsDataOf (disk view x) o n r
+  read_part x o n r h = done_or_refused R.Data r (IsBufferRead view x o n) _ _
+      (λ v y. (y.bytes.0, λ k lt. let i : k < length v.items = omega (arith, y.bytes.0) in sym (value_in_list x (o + k)) ∙ y.bytes.1 k i))
+      (λ e y. read_refused x o n e y.refusals) h
 
-  size_reply : (x : FormatAccess D) (r : Reply) → IsSizeReply view x r → IsLengthOf (disk view x) r
-  size_reply x (R.Size s) h = h ∙ sym (disk_length view x)
-  size_reply x R.Done h = absurd h
-  size_reply x (R.Data bytes) h = absurd h
-  size_reply x (R.Mapped m c) h = absurd h
-  size_reply x (R.Refused e) h = absurd h
-
-  mapped_part : (x : FormatAccess D) (o n : ℕ) (r : Reply) → IsMappedReply view x o n r → IsMappingOf (disk view x) o n r
-  mapped_part x o n (R.Mapped m c) h = (h.0.within, λ k lt. mapped_value m k (target view x (o + k)) (value_at (disk view x) (o + k)) (sym (value_in_list x (o + k)) ∙ target_shows view x (o + k)) (h.0.leads k lt))
-  mapped_part x o n (R.Refused e) h = λ unreadable. sym (value_in_list x o) ∙ h.1 unreadable
-  mapped_part x o n R.Done h = absurd h
-  mapped_part x o n (R.Data bytes) h = absurd h
-  mapped_part x o n (R.Size s) h = absurd h
+  mapped_part : (x : FormatAccess D) (o n : ℕ) (r : Reply) → Answers told_mapping r (IsMapped view x o n) → IsMappingOf (disk view x) o n r
+  mapped_part x o n r h = done_or_refused told_mapping r (IsMapped view x o n) _ _
+      (λ m y. (y.right.within, λ k lt. mapped_value m.0 k (target view x (o + k)) (value_at (disk view x) (o + k)) (sym (value_in_list x (o + k)) ∙ target_shows view x (o + k)) (y.right.leads k lt)))
+      (λ e y unreadable. sym (value_in_list x o) ∙ y.refused_place unreadable) h
 
   -- one step, on lists
   flat_step : (old new : FormatAccess D) (call : Call) (r : Reply) → IsTrue (view (driver old)).abilities.keeps_data → IsStep view old call r new → IsFlatStep (backed_value view old) (disk view old) call r (disk view new)
   flat_step old new (C.Read o n) r k h = (ap (disk view) h.0, read_part old o n r h.1)
-  flat_step old new C.Size r k h = (ap (disk view) h.0, size_reply old r h.1)
+  flat_step old new C.Size r k h = (ap (disk view) h.0, h.1 ∙ ap R.Size (sym (disk_length view old)))
   flat_step old new (C.GetMapping o n) r k h = (ap (disk view) h.0, mapped_part old o n r h.1)
-  flat_step old new (C.Write o bytes) r k h = done_or_refused r (IsWrite view old new o bytes.items) _ _ (write_done old new o bytes.items k) (λ e x. write_refused old new o bytes.items e k x) h
+  flat_step old new (C.Write o bytes) r k h = done_or_refused told_done r (IsWrite view old new o bytes.items) _ _ (λ u. write_done old new o bytes.items k) (λ e x. write_refused old new o bytes.items e k x) h
   flat_step old new C.Flush r k h = flushed view old new r k h
   flat_step old new C.Sync r k h = flushed view old new r k h
   flat_step old new C.InvalidateCache r k h = flushed view old new r k h
-  flat_step old new (C.Resize n mode) r k h = done_or_refused r (IsResizeTo view n mode old new) _ _ (resized_to view old new mode n k) (λ e x. resize_refused view old new n mode e k x) h
+  flat_step old new (C.Resize n mode) r k h = done_or_refused told_done r (IsResizeTo view n mode old new) _ _ (λ u. resized_to view old new mode n k) (λ e x. resize_refused view old new n mode e k x) h
   flat_step old new (C.ResizeGrow n mode) r k h = resized view old new _ n (HasGrown view mode n old new) _ r k (grown view old new mode n k) h
   flat_step old new (C.ResizeShrink n) r k h = resized view old new _ n (HasShrunk view n old new) _ r k (shrunk view old new n k) h
 

@@ -1,8 +1,9 @@
-use Rattle.std.proofs.Common.{◌≡◌, ℕ, ◌+◌, ◌≤◌, ◌&&◌, inl, inr, ⊎_elim, Bool, true, Option, Some, None, List, length, refl, sym, ap, ◌∙◌, subst, arith, Box, Global, Result, Ok, Err}
+use Rattle.std.proofs.Common.{◌≡◌, ℕ, ◌+◌, ◌<◌, ◌≤◌, ◌⊎◌, ◌&&◌, inl, inr, ⊎_elim, Bool, true, false, Option, Some, None, List, length, refl, sym, ap, ◌∙◌, subst, arith, Box, Global, Result, Ok, Err}
 use Rattle.std.specs.Prelude.{IsTrue, IfErr, IfOk, OnOk, OnErr, IsErrOf}
 use Rattle.std.specs.Option.{option_copied}
 use Rattle.imago_storage.specs.Faults.{CountsFaults}
-use Rattle.imago_drivers.specs.Frame.{IsFramed, IsKind, IsUnchanged}
+use Rattle.imago_drivers.specs.Frame.{IsFramed, IsKind, IsUnchanged, ReachesNoMore}
+use Rattle.imago_drivers.specs.Causes.{Causes, Copies, IsSettled, EveryOperation}
 use Rattle.imago_drivers.specs.Done.{lending_reasons}
 use Rattle.imago_drivers.specs.Prepared.{IsPrepared}
 use Rattle.imago_drivers.specs.declared.mapping.PreparedDataMapping.{PreparedDataMapping}
@@ -12,12 +13,12 @@ use Rattle.imago_drivers.specs.Operation.{Operation}
 use Rattle.imago_drivers.specs.Place.{Value, values, shown}
 use Rattle.imago_drivers.specs.LayerBelow.{LayerBelow, lent}
 use Rattle.imago_drivers.specs.View.{View}
-use Rattle.imago_drivers.specs.Reasons.{allowed}
+use Rattle.imago_drivers.specs.Reasons.{Reasons, allowed}
 use Rattle.imago_drivers.specs.Changes.{IsChanged, into, partly, overwritten}
 use Rattle.imago_access.specs.declared.access.FormatAccess.{FormatAccess, FormatAccess', out-FormatAccess, out-roll-FormatAccess, rolls-FormatAccess', FormatAccess-F, back-FormatAccess-backing}
 use Rattle.imago_access.specs.Chain.{driver, backing, unboxed, disk_value, as_layer_below, lent_image}
 use Rattle.imago_access.specs.Lending.{with_driver}
-use Rattle.imago_access.specs.Calls.{FailsTest, IsRangeCall, IsWrite, range_refusals, devices_reliable, IsEnsured, IsPreparing}
+use Rattle.imago_access.specs.Calls.{Overflows, FailsTest, IsLoose, settles, ShowsFaults, IsRangeCall, IsWrite, devices_reliable, IsEnsured, IsPreparing}
 use Rattle.imago_access.specs.Writing.{HasWrittenAll}
 use Rattle.imago_access.proofs.Chains.{value_out}
 
@@ -61,61 +62,104 @@ module _ {D St : Type 0} (view : D → View St) (x : FormatAccess D) (d : D) whe
   pub changed_image : (P : (ℕ → Value) → (ℕ → Value) → Type 0) → P (values (lent_image view (backing x)).at (view (driver x)).place) (values (lent_image view (backing x)).at (view d).place) → P (disk_value view x) (disk_value view (with_driver x d))
   changed_image P h = let a = value_out view x in let b = value_with in rw (a, b) h
 
--- what a test that passed rules out
-pub not_failed : {St : Type 0} (v : View St) (o n : ℕ) → v.abilities.is_writable ≡ true → o + n ≤ v.size → (e : Error) → FailsTest v o n e → ⊥
-not_failed v o n w fits e f = ⊎_elim (λ a. let x = sym w ∙ a.1 in let z : ⊥ = cc in z) (λ a. let x = a.2 in omega arith) f
+pub both_ways : (b : Bool) → b ≡ true → b ≡ false → ⊥
+both_ways b x y = let z = sym x ∙ y in cc
 
-same_test : {St : Type 0} (v : View St) (o n : ℕ) (e x : Error) → FailsTest v o n e → FailsTest v o n x → e ≡ x
-same_test v o n e x f g = ⊎_elim
-    (λ a. ⊎_elim (λ b. a.0 ∙ sym b.0) (λ b. let y = sym a.1 ∙ b.1 in let z : ⊥ = cc in absurd z) g)
-    (λ a. ⊎_elim (λ b. let y = sym b.1 ∙ a.1 in let z : ⊥ = cc in absurd z) (λ b. a.0 ∙ sym b.0) g)
+-- the tests of a writable driver
+abbrev FailsWritableTest : {St : Type 0} → View St → Operation → ℕ → ℕ → Error → Type 0
+FailsWritableTest v op o n e =
+    ((e ≡ Error.RangeOverflow) × (v.abilities.is_writable ≡ true) × Overflows op o n)
+    ⊎ ((e ≡ Error.BeyondDisk) × (v.abilities.is_writable ≡ true) × (Overflows op o n → ⊥) × (v.size < o + n))
+
+then_writable : {St : Type 0} (v : View St) (op : Operation) (o n : ℕ) (e : Error) → FailsWritableTest v op o n e → v.abilities.is_writable ≡ true
+then_writable v op o n e f = ⊎_elim (λ a. a.1) (λ a. a.1) f
+
+-- what a test that passed rules out
+pub not_failed : {St : Type 0} (v : View St) (op : Operation) (o n : ℕ) → v.abilities.is_writable ≡ true → o + n ≤ v.size → (Overflows op o n → ⊥) → (e : Error) → FailsTest v op o n e → ⊥
+not_failed v op o n w fits small e f = ⊎_elim
+    (λ a. both_ways v.abilities.is_writable w a.1)
+    (λ r. ⊎_elim (λ a. small a.2) (λ a. let x : v.size < o + n = a.3 in omega arith) r)
+    f
+
+same_test : {St : Type 0} (v : View St) (op : Operation) (o n : ℕ) (e x : Error) → FailsTest v op o n e → FailsTest v op o n x → e ≡ x
+same_test v op o n e x f g = ⊎_elim
+    (λ a. ⊎_elim (λ b. a.0 ∙ sym b.0) (λ r. absurd (both_ways v.abilities.is_writable (then_writable v op o n x r) a.1)) g)
+    (λ q. ⊎_elim
+    (λ b. absurd (both_ways v.abilities.is_writable (then_writable v op o n e q) b.1))
+    (λ r. ⊎_elim
+    (λ a. ⊎_elim (λ b. a.0 ∙ sym b.0) (λ b. absurd (b.2 a.2)) r)
+    (λ a. ⊎_elim (λ b. absurd (a.2 b.2)) (λ b. a.0 ∙ sym b.0) r)
+    q)
+    g)
     f
 
 -- a test that fails is no failed device
-test_device : {St T : Type 0} (v : View St) (o n : ℕ) (e : Error) → FailsTest v o n e → IsErrOf {T = T} (Err e) Error.Device → ⊥
-test_device v o n e f h = ⊎_elim (λ a. let x = a.0 in cc) (λ a. let x = a.0 in cc) f
+test_device : {St T : Type 0} (v : View St) (op : Operation) (o n : ℕ) (e : Error) → FailsTest v op o n e → IsErrOf {T = T} (Err e) Error.Device → ⊥
+test_device v op o n e f h = ⊎_elim (λ a. let x = a.0 in cc) (λ r. ⊎_elim (λ a. let x = a.0 in cc) (λ a. let x = a.0 in cc) r) f
 
-module _ {D St T : Type 0} (view : D → View St) (x : FormatAccess D) (op : Operation) (o n : ℕ) (effect : T → Type 0) (remains : Type 0) where
+reaches_same : {St : Type 0} (v : View St) → ReachesNoMore v v
+reaches_same v = λ p q w h. (w, h)
+
+-- settled for each operation, so for those
+settles_for : (op : Operation) (old new : Causes) (c d : Copies) (o n : ℕ) → IsSettled EveryOperation old new c d o n → IsSettled (settles op) old new c d o n
+settles_for op old new c d o n s = record {
+  causes = λ of a m q k e t. s.causes of a m q k e t.0;
+  copied = λ of a m q k p t. s.copied of a m q k p t.0;
+}
+
+-- a count of faults that shows each of them
+shows_faults : {T : Type 0} (r : Bool) (a b : ℕ) (result : Result T Error) → CountsFaults r a b result → ShowsFaults ⊥ r a b result
+shows_faults r a b result h = record { later = h.later; reliable = h.reliable; device = λ e. inl (h.device e) }
+
+module _ {D St T : Type 0} (view : D → View St) (x : FormatAccess D) (op : Operation) (o n : ℕ) (reasons : Reasons) (hidden : Type 0) (part : T → ℕ) (effect : T → Type 0) (remains : Type 0) where
   -- a call that a test refuses
-  pub failed_call : (e : Error) → FailsTest (view (driver x)) o n e → remains → (view (driver x)).pending ≡ None → IsRangeCall view op o n effect remains x x (Err e)
+  pub failed_call : (e : Error) → FailsTest (view (driver x)) op o n e → remains → (view (driver x)).pending ≡ None → IsRangeCall view op o n reasons hidden part effect remains x x (Err e)
   failed_call e f r p = record {
-    tested = λ z g. (ap (λ y. Err y) (same_test (view (driver x)) o n e z f g), refl);
+    tested = λ z g. (ap (λ y. Err y) (same_test (view (driver x)) op o n e z f g), refl);
     done = λ k. tt;
     torn = λ k. r;
+    reaches = λ l. reaches_same (view (driver x));
+    settled = tt;
     same_size = refl;
     kept = record { below = refl; kind = record { abilities = refl; store_count = refl; store_features = λ i. refl } };
     nothing_pending = p;
-    faults = record { later = omega arith; reliable = λ t. refl; device = λ h. absurd (test_device {T = T} (view (driver x)) o n e f h) };
+    faults = record { later = omega arith; reliable = λ t. refl; device = λ h. absurd (test_device {T = T} (view (driver x)) op o n e f h) };
     refusals = inl f;
   }
 
   -- a call that passed its tests
-  pub passed_call : (d : D) (result : Result T Error) → (view (driver x)).abilities.is_writable ≡ true → o + n ≤ (view (driver x)).size
+  pub passed_call : (d : D) (result : Result T Error) → (view (driver x)).abilities.is_writable ≡ true → o + n ≤ (view (driver x)).size → (Overflows op o n → ⊥)
       → (IsTrue (view (driver x)).abilities.keeps_data → IfOk result effect) → (IsTrue (view (driver x)).abilities.keeps_data → OnErr result remains)
+      → ((IsLoose op → ⊥) → ReachesNoMore (view (driver x)) (view d))
+      → IfOk result (λ r. IsSettled (settles op) (view (driver x)).cause (view d).cause (view (driver x)).copies (view d).copies o (part r))
       → IsFramed (view (driver x)) (view d) → (view d).pending ≡ None
-      → CountsFaults (devices_reliable view x) (view (driver x)).fault_count (view d).fault_count result
-      → IfErr result (allowed (range_refusals view x op o n)) → IsRangeCall view op o n effect remains x (with_driver x d) result
-  passed_call d result w fits done torn framed spent faults refusals =
+      → ShowsFaults hidden (devices_reliable view x) (view (driver x)).fault_count (view d).fault_count result
+      → IfErr result (allowed reasons) → IsRangeCall view op o n reasons hidden part effect remains x (with_driver x d) result
+  passed_call d result w fits small done torn reaches settled framed spent faults refusals =
       let e : driver (with_driver x d) ≡ d = driver_with x d in
       record {
-        tested = λ z g. absurd (not_failed (view (driver x)) o n w fits z g);
+        tested = λ z g. absurd (not_failed (view (driver x)) op o n w fits small z g);
         done = done;
         torn = torn;
+        reaches = λ l. subst (λ (y : D). ReachesNoMore (view (driver x)) (view y)) (sym e) (reaches l);
+        settled = subst (λ (y : D). IfOk result (λ r. IsSettled (settles op) (view (driver x)).cause (view y).cause (view (driver x)).copies (view y).copies o (part r))) (sym e) settled;
         same_size = ap (λ (y : D). (view y).size) e ∙ framed.size;
         kept = record { below = backing_with x d; kind = subst (λ (y : D). IsKind (view (driver x)) (view y)) (sym e) framed.kind };
         nothing_pending = subst (λ (y : D). (view y).pending ≡ None) (sym e) spent;
-        faults = subst (λ (y : D). CountsFaults (devices_reliable view x) (view (driver x)).fault_count (view y).fault_count result) (sym e) faults;
-        refusals = refusals_more result (allowed (range_refusals view x op o n)) _ (λ e h. inr h) refusals;
+        faults = subst (λ (y : D). ShowsFaults hidden (devices_reliable view x) (view (driver x)).fault_count (view y).fault_count result) (sym e) faults;
+        refusals = refusals_more result (allowed reasons) _ (λ e h. inr h) refusals;
       }
 
 pub image_write : {D St : Type 0} (view : D → View St) (x : FormatAccess D) (d : D) (o : ℕ) (bytes : List ℕ) (result : Result Unit Error) (l : LayerBelow) → l ≡ lent_image view (backing x)
     → (view (driver x)).abilities.is_writable ≡ true → o + length bytes ≤ (view (driver x)).size → HasWrittenAll l (view (driver x)) (view d) o bytes result → IsWrite view x (with_driver x d) o bytes result
 image_write view x d o bytes result l e w fits h =
     let k = subst (λ (m : LayerBelow). HasWrittenAll m (view (driver x)) (view d) o bytes result) e h in
-    passed_call view x Operation.Write o (length bytes) _ _ d result w fits
+    passed_call view x Operation.Write o (length bytes) _ _ _ _ _ d result w fits (λ z. z)
     (λ keeps. on_ok result _ (ok_then result (λ c. changed_image view x d (λ a b. IsChanged o (length bytes) (into bytes) a b) c) (k.done keeps)))
     (λ keeps. err_more result _ _ (λ c. changed_image view x d (λ a b. IsChanged o (length bytes) (partly (into bytes)) a b) c) (k.torn keeps))
-    k.framed k.spent k.faults k.refusals
+    (λ z. k.reaches)
+    (on_ok result _ (ok_then result (λ s. settles_for Operation.Write _ _ _ _ o (length bytes) s) k.settled))
+    k.framed k.spent (shows_faults _ _ _ result k.faults) k.refusals
   where
     ok_then : {P Q : Type 0} (r : Result Unit Error) → (P → Q) → OnOk r P → OnOk r Q
     ok_then (Ok t) f h = f h
@@ -126,44 +170,53 @@ pub image_ensured : {D St : Type 0} (view : D → View St) (x : FormatAccess D) 
     → (view (driver x)).abilities.is_writable ≡ true → o + n ≤ (view (driver x)).size
     → (IsTrue (view (driver x)).abilities.keeps_data → IfOk result (λ r. IsChanged o r.2 (overwritten w) (values l.at (view (driver x)).place) (values l.at (view d).place)))
     → (IsTrue (view (driver x)).abilities.keeps_data → OnErr result (IsChanged o n (overwritten w) (values l.at (view (driver x)).place) (values l.at (view d).place)))
+    → ReachesNoMore (view (driver x)) (view d)
+    → IfOk result (λ r. IsSettled EveryOperation (view (driver x)).cause (view d).cause (view (driver x)).copies (view d).copies o r.2)
     → IsFramed (view (driver x)) (view d) → (view d).pending ≡ None
     → CountsFaults ((view (driver x)).abilities.is_reliable && l.is_reliable) (view (driver x)).fault_count (view d).fault_count result
     → IfErr result (allowed (lending_reasons (view (driver x)) l Operation.Write o n)) → IsEnsured view x (with_driver x d) o n w result
-image_ensured view x d o n w result l h writable fits done torn framed spent faults refusals =
-    passed_call view x Operation.Write o n _ _ d result writable fits
+image_ensured view x d o n w result l h writable fits done torn reaches settled framed spent faults refusals =
+    passed_call view x Operation.Write o n _ _ _ _ _ d result writable fits (λ z. z)
     (λ k. ok_more result _ _ (λ r c. changed_image view x d (λ a b. IsChanged o r.2 (overwritten w) a b) c) (subst (λ (m : LayerBelow). IfOk result (λ r. IsChanged o r.2 (overwritten w) (values m.at (view (driver x)).place) (values m.at (view d).place))) h (done k)))
     (λ k. err_more result _ _ (λ c. changed_image view x d (λ a b. IsChanged o n (overwritten w) a b) c) (subst (λ (m : LayerBelow). OnErr result (IsChanged o n (overwritten w) (values m.at (view (driver x)).place) (values m.at (view d).place))) h (torn k)))
+    (λ z. reaches)
+    (ok_more result _ _ (λ r s. settles_for Operation.Write _ _ _ _ o r.2 s) settled)
     framed spent
-    (subst (λ (m : LayerBelow). CountsFaults ((view (driver x)).abilities.is_reliable && m.is_reliable) (view (driver x)).fault_count (view d).fault_count result) h faults)
+    (shows_faults _ _ _ result (subst (λ (m : LayerBelow). CountsFaults ((view (driver x)).abilities.is_reliable && m.is_reliable) (view (driver x)).fault_count (view d).fault_count result) h faults))
     (subst (λ (m : LayerBelow). IfErr result (allowed (lending_reasons (view (driver x)) m Operation.Write o n))) h refusals)
 
 -- the preparing of a mapping by the driver, over what it is lent
-pub image_preparing : {D St T : Type 0} (view : D → View St) (x : FormatAccess D) (d : D) (o n : ℕ) (result : Result T Error) (l : LayerBelow) → l ≡ lent_image view (backing x)
+pub image_preparing : {D St : Type 0} (view : D → View St) (x : FormatAccess D) (d : D) (o n : ℕ) (result : Result (PreparedDataMapping St) Error) (l : LayerBelow) → l ≡ lent_image view (backing x)
     → (view (driver x)).abilities.is_writable ≡ true → o + n ≤ (view (driver x)).size
     → IsUnchanged (view (driver x)) (view d) → OnErr result ((view d).pending ≡ None)
+    → IfOk result (λ m. IsSettled EveryOperation (view (driver x)).cause (view d).cause (view (driver x)).copies (view d).copies o m.length)
     → CountsFaults ((view (driver x)).abilities.is_reliable && l.is_reliable) (view (driver x)).fault_count (view d).fault_count result
     → IfErr result (allowed (lending_reasons (view (driver x)) l Operation.Write o n)) → IsPreparing view x (with_driver x d) o n result
-image_preparing {D = D} view x d o n result l h writable fits unchanged spent faults refusals =
+image_preparing {D = D} view x d o n result l h writable fits unchanged spent settled faults refusals =
     let e : driver (with_driver x d) ≡ d = driver_with x d in
     let c = subst (λ (m : LayerBelow). CountsFaults ((view (driver x)).abilities.is_reliable && m.is_reliable) (view (driver x)).fault_count (view d).fault_count result) h faults in
     record {
-      tested = λ z g. absurd (not_failed (view (driver x)) o n writable fits z g);
+      tested = λ z g. absurd (not_failed (view (driver x)) Operation.Write o n writable fits (λ y. y) z g);
       same_size = ap (λ (y : D). (view y).size) e ∙ unchanged.framed.size;
       unchanged = λ k. changed_image view x d (λ a b. (p : ℕ) → b p ≡ a p) (λ p. ap (shown (lent_image view (backing x)).at) (unchanged.places.same k p));
+      reaches = subst (λ (y : D). ReachesNoMore (view (driver x)) (view y)) (sym e) unchanged.reaches;
+      settled = subst (λ (y : D). IfOk result (λ m. IsSettled EveryOperation (view (driver x)).cause (view y).cause (view (driver x)).copies (view y).copies o m.length)) (sym e) settled;
       kept = record { below = backing_with x d; kind = subst (λ (y : D). IsKind (view (driver x)) (view y)) (sym e) unchanged.framed.kind };
       nothing_pending = err_more result _ _ (λ s. subst (λ (y : D). (view y).pending ≡ None) (sym e) s) spent;
       faults = subst (λ (y : D). CountsFaults (devices_reliable view x) (view (driver x)).fault_count (view y).fault_count result) (sym e) c;
       refusals = refusals_more result _ _ (λ z k. inr k) (subst (λ (m : LayerBelow). IfErr result (allowed (lending_reasons (view (driver x)) m Operation.Write o n))) h refusals);
     }
 
-pub failed_preparing : {D St T : Type 0} (view : D → View St) (x : FormatAccess D) (o n : ℕ) (e : Error) → FailsTest (view (driver x)) o n e → (view (driver x)).pending ≡ None → IsPreparing {T = T} view x x o n (Err e)
-failed_preparing {T = T} view x o n e f p = record {
-  tested = λ z g. (ap (λ y. Err y) (same_test (view (driver x)) o n e z f g), refl);
+pub failed_preparing : {D St : Type 0} (view : D → View St) (x : FormatAccess D) (o n : ℕ) (e : Error) → FailsTest (view (driver x)) Operation.Write o n e → (view (driver x)).pending ≡ None → IsPreparing view x x o n (Err e)
+failed_preparing {St = St} view x o n e f p = record {
+  tested = λ z g. (ap (λ y. Err y) (same_test (view (driver x)) Operation.Write o n e z f g), refl);
   same_size = refl;
   unchanged = λ k q. refl;
+  reaches = reaches_same (view (driver x));
+  settled = tt;
   kept = record { below = refl; kind = record { abilities = refl; store_count = refl; store_features = λ i. refl } };
   nothing_pending = p;
-  faults = record { later = omega arith; reliable = λ t. refl; device = λ h. absurd (test_device {T = T} (view (driver x)) o n e f h) };
+  faults = record { later = omega arith; reliable = λ t. refl; device = λ h. absurd (test_device {T = PreparedDataMapping St} (view (driver x)) Operation.Write o n e f h) };
   refusals = inl f;
 }
 

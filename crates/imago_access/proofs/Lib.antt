@@ -10,6 +10,7 @@ pub mod Writes
 pub mod Parts
 pub mod Images
 pub mod SizeSteps
+pub mod Shown
 pub mod Greatest
 pub mod RunSteps
 pub mod Targets

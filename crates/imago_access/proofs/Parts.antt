@@ -11,20 +11,20 @@ use Rattle.imago_drivers.specs.Pending.{ShowsRound}
 use Rattle.imago_drivers.specs.View.{View}
 use Rattle.imago_drivers.specs.Laws.{IsLawful}
 use Rattle.imago_drivers.specs.Changes.{into}
-use Rattle.imago_drivers.specs.Frame.{IsFramed, IsUnchanged}
+use Rattle.imago_drivers.specs.Frame.{IsFramed, IsUnchanged, ReachesNoMore}
 use Rattle.imago_drivers.specs.Done.{mapping_write_reasons}
 use Rattle.imago_drivers.specs.Prepared.{IsPrepared, IsWritten, IsForeignWrite, is_written, is_for}
 use Rattle.imago_drivers.specs.Commit.{IsCommit, IsCancel}
 use Rattle.imago_access.specs.Writing.{HasWritten}
 use Rattle.imago_access.proofs.Written.{settled_twice, framed_twice, changed_wider, changed_whole, is_at_start, is_at_start_after, never_foreign_write, never_foreign_commit, is_spent, write_refused, commit_refused, cancelled, committed}
-use Rattle.imago_access.proofs.Writes.{GoesOn, goes_on, goes_on_twice, goes_on_with, rose_more, refused_first, wrote_first}
+use Rattle.imago_access.proofs.Writes.{GoesOn, goes_on, goes_on_twice, goes_on_with, reaches_twice, rose_more, refused_first, wrote_first}
 
 -- a mapping that is prepared for overwriting (old to mid), written (mid to wrote), and committed or cancelled (wrote to new)
 module _ {D St : Type 0} (view : D → View St) (l : LayerBelow) (old mid wrote new : D) (o : ℕ) (bytes : List ℕ) (m : PreparedDataMapping St)
     (P : IsPrepared o (length bytes) true (values l.at (view old).place) (view old) (view mid) m) (U : IsUnchanged (view old) (view mid)) (law : IsLawful (view mid))
     (S : IsSettled EveryOperation (view old).cause (view mid).cause (view old).copies (view mid).copies o m.length)
     (G : GoesOn ((view old).abilities.is_reliable && l.is_reliable) (view old).fault_count (view mid).fault_count)
-    (ys : List ℕ) (same : ys ≡ take m.length bytes) (F : IsFramed (view mid) (view wrote)) (H : GoesOn (view mid).abilities.is_reliable (view mid).fault_count (view wrote).fault_count) where
+    (ys : List ℕ) (same : ys ≡ take m.length bytes) (F : IsFramed (view mid) (view wrote)) (R : ReachesNoMore (view mid) (view wrote)) (H : GoesOn (view mid).abilities.is_reliable (view mid).fault_count (view wrote).fault_count) where
   ys_length : length ys ≡ m.length
   ys_length = ap length same ∙ simp length-take (omega (arith, P.within))
 
@@ -40,6 +40,9 @@ module _ {D St : Type 0} (view : D → View St) (l : LayerBelow) (old mid wrote 
   all_framed : IsFramed (view wrote) (view new) → IsFramed (view old) (view new)
   all_framed h = framed_twice (view old) (view wrote) (view new) (framed_twice (view old) (view mid) (view wrote) U.framed F) h
 
+  all_reaches : ReachesNoMore (view wrote) (view new) → ReachesNoMore (view old) (view new)
+  all_reaches h = reaches_twice (view old) (view mid) (view new) U.reaches (reaches_twice (view mid) (view wrote) (view new) R h)
+
   as_taken : (torn : Bool) → IsWritten torn (view mid) (view wrote) m 0 ys → is_written m.state torn (view mid) (view wrote) m 0 (take m.length bytes)
   as_taken torn w = subst (λ (zs : List ℕ). is_written m.state torn (view mid) (view wrote) m 0 zs) same w
 
@@ -53,6 +56,7 @@ module _ {D St : Type 0} (view : D → View St) (l : LayerBelow) (old mid wrote 
         let mid_writable : (view mid).abilities.is_writable ≡ true = ap (λ a. a.is_writable) U.framed.kind.abilities ∙ writable in
         refused_first l (view old) (view new) o bytes e
         (λ k. cancelled (view old) (view mid) (view wrote) l.at o bytes m P U law k F t (view new) c.places)
+        (all_reaches c.reaches)
         (all_framed c.framed)
         (is_spent (view old) (view mid) (view wrote) l.at o bytes m P U law true (view new).pending t c.own_spent c.others_stay)
         (new_goes g)
@@ -79,6 +83,7 @@ module _ {D St : Type 0} (view : D → View St) (l : LayerBelow) (old mid wrote 
         (λ k. changed_whole o m.length (into bytes) _ _ (committed (view old) (view mid) (view wrote) l.at o bytes m P U law k F false t (round (mid_keeps k) l.at) (view new) c.done))
         (λ free. (P.whole free).0)
         (settled_twice _ _ _ _ _ _ o m.length S (settled_twice _ _ _ _ _ _ o m.length wrote_settled (c.settled o x)))
+        (all_reaches c.reaches)
         (all_framed c.framed)
         (is_spent (view old) (view mid) (view wrote) l.at o bytes m P U law false (view new).pending t c.own_spent c.others_stay)
         (new_goes (goes_on _ _ _ _ c.faults))
@@ -91,6 +96,7 @@ module _ {D St : Type 0} (view : D → View St) (l : LayerBelow) (old mid wrote 
         refused_first l (view old) (view new) o bytes e
         (λ k. changed_wider o m.length (length bytes) (into bytes) _ _ P.within
         (committed (view old) (view mid) (view wrote) l.at o bytes m P U law k F true t (round (mid_keeps k) l.at) (view new) (c.torn (λ h. own (of_err h)))))
+        (all_reaches c.reaches)
         (all_framed c.framed)
         (is_spent (view old) (view mid) (view wrote) l.at o bytes m P U law false (view new).pending t c.own_spent c.others_stay)
         (new_goes (goes_on _ _ _ _ c.faults))

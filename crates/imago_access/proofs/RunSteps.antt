@@ -1,18 +1,9 @@
-use Rattle.std.proofs.Common.{◌≡◌, List, [], ◌∷◌, ◌++◌, refl, subst, Result, Ok, Err}
-use Rattle.imago_storage.specs.declared.error.Error.{Error}
+use Rattle.std.proofs.Common.{◌≡◌, List, [], ◌∷◌, ◌++◌, refl, subst}
 use Rattle.imago_drivers.specs.View.{View}
 use Rattle.imago_access.specs.declared.access.FormatAccess.{FormatAccess}
 use Rattle.imago_access.specs.declared.run.Call.{Call}
 use Rattle.imago_access.specs.declared.run.Reply.{Reply}
-use Rattle.imago_access.specs.Runs.{reply_of, Answers, IsStep, IsRun}
-
-pub answers : (result : Result Unit Error) (outcome : Result Unit Error → Type 0) → outcome result → Answers (reply_of result) outcome
-answers (Ok u) outcome h = h
-answers (Err e) outcome h = h
-
--- the reply r is that of a result with this outcome
-pub answered : (r : Reply) (result : Result Unit Error) (outcome : Result Unit Error → Type 0) → r ≡ reply_of result → outcome result → Answers r outcome
-answered r result outcome e h = rw e (answers result outcome h)
+use Rattle.imago_access.specs.Runs.{IsStep, IsRun}
 
 -- a run goes on by one step
 pub run_more : {D St : Type 0} (view : D → View St) (old mid new : FormatAccess D) (calls : List Call) (replies : List Reply) (call : Call) (reply : Reply) → IsRun view old calls replies mid → IsStep view mid call reply new → IsRun view old (calls ++ call ∷ []) (replies ++ reply ∷ []) new

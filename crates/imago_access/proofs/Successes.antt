@@ -14,11 +14,11 @@ use Rattle.imago_access.specs.declared.access.FormatAccess.{FormatAccess}
 use Rattle.imago_access.specs.Chain.{driver, disk_value, is_reliable, chain_cause, read_cause, read_reasons, no_memory_to_read}
 use Rattle.imago_access.specs.Resolved.{chain_map_reasons}
 use Rattle.imago_access.specs.ChainLaws.{image_is_layer}
-use Rattle.imago_access.specs.Calls.{FailsTest, range_refusals, devices_reliable}
+use Rattle.imago_access.specs.Calls.{FailsTest, ShowsFaults, range_refusals, devices_reliable}
 use Rattle.imago_drivers.specs.Done.{driver_reasons}
 use Rattle.imago_access.specs.Sizes.{IsResize, HasGrown, HasShrunk, FailsWritable}
 use Rattle.imago_access.specs.Success.{Succeeds, IsReadable, IsMildRefusal, IsReadyToWrite, IsReadyToResize, HasSoundDevice, SucceedsIfOffered, change_cause}
-use Rattle.imago_access.proofs.Images.{not_failed}
+use Rattle.imago_access.proofs.Images.{both_ways, not_failed}
 
 -- a refusal that is for nothing else is for want of memory, or has a cause
 cause_or_memory : (r : Reasons) (e : Error) → (r.read_only → ⊥) → (r.beyond_disk → ⊥) → (r.range_overflow → ⊥) → (e ≡ Error.Device → r.device → ⊥) → (e ≡ Error.ForeignMapping → r.foreign_mapping → ⊥) → allowed r e → ((e ≡ Error.Memory) × r.memory) ⊎ r.cause e
@@ -50,9 +50,6 @@ mild shows o n E.ForeignMapping g b = absurd b
 mild shows o n E.Denied g b = absurd b
 mild shows o n E.NotFound g b = absurd b
 
-both_ways : (b : Bool) → b ≡ true → b ≡ false → ⊥
-both_ways b x y = let z = sym x ∙ y in cc
-
 succeeds : {T takes_none : Type 0} (result : Result T Error) → IfErr result (λ e. (e ≡ Error.Memory) × (takes_none → ⊥)) → Succeeds takes_none result
 succeeds (Ok t) h = record { refusals = tt; sure = λ n. refl }
 succeeds (Err e) h = record { refusals = h.0; sure = λ n. absurd (h.1 n) }
@@ -70,6 +67,10 @@ no_fault b before now e r lt f d =
     let same : now ≡ before = f.reliable r in
     let rose = f.device (cc) in
     ⊎_elim (λ (k : before < now). omega arith) (λ (k : 2 ^ 64 ≤ now + 1). omega arith) rose
+
+-- a count that shows each fault
+pub counts_faults : {T : Type 0} (r : Bool) (a b : ℕ) (result : Result T Error) → ShowsFaults ⊥ r a b result → CountsFaults r a b result
+counts_faults r a b result h = record { later = h.later; reliable = h.reliable; device = λ e. ⊎_elim (λ x. x) (λ (z : ⊥). absurd z) (h.device e) }
 
 -- a call of the driver that counts on its own device alone
 pub driver_succeeds : {St takes_none : Type 0} (old : View St) (now : ℕ) (r : Reasons) (result : Result Unit Error) → HasSoundDevice old → (r.read_only → ⊥) → (r.beyond_disk → ⊥) → (r.range_overflow → ⊥)
@@ -101,10 +102,10 @@ module _ {D St : Type 0} (view : D → View St) where
   -- a call on a range, whatever it answers
   pub range_succeeds : {T : Type 0} (old new : FormatAccess D) (o n : ℕ) (result : Result T Error) → IsReadyToWrite view old o n
       → CountsFaults (devices_reliable view old) (view (driver old)).fault_count (view (driver new)).fault_count result
-      → IfErr result (λ e. FailsTest (view (driver old)) o n e ⊎ allowed (range_refusals view old Write o n) e) → Succeeds ((view (driver old)).no_memory Write o n) result
+      → IfErr result (λ e. FailsTest (view (driver old)) Write o n e ⊎ allowed (range_refusals view old Write o n) e) → Succeeds ((view (driver old)).no_memory Write o n) result
   range_succeeds old new o n (Ok t) g f h = succeeds (Ok t) tt
   range_succeeds {T} old new o n (Err e) g f h = succeeds (Err e) (⊎_elim
-      (λ k. absurd (not_failed (view (driver old)) o n g.sound.writable g.inside e k))
+      (λ k. absurd (not_failed (view (driver old)) Write o n g.sound.writable g.inside (λ z. z) e k))
       (λ a. ⊎_elim (λ m. m) (λ k. absurd (g.no_cause e k))
       (cause_or_memory (range_refusals view old Write o n) e (λ z. z) g.no_end (λ z. z) (λ d z. no_fault {T = T} (devices_reliable view old) (view (driver old)).fault_count (view (driver new)).fault_count e g.sound.reliable g.sound.counts f d) (λ d z. z) a))
       h)

@@ -11,7 +11,7 @@ use Rattle.imago_drivers.specs.Causes.{Causes, Copies, IsSettled, EveryOperation
 use Rattle.imago_drivers.specs.View.{View}
 use Rattle.imago_drivers.specs.Laws.{AreCauses}
 use Rattle.imago_drivers.specs.Changes.{Change, IsChanged, into, partly}
-use Rattle.imago_drivers.specs.Frame.{IsFramed, IsUnchanged}
+use Rattle.imago_drivers.specs.Frame.{IsFramed, IsUnchanged, ReachesNoMore}
 use Rattle.imago_drivers.specs.Done.{lending_reasons}
 use Rattle.imago_access.specs.Writing.{HasWritten, HasWrittenAll}
 use Rattle.imago_access.proofs.Weaker.{IsWeaker, allowed_more}
@@ -46,20 +46,25 @@ counted r a b result h d = record { later = h.later; reliable = h.reliable; devi
 pub failed_device : {T : Type 0} (r : Bool) (a b : ℕ) (result : Result T Error) (e : Error) → CountsFaults r a b result → result ≡ Err e → e ≡ Error.Device → RoseOrSaturated a b
 failed_device r a b result e h was k = h.device (was ∙ ap (λ x. Err x) k)
 
+-- what leads below at the end did so at the beginning
+pub reaches_twice : {St : Type 0} (a b c : View St) → ReachesNoMore a b → ReachesNoMore b c → ReachesNoMore a c
+reaches_twice a b c f g = λ p q w h. let x = g p q w h in f p q x.0 x.1
+
 of_err : {T : Type 0} (e x : Error) → IsErrOf {T = T} (Err e) x → e ≡ x
 of_err e x h = cc
 
 module _ {St : Type 0} (l : LayerBelow) (old new : View St) (o : ℕ) (bytes : List ℕ) where
   -- a refusal with nothing written for it but what may be torn
   pub refused_first : (e : Error) → (IsTrue old.abilities.keeps_data → IsChanged o (length bytes) (partly (into bytes)) (values l.at old.place) (values l.at new.place))
-      → IsFramed old new → new.pending ≡ None → GoesOn (old.abilities.is_reliable && l.is_reliable) old.fault_count new.fault_count → (e ≡ Error.Device → RoseOrSaturated old.fault_count new.fault_count)
+      → ReachesNoMore old new → IsFramed old new → new.pending ≡ None → GoesOn (old.abilities.is_reliable && l.is_reliable) old.fault_count new.fault_count → (e ≡ Error.Device → RoseOrSaturated old.fault_count new.fault_count)
       → allowed (lending_reasons old l Operation.Write o (length bytes)) e → HasWritten l old new o bytes (Err e)
-  refused_first e torn framed spent goes device reasons = record {
+  refused_first e torn reaches framed spent goes device reasons = record {
     some = tt;
     done = λ k. tt;
     torn = torn;
     whole = λ k. tt;
     settled = tt;
+    reaches = reaches;
     framed = framed;
     spent = spent;
     faults = counted _ _ _ _ goes (λ h. device (of_err e Error.Device h));
@@ -68,13 +73,14 @@ module _ {St : Type 0} (l : LayerBelow) (old new : View St) (o : ℕ) (bytes : L
 
   pub wrote_first : (n : ℕ) → 0 < n → n ≤ length bytes → (IsTrue old.abilities.keeps_data → IsChanged o n (into bytes) (values l.at old.place) (values l.at new.place))
       → (old.no_memory Operation.Write o (length bytes) → n ≡ length bytes) → IsSettled EveryOperation old.cause new.cause old.copies new.copies o n
-      → IsFramed old new → new.pending ≡ None → GoesOn (old.abilities.is_reliable && l.is_reliable) old.fault_count new.fault_count → HasWritten l old new o bytes (Ok n)
-  wrote_first n some within done whole settled framed spent goes = record {
+      → ReachesNoMore old new → IsFramed old new → new.pending ≡ None → GoesOn (old.abilities.is_reliable && l.is_reliable) old.fault_count new.fault_count → HasWritten l old new o bytes (Ok n)
+  wrote_first n some within done whole settled reaches framed spent goes = record {
     some = (some, within);
     done = done;
     torn = λ k. tt;
     whole = whole;
     settled = settled;
+    reaches = reaches;
     framed = framed;
     spent = spent;
     faults = counted _ _ _ _ goes (λ h. let z : ⊥ = cc in absurd z);
@@ -91,6 +97,7 @@ pub record IsWritingOn {D St : Type 0} (view : D → View St) (l : LayerBelow) (
   pub within : count ≤ length bytes
   pub done : IsTrue (view old).abilities.keeps_data → IsChanged o count (into bytes) (values l.at (view old).place) (values l.at (view mid).place)
   pub settled : IsSettled EveryOperation (view old).cause (view mid).cause (view old).copies (view mid).copies o count
+  pub reaches : ReachesNoMore (view old) (view mid)
   pub framed : IsFramed (view old) (view mid)
   pub spent : (view mid).pending ≡ None
   pub goes : GoesOn ((view old).abilities.is_reliable && l.is_reliable) (view old).fault_count (view mid).fault_count
@@ -165,6 +172,7 @@ module _ {D St : Type 0} (view : D → View St) (l : LayerBelow) (old : D) (o : 
       causes = λ op a n q m e r h i j k c. laws.part op a n q m e j k c;
       copied = λ op a n q m p r h i j k c. laws.part_copied op a n q m p j k c;
     };
+    reaches = λ p q w h. (w, h);
     framed = record { kind = record { abilities = refl; store_count = refl; store_features = λ i. refl }; size = refl; ends = λ p h. h };
     spent = spent;
     goes = record { later = omega arith; reliable = λ t. refl };
@@ -186,6 +194,7 @@ module _ {D St : Type 0} (view : D → View St) (l : LayerBelow) (old : D) (o : 
           within = fit;
           done = λ k. changed_next o done n (into bytes) _ _ _ (λ i v u w e. e) (sofar.done k) (into_rest o done n bytes _ _ fit (h.done (same_keeps k)));
           settled = settled_next _ _ _ _ _ _ o done n sofar.settled h.settled;
+          reaches = reaches_twice (view old) (view mid) (view new) sofar.reaches h.reaches;
           framed = framed_twice (view old) (view mid) (view new) sofar.framed h.framed;
           spent = h.spent;
           goes = next_goes (goes_on _ _ _ _ h.faults);
@@ -230,6 +239,8 @@ module _ {D St : Type 0} (view : D → View St) (l : LayerBelow) (old : D) (o : 
           torn = λ k.
               let t : IsChanged (o + done) (length bytes - done) (partly (into (take (length bytes - done) (drop done bytes)))) (values l.at (view mid).place) (values l.at (view new).place) = rw len at (h.torn (same_keeps k)) in
               rw whole at (torn_next o done (length bytes - done) bytes _ _ _ (sofar.done k) (torn_rest o done (length bytes - done) bytes _ _ (omega arith) t));
+          settled = tt;
+          reaches = reaches_twice (view old) (view mid) (view new) sofar.reaches h.reaches;
           framed = framed_twice (view old) (view mid) (view new) sofar.framed h.framed;
           spent = h.spent;
           faults = counted _ _ _ _ (next_goes (goes_on _ _ _ _ h.faults)) (λ x. rose_more (view old).fault_count (view mid).fault_count (view new).fault_count (view new).fault_count sofar.goes.later (omega arith) (h.faults.device (ap (λ y. Err y) (of_err e Error.Device x))));
@@ -240,6 +251,8 @@ module _ {D St : Type 0} (view : D → View St) (l : LayerBelow) (old : D) (o : 
   all_written new done e h = record {
     done = λ k. subst (λ (n : ℕ). IsChanged o n (into bytes) (values l.at (view old).place) (values l.at (view new).place)) e (h.done k);
     torn = λ k. tt;
+    settled = subst (λ (n : ℕ). IsSettled EveryOperation (view old).cause (view new).cause (view old).copies (view new).copies o n) e h.settled;
+    reaches = h.reaches;
     framed = h.framed;
     spent = h.spent;
     faults = counted _ _ _ _ h.goes (λ x. let z : ⊥ = cc in absurd z);

@@ -1,25 +1,43 @@
 use Rattle.std.specs.Prelude.{◌≡◌, ℕ, ◌+◌, ◌^◌, ◌<◌, ◌≤◌, ◌⊎◌, ◌&&◌, Bool, true, false, None, List, length, IsTrue, Result, IfOk, IfErr, OnOk, OnErr, IsErrOf}
 use Rattle.imago_storage.specs.declared.error.Error.{Error}
-use Rattle.imago_storage.specs.Faults.{CountsFaults}
-use Rattle.imago_drivers.specs.Operation.{Operation, Write}
+use Rattle.imago_storage.specs.Faults.{CountsFaults, RoseOrSaturated}
+use Rattle.imago_drivers.specs.declared.mapping.PreparedDataMapping.{PreparedDataMapping}
+use Rattle.imago_drivers.specs.Operation.{Operation, Map, Read, Write, Zero, DiscardToZero, DiscardToAny, DiscardToBacking, Grow, Shrink, Flush}
 use Rattle.imago_drivers.specs.Reasons.{Reasons, allowed}
+use Rattle.imago_drivers.specs.Causes.{IsSettled, EveryOperation}
 use Rattle.imago_drivers.specs.View.{View}
 use Rattle.imago_drivers.specs.Changes.{IsChanged, into, partly, overwritten}
-use Rattle.imago_drivers.specs.Frame.{IsKind}
+use Rattle.imago_drivers.specs.Frame.{IsKind, ReachesNoMore}
 use Rattle.imago_drivers.specs.Done.{lending_reasons}
 use Rattle.imago_access.specs.declared.access.FormatAccess.{FormatAccess}
 use Rattle.imago_access.specs.Chain.{driver, backing, disk_value, lent_image}
 
--- the first test that a changing call on a range fails: the driver isn't writable, or the range passes the disk's size
-abbrev pub FailsTest : {St : Type 0} → View St → ℕ → ℕ → Error → Type 0
-FailsTest v o n e =
+-- The range's end passes the greatest number of 64 bits, in a call that tests this by itself: a zero write or a discard. A write
+-- or a mapping only tests whether it passes the disk's size.
+abbrev pub Overflows : Operation → ℕ → ℕ → Type 0
+Overflows Zero o n = 2 ^ 64 ≤ o + n
+Overflows DiscardToZero o n = 2 ^ 64 ≤ o + n
+Overflows DiscardToAny o n = 2 ^ 64 ≤ o + n
+Overflows DiscardToBacking o n = 2 ^ 64 ≤ o + n
+Overflows Write o n = ⊥
+Overflows Map o n = ⊥
+Overflows Read o n = ⊥
+Overflows (Grow mode) o n = ⊥
+Overflows Shrink o n = ⊥
+Overflows Flush o n = ⊥
+
+-- the first test that a changing call on a range fails: the driver isn't writable, the range's end is no number of 64 bits, or it
+-- passes the disk's size
+abbrev pub FailsTest : {St : Type 0} → View St → Operation → ℕ → ℕ → Error → Type 0
+FailsTest v op o n e =
     ((e ≡ Error.ReadOnly) × (v.abilities.is_writable ≡ false))
-    ⊎ ((e ≡ Error.BeyondDisk) × (v.abilities.is_writable ≡ true) × (v.size < o + n))
+    ⊎ (((e ≡ Error.RangeOverflow) × (v.abilities.is_writable ≡ true) × Overflows op o n)
+    ⊎ ((e ≡ Error.BeyondDisk) × (v.abilities.is_writable ≡ true) × (Overflows op o n → ⊥) × (v.size < o + n)))
 
 -- The tests were made: they passed, or that one failed.
-pub record IsTested {St : Type 0} (v : View St) (o n : ℕ) (result : Result Unit Error) : Type 0 where
+pub record IsTested {St : Type 0} (v : View St) (op : Operation) (o n : ℕ) (result : Result Unit Error) : Type 0 where
   pub passed : OnOk result ((v.abilities.is_writable ≡ true) × (o + n ≤ v.size) × (o + n < 2 ^ 64))
-  pub failed : IfErr result (FailsTest v o n)
+  pub failed : IfErr result (FailsTest v op o n)
 
 -- What no call of an image changes: the layers below, and what the driver is good for.
 pub record IsKept {D St : Type 0} (view : D → View St) (old new : FormatAccess D) : Type 0 where
@@ -30,43 +48,73 @@ pub record IsKept {D St : Type 0} (view : D → View St) (old new : FormatAccess
 abbrev pub devices_reliable : {D St : Type 0} → (D → View St) → FormatAccess D → Bool
 devices_reliable view x = (view (driver x)).abilities.is_reliable && (lent_image view (backing x)).is_reliable
 
+-- The count of faults over a call. A failed device shows in it, but for one that no count shows, where there may be such.
+pub record ShowsFaults {T : Type 0} (hidden : Type 0) (is_reliable : Bool) (before now : ℕ) (result : Result T Error) : Type 0 where
+  pub later : before ≤ now
+  pub reliable : IsTrue is_reliable → now ≡ before
+  pub device : IsErrOf result Error.Device → RoseOrSaturated before now ⊎ hidden
+
 -- why a changing call on a range may be refused, once its tests passed; a failed device shows in the count of faults
 abbrev pub range_refusals : {D St : Type 0} → (D → View St) → FormatAccess D → Operation → ℕ → ℕ → Reasons
 range_refusals view x op o n = lending_reasons (view (driver x)) (lent_image view (backing x)) op o n
 
--- A changing call on a range of an image: what holds of the disk where it succeeds, and what where it is refused after its tests.
-pub record IsRangeCall {D St T : Type 0} (view : D → View St) (op : Operation) (o n : ℕ) (effect : T → Type 0) (remains : Type 0) (old new : FormatAccess D) (result : Result T Error) : Type 0 where
+-- the call may leave places to the layer below that were not: a discard whose bytes are unspecified or given back
+abbrev pub IsLoose : Operation → Type 0
+IsLoose DiscardToAny = Unit {0}
+IsLoose DiscardToBacking = Unit {0}
+IsLoose Write = ⊥
+IsLoose Zero = ⊥
+IsLoose DiscardToZero = ⊥
+IsLoose Map = ⊥
+IsLoose Read = ⊥
+IsLoose (Grow mode) = ⊥
+IsLoose Shrink = ⊥
+IsLoose Flush = ⊥
+
+-- which operations a success leaves no new cause for: each one, but after such a discard that discard alone
+abbrev pub settles : Operation → Operation → Type 0
+settles op of = EveryOperation of × (IsLoose op → of ≡ op)
+
+-- A changing call on a range of an image: `reasons` is why it may be refused after its tests, `hidden` when a device may fail that
+-- no count of faults shows. A success has the effect, for the part that its answer tells; a refusal past the tests leaves what remains.
+pub record IsRangeCall {D St T : Type 0} (view : D → View St) (op : Operation) (o n : ℕ) (reasons : Reasons) (hidden : Type 0) (part : T → ℕ) (effect : T → Type 0) (remains : Type 0) (old new : FormatAccess D) (result : Result T Error) : Type 0 where
   -- the first test that fails is answered, and nothing is changed
-  pub tested : (e : Error) → FailsTest (view (driver old)) o n e → IsErrOf result e × (new ≡ old)
+  pub tested : (e : Error) → FailsTest (view (driver old)) op o n e → IsErrOf result e × (new ≡ old)
   pub done : IsTrue (view (driver old)).abilities.keeps_data → IfOk result effect
   pub torn : IsTrue (view (driver old)).abilities.keeps_data → OnErr result remains
+  -- no place leads below that didn't before, and a cause for a piece of the part that is done was one for the whole
+  pub reaches : (IsLoose op → ⊥) → ReachesNoMore (view (driver old)) (view (driver new))
+  pub settled : IfOk result (λ r. IsSettled (settles op) (view (driver old)).cause (view (driver new)).cause (view (driver old)).copies (view (driver new)).copies o (part r))
   pub same_size : (view (driver new)).size ≡ (view (driver old)).size
   pub kept : IsKept view old new
   pub nothing_pending : (view (driver new)).pending ≡ None
-  pub faults : CountsFaults (devices_reliable view old) (view (driver old)).fault_count (view (driver new)).fault_count result
-  pub refusals : IfErr result (λ e. FailsTest (view (driver old)) o n e ⊎ allowed (range_refusals view old op o n) e)
+  pub faults : ShowsFaults hidden (devices_reliable view old) (view (driver old)).fault_count (view (driver new)).fault_count result
+  pub refusals : IfErr result (λ e. FailsTest (view (driver old)) op o n e ⊎ allowed reasons e)
 
 -- a write: the bytes stand in their range, or, where it is refused, each of them may
 abbrev pub IsWrite : {D St : Type 0} → (D → View St) → FormatAccess D → FormatAccess D → ℕ → List ℕ → Result Unit Error → Type 0
-IsWrite view old new o bytes result = IsRangeCall view Write o (length bytes)
+IsWrite view old new o bytes result = IsRangeCall view Write o (length bytes) (range_refusals view old Write o (length bytes)) ⊥ (λ u. length bytes)
     (λ u. IsChanged o (length bytes) (into bytes) (disk_value view old) (disk_value view new))
     (IsChanged o (length bytes) (partly (into bytes)) (disk_value view old) (disk_value view new))
     old new result
 
 -- a data mapping: the disk stays, but for overwriting the part that is answered, or, refused, the range may show anything
 abbrev pub IsEnsured : {D St : Type 0} → (D → View St) → FormatAccess D → FormatAccess D → ℕ → ℕ → Bool → Result (ℕ × ℕ × ℕ) Error → Type 0
-IsEnsured view old new o n overwrite result = IsRangeCall view Write o n
+IsEnsured view old new o n overwrite result = IsRangeCall view Write o n (range_refusals view old Write o n) ⊥ (λ r. r.2)
     (λ r. IsChanged o r.2 (overwritten overwrite) (disk_value view old) (disk_value view new))
     (IsChanged o n (overwritten overwrite) (disk_value view old) (disk_value view new))
     old new result
 
 -- The preparing of a mapping: no byte changes, at any result, and, refused, nothing is prepared.
-pub record IsPreparing {D St T : Type 0} (view : D → View St) (old new : FormatAccess D) (o n : ℕ) (result : Result T Error) : Type 0 where
+pub record IsPreparing {D St : Type 0} (view : D → View St) (old new : FormatAccess D) (o n : ℕ) (result : Result (PreparedDataMapping St) Error) : Type 0 where
   -- the first test that fails is answered, and nothing is changed
-  pub tested : (e : Error) → FailsTest (view (driver old)) o n e → IsErrOf result e × (new ≡ old)
+  pub tested : (e : Error) → FailsTest (view (driver old)) Write o n e → IsErrOf result e × (new ≡ old)
   pub same_size : (view (driver new)).size ≡ (view (driver old)).size
   pub unchanged : IsTrue (view (driver old)).abilities.keeps_data → (p : ℕ) → disk_value view new p ≡ disk_value view old p
+  -- no place leads below that didn't before, and a cause for a piece of the mapping's range was one for the whole
+  pub reaches : ReachesNoMore (view (driver old)) (view (driver new))
+  pub settled : IfOk result (λ m. IsSettled EveryOperation (view (driver old)).cause (view (driver new)).cause (view (driver old)).copies (view (driver new)).copies o m.length)
   pub kept : IsKept view old new
   pub nothing_pending : OnErr result ((view (driver new)).pending ≡ None)
   pub faults : CountsFaults (devices_reliable view old) (view (driver old)).fault_count (view (driver new)).fault_count result
-  pub refusals : IfErr result (λ e. FailsTest (view (driver old)) o n e ⊎ allowed (range_refusals view old Write o n) e)
+  pub refusals : IfErr result (λ e. FailsTest (view (driver old)) Write o n e ⊎ allowed (range_refusals view old Write o n) e)

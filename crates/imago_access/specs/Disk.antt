@@ -36,9 +36,9 @@ pub record OldOrNewValues (old target now : List Value) : Type 0 where
   pub each : (p : ℕ) → (value_at now p ≡ value_at old p) ⊎ (value_at now p ≡ value_at target p)
   pub same_length : length now ≡ length old
 
--- the first refusal of a write, which changes nothing: the image is read-only, or the range passes its end
-abbrev pub IsTestRefusal : List Value → ℕ → List ℕ → Error → Type 0
-IsTestRefusal xs o bytes e = (e ≡ Error.ReadOnly) ⊎ (length xs < o + length bytes)
+-- a changing call on a range is refused by a test, which changes nothing: the image is read-only, or the range passes its end
+abbrev pub IsTestRefusal : List Value → ℕ → ℕ → Error → Type 0
+IsTestRefusal xs o n e = (e ≡ Error.ReadOnly) ⊎ (length xs < o + n)
 
 -- a write that succeeded: the range lies in the list, and the bytes are spliced in
 abbrev pub IsSpliced : List Value → ℕ → List ℕ → List Value → Type 0
@@ -47,7 +47,7 @@ IsSpliced xs o bytes ys = (o + length bytes ≤ length xs) × (ys ≡ splice xs 
 -- A refused write: each value of the range is the old one or the new one, all others are the old ones.
 pub record IsTorn (xs : List Value) (o : ℕ) (bytes : List ℕ) (e : Error) (ys : List Value) : Type 0 where
   pub old_or_new : OldOrNewValues xs (splice xs o (map Byte bytes)) ys
-  pub untouched : IsTestRefusal xs o bytes e → ys ≡ xs
+  pub untouched : IsTestRefusal xs o (length bytes) e → ys ≡ xs
 
 -- the list, extended to n values: by zeroes, or by what the layers below have there
 abbrev pub extended : PreallocateMode → (ℕ → Value) → ℕ → List Value → List Value

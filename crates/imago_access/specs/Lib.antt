@@ -7,11 +7,13 @@ pub mod Ways
 pub mod Named
 pub mod Writing
 pub mod Calls
+pub mod PreparedOnDisk
 pub mod Sizes
 pub mod Runs
 pub mod Disk
 pub mod Alignments
 pub mod Histories
+pub mod Determined
 pub mod Success
 pub mod Lending
 pub mod ChainLaws

@@ -1,65 +1,69 @@
-use Rattle.std.specs.Prelude.{◌≡◌, ℕ, ◌⊎◌, List, [], ◌∷◌, length, Result, Ok, Err}
+use Rattle.std.specs.Prelude.{◌≡◌, ℕ, ◌<◌, ◌⊎◌, List, [], ◌∷◌, length, Result, Ok, Err, IfOk, IfErr}
+use Rattle.std.specs.declared.vec.Vec.{Vec}
+use Rattle.std.specs.declared.alloc.Global.{Global}
 use Rattle.imago_storage.specs.declared.error.Error.{Error}
 use Rattle.imago_drivers.specs.Operation.{Grow, Shrink}
 use Rattle.imago_drivers.specs.Place.{Unreadable, HasValues}
-use Rattle.imago_drivers.specs.Reasons.{Reasons, allowed}
+use Rattle.imago_drivers.specs.Reasons.{allowed}
 use Rattle.imago_drivers.specs.View.{View}
 use Rattle.imago_access.specs.declared.access.FormatAccess.{FormatAccess}
+use Rattle.imago_access.specs.declared.mapping.Mapping.{Mapping}
 use Rattle.imago_access.specs.declared.run.Call.{Call}
 use Rattle.imago_access.specs.declared.run.Call.TheVariants as C
 use Rattle.imago_access.specs.declared.run.Reply.{Reply}
 use Rattle.imago_access.specs.declared.run.Reply.TheVariants as R
-use Rattle.imago_access.specs.Chain.{driver, disk_value, read_reasons}
-use Rattle.imago_access.specs.Resolved.{IsResolved, chain_map_reasons}
+use Rattle.imago_access.specs.Chain.{driver, disk_value, read_reasons, chain_no_memory}
+use Rattle.imago_access.specs.Resolved.{IsResolved, IsEndOfImage, chain_map_reasons}
 use Rattle.imago_access.specs.Lengths.{IsFullLength}
 use Rattle.imago_access.specs.Calls.{IsWrite}
 use Rattle.imago_access.specs.Sizes.{IsResize, IsResizeTo, HasGrown, HasShrunk, IsFlushed}
 
--- the reply to a call that answers nothing
-abbrev pub reply_of : Result Unit Error → Reply
-reply_of (Ok u) = R.Done
-reply_of (Err e) = R.Refused e
+-- the reply to a call with that result: `told` is the reply to what a success answers
+abbrev pub reply_of : {T : Type 0} → (T → Reply) → Result T Error → Reply
+reply_of told (Ok t) = told t
+reply_of told (Err e) = R.Refused e
 
--- the reply is to a call with such a result
-abbrev pub Answers : Reply → (Result Unit Error → Type 0) → Type 0
-Answers R.Done outcome = outcome (Ok tt)
-Answers (R.Refused e) outcome = outcome (Err e)
-Answers (R.Data bytes) outcome = ⊥
-Answers (R.Size size) outcome = ⊥
-Answers (R.Mapped mapping count) outcome = ⊥
+-- how a success is told that answers nothing
+abbrev pub told_done : Unit {0} → Reply
+told_done u = R.Done
 
--- a read into a buffer of its own takes memory
-abbrev pub buffer_reasons : {D St : Type 0} → (D → View St) → FormatAccess D → ℕ → ℕ → Reasons
-buffer_reasons view x o n = record (read_reasons view x o n) { memory = Unit {0} }
+-- how a mapping and its length are told
+abbrev pub told_mapping : Mapping × ℕ → Reply
+told_mapping m = R.Mapped m.0 m.1
 
--- a read changes nothing, and answers what the disk shows there
-abbrev pub IsReadReply : {D St : Type 0} → (D → View St) → FormatAccess D → ℕ → ℕ → Reply → Type 0
-IsReadReply view x o n (R.Data bytes) = (length bytes.items ≡ n) × HasValues (disk_value view x) o bytes.items
-IsReadReply view x o n (R.Refused e) = allowed (buffer_reasons view x o n) e
-IsReadReply view x o n _ = ⊥
+-- the reply is that to a call with such a result
+abbrev pub Answers : {T : Type 0} → (T → Reply) → Reply → (Result T Error → Type 0) → Type 0
+Answers {T} told r outcome = (result : Result T Error) × (r ≡ reply_of told result) × outcome result
 
--- so does a mapping: the one of the image at that moment
-abbrev pub IsMappedReply : {D St : Type 0} → (D → View St) → FormatAccess D → ℕ → ℕ → Reply → Type 0
-IsMappedReply view x o n (R.Mapped mapping count) = IsResolved view x o n mapping count × IsFullLength view x o n mapping count
-IsMappedReply view x o n (R.Refused e) = allowed (chain_map_reasons view x o n) e × ((e ≡ Error.InvalidData) ⊎ (e ≡ Error.NoAccess) → disk_value view x o ≡ Unreadable e)
-IsMappedReply view x o n _ = ⊥
+-- a read into a buffer of its own is refused as the read is, or for want of memory, where the buffer isn't empty
+abbrev pub IsReadRefusal : {D St : Type 0} → (D → View St) → FormatAccess D → ℕ → ℕ → Error → Type 0
+IsReadRefusal view x o n e = ((e ≡ Error.Memory) × (0 < n)) ⊎ allowed (read_reasons view x o n) e
 
-abbrev pub IsSizeReply : {D St : Type 0} → (D → View St) → FormatAccess D → Reply → Type 0
-IsSizeReply view x (R.Size size) = size ≡ (view (driver x)).size
-IsSizeReply view x _ = ⊥
+-- A read of n bytes into a buffer of its own: what the disk shows there.
+pub record IsBufferRead {D St : Type 0} (view : D → View St) (x : FormatAccess D) (o n : ℕ) (result : Result (Vec ℕ Global) Error) : Type 0 where
+  pub bytes : IfOk result (λ v. (length v.items ≡ n) × HasValues (disk_value view x) o v.items)
+  pub refusals : IfErr result (IsReadRefusal view x o n)
+
+-- A resolved mapping: that of the image, as long as its drivers let it be.
+pub record IsMapped {D St : Type 0} (view : D → View St) (x : FormatAccess D) (o n : ℕ) (result : Result (Mapping × ℕ) Error) : Type 0 where
+  pub right : IfOk result (λ m. IsResolved view x o n m.0 m.1)
+  pub size : IfOk result (λ m. IsFullLength view x o n m.0 m.1)
+  pub whole : chain_no_memory view x o n → IfOk result (λ m. (m.1 ≡ n) ⊎ IsEndOfImage m.0)
+  pub refused_place : IfErr result (λ e. (e ≡ Error.InvalidData) ⊎ (e ≡ Error.NoAccess) → disk_value view x o ≡ Unreadable e)
+  pub refusals : IfErr result (allowed (chain_map_reasons view x o n))
 
 -- From one image to the next, a call may have this reply: it did what it promises, or left what its refusal does.
 abbrev pub IsStep : {D St : Type 0} → (D → View St) → FormatAccess D → Call → Reply → FormatAccess D → Type 0
-IsStep view old (C.Read o n) r new = (new ≡ old) × IsReadReply view old o n r
-IsStep view old (C.GetMapping o n) r new = (new ≡ old) × IsMappedReply view old o n r
-IsStep view old C.Size r new = (new ≡ old) × IsSizeReply view old r
-IsStep view old (C.Write o bytes) r new = Answers r (IsWrite view old new o bytes.items)
-IsStep view old (C.ResizeGrow n mode) r new = Answers r (IsResize view (Grow mode) n (HasGrown view mode n old new) old new)
-IsStep view old (C.ResizeShrink n) r new = Answers r (IsResize view Shrink n (HasShrunk view n old new) old new)
-IsStep view old (C.Resize n mode) r new = Answers r (IsResizeTo view n mode old new)
-IsStep view old C.Flush r new = Answers r (IsFlushed view old new)
-IsStep view old C.Sync r new = Answers r (IsFlushed view old new)
-IsStep view old C.InvalidateCache r new = Answers r (IsFlushed view old new)
+IsStep view old (C.Read o n) r new = (new ≡ old) × Answers R.Data r (IsBufferRead view old o n)
+IsStep view old (C.GetMapping o n) r new = (new ≡ old) × Answers told_mapping r (IsMapped view old o n)
+IsStep view old C.Size r new = (new ≡ old) × (r ≡ R.Size (view (driver old)).size)
+IsStep view old (C.Write o bytes) r new = Answers told_done r (IsWrite view old new o bytes.items)
+IsStep view old (C.ResizeGrow n mode) r new = Answers told_done r (IsResize view (Grow mode) n (HasGrown view mode n old new) old new)
+IsStep view old (C.ResizeShrink n) r new = Answers told_done r (IsResize view Shrink n (HasShrunk view n old new) old new)
+IsStep view old (C.Resize n mode) r new = Answers told_done r (IsResizeTo view n mode old new)
+IsStep view old C.Flush r new = Answers told_done r (IsFlushed view old new)
+IsStep view old C.Sync r new = Answers told_done r (IsFlushed view old new)
+IsStep view old C.InvalidateCache r new = Answers told_done r (IsFlushed view old new)
 
 -- The calls may have these replies, one each: there are images, one more than calls, from the first to the last, with a step
 -- between each and the next.

@@ -1,6 +1,6 @@
 //! Laws of images that follow from what each call promises. The functions do nothing.
 ghost use Rattle.std.specs.Prelude.{◌≡◌, ℕ, ◌+◌, ◌≤◌, List, length, IsTrue};
-ghost use Rattle.imago_drivers.specs.Place.{Byte, shown};
+ghost use Rattle.imago_drivers.specs.Place.{Value, Byte, shown};
 ghost use Rattle.imago_drivers.specs.declared.format.PreallocateMode.{PreallocateMode};
 ghost use Rattle.imago_access.specs.declared.access.FormatAccess.{FormatAccess};
 ghost use Rattle.imago_access.specs.declared.run.Call.{Call};
@@ -10,7 +10,8 @@ ghost use Rattle.imago_access.specs.Target.{target};
 ghost use Rattle.imago_access.specs.Calls.{IsKept};
 ghost use Rattle.imago_access.specs.Runs.{IsRun};
 ghost use Rattle.imago_access.specs.Disk.{disk, backed_value, IsSameWrite, IsSameResize};
-ghost use Rattle.imago_access.specs.Histories.{IsFlatHistory, AreDetermined, IsFlatRun};
+ghost use Rattle.imago_access.specs.Histories.{IsFlatHistory};
+ghost use Rattle.imago_access.specs.Determined.{AreDetermined, IsFlatRun};
 ghost use Rattle.imago_access.specs.Success.{ReadsSucceed, ReadableRangesAreRead, MappingsSucceed, WritesSucceed, DataMappingsSucceed, PreparesSucceed, PreparedWritesSucceed, CommitsSucceed, GrowthsSucceed, CutsSucceed, FlushesSucceed};
 
 use imago_drivers::drivers::FormatDriverInstance;
@@ -32,16 +33,14 @@ pub fn runs_keep_layers_below<D: FormatDriverInstance>()
         → IsKept D.view old new }
 {}
 
-/// A run whose replies say what the disk is afterwards is one over a flat list: the disk at its end is the first one
-/// with each successful write, cut and growth applied, in order, and each read, each size and each mapping answers the
-/// list at its point of the run. A write that a driver refused half-way doesn't say it, nor does a growth without
-/// preallocation.
-pub fn flat_runs<D: FormatDriverInstance>()
-    ensures { (old new : FormatAccess D) (calls : List Call) (replies : List Reply)
-        → IsTrue (D.view (driver old)).abilities.keeps_data
-        → AreDetermined (backed_value D.view old) (disk D.view old) calls replies
-        → IsRun D.view old calls replies new
-        → IsFlatRun D.view old calls replies new }
+/// A history of one list whose replies say what the list is afterwards: at its end it is the first one with each
+/// successful write, cut and growth applied, in order, and each read, each size and each mapping answers the list at its
+/// point of the history. A write that is refused past its tests doesn't say it, nor does a growth without preallocation.
+pub fn flat_runs()
+    ensures { (below : ℕ → Value) (xs zs : List Value) (calls : List Call) (replies : List Reply)
+        → AreDetermined below xs calls replies
+        → IsFlatHistory below xs calls replies zs
+        → IsFlatRun below xs calls replies zs }
 {}
 
 /// A write inside a disk whose size stays is the same offset by offset as on lists, one that succeeds and a refused one.

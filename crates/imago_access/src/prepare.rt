@@ -9,6 +9,7 @@ ghost use Rattle.imago_drivers.specs.Prepared.{IsPrepared, IsDataMapping, IsFore
 ghost use Rattle.imago_drivers.specs.Commit.{IsCommit, IsCancel};
 ghost use Rattle.imago_access.specs.Chain.{driver, backing, disk_value};
 ghost use Rattle.imago_access.specs.Calls.{IsEnsured, IsPreparing, IsKept};
+ghost use Rattle.imago_access.specs.PreparedOnDisk.{ShowsSame, ShowsPreparedWrite, ShowsCommit};
 
 use crate::access::{FormatAccess, below};
 use imago_drivers::drivers::{FormatDriverInstance, PreparedDataMapping};
@@ -86,6 +87,8 @@ impl<D: FormatDriverInstance> FormatAccess<D> {
         ensures torn { OnErr result
             (IsWritten true (D.view (driver self.old)) (D.view (driver self.new)) mapping.now at
             source.now) }
+        ensures disk { IsTrue (D.view (driver self.old)).abilities.keeps_data
+            → ShowsPreparedWrite D.view self.old self.new mapping.now at source.now result }
         ensures round { IsTrue (D.view (driver self.old)).abilities.keeps_data
             → ShowsRound (disk_value D.view self.old) (D.view (driver self.old)).pending
             → ShowsRound (disk_value D.view self.new) (D.view (driver self.new)).pending }
@@ -110,6 +113,8 @@ impl<D: FormatDriverInstance> FormatAccess<D> {
         mapping: PreparedDataMapping<D::State>,
     ) -> Result<(), Error>
         ensures commit { IsCommit D.view (driver self.old) (driver self.new) mapping result }
+        ensures disk { IsTrue (D.view (driver self.old)).abilities.keeps_data
+            → ShowsCommit D.view self.old self.new mapping result }
         ensures below { backing self.new ≡ backing self.old }
     {
         self.inner.commit_data_mapping(mapping)
@@ -119,6 +124,8 @@ impl<D: FormatDriverInstance> FormatAccess<D> {
     /// mapping changes nothing.
     pub fn cancel_data_mapping(&mut self, mapping: PreparedDataMapping<D::State>)
         ensures cancel { IsCancel D.view (driver self.old) (driver self.new) mapping }
+        ensures disk { IsTrue (D.view (driver self.old)).abilities.keeps_data
+            → ShowsSame (disk_value D.view self.old) (disk_value D.view self.new) }
         ensures below { backing self.new ≡ backing self.old }
     {
         self.inner.cancel_data_mapping(mapping)

@@ -1,10 +1,10 @@
 //! Lists of calls on an image.
-ghost use Rattle.std.specs.Prelude.{◌≡◌, ◌++◌, List, length, None, IfOk, IfErr, OnOk, OnErr};
+ghost use Rattle.std.specs.Prelude.{◌≡◌, ◌<◌, ◌++◌, List, length, None, IsTrue, IfOk, IfErr, OnOk, OnErr};
 ghost use Rattle.imago_access.specs.declared.run.Reply.{Reply};
-ghost use Rattle.imago_drivers.specs.Place.{HasValues};
-ghost use Rattle.imago_drivers.specs.Reasons.{allowed};
-ghost use Rattle.imago_access.specs.Chain.{driver, disk_value};
-ghost use Rattle.imago_access.specs.Runs.{reply_of, buffer_reasons, IsStep, IsRun};
+ghost use Rattle.imago_access.specs.Chain.{driver};
+ghost use Rattle.imago_access.specs.Disk.{disk, backed_value};
+ghost use Rattle.imago_access.specs.Runs.{reply_of, told_done, IsBufferRead, IsStep, IsRun};
+ghost use Rattle.imago_access.specs.Histories.{IsFlatHistory};
 
 use crate::access::FormatAccess;
 use crate::mapping::Mapping;
@@ -87,7 +87,7 @@ pub enum Reply {
 
 /// The reply to a call that answers nothing.
 fn done_or_refused(outcome: Result<(), Error>) -> Reply
-    ensures { result ≡ reply_of outcome }
+    ensures { result ≡ reply_of told_done outcome }
 {
     match outcome {
         Ok(()) => Reply::Done,
@@ -98,7 +98,7 @@ fn done_or_refused(outcome: Result<(), Error>) -> Reply
 /// A buffer of that many zeroes.
 fn zeroes(alloc: Global, count: usize) -> Result<Vec<u8>, Error>
     ensures buffer { IfOk result (λ v. length v.items ≡ count) }
-    ensures memory { IfErr result (λ e. e ≡ Error.Memory) }
+    ensures memory { IfErr result (λ e. (e ≡ Error.Memory) × (0 < count)) }
 {
     let mut bytes = Vec::new(alloc);
     match bytes.resize(count, 0) {
@@ -114,9 +114,7 @@ fn read_bytes<D: FormatDriverInstance>(
     offset: u64,
     count: u64,
 ) -> Result<Vec<u8>, Error>
-    ensures bytes { IfOk result
-        (λ v. (length v.items ≡ count) × HasValues (disk_value D.view image.now) offset v.items) }
-    ensures refusals { IfErr result (allowed (buffer_reasons D.view image.now offset count)) }
+    ensures { IsBufferRead D.view image.now offset count result }
 {
     let mut bytes = zeroes(alloc, count as usize)?;
     image.read(alloc, &mut bytes, offset)?;
@@ -162,6 +160,10 @@ pub fn run<D: FormatDriverInstance>(
     ensures run { OnOk result
         ((rs : List Reply) × (replies.new.items ≡ replies.old.items ++ rs) × IsRun D.view
         image.old calls.now rs image.new) }
+    ensures history { IsTrue (D.view (driver image.old)).abilities.keeps_data
+        → OnOk result
+        ((rs : List Reply) × (replies.new.items ≡ replies.old.items ++ rs) × IsFlatHistory
+        (backed_value D.view image.old) (disk D.view image.old) calls.now rs (disk D.view image.new)) }
     ensures refused { OnErr result ((replies.new.items ≡ replies.old.items) × (image.new ≡ image.old)) }
     ensures memory { IfErr result (λ e. e ≡ Error.Memory) }
     ensures spent { (D.view (driver image.new)).pending ≡ None }

@@ -1,5 +1,6 @@
 //! Writing to an image.
 ghost use Rattle.std.specs.Prelude.{◌≡◌, ◌+◌, ◌^◌, ◌<◌, ◌≤◌, None, true, length};
+ghost use Rattle.imago_drivers.specs.Operation.{Write};
 ghost use Rattle.imago_drivers.specs.LayerBelow.{lent};
 ghost use Rattle.imago_access.specs.Chain.{driver};
 ghost use Rattle.imago_access.specs.Calls.{IsTested, IsWrite};
@@ -59,9 +60,9 @@ fn write_all<D: FormatDriverInstance, B: LowerLayer>(
 }
 
 impl<D: FormatDriverInstance> FormatAccess<D> {
-    /// The tests of a changing call on a range, in their order: the driver is writable, and the range lies in the disk.
+    /// The tests of a write or a mapping, in their order: the driver is writable, and the range lies in the disk.
     pub(crate) fn test_range(&self, offset: u64, count: u64) -> Result<(), Error>
-        ensures { IsTested (D.view (driver self.now)) offset count result }
+        ensures { IsTested (D.view (driver self.now)) Write offset count result }
     {
         if !self.inner.writable() {
             return Err(Error::ReadOnly);

@@ -1,0 +1,83 @@
+use Rattle.std.specs.Prelude.{◌≡◌, ◌≢◌, ℕ, ◌≤◌, ◌⊎◌, List, [], ◌∷◌, length, take, map}
+use Rattle.imago_storage.specs.declared.error.Error.{Error}
+use Rattle.imago_drivers.specs.declared.format.PreallocateMode.{PreallocateMode}
+use Rattle.imago_drivers.specs.declared.format.PreallocateMode.TheVariants as Mode
+use Rattle.imago_drivers.specs.Place.{Value, Byte}
+use Rattle.imago_access.specs.declared.run.Call.{Call}
+use Rattle.imago_access.specs.declared.run.Call.TheVariants as C
+use Rattle.imago_access.specs.declared.run.Reply.{Reply}
+use Rattle.imago_access.specs.declared.run.Reply.TheVariants as R
+use Rattle.imago_access.specs.Disk.{splice, IsTestRefusal, extended}
+use Rattle.imago_access.specs.Histories.{IsDataOf, IsMappingOf}
+
+-- new values of a growth to n are known: there are none, or the mode says what they are
+abbrev pub IsFilled : PreallocateMode → ℕ → List Value → Type 0
+IsFilled mode n xs = (n ≤ length xs) ⊎ (mode ≢ Mode.None)
+
+-- The reply says what the list is afterwards: all but a write that is refused past its tests, and a growth without preallocation.
+abbrev pub IsDetermined : List Value → Call → Reply → Type 0
+IsDetermined xs (C.Write o bytes) r = (e : Error) → r ≡ R.Refused e → IsTestRefusal xs o (length bytes.items) e
+IsDetermined xs (C.Resize n mode) r = r ≡ R.Done → IsFilled mode n xs
+IsDetermined xs (C.ResizeGrow n mode) r = r ≡ R.Done → IsFilled mode n xs
+IsDetermined xs (C.ResizeShrink n) r = Unit {0}
+IsDetermined xs (C.Read o n) r = Unit {0}
+IsDetermined xs (C.GetMapping o n) r = Unit {0}
+IsDetermined xs C.Size r = Unit {0}
+IsDetermined xs C.Flush r = Unit {0}
+IsDetermined xs C.Sync r = Unit {0}
+IsDetermined xs C.InvalidateCache r = Unit {0}
+
+-- the one list after a success that answers nothing, the other after any other reply
+abbrev pub if_done : Reply → List Value → List Value → List Value
+if_done R.Done ys xs = ys
+if_done (R.Refused e) ys xs = xs
+if_done (R.Data bytes) ys xs = xs
+if_done (R.Size size) ys xs = xs
+if_done (R.Mapped mapping count) ys xs = xs
+
+-- the list after a call that is determined
+abbrev pub after : (ℕ → Value) → Call → Reply → List Value → List Value
+after below (C.Write o bytes) r xs = if_done r (splice xs o (map Byte bytes.items)) xs
+after below (C.Resize n mode) r xs = if_done r (extended mode below n (take n xs)) xs
+after below (C.ResizeGrow n mode) r xs = if_done r (extended mode below n xs) xs
+after below (C.ResizeShrink n) r xs = if_done r (take n xs) xs
+after below (C.Read o n) r xs = xs
+after below (C.GetMapping o n) r xs = xs
+after below C.Size r xs = xs
+after below C.Flush r xs = xs
+after below C.Sync r xs = xs
+after below C.InvalidateCache r xs = xs
+
+-- each call is determined, on the list that stands at its point of the run
+abbrev pub AreDetermined : (ℕ → Value) → List Value → List Call → List Reply → Type 0
+AreDetermined below xs (call ∷ calls) (reply ∷ replies) = IsDetermined xs call reply × AreDetermined below (after below call reply xs) calls replies
+AreDetermined below xs calls replies = Unit {0}
+
+-- the list after calls that are determined: each successful one applied, in order
+abbrev pub after_all : (ℕ → Value) → List Call → List Reply → List Value → List Value
+after_all below (call ∷ calls) (reply ∷ replies) xs = after_all below calls replies (after below call reply xs)
+after_all below calls replies xs = xs
+
+-- the data of a read are the part of the list, a size is its length, and a mapping names what it has
+abbrev pub FitsList : List Value → Call → Reply → Type 0
+FitsList xs (C.Read o n) r = IsDataOf xs o n r
+FitsList xs (C.GetMapping o n) r = IsMappingOf xs o n r
+FitsList xs C.Size r = r ≡ R.Size (length xs)
+FitsList xs (C.Write o bytes) r = Unit {0}
+FitsList xs (C.Resize n mode) r = Unit {0}
+FitsList xs (C.ResizeGrow n mode) r = Unit {0}
+FitsList xs (C.ResizeShrink n) r = Unit {0}
+FitsList xs C.Flush r = Unit {0}
+FitsList xs C.Sync r = Unit {0}
+FitsList xs C.InvalidateCache r = Unit {0}
+
+-- each reply fits the list that stands at its point of the run
+abbrev pub AllFit : (ℕ → Value) → List Value → List Call → List Reply → Type 0
+AllFit below xs (call ∷ calls) (reply ∷ replies) = FitsList xs call reply × AllFit below (after below call reply xs) calls replies
+AllFit below xs calls replies = Unit {0}
+
+-- Calls and replies on one list, each of which is determined: the list at the end is the first one with each successful call
+-- applied, in order, and each read, each size and each mapping answers the list as it stands then.
+pub record IsFlatRun (below : ℕ → Value) (xs : List Value) (calls : List Call) (replies : List Reply) (zs : List Value) : Type 0 where
+  pub list_after : zs ≡ after_all below calls replies xs
+  pub replies_fit : AllFit below xs calls replies
