@@ -158,6 +158,7 @@ module _ {D St : Type 0} (view : D → View St) where
     torn = λ k. record { inside = λ i lt. inl refl; before = λ p lt. refl; behind = λ p ge. refl };
     below = refl;
     framed = record { kind = record { abilities = refl; store_count = refl; store_features = λ i. refl }; size = refl; ends = λ p h. h };
+    reaches = λ p q w e. (w, e);
     spent = spent;
     count = record { later = omega arith; reliable = λ t. refl };
   }
@@ -167,6 +168,7 @@ module _ {D St : Type 0} (view : D → View St) where
     torn = λ k. torn_twice o n q m _ _ _ le fits (x.torn k) (y.torn (rw x.framed.kind.abilities k));
     below = y.below ∙ x.below;
     framed = framed_twice _ _ _ x.framed y.framed;
+    reaches = λ p q w e. let z = y.reaches p q w e in x.reaches p q z.0 z.1;
     spent = y.spent;
     count = record { later = omega (arith, x.count.later, y.count.later); reliable = λ t. y.count.reliable (same_devices a b x.below x.framed ∙ t) ∙ x.count.reliable t };
   }
@@ -257,6 +259,7 @@ module _ {D St : Type 0} (view : D → View St) where
           (cases_lt s e);
       below = h.left.below;
       framed = h.left.framed;
+      reaches = h.left.reaches;
       spent = h.left.spent;
       count = h.left.count;
     };

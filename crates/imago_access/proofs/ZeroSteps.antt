@@ -1,6 +1,6 @@
 use Rattle.std.proofs.Common.{◌≡◌, ℕ, ◌+◌, ◌-◌, ◌<◌, ◌≤◌, ◌⊎◌, ◌&&◌, ⊎_elim, inl, inr, Bool, true, false, None, refl, sym, ap, ◌∙◌, subst, arith, Result, Ok, Err}
 use Rattle.std.proofs.lemmas.Bool.{cases_lt}
-use Rattle.std.specs.Prelude.{IsTrue, IfOk, IfErr, OnErr, IsErrOf}
+use Rattle.std.specs.Prelude.{List, length, slice_index, EachIndex, IsTrue, IfOk, IfErr, OnErr, IsErrOf}
 use Rattle.imago_storage.specs.declared.error.Error.{Error}
 use Rattle.imago_storage.specs.Faults.{CountsFaults, RoseOrSaturated}
 use Rattle.imago_drivers.specs.Operation.{Operation}
@@ -9,14 +9,17 @@ use Rattle.imago_drivers.specs.Reasons.{Reasons, allowed}
 use Rattle.imago_drivers.specs.Causes.{Causes, Copies, IsSettled, EveryOperation, AddsNone}
 use Rattle.imago_drivers.specs.View.{View}
 use Rattle.imago_drivers.specs.Laws.{AreCauses}
-use Rattle.imago_drivers.specs.Changes.{IsChanged, zeroes, partly}
+use Rattle.imago_drivers.specs.Changes.{IsChanged, zeroes, partly, into}
 use Rattle.imago_drivers.specs.Frame.{IsFramed, ReachesNoMore}
-use Rattle.imago_drivers.specs.Done.{HasDone, range_reasons}
+use Rattle.imago_drivers.specs.LayerBelow.{LayerBelow}
+use Rattle.imago_drivers.specs.Done.{HasDone, range_reasons, lending_reasons}
 use Rattle.imago_access.specs.declared.access.FormatAccess.{FormatAccess}
 use Rattle.imago_access.specs.Chain.{driver, backing, disk_value, lent_image}
 use Rattle.imago_access.specs.Lending.{with_driver}
 use Rattle.imago_access.specs.Calls.{devices_reliable}
-use Rattle.imago_access.specs.Zeroing.{AreZero, IsLaterCount, IsPartlyZeroed, Carries, HasZeroedPart}
+use Rattle.imago_access.specs.Zeroing.{AreZero, IsLaterCount, IsPartlyZeroed, Carries, HasZeroed, HasZeroedPart, data_reasons}
+use Rattle.imago_access.specs.Writing.{HasWritten}
+use Rattle.imago_access.proofs.Weaker.{IsWeaker, refused_more}
 use Rattle.imago_access.specs.declared.mapping.Mapping.TheVariants as M
 use Rattle.imago_access.specs.Target.{target}
 use Rattle.imago_access.specs.Resolved.{IsResolved}
@@ -70,6 +73,7 @@ module _ {D St : Type 0} (view : D → View St) (x : FormatAccess D) (d : D) whe
           torn = λ k. torn result (done.inside) (done.done k (lent_image view (backing x)).at) (done.refused k (lent_image view (backing x)).at);
           below = backing_with x d;
           framed = subst (λ (y : D). IsFramed (view (driver x)) (view y)) e framed;
+          reaches = subst (λ (y : D). ReachesNoMore (view (driver x)) (view y)) e reaches;
           spent = subst (λ (y : D). (view y).pending ≡ None) e spent;
           count = subst (λ (y : D). IsLaterCount (devices_reliable view x) (view (driver x)).fault_count (view y).fault_count) e (record { later = faults.later; reliable = λ t. faults.reliable (both_left _ _ t) });
         };
@@ -99,3 +103,59 @@ zero_mapped view x o most n explicit h p i =
 
 pub zero_more : (at : ℕ → Value) (o n m : ℕ) → AreZero at o n → AreZero at (o + n) m → AreZero at o (n + m)
 zero_more at o n m a b p i = ⊎_elim (λ below. a p (i.0, below)) (λ above. b p (above, omega (arith, i.1))) (cases_lt p (o + n))
+
+-- bytes that are all zero
+zero_bytes : (bytes : List ℕ) (o n : ℕ) (old new : ℕ → Value) → n ≤ length bytes → EachIndex bytes (λ k. slice_index bytes k ≡ 0) → IsChanged o n (into bytes) old new → IsChanged o n zeroes old new
+zero_bytes bytes o n old new le z h = record { inside = λ k lt. h.inside k lt ∙ ap Byte (z k (omega arith)); before = h.before; behind = h.behind }
+
+torn_bytes : (bytes : List ℕ) (o : ℕ) (old new : ℕ → Value) → EachIndex bytes (λ k. slice_index bytes k ≡ 0) → IsChanged o (length bytes) (partly (into bytes)) old new → IsChanged o (length bytes) (partly zeroes) old new
+torn_bytes bytes o old new z h = record { inside = λ k lt. ⊎_elim (λ e. inl e) (λ e. inr (e ∙ ap Byte (z k lt))) (h.inside k lt); before = h.before; behind = h.behind }
+
+-- zeroes that a driver writes over what it is lent, as the image sees them
+pub piece_written : {D St : Type 0} (view : D → View St) (x : FormatAccess D) (d : D) (o : ℕ) (bytes : List ℕ) (result : Result ℕ Error) (l : LayerBelow) → l ≡ lent_image view (backing x) → EachIndex bytes (λ k. slice_index bytes k ≡ 0)
+    → HasWritten l (view (driver x)) (view d) o bytes result → HasZeroed view o (length bytes) (λ (n : ℕ). n) (data_reasons view x o (length bytes)) x (with_driver x d) result
+piece_written {D} view x d o bytes result l same z h =
+    let w = subst (λ (m : LayerBelow). HasWritten m (view (driver x)) (view d) o bytes result) same h in
+    let e : d ≡ driver (with_driver x d) = sym (driver_with x d) in
+    record {
+      left = record {
+        torn = λ k. torn result w.some (w.done k) (w.torn k);
+        below = backing_with x d;
+        framed = subst (λ (y : D). IsFramed (view (driver x)) (view y)) e w.framed;
+        reaches = subst (λ (y : D). ReachesNoMore (view (driver x)) (view y)) e w.reaches;
+        spent = subst (λ (y : D). (view y).pending ≡ None) e w.spent;
+        count = subst (λ (y : D). IsLaterCount (devices_reliable view x) (view (driver x)).fault_count (view y).fault_count) e (record { later = w.faults.later; reliable = w.faults.reliable });
+      };
+      done = λ k. done result w.some (w.done k);
+      carries = carried result w.some w.settled (subst (λ (y : D). ReachesNoMore (view (driver x)) (view y)) e w.reaches);
+      device = λ f. inl (subst (λ (y : D). RoseOrSaturated (view (driver x)).fault_count (view y).fault_count) e (w.faults.device f));
+      refusals = refused_more (lending_reasons (view (driver x)) (lent_image view (backing x)) Operation.Write o (length bytes)) (data_reasons view x o (length bytes)) result (record {
+        read_only = λ k. k;
+        beyond_disk = λ k. k;
+        range_overflow = λ k. k;
+        cause = λ r k. inl k;
+        device = λ k. k;
+        memory = λ k. tt;
+        foreign_mapping = λ k. k;
+      }) w.refusals;
+    }
+  where
+    torn : (r : Result ℕ Error) → IfOk r (λ n. (0 < n) × (n ≤ length bytes)) → IfOk r (λ n. IsChanged o n (into bytes) (values (lent_image view (backing x)).at (view (driver x)).place) (values (lent_image view (backing x)).at (view d).place))
+        → OnErr r (IsChanged o (length bytes) (partly (into bytes)) (values (lent_image view (backing x)).at (view (driver x)).place) (values (lent_image view (backing x)).at (view d).place)) → IsChanged o (length bytes) (partly zeroes) (disk_value view x) (disk_value view (with_driver x d))
+    torn (Ok n) i c f = changed_image view x d (λ a b. IsChanged o (length bytes) (partly zeroes) a b) (zeroed_part o (length bytes) o n _ _ (inr (omega arith, omega (arith, i.1))) (zero_bytes bytes o n _ _ i.1 z c))
+    torn (Err r) i c f = changed_image view x d (λ a b. IsChanged o (length bytes) (partly zeroes) a b) (torn_bytes bytes o _ _ z f)
+
+    done : (r : Result ℕ Error) → IfOk r (λ n. (0 < n) × (n ≤ length bytes)) → IfOk r (λ n. IsChanged o n (into bytes) (values (lent_image view (backing x)).at (view (driver x)).place) (values (lent_image view (backing x)).at (view d).place)) → IfOk r (λ n. IsChanged o n zeroes (disk_value view x) (disk_value view (with_driver x d)))
+    done (Ok n) i c = changed_image view x d (λ a b. IsChanged o n zeroes a b) (zero_bytes bytes o n _ _ i.1 z c)
+    done (Err r) i c = tt
+
+    carried : (r : Result ℕ Error) → IfOk r (λ n. (0 < n) × (n ≤ length bytes)) → IfOk r (λ n. IsSettled EveryOperation (view (driver x)).cause (view d).cause (view (driver x)).copies (view d).copies o n) → ReachesNoMore (view (driver x)) (view (driver (with_driver x d)))
+        → IfOk r (λ n. Carries o (length bytes) (view (driver x)) (view (driver (with_driver x d))))
+    carried (Ok n) i s reaches = record {
+      settled = subst (λ (y : D). IsSettled EveryOperation (view (driver x)).cause (view y).cause (view (driver x)).copies (view y).copies o (length bytes)) (sym (driver_with x d)) (record {
+        causes = λ op a m q k f h j g b c t. s.causes op a m q k f h j (omega (arith, i.1)) b c t;
+        copied = λ op a m q k p h j g b c t. s.copied op a m q k p h j (omega (arith, i.1)) b c t;
+      });
+      reaches = reaches;
+    }
+    carried (Err r) i s reaches = tt

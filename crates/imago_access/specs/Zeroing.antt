@@ -30,11 +30,12 @@ pub record IsLaterCount (is_reliable : Bool) (before now : ℕ) : Type 0 where
   pub reliable : IsTrue is_reliable → now ≡ before
 
 -- What a part of a zero write leaves of an image, at any result: each byte of the range is as it was or zero, all others are as
--- they were, no layer below changed, and nothing waits.
+-- they were, no layer below changed, no place leads below that didn't, and nothing waits.
 pub record IsPartlyZeroed {D St : Type 0} (view : D → View St) (o n : ℕ) (old new : FormatAccess D) : Type 0 where
   pub torn : IsTrue (view (driver old)).abilities.keeps_data → IsChanged o n (partly zeroes) (disk_value view old) (disk_value view new)
   pub below : backing new ≡ backing old
   pub framed : IsFramed (view (driver old)) (view (driver new))
+  pub reaches : ReachesNoMore (view (driver old)) (view (driver new))
   pub spent : (view (driver new)).pending ≡ None
   pub count : IsLaterCount (devices_reliable view old) (view (driver old)).fault_count (view (driver new)).fault_count
 

@@ -21,7 +21,7 @@ returns-in_err-fill_zeroes-2-clause-zeroed g c =
     ⊎_elim
     (λ none. absurd (c.if-length-eq0.false none))
     (λ some. rw (p.1, p.2) (rest_refused g.D.FormatDriverInstance.view _ _ (operation_of c.args.call) c.args.self.now c.zero_part.new.self c.fill_zeroes-2.new.self c.args.offset c.args.count c.args.offset (c.in_ok-start.start - c.args.offset) c.in_err-fill_zeroes-2.field-0.0 _ (omega arith) (omega (arith, some.0, some.1)) c.in_ok-start.ensures
-    (λ free. let w = c.in_ok-start.ensures.whole free in absurd ((e.empty (omega (arith, w.0))).0)) e.zeroed))
+    (λ free. let w = c.in_ok-start.ensures.whole free in let q = (e.empty (omega (arith, w.0))).0 in let z : ⊥ = cc in z) e.zeroed))
     c.in_ok-start.ensures.inside
 
 pub returns-clause-zeroed : goal.returns-clause-zeroed

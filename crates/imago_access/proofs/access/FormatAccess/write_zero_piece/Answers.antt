@@ -1,0 +1,10 @@
+use Rattle.imago_access.specs.Chain.{backing}
+use Rattle.imago_access.proofs.Images.{lent_is}
+use Rattle.imago_access.proofs.ZeroSteps.{piece_written}
+use Rattle.imago_access.proofs.access.FormatAccess.write_zero_piece.Goals as goal
+
+pub returns-clause-zeroed : goal.returns-clause-zeroed
+returns-clause-zeroed g c =
+    let v = g.D.FormatDriverInstance.view in
+    let x = c.args.self.now in
+    piece_written v x c.write_first.new.inner c.args.offset c.args.zeroes.now c.write_first.result _ (lent_is v c.below.result (backing x) c.below.ensures) c.requires.zeroes c.write_first.ensures
