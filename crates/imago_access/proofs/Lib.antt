@@ -21,3 +21,4 @@ pub mod Determined
 pub mod Successes
 pub mod ZeroSteps
 pub mod ZeroLoops
+pub mod DiscardSteps

@@ -147,7 +147,7 @@ module _ {D St : Type 0} (view : D → View St) where
       foreign_mapping = λ h. h;
     }
 
-  same_devices : (old mid : FormatAccess D) → backing mid ≡ backing old → IsFramed (view (driver old)) (view (driver mid)) → devices_reliable view mid ≡ devices_reliable view old
+  pub same_devices : (old mid : FormatAccess D) → backing mid ≡ backing old → IsFramed (view (driver old)) (view (driver mid)) → devices_reliable view mid ≡ devices_reliable view old
   same_devices old mid below framed = ap (λ a. a.is_reliable && (lent_image view (backing mid)).is_reliable) framed.kind.abilities ∙ ap (λ (b : Option (FormatAccess D)). (view (driver old)).abilities.is_reliable && (lent_image view b).is_reliable) below
 
   unreliable_before : (old mid : FormatAccess D) → backing mid ≡ backing old → IsFramed (view (driver old)) (view (driver mid)) → is_reliable view mid ≡ false → is_reliable view old ≡ false

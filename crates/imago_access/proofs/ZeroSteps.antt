@@ -16,15 +16,15 @@ use Rattle.imago_drivers.specs.Done.{HasDone, range_reasons, lending_reasons}
 use Rattle.imago_access.specs.declared.access.FormatAccess.{FormatAccess}
 use Rattle.imago_access.specs.Chain.{driver, backing, disk_value, lent_image}
 use Rattle.imago_access.specs.Lending.{with_driver}
-use Rattle.imago_access.specs.Calls.{devices_reliable}
-use Rattle.imago_access.specs.Zeroing.{AreZero, IsLaterCount, IsPartlyZeroed, Carries, HasZeroed, HasZeroedPart, data_reasons}
+use Rattle.imago_access.specs.Calls.{devices_reliable, FailsTest, Overflows, IsLoose, settles, ShowsFaults, IsRangeCall}
+use Rattle.imago_access.specs.Zeroing.{AreZero, IsLaterCount, IsPartlyZeroed, Carries, HasZeroed, HasZeroedPart, data_reasons, zero_reasons, IsZeroWrite}
 use Rattle.imago_access.specs.Writing.{HasWritten}
 use Rattle.imago_access.proofs.Weaker.{IsWeaker, refused_more}
 use Rattle.imago_access.specs.declared.mapping.Mapping.TheVariants as M
 use Rattle.imago_access.specs.Target.{target}
 use Rattle.imago_access.specs.Resolved.{IsResolved}
 use Rattle.imago_access.proofs.Targets.{target_shows, mapped_value}
-use Rattle.imago_access.proofs.Images.{driver_with, backing_with, changed_image}
+use Rattle.imago_access.proofs.Images.{driver_with, backing_with, changed_image, not_failed}
 
 both_left : (a b : Bool) → IsTrue (a && b) → IsTrue a
 both_left true b h = refl
@@ -159,3 +159,34 @@ piece_written {D} view x d o bytes result l same z h =
       reaches = reaches;
     }
     carried (Err r) i s reaches = tt
+
+-- a zero write that passed its tests
+pub zero_call : {D St : Type 0} (view : D → View St) (op : Operation) (x new : FormatAccess D) (o n : ℕ) (result : Result (Unit {0}) Error) → (view (driver x)).abilities.is_writable ≡ true → o + n ≤ (view (driver x)).size → (Overflows op o n → ⊥)
+    → HasZeroed view o n (λ (u : Unit {0}). n) (zero_reasons view x op o n) x new result → IsZeroWrite view op x new o n result
+zero_call view op x new o n result w fits small h = record {
+  tested = λ z g. absurd (not_failed (view (driver x)) op o n w fits small z g);
+  done = h.done;
+  torn = λ k. torn result (h.left.torn k);
+  reaches = λ l. h.left.reaches;
+  settled = settled result h.carries;
+  same_size = h.left.framed.size;
+  kept = record { below = h.left.below; kind = h.left.framed.kind };
+  nothing_pending = h.left.spent;
+  faults = record { later = h.left.count.later; reliable = h.left.count.reliable; device = h.device };
+  refusals = refused result h.refusals;
+}
+  where
+    torn : (r : Result (Unit {0}) Error) → IsChanged o n (partly zeroes) (disk_value view x) (disk_value view new) → OnErr r (IsChanged o n (partly zeroes) (disk_value view x) (disk_value view new))
+    torn (Ok u) c = tt
+    torn (Err e) c = c
+
+    settled : (r : Result (Unit {0}) Error) → IfOk r (λ u. Carries o n (view (driver x)) (view (driver new))) → IfOk r (λ u. IsSettled (settles op) (view (driver x)).cause (view (driver new)).cause (view (driver x)).copies (view (driver new)).copies o n)
+    settled (Ok u) c = record {
+      causes = λ a b m q k e i. c.settled.causes a b m q k e i.0;
+      copied = λ a b m q k p i. c.settled.copied a b m q k p i.0;
+    }
+    settled (Err e) c = tt
+
+    refused : (r : Result (Unit {0}) Error) → IfErr r (allowed (zero_reasons view x op o n)) → IfErr r (λ e. FailsTest (view (driver x)) op o n e ⊎ allowed (zero_reasons view x op o n) e)
+    refused (Ok u) c = tt
+    refused (Err e) c = inr c

@@ -71,9 +71,10 @@ IsLoose (Grow mode) = ⊥
 IsLoose Shrink = ⊥
 IsLoose Flush = ⊥
 
--- which operations a success leaves no new cause for: each one, but after such a discard that discard alone
+-- which operations a success leaves no new cause for: each one, but none after such a discard, since a driver may do nothing of it, and
+-- isn't bound then
 abbrev pub settles : Operation → Operation → Type 0
-settles op of = EveryOperation of × (IsLoose op → of ≡ op)
+settles op of = EveryOperation of × (IsLoose op → ⊥)
 
 -- A changing call on a range of an image: `reasons` is why it may be refused after its tests, `hidden` when a device may fail that
 -- no count of faults shows. A success has the effect, for the part that its answer tells; a refusal past the tests leaves what remains.

@@ -18,3 +18,4 @@ pub mod Success
 pub mod Lending
 pub mod ChainLaws
 pub mod Zeroing
+pub mod Discarding

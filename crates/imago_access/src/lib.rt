@@ -7,6 +7,7 @@
 pub mod access;
 mod alignments;
 mod chain;
+mod discard;
 mod flush;
 pub mod laws;
 pub mod mapping;

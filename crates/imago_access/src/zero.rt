@@ -1,10 +1,10 @@
 //! Zeroing ranges of an image.
 ghost use Rattle.std.specs.Prelude.{◌≡◌, ℕ, ◌+◌, ◌-◌, ◌<◌, ◌≤◌, ◌^◌, None, true, IsTrue, IfOk, IfErr, IsOk, length, slice_index, EachIndex};
-ghost use Rattle.imago_drivers.specs.Operation.{Zero};
+ghost use Rattle.imago_drivers.specs.Operation.{Zero, DiscardToZero};
 ghost use Rattle.imago_drivers.specs.LayerBelow.{lent};
 ghost use Rattle.imago_drivers.specs.Place.{Byte};
 ghost use Rattle.imago_access.specs.Chain.{driver, disk_value, as_layer_below};
-ghost use Rattle.imago_access.specs.Zeroing.{operation_of, AreZero, IsPartlyZeroed, Carries, HasZeroed, HasZeroedPart, IsZeroedByDriver, data_reasons, zero_reasons};
+ghost use Rattle.imago_access.specs.Zeroing.{operation_of, AreZero, IsPartlyZeroed, Carries, HasZeroed, HasZeroedPart, IsZeroedByDriver, IsZeroWrite, data_reasons, zero_reasons};
 
 use crate::access::{FormatAccess, below};
 use crate::mapping::Mapping;
@@ -263,6 +263,34 @@ impl<D: FormatDriverInstance> FormatAccess<D> {
             done += self.zero_next(alloc, call, offset + done, count - done)?;
         }
         Ok(())
+    }
+}
+
+impl<D: FormatDriverInstance> FormatAccess<D> {
+    /// Zeroes a range. The driver zeroes what it can by itself; what it leaves is zeroed in whole granules where the driver has a
+    /// granularity and the rest of a granule is zero already, and else written as zeroes, but for what is an explicit zero.
+    /// Nothing below the top layer changes.
+    ///
+    /// [`Error::ReadOnly`] where the driver isn't writable, then [`Error::RangeOverflow`] where the range's end passes `u64::MAX`,
+    /// then [`Error::BeyondDisk`] where it passes the disk's size, also for no bytes; nothing changed.
+    /// [`Error::Unsupported`] where the driver offers no zero writes. Any refusal leaves each byte of the range as it was or zero,
+    /// and all others as they were.
+    pub fn write_zeroes(&mut self, alloc: Global, offset: u64, count: u64) -> Result<(), Error>
+        requires { (D.view (driver self.old)).pending ≡ None }
+        ensures { IsZeroWrite D.view Zero self.old self.new offset count result }
+    {
+        self.test_end(offset, count)?;
+        self.zero_range(alloc, ZeroCall::EnsureZero, offset, count)
+    }
+
+    /// Gives up the data of a range, which reads as zeroes afterwards. What the driver doesn't discard by itself is zeroed as
+    /// [`write_zeroes`](Self::write_zeroes) does. The refusals, and what they leave, are the same too.
+    pub fn discard_to_zero(&mut self, alloc: Global, offset: u64, count: u64) -> Result<(), Error>
+        requires { (D.view (driver self.old)).pending ≡ None }
+        ensures { IsZeroWrite D.view DiscardToZero self.old self.new offset count result }
+    {
+        self.test_end(offset, count)?;
+        self.zero_range(alloc, ZeroCall::DiscardToZero, offset, count)
     }
 }
 

@@ -1,0 +1,96 @@
+//! Discarding ranges of an image.
+ghost use Rattle.std.specs.Prelude.{◌≡◌, ◌+◌, ◌≤◌, ◌<◌, ◌^◌, None, true};
+ghost use Rattle.imago_access.specs.Chain.{driver};
+ghost use Rattle.imago_access.specs.Discarding.{HasLoosened, HasLoosenedPart, IsDiscard};
+ghost use Rattle.imago_access.specs.declared.discard.DiscardCall.TheVariants as Call;
+
+use crate::access::FormatAccess;
+use imago_drivers::drivers::FormatDriverInstance;
+use imago_storage::error::Error;
+use std::alloc::Global;
+
+/// What the bytes of a range may be once it is discarded.
+#[derive(Clone, Copy)]
+pub(crate) enum DiscardCall {
+    /// Anything: [`FormatDriverInstance::discard_to_any`].
+    ToAny,
+    /// As they were, or those of the layer below: [`FormatDriverInstance::discard_to_backing`].
+    ToBacking,
+}
+
+impl<D: FormatDriverInstance> FormatAccess<D> {
+    /// Has the driver discard what it can of a range, and answers which part that is.
+    fn discard_part(
+        &mut self,
+        alloc: Global,
+        call: DiscardCall,
+        offset: u64,
+        count: u64,
+    ) -> Result<(u64, u64), Error>
+        requires writable { (D.view (driver self.old)).abilities.is_writable ≡ true }
+        requires spent { (D.view (driver self.old)).pending ≡ None }
+        requires inside { offset + count ≤ (D.view (driver self.old)).size }
+        ensures { HasLoosenedPart D.view call offset count self.old self.new result }
+    {
+        match call {
+            DiscardCall::ToAny => self.inner.discard_to_any(alloc, offset, count),
+            DiscardCall::ToBacking => self.inner.discard_to_backing(alloc, offset, count),
+        }
+    }
+
+    /// Discards a range, part after part, until the driver does nothing more.
+    fn discard_range(
+        &mut self,
+        alloc: Global,
+        call: DiscardCall,
+        offset: u64,
+        count: u64,
+    ) -> Result<(), Error>
+        requires writable { (D.view (driver self.old)).abilities.is_writable ≡ true }
+        requires spent { (D.view (driver self.old)).pending ≡ None }
+        requires inside { offset + count ≤ (D.view (driver self.old)).size }
+        requires fits { offset + count < 2 ^ 64 }
+        ensures { HasLoosened D.view call offset count self.old self.new result }
+    {
+        let mut done: u64 = 0;
+        while done < count {
+            let (start, length) = self.discard_part(alloc, call, offset + done, count - done)?;
+            if length == 0 {
+                return Ok(());
+            }
+            done = start - offset + length;
+        }
+        Ok(())
+    }
+
+    /// Gives up the data of a range, as far as the driver can. Its bytes are unspecified afterwards, also where it is refused; all
+    /// others are as they were. Nothing below the top layer changes.
+    ///
+    /// [`Error::ReadOnly`] where the driver isn't writable, then [`Error::RangeOverflow`] where the range's end passes `u64::MAX`,
+    /// then [`Error::BeyondDisk`] where it passes the disk's size, also for no bytes; nothing changed.
+    /// [`Error::Unsupported`] where the driver offers no such discards.
+    pub fn discard_to_any(&mut self, alloc: Global, offset: u64, count: u64) -> Result<(), Error>
+        requires { (D.view (driver self.old)).pending ≡ None }
+        ensures { IsDiscard D.view Call.ToAny self.old self.new offset count result }
+    {
+        self.test_end(offset, count)?;
+        self.discard_range(alloc, DiscardCall::ToAny, offset, count)
+    }
+
+    /// Gives up the data of a range, as far as the driver can: each byte of it is as it was, or that of the layer below at the same
+    /// offset, zero where there is none; also where it is refused. All others are as they were.
+    ///
+    /// The refusals are those of [`discard_to_any`](Self::discard_to_any).
+    pub fn discard_to_backing(
+        &mut self,
+        alloc: Global,
+        offset: u64,
+        count: u64,
+    ) -> Result<(), Error>
+        requires { (D.view (driver self.old)).pending ≡ None }
+        ensures { IsDiscard D.view Call.ToBacking self.old self.new offset count result }
+    {
+        self.test_end(offset, count)?;
+        self.discard_range(alloc, DiscardCall::ToBacking, offset, count)
+    }
+}
