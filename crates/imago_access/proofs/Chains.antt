@@ -61,7 +61,7 @@ module _ {D St : Type 0} (view : D → View St) where
   target_at x p pl h k = target_out x p ∙ ap (followed (target_of (backing x))) h ∙ k (target_of (backing x))
 
   -- a cause at the top
-  pub cause_here : (x : FormatAccess D) (op : Operation) (o n : ℕ) (e : Error) → (view (driver x)).cause op o n e → chain_cause view x op o n e
+  pub cause_here : (x : FormatAccess D) (op : Operation) (o n : ℕ) (e : Error) → (view (driver x)).limits.cause op o n e → chain_cause view x op o n e
   cause_here x op o n e h = subst (λ (y : FormatAccess D). chain_cause view y op o n e) (sym (is-FormatAccess' x)) (inl h)
 
   from_below : (b : Option (Box (FormatAccess D) Global)) (y : FormatAccess D) (op : Operation) (q m : ℕ) (e : Error) → unboxed b ≡ Some y → chain_cause view y op q m e → cause_below view (back-FormatAccess-backing D b) op q m e
@@ -74,8 +74,11 @@ module _ {D St : Type 0} (view : D → View St) where
   pub cause_lower : (x y : FormatAccess D) (op : Operation) (o n q m : ℕ) (e : Error) → backing x ≡ Some y → 0 < m → IsReached (view (driver x)).place o n q m → chain_cause view y op q m e → chain_cause view x op o n e
   cause_lower x y op o n q m e h p r c = subst (λ (z : FormatAccess D). chain_cause view z op o n e) (sym (is-FormatAccess' x)) (inr (q, m, p, r, from_below (out-FormatAccess D x).backing y op q m e h c))
 
-  pub no_memory_here : (x : FormatAccess D) (o n : ℕ) → chain_no_memory view x o n → (view (driver x)).no_memory Read o n
-  no_memory_here x o n h = let k = subst (λ (y : FormatAccess D). chain_no_memory view y o n) (is-FormatAccess' x) h in k.0
+  pub whole_here : (x : FormatAccess D) (o n : ℕ) → chain_no_memory view x o n → (view (driver x)).limits.whole Read o n
+  whole_here x o n h = let k = subst (λ (y : FormatAccess D). chain_no_memory view y o n) (is-FormatAccess' x) h in k.0
+
+  pub no_memory_here : (x : FormatAccess D) (o n : ℕ) → chain_no_memory view x o n → (view (driver x)).limits.no_memory Read o n
+  no_memory_here x o n h = let k = subst (λ (y : FormatAccess D). chain_no_memory view y o n) (is-FormatAccess' x) h in k.1
 
   from_no_memory : (b : Option (Box (FormatAccess D) Global)) (y : FormatAccess D) (q n : ℕ) → unboxed b ≡ Some y → no_memory_below view (back-FormatAccess-backing D b) q n → chain_no_memory view y q n
   from_no_memory None y q n h c = let z : ⊥ = cc in absurd z
@@ -86,4 +89,4 @@ module _ {D St : Type 0} (view : D → View St) where
   pub no_memory_lower : (x y : FormatAccess D) (o n q : ℕ) → backing x ≡ Some y → chain_no_memory view x o n → IsReached (view (driver x)).place o n q n → chain_no_memory view y q n
   no_memory_lower x y o n q h c r =
       let k = subst (λ (z : FormatAccess D). chain_no_memory view z o n) (is-FormatAccess' x) c in
-      from_no_memory (out-FormatAccess D x).backing y q n h (k.1 q r)
+      from_no_memory (out-FormatAccess D x).backing y q n h (k.2 q r)

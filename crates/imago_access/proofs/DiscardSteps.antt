@@ -18,9 +18,10 @@ use Rattle.imago_access.specs.declared.discard.DiscardCall.TheVariants as C
 use Rattle.imago_access.specs.Chain.{driver, backing, disk_value, lent_image}
 use Rattle.imago_access.specs.Lending.{with_driver}
 use Rattle.imago_access.specs.Calls.{devices_reliable, FailsTest, Overflows, IsLoose, IsRangeCall, settles}
-use Rattle.imago_access.specs.Discarding.{discard_of, loosened, IsLoosened, HasLoosened, HasLoosenedPart, IsDiscard}
+use Rattle.imago_access.specs.Discarding.{discard_of, loosened, IsLoosened, HasLoosened, HasLoosenedPart, IsImageDiscard, discard_reasons}
+use Rattle.imago_access.specs.Zeroing.{IsFree}
 use Rattle.imago_access.proofs.Images.{driver_with, backing_with, changed_image, not_failed}
-use Rattle.imago_access.proofs.Weaker.{IsWeaker, allowed_more}
+use Rattle.imago_access.proofs.Weaker.{IsWeaker, allowed_more, refused_more}
 use Rattle.imago_access.proofs.Written.{framed_twice}
 use Rattle.imago_access.proofs.Writes.{rose_more}
 use Rattle.imago_access.proofs.ZeroLoops.{same_devices}
@@ -76,10 +77,10 @@ both_left false b h = h
 -- a part of the driver's discard, as the image sees it
 pub part_loosened : {D St : Type 0} (view : D → View St) (x : FormatAccess D) (d : D) (call : DiscardCall) (o n : ℕ) (result : Result (ℕ × ℕ) Error)
     → IfOk result (λ r. (r.1 ≡ 0) ⊎ ((o ≤ r.0) × (r.0 + r.1 ≤ o + n)))
-    → ((view (driver x)).no_memory (discard_of call) o n → IfOk result (λ r. (r.0 ≡ o) × (r.1 ≡ n)))
+    → ((view (driver x)).limits.whole (discard_of call) o n → IfOk result (λ r. (r.0 ≡ o) × (r.1 ≡ n)))
     → (IsTrue (view (driver x)).abilities.keeps_data → IfOk result (λ r. IsChanged r.0 r.1 (λ k. loosened call (view (driver x)).abilities.takes_backing (lent_image view (backing x)).at (r.0 + k)) (values (lent_image view (backing x)).at (view (driver x)).place) (values (lent_image view (backing x)).at (view d).place)))
     → (IsTrue (view (driver x)).abilities.keeps_data → OnErr result (IsChanged o n (partly (λ k. loosened call (view (driver x)).abilities.takes_backing (lent_image view (backing x)).at (o + k))) (values (lent_image view (backing x)).at (view (driver x)).place) (values (lent_image view (backing x)).at (view d).place)))
-    → IfOk result (λ r. IsSettled (λ op. op ≡ discard_of call) (view (driver x)).cause (view d).cause (view (driver x)).copies (view d).copies r.0 r.1)
+    → IfOk result (λ r. IsSettled (λ op. op ≡ discard_of call) (view (driver x)).limits.cause (view d).limits.cause (view (driver x)).limits.copies (view d).limits.copies r.0 r.1)
     → (view d).pending ≡ None → IsFramed (view (driver x)) (view d) → CountsFaults (view (driver x)).abilities.is_reliable (view (driver x)).fault_count (view d).fault_count result
     → IfErr result (allowed (range_reasons (view (driver x)) (discard_of call) o n)) → HasLoosenedPart view call o n x (with_driver x d) result
 part_loosened {D} view x d call o n result inside whole done refused settled spent framed faults refusals =
@@ -91,13 +92,24 @@ part_loosened {D} view x d call o n result inside whole done refused settled spe
         framed = subst (λ (y : D). IsFramed (view (driver x)) (view y)) e framed;
         spent = subst (λ (y : D). (view y).pending ≡ None) e spent;
         faults = subst (λ (y : D). CountsFaults (devices_reliable view x) (view (driver x)).fault_count (view y).fault_count result) e (record { later = faults.later; reliable = λ t. faults.reliable (both_left _ _ t); device = faults.device });
-        refusals = refusals;
+        refusals = weaker result refusals;
       };
       inside = inside;
       whole = whole;
-      settled = subst (λ (y : D). IfOk result (λ r. IsSettled (λ op. op ≡ discard_of call) (view (driver x)).cause (view y).cause (view (driver x)).copies (view y).copies r.0 r.1)) e settled;
+      settled = subst (λ (y : D). IfOk result (λ r. IsSettled (λ op. op ≡ discard_of call) (view (driver x)).limits.cause (view y).limits.cause (view (driver x)).limits.copies (view y).limits.copies r.0 r.1)) e settled;
     }
   where
+    weaker : (r : Result (ℕ × ℕ) Error) → IfErr r (allowed (range_reasons (view (driver x)) (discard_of call) o n)) → IfErr r (allowed (discard_reasons (view (driver x)) (discard_of call) o n))
+    weaker r h = refused_more (range_reasons (view (driver x)) (discard_of call) o n) (discard_reasons (view (driver x)) (discard_of call) o n) r (record {
+      read_only = λ k. k;
+      beyond_disk = λ k. k;
+      range_overflow = λ k. k;
+      cause = λ e k. k;
+      device = λ k. k;
+      memory = λ k free. k free.0;
+      foreign_mapping = λ k. k;
+    }) h
+
     changed : (r : Result (ℕ × ℕ) Error) → IfOk r (λ s. (s.1 ≡ 0) ⊎ ((o ≤ s.0) × (s.0 + s.1 ≤ o + n)))
         → IfOk r (λ s. IsChanged s.0 s.1 (λ k. loosened call (view (driver x)).abilities.takes_backing (lent_image view (backing x)).at (s.0 + k)) (values (lent_image view (backing x)).at (view (driver x)).place) (values (lent_image view (backing x)).at (view d).place))
         → OnErr r (IsChanged o n (partly (λ k. loosened call (view (driver x)).abilities.takes_backing (lent_image view (backing x)).at (o + k))) (values (lent_image view (backing x)).at (view (driver x)).place) (values (lent_image view (backing x)).at (view d).place))
@@ -114,8 +126,8 @@ pub record IsDiscardingOn {D St : Type 0} (view : D → View St) (call : Discard
   pub spent : (view (driver mid)).pending ≡ None
   pub later : (view (driver old)).fault_count ≤ (view (driver mid)).fault_count
   pub reliable : IsTrue (devices_reliable view old) → (view (driver mid)).fault_count ≡ (view (driver old)).fault_count
-  pub settled : IsSettled (λ op. op ≡ discard_of call) (view (driver old)).cause (view (driver mid)).cause (view (driver old)).copies (view (driver mid)).copies o n
-  pub once : (view (driver old)).no_memory (discard_of call) o n → ((c ≡ 0) × (mid ≡ old)) ⊎ (c ≡ n)
+  pub settled : IsSettled (λ op. op ≡ discard_of call) (view (driver old)).limits.cause (view (driver mid)).limits.cause (view (driver old)).limits.copies (view (driver mid)).limits.copies o n
+  pub once : (view (driver old)).limits.whole (discard_of call) o n → ((c ≡ 0) × (mid ≡ old)) ⊎ (c ≡ n)
 
 module _ {D St : Type 0} (view : D → View St) (call : DiscardCall) (o n : ℕ) (old : FormatAccess D) where
   pub nothing_discarded : AreCauses (view (driver old)) → (view (driver old)).pending ≡ None → IsDiscardingOn view call o n old old 0
@@ -164,7 +176,7 @@ module _ {D St : Type 0} (view : D → View St) (call : DiscardCall) (o n : ℕ)
           (λ z.
           let x : o + c ≡ o = omega (arith, z.0) in
           let y : n - c ≡ n = omega (arith, z.0) in
-          let again : (view (driver mid)).no_memory (discard_of call) (o + c) (n - c) = rw (x, y) (subst (λ (m : FormatAccess D). (view (driver m)).no_memory (discard_of call) o n) (sym z.1) free) in
+          let again : (view (driver mid)).limits.whole (discard_of call) (o + c) (n - c) = rw (x, y) (subst (λ (m : FormatAccess D). (view (driver m)).limits.whole (discard_of call) o n) (sym z.1) free) in
           let w = h.whole again in
           inr (omega (arith, w.0, w.1, z.0)))
           (λ z. absurd (omega arith))
@@ -193,7 +205,7 @@ module _ {D St : Type 0} (view : D → View St) (call : DiscardCall) (o n : ℕ)
         reliable = λ t. h.left.faults.reliable (same_reliable t) ∙ sofar.reliable t;
         device = λ d. rose_more _ _ _ _ sofar.later (omega arith) (h.left.faults.device (device d));
       };
-      refusals = allowed_more (range_reasons (view (driver mid)) (discard_of call) (o + c) (n - c)) (range_reasons (view (driver old)) (discard_of call) o n) (record {
+      refusals = allowed_more (discard_reasons (view (driver mid)) (discard_of call) (o + c) (n - c)) (discard_reasons (view (driver old)) (discard_of call) o n) (record {
         read_only = λ k. k;
         beyond_disk = λ k. (k.0, (omega (arith, k.1), omega (arith, k.1)), sofar.framed.ends k.0 k.2);
         range_overflow = λ k. k;
@@ -203,9 +215,9 @@ module _ {D St : Type 0} (view : D → View St) (call : DiscardCall) (o n : ℕ)
             (λ z.
             let x : o + c ≡ o = omega (arith, z.0) in
             let y : n - c ≡ n = omega (arith, z.0) in
-            k (rw (x, y) (subst (λ (m : FormatAccess D). (view (driver m)).no_memory (discard_of call) o n) (sym z.1) free)))
+            k (rw (x, y) (subst (λ (m : FormatAccess D). IsFree (view (driver m)) (discard_of call) o n) (sym z.1) free)))
             (λ z. absurd (omega arith))
-            (sofar.once free);
+            (sofar.once free.1);
         foreign_mapping = λ k. k;
       }) e h.left.refusals;
     }
@@ -228,7 +240,7 @@ not_loosened view call x o n = unchanged _ (repeatable call (view (driver x)).ab
 
 -- a discard that passed its tests
 pub discard_call : {D St : Type 0} (view : D → View St) (call : DiscardCall) (x new : FormatAccess D) (o n : ℕ) (result : Result (Unit {0}) Error) → (view (driver x)).abilities.is_writable ≡ true → o + n ≤ (view (driver x)).size
-    → (Overflows (discard_of call) o n → ⊥) → (IsLoose (discard_of call)) → HasLoosened view call o n x new result → IsDiscard view call x new o n result
+    → (Overflows (discard_of call) o n → ⊥) → (IsLoose (discard_of call)) → HasLoosened view call o n x new result → IsImageDiscard view call x new o n result
 discard_call view call x new o n result w fits small loose h = record {
   tested = λ z g. absurd (not_failed (view (driver x)) (discard_of call) o n w fits small z g);
   done = λ k. done result (h.left k);
@@ -250,10 +262,10 @@ discard_call view call x new o n result w fits small loose h = record {
     torn (Ok u) c = tt
     torn (Err e) c = c
 
-    settled : (r : Result (Unit {0}) Error) → IfOk r (λ u. IsSettled (settles (discard_of call)) (view (driver x)).cause (view (driver new)).cause (view (driver x)).copies (view (driver new)).copies o 0)
+    settled : (r : Result (Unit {0}) Error) → IfOk r (λ u. IsSettled (settles (discard_of call)) (view (driver x)).limits.cause (view (driver new)).limits.cause (view (driver x)).limits.copies (view (driver new)).limits.copies o 0)
     settled (Ok u) = record { causes = λ a b m q k e i. absurd (i.1 loose); copied = λ a b m q k p i. absurd (i.1 loose) }
     settled (Err e) = tt
 
-    refused : (r : Result (Unit {0}) Error) → IfErr r (allowed (range_reasons (view (driver x)) (discard_of call) o n)) → IfErr r (λ e. FailsTest (view (driver x)) (discard_of call) o n e ⊎ allowed (range_reasons (view (driver x)) (discard_of call) o n) e)
+    refused : (r : Result (Unit {0}) Error) → IfErr r (allowed (discard_reasons (view (driver x)) (discard_of call) o n)) → IfErr r (λ e. FailsTest (view (driver x)) (discard_of call) o n e ⊎ allowed (discard_reasons (view (driver x)) (discard_of call) o n) e)
     refused (Ok u) c = tt
     refused (Err e) c = inr c

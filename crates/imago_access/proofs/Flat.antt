@@ -10,6 +10,7 @@ use Rattle.imago_drivers.specs.Place.{Value, Byte}
 use Rattle.imago_drivers.specs.LayerBelow.{IsUnreadableIn, ReadBound}
 use Rattle.imago_drivers.specs.Reasons.{allowed}
 use Rattle.imago_drivers.specs.View.{View, Abilities}
+use Rattle.imago_drivers.specs.Flushes.{Flushes}
 use Rattle.imago_drivers.specs.Laws.{IsLawful, AreCauses}
 use Rattle.imago_drivers.specs.Changes.{IsChanged, into, partly, given_back}
 use Rattle.imago_access.specs.declared.access.FormatAccess.{FormatAccess}
@@ -20,7 +21,7 @@ use Rattle.imago_access.specs.declared.run.Reply.TheVariants as R
 use Rattle.imago_access.specs.Chain.{driver, backing, disk_value, lent_image, read_cause, read_reasons}
 use Rattle.imago_access.specs.ChainLaws.{image_is_layer}
 use Rattle.imago_access.specs.Target.{target}
-use Rattle.imago_access.specs.Calls.{IsKept, IsWrite, FailsTest, range_refusals}
+use Rattle.imago_access.specs.Calls.{IsKept, IsWrite, FailsTest, write_refusals}
 use Rattle.imago_access.specs.Sizes.{IsSameImage, IsResize, IsResizeTo, IsFlushed, HasGrown, HasShrunk}
 use Rattle.imago_access.specs.Runs.{Answers, told_done, told_mapping, IsReadRefusal, IsBufferRead, IsMapped, IsStep, IsRun}
 use Rattle.imago_access.specs.Disk.{values_from, disk, backed_value, value_at, splice, OldOrNewValues, IsTestRefusal, IsSpliced, IsTorn, IsExtended, IsSameWrite}
@@ -48,17 +49,17 @@ module _ {D St : Type 0} (view : D → View St) where
   resize_kept : (old new : FormatAccess D) (n : ℕ) (mode : PreallocateMode) (result : Result Unit Error) → IsResizeTo view n mode old new result → IsKept view old new
   resize_kept old new n mode result h = ⊎_elim (λ lt. (h.cut lt).kept) (λ le. (h.grown le).kept) (cases_lt n (view (driver old)).size)
 
-  step_kept : (old new : FormatAccess D) (call : Call) (r : Reply) → IsStep view old call r new → IsKept view old new
-  step_kept old new (C.Write o bytes) r h = h.2.kept
-  step_kept old new (C.Read o n) r h = same_kept old new h.0
-  step_kept old new (C.GetMapping o n) r h = same_kept old new h.0
-  step_kept old new C.Size r h = same_kept old new h.0
-  step_kept old new C.Flush r h = h.2.kept
-  step_kept old new C.Sync r h = h.2.kept
-  step_kept old new C.InvalidateCache r h = h.2.kept
-  step_kept old new (C.Resize n mode) r h = resize_kept old new n mode h.0 h.2
-  step_kept old new (C.ResizeGrow n mode) r h = h.2.kept
-  step_kept old new (C.ResizeShrink n) r h = h.2.kept
+  step_kept : (flushes : Flushes D) (old new : FormatAccess D) (call : Call) (r : Reply) → IsStep view flushes old call r new → IsKept view old new
+  step_kept flushes old new (C.Write o bytes) r h = h.2.kept
+  step_kept flushes old new (C.Read o n) r h = same_kept old new h.0
+  step_kept flushes old new (C.GetMapping o n) r h = same_kept old new h.0
+  step_kept flushes old new C.Size r h = same_kept old new h.0
+  step_kept flushes old new C.Flush r h = h.2.kept
+  step_kept flushes old new C.Sync r h = h.2.kept
+  step_kept flushes old new C.InvalidateCache r h = h.2.kept
+  step_kept flushes old new (C.Resize n mode) r h = resize_kept old new n mode h.0 h.2
+  step_kept flushes old new (C.ResizeGrow n mode) r h = h.2.kept
+  step_kept flushes old new (C.ResizeShrink n) r h = h.2.kept
 
   kept_twice : (old mid new : FormatAccess D) → IsKept view old mid → IsKept view mid new → IsKept view old new
   kept_twice old mid new a b = record {
@@ -67,11 +68,11 @@ module _ {D St : Type 0} (view : D → View St) where
   }
 
   -- a run changes no layer below
-  pub run_kept : (old new : FormatAccess D) (calls : List Call) (replies : List Reply) → IsRun view old calls replies new → IsKept view old new
-  run_kept old new [] [] h = same_kept old new h
-  run_kept old new [] (r ∷ rs) h = absurd h
-  run_kept old new (c ∷ cs) [] h = absurd h
-  run_kept old new (c ∷ cs) (r ∷ rs) h = kept_twice old h.0 new (step_kept old h.0 c r h.1) (run_kept h.0 new cs rs h.2)
+  pub run_kept : (flushes : Flushes D) (old new : FormatAccess D) (calls : List Call) (replies : List Reply) → IsRun view flushes old calls replies new → IsKept view old new
+  run_kept flushes old new [] [] h = same_kept old new h
+  run_kept flushes old new [] (r ∷ rs) h = absurd h
+  run_kept flushes old new (c ∷ cs) [] h = absurd h
+  run_kept flushes old new (c ∷ cs) (r ∷ rs) h = kept_twice old h.0 new (step_kept flushes old h.0 c r h.1) (run_kept flushes h.0 new cs rs h.2)
 
   -- so what its layers below show stays
   same_backed : (old new : FormatAccess D) → IsKept view old new → backed_value view new ≡ backed_value view old
@@ -85,8 +86,8 @@ module _ {D St : Type 0} (view : D → View St) where
   pub disk_length : (x : FormatAccess D) → length (disk view x) ≡ (view (driver x)).size
   disk_length x = from_length (disk_value view x) 0 (view (driver x)).size
 
-  flushed : (old new : FormatAccess D) (r : Reply) → IsTrue (view (driver old)).abilities.keeps_data → Answers told_done r (IsFlushed view old new) → IsSame (disk view old) r (disk view new)
-  flushed old new r k h = done_or_refused told_done r (IsFlushed view old new) _ _ (λ u x. same_disk old new k x.unchanged) (λ e x. same_disk old new k x.unchanged) h
+  flushed : (relation : D → D → Result Unit Error → Type 0) (old new : FormatAccess D) (r : Reply) → IsTrue (view (driver old)).abilities.keeps_data → Answers told_done r (IsFlushed view relation old new) → IsSame (disk view old) r (disk view new)
+  flushed relation old new r k h = done_or_refused told_done r (IsFlushed view relation old new) _ _ (λ u x. same_disk old new k x.unchanged) (λ e x. same_disk old new k x.unchanged) h
 
   resized : (old new : FormatAccess D) (op : Operation) (n : ℕ) (effect : Type 0) (done : Type 0) (r : Reply) → IsTrue (view (driver old)).abilities.keeps_data → (effect → done)
       → Answers told_done r (IsResize view op n effect old new) → DoneOrRefused told_done r (λ u. done) (λ e. disk view new ≡ disk view old)
@@ -144,7 +145,7 @@ module _ {D St : Type 0} (view : D → View St) where
   untouched old new o bytes e h t = ap (disk view) (⊎_elim
       (λ (read_only : e ≡ Error.ReadOnly). ⊎_elim
       (λ f. (h.tested e f).1)
-      (λ a. let none : ⊥ = subst (allowed (range_refusals view old Write o (length bytes))) read_only a in absurd none)
+      (λ a. let none : ⊥ = subst (allowed (write_refusals view old o (length bytes))) read_only a in absurd none)
       h.refusals)
       (λ (past : length (disk view old) < o + length bytes).
       let f = past_fails old o (length bytes) (omega (arith, disk_length old)) in
@@ -237,25 +238,25 @@ module _ {D St : Type 0} (view : D → View St) (lawful : (d : D) → IsLawful (
       (λ e y unreadable. sym (value_in_list x o) ∙ y.refused_place unreadable) h
 
   -- one step, on lists
-  flat_step : (old new : FormatAccess D) (call : Call) (r : Reply) → IsTrue (view (driver old)).abilities.keeps_data → IsStep view old call r new → IsFlatStep (backed_value view old) (disk view old) call r (disk view new)
-  flat_step old new (C.Read o n) r k h = (ap (disk view) h.0, read_part old o n r h.1)
-  flat_step old new C.Size r k h = (ap (disk view) h.0, h.1 ∙ ap R.Size (sym (disk_length view old)))
-  flat_step old new (C.GetMapping o n) r k h = (ap (disk view) h.0, mapped_part old o n r h.1)
-  flat_step old new (C.Write o bytes) r k h = done_or_refused told_done r (IsWrite view old new o bytes.items) _ _ (λ u. write_done old new o bytes.items k) (λ e x. write_refused old new o bytes.items e k x) h
-  flat_step old new C.Flush r k h = flushed view old new r k h
-  flat_step old new C.Sync r k h = flushed view old new r k h
-  flat_step old new C.InvalidateCache r k h = flushed view old new r k h
-  flat_step old new (C.Resize n mode) r k h = done_or_refused told_done r (IsResizeTo view n mode old new) _ _ (λ u. resized_to view old new mode n k) (λ e x. resize_refused view old new n mode e k x) h
-  flat_step old new (C.ResizeGrow n mode) r k h = resized view old new _ n (HasGrown view mode n old new) _ r k (grown view old new mode n k) h
-  flat_step old new (C.ResizeShrink n) r k h = resized view old new _ n (HasShrunk view n old new) _ r k (shrunk view old new n k) h
+  flat_step : (flushes : Flushes D) (old new : FormatAccess D) (call : Call) (r : Reply) → IsTrue (view (driver old)).abilities.keeps_data → IsStep view flushes old call r new → IsFlatStep (backed_value view old) (disk view old) call r (disk view new)
+  flat_step flushes old new (C.Read o n) r k h = (ap (disk view) h.0, read_part old o n r h.1)
+  flat_step flushes old new C.Size r k h = (ap (disk view) h.0, h.1 ∙ ap R.Size (sym (disk_length view old)))
+  flat_step flushes old new (C.GetMapping o n) r k h = (ap (disk view) h.0, mapped_part old o n r h.1)
+  flat_step flushes old new (C.Write o bytes) r k h = done_or_refused told_done r (IsWrite view old new o bytes.items) _ _ (λ u. write_done old new o bytes.items k) (λ e x. write_refused old new o bytes.items e k x) h
+  flat_step flushes old new C.Flush r k h = flushed view flushes.flushed old new r k h
+  flat_step flushes old new C.Sync r k h = flushed view flushes.synced old new r k h
+  flat_step flushes old new C.InvalidateCache r k h = flushed view flushes.invalidated old new r k h
+  flat_step flushes old new (C.Resize n mode) r k h = done_or_refused told_done r (IsResizeTo view n mode old new) _ _ (λ u. resized_to view old new mode n k) (λ e x. resize_refused view old new n mode e k x) h
+  flat_step flushes old new (C.ResizeGrow n mode) r k h = resized view old new _ n (HasGrown view mode n old new) _ r k (grown view old new mode n k) h
+  flat_step flushes old new (C.ResizeShrink n) r k h = resized view old new _ n (HasShrunk view n old new) _ r k (shrunk view old new n k) h
 
   -- a run, on lists
-  pub flat_history : (old new : FormatAccess D) (calls : List Call) (replies : List Reply) → IsTrue (view (driver old)).abilities.keeps_data → IsRun view old calls replies new → IsFlatHistory (backed_value view old) (disk view old) calls replies (disk view new)
-  flat_history old new [] [] k h = ap (disk view) h
-  flat_history old new [] (r ∷ rs) k h = absurd h
-  flat_history old new (c ∷ cs) [] k h = absurd h
-  flat_history old new (c ∷ cs) (r ∷ rs) k h =
-      let s = step_kept view old h.0 c r h.1 in
+  pub flat_history : (flushes : Flushes D) (old new : FormatAccess D) (calls : List Call) (replies : List Reply) → IsTrue (view (driver old)).abilities.keeps_data → IsRun view flushes old calls replies new → IsFlatHistory (backed_value view old) (disk view old) calls replies (disk view new)
+  flat_history flushes old new [] [] k h = ap (disk view) h
+  flat_history flushes old new [] (r ∷ rs) k h = absurd h
+  flat_history flushes old new (c ∷ cs) [] k h = absurd h
+  flat_history flushes old new (c ∷ cs) (r ∷ rs) k h =
+      let s = step_kept view flushes old h.0 c r h.1 in
       let keeps : IsTrue (view (driver h.0)).abilities.keeps_data = rw s.kind.abilities k in
-      let rest = flat_history h.0 new cs rs keeps h.2 in
-      (disk view h.0, flat_step old h.0 c r k h.1, subst (λ (below : ℕ → Value). IsFlatHistory below (disk view h.0) cs rs (disk view new)) (same_backed view old h.0 s) rest)
+      let rest = flat_history flushes h.0 new cs rs keeps h.2 in
+      (disk view h.0, flat_step flushes old h.0 c r k h.1, subst (λ (below : ℕ → Value). IsFlatHistory below (disk view h.0) cs rs (disk view new)) (same_backed view old h.0 s) rest)

@@ -3,7 +3,7 @@ use Rattle.std.specs.Prelude.{IsTrue, IfErr, IfOk, OnOk, OnErr, IsErrOf}
 use Rattle.std.specs.Option.{option_copied}
 use Rattle.imago_storage.specs.Faults.{CountsFaults}
 use Rattle.imago_drivers.specs.Frame.{IsFramed, IsKind, IsUnchanged, ReachesNoMore}
-use Rattle.imago_drivers.specs.Causes.{Causes, Copies, IsSettled, EveryOperation}
+use Rattle.imago_drivers.specs.Causes.{Causes, Copies, IsSettled, IsOnRange}
 use Rattle.imago_drivers.specs.Done.{lending_reasons}
 use Rattle.imago_drivers.specs.Prepared.{IsPrepared}
 use Rattle.imago_drivers.specs.declared.mapping.PreparedDataMapping.{PreparedDataMapping}
@@ -19,7 +19,7 @@ use Rattle.imago_access.specs.declared.access.FormatAccess.{FormatAccess, Format
 use Rattle.imago_access.specs.Chain.{driver, backing, unboxed, disk_value, as_layer_below, lent_image}
 use Rattle.imago_access.specs.Lending.{with_driver}
 use Rattle.imago_access.specs.Calls.{Overflows, FailsTest, IsLoose, settles, ShowsFaults, IsRangeCall, IsWrite, devices_reliable, IsEnsured, IsPreparing}
-use Rattle.imago_access.specs.Writing.{HasWrittenAll}
+use Rattle.imago_access.specs.Writing.{CommitMayTakeMemory, HasWrittenAll}
 use Rattle.imago_access.proofs.Chains.{value_out}
 
 -- what a driver is lent, as the image below
@@ -101,7 +101,7 @@ reaches_same : {St : Type 0} (v : View St) → ReachesNoMore v v
 reaches_same v = λ p q w h. (w, h)
 
 -- settled for each operation, so for those
-settles_for : (op : Operation) (old new : Causes) (c d : Copies) (o n : ℕ) → IsSettled EveryOperation old new c d o n → IsSettled (settles op) old new c d o n
+settles_for : (op : Operation) (old new : Causes) (c d : Copies) (o n : ℕ) → IsSettled IsOnRange old new c d o n → IsSettled (settles op) old new c d o n
 settles_for op old new c d o n s = record {
   causes = λ of a m q k e t. s.causes of a m q k e t.0;
   copied = λ of a m q k p t. s.copied of a m q k p t.0;
@@ -131,7 +131,7 @@ module _ {D St T : Type 0} (view : D → View St) (x : FormatAccess D) (op : Ope
   pub passed_call : (d : D) (result : Result T Error) → (view (driver x)).abilities.is_writable ≡ true → o + n ≤ (view (driver x)).size → (Overflows op o n → ⊥)
       → (IsTrue (view (driver x)).abilities.keeps_data → IfOk result effect) → (IsTrue (view (driver x)).abilities.keeps_data → OnErr result remains)
       → ((IsLoose op → ⊥) → ReachesNoMore (view (driver x)) (view d))
-      → IfOk result (λ r. IsSettled (settles op) (view (driver x)).cause (view d).cause (view (driver x)).copies (view d).copies o (part r))
+      → IfOk result (λ r. IsSettled (settles op) (view (driver x)).limits.cause (view d).limits.cause (view (driver x)).limits.copies (view d).limits.copies o (part r))
       → IsFramed (view (driver x)) (view d) → (view d).pending ≡ None
       → ShowsFaults hidden (devices_reliable view x) (view (driver x)).fault_count (view d).fault_count result
       → IfErr result (allowed reasons) → IsRangeCall view op o n reasons hidden part effect remains x (with_driver x d) result
@@ -142,7 +142,7 @@ module _ {D St T : Type 0} (view : D → View St) (x : FormatAccess D) (op : Ope
         done = done;
         torn = torn;
         reaches = λ l. subst (λ (y : D). ReachesNoMore (view (driver x)) (view y)) (sym e) (reaches l);
-        settled = subst (λ (y : D). IfOk result (λ r. IsSettled (settles op) (view (driver x)).cause (view y).cause (view (driver x)).copies (view y).copies o (part r))) (sym e) settled;
+        settled = subst (λ (y : D). IfOk result (λ r. IsSettled (settles op) (view (driver x)).limits.cause (view y).limits.cause (view (driver x)).limits.copies (view y).limits.copies o (part r))) (sym e) settled;
         same_size = ap (λ (y : D). (view y).size) e ∙ framed.size;
         kept = record { below = backing_with x d; kind = subst (λ (y : D). IsKind (view (driver x)) (view y)) (sym e) framed.kind };
         nothing_pending = subst (λ (y : D). (view y).pending ≡ None) (sym e) spent;
@@ -151,9 +151,9 @@ module _ {D St T : Type 0} (view : D → View St) (x : FormatAccess D) (op : Ope
       }
 
 pub image_write : {D St : Type 0} (view : D → View St) (x : FormatAccess D) (d : D) (o : ℕ) (bytes : List ℕ) (result : Result Unit Error) (l : LayerBelow) → l ≡ lent_image view (backing x)
-    → (view (driver x)).abilities.is_writable ≡ true → o + length bytes ≤ (view (driver x)).size → HasWrittenAll l (view (driver x)) (view d) o bytes result → IsWrite view x (with_driver x d) o bytes result
+    → (view (driver x)).abilities.is_writable ≡ true → o + length bytes ≤ (view (driver x)).size → HasWrittenAll l (CommitMayTakeMemory view (driver x)) (view (driver x)) (view d) o bytes result → IsWrite view x (with_driver x d) o bytes result
 image_write view x d o bytes result l e w fits h =
-    let k = subst (λ (m : LayerBelow). HasWrittenAll m (view (driver x)) (view d) o bytes result) e h in
+    let k = subst (λ (m : LayerBelow). HasWrittenAll m (CommitMayTakeMemory view (driver x)) (view (driver x)) (view d) o bytes result) e h in
     passed_call view x Operation.Write o (length bytes) _ _ _ _ _ d result w fits (λ z. z)
     (λ keeps. on_ok result _ (ok_then result (λ c. changed_image view x d (λ a b. IsChanged o (length bytes) (into bytes) a b) c) (k.done keeps)))
     (λ keeps. err_more result _ _ (λ c. changed_image view x d (λ a b. IsChanged o (length bytes) (partly (into bytes)) a b) c) (k.torn keeps))
@@ -171,7 +171,7 @@ pub image_ensured : {D St : Type 0} (view : D → View St) (x : FormatAccess D) 
     → (IsTrue (view (driver x)).abilities.keeps_data → IfOk result (λ r. IsChanged o r.2 (overwritten w) (values l.at (view (driver x)).place) (values l.at (view d).place)))
     → (IsTrue (view (driver x)).abilities.keeps_data → OnErr result (IsChanged o n (overwritten w) (values l.at (view (driver x)).place) (values l.at (view d).place)))
     → ReachesNoMore (view (driver x)) (view d)
-    → IfOk result (λ r. IsSettled EveryOperation (view (driver x)).cause (view d).cause (view (driver x)).copies (view d).copies o r.2)
+    → IfOk result (λ r. IsSettled IsOnRange (view (driver x)).limits.cause (view d).limits.cause (view (driver x)).limits.copies (view d).limits.copies o r.2)
     → IsFramed (view (driver x)) (view d) → (view d).pending ≡ None
     → CountsFaults ((view (driver x)).abilities.is_reliable && l.is_reliable) (view (driver x)).fault_count (view d).fault_count result
     → IfErr result (allowed (lending_reasons (view (driver x)) l Operation.Write o n)) → IsEnsured view x (with_driver x d) o n w result
@@ -189,7 +189,7 @@ image_ensured view x d o n w result l h writable fits done torn reaches settled 
 pub image_preparing : {D St : Type 0} (view : D → View St) (x : FormatAccess D) (d : D) (o n : ℕ) (result : Result (PreparedDataMapping St) Error) (l : LayerBelow) → l ≡ lent_image view (backing x)
     → (view (driver x)).abilities.is_writable ≡ true → o + n ≤ (view (driver x)).size
     → IsUnchanged (view (driver x)) (view d) → OnErr result ((view d).pending ≡ None)
-    → IfOk result (λ m. IsSettled EveryOperation (view (driver x)).cause (view d).cause (view (driver x)).copies (view d).copies o m.length)
+    → IfOk result (λ m. IsSettled IsOnRange (view (driver x)).limits.cause (view d).limits.cause (view (driver x)).limits.copies (view d).limits.copies o m.length)
     → CountsFaults ((view (driver x)).abilities.is_reliable && l.is_reliable) (view (driver x)).fault_count (view d).fault_count result
     → IfErr result (allowed (lending_reasons (view (driver x)) l Operation.Write o n)) → IsPreparing view x (with_driver x d) o n result
 image_preparing {D = D} view x d o n result l h writable fits unchanged spent settled faults refusals =
@@ -200,7 +200,7 @@ image_preparing {D = D} view x d o n result l h writable fits unchanged spent se
       same_size = ap (λ (y : D). (view y).size) e ∙ unchanged.framed.size;
       unchanged = λ k. changed_image view x d (λ a b. (p : ℕ) → b p ≡ a p) (λ p. ap (shown (lent_image view (backing x)).at) (unchanged.places.same k p));
       reaches = subst (λ (y : D). ReachesNoMore (view (driver x)) (view y)) (sym e) unchanged.reaches;
-      settled = subst (λ (y : D). IfOk result (λ m. IsSettled EveryOperation (view (driver x)).cause (view y).cause (view (driver x)).copies (view y).copies o m.length)) (sym e) settled;
+      settled = subst (λ (y : D). IfOk result (λ m. IsSettled IsOnRange (view (driver x)).limits.cause (view y).limits.cause (view (driver x)).limits.copies (view y).limits.copies o m.length)) (sym e) settled;
       kept = record { below = backing_with x d; kind = subst (λ (y : D). IsKind (view (driver x)) (view y)) (sym e) unchanged.framed.kind };
       nothing_pending = err_more result _ _ (λ s. subst (λ (y : D). (view y).pending ≡ None) (sym e) s) spent;
       faults = subst (λ (y : D). CountsFaults (devices_reliable view x) (view (driver x)).fault_count (view y).fault_count result) (sym e) c;

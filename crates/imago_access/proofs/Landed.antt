@@ -108,12 +108,12 @@ module _ {D St : Type 0} (view : D → View St) (x : FormatAccess D) (o most : �
   pub descent_refused : ((d : D) → AreCauses (view d)) → 0 < most → (e : Error) → allowed (map_reasons (view (driver layer)) at left) e → allowed (chain_map_reasons view x o most) e
   descent_refused laws some = refused
     where
-      lifted : (e : Error) → (view (driver layer)).cause Map at (max left 1) e → chain_cause view x Map o (max most 1) e
+      lifted : (e : Error) → (view (driver layer)).limits.cause Map at (max left 1) e → chain_cause view x Map o (max most 1) e
       lifted e c =
           let a : at ≡ at + 0 = omega arith in
           let b : o + 0 ≡ o = omega arith in
           let n : max left 1 ≡ left = omega (arith, left_some some) in
-          let mapped = subst (λ (k : ℕ). (view (driver layer)).cause Map at k e) n c in
+          let mapped = subst (λ (k : ℕ). (view (driver layer)).limits.cause Map at k e) n c in
           let here = subst (λ (p : ℕ). chain_cause view layer Map p left e) a (cause_here view layer Map at left e mapped) in
           let up = subst (λ (p : ℕ). chain_cause view x Map p left e) b (down.causes Map 0 left e (left_some some) (omega arith) here) in
           chain_part view laws x Map o (max most 1) o left e (omega arith) (omega (arith, down.within)) up

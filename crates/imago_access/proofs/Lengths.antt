@@ -29,7 +29,7 @@ inner_length (S.Zero e) n most h = refl
 inner_length (S.Special o) n most h = refl
 
 -- what a driver answers, with the end going on to the end of the range
-pub own_length : {St : Type 0} (v : View St) (o most n : ℕ) (m : ShallowMapping) → IsEof m ↔ (v.place o ≡ End) → ((k : ℕ) × v.answers Map o most o k × (n ≡ min k most)) → IsOwnLength v o most (part_length m n most)
+pub own_length : {St : Type 0} (v : View St) (o most n : ℕ) (m : ShallowMapping) → IsEof m ↔ (v.place o ≡ End) → ((k : ℕ) × v.limits.answers Map o most o k × (n ≡ min k most)) → IsOwnLength v o most (part_length m n most)
 own_length v o most n m eof part = record {
   at_end = λ e. end_length m n most (eof.1 e);
   inside = λ f. (part.0, part.1, inner_length m n most (λ e. f (eof.0 e)) ∙ part.2);

@@ -51,7 +51,7 @@ stored_refused v s f w n = record {
   read_only = λ h. h;
   beyond_disk = λ h. h;
   range_overflow = λ h. h;
-  cause = λ e h at named. h at (λ i lt. let x = named i lt in (x.0, w, x.1));
+  cause = λ e h at named. h.1 at (λ i lt. let x = named i lt in (x.0, w, x.1));
   device = λ h. h;
   memory = λ h at named. h at (λ i lt. let x = named i lt in (x.0, w, x.1));
   foreign_mapping = λ h. h;
@@ -62,7 +62,7 @@ special_refused v f n = record {
   read_only = λ h. h;
   beyond_disk = λ h. h;
   range_overflow = λ h. h;
-  cause = λ e h at named. h at named;
+  cause = λ e h at named. h.1 at named;
   device = λ h. h;
   memory = λ h at named. h at named;
   foreign_mapping = λ h. h;

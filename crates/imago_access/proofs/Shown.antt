@@ -2,7 +2,7 @@ use Rattle.std.proofs.Common.{◌≡◌, ℕ, ◌+◌, ◌<◌, ◌≤◌, ◌�
 use Rattle.std.specs.Prelude.{IsTrue, IsErrOf, OnOk, OnErr}
 use Rattle.imago_storage.specs.declared.error.Error.{Error}
 use Rattle.imago_drivers.specs.declared.mapping.PreparedDataMapping.{PreparedDataMapping}
-use Rattle.imago_drivers.specs.Place.{Value, Place, Stored, AreStoredAt, SamePlaces, values, shown}
+use Rattle.imago_drivers.specs.Place.{Value, Place, Stored, PlacesAreWritableAt, SamePlaces, values, shown}
 use Rattle.imago_drivers.specs.Pending.{Pending, ShowsRound}
 use Rattle.imago_drivers.specs.View.{View}
 use Rattle.imago_drivers.specs.Laws.{IsLawful}
@@ -31,7 +31,7 @@ put_values old law below storage offset bytes torn keeps new k W = record {
 }
   where
     -- an offset outside of a range of writable ones stands at none of its bytes
-    outside : (o : ℕ) (named : AreStoredAt old.place storage offset (length bytes) o) (p : ℕ) → (p < o) ⊎ (o + length bytes ≤ p) → (b i : ℕ) (w : Bool) → i < length bytes → old.place p ≡ Stored b storage (offset + i) w → ⊥
+    outside : (o : ℕ) (named : PlacesAreWritableAt old.place storage offset (length bytes) o) (p : ℕ) → (p < o) ⊎ (o + length bytes ≤ p) → (b i : ℕ) (w : Bool) → i < length bytes → old.place p ≡ Stored b storage (offset + i) w → ⊥
     outside o named p out b i w lt e =
         let s = named i lt in
         let same : o + i ≡ p = law.own (o + i) p s.0 b storage (offset + i) w s.1 e in

@@ -9,7 +9,8 @@ use Rattle.imago_drivers.specs.Pending.{ShowsRound}
 use Rattle.imago_drivers.specs.LayerBelow.{LayerBelow}
 use Rattle.imago_drivers.specs.View.{View}
 use Rattle.imago_drivers.specs.Reasons.{allowed}
-use Rattle.imago_drivers.specs.Frame.{IsKind, IsUnchanged}
+use Rattle.imago_drivers.specs.Frame.{IsKind}
+use Rattle.imago_drivers.specs.Calls.{IsFlush, IsGrowth, IsShrink}
 use Rattle.imago_drivers.specs.Resized.{IsGrown, IsCut, IsSameDisk, grown_into}
 use Rattle.imago_drivers.specs.Done.{lending_reasons, driver_reasons}
 use Rattle.imago_access.specs.declared.access.FormatAccess.{FormatAccess}
@@ -74,15 +75,14 @@ module _ {D St : Type 0} (view : D → View St) (x : FormatAccess D) (d : D) whe
     refusals = refused_then result _ _ (λ e h. inr h) refusals;
   }
 
-  pub flushed_image : (result : Result Unit Error) → IsUnchanged (view (driver x)) (view d) → (view d).pending ≡ (view (driver x)).pending
-      → CountsFaults (view (driver x)).abilities.is_reliable (view (driver x)).fault_count (view d).fault_count result
-      → IfErr result (allowed (driver_reasons (view (driver x)) Flush 0 0)) → IsFlushed view x (with_driver x d) result
-  flushed_image result h p faults refusals = record {
-    unchanged = same_image h.framed.size h.places;
-    kept = kept_with h.framed.kind;
-    pending = with (λ (y : D). (view y).pending ≡ (view (driver x)).pending) p;
-    faults = with (λ (y : D). CountsFaults (view (driver x)).abilities.is_reliable (view (driver x)).fault_count (view y).fault_count result) faults;
-    refusals = refusals;
+  pub flushed_image : (relation : D → D → Result Unit Error → Type 0) (result : Result Unit Error) → IsFlush view relation (driver x) d result → IsFlushed view relation x (with_driver x d) result
+  flushed_image relation result h = record {
+    performed = with (λ (y : D). relation (driver x) y result) h.performed;
+    unchanged = same_image h.unchanged.framed.size h.unchanged.places;
+    kept = kept_with h.unchanged.framed.kind;
+    pending = with (λ (y : D). (view y).pending ≡ (view (driver x)).pending) h.pending;
+    faults = with (λ (y : D). CountsFaults (view (driver x)).abilities.is_reliable (view (driver x)).fault_count (view y).fault_count result) h.faults;
+    refusals = h.refusals;
   }
 
   -- what a commit will show round the prepared range is what the image shows there

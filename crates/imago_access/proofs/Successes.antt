@@ -7,17 +7,17 @@ use Rattle.imago_drivers.specs.declared.format.PreallocateMode.{PreallocateMode}
 use Rattle.imago_drivers.specs.Place.{Value}
 use Rattle.imago_drivers.specs.LayerBelow.{ReadBound}
 use Rattle.imago_drivers.specs.Operation.{Operation, Map, Write, Grow, Shrink}
-use Rattle.imago_drivers.specs.View.{View}
+use Rattle.imago_drivers.specs.View.{View, EndsIn}
 use Rattle.imago_drivers.specs.Laws.{IsLawful, AreCauses}
 use Rattle.imago_drivers.specs.Reasons.{Reasons, allowed}
 use Rattle.imago_access.specs.declared.access.FormatAccess.{FormatAccess}
 use Rattle.imago_access.specs.Chain.{driver, disk_value, is_reliable, chain_cause, read_cause, read_reasons, no_memory_to_read}
 use Rattle.imago_access.specs.Resolved.{chain_map_reasons}
 use Rattle.imago_access.specs.ChainLaws.{image_is_layer}
-use Rattle.imago_access.specs.Calls.{FailsTest, ShowsFaults, range_refusals, devices_reliable}
+use Rattle.imago_access.specs.Calls.{FailsTest, ShowsFaults, range_refusals, write_refusals, devices_reliable, IsWrite}
 use Rattle.imago_drivers.specs.Done.{driver_reasons}
 use Rattle.imago_access.specs.Sizes.{IsResize, HasGrown, HasShrunk, FailsWritable}
-use Rattle.imago_access.specs.Success.{Succeeds, IsReadable, IsMildRefusal, IsReadyToWrite, IsReadyToResize, HasSoundDevice, SucceedsIfOffered, change_cause}
+use Rattle.imago_access.specs.Success.{Succeeds, IsReadable, IsMildRefusal, IsReadyToWrite, IsReadyToResize, HasSoundDevice, TakesNoneToWrite, SucceedsIfOffered, change_cause}
 use Rattle.imago_access.proofs.Images.{both_ways, not_failed}
 
 -- a refusal that is for nothing else is for want of memory, or has a cause
@@ -100,15 +100,29 @@ module _ {D St : Type 0} (view : D → View St) where
       (cause_or_memory (chain_map_reasons view x o n) e (λ z. z) (λ z. z) (λ z. z) (λ d z. both_ways (is_reliable view x) r z) (λ d z. z) h))
 
   -- a call on a range, whatever it answers
-  pub range_succeeds : {T : Type 0} (old new : FormatAccess D) (o n : ℕ) (result : Result T Error) → IsReadyToWrite view old o n
+  pub range_succeeds : {T takes_none : Type 0} (old new : FormatAccess D) (o n : ℕ) (r : Reasons) (result : Result T Error) → IsReadyToWrite view old o n
+      → (r.read_only → ⊥) → (r.beyond_disk → EndsIn (view (driver old)).place o n) → (r.range_overflow → ⊥) → (r.foreign_mapping → ⊥)
+      → ((e : Error) → r.cause e → change_cause view old Write o n e) → (r.memory → takes_none → ⊥)
       → CountsFaults (devices_reliable view old) (view (driver old)).fault_count (view (driver new)).fault_count result
-      → IfErr result (λ e. FailsTest (view (driver old)) Write o n e ⊎ allowed (range_refusals view old Write o n) e) → Succeeds ((view (driver old)).no_memory Write o n) result
-  range_succeeds old new o n (Ok t) g f h = succeeds (Ok t) tt
-  range_succeeds {T} old new o n (Err e) g f h = succeeds (Err e) (⊎_elim
+      → IfErr result (λ e. FailsTest (view (driver old)) Write o n e ⊎ allowed r e) → Succeeds takes_none result
+  range_succeeds old new o n r (Ok t) g ro bd ov fo over m f h = succeeds (Ok t) tt
+  range_succeeds {T} old new o n r (Err e) g ro bd ov fo over m f h = succeeds (Err e) (⊎_elim
       (λ k. absurd (not_failed (view (driver old)) Write o n g.sound.writable g.inside (λ z. z) e k))
-      (λ a. ⊎_elim (λ m. m) (λ k. absurd (g.no_cause e k))
-      (cause_or_memory (range_refusals view old Write o n) e (λ z. z) g.no_end (λ z. z) (λ d z. no_fault {T = T} (devices_reliable view old) (view (driver old)).fault_count (view (driver new)).fault_count e g.sound.reliable g.sound.counts f d) (λ d z. z) a))
+      (λ a. ⊎_elim (λ w. (w.0, m w.1)) (λ k. absurd (g.no_cause e (over e k)))
+      (cause_or_memory r e ro (λ z. g.no_end (bd z)) ov (λ d z. no_fault {T = T} (devices_reliable view old) (view (driver old)).fault_count (view (driver new)).fault_count e g.sound.reliable g.sound.counts f d) (λ d z. fo z) a))
       h)
+
+  -- a data mapping, or the preparing of one
+  pub mapped_succeeds : {T : Type 0} (old new : FormatAccess D) (o n : ℕ) (result : Result T Error) → IsReadyToWrite view old o n
+      → CountsFaults (devices_reliable view old) (view (driver old)).fault_count (view (driver new)).fault_count result
+      → IfErr result (λ e. FailsTest (view (driver old)) Write o n e ⊎ allowed (range_refusals view old Write o n) e) → Succeeds ((view (driver old)).limits.no_memory Write o n) result
+  mapped_succeeds old new o n result g f h = range_succeeds old new o n (range_refusals view old Write o n) result g (λ z. z) (λ z. z) (λ z. z) (λ z. z) (λ e c. c) (λ k none. k none) f h
+
+  pub write_succeeds : (old new : FormatAccess D) (o : ℕ) (bytes : List ℕ) (result : Result Unit Error) → IsReadyToWrite view old o (length bytes)
+      → IsWrite view old new o bytes result → Succeeds (TakesNoneToWrite view old o (length bytes)) result
+  write_succeeds old new o bytes result g h =
+      range_succeeds old new o (length bytes) (write_refusals view old o (length bytes)) result g (λ z. z) (λ z. z) (λ z. z) (λ z. z) (λ e c. c)
+      (λ k none. ⊎_elim (λ taken. taken (none.0, none.1)) (λ may. none.2 may) k) (counts_faults _ _ _ result h.faults) h.refusals
 
   -- what is left of a refusal of a resize that may count on its devices
   resize_left : (old new : FormatAccess D) (op : Operation) (n : ℕ) (r : Reasons) (b : Bool) (e : Error) → IsReadyToResize view old op n → b ≡ true
@@ -122,7 +136,7 @@ module _ {D St : Type 0} (view : D → View St) where
       refused
 
   pub growth_succeeds : (old new : FormatAccess D) (mode : PreallocateMode) (n : ℕ) (result : Result Unit Error) → IsReadyToResize view old (Grow mode) n
-      → IsResize view (Grow mode) n (HasGrown view mode n old new) old new result → SucceedsIfOffered ((view (driver old)).abilities.offers (Grow mode)) ((view (driver old)).no_memory (Grow mode) n 0) result
+      → IsResize view (Grow mode) n (HasGrown view mode n old new) old new result → SucceedsIfOffered ((view (driver old)).abilities.offers (Grow mode)) ((view (driver old)).limits.no_memory (Grow mode) n 0) result
   growth_succeeds old new mode n (Ok t) g h = succeeds_if_offered _ (Ok t) tt
   growth_succeeds old new mode n (Err e) g h = succeeds_if_offered _ (Err e)
       (resize_left old new (Grow mode) n (record (range_refusals view old (Grow mode) n 0) { beyond_disk = ⊥ }) (devices_reliable view old) e g g.sound.reliable (λ z. z) (λ z. z) (λ z. z) (λ z. z) (λ z c. c) h.faults h.refusals)
@@ -132,7 +146,7 @@ module _ {D St : Type 0} (view : D → View St) where
   and_left false b h = h
 
   pub cut_succeeds : (old new : FormatAccess D) (n : ℕ) (result : Result Unit Error) → IsReadyToResize view old Shrink n
-      → IsResize view Shrink n (HasShrunk view n old new) old new result → SucceedsIfOffered ((view (driver old)).abilities.offers Shrink) ((view (driver old)).no_memory Shrink n 0) result
+      → IsResize view Shrink n (HasShrunk view n old new) old new result → SucceedsIfOffered ((view (driver old)).abilities.offers Shrink) ((view (driver old)).limits.no_memory Shrink n 0) result
   cut_succeeds old new n (Ok t) g h = succeeds_if_offered _ (Ok t) tt
   cut_succeeds old new n (Err e) g h = succeeds_if_offered _ (Err e)
       (resize_left old new Shrink n (driver_reasons (view (driver old)) Shrink n 0) (view (driver old)).abilities.is_reliable e g (and_left _ _ g.sound.reliable) (λ z. z) (λ z. z) (λ z. z) (λ z. z) (λ z c. inl c) h.faults h.refusals)

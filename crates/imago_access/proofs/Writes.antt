@@ -7,15 +7,14 @@ use Rattle.imago_drivers.specs.Operation.{Operation}
 use Rattle.imago_drivers.specs.Place.{Value, Byte, values, shown}
 use Rattle.imago_drivers.specs.Reasons.{allowed}
 use Rattle.imago_drivers.specs.LayerBelow.{LayerBelow}
-use Rattle.imago_drivers.specs.Causes.{Causes, Copies, IsSettled, EveryOperation}
+use Rattle.imago_drivers.specs.Causes.{Causes, Copies, IsSettled, IsOnRange}
 use Rattle.imago_drivers.specs.View.{View}
 use Rattle.imago_drivers.specs.Laws.{AreCauses}
 use Rattle.imago_drivers.specs.Changes.{Change, IsChanged, into, partly}
 use Rattle.imago_drivers.specs.Frame.{IsFramed, IsUnchanged, ReachesNoMore}
-use Rattle.imago_drivers.specs.Done.{lending_reasons}
-use Rattle.imago_access.specs.Writing.{HasWritten, HasWrittenAll}
+use Rattle.imago_access.specs.Writing.{CommitMayTakeMemory, first_reasons, write_reasons, HasWritten, HasWrittenAll}
 use Rattle.imago_access.proofs.Weaker.{IsWeaker, allowed_more}
-use Rattle.imago_access.proofs.Written.{framed_twice}
+use Rattle.imago_access.proofs.Written.{kind_twice, framed_twice}
 
 and_left : (a b : Bool) → IsTrue (a && b) → IsTrue a
 and_left true b h = refl
@@ -53,11 +52,11 @@ reaches_twice a b c f g = λ p q w h. let x = g p q w h in f p q x.0 x.1
 of_err : {T : Type 0} (e x : Error) → IsErrOf {T = T} (Err e) x → e ≡ x
 of_err e x h = cc
 
-module _ {St : Type 0} (l : LayerBelow) (old new : View St) (o : ℕ) (bytes : List ℕ) where
+module _ {St : Type 0} (l : LayerBelow) (commit_memory : Type 0) (old new : View St) (o : ℕ) (bytes : List ℕ) where
   -- a refusal with nothing written for it but what may be torn
   pub refused_first : (e : Error) → (IsTrue old.abilities.keeps_data → IsChanged o (length bytes) (partly (into bytes)) (values l.at old.place) (values l.at new.place))
       → ReachesNoMore old new → IsFramed old new → new.pending ≡ None → GoesOn (old.abilities.is_reliable && l.is_reliable) old.fault_count new.fault_count → (e ≡ Error.Device → RoseOrSaturated old.fault_count new.fault_count)
-      → allowed (lending_reasons old l Operation.Write o (length bytes)) e → HasWritten l old new o bytes (Err e)
+      → allowed (first_reasons old l commit_memory o (length bytes)) e → HasWritten l commit_memory old new o bytes (Err e)
   refused_first e torn reaches framed spent goes device reasons = record {
     some = tt;
     done = λ k. tt;
@@ -72,8 +71,8 @@ module _ {St : Type 0} (l : LayerBelow) (old new : View St) (o : ℕ) (bytes : L
   }
 
   pub wrote_first : (n : ℕ) → 0 < n → n ≤ length bytes → (IsTrue old.abilities.keeps_data → IsChanged o n (into bytes) (values l.at old.place) (values l.at new.place))
-      → (old.no_memory Operation.Write o (length bytes) → n ≡ length bytes) → IsSettled EveryOperation old.cause new.cause old.copies new.copies o n
-      → ReachesNoMore old new → IsFramed old new → new.pending ≡ None → GoesOn (old.abilities.is_reliable && l.is_reliable) old.fault_count new.fault_count → HasWritten l old new o bytes (Ok n)
+      → (old.limits.whole Operation.Write o (length bytes) → n ≡ length bytes) → IsSettled IsOnRange old.limits.cause new.limits.cause old.limits.copies new.limits.copies o n
+      → ReachesNoMore old new → IsFramed old new → new.pending ≡ None → GoesOn (old.abilities.is_reliable && l.is_reliable) old.fault_count new.fault_count → HasWritten l commit_memory old new o bytes (Ok n)
   wrote_first n some within done whole settled reaches framed spent goes = record {
     some = (some, within);
     done = done;
@@ -96,14 +95,14 @@ unchanged_values old new below o n how u k =
 pub record IsWritingOn {D St : Type 0} (view : D → View St) (l : LayerBelow) (old mid : D) (o : ℕ) (bytes : List ℕ) (count : ℕ) : Type 0 where
   pub within : count ≤ length bytes
   pub done : IsTrue (view old).abilities.keeps_data → IsChanged o count (into bytes) (values l.at (view old).place) (values l.at (view mid).place)
-  pub settled : IsSettled EveryOperation (view old).cause (view mid).cause (view old).copies (view mid).copies o count
+  pub settled : IsSettled IsOnRange (view old).limits.cause (view mid).limits.cause (view old).limits.copies (view mid).limits.copies o count
   pub reaches : ReachesNoMore (view old) (view mid)
   pub framed : IsFramed (view old) (view mid)
   pub spent : (view mid).pending ≡ None
   pub goes : GoesOn ((view old).abilities.is_reliable && l.is_reliable) (view old).fault_count (view mid).fault_count
-  pub once : (view old).no_memory Operation.Write o (length bytes) → ((count ≡ 0) × (mid ≡ old)) ⊎ (count ≡ length bytes)
+  pub once : (view old).limits.whole Operation.Write o (length bytes) → ((count ≡ 0) × (mid ≡ old)) ⊎ (count ≡ length bytes)
 
-settled_next : (old mid new : Causes) (c d f : Copies) (o m n : ℕ) → IsSettled EveryOperation old mid c d o m → IsSettled EveryOperation mid new d f (o + m) n → IsSettled EveryOperation old new c f o (m + n)
+settled_next : (old mid new : Causes) (c d f : Copies) (o m n : ℕ) → IsSettled IsOnRange old mid c d o m → IsSettled IsOnRange mid new d f (o + m) n → IsSettled IsOnRange old new c f o (m + n)
 settled_next old mid new c d f o m n s t = record {
   causes = λ op a len q k e r h i j b x. s.causes op a len a len e r h (omega arith) (omega arith) (omega arith) (t.causes op a len q k e r (omega arith) (omega arith) j b x);
   copied = λ op a len q k p r h i j b x. s.copied op a len a len p r h (omega arith) (omega arith) (omega arith) (t.copied op a len q k p r (omega arith) (omega arith) j b x);
@@ -186,7 +185,7 @@ module _ {D St : Type 0} (view : D → View St) (l : LayerBelow) (old : D) (o : 
     next_goes : GoesOn ((view mid).abilities.is_reliable && l.is_reliable) (view mid).fault_count (view new).fault_count → GoesOn ((view old).abilities.is_reliable && l.is_reliable) (view old).fault_count (view new).fault_count
     next_goes h = goes_on_twice _ _ _ _ sofar.goes (record { later = h.later; reliable = λ t. h.reliable (rw sofar.framed.kind.abilities t) })
 
-    pub wrote_next : (n : ℕ) → HasWritten l (view mid) (view new) (o + done) (take (length bytes - done) (drop done bytes)) (Ok n) → IsWritingOn view l old new o bytes (done + n)
+    pub wrote_next : (n : ℕ) → HasWritten l (CommitMayTakeMemory view mid) (view mid) (view new) (o + done) (take (length bytes - done) (drop done bytes)) (Ok n) → IsWritingOn view l old new o bytes (done + n)
     wrote_next n h =
         let len = rest_length done bytes in
         let fit : done + n ≤ length bytes = omega (arith, h.some.1, sofar.within) in
@@ -202,35 +201,38 @@ module _ {D St : Type 0} (view : D → View St) (l : LayerBelow) (old : D) (o : 
               (λ z.
               let a : o + done ≡ o = omega (arith, z.0) in
               let b : length (take (length bytes - done) (drop done bytes)) ≡ length bytes = omega (arith, z.0) in
-              let c : (view mid).no_memory Operation.Write o (length bytes) = subst (λ (d : D). (view d).no_memory Operation.Write o (length bytes)) (sym z.1) free in
+              let c : (view mid).limits.whole Operation.Write o (length bytes) = subst (λ (d : D). (view d).limits.whole Operation.Write o (length bytes)) (sym z.1) free in
               let d : n ≡ length (take (length bytes - done) (drop done bytes)) = h.whole (rw (a, b) c) in
               inr (omega (arith, z.0)))
               (λ z. let y : n ≡ 0 = omega arith in inr (omega arith))
               (sofar.once free);
         }
 
-    weaker : done < length bytes → IsWeaker (lending_reasons (view mid) l Operation.Write (o + done) (length bytes - done)) (lending_reasons (view old) l Operation.Write o (length bytes))
+    weaker : done < length bytes → IsWeaker (first_reasons (view mid) l (CommitMayTakeMemory view mid) (o + done) (length bytes - done)) (write_reasons (view old) l (CommitMayTakeMemory view old) o (length bytes))
     weaker lt = record {
       read_only = λ h. h;
       beyond_disk = λ h. (h.0, (omega (arith, h.1), omega (arith, h.1)), sofar.framed.ends (h.0) (h.2));
       range_overflow = λ h. h;
       cause = λ e c. ⊎_elim
           (λ a. inl (sofar.settled.causes Operation.Write o (length bytes) (o + done) (length bytes - done) e tt (omega arith) (omega arith) (omega arith) (omega arith) a))
-          (λ a. inr (a.0, a.1, (λ p i. sofar.settled.copied Operation.Write o (length bytes) (o + done) (length bytes - done) p tt (omega arith) (omega arith) (omega arith) (omega arith) (a.2 p i)), a.3))
+          (λ a. inr (a.0, a.1, a.2, (λ p i. sofar.settled.copied Operation.Write o (length bytes) (o + done) (length bytes - done) p tt (omega arith) (omega arith) (omega arith) (omega arith) (a.3 p i)), a.4))
           c;
       device = λ h. h;
-      memory = λ h free. ⊎_elim
+      memory = λ h. ⊎_elim
+          (λ taken. inl (λ free. ⊎_elim
           (λ z.
           let a : o + done ≡ o = omega (arith, z.0) in
           let b : length bytes - done ≡ length bytes = omega (arith, z.0) in
-          let c : (view mid).no_memory Operation.Write o (length bytes) = subst (λ (d : D). (view d).no_memory Operation.Write o (length bytes)) (sym z.1) free in
-          h (rw (a, b) c))
+          let c : (view mid).limits.no_memory Operation.Write o (length bytes) = subst (λ (d : D). (view d).limits.no_memory Operation.Write o (length bytes)) (sym z.1) free.1 in
+          taken (rw (a, b) c))
           (λ z. absurd (omega arith))
-          (sofar.once free);
+          (sofar.once free.0)))
+          (λ may. inr (may.0, kind_twice (view old) (view mid) (view may.0) sofar.framed.kind may.1, may.2))
+          h;
       foreign_mapping = λ h. h;
     }
 
-    pub refused_next : (e : Error) → done < length bytes → HasWritten l (view mid) (view new) (o + done) (take (length bytes - done) (drop done bytes)) (Err e) → HasWrittenAll l (view old) (view new) o bytes (Err e)
+    pub refused_next : (e : Error) → done < length bytes → HasWritten l (CommitMayTakeMemory view mid) (view mid) (view new) (o + done) (take (length bytes - done) (drop done bytes)) (Err e) → HasWrittenAll l (CommitMayTakeMemory view old) (view old) (view new) o bytes (Err e)
     refused_next e lt h =
         let len = rest_length done bytes in
         let whole : done + (length bytes - done) ≡ length bytes = omega arith in
@@ -247,11 +249,11 @@ module _ {D St : Type 0} (view : D → View St) (l : LayerBelow) (old : D) (o : 
           refusals = allowed_more _ _ (weaker lt) e (rw len at h.refusals);
         }
 
-  pub all_written : (new : D) (done : ℕ) → done ≡ length bytes → IsWritingOn view l old new o bytes done → HasWrittenAll l (view old) (view new) o bytes (Ok tt)
+  pub all_written : (new : D) (done : ℕ) → done ≡ length bytes → IsWritingOn view l old new o bytes done → HasWrittenAll l (CommitMayTakeMemory view old) (view old) (view new) o bytes (Ok tt)
   all_written new done e h = record {
     done = λ k. subst (λ (n : ℕ). IsChanged o n (into bytes) (values l.at (view old).place) (values l.at (view new).place)) e (h.done k);
     torn = λ k. tt;
-    settled = subst (λ (n : ℕ). IsSettled EveryOperation (view old).cause (view new).cause (view old).copies (view new).copies o n) e h.settled;
+    settled = subst (λ (n : ℕ). IsSettled IsOnRange (view old).limits.cause (view new).limits.cause (view old).limits.copies (view new).limits.copies o n) e h.settled;
     reaches = h.reaches;
     framed = h.framed;
     spent = h.spent;

@@ -5,28 +5,32 @@ use Rattle.imago_storage.specs.declared.error.Error.{Error}
 use Rattle.imago_storage.specs.declared.error.Error.TheVariants as E
 use Rattle.imago_drivers.specs.Operation.{Operation}
 use Rattle.imago_drivers.specs.declared.mapping.PreparedDataMapping.{PreparedDataMapping}
-use Rattle.imago_drivers.specs.Place.{Value, Byte, Stored, values, shown, AreStoredAt, SamePlaces}
+use Rattle.imago_drivers.specs.Place.{Value, Byte, Stored, values, shown, PlacesAreWritableAt, SamePlaces}
 use Rattle.imago_drivers.specs.Reasons.{allowed}
 use Rattle.imago_drivers.specs.LayerBelow.{LayerBelow}
-use Rattle.imago_drivers.specs.Causes.{Causes, Copies, IsSettled, EveryOperation}
-use Rattle.imago_drivers.specs.Pending.{Pending, IsOwn, ShowsRound}
+use Rattle.imago_drivers.specs.Causes.{Causes, Copies, IsSettled, IsOnRange}
+use Rattle.imago_drivers.specs.Pending.{Pending, IsOwn, ShowsRound, StaysPending}
 use Rattle.imago_drivers.specs.View.{View}
 use Rattle.imago_drivers.specs.Laws.{IsLawful}
 use Rattle.imago_drivers.specs.Changes.{Change, IsChanged, or_torn, into, partly}
-use Rattle.imago_drivers.specs.Frame.{IsFramed, IsUnchanged}
-use Rattle.imago_drivers.specs.Done.{lending_reasons, mapping_write_reasons}
+use Rattle.imago_drivers.specs.Frame.{IsKind, IsFramed, IsUnchanged}
+use Rattle.imago_drivers.specs.Done.{mapping_write_reasons}
 use Rattle.imago_drivers.specs.Prepared.{IsPrepared, IsPut, is_written, is_foreign, is_foreign_write, is_for}
 use Rattle.imago_drivers.specs.Commit.{is_committed, commit_reasons, prepared_bytes}
+use Rattle.imago_access.specs.Writing.{first_reasons}
 
-pub settled_twice : (old mid new : Causes) (c d f : Copies) (o n : ℕ) → IsSettled EveryOperation old mid c d o n → IsSettled EveryOperation mid new d f o n → IsSettled EveryOperation old new c f o n
+pub settled_twice : (old mid new : Causes) (c d f : Copies) (o n : ℕ) → IsSettled IsOnRange old mid c d o n → IsSettled IsOnRange mid new d f o n → IsSettled IsOnRange old new c f o n
 settled_twice old mid new c d f o n s t = record {
   causes = λ op a len q m e r h i j k x. s.causes op a len a len e r h i (omega arith) (omega arith) (t.causes op a len q m e r h i j k x);
   copied = λ op a len q m p r h i j k x. s.copied op a len a len p r h i (omega arith) (omega arith) (t.copied op a len q m p r h i j k x);
 }
 
+pub kind_twice : {St : Type 0} (a b c : View St) → IsKind a b → IsKind b c → IsKind a c
+kind_twice a b c f g = record { abilities = g.abilities ∙ f.abilities; store_count = g.store_count ∙ f.store_count; store_features = λ i. g.store_features i ∙ f.store_features i }
+
 pub framed_twice : {St : Type 0} (a b c : View St) → IsFramed a b → IsFramed b c → IsFramed a c
 framed_twice a b c f g = record {
-  kind = record { abilities = g.kind.abilities ∙ f.kind.abilities; store_count = g.kind.store_count ∙ f.kind.store_count; store_features = λ i. g.kind.store_features i ∙ f.kind.store_features i };
+  kind = kind_twice a b c f.kind g.kind;
   size = g.size ∙ f.size;
   ends = λ p h. f.ends p (g.ends p h);
 }
@@ -121,7 +125,7 @@ module _ {St : Type 0} (old mid wrote : View St) (below : ℕ → Value) (o : �
   never_foreign_commit torn W f = not_foreign_at torn m.state refl W f
 
   none_pending : (torn : Bool) (st : Option St) → m.state ≡ st → is_written st torn mid wrote m 0 written → st ≡ None → wrote.pending ≡ None
-  none_pending torn None e W h = W.1 ∙ (P.direct e).0
+  none_pending torn None e W h = subst (λ (p : Option (Pending St)). StaysPending mid.abilities.keeps_data p wrote.pending) (P.direct e).0 W.1
   none_pending torn (Some s) e W h = let z : ⊥ = cc in absurd z
 
   spent_at : (torn : Bool) (new : Option (Pending St)) (st : Option St) → m.state ≡ st → is_written m.state torn mid wrote m 0 written → (IsOwn wrote.pending m → new ≡ None) → (m.state ≡ None → new ≡ wrote.pending) → new ≡ None
@@ -133,23 +137,23 @@ module _ {St : Type 0} (old mid wrote : View St) (below : ℕ → Value) (o : �
   is_spent torn new W own other = spent_at torn new m.state refl W own other
 
   -- what the write may be refused for, the whole may
-  module _ (l : LayerBelow) (S : IsSettled EveryOperation old.cause mid.cause old.copies mid.copies o m.length) where
-    pub write_refused : (n : ℕ) → n ≡ m.length → (e : Error) → (e ≡ Error.ForeignMapping → ⊥) → allowed (mapping_write_reasons mid m 0 n) e → allowed (lending_reasons old l Operation.Write o (length bytes)) e
+  module _ (l : LayerBelow) (commit_memory : Type 0) (S : IsSettled IsOnRange old.limits.cause mid.limits.cause old.limits.copies mid.limits.copies o m.length) where
+    pub write_refused : (n : ℕ) → n ≡ m.length → (e : Error) → (e ≡ Error.ForeignMapping → ⊥) → allowed (mapping_write_reasons mid m 0 n) e → allowed (first_reasons old l commit_memory o (length bytes)) e
     write_refused n len = reasons
       where
         for : is_for mid m m.state 0 n o
         for = subst (λ (c : ℕ). is_for mid m m.state 0 c o) (sym len) is_at_start
 
-        earlier : (x : Error) → ((p : ℕ) → is_for mid m m.state 0 n p → mid.cause Operation.Write p n x) → old.cause Operation.Write o (length bytes) x
+        earlier : (x : Error) → ((p : ℕ) → is_for mid m m.state 0 n p → mid.limits.cause Operation.Write p n x) → old.limits.cause Operation.Write o (length bytes) x
         earlier x c = S.causes Operation.Write o (length bytes) o n x tt (omega arith) (omega (arith, P.within)) (omega arith) (omega (arith, P.within)) (c o for)
 
-        reasons : (x : Error) → (x ≡ Error.ForeignMapping → ⊥) → allowed (mapping_write_reasons mid m 0 n) x → allowed (lending_reasons old l Operation.Write o (length bytes)) x
-        reasons E.WrapAround own a = inl (earlier Error.WrapAround a)
-        reasons E.InvalidData own a = inl (earlier Error.InvalidData a)
-        reasons E.Unsupported own a = inl (earlier Error.Unsupported a)
-        reasons E.NoAccess own a = inl (earlier Error.NoAccess a)
+        reasons : (x : Error) → (x ≡ Error.ForeignMapping → ⊥) → allowed (mapping_write_reasons mid m 0 n) x → allowed (first_reasons old l commit_memory o (length bytes)) x
+        reasons E.WrapAround own a = inl (earlier Error.WrapAround a.1)
+        reasons E.InvalidData own a = inl (earlier Error.InvalidData a.1)
+        reasons E.Unsupported own a = inl (earlier Error.Unsupported a.1)
+        reasons E.NoAccess own a = inl (earlier Error.NoAccess a.1)
         reasons E.Device own a = tt
-        reasons E.Memory own a = λ free. let w = P.whole free in let z : n ≡ length bytes = len ∙ w.0 in a o for (subst (λ (c : ℕ). mid.no_memory Operation.Write o c) (sym z) w.2)
+        reasons E.Memory own a = inl (λ free. a o for (subst (λ (c : ℕ). mid.limits.no_memory Operation.Write o c) (sym len) (P.no_memory free).1))
         reasons E.ForeignMapping own a = own refl
         reasons E.ReadOnly own a = a
         reasons E.BeyondDisk own a = absurd a
@@ -158,23 +162,24 @@ module _ {St : Type 0} (old mid wrote : View St) (below : ℕ → Value) (o : �
         reasons E.NotFound own a = a
 
     -- what the commit may be refused for, the whole may
-    pub commit_refused : (torn : Bool) → is_written m.state torn mid wrote m 0 written → IsSettled EveryOperation mid.cause wrote.cause mid.copies wrote.copies o m.length
-        → (e : Error) → (e ≡ Error.ForeignMapping → ⊥) → allowed (commit_reasons wrote m) e → allowed (lending_reasons old l Operation.Write o (length bytes)) e
-    commit_refused torn W T = reasons
+    pub commit_refused : (torn : Bool) → is_written m.state torn mid wrote m 0 written → IsSettled IsOnRange mid.limits.cause wrote.limits.cause mid.limits.copies wrote.limits.copies o m.length
+        → (wrote.limits.commit_memory → commit_memory)
+        → (e : Error) → (e ≡ Error.ForeignMapping → ⊥) → allowed (commit_reasons wrote m) e → allowed (first_reasons old l commit_memory o (length bytes)) e
+    commit_refused torn W T may = reasons
       where
-        both : IsSettled EveryOperation old.cause wrote.cause old.copies wrote.copies o m.length
-        both = settled_twice old.cause mid.cause wrote.cause old.copies mid.copies wrote.copies o m.length S T
+        both : IsSettled IsOnRange old.limits.cause wrote.limits.cause old.limits.copies wrote.limits.copies o m.length
+        both = settled_twice old.limits.cause mid.limits.cause wrote.limits.cause old.limits.copies mid.limits.copies wrote.limits.copies o m.length S T
 
-        earlier : (x : Error) → ((p : ℕ) → is_for wrote m m.state 0 m.length p → wrote.cause Operation.Write p m.length x) → old.cause Operation.Write o (length bytes) x
+        earlier : (x : Error) → ((p : ℕ) → is_for wrote m m.state 0 m.length p → wrote.limits.cause Operation.Write p m.length x) → old.limits.cause Operation.Write o (length bytes) x
         earlier x c = both.causes Operation.Write o (length bytes) o m.length x tt (omega arith) (omega (arith, P.within)) (omega arith) (omega (arith, P.within)) (c o (is_at_start_after torn W))
 
-        reasons : (x : Error) → (x ≡ Error.ForeignMapping → ⊥) → allowed (commit_reasons wrote m) x → allowed (lending_reasons old l Operation.Write o (length bytes)) x
-        reasons E.WrapAround own a = inl (earlier Error.WrapAround a)
-        reasons E.InvalidData own a = inl (earlier Error.InvalidData a)
-        reasons E.Unsupported own a = inl (earlier Error.Unsupported a)
-        reasons E.NoAccess own a = inl (earlier Error.NoAccess a)
+        reasons : (x : Error) → (x ≡ Error.ForeignMapping → ⊥) → allowed (commit_reasons wrote m) x → allowed (first_reasons old l commit_memory o (length bytes)) x
+        reasons E.WrapAround own a = inl (earlier Error.WrapAround a.1)
+        reasons E.InvalidData own a = inl (earlier Error.InvalidData a.1)
+        reasons E.Unsupported own a = inl (earlier Error.Unsupported a.1)
+        reasons E.NoAccess own a = inl (earlier Error.NoAccess a.1)
         reasons E.Device own a = tt
-        reasons E.Memory own a = λ free. a ((P.whole free).1)
+        reasons E.Memory own a = inr (may a.1)
         reasons E.ForeignMapping own a = own refl
         reasons E.ReadOnly own a = a
         reasons E.BeyondDisk own a = absurd a
@@ -194,7 +199,7 @@ module _ {St : Type 0} (old mid wrote : View St) (below : ℕ → Value) (o : �
     same_value p = ap (shown below) (U.places.same keeps p)
 
     -- a place outside of the range is none that is written
-    outside : (named : AreStoredAt mid.place m.storage m.offset m.length o) (p : ℕ) → (p < o) ⊎ (o + m.length ≤ p) → (b k : ℕ) (w : Bool) → k < length written → mid.place p ≡ Stored b m.storage (m.offset + 0 + k) w → ⊥
+    outside : (named : PlacesAreWritableAt mid.place m.storage m.offset m.length o) (p : ℕ) → (p < o) ⊎ (o + m.length ≤ p) → (b k : ℕ) (w : Bool) → k < length written → mid.place p ≡ Stored b m.storage (m.offset + 0 + k) w → ⊥
     outside named p out b k w lt e =
         let j : k < m.length = omega (arith, written_length) in
         let z : m.offset + 0 + k ≡ m.offset + k = omega arith in
@@ -202,7 +207,7 @@ module _ {St : Type 0} (old mid wrote : View St) (below : ℕ → Value) (o : �
         let same : o + k ≡ p = law.own (o + k) p (x.0) b m.storage (m.offset + k) w (x.1) (rw z at e) in
         ⊎_elim (λ a. omega arith) (λ a. omega arith) out
 
-    put : (torn : Bool) (named : AreStoredAt mid.place m.storage m.offset m.length o) → IsPut m.storage (m.offset + 0) written torn mid.abilities.keeps_data mid.place wrote.place
+    put : (torn : Bool) (named : PlacesAreWritableAt mid.place m.storage m.offset m.length o) → IsPut m.storage (m.offset + 0) written torn mid.abilities.keeps_data mid.place wrote.place
         → IsChanged o m.length (or_torn torn (into bytes)) (values below old.place) (values below wrote.place)
     put torn named W = record {
       inside = λ k h.

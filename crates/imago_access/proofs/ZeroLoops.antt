@@ -6,7 +6,7 @@ use Rattle.imago_storage.specs.Faults.{CountsFaults, RoseOrSaturated}
 use Rattle.imago_drivers.specs.Operation.{Operation, Map, Write}
 use Rattle.imago_drivers.specs.Place.{Value, Byte, IsIn, values, Lower}
 use Rattle.imago_drivers.specs.Reasons.{Reasons, allowed}
-use Rattle.imago_drivers.specs.Causes.{Causes, Copies, CauseOver, IsSettled, EveryOperation}
+use Rattle.imago_drivers.specs.Causes.{Causes, Copies, CauseOver, IsSettled, IsOnRange}
 use Rattle.imago_drivers.specs.LayerBelow.{LayerBelow}
 use Rattle.imago_drivers.specs.View.{View}
 use Rattle.imago_drivers.specs.Laws.{AreCauses}
@@ -18,7 +18,7 @@ use Rattle.imago_access.specs.Chain.{driver, backing, unboxed, disk_value, is_re
 use Rattle.imago_access.specs.ChainLaws.{reached_wider}
 use Rattle.imago_access.specs.Calls.{devices_reliable}
 use Rattle.imago_access.specs.Resolved.{chain_map_reasons}
-use Rattle.imago_access.specs.Zeroing.{AreZero, IsLaterCount, IsPartlyZeroed, Carries, HasZeroed, HasZeroedPart, IsZeroedByDriver, data_reasons, zero_reasons}
+use Rattle.imago_access.specs.Zeroing.{AreZero, IsLaterCount, IsPartlyZeroed, Carries, HasZeroed, HasZeroedPart, IsZeroedByDriver, IsFree, data_reasons, zero_reasons}
 use Rattle.imago_access.proofs.Chains.{reliable_out, cause_here, cause_lower}
 use Rattle.imago_access.proofs.Weaker.{IsWeaker, allowed_more}
 use Rattle.imago_access.proofs.Written.{framed_twice, settled_twice}
@@ -100,7 +100,7 @@ module _ {St : Type 0} where
 
   pub carries_twice : (a b c : View St) (o n : ℕ) → Carries o n a b → Carries o n b c → Carries o n a c
   carries_twice a b c o n x y = record {
-    settled = settled_twice a.cause b.cause c.cause a.copies b.copies c.copies o n x.settled y.settled;
+    settled = settled_twice a.limits.cause b.limits.cause c.limits.cause a.limits.copies b.limits.copies c.limits.copies o n x.settled y.settled;
     reaches = λ p q w e. let z = y.reaches p q w e in x.reaches p q z.0 z.1;
   }
 
@@ -111,7 +111,7 @@ module _ {D St : Type 0} (view : D → View St) where
 
   -- a cause of a chain is one of the top, or of what is reached below
   pub cause_split : (x : FormatAccess D) (op : Operation) (o n : ℕ) (e : Error) → chain_cause view x op o n e
-      → (view (driver x)).cause op o n e ⊎ ((y : FormatAccess D) × (q : ℕ) × (m : ℕ) × (backing x ≡ Some y) × (0 < m) × IsReached (view (driver x)).place o n q m × chain_cause view y op q m e)
+      → (view (driver x)).limits.cause op o n e ⊎ ((y : FormatAccess D) × (q : ℕ) × (m : ℕ) × (backing x ≡ Some y) × (0 < m) × IsReached (view (driver x)).place o n q m × chain_cause view y op q m e)
   cause_split x op o n e c =
       let k = subst (λ (y : FormatAccess D). chain_cause view y op o n e) (is-FormatAccess' x) c in
       ⊎_elim (λ a. inl a) (λ r. let s = split_below (out-FormatAccess D x).backing op r.0 r.1 e r.4 in inr (s.0, r.0, r.1, s.1, r.2, r.3, s.2)) k
@@ -120,20 +120,20 @@ module _ {D St : Type 0} (view : D → View St) where
     same_lent : lent_image view (backing mid) ≡ lent_image view (backing old)
     same_lent = ap (lent_image view) below
 
-    pub cause_before : (op : Operation) (e : Error) → (view (driver mid)).cause op q m e → (view (driver old)).cause op o n e
-    cause_before op e h = c.settled.causes op o n q m e tt (omega arith) (omega arith) le fits h
+    pub cause_before : (op : Operation) (e : Error) → IsOnRange op → (view (driver mid)).limits.cause op q m e → (view (driver old)).limits.cause op o n e
+    cause_before op e on h = c.settled.causes op o n q m e on (omega arith) (omega arith) le fits h
 
     pub map_cause_before : (e : Error) → chain_cause view mid Map q m e → chain_cause view old Map o n e
     map_cause_before e h = ⊎_elim
-        (λ a. cause_here view old Map o n e (cause_before Map e a))
+        (λ a. cause_here view old Map o n e (cause_before Map e tt a))
         (λ r.
         let was : IsReached (view (driver old)).place q m r.1 r.2 = λ i lt. let x = r.5 i lt in let y = c.reaches (q + x.0) (r.1 + i) x.2 x.3 in (x.0, x.1, y.0, y.1) in
         cause_lower view old r.0 Map o n r.1 r.2 e (sym below ∙ r.3) r.4 (reached_wider (view (driver old)).place o n q m r.1 r.2 le fits was) r.6)
         (cause_split mid Map q m e h)
 
-    over_before : (e : Error) → CauseOver (view (driver mid)).cause (view (driver mid)).copies (lent_image view (backing mid)) Write q m e → CauseOver (view (driver old)).cause (view (driver old)).copies (lent_image view (backing old)) Write o n e
-    over_before e h = subst (λ (l : LayerBelow). CauseOver (view (driver old)).cause (view (driver old)).copies l Write o n e) same_lent
-        (⊎_elim (λ a. inl (cause_before Write e a)) (λ r. inr (r.0, r.1, (λ p i. c.settled.copied Write o n q m p tt (omega arith) (omega arith) le fits (r.2 p i)), r.3)) h)
+    over_before : (e : Error) → CauseOver (view (driver mid)).limits.cause (view (driver mid)).limits.copies (lent_image view (backing mid)) Write q m e → CauseOver (view (driver old)).limits.cause (view (driver old)).limits.copies (lent_image view (backing old)) Write o n e
+    over_before e h = subst (λ (l : LayerBelow). CauseOver (view (driver old)).limits.cause (view (driver old)).limits.copies l Write o n e) same_lent
+        (⊎_elim (λ a. inl (cause_before Write e tt a)) (λ r. inr (r.0, r.1, r.2, (λ p i. c.settled.copied Write o n q m p tt (omega arith) (omega arith) le fits (r.3 p i)), r.4)) h)
 
     -- what zeroes as data are refused for later, they were before
     pub data_before : IsFramed (view (driver old)) (view (driver mid)) → IsWeaker (data_reasons view mid q m) (data_reasons view old o n)
@@ -348,7 +348,7 @@ module _ {D St : Type 0} (view : D → View St) where
 
   -- a rest that zeroes as data are refused for; there is one only where the driver's call isn't known to do all
   pub rest_refused : {T U : Type 0} (f : T → ℕ) (g : U → ℕ) (op : Operation) (old mid new : FormatAccess D) (o n q m : ℕ) (e : Error) (part : Result (ℕ × ℕ) Error) → o ≤ q → q + m ≤ o + n → HasZeroedPart view op o n old mid part
-      → ((view (driver old)).no_memory op o n → ⊥) → HasZeroed {T = T} view q m f (data_reasons view mid q m) mid new (Err e) → HasZeroed {T = U} view o n g (zero_reasons view old op o n) old new (Err e)
+      → ((view (driver old)).limits.whole op o n → ⊥) → HasZeroed {T = T} view q m f (data_reasons view mid q m) mid new (Err e) → HasZeroed {T = U} view o n g (zero_reasons view old op o n) old new (Err e)
   rest_refused f g op old mid new o n q m e part le fits x rest h =
       let w = data_before view old mid o n q m le fits x.left.below (x.carries o n) x.left.framed in
       refused_after view f g old mid new o n q m _ _ e le fits x.left (record {
@@ -357,7 +357,7 @@ module _ {D St : Type 0} (view : D → View St) where
         range_overflow = w.range_overflow;
         cause = λ z c. inr (w.cause z c);
         device = w.device;
-        memory = λ c. rest;
+        memory = λ c free. rest free.1;
         foreign_mapping = w.foreign_mapping;
       }) h
 
@@ -384,7 +384,7 @@ module _ {D St : Type 0} (view : D → View St) where
       range_overflow = λ h. h;
       cause = λ z h. inl h;
       device = λ h. h;
-      memory = λ h. h;
+      memory = λ h free. h free.0;
       foreign_mapping = λ h. h;
     }) e x.refusals;
   }
@@ -392,8 +392,8 @@ module _ {D St : Type 0} (view : D → View St) where
       again : IsErrOf {T = U} (Err e) Error.Device → IsErrOf {T = ℕ × ℕ} (Err e) Error.Device
       again d = let k : e ≡ Error.Device = cc in ap (λ z. Err z) k
 
-module _ {D St : Type 0} (view : D → View St) (op : Operation) (old mid new : FormatAccess D) (o n c : ℕ) (sofar : IsZeroingOn view o n old mid c)
-    (once : (view (driver old)).no_memory op o n → ((c ≡ 0) × (mid ≡ old)) ⊎ (c ≡ n)) where
+module _ {D St : Type 0} (view : D → View St) (op : Operation) (on : IsOnRange op) (old mid new : FormatAccess D) (o n c : ℕ) (sofar : IsZeroingOn view o n old mid c)
+    (once : (view (driver old)).limits.whole op o n → ((c ≡ 0) × (mid ≡ old)) ⊎ (c ≡ n)) where
   -- a part of a zero write is refused, after what is done
   pub range_refused : {T U : Type 0} (f : T → ℕ) (g : U → ℕ) (e : Error) → c < n → HasZeroed {T = T} view (o + c) (n - c) f (zero_reasons view mid op (o + c) (n - c)) mid new (Err e) → HasZeroed {T = U} view o n g (zero_reasons view old op o n) old new (Err e)
   range_refused f g e lt h =
@@ -404,25 +404,25 @@ module _ {D St : Type 0} (view : D → View St) (op : Operation) (old mid new : 
         read_only = w.read_only;
         beyond_disk = w.beyond_disk;
         range_overflow = w.range_overflow;
-        cause = λ z k. ⊎_elim (λ own. inl (cause_before view old mid o n (o + c) (n - c) a b sofar.left.below sofar.carries op z own)) (λ d. inr (w.cause z d)) k;
+        cause = λ z k. ⊎_elim (λ own. inl (cause_before view old mid o n (o + c) (n - c) a b sofar.left.below sofar.carries op z on own)) (λ d. inr (w.cause z d)) k;
         device = w.device;
-        memory = λ k free. ⊎_elim (λ z. k (again z.0 z.1 free)) (λ z. omega arith) (once free);
+        memory = λ k free. ⊎_elim (λ z. k (again z.0 z.1 free)) (λ z. omega arith) (once free.1);
         foreign_mapping = w.foreign_mapping;
       }) h
     where
-      again : c ≡ 0 → mid ≡ old → (view (driver old)).no_memory op o n → (view (driver mid)).no_memory op (o + c) (n - c)
+      again : c ≡ 0 → mid ≡ old → IsFree (view (driver old)) op o n → IsFree (view (driver mid)) op (o + c) (n - c)
       again z same free =
           let x : o + c ≡ o = omega arith in
           let y : n - c ≡ n = omega arith in
-          rw (x, y) (subst (λ (m : FormatAccess D). (view (driver m)).no_memory op o n) (sym same) free)
+          rw (x, y) (subst (λ (m : FormatAccess D). IsFree (view (driver m)) op o n) (sym same) free)
 
   -- where the driver's call is known to do all, it did
-  pub once_next : (k : ℕ) → c < n → ((view (driver mid)).no_memory op (o + c) (n - c) → k ≡ n - c) → (view (driver old)).no_memory op o n → ((c + k ≡ 0) × (new ≡ old)) ⊎ (c + k ≡ n)
+  pub once_next : (k : ℕ) → c < n → ((view (driver mid)).limits.whole op (o + c) (n - c) → k ≡ n - c) → (view (driver old)).limits.whole op o n → ((c + k ≡ 0) × (new ≡ old)) ⊎ (c + k ≡ n)
   once_next k lt whole free = ⊎_elim
       (λ z.
       let x : o + c ≡ o = omega (arith, z.0) in
       let y : n - c ≡ n = omega (arith, z.0) in
-      let again : (view (driver mid)).no_memory op (o + c) (n - c) = rw (x, y) (subst (λ (m : FormatAccess D). (view (driver m)).no_memory op o n) (sym z.1) free) in
+      let again : (view (driver mid)).limits.whole op (o + c) (n - c) = rw (x, y) (subst (λ (m : FormatAccess D). (view (driver m)).limits.whole op o n) (sym z.1) free) in
       inr (omega (arith, whole again)))
       (λ z. absurd (omega arith))
       (once free)

@@ -6,7 +6,7 @@ use Rattle.imago_storage.specs.Faults.{CountsFaults, RoseOrSaturated}
 use Rattle.imago_drivers.specs.Operation.{Operation}
 use Rattle.imago_drivers.specs.Place.{Value, Byte, IsIn, values}
 use Rattle.imago_drivers.specs.Reasons.{Reasons, allowed}
-use Rattle.imago_drivers.specs.Causes.{Causes, Copies, IsSettled, EveryOperation, AddsNone}
+use Rattle.imago_drivers.specs.Causes.{Causes, Copies, IsSettled, IsOnRange, AddsNone}
 use Rattle.imago_drivers.specs.View.{View}
 use Rattle.imago_drivers.specs.Laws.{AreCauses}
 use Rattle.imago_drivers.specs.Changes.{IsChanged, zeroes, partly, into}
@@ -17,10 +17,12 @@ use Rattle.imago_access.specs.declared.access.FormatAccess.{FormatAccess}
 use Rattle.imago_access.specs.Chain.{driver, backing, disk_value, lent_image}
 use Rattle.imago_access.specs.Lending.{with_driver}
 use Rattle.imago_access.specs.Calls.{devices_reliable, FailsTest, Overflows, IsLoose, settles, ShowsFaults, IsRangeCall}
-use Rattle.imago_access.specs.Zeroing.{AreZero, IsLaterCount, IsPartlyZeroed, Carries, HasZeroed, HasZeroedPart, data_reasons, zero_reasons, IsZeroWrite}
+use Rattle.imago_access.specs.Zeroing.{operation_of, AreZero, IsLaterCount, IsPartlyZeroed, Carries, HasZeroed, HasZeroedPart, data_reasons, zero_reasons, IsZeroWrite}
 use Rattle.imago_access.specs.Writing.{HasWritten}
 use Rattle.imago_access.proofs.Weaker.{IsWeaker, refused_more}
 use Rattle.imago_access.specs.declared.mapping.Mapping.TheVariants as M
+use Rattle.imago_access.specs.declared.zero.ZeroCall.{ZeroCall}
+use Rattle.imago_access.specs.declared.zero.ZeroCall.TheVariants as Z
 use Rattle.imago_access.specs.Target.{target}
 use Rattle.imago_access.specs.Resolved.{IsResolved}
 use Rattle.imago_access.proofs.Targets.{target_shows, mapped_value}
@@ -51,7 +53,7 @@ zeroed_part o n q m old new within h = record {
     outside p s = ⊎_elim (λ a. h.before p a) (λ b. h.behind p b) s
 
 -- what adds no cause carries each range
-pub none_carried : {St : Type 0} (old new : View St) → AreCauses old → AddsNone old.cause new.cause old.copies new.copies → ReachesNoMore old new → (a m : ℕ) → Carries a m old new
+pub none_carried : {St : Type 0} (old new : View St) → AreCauses old → AddsNone old.limits.cause new.limits.cause old.limits.copies new.limits.copies → ReachesNoMore old new → (a m : ℕ) → Carries a m old new
 none_carried old new law none reaches a m = record {
   settled = record {
     causes = λ op b n q k e r h i j x c. law.part op b n q k e j x (none.causes op q k e c);
@@ -63,7 +65,7 @@ none_carried old new law none reaches a m = record {
 module _ {D St : Type 0} (view : D → View St) (x : FormatAccess D) (d : D) where
   -- a part of the driver's zeroing, as the image sees it
   pub part_zeroed : (op : Operation) (o n : ℕ) (result : Result (ℕ × ℕ) Error) → AreCauses (view (driver x)) → HasDone (λ f k. zeroes) op o n (view (driver x)) (view d) result
-      → AddsNone (view (driver x)).cause (view d).cause (view (driver x)).copies (view d).copies → ReachesNoMore (view (driver x)) (view d) → (view d).pending ≡ None
+      → AddsNone (view (driver x)).limits.cause (view d).limits.cause (view (driver x)).limits.copies (view d).limits.copies → ReachesNoMore (view (driver x)) (view d) → (view d).pending ≡ None
       → IsFramed (view (driver x)) (view d) → CountsFaults (view (driver x)).abilities.is_reliable (view (driver x)).fault_count (view d).fault_count result
       → IfErr result (allowed (range_reasons (view (driver x)) op o n)) → HasZeroedPart view op o n x (with_driver x d) result
   part_zeroed op o n result law done none reaches spent framed faults refusals =
@@ -149,10 +151,10 @@ piece_written {D} view x d o bytes result l same z h =
     done (Ok n) i c = changed_image view x d (λ a b. IsChanged o n zeroes a b) (zero_bytes bytes o n _ _ i.1 z c)
     done (Err r) i c = tt
 
-    carried : (r : Result ℕ Error) → IfOk r (λ n. (0 < n) × (n ≤ length bytes)) → IfOk r (λ n. IsSettled EveryOperation (view (driver x)).cause (view d).cause (view (driver x)).copies (view d).copies o n) → ReachesNoMore (view (driver x)) (view (driver (with_driver x d)))
+    carried : (r : Result ℕ Error) → IfOk r (λ n. (0 < n) × (n ≤ length bytes)) → IfOk r (λ n. IsSettled IsOnRange (view (driver x)).limits.cause (view d).limits.cause (view (driver x)).limits.copies (view d).limits.copies o n) → ReachesNoMore (view (driver x)) (view (driver (with_driver x d)))
         → IfOk r (λ n. Carries o (length bytes) (view (driver x)) (view (driver (with_driver x d))))
     carried (Ok n) i s reaches = record {
-      settled = subst (λ (y : D). IsSettled EveryOperation (view (driver x)).cause (view y).cause (view (driver x)).copies (view y).copies o (length bytes)) (sym (driver_with x d)) (record {
+      settled = subst (λ (y : D). IsSettled IsOnRange (view (driver x)).limits.cause (view y).limits.cause (view (driver x)).limits.copies (view y).limits.copies o (length bytes)) (sym (driver_with x d)) (record {
         causes = λ op a m q k f h j g b c t. s.causes op a m q k f h j (omega (arith, i.1)) b c t;
         copied = λ op a m q k p h j g b c t. s.copied op a m q k p h j (omega (arith, i.1)) b c t;
       });
@@ -180,7 +182,7 @@ zero_call view op x new o n result w fits small h = record {
     torn (Ok u) c = tt
     torn (Err e) c = c
 
-    settled : (r : Result (Unit {0}) Error) → IfOk r (λ u. Carries o n (view (driver x)) (view (driver new))) → IfOk r (λ u. IsSettled (settles op) (view (driver x)).cause (view (driver new)).cause (view (driver x)).copies (view (driver new)).copies o n)
+    settled : (r : Result (Unit {0}) Error) → IfOk r (λ u. Carries o n (view (driver x)) (view (driver new))) → IfOk r (λ u. IsSettled (settles op) (view (driver x)).limits.cause (view (driver new)).limits.cause (view (driver x)).limits.copies (view (driver new)).limits.copies o n)
     settled (Ok u) c = record {
       causes = λ a b m q k e i. c.settled.causes a b m q k e i.0;
       copied = λ a b m q k p i. c.settled.copied a b m q k p i.0;
@@ -190,3 +192,7 @@ zero_call view op x new o n result w fits small h = record {
     refused : (r : Result (Unit {0}) Error) → IfErr r (allowed (zero_reasons view x op o n)) → IfErr r (λ e. FailsTest (view (driver x)) op o n e ⊎ allowed (zero_reasons view x op o n) e)
     refused (Ok u) c = tt
     refused (Err e) c = inr c
+
+pub zeroes_range : (call : ZeroCall) → IsOnRange (operation_of call)
+zeroes_range Z.EnsureZero = tt
+zeroes_range Z.DiscardToZero = tt

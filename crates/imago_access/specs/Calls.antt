@@ -4,12 +4,13 @@ use Rattle.imago_storage.specs.Faults.{CountsFaults, RoseOrSaturated}
 use Rattle.imago_drivers.specs.declared.mapping.PreparedDataMapping.{PreparedDataMapping}
 use Rattle.imago_drivers.specs.Operation.{Operation, Map, Read, Write, Zero, DiscardToZero, DiscardToAny, DiscardToBacking, Grow, Shrink, Flush}
 use Rattle.imago_drivers.specs.Reasons.{Reasons, allowed}
-use Rattle.imago_drivers.specs.Causes.{IsSettled, EveryOperation}
+use Rattle.imago_drivers.specs.Causes.{IsSettled, IsOnRange}
 use Rattle.imago_drivers.specs.View.{View}
 use Rattle.imago_drivers.specs.Changes.{IsChanged, into, partly, overwritten}
 use Rattle.imago_drivers.specs.Frame.{IsKind, ReachesNoMore}
 use Rattle.imago_drivers.specs.Done.{lending_reasons}
 use Rattle.imago_access.specs.declared.access.FormatAccess.{FormatAccess}
+use Rattle.imago_access.specs.Writing.{CommitMayTakeMemory, write_reasons}
 use Rattle.imago_access.specs.Chain.{driver, backing, disk_value, lent_image}
 
 -- The range's end passes the greatest number of 64 bits, in a call that tests this by itself: a zero write or a discard. A write
@@ -74,7 +75,11 @@ IsLoose Flush = ⊥
 -- which operations a success leaves no new cause for: each one, but none after such a discard, since a driver may do nothing of it, and
 -- isn't bound then
 abbrev pub settles : Operation → Operation → Type 0
-settles op of = EveryOperation of × (IsLoose op → ⊥)
+settles op of = IsOnRange of × (IsLoose op → ⊥)
+
+-- why a write may be refused, once its tests passed
+abbrev pub write_refusals : {D St : Type 0} → (D → View St) → FormatAccess D → ℕ → ℕ → Reasons
+write_refusals view x o n = write_reasons (view (driver x)) (lent_image view (backing x)) (CommitMayTakeMemory view (driver x)) o n
 
 -- A changing call on a range of an image: `reasons` is why it may be refused after its tests, `hidden` when a device may fail that
 -- no count of faults shows. A success has the effect, for the part that its answer tells; a refusal past the tests leaves what remains.
@@ -85,7 +90,7 @@ pub record IsRangeCall {D St T : Type 0} (view : D → View St) (op : Operation)
   pub torn : IsTrue (view (driver old)).abilities.keeps_data → OnErr result remains
   -- no place leads below that didn't before, and a cause for a piece of the part that is done was one for the whole
   pub reaches : (IsLoose op → ⊥) → ReachesNoMore (view (driver old)) (view (driver new))
-  pub settled : IfOk result (λ r. IsSettled (settles op) (view (driver old)).cause (view (driver new)).cause (view (driver old)).copies (view (driver new)).copies o (part r))
+  pub settled : IfOk result (λ r. IsSettled (settles op) (view (driver old)).limits.cause (view (driver new)).limits.cause (view (driver old)).limits.copies (view (driver new)).limits.copies o (part r))
   pub same_size : (view (driver new)).size ≡ (view (driver old)).size
   pub kept : IsKept view old new
   pub nothing_pending : (view (driver new)).pending ≡ None
@@ -94,7 +99,7 @@ pub record IsRangeCall {D St T : Type 0} (view : D → View St) (op : Operation)
 
 -- a write: the bytes stand in their range, or, where it is refused, each of them may
 abbrev pub IsWrite : {D St : Type 0} → (D → View St) → FormatAccess D → FormatAccess D → ℕ → List ℕ → Result Unit Error → Type 0
-IsWrite view old new o bytes result = IsRangeCall view Write o (length bytes) (range_refusals view old Write o (length bytes)) ⊥ (λ u. length bytes)
+IsWrite view old new o bytes result = IsRangeCall view Write o (length bytes) (write_refusals view old o (length bytes)) ⊥ (λ u. length bytes)
     (λ u. IsChanged o (length bytes) (into bytes) (disk_value view old) (disk_value view new))
     (IsChanged o (length bytes) (partly (into bytes)) (disk_value view old) (disk_value view new))
     old new result
@@ -114,7 +119,7 @@ pub record IsPreparing {D St : Type 0} (view : D → View St) (old new : FormatA
   pub unchanged : IsTrue (view (driver old)).abilities.keeps_data → (p : ℕ) → disk_value view new p ≡ disk_value view old p
   -- no place leads below that didn't before, and a cause for a piece of the mapping's range was one for the whole
   pub reaches : ReachesNoMore (view (driver old)) (view (driver new))
-  pub settled : IfOk result (λ m. IsSettled EveryOperation (view (driver old)).cause (view (driver new)).cause (view (driver old)).copies (view (driver new)).copies o m.length)
+  pub settled : IfOk result (λ m. IsSettled IsOnRange (view (driver old)).limits.cause (view (driver new)).limits.cause (view (driver old)).limits.copies (view (driver new)).limits.copies o m.length)
   pub kept : IsKept view old new
   pub nothing_pending : OnErr result ((view (driver new)).pending ≡ None)
   pub faults : CountsFaults (devices_reliable view old) (view (driver old)).fault_count (view (driver new)).fault_count result

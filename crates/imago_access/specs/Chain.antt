@@ -49,17 +49,17 @@ abbrev mutual
   -- a cause of refusal for that range at the top, or, for what is reached there, at a layer below
   pub chain_cause : {D St : Type 0} → (D → View St) → FormatAccess D → Operation → ℕ → ℕ → Error → Type 0
   chain_cause view (FormatAccess' inner below) op o n e =
-      (view inner).cause op o n e ⊎ ((q : ℕ) × (m : ℕ) × (0 < m) × IsReached (view inner).place o n q m × cause_below view below op q m e)
+      (view inner).limits.cause op o n e ⊎ ((q : ℕ) × (m : ℕ) × (0 < m) × IsReached (view inner).place o n q m × cause_below view below op q m e)
 
   pub cause_below : {D St : Type 0} → (D → View St) → Held-FormatAccess-backing D → Operation → ℕ → ℕ → Error → Type 0
   cause_below view None' op q m e = ⊥
   cause_below view (Some' k x) op q m e = chain_cause view x op q m e
 
 abbrev mutual
-  -- no driver takes memory to read that range, and each maps the whole of it at once
+  -- each driver maps the whole of that range at once, and takes no memory to read it
   pub chain_no_memory : {D St : Type 0} → (D → View St) → FormatAccess D → ℕ → ℕ → Type 0
   chain_no_memory view (FormatAccess' inner below) o n =
-      (view inner).no_memory Read o n × ((q : ℕ) → IsReached (view inner).place o n q n → no_memory_below view below q n)
+      (view inner).limits.whole Read o n × (view inner).limits.no_memory Read o n × ((q : ℕ) → IsReached (view inner).place o n q n → no_memory_below view below q n)
 
   pub no_memory_below : {D St : Type 0} → (D → View St) → Held-FormatAccess-backing D → ℕ → ℕ → Type 0
   no_memory_below view None' q n = Unit {0}

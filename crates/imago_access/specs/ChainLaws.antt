@@ -30,20 +30,20 @@ module _ {D St : Type 0} (view : D → View St) (laws : (d : D) → AreCauses (v
       (o + x.0, (omega arith, omega (arith, x.1)), ap (shown (value_below view b)) x.3 ∙ (rw t s))
 
   mutual
-    unreadable : (op : Operation) (e : Error) → ((d : D) (o n : ℕ) → (view d).cause op o n e → IsRefusedIn (view d).place o n e) → (x : FormatAccess D) (o n : ℕ) → chain_cause view x op o n e → IsUnreadableIn (disk_value view x) o n e
+    unreadable : (op : Operation) (e : Error) → ((d : D) (o n : ℕ) → (view d).limits.cause op o n e → IsRefusedIn (view d).place o n e) → (x : FormatAccess D) (o n : ℕ) → chain_cause view x op o n e → IsUnreadableIn (disk_value view x) o n e
     unreadable op e own (FormatAccess' inner b) o n c =
         ⊎_elim (λ a. let r = own inner o n a in (r.0, r.1, ap (shown (value_below view b)) r.2))
         (λ r. lift inner b o n r.0 r.1 e r.3 (unreadable_below op e own b r.0 r.1 r.4)) c
 
-    unreadable_below : (op : Operation) (e : Error) → ((d : D) (o n : ℕ) → (view d).cause op o n e → IsRefusedIn (view d).place o n e) → (b : Held-FormatAccess-backing D) (q m : ℕ) → cause_below view b op q m e → IsUnreadableIn (value_below view b) q m e
+    unreadable_below : (op : Operation) (e : Error) → ((d : D) (o n : ℕ) → (view d).limits.cause op o n e → IsRefusedIn (view d).place o n e) → (b : Held-FormatAccess-backing D) (q m : ℕ) → cause_below view b op q m e → IsUnreadableIn (value_below view b) q m e
     unreadable_below op e own None' q m c = absurd c
     unreadable_below op e own (Some' k x) q m c = unreadable op e own x q m c
 
   mutual
-    never : (op : Operation) (e : Error) → ((d : D) (o n : ℕ) → (view d).cause op o n e → ⊥) → (x : FormatAccess D) (o n : ℕ) → chain_cause view x op o n e → ⊥
+    never : (op : Operation) (e : Error) → ((d : D) (o n : ℕ) → (view d).limits.cause op o n e → ⊥) → (x : FormatAccess D) (o n : ℕ) → chain_cause view x op o n e → ⊥
     never op e own (FormatAccess' inner b) o n c = ⊎_elim (λ a. own inner o n a) (λ r. never_below op e own b r.0 r.1 r.4) c
 
-    never_below : (op : Operation) (e : Error) → ((d : D) (o n : ℕ) → (view d).cause op o n e → ⊥) → (b : Held-FormatAccess-backing D) (q m : ℕ) → cause_below view b op q m e → ⊥
+    never_below : (op : Operation) (e : Error) → ((d : D) (o n : ℕ) → (view d).limits.cause op o n e → ⊥) → (b : Held-FormatAccess-backing D) (q m : ℕ) → cause_below view b op q m e → ⊥
     never_below op e own None' q m c = c
     never_below op e own (Some' k x) q m c = never op e own x q m c
 

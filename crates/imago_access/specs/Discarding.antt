@@ -3,7 +3,7 @@ use Rattle.imago_storage.specs.declared.error.Error.{Error}
 use Rattle.imago_storage.specs.Faults.{CountsFaults}
 use Rattle.imago_drivers.specs.Operation.{Operation, DiscardToAny, DiscardToBacking}
 use Rattle.imago_drivers.specs.Place.{Value}
-use Rattle.imago_drivers.specs.Reasons.{allowed}
+use Rattle.imago_drivers.specs.Reasons.{Reasons, allowed}
 use Rattle.imago_drivers.specs.Causes.{IsSettled}
 use Rattle.imago_drivers.specs.View.{View}
 use Rattle.imago_drivers.specs.Changes.{IsChanged, given_back}
@@ -14,6 +14,7 @@ use Rattle.imago_access.specs.declared.discard.DiscardCall.{DiscardCall}
 use Rattle.imago_access.specs.declared.discard.DiscardCall.TheVariants as C
 use Rattle.imago_access.specs.Chain.{driver, backing, disk_value, lent_image}
 use Rattle.imago_access.specs.Calls.{devices_reliable, IsRangeCall}
+use Rattle.imago_access.specs.Zeroing.{IsFree}
 
 -- what a discard is, for its causes
 abbrev pub discard_of : DiscardCall → Operation
@@ -30,6 +31,10 @@ abbrev pub IsLoosened : {D St : Type 0} → (D → View St) → DiscardCall → 
 IsLoosened view call o n old new =
     IsChanged o n (λ k. loosened call (view (driver old)).abilities.takes_backing (lent_image view (backing old)).at (o + k)) (disk_value view old) (disk_value view new)
 
+-- why a discard may be refused: as the driver's is, for memory only where that may leave a rest, or takes some
+abbrev pub discard_reasons : {St : Type 0} → View St → Operation → ℕ → ℕ → Reasons
+discard_reasons v op o n = record (range_reasons v op o n) { memory = IsFree v op o n → ⊥ }
+
 -- A discard, or a part of one, at any result.
 pub record HasLoosened {D St T : Type 0} (view : D → View St) (call : DiscardCall) (o n : ℕ) (old new : FormatAccess D) (result : Result T Error) : Type 0 where
   pub left : IsTrue (view (driver old)).abilities.keeps_data → IsLoosened view call o n old new
@@ -37,18 +42,18 @@ pub record HasLoosened {D St T : Type 0} (view : D → View St) (call : DiscardC
   pub framed : IsFramed (view (driver old)) (view (driver new))
   pub spent : (view (driver new)).pending ≡ None
   pub faults : CountsFaults (devices_reliable view old) (view (driver old)).fault_count (view (driver new)).fault_count result
-  pub refusals : IfErr result (allowed (range_reasons (view (driver old)) (discard_of call) o n))
+  pub refusals : IfErr result (allowed (discard_reasons (view (driver old)) (discard_of call) o n))
 
 -- The driver's own discard of a range, as the image sees it: it answers the part that is done.
 pub record HasLoosenedPart {D St : Type 0} (view : D → View St) (call : DiscardCall) (o n : ℕ) (old new : FormatAccess D) (result : Result (ℕ × ℕ) Error) : Type 0 where
   pub left : HasLoosened view call o n old new result
   pub inside : IfOk result (λ r. (r.1 ≡ 0) ⊎ ((o ≤ r.0) × (r.0 + r.1 ≤ o + n)))
-  pub whole : (view (driver old)).no_memory (discard_of call) o n → IfOk result (λ r. (r.0 ≡ o) × (r.1 ≡ n))
-  pub settled : IfOk result (λ r. IsSettled (λ op. op ≡ discard_of call) (view (driver old)).cause (view (driver new)).cause (view (driver old)).copies (view (driver new)).copies r.0 r.1)
+  pub whole : (view (driver old)).limits.whole (discard_of call) o n → IfOk result (λ r. (r.0 ≡ o) × (r.1 ≡ n))
+  pub settled : IfOk result (λ r. IsSettled (λ op. op ≡ discard_of call) (view (driver old)).limits.cause (view (driver new)).limits.cause (view (driver old)).limits.copies (view (driver new)).limits.copies r.0 r.1)
 
 -- a discard of an image, whose success and refusal leave the same
-abbrev pub IsDiscard : {D St : Type 0} → (D → View St) → DiscardCall → FormatAccess D → FormatAccess D → ℕ → ℕ → Result (Unit {0}) Error → Type 0
-IsDiscard view call old new o n result = IsRangeCall view (discard_of call) o n (range_reasons (view (driver old)) (discard_of call) o n) ⊥ (λ u. 0)
+abbrev pub IsImageDiscard : {D St : Type 0} → (D → View St) → DiscardCall → FormatAccess D → FormatAccess D → ℕ → ℕ → Result (Unit {0}) Error → Type 0
+IsImageDiscard view call old new o n result = IsRangeCall view (discard_of call) o n (discard_reasons (view (driver old)) (discard_of call) o n) ⊥ (λ u. 0)
     (λ u. IsLoosened view call o n old new)
     (IsLoosened view call o n old new)
     old new result

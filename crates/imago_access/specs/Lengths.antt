@@ -9,7 +9,7 @@ use Rattle.imago_access.specs.Resolved.{IsEndOfImage}
 -- How much of a range one mapping of a driver is for: at the end all of it, else what the driver answers, cut to the range.
 pub record IsOwnLength {St : Type 0} (v : View St) (o most n : ℕ) : Type 0 where
   pub at_end : v.place o ≡ End → n ≡ most
-  pub inside : (v.place o ≡ End → ⊥) → (k : ℕ) × v.answers Map o most o k × (n ≡ min k most)
+  pub inside : (v.place o ≡ End → ⊥) → (k : ℕ) × v.limits.answers Map o most o k × (n ≡ min k most)
 
 -- a length of n at a reference to the layer below is followed there; at any other place it stays
 abbrev pub is_followed : (ℕ → ℕ → ℕ → Type 0) → Place → ℕ → ℕ → Type 0

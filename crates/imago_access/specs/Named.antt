@@ -25,9 +25,9 @@ own_values place = values (λ (q : ℕ). Byte 0) place
 -- why a read of what a mapping names may be refused: as a read of any places that it names
 abbrev pub named_read_reasons : {St : Type 0} → View St → ShallowMapping → ℕ → Reasons
 named_read_reasons v m n = record none {
-  cause = λ e. (at : ℕ) → IsNamedAt v.place m at n → v.cause Read at n e;
+  cause = λ e. (at : ℕ) → IsNamedAt v.place m at n → v.limits.cause Read at n e;
   device = v.abilities.is_reliable ≡ false;
-  memory = (at : ℕ) → IsNamedAt v.place m at n → v.no_memory Read at n → ⊥;
+  memory = (at : ℕ) → IsNamedAt v.place m at n → v.limits.no_memory Read at n → ⊥;
 }
 
 -- why the first part of a read may be refused

@@ -1,7 +1,7 @@
 use Rattle.std.specs.Prelude.{◌≡◌, ℕ, ◌+◌, ◌<◌, Bool, true, false, Option, Some, None, List, length, IsTrue, Result, OnOk, OnErr, IsErrOf}
 use Rattle.imago_storage.specs.declared.error.Error.{Error}
 use Rattle.imago_drivers.specs.declared.mapping.PreparedDataMapping.{PreparedDataMapping}
-use Rattle.imago_drivers.specs.Place.{Value, Place, Stored, AreStoredAt}
+use Rattle.imago_drivers.specs.Place.{Value, Place, Stored, PlacesAreWritableAt}
 use Rattle.imago_drivers.specs.Pending.{Pending, ShowsRound}
 use Rattle.imago_drivers.specs.View.{View}
 use Rattle.imago_drivers.specs.Changes.{IsChanged, into, or_torn}
@@ -19,7 +19,7 @@ pub record ShowsPut (place : ℕ → Place) (storage offset : ℕ) (bytes : List
   pub hit : (p b k : ℕ) (w : Bool) → k < length bytes → place p ≡ Stored b storage (offset + k) w → or_torn torn (into bytes) k (old p) (new p)
   pub miss : (p : ℕ) → ((b k : ℕ) (w : Bool) → k < length bytes → place p ≡ Stored b storage (offset + k) w → ⊥) → new p ≡ old p
   -- so where they are those of writable offsets from o on, that range changes, and nothing else
-  pub range : (o : ℕ) → AreStoredAt place storage offset (length bytes) o → IsChanged o (length bytes) (or_torn torn (into bytes)) old new
+  pub range : (o : ℕ) → PlacesAreWritableAt place storage offset (length bytes) o → IsChanged o (length bytes) (or_torn torn (into bytes)) old new
 
 -- what the disk shows after a write into a mapping with that state: the bytes, or, where they wait for commit, what it did
 abbrev pub shows_written : {D St : Type 0} → (D → View St) → Option St → Bool → FormatAccess D → FormatAccess D → PreparedDataMapping St → ℕ → List ℕ → Type 0

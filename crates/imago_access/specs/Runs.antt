@@ -6,6 +6,7 @@ use Rattle.imago_drivers.specs.Operation.{Grow, Shrink}
 use Rattle.imago_drivers.specs.Place.{Unreadable, HasValues}
 use Rattle.imago_drivers.specs.Reasons.{allowed}
 use Rattle.imago_drivers.specs.View.{View}
+use Rattle.imago_drivers.specs.Flushes.{Flushes}
 use Rattle.imago_access.specs.declared.access.FormatAccess.{FormatAccess}
 use Rattle.imago_access.specs.declared.mapping.Mapping.{Mapping}
 use Rattle.imago_access.specs.declared.run.Call.{Call}
@@ -53,22 +54,22 @@ pub record IsMapped {D St : Type 0} (view : D → View St) (x : FormatAccess D) 
   pub refusals : IfErr result (allowed (chain_map_reasons view x o n))
 
 -- From one image to the next, a call may have this reply: it did what it promises, or left what its refusal does.
-abbrev pub IsStep : {D St : Type 0} → (D → View St) → FormatAccess D → Call → Reply → FormatAccess D → Type 0
-IsStep view old (C.Read o n) r new = (new ≡ old) × Answers R.Data r (IsBufferRead view old o n)
-IsStep view old (C.GetMapping o n) r new = (new ≡ old) × Answers told_mapping r (IsMapped view old o n)
-IsStep view old C.Size r new = (new ≡ old) × (r ≡ R.Size (view (driver old)).size)
-IsStep view old (C.Write o bytes) r new = Answers told_done r (IsWrite view old new o bytes.items)
-IsStep view old (C.ResizeGrow n mode) r new = Answers told_done r (IsResize view (Grow mode) n (HasGrown view mode n old new) old new)
-IsStep view old (C.ResizeShrink n) r new = Answers told_done r (IsResize view Shrink n (HasShrunk view n old new) old new)
-IsStep view old (C.Resize n mode) r new = Answers told_done r (IsResizeTo view n mode old new)
-IsStep view old C.Flush r new = Answers told_done r (IsFlushed view old new)
-IsStep view old C.Sync r new = Answers told_done r (IsFlushed view old new)
-IsStep view old C.InvalidateCache r new = Answers told_done r (IsFlushed view old new)
+abbrev pub IsStep : {D St : Type 0} → (D → View St) → Flushes D → FormatAccess D → Call → Reply → FormatAccess D → Type 0
+IsStep view flushes old (C.Read o n) r new = (new ≡ old) × Answers R.Data r (IsBufferRead view old o n)
+IsStep view flushes old (C.GetMapping o n) r new = (new ≡ old) × Answers told_mapping r (IsMapped view old o n)
+IsStep view flushes old C.Size r new = (new ≡ old) × (r ≡ R.Size (view (driver old)).size)
+IsStep view flushes old (C.Write o bytes) r new = Answers told_done r (IsWrite view old new o bytes.items)
+IsStep view flushes old (C.ResizeGrow n mode) r new = Answers told_done r (IsResize view (Grow mode) n (HasGrown view mode n old new) old new)
+IsStep view flushes old (C.ResizeShrink n) r new = Answers told_done r (IsResize view Shrink n (HasShrunk view n old new) old new)
+IsStep view flushes old (C.Resize n mode) r new = Answers told_done r (IsResizeTo view n mode old new)
+IsStep view flushes old C.Flush r new = Answers told_done r (IsFlushed view flushes.flushed old new)
+IsStep view flushes old C.Sync r new = Answers told_done r (IsFlushed view flushes.synced old new)
+IsStep view flushes old C.InvalidateCache r new = Answers told_done r (IsFlushed view flushes.invalidated old new)
 
 -- The calls may have these replies, one each: there are images, one more than calls, from the first to the last, with a step
 -- between each and the next.
-abbrev pub IsRun : {D St : Type 0} → (D → View St) → FormatAccess D → List Call → List Reply → FormatAccess D → Type 0
-IsRun view old [] [] new = new ≡ old
-IsRun {D} view old (call ∷ calls) (reply ∷ replies) new = (mid : FormatAccess D) × IsStep view old call reply mid × IsRun view mid calls replies new
-IsRun view old [] (reply ∷ replies) new = ⊥
-IsRun view old (call ∷ calls) [] new = ⊥
+abbrev pub IsRun : {D St : Type 0} → (D → View St) → Flushes D → FormatAccess D → List Call → List Reply → FormatAccess D → Type 0
+IsRun view flushes old [] [] new = new ≡ old
+IsRun {D} view flushes old (call ∷ calls) (reply ∷ replies) new = (mid : FormatAccess D) × IsStep view flushes old call reply mid × IsRun view flushes mid calls replies new
+IsRun view flushes old [] (reply ∷ replies) new = ⊥
+IsRun view flushes old (call ∷ calls) [] new = ⊥

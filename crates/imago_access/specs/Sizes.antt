@@ -64,8 +64,9 @@ pub record IsResizeTo {D St : Type 0} (view : D → View St) (new_size : ℕ) (m
   pub cut : new_size < (view (driver old)).size → IsResize view Shrink new_size (HasShrunk view new_size old new) old new result
   pub grown : (view (driver old)).size ≤ new_size → IsResize view (Grow mode) new_size (HasGrown view mode new_size old new) old new result
 
--- A flush, a sync, or an invalidation of caches: no byte changes, at any result.
-pub record IsFlushed {D St : Type 0} (view : D → View St) (old new : FormatAccess D) (result : Result Unit Error) : Type 0 where
+-- A flush, a sync, or an invalidation of caches: it is the driver's, with its result, and no byte changes, at any result.
+pub record IsFlushed {D St : Type 0} (view : D → View St) (relation : D → D → Result Unit Error → Type 0) (old new : FormatAccess D) (result : Result Unit Error) : Type 0 where
+  pub performed : relation (driver old) (driver new) result
   pub unchanged : IsSameImage view old new
   pub kept : IsKept view old new
   pub pending : (view (driver new)).pending ≡ (view (driver old)).pending

@@ -10,8 +10,9 @@ use Rattle.imago_drivers.specs.View.{View, EndsIn}
 use Rattle.imago_access.specs.declared.access.FormatAccess.{FormatAccess}
 use Rattle.imago_access.specs.declared.mapping.Mapping.{Mapping}
 use Rattle.imago_drivers.specs.Done.{mapping_write_reasons}
-use Rattle.imago_drivers.specs.Prepared.{IsForeign, IsForeignWrite, IsFor}
-use Rattle.imago_drivers.specs.Commit.{IsCommit}
+use Rattle.imago_drivers.specs.Prepared.{IsForeign, IsForeignWrite, IsFor, CommitTakesMemory}
+use Rattle.imago_drivers.specs.Commit.{IsCommit, commit_reasons}
+use Rattle.imago_access.specs.Writing.{CommitMayTakeMemory}
 use Rattle.imago_drivers.specs.declared.mapping.PreparedDataMapping.{PreparedDataMapping}
 use Rattle.imago_access.specs.Chain.{driver, backing, disk_value, lent_image, is_reliable, chain_cause, read_cause, read_reasons, no_memory_to_read}
 use Rattle.imago_access.specs.Resolved.{chain_map_reasons}
@@ -54,7 +55,7 @@ pub record IsSound {D St : Type 0} (view : D → View St) (x : FormatAccess D) :
 
 -- the causes of a changing call on an image
 abbrev pub change_cause : {D St : Type 0} → (D → View St) → FormatAccess D → Operation → ℕ → ℕ → Error → Type 0
-change_cause view x op o n e = CauseOver (view (driver x)).cause (view (driver x)).copies (lent_image view (backing x)) op o n e
+change_cause view x op o n e = CauseOver (view (driver x)).limits.cause (view (driver x)).limits.copies (lent_image view (backing x)) op o n e
 
 -- The tests of a write pass, its range has places to its end, and there is no cause of a refusal.
 pub record IsReadyToWrite {D St : Type 0} (view : D → View St) (x : FormatAccess D) (o n : ℕ) : Type 0 where
@@ -63,18 +64,22 @@ pub record IsReadyToWrite {D St : Type 0} (view : D → View St) (x : FormatAcce
   pub no_end : EndsIn (view (driver x)).place o n → ⊥
   pub no_cause : (e : Error) → change_cause view x Write o n e → ⊥
 
+-- a write of that range takes no memory: neither the driver's mapping of it, which is the whole of it, nor a commit
+abbrev pub TakesNoneToWrite : {D St : Type 0} → (D → View St) → FormatAccess D → ℕ → ℕ → Type 0
+TakesNoneToWrite view x o n = (view (driver x)).limits.whole Write o n × (view (driver x)).limits.no_memory Write o n × (CommitMayTakeMemory view (driver x) → ⊥)
+
 abbrev pub WritesSucceed : {D St : Type 0} → (D → View St) → Type 0
 WritesSucceed {D} view = (old new : FormatAccess D) (o : ℕ) (bytes : List ℕ) (result : Result Unit Error) → IsReadyToWrite view old o (length bytes)
-    → IsWrite view old new o bytes result → Succeeds ((view (driver old)).no_memory Write o (length bytes)) result
+    → IsWrite view old new o bytes result → Succeeds (TakesNoneToWrite view old o (length bytes)) result
 
 -- a data mapping, for overwriting or not, and the preparing of one
 abbrev pub DataMappingsSucceed : {D St : Type 0} → (D → View St) → Type 0
 DataMappingsSucceed {D} view = (old new : FormatAccess D) (o n : ℕ) (overwrite : Bool) (result : Result (ℕ × ℕ × ℕ) Error) → IsReadyToWrite view old o n
-    → IsEnsured view old new o n overwrite result → Succeeds ((view (driver old)).no_memory Write o n) result
+    → IsEnsured view old new o n overwrite result → Succeeds ((view (driver old)).limits.no_memory Write o n) result
 
 abbrev pub PreparesSucceed : {D St : Type 0} → (D → View St) → Type 0
 PreparesSucceed {D} {St} view = (old new : FormatAccess D) (o n : ℕ) (result : Result (PreparedDataMapping St) Error) → IsReadyToWrite view old o n
-    → IsPreparing view old new o n result → Succeeds ((view (driver old)).no_memory Write o n) result
+    → IsPreparing view old new o n result → Succeeds ((view (driver old)).limits.no_memory Write o n) result
 
 -- the driver's device doesn't fail, and the count of faults is below its greatest value
 pub record HasSoundDevice {St : Type 0} (v : View St) : Type 0 where
@@ -85,30 +90,30 @@ pub record HasSoundDevice {St : Type 0} (v : View St) : Type 0 where
 pub record IsReadyForPrepared {St : Type 0} (v : View St) (m : PreparedDataMapping St) (at n : ℕ) : Type 0 where
   pub device : HasSoundDevice v
   pub own : IsForeignWrite v m → ⊥
-  pub no_cause : (e : Error) → ((o : ℕ) → IsFor v m at n o → v.cause Write o n e) → ⊥
+  pub no_cause : (e : Error) → (mapping_write_reasons v m at n).cause e → ⊥
 
 abbrev pub PreparedWritesSucceed : {D St : Type 0} → (D → View St) → Type 0
 PreparedWritesSucceed {D} {St} view = (old new : FormatAccess D) (m : PreparedDataMapping St) (at n : ℕ) (result : Result Unit Error) → IsReadyForPrepared (view (driver old)) m at n
     → (IsErrOf result Error.ForeignMapping ↔ IsForeignWrite (view (driver old)) m)
     → CountsFaults (view (driver old)).abilities.is_reliable (view (driver old)).fault_count (view (driver new)).fault_count result
     → IfErr result (allowed (mapping_write_reasons (view (driver old)) m at n))
-    → Succeeds ((o : ℕ) × IsFor (view (driver old)) m at n o × (view (driver old)).no_memory Write o n) result
+    → Succeeds ((o : ℕ) × IsFor (view (driver old)) m at n o × (view (driver old)).limits.no_memory Write o n) result
 
--- A commit of a mapping that is no foreign one, with no cause of a refusal. With no state it takes no memory.
+-- A commit of a mapping that is no foreign one, with no cause of a refusal.
 pub record IsReadyToCommit {St : Type 0} (v : View St) (m : PreparedDataMapping St) : Type 0 where
   pub device : HasSoundDevice v
   pub own : IsForeign v m → ⊥
-  pub no_cause : (e : Error) → ((o : ℕ) → IsFor v m 0 m.length o → v.cause Write o m.length e) → ⊥
+  pub no_cause : (e : Error) → (commit_reasons v m).cause e → ⊥
 
 abbrev pub CommitsSucceed : {D St : Type 0} → (D → View St) → Type 0
 CommitsSucceed {D} {St} view = (old new : FormatAccess D) (m : PreparedDataMapping St) (result : Result Unit Error) → IsReadyToCommit (view (driver old)) m
-    → IsCommit view (driver old) (driver new) m result → Succeeds (m.state ≡ None) result
+    → IsCommit view (driver old) (driver new) m result → Succeeds (CommitTakesMemory (view (driver old)) m → ⊥) result
 
 -- a flush, a sync or an invalidation of caches, on a device that doesn't fail
 abbrev pub FlushesSucceed : {D St : Type 0} → (D → View St) → Type 0
-FlushesSucceed {D} view = (old new : FormatAccess D) (result : Result Unit Error) → HasSoundDevice (view (driver old))
-    → ((e : Error) → (view (driver old)).cause Flush 0 0 e → ⊥)
-    → IsFlushed view old new result → Succeeds ((view (driver old)).no_memory Flush 0 0) result
+FlushesSucceed {D} view = (relation : D → D → Result Unit Error → Type 0) (old new : FormatAccess D) (result : Result Unit Error) → HasSoundDevice (view (driver old))
+    → ((e : Error) → (view (driver old)).limits.cause Flush 0 0 e → ⊥)
+    → IsFlushed view relation old new result → Succeeds ((view (driver old)).limits.no_memory Flush 0 0) result
 
 -- The test of a resize passes, and each cause of a refusal is that the driver doesn't offer it.
 pub record IsReadyToResize {D St : Type 0} (view : D → View St) (x : FormatAccess D) (op : Operation) (new_size : ℕ) : Type 0 where
@@ -122,8 +127,8 @@ pub record SucceedsIfOffered {T : Type 0} (is_offered : Bool) (takes_none : Type
 
 abbrev pub GrowthsSucceed : {D St : Type 0} → (D → View St) → Type 0
 GrowthsSucceed {D} view = (old new : FormatAccess D) (mode : PreallocateMode) (n : ℕ) (result : Result Unit Error) → IsReadyToResize view old (Grow mode) n
-    → IsResize view (Grow mode) n (HasGrown view mode n old new) old new result → SucceedsIfOffered ((view (driver old)).abilities.offers (Grow mode)) ((view (driver old)).no_memory (Grow mode) n 0) result
+    → IsResize view (Grow mode) n (HasGrown view mode n old new) old new result → SucceedsIfOffered ((view (driver old)).abilities.offers (Grow mode)) ((view (driver old)).limits.no_memory (Grow mode) n 0) result
 
 abbrev pub CutsSucceed : {D St : Type 0} → (D → View St) → Type 0
 CutsSucceed {D} view = (old new : FormatAccess D) (n : ℕ) (result : Result Unit Error) → IsReadyToResize view old Shrink n
-    → IsResize view Shrink n (HasShrunk view n old new) old new result → SucceedsIfOffered ((view (driver old)).abilities.offers Shrink) ((view (driver old)).no_memory Shrink n 0) result
+    → IsResize view Shrink n (HasShrunk view n old new) old new result → SucceedsIfOffered ((view (driver old)).abilities.offers Shrink) ((view (driver old)).limits.no_memory Shrink n 0) result

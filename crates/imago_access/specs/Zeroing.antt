@@ -4,7 +4,7 @@ use Rattle.imago_storage.specs.Faults.{CountsFaults, RoseOrSaturated}
 use Rattle.imago_drivers.specs.Operation.{Operation, Map, Write, Zero, DiscardToZero}
 use Rattle.imago_drivers.specs.Place.{Value, Byte, IsIn}
 use Rattle.imago_drivers.specs.Reasons.{Reasons, allowed, none}
-use Rattle.imago_drivers.specs.Causes.{CauseOver, IsSettled, EveryOperation}
+use Rattle.imago_drivers.specs.Causes.{CauseOver, IsSettled, IsOnRange}
 use Rattle.imago_drivers.specs.View.{View, EndsIn}
 use Rattle.imago_drivers.specs.Changes.{IsChanged, zeroes, partly}
 use Rattle.imago_drivers.specs.Frame.{IsFramed, ReachesNoMore}
@@ -41,23 +41,27 @@ pub record IsPartlyZeroed {D St : Type 0} (view : D → View St) (o n : ℕ) (ol
 
 -- A cause for a part of a range that holds that one was a cause for it before, and no place leads below that didn't.
 pub record Carries {St : Type 0} (o n : ℕ) (old new : View St) : Type 0 where
-  pub settled : IsSettled EveryOperation old.cause new.cause old.copies new.copies o n
+  pub settled : IsSettled IsOnRange old.limits.cause new.limits.cause old.limits.copies new.limits.copies o n
   pub reaches : ReachesNoMore old new
 
 -- why zeroes as data may be refused: as a write, or as the resolved mappings that are asked for
 abbrev pub data_reasons : {D St : Type 0} → (D → View St) → FormatAccess D → ℕ → ℕ → Reasons
 data_reasons view x o n = record none {
   beyond_disk = EndsIn (view (driver x)).place o n;
-  cause = λ e. CauseOver (view (driver x)).cause (view (driver x)).copies (lent_image view (backing x)) Write o n e ⊎ chain_cause view x Map o n e;
+  cause = λ e. CauseOver (view (driver x)).limits.cause (view (driver x)).limits.copies (lent_image view (backing x)) Write o n e ⊎ chain_cause view x Map o n e;
   device = Unit {0};
   memory = Unit {0};
 }
 
+-- the driver does an operation on that range at once, and takes no memory for it
+abbrev pub IsFree : {St : Type 0} → View St → Operation → ℕ → ℕ → Type 0
+IsFree v op o n = v.limits.no_memory op o n × v.limits.whole op o n
+
 -- why a zero write may be refused: by the driver's own call, or as zeroes as data; for memory only where that call may leave a rest
 abbrev pub zero_reasons : {D St : Type 0} → (D → View St) → FormatAccess D → Operation → ℕ → ℕ → Reasons
 zero_reasons view x op o n = record (data_reasons view x o n) {
-  cause = λ e. (view (driver x)).cause op o n e ⊎ (data_reasons view x o n).cause e;
-  memory = (view (driver x)).no_memory op o n → ⊥;
+  cause = λ e. (view (driver x)).limits.cause op o n e ⊎ (data_reasons view x o n).cause e;
+  memory = IsFree (view (driver x)) op o n → ⊥;
 }
 
 -- A part of a zero write: what it leaves, and where it succeeds, how many bytes from o on are zero then.
@@ -73,7 +77,7 @@ pub record HasZeroed {D St T : Type 0} (view : D → View St) (o n : ℕ) (count
 pub record HasZeroedPart {D St : Type 0} (view : D → View St) (op : Operation) (o n : ℕ) (old new : FormatAccess D) (result : Result (ℕ × ℕ) Error) : Type 0 where
   pub left : IsPartlyZeroed view o n old new
   pub inside : IfOk result (λ r. (r.1 ≡ 0) ⊎ ((o ≤ r.0) × (r.0 + r.1 ≤ o + n)))
-  pub whole : (view (driver old)).no_memory op o n → IfOk result (λ r. (r.0 ≡ o) × (r.1 ≡ n))
+  pub whole : (view (driver old)).limits.whole op o n → IfOk result (λ r. (r.0 ≡ o) × (r.1 ≡ n))
   pub done : IsTrue (view (driver old)).abilities.keeps_data → IfOk result (λ r. IsChanged r.0 r.1 zeroes (disk_value view old) (disk_value view new))
   -- at any result, for any range
   pub carries : (a m : ℕ) → Carries a m (view (driver old)) (view (driver new))

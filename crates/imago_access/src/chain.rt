@@ -113,9 +113,9 @@ impl<D: FormatDriverInstance> FormatAccess<D> {
         ensures right { IfOk result (λ r. IsRight (D.view (driver self.now)).place offset max_length r.0 r.1) }
         ensures within { IfOk result (λ r. r.1 ≤ max_length) }
         ensures part { IfOk result
-            (λ r. (n : ℕ) × (D.view (driver self.now)).answers Map offset max_length offset n ×
+            (λ r. (n : ℕ) × (D.view (driver self.now)).limits.answers Map offset max_length offset n ×
             (r.1 ≡ min n max_length)) }
-        ensures whole { (D.view (driver self.now)).no_memory Read offset max_length
+        ensures whole { (D.view (driver self.now)).limits.whole Read offset max_length
             → IfOk result (λ r. r.1 ≡ max_length) }
         ensures refused_place { IfErr result
             (λ e. (e ≡ Error.InvalidData) ⊎ (e ≡ Error.NoAccess)
@@ -130,7 +130,7 @@ impl<D: FormatDriverInstance> FormatAccess<D> {
     fn map_part(&self, offset: u64, max_length: u64) -> Result<(ShallowMapping, u64), Error>
         ensures part { IfOk result (λ r. IsPart (D.view (driver self.now)).place offset max_length r.0 r.1) }
         ensures length { IfOk result (λ r. IsOwnLength (D.view (driver self.now)) offset max_length r.1) }
-        ensures whole { (D.view (driver self.now)).no_memory Read offset max_length
+        ensures whole { (D.view (driver self.now)).limits.whole Read offset max_length
             → IfOk result (λ r. r.1 ≡ max_length) }
         ensures refused_place { IfErr result
             (λ e. (e ≡ Error.InvalidData) ⊎ (e ≡ Error.NoAccess)

@@ -1,7 +1,7 @@
 //! Discarding ranges of an image.
 ghost use Rattle.std.specs.Prelude.{◌≡◌, ◌+◌, ◌≤◌, ◌<◌, ◌^◌, None, true};
 ghost use Rattle.imago_access.specs.Chain.{driver};
-ghost use Rattle.imago_access.specs.Discarding.{HasLoosened, HasLoosenedPart, IsDiscard};
+ghost use Rattle.imago_access.specs.Discarding.{HasLoosened, HasLoosenedPart, IsImageDiscard};
 ghost use Rattle.imago_access.specs.declared.discard.DiscardCall.TheVariants as Call;
 
 use crate::access::FormatAccess;
@@ -71,7 +71,7 @@ impl<D: FormatDriverInstance> FormatAccess<D> {
     /// [`Error::Unsupported`] where the driver offers no such discards.
     pub fn discard_to_any(&mut self, alloc: Global, offset: u64, count: u64) -> Result<(), Error>
         requires { (D.view (driver self.old)).pending ≡ None }
-        ensures { IsDiscard D.view Call.ToAny self.old self.new offset count result }
+        ensures { IsImageDiscard D.view Call.ToAny self.old self.new offset count result }
     {
         self.test_end(offset, count)?;
         self.discard_range(alloc, DiscardCall::ToAny, offset, count)
@@ -88,7 +88,7 @@ impl<D: FormatDriverInstance> FormatAccess<D> {
         count: u64,
     ) -> Result<(), Error>
         requires { (D.view (driver self.old)).pending ≡ None }
-        ensures { IsDiscard D.view Call.ToBacking self.old self.new offset count result }
+        ensures { IsImageDiscard D.view Call.ToBacking self.old self.new offset count result }
     {
         self.test_end(offset, count)?;
         self.discard_range(alloc, DiscardCall::ToBacking, offset, count)

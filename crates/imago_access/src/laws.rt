@@ -22,14 +22,14 @@ use imago_drivers::drivers::FormatDriverInstance;
 pub fn flat_histories<D: FormatDriverInstance>()
     ensures { (old new : FormatAccess D) (calls : List Call) (replies : List Reply)
         → IsTrue (D.view (driver old)).abilities.keeps_data
-        → IsRun D.view old calls replies new
+        → IsRun D.view D.flushes old calls replies new
         → IsFlatHistory (backed_value D.view old) (disk D.view old) calls replies (disk D.view new) }
 {}
 
 /// No run changes a layer below, or what the driver is good for, whatever its storages keep.
 pub fn runs_keep_layers_below<D: FormatDriverInstance>()
     ensures { (old new : FormatAccess D) (calls : List Call) (replies : List Reply)
-        → IsRun D.view old calls replies new
+        → IsRun D.view D.flushes old calls replies new
         → IsKept D.view old new }
 {}
 
@@ -82,7 +82,7 @@ pub fn mappings_succeed<D: FormatDriverInstance>()
 
 /// A write of a range inside the disk, and not past the driver's places, to a writable image whose devices are reliable
 /// and whose count of faults is below its greatest value, with no cause of a refusal, is refused for want of memory
-/// alone, and succeeds where the driver takes none.
+/// alone, and succeeds where the driver writes the range at once, and takes none for it or for a commit.
 pub fn writes_succeed<D: FormatDriverInstance>()
     ensures { WritesSucceed D.view }
 {}
@@ -115,7 +115,7 @@ pub fn prepared_writes_succeed<D: FormatDriverInstance>()
     ensures { PreparedWritesSucceed D.view }
 {}
 
-/// The same of the commit of a mapping, which takes none where the mapping has no state.
+/// The same of the commit of a mapping, which takes none where the mapping has no state, or the driver says so.
 pub fn commits_succeed<D: FormatDriverInstance>()
     ensures { CommitsSucceed D.view }
 {}

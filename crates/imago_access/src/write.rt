@@ -4,7 +4,7 @@ ghost use Rattle.imago_drivers.specs.Operation.{Write, Zero};
 ghost use Rattle.imago_drivers.specs.LayerBelow.{lent};
 ghost use Rattle.imago_access.specs.Chain.{driver};
 ghost use Rattle.imago_access.specs.Calls.{IsTested, IsWrite};
-ghost use Rattle.imago_access.specs.Writing.{HasWritten, HasWrittenAll};
+ghost use Rattle.imago_access.specs.Writing.{CommitMayTakeMemory, HasWritten, HasWrittenAll};
 
 use crate::access::{FormatAccess, below};
 use imago_drivers::drivers::FormatDriverInstance;
@@ -24,7 +24,7 @@ pub(crate) fn write_first<D: FormatDriverInstance, B: LowerLayer>(
     requires writable { (D.view inner.old).abilities.is_writable ≡ true }
     requires spent { (D.view inner.old).pending ≡ None }
     requires inside { offset + length source.now ≤ (D.view inner.old).size }
-    ensures { HasWritten (lent B.as_layer_below below.entry) (D.view inner.old) (D.view inner.new) offset
+    ensures { HasWritten (lent B.as_layer_below below.entry) (CommitMayTakeMemory D.view inner.old) (D.view inner.old) (D.view inner.new) offset
         source.now result }
 {
     let mapping = inner.prepare_data_mapping(alloc, below, offset, source.len() as u64, true)?;
@@ -49,7 +49,7 @@ fn write_all<D: FormatDriverInstance, B: LowerLayer>(
     requires spent { (D.view inner.old).pending ≡ None }
     requires inside { offset + length source.now ≤ (D.view inner.old).size }
     requires fits { offset + length source.now < 2 ^ 64 }
-    ensures { HasWrittenAll (lent B.as_layer_below below.entry) (D.view inner.old) (D.view inner.new) offset
+    ensures { HasWrittenAll (lent B.as_layer_below below.entry) (CommitMayTakeMemory D.view inner.old) (D.view inner.old) (D.view inner.new) offset
         source.now result }
 {
     let mut done: usize = 0;

@@ -227,7 +227,7 @@ impl<D: FormatDriverInstance> FormatAccess<D> {
         requires inside { offset + count ≤ (D.view (driver self.old)).size }
         requires fits { offset + count < 2 ^ 64 }
         ensures some { IfOk result (λ n. (0 < n) × (n ≤ count)) }
-        ensures whole { (D.view (driver self.old)).no_memory (operation_of call) offset count
+        ensures whole { (D.view (driver self.old)).limits.whole (operation_of call) offset count
             → IfOk result (λ n. n ≡ count) }
         ensures zeroed { HasZeroed D.view offset count (λ n. n)
             (zero_reasons D.view self.old (operation_of call) offset count) self.old self.new

@@ -1,5 +1,7 @@
-use Rattle.std.specs.Prelude.{◌≡◌, ◌≢◌, ℕ, ◌+◌, ◌%◌, ◌^◌, ◌<◌, Bool, cond, max}
+use Rattle.std.specs.Prelude.{◌≡◌, ◌≢◌, ℕ, ◌+◌, ◌%◌, ◌^◌, ◌<◌, ◌⊎◌, Bool, List, Option, max}
 use Rattle.std.specs.Int.{IsPowerOfTwo}
+use Rattle.imago_storage.specs.declared.options.ZeroKind.{ZeroKind}
+use Rattle.imago_storage.specs.declared.options.ZeroKind.TheVariants as Kind
 
 -- how a storage zeroes a range
 pub data ZeroSupport : Type 0 where
@@ -24,6 +26,8 @@ MayRunOut Any len end = Unit {0}
 
 -- What never changes in a storage. Alignments are in bytes.
 pub record Features : Type 0 where
+  -- the name that it can be opened by, if it has one
+  pub filename : Option (List ℕ)
   pub mem_align : ℕ
   pub req_align : ℕ
   pub zero_align : ℕ
@@ -38,6 +42,10 @@ pub record Features : Type 0 where
   pub allocated_zeroes : ZeroSupport
   pub offers_discard : Bool
   pub offers_resize : Bool
+  -- a resize adds zeroes in every mode
+  pub grows_by_zeroes : Bool
+  -- it tells what a relative name stands for
+  pub resolves_paths : Bool
   pub read_memory : MemoryUse
   pub write_memory : MemoryUse
   pub zero_memory : MemoryUse
@@ -70,10 +78,19 @@ pub record IsAlignedTo (align at n : ℕ) : Type 0 where
   pub ends : at + n < 2 ^ 64
 
 -- how zero writes of that kind are done
-abbrev pub zero_support : Features → Bool → ZeroSupport
-zero_support f allocated = cond allocated f.allocated_zeroes f.zeroes
+abbrev pub zero_support : Features → ZeroKind → ZeroSupport
+zero_support f Kind.Any = f.zeroes
+zero_support f Kind.Allocated = f.allocated_zeroes
 
 -- a zero write of that many bytes may be refused as unsupported
 pub record MayBeUnsupported (z : ZeroSupport) (mem_align n : ℕ) : Type 0 where
   pub not_in_place : z ≢ InPlace
   pub as_data : z ≡ AsData → n % mem_align ≢ 0
+
+-- a read or write up to that end may run out of memory of the storage's own
+abbrev pub RequestMayRunOut : Features → ℕ → ℕ → Type 0
+RequestMayRunOut f len end = MayRunOut f.read_memory len end ⊎ MayRunOut f.write_memory len end
+
+-- a zero write up to that end may do so, with its reads and writes
+abbrev pub ZeroesMayRunOut : Features → ℕ → ℕ → Type 0
+ZeroesMayRunOut f len end = RequestMayRunOut f len end ⊎ MayRunOut f.zero_memory len end

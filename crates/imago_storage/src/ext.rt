@@ -3,14 +3,15 @@ ghost use Rattle.std.specs.Prelude.{◌≡◌, ◌+◌, ◌-◌, ◌<◌, ◌≤
 ghost use Rattle.imago_storage.specs.Bytes.{splice, zero_extended, WriteOutcome, IsReadAt, SameOutside};
 ghost use Rattle.imago_storage.specs.Error.{IsExtRefusal};
 ghost use Rattle.imago_storage.specs.Faults.{CountsFaults};
-ghost use Rattle.imago_storage.specs.Features.{IsAlignedRequest, IsAlignedTo, InPlace, MayRunOut, len_align};
-ghost use Rattle.imago_storage.specs.IoCount.{IsWriteWork};
+ghost use Rattle.imago_storage.specs.Features.{IsAlignedRequest, IsAlignedTo, InPlace, MayRunOut, RequestMayRunOut, ZeroesMayRunOut, len_align};
+ghost use Rattle.imago_storage.specs.IoCount.{IsWriteWork, AddsAtMost};
 ghost use Rattle.imago_storage.specs.Zeroes.{HasZeroed, MayWrap, FitsZeroes};
+ghost use Rattle.imago_storage.specs.Maintenance.{IsDiscarded};
 ghost use Rattle.imago_storage.specs.Padding.{padded_end, Wraps, aligned_start, aligned_end, RangeWraps};
 
 use crate::error::Error;
 use crate::request::{discard_any, read_any, write_any};
-use crate::storage::Storage;
+use crate::storage::{Storage, ZeroKind};
 use crate::zeroes::zero_any;
 use std::alloc::Global;
 
@@ -69,6 +70,12 @@ pub trait StorageExt: Storage {
         ensures features { Self.features self.new ≡ Self.features self.old }
         ensures work { IsWriteWork (len_align (Self.features self.old)) (length source.now) (Self.work self.old)
             (Self.work self.new) }
+        ensures direct { IsAlignedRequest (Self.features self.old) offset (length source.now)
+            → AddsAtMost 0 0 1 (length source.now) (Self.work self.old) (Self.work self.new) }
+        ensures early { IsErrOf result Error.Memory
+            → (¬ RequestMayRunOut (Self.features self.old) (length (Self.bytes self.old))
+            (padded_end (Self.features self.old) offset (length source.now)))
+            → self.new ≡ self.old }
         ensures only { IfErr result IsExtRefusal }
         ensures cause { CountsFaults (Self.features self.old).is_reliable (Self.fault_count self.old)
             (Self.fault_count self.new) result }
@@ -92,6 +99,12 @@ pub trait StorageExt: Storage {
         ensures features { Self.features self.new ≡ Self.features self.old }
         ensures work { IsWriteWork (len_align (Self.features self.old)) (length source.now) (Self.work self.old)
             (Self.work self.new) }
+        ensures direct { IsAlignedRequest (Self.features self.old) offset (length source.now)
+            → AddsAtMost 0 0 1 (length source.now) (Self.work self.old) (Self.work self.new) }
+        ensures early { IsErrOf result Error.Memory
+            → (¬ RequestMayRunOut (Self.features self.old) (length (Self.bytes self.old))
+            (padded_end (Self.features self.old) offset (length source.now)))
+            → self.new ≡ self.old }
         ensures only { IfErr result IsExtRefusal }
         ensures cause { CountsFaults (Self.features self.old).is_reliable (Self.fault_count self.old)
             (Self.fault_count self.new) result }
@@ -129,7 +142,11 @@ pub trait StorageExt: Storage {
             → IsAlignedTo (Self.features self.old).zero_align offset count
             → (Self.features self.old).zeroes ≡ InPlace
             → MayRunOut (Self.features self.old).zero_memory (length (Self.bytes self.old))
-            (offset + count) };
+            (offset + count) }
+        ensures early { IsErrOf result Error.Memory
+            → (¬ ZeroesMayRunOut (Self.features self.old) (length (Self.bytes self.old))
+            (offset + count + (len_align (Self.features self.old) - 1)))
+            → self.new ≡ self.old };
 
     /// Zeroes a range and allocates it, as [`write_zeroes`](Self::write_zeroes) does otherwise.
     fn write_allocated_zeroes(
@@ -160,7 +177,11 @@ pub trait StorageExt: Storage {
             → IsAlignedTo (Self.features self.old).zero_align offset count
             → (Self.features self.old).allocated_zeroes ≡ InPlace
             → MayRunOut (Self.features self.old).zero_memory (length (Self.bytes self.old))
-            (offset + count) };
+            (offset + count) }
+        ensures early { IsErrOf result Error.Memory
+            → (¬ ZeroesMayRunOut (Self.features self.old) (length (Self.bytes self.old))
+            (offset + count + (len_align (Self.features self.old) - 1)))
+            → self.new ≡ self.old };
 
     /// Says that a range is no longer needed. The part of it that is aligned to the discard alignment is unspecified
     /// afterwards, also where the call is refused; all other bytes, and the length, stay. A storage that offers no
@@ -176,6 +197,13 @@ pub trait StorageExt: Storage {
         ensures wraps { IsErrOf result Error.WrapAround ↔ RangeWraps (Self.features self.old).discard_align offset
             count }
         ensures unchanged { IsErrOf result Error.WrapAround → self.new ≡ self.old }
+        ensures performed { (¬ RangeWraps (Self.features self.old).discard_align offset count)
+            → aligned_start (Self.features self.old).discard_align offset < aligned_end
+            (Self.features self.old).discard_align offset count
+            → IsDiscarded Self.maintenance (aligned_start (Self.features self.old).discard_align offset)
+            (aligned_end (Self.features self.old).discard_align offset count - aligned_start
+            (Self.features self.old).discard_align offset)
+            self.old self.new result }
         ensures nothing { aligned_end (Self.features self.old).discard_align offset count ≤ aligned_start
             (Self.features self.old).discard_align offset
             → self.new ≡ self.old }
@@ -205,7 +233,7 @@ impl<S: Storage> StorageExt for S {
     }
 
     fn write_zeroes(&mut self, alloc: Global, offset: u64, count: u64) -> Result<(), Error> {
-        zero_any(self, alloc, offset, count, false)
+        zero_any(self, alloc, offset, count, ZeroKind::Any)
     }
 
     fn write_allocated_zeroes(
@@ -214,7 +242,7 @@ impl<S: Storage> StorageExt for S {
         offset: u64,
         count: u64,
     ) -> Result<(), Error> {
-        zero_any(self, alloc, offset, count, true)
+        zero_any(self, alloc, offset, count, ZeroKind::Allocated)
     }
 
     fn discard(&mut self, offset: u64, count: u64) -> Result<(), Error> {

@@ -1,15 +1,15 @@
 //! Zero writes of any range.
-ghost use Rattle.std.specs.Prelude.{◌≡◌, ◌≢◌, ℕ, ◌+◌, ◌-◌, ◌%◌, ◌<◌, ◌≤◌, ◌^◌, length, min, replicate, Bool, OnOk, OnErr, IfErr, IsErrOf, IsOk, Ok, List, ◌↔◌};
+ghost use Rattle.std.specs.Prelude.{◌≡◌, ◌≢◌, ℕ, ◌+◌, ◌-◌, ◌%◌, ◌<◌, ◌≤◌, ◌⊎◌, ◌^◌, length, max, min, replicate, OnOk, OnErr, IfErr, IsErrOf, IsOk, Ok, List, ◌↔◌};
 ghost use Rattle.imago_storage.specs.Error.{IsExtRefusal, IsPureRefusal, IsZeroRefusal};
 ghost use Rattle.imago_storage.specs.Faults.{CountsFaults};
-ghost use Rattle.imago_storage.specs.Features.{Features, InPlace, AsData, MayRunOut, MayBeUnsupported, IsAlignedTo, len_align, zero_support};
+ghost use Rattle.imago_storage.specs.Features.{Features, InPlace, AsData, MayRunOut, MayBeUnsupported, IsAlignedTo, RequestMayRunOut, ZeroesMayRunOut, len_align, zero_support};
 ghost use Rattle.imago_storage.specs.Padding.{Wraps, RangeWraps, IsAlignedPart};
 ghost use Rattle.imago_storage.specs.Zeroes.{HasZeroed, ZeroedPart, EdgeWraps, DataWraps, MayWrap, FitsZeroes};
 
 use crate::align::{aligned_part, head_length, length_align, zero_align};
 use crate::error::Error;
-use crate::request::write_any;
-use crate::storage::{Storage, ZERO_PIECE, zero_buffer};
+use crate::request::write_by;
+use crate::storage::{Storage, ZERO_PIECE, ZeroKind, zero_buffer};
 use std::alloc::Global;
 
 /// Zeroes a range: its part that is aligned to the zero alignment by a zero write of the storage, and what stands
@@ -20,7 +20,7 @@ pub(crate) fn zero_any<S: Storage>(
     alloc: Global,
     offset: u64,
     count: u64,
-    allocated: bool,
+    kind: ZeroKind,
 ) -> Result<(), Error>
     ensures empty { count ≡ 0 → IsOk result × (storage.new ≡ storage.old) }
     ensures written { 0 < count
@@ -30,21 +30,25 @@ pub(crate) fn zero_any<S: Storage>(
         → RangeWraps (S.features storage.old).zero_align offset count
         → IsErrOf result Error.WrapAround × (storage.new ≡ storage.old) }
     ensures may_wrap { IsErrOf result Error.WrapAround
-        → MayWrap (S.features storage.old) (zero_support (S.features storage.old) allocated) offset
+        → MayWrap (S.features storage.old) (zero_support (S.features storage.old) kind) offset
         count }
     ensures fits { 0 < count
         → OnOk result
         (FitsZeroes (S.features storage.old)
-        (zero_support (S.features storage.old) allocated) offset count) }
+        (zero_support (S.features storage.old) kind) offset count) }
     ensures features { S.features storage.new ≡ S.features storage.old }
     ensures only { IfErr result IsExtRefusal }
     ensures cause { CountsFaults (S.features storage.old).is_reliable (S.fault_count storage.old)
         (S.fault_count storage.new) result }
     ensures memory { IsErrOf result Error.Memory
         → IsAlignedTo (S.features storage.old).zero_align offset count
-        → zero_support (S.features storage.old) allocated ≡ InPlace
+        → zero_support (S.features storage.old) kind ≡ InPlace
         → MayRunOut (S.features storage.old).zero_memory (length (S.bytes storage.old))
         (offset + count) }
+    ensures early { IsErrOf result Error.Memory
+        → (¬ ZeroesMayRunOut (S.features storage.old) (length (S.bytes storage.old))
+        (offset + count + (len_align (S.features storage.old) - 1)))
+        → storage.new ≡ storage.old }
 {
     if count == 0 {
         return Ok(());
@@ -53,7 +57,7 @@ pub(crate) fn zero_any<S: Storage>(
     let Some((start, end)) = aligned_part(align, offset, count) else {
         return Err(Error::WrapAround);
     };
-    zero_range(storage, alloc, offset, count, start, end, allocated)
+    zero_range(storage, alloc, offset, count, start, end, kind)
 }
 
 /// Zeroes a range whose aligned part stands from `start` to `end`.
@@ -64,17 +68,17 @@ fn zero_range<S: Storage>(
     count: u64,
     start: u64,
     end: u64,
-    allocated: bool,
+    kind: ZeroKind,
 ) -> Result<(), Error>
     requires part { IsAlignedPart (S.features storage.old).zero_align offset count start end }
     requires some { 0 < count }
     ensures written { HasZeroed (S.features storage.old) (S.bytes storage.old) offset count (S.bytes storage.new)
         result }
     ensures may_wrap { IsErrOf result Error.WrapAround
-        → MayWrap (S.features storage.old) (zero_support (S.features storage.old) allocated) offset
+        → MayWrap (S.features storage.old) (zero_support (S.features storage.old) kind) offset
         count }
     ensures fits { OnOk result
-        (FitsZeroes (S.features storage.old) (zero_support (S.features storage.old) allocated)
+        (FitsZeroes (S.features storage.old) (zero_support (S.features storage.old) kind)
         offset count) }
     ensures features { S.features storage.new ≡ S.features storage.old }
     ensures only { IfErr result IsExtRefusal }
@@ -82,14 +86,18 @@ fn zero_range<S: Storage>(
         (S.fault_count storage.new) result }
     ensures memory { IsErrOf result Error.Memory
         → IsAlignedTo (S.features storage.old).zero_align offset count
-        → zero_support (S.features storage.old) allocated ≡ InPlace
+        → zero_support (S.features storage.old) kind ≡ InPlace
         → MayRunOut (S.features storage.old).zero_memory (length (S.bytes storage.old))
         (offset + count) }
+    ensures early { IsErrOf result Error.Memory
+        → (¬ ZeroesMayRunOut (S.features storage.old) (length (S.bytes storage.old))
+        (offset + count + (len_align (S.features storage.old) - 1)))
+        → storage.new ≡ storage.old }
 {
     if end <= start {
         return zero_as_data(storage, alloc, offset, count);
     }
-    match zero_part_and_edges(storage, alloc, offset, count, start, end, allocated) {
+    match zero_part_and_edges(storage, alloc, offset, count, start, end, kind) {
         Err(Error::Unsupported) => zero_as_data(storage, alloc, offset, count),
         Err(refusal) => Err(refusal),
         Ok(()) => Ok(()),
@@ -97,7 +105,7 @@ fn zero_range<S: Storage>(
 }
 
 /// Zeroes the aligned part of a range by a zero write of the storage, and then its edges as data. Where that zero
-/// write is refused as unsupported, so is this, and each byte of the range is old or zero.
+/// write is refused as unsupported, so is this, and nothing changed.
 fn zero_part_and_edges<S: Storage>(
     storage: &mut S,
     alloc: Global,
@@ -105,7 +113,7 @@ fn zero_part_and_edges<S: Storage>(
     count: u64,
     start: u64,
     end: u64,
-    allocated: bool,
+    kind: ZeroKind,
 ) -> Result<(), Error>
     requires part { IsAlignedPart (S.features storage.old).zero_align offset count start end }
     requires some { start < end }
@@ -114,11 +122,11 @@ fn zero_part_and_edges<S: Storage>(
     ensures wraps { IsErrOf result Error.WrapAround → EdgeWraps (S.features storage.old) offset count }
     ensures fits { OnOk result (¬ EdgeWraps (S.features storage.old) offset count) }
     ensures offered { IsErrOf result Error.Unsupported
-        → MayBeUnsupported (zero_support (S.features storage.old) allocated)
+        → MayBeUnsupported (zero_support (S.features storage.old) kind)
         (S.features storage.old).mem_align (end - start) }
-    ensures refused { zero_support (S.features storage.old) allocated ≡ AsData
+    ensures refused { zero_support (S.features storage.old) kind ≡ AsData
         → (end - start) % (S.features storage.old).mem_align ≢ 0
-        → IsErrOf result Error.Unsupported }
+        → IsErrOf result Error.Unsupported ⊎ IsErrOf result Error.Memory }
     ensures features { S.features storage.new ≡ S.features storage.old }
     ensures only { IfErr result IsZeroRefusal }
     ensures cause { CountsFaults (S.features storage.old).is_reliable (S.fault_count storage.old)
@@ -126,21 +134,31 @@ fn zero_part_and_edges<S: Storage>(
     ensures memory { IsErrOf result Error.Memory
         → start ≡ offset
         → end ≡ offset + count
-        → zero_support (S.features storage.old) allocated ≡ InPlace
+        → zero_support (S.features storage.old) kind ≡ InPlace
         → MayRunOut (S.features storage.old).zero_memory (length (S.bytes storage.old))
         (offset + count) }
+    ensures early { IsErrOf result Error.Memory
+        → (¬ ZeroesMayRunOut (S.features storage.old) (length (S.bytes storage.old))
+        (offset + count + (len_align (S.features storage.old) - 1)))
+        → storage.new ≡ storage.old }
+    ensures unchanged { IsErrOf result Error.Unsupported → storage.new ≡ storage.old }
 {
-    zero_part(storage, alloc, start, end - start, allocated)?;
     if start == offset && end == offset + count {
-        return Ok(());
+        return zero_part(storage, alloc, offset, count, kind);
     }
-    zero_edges(storage, alloc, offset, count, start, end)
+    // all memory is asked for before anything is written
+    let edge = (start - offset).max(offset + count - end);
+    let zeroes = zero_buffer(alloc, edge as usize)?;
+    let mut block = zero_buffer(alloc, length_align(&*storage) as usize)?;
+    zero_part(storage, alloc, start, end - start, kind)?;
+    zero_edges(storage, &zeroes, &mut block, offset, count, start, end)
 }
 
 /// Zeroes as data what stands before and behind the aligned part of a range, which is zeroed already.
 fn zero_edges<S: Storage>(
     storage: &mut S,
-    alloc: Global,
+    zeroes: &[u8],
+    block: &mut [u8],
     offset: u64,
     count: u64,
     start: u64,
@@ -148,6 +166,9 @@ fn zero_edges<S: Storage>(
 ) -> Result<(), Error>
     requires part { IsAlignedPart (S.features storage.old).zero_align offset count start end }
     requires some { start < end }
+    requires zeroes { zeroes.now ≡ replicate (length zeroes.now) 0 }
+    requires enough { max (start - offset) (offset + count - end) ≤ length zeroes.now }
+    requires block { length block.old ≡ len_align (S.features storage.old) }
     ensures written { (old : List ℕ)
         → HasZeroed {T = Unit {0}} (S.features storage.old) old start (end - start)
         (S.bytes storage.old) (Ok tt)
@@ -158,29 +179,29 @@ fn zero_edges<S: Storage>(
     ensures only { IfErr result IsExtRefusal }
     ensures cause { CountsFaults (S.features storage.old).is_reliable (S.fault_count storage.old)
         (S.fault_count storage.new) result }
+    ensures memory { IsErrOf result Error.Memory
+        → RequestMayRunOut (S.features storage.old) (length (S.bytes storage.old))
+        (offset + count + (len_align (S.features storage.old) - 1)) }
 {
-    let head = start - offset;
-    let tail = offset + count - end;
-    let zeroes = zero_buffer(alloc, head.max(tail) as usize)?;
-    zero_from(storage, alloc, &zeroes, offset, head)?;
-    zero_from(storage, alloc, &zeroes, end, tail)
+    zero_from(storage, zeroes, block, offset, start - offset)?;
+    zero_from(storage, zeroes, block, end, offset + count - end)
 }
 
-/// Zeroes an aligned range by the storage's zero write, of the kind that allocates or of the other.
+/// Zeroes an aligned range by the storage's zero write of that kind.
 fn zero_part<S: Storage>(
     storage: &mut S,
     alloc: Global,
     offset: u64,
     count: u64,
-    allocated: bool,
+    kind: ZeroKind,
 ) -> Result<(), Error>
     requires { IsAlignedTo (S.features storage.old).zero_align offset count }
     ensures written { HasZeroed (S.features storage.old) (S.bytes storage.old) offset count (S.bytes storage.new)
         result }
     ensures offered { IsErrOf result Error.Unsupported
-        → MayBeUnsupported (zero_support (S.features storage.old) allocated)
+        → MayBeUnsupported (zero_support (S.features storage.old) kind)
         (S.features storage.old).mem_align count }
-    ensures refused { zero_support (S.features storage.old) allocated ≡ AsData
+    ensures refused { zero_support (S.features storage.old) kind ≡ AsData
         → count % (S.features storage.old).mem_align ≢ 0
         → IsErrOf result Error.Unsupported }
     ensures features { S.features storage.new ≡ S.features storage.old }
@@ -188,27 +209,31 @@ fn zero_part<S: Storage>(
     ensures cause { CountsFaults (S.features storage.old).is_reliable (S.fault_count storage.old)
         (S.fault_count storage.new) result }
     ensures memory { IsErrOf result Error.Memory
-        → zero_support (S.features storage.old) allocated ≡ InPlace
+        → zero_support (S.features storage.old) kind ≡ InPlace
         → MayRunOut (S.features storage.old).zero_memory (length (S.bytes storage.old))
         (offset + count) }
+    ensures early { IsErrOf result Error.Memory
+        → (¬ ZeroesMayRunOut (S.features storage.old) (length (S.bytes storage.old)) (offset + count))
+        → storage.new ≡ storage.old }
+    ensures unchanged { IsErrOf result Error.Unsupported → storage.new ≡ storage.old }
 {
-    if allocated {
-        storage.pure_write_allocated_zeroes(alloc, offset, count)
-    } else {
-        storage.pure_write_zeroes(alloc, offset, count)
+    match kind {
+        ZeroKind::Any => storage.pure_write_zeroes(alloc, offset, count),
+        ZeroKind::Allocated => storage.pure_write_allocated_zeroes(alloc, offset, count),
     }
 }
 
-/// Writes that many zeroes out of a buffer of zeroes.
+/// Writes that many zeroes out of a buffer of zeroes, with a block for what isn't aligned.
 fn zero_from<S: Storage>(
     storage: &mut S,
-    alloc: Global,
     zeroes: &[u8],
+    block: &mut [u8],
     offset: u64,
     count: u64,
 ) -> Result<(), Error>
     requires zeroes { zeroes.now ≡ replicate (length zeroes.now) 0 }
     requires enough { count ≤ length zeroes.now }
+    requires block { length block.old ≡ len_align (S.features storage.old) }
     ensures written { ZeroedPart (S.features storage.old) (S.bytes storage.old) offset count (S.bytes storage.new)
         result }
     ensures wraps { IsErrOf result Error.WrapAround ↔ Wraps (S.features storage.old) offset count }
@@ -216,12 +241,15 @@ fn zero_from<S: Storage>(
     ensures only { IfErr result IsExtRefusal }
     ensures cause { CountsFaults (S.features storage.old).is_reliable (S.fault_count storage.old)
         (S.fault_count storage.new) result }
+    ensures memory { IsErrOf result Error.Memory
+        → RequestMayRunOut (S.features storage.old) (length (S.bytes storage.old))
+        (offset + count + (len_align (S.features storage.old) - 1)) }
 {
-    write_any(storage, alloc, &zeroes[..count as usize], offset)
+    write_by(storage, block, &zeroes[..count as usize], offset)
 }
 
 /// Writes zeroes as data: up to the first multiple of the request alignment, where the range doesn't start at one,
-/// and then in whole pieces, all from one buffer.
+/// and then in whole pieces, all from one buffer. All memory is asked for before the first write.
 fn zero_as_data<S: Storage>(
     storage: &mut S,
     alloc: Global,
@@ -238,21 +266,26 @@ fn zero_as_data<S: Storage>(
     ensures only { IfErr result IsExtRefusal }
     ensures cause { CountsFaults (S.features storage.old).is_reliable (S.fault_count storage.old)
         (S.fault_count storage.new) result }
+    ensures early { IsErrOf result Error.Memory
+        → (¬ RequestMayRunOut (S.features storage.old) (length (S.bytes storage.old))
+        (offset + count + (len_align (S.features storage.old) - 1)))
+        → storage.new ≡ storage.old }
 {
     let piece = length_align(&*storage).max(ZERO_PIECE);
     let zeroes = zero_buffer(alloc, piece.min(count) as usize)?;
+    let mut block = zero_buffer(alloc, length_align(&*storage) as usize)?;
     let first = head_length(&*storage, offset, count);
     if first == 0 {
-        return zero_pieces(storage, alloc, &zeroes, piece, offset, count);
+        return zero_pieces(storage, &zeroes, &mut block, piece, offset, count);
     }
-    zero_from(storage, alloc, &zeroes, offset, first)?;
+    zero_from(storage, &zeroes, &mut block, offset, first)?;
     if first == count {
         return Ok(());
     }
     zero_pieces(
         storage,
-        alloc,
         &zeroes,
+        &mut block,
         piece,
         offset + first,
         count - first,
@@ -262,14 +295,15 @@ fn zero_as_data<S: Storage>(
 /// Writes zeroes as data from a multiple of the request alignment on, in pieces from a buffer of zeroes.
 fn zero_pieces<S: Storage>(
     storage: &mut S,
-    alloc: Global,
     zeroes: &[u8],
+    block: &mut [u8],
     piece: u64,
     offset: u64,
     count: u64,
 ) -> Result<(), Error>
     requires zeroes { zeroes.now ≡ replicate (length zeroes.now) 0 }
     requires enough { min piece count ≤ length zeroes.now }
+    requires block { length block.old ≡ len_align (S.features storage.old) }
     requires positive { 0 < piece }
     requires whole { piece % len_align (S.features storage.old) ≡ 0 }
     requires start { offset % (S.features storage.old).req_align ≡ 0 }
@@ -283,11 +317,14 @@ fn zero_pieces<S: Storage>(
     ensures only { IfErr result IsExtRefusal }
     ensures cause { CountsFaults (S.features storage.old).is_reliable (S.fault_count storage.old)
         (S.fault_count storage.new) result }
+    ensures memory { IsErrOf result Error.Memory
+        → RequestMayRunOut (S.features storage.old) (length (S.bytes storage.old))
+        (offset + count + (len_align (S.features storage.old) - 1)) }
 {
     let mut done = 0;
     while done < count {
         let next = piece.min(count - done);
-        zero_from(storage, alloc, zeroes, offset + done, next)?;
+        zero_from(storage, zeroes, block, offset + done, next)?;
         done += next;
     }
     Ok(())

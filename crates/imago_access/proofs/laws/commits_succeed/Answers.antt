@@ -6,4 +6,4 @@ use Rattle.imago_access.proofs.laws.commits_succeed.Goals as goal
 pub returns : goal.returns
 returns g c = λ old new m result ready h.
     let v = g.D.FormatDriverInstance.view (driver old) in
-    driver_succeeds v (g.D.FormatDriverInstance.view (driver new)).fault_count (commit_reasons v m) result ready.device (λ z. z) (λ z. z) (λ z. z) (λ e z. ready.own (h.foreign.0 e)) ready.no_cause (λ k none. k none) h.faults h.refusals
+    driver_succeeds v (g.D.FormatDriverInstance.view (driver new)).fault_count (commit_reasons v m) result ready.device (λ z. z) (λ z. z) (λ z. z) (λ e z. ready.own (h.foreign.0 e)) ready.no_cause (λ k none. none k) h.faults h.refusals

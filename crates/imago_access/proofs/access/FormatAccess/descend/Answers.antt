@@ -1,7 +1,7 @@
 use Rattle.std.proofs.Common.{arith, sym, ap, ◌∙◌, ◌≡◌, ◌+◌, Some}
 use Rattle.std.proofs.lemmas.Result.{err_from_is_err_and}
 use Rattle.imago_access.specs.Chain.{driver, backing, unboxed}
-use Rattle.imago_access.proofs.Chains.{no_memory_here}
+use Rattle.imago_access.proofs.Chains.{whole_here}
 use Rattle.imago_access.proofs.Descent.{step_down}
 use Rattle.imago_access.proofs.Lengths.{bottom_of, length_lower, length_landed, some_named, reference_here}
 use Rattle.imago_access.proofs.Landed.{descent_refused, descent_unreadable, left_some}
@@ -13,7 +13,7 @@ loop-mapping-preserved g c =
     let l = c.loop-mapping in
     let r = c.in_ok-mapping in
     let below : backing l.layer.now ≡ Some c.deref-layer.result.now = ap unboxed c.in-Some.is ∙ ap Some (sym c.deref-layer.ensures) in
-    let down = step_down v c.args.self.now c.args.offset c.args.max_length l.layer.now l.invariant.hops l.way.offset l.way.length l.way.writable l.invariant.leads r.mapping r.count r.ensures.part c.deref-layer.result.now c.in-Indirect.offset c.in-Indirect.writable below c.in-Indirect.is (λ h. r.ensures.whole (no_memory_here v l.layer.now l.way.offset l.way.length h)) in
+    let down = step_down v c.args.self.now c.args.offset c.args.max_length l.layer.now l.invariant.hops l.way.offset l.way.length l.way.writable l.invariant.leads r.mapping r.count r.ensures.part c.deref-layer.result.now c.in-Indirect.offset c.in-Indirect.writable below c.in-Indirect.is (λ h. r.ensures.whole (whole_here v l.layer.now l.way.offset l.way.length h)) in
     let some = some_named v c.args.self.now c.args.offset c.args.max_length l.layer.now l.invariant.hops l.way.offset l.way.length l.way.writable l.invariant.leads r.mapping r.count r.ensures.part c.requires in
     let place = reference_here (v (driver l.layer.now)).place l.way.offset l.way.length r.mapping r.count r.ensures.part c.in-Indirect.offset c.in-Indirect.writable c.in-Indirect.is some in
     record {

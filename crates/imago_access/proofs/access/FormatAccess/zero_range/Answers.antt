@@ -2,6 +2,7 @@ use Rattle.std.proofs.Common.{arith, inl, refl}
 use Rattle.std.proofs.lemmas.Result.{err_from_is_err_and}
 use Rattle.imago_access.specs.Zeroing.{operation_of}
 use Rattle.imago_access.proofs.ZeroLoops.{zeroed_next, range_refused, once_next, nothing_zeroed, all_zeroed}
+use Rattle.imago_access.proofs.ZeroSteps.{zeroes_range}
 use Rattle.imago_access.proofs.access.FormatAccess.zero_range.Goals as goal
 
 pub loop-done-init : goal.loop-done-init
@@ -11,13 +12,13 @@ pub loop-done-preserved : goal.loop-done-preserved
 loop-done-preserved g c =
     let i = c.loop-done.invariant in
     (zeroed_next g.D.FormatDriverInstance.view c.args.self.now c.args.offset c.args.count c.loop-done.self c.zero_next.new.self c.loop-done.done i.0 _ c.in_ok-done.field-0 (c.in_ok-done.ensures.some.1) c.in_ok-done.ensures.zeroed,
-    once_next g.D.FormatDriverInstance.view (operation_of c.args.call) c.args.self.now c.loop-done.self c.zero_next.new.self c.args.offset c.args.count c.loop-done.done i.0 i.1 c.in_ok-done.field-0 c.loop-done-test.true c.in_ok-done.ensures.whole)
+    once_next g.D.FormatDriverInstance.view (operation_of c.args.call) (zeroes_range c.args.call) c.args.self.now c.loop-done.self c.zero_next.new.self c.args.offset c.args.count c.loop-done.done i.0 i.1 c.in_ok-done.field-0 c.loop-done-test.true c.in_ok-done.ensures.whole)
 
 pub returns-in_err-done : goal.returns-in_err-done
 returns-in_err-done g c =
     let p = err_from_is_err_and c.from_residual.result c.from_residual.ensures.1 in
     let i = c.loop-done.invariant in
-    rw (p.1, p.2) (range_refused g.D.FormatDriverInstance.view (operation_of c.args.call) c.args.self.now c.loop-done.self c.zero_next.new.self c.args.offset c.args.count c.loop-done.done i.0 i.1 _ _ c.in_err-done.field-0.0 c.loop-done-test.true c.in_err-done.ensures.zeroed)
+    rw (p.1, p.2) (range_refused g.D.FormatDriverInstance.view (operation_of c.args.call) (zeroes_range c.args.call) c.args.self.now c.loop-done.self c.zero_next.new.self c.args.offset c.args.count c.loop-done.done i.0 i.1 _ _ c.in_err-done.field-0.0 c.loop-done-test.true c.in_err-done.ensures.zeroed)
 
 pub returns : goal.returns
 returns g c = all_zeroed g.D.FormatDriverInstance.view c.args.self.now c.args.offset c.args.count tt c.loop-done.self c.loop-done.done _ (omega (arith, c.loop-done.invariant.0.within)) c.loop-done.invariant.0
