@@ -6,7 +6,7 @@ use Rattle.imago_storage.specs.Faults.{CountsFaults}
 use Rattle.imago_drivers.specs.declared.format.PreallocateMode.{PreallocateMode}
 use Rattle.imago_drivers.specs.Place.{Value}
 use Rattle.imago_drivers.specs.LayerBelow.{ReadBound}
-use Rattle.imago_drivers.specs.Operation.{Operation, Map, Write, Grow, Shrink}
+use Rattle.imago_drivers.specs.Operation.{Operation, Map, Write, Grow, Shrink, Flush}
 use Rattle.imago_drivers.specs.View.{View, EndsIn}
 use Rattle.imago_drivers.specs.Laws.{IsLawful, AreCauses}
 use Rattle.imago_drivers.specs.Reasons.{Reasons, allowed}
@@ -17,7 +17,7 @@ use Rattle.imago_access.specs.ChainLaws.{image_is_layer}
 use Rattle.imago_access.specs.Calls.{FailsTest, ShowsFaults, range_refusals, write_refusals, devices_reliable, IsWrite}
 use Rattle.imago_drivers.specs.Done.{driver_reasons}
 use Rattle.imago_access.specs.Sizes.{IsResize, HasGrown, HasShrunk, FailsWritable}
-use Rattle.imago_access.specs.Success.{Succeeds, IsReadable, IsMildRefusal, IsReadyToWrite, IsReadyToResize, HasSoundDevice, TakesNoneToWrite, SucceedsIfOffered, change_cause}
+use Rattle.imago_access.specs.Success.{Succeeds, IsReadable, IsMildRefusal, IsReadyToWrite, IsReadyToResize, HasSoundDevice, TakesNoneToWrite, SucceedsIfOffered, FlushesSucceed, change_cause}
 use Rattle.imago_access.proofs.Images.{both_ways, not_failed}
 
 -- a refusal that is for nothing else is for want of memory, or has a cause
@@ -123,6 +123,11 @@ module _ {D St : Type 0} (view : D → View St) where
   write_succeeds old new o bytes result g h =
       range_succeeds old new o (length bytes) (write_refusals view old o (length bytes)) result g (λ z. z) (λ z. z) (λ z. z) (λ z. z) (λ e c. c)
       (λ k none. ⊎_elim (λ taken. taken (none.0, none.1)) (λ may. none.2 may) k) (counts_faults _ _ _ result h.faults) h.refusals
+
+  pub flush_succeeds : (relation : D → D → Result Unit Error → Type 0) → FlushesSucceed view relation
+  flush_succeeds relation = λ old new result sound no_cause h.
+      let v = view (driver old) in
+      driver_succeeds v (view (driver new)).fault_count (driver_reasons v Flush 0 0) result sound (λ z. z) (λ z. z) (λ z. z) (λ e z. z) no_cause (λ k none. k none) h.faults h.refusals
 
   -- what is left of a refusal of a resize that may count on its devices
   resize_left : (old new : FormatAccess D) (op : Operation) (n : ℕ) (r : Reasons) (b : Bool) (e : Error) → IsReadyToResize view old op n → b ≡ true

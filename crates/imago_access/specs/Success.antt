@@ -110,8 +110,8 @@ CommitsSucceed {D} {St} view = (old new : FormatAccess D) (m : PreparedDataMappi
     → IsCommit view (driver old) (driver new) m result → Succeeds (CommitTakesMemory (view (driver old)) m → ⊥) result
 
 -- a flush, a sync or an invalidation of caches, on a device that doesn't fail
-abbrev pub FlushesSucceed : {D St : Type 0} → (D → View St) → Type 0
-FlushesSucceed {D} view = (relation : D → D → Result Unit Error → Type 0) (old new : FormatAccess D) (result : Result Unit Error) → HasSoundDevice (view (driver old))
+abbrev pub FlushesSucceed : {D St : Type 0} → (D → View St) → (D → D → Result Unit Error → Type 0) → Type 0
+FlushesSucceed {D} view relation = (old new : FormatAccess D) (result : Result Unit Error) → HasSoundDevice (view (driver old))
     → ((e : Error) → (view (driver old)).limits.cause Flush 0 0 e → ⊥)
     → IsFlushed view relation old new result → Succeeds ((view (driver old)).limits.no_memory Flush 0 0) result
 

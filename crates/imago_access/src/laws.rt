@@ -122,5 +122,7 @@ pub fn commits_succeed<D: FormatDriverInstance>()
 
 /// The same of a flush, a sync and an invalidation of caches.
 pub fn flushes_succeed<D: FormatDriverInstance>()
-    ensures { FlushesSucceed D.view }
+    ensures flushed { FlushesSucceed D.view D.flushes.flushed }
+    ensures synced { FlushesSucceed D.view D.flushes.synced }
+    ensures invalidated { FlushesSucceed D.view D.flushes.invalidated }
 {}

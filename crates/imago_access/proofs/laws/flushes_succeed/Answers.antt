@@ -1,10 +1,11 @@
-use Rattle.imago_drivers.specs.Operation.{Flush}
-use Rattle.imago_drivers.specs.Done.{driver_reasons}
-use Rattle.imago_access.specs.Chain.{driver}
-use Rattle.imago_access.proofs.Successes.{driver_succeeds}
+use Rattle.imago_access.proofs.Successes.{flush_succeeds}
 use Rattle.imago_access.proofs.laws.flushes_succeed.Goals as goal
 
-pub returns : goal.returns
-returns g c = λ relation old new result sound no_cause h.
-    let v = g.D.FormatDriverInstance.view (driver old) in
-    driver_succeeds v (g.D.FormatDriverInstance.view (driver new)).fault_count (driver_reasons v Flush 0 0) result sound (λ z. z) (λ z. z) (λ z. z) (λ e z. z) no_cause (λ k none. k none) h.faults h.refusals
+pub returns-clause-flushed : goal.returns-clause-flushed
+returns-clause-flushed g c = flush_succeeds g.D.FormatDriverInstance.view g.D.FormatDriverInstance.flushes.flushed
+
+pub returns-clause-synced : goal.returns-clause-synced
+returns-clause-synced g c = flush_succeeds g.D.FormatDriverInstance.view g.D.FormatDriverInstance.flushes.synced
+
+pub returns-clause-invalidated : goal.returns-clause-invalidated
+returns-clause-invalidated g c = flush_succeeds g.D.FormatDriverInstance.view g.D.FormatDriverInstance.flushes.invalidated

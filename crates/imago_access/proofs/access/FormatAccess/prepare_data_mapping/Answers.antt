@@ -16,7 +16,7 @@ returns-clause-call g c =
     let x = c.args.self.now in
     let t = c.in_ok-test_range.ensures.passed in
     let r = c.prepare_data_mapping in
-    image_preparing v x r.new.self c.args.offset c.args.count r.result _ (lent_is v c.below-lower.result (backing x) c.below-lower.ensures) t.0 t.1 r.ensures.unchanged r.ensures.refused r.ensures.causes r.ensures.faults r.ensures.refusals
+    image_preparing v x r.new.self c.args.offset c.args.count r.result _ (lent_is v c.below-lower.result (backing x) c.below-lower.ensures) t.0 t.1 r.ensures.call.unchanged r.ensures.call.refused r.ensures.call.causes r.ensures.call.faults r.ensures.call.refusals
 
 pub returns-in_err-test_range-clause-call : goal.returns-in_err-test_range-clause-call
 returns-in_err-test_range-clause-call g c =
