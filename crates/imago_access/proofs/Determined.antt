@@ -40,6 +40,12 @@ left (R.Data b) done refused xs ys zs h f g = absurd (not_data b h.0 h.1)
 left (R.Size n) done refused xs ys zs h f g = absurd (not_size n h.0 h.1)
 left (R.Mapped m n) done refused xs ys zs h f g = absurd (not_mapped m n h.0 h.1)
 
+-- a call that its tests refuse leaves what a refusal leaves
+discard_so : {same : Type 0} {test : Error → Type 0} (r : Reply) (done left : Type 0) (e : Error) → r ≡ R.Refused e → DoneOrRefused told_done r (λ u. done) (λ x. left × (test x → same)) → test e → same
+discard_so {same} {test} r done left e is h t =
+    let k = refused_so e h.0 done (λ x. left × (test x → same)) (sym is ∙ h.1) h.2 in
+    k.1 t
+
 -- a call that leaves the list, done or refused
 same_so : (xs : List Value) (r : Reply) (ys : List Value) → IsSame xs r ys → ys ≡ xs
 same_so xs r ys h = by h.0 h.2
@@ -52,6 +58,10 @@ module _ (below : ℕ → Value) where
   -- a step that is determined leaves the one list
   step_after : (xs ys : List Value) (call : Call) (r : Reply) → IsDetermined xs call r → IsFlatStep below xs call r ys → ys ≡ after below call r xs
   step_after xs ys (C.Write o bytes) r d h = left r _ _ xs _ ys h (λ e s. s.1) (λ e w t. t.untouched (d e w))
+  step_after xs ys (C.WriteZeroes o n) r d h = left r _ _ xs _ ys h (λ e s. s.1) (λ e w t. t.untouched (d e w))
+  step_after xs ys (C.DiscardToZero o n) r d h = left r _ _ xs _ ys h (λ e s. s.1) (λ e w t. t.untouched (d e w))
+  step_after xs ys (C.DiscardToAny o n) r d h = discard_so r _ _ d.0 d.1 h d.2
+  step_after xs ys (C.DiscardToBacking o n) r d h = discard_so r _ _ d.0 d.1 h d.2
   step_after xs ys (C.Resize n mode) r d h = left r _ _ xs _ ys h (λ e s. extended_known mode below n (take n xs) ys (filled_cut mode n xs (d e)) s) (λ e w s. s)
   step_after xs ys (C.ResizeGrow n mode) r d h = left r _ _ xs _ ys h (λ e s. extended_known mode below n xs ys (d e) s) (λ e w s. s)
   step_after xs ys (C.ResizeShrink n) r d h = left r _ _ xs _ ys h (λ e s. s) (λ e w s. s)
@@ -66,6 +76,10 @@ module _ (below : ℕ → Value) where
   step_fits xs ys (C.Read o n) r h = h.1
   step_fits xs ys C.Size r h = h.1
   step_fits xs ys (C.Write o bytes) r h = tt
+  step_fits xs ys (C.WriteZeroes o n) r h = tt
+  step_fits xs ys (C.DiscardToZero o n) r h = tt
+  step_fits xs ys (C.DiscardToAny o n) r h = tt
+  step_fits xs ys (C.DiscardToBacking o n) r h = tt
   step_fits xs ys (C.Resize n mode) r h = tt
   step_fits xs ys (C.ResizeGrow n mode) r h = tt
   step_fits xs ys (C.ResizeShrink n) r h = tt

@@ -1,30 +1,33 @@
-use Rattle.std.proofs.Common.{◌≡◌, ℕ, ◌+◌, ◌-◌, ◌<◌, ◌≤◌, ◌⊎◌, ⊎_elim, inl, inr, Bool, true, false, List, [], ◌∷◌, ◌++◌, length, take, map, refl, sym, ap, ◌∙◌, arith, subst, Result, Ok, Err, length-take}
+use Rattle.std.proofs.Common.{◌≡◌, ℕ, ◌+◌, ◌-◌, ◌<◌, ◌≤◌, ◌⊎◌, ⊎_elim, inl, inr, Bool, true, false, List, [], ◌∷◌, ◌++◌, length, take, map, refl, sym, ap, ◌∙◌, arith, subst, Result, Ok, Err, length-take, replicate, ◌^◌}
 use Rattle.std.proofs.Math.Path.{fun_ext}
 use Rattle.std.proofs.lemmas.Bool.{cases_lt}
-use Rattle.std.proofs.lemmas.List.{get_or_past, take_all}
+use Rattle.std.proofs.lemmas.List.{get_or_past, take_all, get_or-replicate, length-replicate}
 use Rattle.std.specs.Prelude.{IsTrue, IfOk, IfErr}
 use Rattle.imago_storage.specs.declared.error.Error.{Error}
 use Rattle.imago_drivers.specs.declared.format.PreallocateMode.{PreallocateMode}
-use Rattle.imago_drivers.specs.Operation.{Operation, Write}
+use Rattle.imago_drivers.specs.Operation.{Operation, Write, Zero, DiscardToZero, DiscardToAny, DiscardToBacking}
 use Rattle.imago_drivers.specs.Place.{Value, Byte}
 use Rattle.imago_drivers.specs.LayerBelow.{IsUnreadableIn, ReadBound}
-use Rattle.imago_drivers.specs.Reasons.{allowed}
+use Rattle.imago_drivers.specs.Reasons.{Reasons, allowed}
 use Rattle.imago_drivers.specs.View.{View, Abilities}
 use Rattle.imago_drivers.specs.Flushes.{Flushes}
 use Rattle.imago_drivers.specs.Laws.{IsLawful, AreCauses}
-use Rattle.imago_drivers.specs.Changes.{IsChanged, into, partly, given_back}
+use Rattle.imago_drivers.specs.Changes.{IsChanged, into, partly, given_back, zeroes}
 use Rattle.imago_access.specs.declared.access.FormatAccess.{FormatAccess}
 use Rattle.imago_access.specs.declared.run.Call.{Call}
 use Rattle.imago_access.specs.declared.run.Call.TheVariants as C
 use Rattle.imago_access.specs.declared.run.Reply.{Reply}
 use Rattle.imago_access.specs.declared.run.Reply.TheVariants as R
+use Rattle.imago_access.specs.declared.discard.DiscardCall.TheVariants as X
+use Rattle.imago_access.specs.Zeroing.{IsZeroWrite}
+use Rattle.imago_access.specs.Discarding.{IsLoosened, IsImageDiscard}
 use Rattle.imago_access.specs.Chain.{driver, backing, disk_value, lent_image, read_cause, read_reasons}
 use Rattle.imago_access.specs.ChainLaws.{image_is_layer}
 use Rattle.imago_access.specs.Target.{target}
-use Rattle.imago_access.specs.Calls.{IsKept, IsWrite, FailsTest, write_refusals}
+use Rattle.imago_access.specs.Calls.{IsKept, IsWrite, FailsTest, write_refusals, Overflows, IsRangeCall}
 use Rattle.imago_access.specs.Sizes.{IsSameImage, IsResize, IsResizeTo, IsFlushed, HasGrown, HasShrunk}
 use Rattle.imago_access.specs.Runs.{Answers, told_done, told_mapping, IsReadRefusal, IsBufferRead, IsMapped, IsStep, IsRun}
-use Rattle.imago_access.specs.Disk.{values_from, disk, backed_value, value_at, splice, OldOrNewValues, IsTestRefusal, IsSpliced, IsTorn, IsExtended, IsSameWrite}
+use Rattle.imago_access.specs.Disk.{values_from, disk, backed_value, value_at, splice, OldOrNewValues, IsTestRefusal, IsSpliced, IsTorn, IsExtended, IsSameWrite, IsEndRefusal, IsZeroed, IsPartlyZeroed, IsUnspecifiedIn, IsGivenBack}
 use Rattle.imago_access.specs.Histories.{DoneOrRefused, IsDataOf, IsMappingOf, IsSame, IsFlatStep, IsFlatHistory}
 use Rattle.imago_access.proofs.Targets.{target_shows, mapped_value}
 use Rattle.imago_access.proofs.DiskLists.{listed_at, from_length, same_listed, spliced, written_list, torn_list, torn_values, cut_list, grown_list, extended_by, is_extended_none}
@@ -57,6 +60,10 @@ module _ {D St : Type 0} (view : D → View St) where
   step_kept flushes old new C.Flush r h = h.2.kept
   step_kept flushes old new C.Sync r h = h.2.kept
   step_kept flushes old new C.InvalidateCache r h = h.2.kept
+  step_kept flushes old new (C.WriteZeroes o n) r h = h.2.kept
+  step_kept flushes old new (C.DiscardToZero o n) r h = h.2.kept
+  step_kept flushes old new (C.DiscardToAny o n) r h = h.2.kept
+  step_kept flushes old new (C.DiscardToBacking o n) r h = h.2.kept
   step_kept flushes old new (C.Resize n mode) r h = resize_kept old new n mode h.0 h.2
   step_kept flushes old new (C.ResizeGrow n mode) r h = h.2.kept
   step_kept flushes old new (C.ResizeShrink n) r h = h.2.kept
@@ -152,6 +159,54 @@ module _ {D St : Type 0} (view : D → View St) where
       (h.tested f.0 f.1).1)
       t)
 
+-- whether a range's end is a number of 64 bits
+zero_cases : (o n : ℕ) → (2 ^ 64 ≤ o + n) ⊎ ((2 ^ 64 ≤ o + n) → ⊥)
+zero_cases o n = ⊎_elim (λ lt. inr (λ ge. omega arith)) (λ ge. inl ge) (cases_lt (o + n) (2 ^ 64))
+
+-- zeroes, as bytes
+zeroes_into : (o n : ℕ) (f g : ℕ → Value) → IsChanged o n zeroes f g → IsChanged o (length (replicate {A = ℕ} n 0)) (into (replicate n 0)) f g
+zeroes_into o n f g h =
+    let len : length (replicate {A = ℕ} n 0) ≡ n = length-replicate n 0 in
+    record { inside = λ k lt. let i : k < n = omega arith in h.inside k i ∙ ap Byte (sym (get_or-replicate n k 0 0 i)); before = h.before; behind = λ p ge. h.behind p (omega arith) }
+
+torn_into : (o n : ℕ) (f g : ℕ → Value) → IsChanged o n (partly zeroes) f g → IsChanged o (length (replicate {A = ℕ} n 0)) (partly (into (replicate n 0))) f g
+torn_into o n f g h =
+    let len : length (replicate {A = ℕ} n 0) ≡ n = length-replicate n 0 in
+    record { inside = λ k lt. let i : k < n = omega arith in ⊎_elim (λ e. inl e) (λ e. inr (e ∙ ap Byte (sym (get_or-replicate n k 0 0 i)))) (h.inside k i); before = h.before; behind = λ p ge. h.behind p (omega arith) }
+
+module _ {D St : Type 0} (view : D → View St) where
+  -- a call past the end fails a test
+  call_fails : (x : FormatAccess D) (op : Operation) (o n : ℕ) → Overflows op o n ⊎ (Overflows op o n → ⊥) → (view (driver x)).size < o + n → (e : Error) × FailsTest (view (driver x)) op o n e
+  call_fails x op o n over h = ⊎_elim
+      (λ w. ⊎_elim (λ big. (Error.RangeOverflow, inr (inl (refl, w, big)))) (λ small. (Error.BeyondDisk, inr (inr (refl, w, small, h)))) over)
+      (λ w. (Error.ReadOnly, inl (refl, w)))
+      (bool_cases (view (driver x)).abilities.is_writable)
+
+  -- a call that succeeded lies in the disk
+  call_fits : {T : Type 0} {reasons : Reasons} {hidden : Type 0} {part : T → ℕ} {effect : T → Type 0} {remains : Type 0} {t : T} (old new : FormatAccess D) (op : Operation) (o n : ℕ) → Overflows op o n ⊎ (Overflows op o n → ⊥)
+      → IsRangeCall view op o n reasons hidden part effect remains old new (Ok t) → o + n ≤ (view (driver old)).size
+  call_fits old new op o n over h = ⊎_elim
+      (λ (past : (view (driver old)).size < o + n).
+      let f = call_fails old op o n over past in
+      let z = (h.tested f.0 f.1).0 in
+      let y : ⊥ = cc in
+      absurd y)
+      (λ (fits : o + n ≤ (view (driver old)).size). fits)
+      (cases_lt (view (driver old)).size (o + n))
+
+  -- a call that a test refused changed nothing
+  call_untouched : {T : Type 0} {reasons : Reasons} {hidden : Type 0} {part : T → ℕ} {effect : T → Type 0} {remains : Type 0} (old new : FormatAccess D) (op : Operation) (o n : ℕ) → Overflows op o n ⊎ (Overflows op o n → ⊥) → (e : Error)
+      → (reasons.read_only → ⊥) → (reasons.range_overflow → ⊥) → IsRangeCall {T = T} view op o n reasons hidden part effect remains old new (Err e) → IsEndRefusal (disk view old) o n e → disk view new ≡ disk view old
+  call_untouched {reasons = reasons} old new op o n over e no_read_only no_overflow h t = ap (disk view) (⊎_elim
+      (λ overflow. ⊎_elim (λ f. (h.tested e f).1) (λ a. let none : reasons.range_overflow = subst (allowed reasons) overflow a in absurd (no_overflow none)) h.refusals)
+      (λ test. ⊎_elim
+      (λ read_only. ⊎_elim (λ f. (h.tested e f).1) (λ a. let none : reasons.read_only = subst (allowed reasons) read_only a in absurd (no_read_only none)) h.refusals)
+      (λ past.
+      let f = call_fails old op o n over (omega (arith, past, disk_length view old)) in
+      (h.tested f.0 f.1).1)
+      test)
+      t)
+
 module _ {D St : Type 0} (view : D → View St) (lawful : (d : D) → IsLawful (view d)) (causes : (d : D) → AreCauses (view d)) where
   pub value_in_list : (x : FormatAccess D) (p : ℕ) → disk_value view x p ≡ value_at (disk view x) p
   value_in_list x p =
@@ -210,6 +265,54 @@ module _ {D St : Type 0} (view : D → View St) (lawful : (d : D) → IsLawful (
     untouched = untouched view old new o bytes e h;
   }
 
+  zero_done : (old new : FormatAccess D) (op : Operation) (o n : ℕ) → Overflows op o n ⊎ (Overflows op o n → ⊥) → IsTrue (view (driver old)).abilities.keeps_data → IsZeroWrite view op old new o n (Ok tt) → IsZeroed (disk view old) o n (disk view new)
+  zero_done old new op o n over k h =
+      let fits : o + n ≤ (view (driver old)).size = call_fits view old new op o n over h in
+      let len : length (replicate {A = ℕ} n 0) ≡ n = length-replicate n 0 in
+      (omega (arith, fits, disk_length view old), written old new o (replicate n 0) h.same_size (omega arith) (zeroes_into o n _ _ (h.done k)))
+
+  zero_refused : (old new : FormatAccess D) (op : Operation) (o n : ℕ) → Overflows op o n ⊎ (Overflows op o n → ⊥) → (e : Error) → IsTrue (view (driver old)).abilities.keeps_data → IsZeroWrite view op old new o n (Err e) → IsPartlyZeroed (disk view old) o n e (disk view new)
+  zero_refused old new op o n over e k h = record {
+    old_or_zero = ⊎_elim
+        (λ (past : (view (driver old)).size < o + n).
+        let f = call_fails view old op o n over past in
+        let same : disk view new ≡ disk view old = ap (disk view) (h.tested f.0 f.1).1 in
+        record { each = λ p. inl (ap (λ (xs : List Value). value_at xs p) same); same_length = ap (λ (xs : List Value). length xs) same })
+        (λ (fits : o + n ≤ (view (driver old)).size).
+        let len : length (replicate {A = ℕ} n 0) ≡ n = length-replicate n 0 in
+        torn old new o (replicate n 0) h.same_size (omega arith) (torn_into o n _ _ (h.torn k)))
+        (cases_lt (view (driver old)).size (o + n));
+    untouched = call_untouched view old new op o n over e (λ a. a) (λ a. a) h;
+  }
+
+  list_length : (old new : FormatAccess D) → (view (driver new)).size ≡ (view (driver old)).size → length (disk view new) ≡ length (disk view old)
+  list_length old new same = disk_length view new ∙ same ∙ sym (disk_length view old)
+
+  -- the same offset, as the list has it
+  at_list : (old new : FormatAccess D) (p : ℕ) → disk_value view new p ≡ disk_value view old p → value_at (disk view new) p ≡ value_at (disk view old) p
+  at_list old new p e = sym (value_in_list new p) ∙ e ∙ value_in_list old p
+
+  unspecified_list : (old new : FormatAccess D) (o n : ℕ) → (view (driver new)).size ≡ (view (driver old)).size → IsLoosened view X.ToAny o n old new → IsUnspecifiedIn (disk view old) o n (disk view new)
+  unspecified_list old new o n same c = record {
+    same_length = list_length old new same;
+    outside = λ p s. at_list old new p (⊎_elim (λ lt. c.before p lt) (λ ge. c.behind p ge) s);
+  }
+
+  given_back_list : (old new : FormatAccess D) (o n : ℕ) → (view (driver new)).size ≡ (view (driver old)).size → IsLoosened view X.ToBacking o n old new → IsGivenBack (backed_value view old) (disk view old) o n (disk view new)
+  given_back_list old new o n same c = record {
+    same_length = list_length old new same;
+    each = λ p. ⊎_elim
+        (λ below. inl (at_list old new p (c.before p below)))
+        (λ above. ⊎_elim
+        (λ inside.
+        let e : o + (p - o) ≡ p = omega arith in
+        let v = rw e at (c.inside (p - o) (omega arith)) in
+        ⊎_elim (λ s. inl (at_list old new p s)) (λ b. inr ((above, inside), sym (value_in_list new p) ∙ b)) v)
+        (λ behind. inl (at_list old new p (c.behind p behind)))
+        (cases_lt p (o + n)))
+        (cases_lt p o);
+  }
+
   unreadable_in_list : (x : FormatAccess D) (o n : ℕ) (e why : Error) → e ≡ why → IsUnreadableIn (disk_value view x) o n why → IsUnreadableIn (value_at (disk view x)) o n e
   unreadable_in_list x o n e why same u = subst (λ (z : Error). IsUnreadableIn (value_at (disk view x)) o n z) (sym same) (u.0, u.1, sym (value_in_list x u.0) ∙ u.2)
 
@@ -246,6 +349,14 @@ module _ {D St : Type 0} (view : D → View St) (lawful : (d : D) → IsLawful (
   flat_step flushes old new C.Flush r k h = flushed view flushes.flushed old new r k h
   flat_step flushes old new C.Sync r k h = flushed view flushes.synced old new r k h
   flat_step flushes old new C.InvalidateCache r k h = flushed view flushes.invalidated old new r k h
+  flat_step flushes old new (C.WriteZeroes o n) r k h = done_or_refused told_done r (IsZeroWrite view Zero old new o n) _ _ (λ u x. zero_done old new Zero o n (zero_cases o n) k x) (λ e x. zero_refused old new Zero o n (zero_cases o n) e k x) h
+  flat_step flushes old new (C.DiscardToZero o n) r k h = done_or_refused told_done r (IsZeroWrite view DiscardToZero old new o n) _ _ (λ u x. zero_done old new DiscardToZero o n (zero_cases o n) k x) (λ e x. zero_refused old new DiscardToZero o n (zero_cases o n) e k x) h
+  flat_step flushes old new (C.DiscardToAny o n) r k h = done_or_refused told_done r (IsImageDiscard view X.ToAny old new o n) _ _
+      (λ u x. let fits = call_fits view old new DiscardToAny o n (zero_cases o n) x in (omega (arith, fits, disk_length view old), unspecified_list old new o n x.same_size (x.done k)))
+      (λ e x. (unspecified_list old new o n x.same_size (x.torn k), call_untouched view old new DiscardToAny o n (zero_cases o n) e (λ a. a) (λ a. a) x)) h
+  flat_step flushes old new (C.DiscardToBacking o n) r k h = done_or_refused told_done r (IsImageDiscard view X.ToBacking old new o n) _ _
+      (λ u x. let fits = call_fits view old new DiscardToBacking o n (zero_cases o n) x in (omega (arith, fits, disk_length view old), given_back_list old new o n x.same_size (x.done k)))
+      (λ e x. (given_back_list old new o n x.same_size (x.torn k), call_untouched view old new DiscardToBacking o n (zero_cases o n) e (λ a. a) (λ a. a) x)) h
   flat_step flushes old new (C.Resize n mode) r k h = done_or_refused told_done r (IsResizeTo view n mode old new) _ _ (λ u. resized_to view old new mode n k) (λ e x. resize_refused view old new n mode e k x) h
   flat_step flushes old new (C.ResizeGrow n mode) r k h = resized view old new _ n (HasGrown view mode n old new) _ r k (grown view old new mode n k) h
   flat_step flushes old new (C.ResizeShrink n) r k h = resized view old new _ n (HasShrunk view n old new) _ r k (shrunk view old new n k) h

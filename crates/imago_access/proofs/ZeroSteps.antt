@@ -12,13 +12,13 @@ use Rattle.imago_drivers.specs.Laws.{AreCauses}
 use Rattle.imago_drivers.specs.Changes.{IsChanged, zeroes, partly, into}
 use Rattle.imago_drivers.specs.Frame.{IsFramed, ReachesNoMore}
 use Rattle.imago_drivers.specs.LayerBelow.{LayerBelow}
-use Rattle.imago_drivers.specs.Done.{HasDone, range_reasons, lending_reasons}
+use Rattle.imago_drivers.specs.Done.{HasDone, range_reasons}
 use Rattle.imago_access.specs.declared.access.FormatAccess.{FormatAccess}
 use Rattle.imago_access.specs.Chain.{driver, backing, disk_value, lent_image}
 use Rattle.imago_access.specs.Lending.{with_driver}
 use Rattle.imago_access.specs.Calls.{devices_reliable, FailsTest, Overflows, IsLoose, settles, ShowsFaults, IsRangeCall}
 use Rattle.imago_access.specs.Zeroing.{operation_of, AreZero, IsLaterCount, IsPartlyZeroed, Carries, HasZeroed, HasZeroedPart, data_reasons, zero_reasons, IsZeroWrite}
-use Rattle.imago_access.specs.Writing.{HasWritten}
+use Rattle.imago_access.specs.Writing.{HasWritten, first_reasons}
 use Rattle.imago_access.proofs.Weaker.{IsWeaker, refused_more}
 use Rattle.imago_access.specs.declared.mapping.Mapping.TheVariants as M
 use Rattle.imago_access.specs.declared.zero.ZeroCall.{ZeroCall}
@@ -114,10 +114,10 @@ torn_bytes : (bytes : List ℕ) (o : ℕ) (old new : ℕ → Value) → EachInde
 torn_bytes bytes o old new z h = record { inside = λ k lt. ⊎_elim (λ e. inl e) (λ e. inr (e ∙ ap Byte (z k lt))) (h.inside k lt); before = h.before; behind = h.behind }
 
 -- zeroes that a driver writes over what it is lent, as the image sees them
-pub piece_written : {D St : Type 0} (view : D → View St) (x : FormatAccess D) (d : D) (o : ℕ) (bytes : List ℕ) (result : Result ℕ Error) (l : LayerBelow) → l ≡ lent_image view (backing x) → EachIndex bytes (λ k. slice_index bytes k ≡ 0)
-    → HasWritten l (view (driver x)) (view d) o bytes result → HasZeroed view o (length bytes) (λ (n : ℕ). n) (data_reasons view x o (length bytes)) x (with_driver x d) result
-piece_written {D} view x d o bytes result l same z h =
-    let w = subst (λ (m : LayerBelow). HasWritten m (view (driver x)) (view d) o bytes result) same h in
+pub piece_written : {D St : Type 0} (view : D → View St) (x : FormatAccess D) (d : D) (o : ℕ) (bytes : List ℕ) (result : Result ℕ Error) (commit_memory : Type 0) (l : LayerBelow) → l ≡ lent_image view (backing x) → EachIndex bytes (λ k. slice_index bytes k ≡ 0)
+    → HasWritten l commit_memory (view (driver x)) (view d) o bytes result → HasZeroed view o (length bytes) (λ (n : ℕ). n) (data_reasons view x o (length bytes)) x (with_driver x d) result
+piece_written {D} view x d o bytes result commit_memory l same z h =
+    let w = subst (λ (m : LayerBelow). HasWritten m commit_memory (view (driver x)) (view d) o bytes result) same h in
     let e : d ≡ driver (with_driver x d) = sym (driver_with x d) in
     record {
       left = record {
@@ -131,7 +131,7 @@ piece_written {D} view x d o bytes result l same z h =
       done = λ k. done result w.some (w.done k);
       carries = carried result w.some w.settled (subst (λ (y : D). ReachesNoMore (view (driver x)) (view y)) e w.reaches);
       device = λ f. inl (subst (λ (y : D). RoseOrSaturated (view (driver x)).fault_count (view y).fault_count) e (w.faults.device f));
-      refusals = refused_more (lending_reasons (view (driver x)) (lent_image view (backing x)) Operation.Write o (length bytes)) (data_reasons view x o (length bytes)) result (record {
+      refusals = refused_more (first_reasons (view (driver x)) (lent_image view (backing x)) commit_memory o (length bytes)) (data_reasons view x o (length bytes)) result (record {
         read_only = λ k. k;
         beyond_disk = λ k. k;
         range_overflow = λ k. k;

@@ -7,16 +7,25 @@ use Rattle.imago_access.specs.declared.run.Call.{Call}
 use Rattle.imago_access.specs.declared.run.Call.TheVariants as C
 use Rattle.imago_access.specs.declared.run.Reply.{Reply}
 use Rattle.imago_access.specs.declared.run.Reply.TheVariants as R
-use Rattle.imago_access.specs.Disk.{splice, IsTestRefusal, extended}
+use Rattle.imago_access.specs.Disk.{splice, zeroed, IsTestRefusal, IsEndRefusal, extended}
 use Rattle.imago_access.specs.Histories.{IsDataOf, IsMappingOf}
 
 -- new values of a growth to n are known: there are none, or the mode says what they are
 abbrev pub IsFilled : PreallocateMode → ℕ → List Value → Type 0
 IsFilled mode n xs = (n ≤ length xs) ⊎ (mode ≢ Mode.None)
 
--- The reply says what the list is afterwards: all but a write that is refused past its tests, and a growth without preallocation.
+-- the call is refused by its tests
+abbrev pub IsRefusedByTest : List Value → ℕ → ℕ → Reply → Type 0
+IsRefusedByTest xs o n r = (e : Error) × (r ≡ R.Refused e) × IsEndRefusal xs o n e
+
+-- The reply says what the list is afterwards: all but a write or zero write that is refused past its tests, a growth without preallocation,
+-- and a discard to any or to backing that isn't refused by its tests.
 abbrev pub IsDetermined : List Value → Call → Reply → Type 0
 IsDetermined xs (C.Write o bytes) r = (e : Error) → r ≡ R.Refused e → IsTestRefusal xs o (length bytes.items) e
+IsDetermined xs (C.WriteZeroes o n) r = (e : Error) → r ≡ R.Refused e → IsEndRefusal xs o n e
+IsDetermined xs (C.DiscardToZero o n) r = (e : Error) → r ≡ R.Refused e → IsEndRefusal xs o n e
+IsDetermined xs (C.DiscardToAny o n) r = IsRefusedByTest xs o n r
+IsDetermined xs (C.DiscardToBacking o n) r = IsRefusedByTest xs o n r
 IsDetermined xs (C.Resize n mode) r = r ≡ R.Done → IsFilled mode n xs
 IsDetermined xs (C.ResizeGrow n mode) r = r ≡ R.Done → IsFilled mode n xs
 IsDetermined xs (C.ResizeShrink n) r = Unit {0}
@@ -38,6 +47,10 @@ if_done (R.Mapped mapping count) ys xs = xs
 -- the list after a call that is determined
 abbrev pub after : (ℕ → Value) → Call → Reply → List Value → List Value
 after below (C.Write o bytes) r xs = if_done r (splice xs o (map Byte bytes.items)) xs
+after below (C.WriteZeroes o n) r xs = if_done r (zeroed xs o n) xs
+after below (C.DiscardToZero o n) r xs = if_done r (zeroed xs o n) xs
+after below (C.DiscardToAny o n) r xs = xs
+after below (C.DiscardToBacking o n) r xs = xs
 after below (C.Resize n mode) r xs = if_done r (extended mode below n (take n xs)) xs
 after below (C.ResizeGrow n mode) r xs = if_done r (extended mode below n xs) xs
 after below (C.ResizeShrink n) r xs = if_done r (take n xs) xs
@@ -64,6 +77,10 @@ FitsList xs (C.Read o n) r = IsDataOf xs o n r
 FitsList xs (C.GetMapping o n) r = IsMappingOf xs o n r
 FitsList xs C.Size r = r ≡ R.Size (length xs)
 FitsList xs (C.Write o bytes) r = Unit {0}
+FitsList xs (C.WriteZeroes o n) r = Unit {0}
+FitsList xs (C.DiscardToZero o n) r = Unit {0}
+FitsList xs (C.DiscardToAny o n) r = Unit {0}
+FitsList xs (C.DiscardToBacking o n) r = Unit {0}
 FitsList xs (C.Resize n mode) r = Unit {0}
 FitsList xs (C.ResizeGrow n mode) r = Unit {0}
 FitsList xs (C.ResizeShrink n) r = Unit {0}

@@ -3,7 +3,7 @@ use Rattle.std.specs.List.{range_with_len}
 use Rattle.imago_storage.specs.declared.error.Error.{Error}
 use Rattle.imago_drivers.specs.declared.format.PreallocateMode.{PreallocateMode}
 use Rattle.imago_drivers.specs.declared.format.PreallocateMode.TheVariants as Mode
-use Rattle.imago_drivers.specs.Place.{Value, Byte}
+use Rattle.imago_drivers.specs.Place.{Value, Byte, IsIn}
 use Rattle.imago_drivers.specs.Changes.{IsChanged, into, partly, given_back}
 use Rattle.imago_drivers.specs.View.{View}
 use Rattle.imago_access.specs.declared.access.FormatAccess.{FormatAccess}
@@ -39,6 +39,33 @@ pub record OldOrNewValues (old target now : List Value) : Type 0 where
 -- a changing call on a range is refused by a test, which changes nothing: the image is read-only, or the range passes its end
 abbrev pub IsTestRefusal : List Value → ℕ → ℕ → Error → Type 0
 IsTestRefusal xs o n e = (e ≡ Error.ReadOnly) ⊎ (length xs < o + n)
+
+-- the first refusal of a zero write or discard, which changes nothing: also of a range whose end is no number of 64 bits
+abbrev pub IsEndRefusal : List Value → ℕ → ℕ → Error → Type 0
+IsEndRefusal xs o n e = (e ≡ Error.RangeOverflow) ⊎ IsTestRefusal xs o n e
+
+-- the list with n zeroes from the offset on
+abbrev pub zeroed : List Value → ℕ → ℕ → List Value
+zeroed xs o n = splice xs o (map Byte (replicate n 0))
+
+-- a zero write that succeeded: the range lies in the list, and zeroes are spliced in
+abbrev pub IsZeroed : List Value → ℕ → ℕ → List Value → Type 0
+IsZeroed xs o n ys = (o + n ≤ length xs) × (ys ≡ zeroed xs o n)
+
+-- A refused zero write: each value of the range is the old one or zero, all others are the old ones.
+pub record IsPartlyZeroed (xs : List Value) (o n : ℕ) (e : Error) (ys : List Value) : Type 0 where
+  pub old_or_zero : OldOrNewValues xs (zeroed xs o n) ys
+  pub untouched : IsEndRefusal xs o n e → ys ≡ xs
+
+-- Values of the range may be anything, all others are the old ones.
+pub record IsUnspecifiedIn (xs : List Value) (o n : ℕ) (ys : List Value) : Type 0 where
+  pub same_length : length ys ≡ length xs
+  pub outside : (p : ℕ) → (p < o) ⊎ (o + n ≤ p) → value_at ys p ≡ value_at xs p
+
+-- Values of the range may be those of the layers below, all others are the old ones.
+pub record IsGivenBack (below : ℕ → Value) (xs : List Value) (o n : ℕ) (ys : List Value) : Type 0 where
+  pub same_length : length ys ≡ length xs
+  pub each : (p : ℕ) → (value_at ys p ≡ value_at xs p) ⊎ (IsIn o n p × (value_at ys p ≡ below p))
 
 -- a write that succeeded: the range lies in the list, and the bytes are spliced in
 abbrev pub IsSpliced : List Value → ℕ → List ℕ → List Value → Type 0

@@ -9,7 +9,7 @@ use Rattle.imago_access.specs.declared.run.Call.TheVariants as C
 use Rattle.imago_access.specs.declared.run.Reply.{Reply}
 use Rattle.imago_access.specs.declared.run.Reply.TheVariants as R
 use Rattle.imago_access.specs.Runs.{Answers, told_done, told_mapping}
-use Rattle.imago_access.specs.Disk.{value_at, IsSpliced, IsTorn, IsExtended, IsPartOf}
+use Rattle.imago_access.specs.Disk.{value_at, IsSpliced, IsTorn, IsExtended, IsPartOf, IsEndRefusal, IsZeroed, IsPartlyZeroed, IsUnspecifiedIn, IsGivenBack}
 
 -- the call is done, and what it answers is so, or it is refused, and the refusal is so
 abbrev pub DoneOrRefused : {T : Type 0} → (T → Reply) → Reply → (T → Type 0) → (Error → Type 0) → Type 0
@@ -36,10 +36,22 @@ IsMappingOf xs o n r = DoneOrRefused told_mapping r
 abbrev pub IsSame : List Value → Reply → List Value → Type 0
 IsSame xs r ys = DoneOrRefused told_done r (λ u. ys ≡ xs) (λ e. ys ≡ xs)
 
+-- a zero write or discard to zero: zeroes are spliced in, or, where it is refused, each value of the range may be zero
+abbrev pub IsZeroStep : List Value → ℕ → ℕ → Reply → List Value → Type 0
+IsZeroStep xs o n r ys = DoneOrRefused told_done r (λ u. IsZeroed xs o n ys) (λ e. IsPartlyZeroed xs o n e ys)
+
+-- another discard, with what it leaves: the same where it is done and where it is refused past its tests
+abbrev pub IsDiscardStep : List Value → ℕ → ℕ → Type 0 → Reply → List Value → Type 0
+IsDiscardStep xs o n left r ys = DoneOrRefused told_done r (λ u. (o + n ≤ length xs) × left) (λ e. left × (IsEndRefusal xs o n e → ys ≡ xs))
+
 -- A call on the list xs, with that reply, may leave the list ys. `below` is what offsets show that are left to the layers below.
 abbrev pub IsFlatStep : (ℕ → Value) → List Value → Call → Reply → List Value → Type 0
 IsFlatStep below xs (C.Read o n) r ys = (ys ≡ xs) × IsDataOf xs o n r
 IsFlatStep below xs (C.Write o bytes) r ys = DoneOrRefused told_done r (λ u. IsSpliced xs o bytes.items ys) (λ e. IsTorn xs o bytes.items e ys)
+IsFlatStep below xs (C.WriteZeroes o n) r ys = IsZeroStep xs o n r ys
+IsFlatStep below xs (C.DiscardToZero o n) r ys = IsZeroStep xs o n r ys
+IsFlatStep below xs (C.DiscardToAny o n) r ys = IsDiscardStep xs o n (IsUnspecifiedIn xs o n ys) r ys
+IsFlatStep below xs (C.DiscardToBacking o n) r ys = IsDiscardStep xs o n (IsGivenBack below xs o n ys) r ys
 IsFlatStep below xs (C.Resize n mode) r ys = DoneOrRefused told_done r (λ u. IsExtended mode below n (take n xs) ys) (λ e. ys ≡ xs)
 IsFlatStep below xs (C.ResizeGrow n mode) r ys = DoneOrRefused told_done r (λ u. IsExtended mode below n xs ys) (λ e. ys ≡ xs)
 IsFlatStep below xs (C.ResizeShrink n) r ys = DoneOrRefused told_done r (λ u. ys ≡ take n xs) (λ e. ys ≡ xs)

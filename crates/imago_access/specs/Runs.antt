@@ -2,7 +2,7 @@ use Rattle.std.specs.Prelude.{◌≡◌, ℕ, ◌<◌, ◌⊎◌, List, [], ◌�
 use Rattle.std.specs.declared.vec.Vec.{Vec}
 use Rattle.std.specs.declared.alloc.Global.{Global}
 use Rattle.imago_storage.specs.declared.error.Error.{Error}
-use Rattle.imago_drivers.specs.Operation.{Grow, Shrink}
+use Rattle.imago_drivers.specs.Operation.{Grow, Shrink, Zero, DiscardToZero}
 use Rattle.imago_drivers.specs.Place.{Unreadable, HasValues}
 use Rattle.imago_drivers.specs.Reasons.{allowed}
 use Rattle.imago_drivers.specs.View.{View}
@@ -13,6 +13,9 @@ use Rattle.imago_access.specs.declared.run.Call.{Call}
 use Rattle.imago_access.specs.declared.run.Call.TheVariants as C
 use Rattle.imago_access.specs.declared.run.Reply.{Reply}
 use Rattle.imago_access.specs.declared.run.Reply.TheVariants as R
+use Rattle.imago_access.specs.declared.discard.DiscardCall.TheVariants as D
+use Rattle.imago_access.specs.Zeroing.{IsZeroWrite}
+use Rattle.imago_access.specs.Discarding.{IsImageDiscard}
 use Rattle.imago_access.specs.Chain.{driver, disk_value, read_reasons, chain_no_memory}
 use Rattle.imago_access.specs.Resolved.{IsResolved, IsEndOfImage, chain_map_reasons}
 use Rattle.imago_access.specs.Lengths.{IsFullLength}
@@ -59,6 +62,10 @@ IsStep view flushes old (C.Read o n) r new = (new ≡ old) × Answers R.Data r (
 IsStep view flushes old (C.GetMapping o n) r new = (new ≡ old) × Answers told_mapping r (IsMapped view old o n)
 IsStep view flushes old C.Size r new = (new ≡ old) × (r ≡ R.Size (view (driver old)).size)
 IsStep view flushes old (C.Write o bytes) r new = Answers told_done r (IsWrite view old new o bytes.items)
+IsStep view flushes old (C.WriteZeroes o n) r new = Answers told_done r (IsZeroWrite view Zero old new o n)
+IsStep view flushes old (C.DiscardToZero o n) r new = Answers told_done r (IsZeroWrite view DiscardToZero old new o n)
+IsStep view flushes old (C.DiscardToAny o n) r new = Answers told_done r (IsImageDiscard view D.ToAny old new o n)
+IsStep view flushes old (C.DiscardToBacking o n) r new = Answers told_done r (IsImageDiscard view D.ToBacking old new o n)
 IsStep view flushes old (C.ResizeGrow n mode) r new = Answers told_done r (IsResize view (Grow mode) n (HasGrown view mode n old new) old new)
 IsStep view flushes old (C.ResizeShrink n) r new = Answers told_done r (IsResize view Shrink n (HasShrunk view n old new) old new)
 IsStep view flushes old (C.Resize n mode) r new = Answers told_done r (IsResizeTo view n mode old new)

@@ -29,6 +29,34 @@ pub enum Call {
         /// What to write.
         bytes: Vec<u8>,
     },
+    /// [`FormatAccess::write_zeroes`].
+    WriteZeroes {
+        /// Where the range begins.
+        offset: u64,
+        /// How long it is.
+        length: u64,
+    },
+    /// [`FormatAccess::discard_to_zero`].
+    DiscardToZero {
+        /// Where the range begins.
+        offset: u64,
+        /// How long it is.
+        length: u64,
+    },
+    /// [`FormatAccess::discard_to_any`].
+    DiscardToAny {
+        /// Where the range begins.
+        offset: u64,
+        /// How long it is.
+        length: u64,
+    },
+    /// [`FormatAccess::discard_to_backing`].
+    DiscardToBacking {
+        /// Where the range begins.
+        offset: u64,
+        /// How long it is.
+        length: u64,
+    },
     /// [`FormatAccess::resize`].
     Resize {
         /// The new size.
@@ -138,6 +166,18 @@ fn step<D: FormatDriverInstance>(alloc: Global, image: &mut FormatAccess<D>, cal
         },
         Call::Size => Reply::Size(image.size()),
         Call::Write { offset, bytes } => done_or_refused(image.write(alloc, bytes, *offset)),
+        Call::WriteZeroes { offset, length } => {
+            done_or_refused(image.write_zeroes(alloc, *offset, *length))
+        }
+        Call::DiscardToZero { offset, length } => {
+            done_or_refused(image.discard_to_zero(alloc, *offset, *length))
+        }
+        Call::DiscardToAny { offset, length } => {
+            done_or_refused(image.discard_to_any(alloc, *offset, *length))
+        }
+        Call::DiscardToBacking { offset, length } => {
+            done_or_refused(image.discard_to_backing(alloc, *offset, *length))
+        }
         Call::Resize { size, mode } => done_or_refused(image.resize(alloc, *size, *mode)),
         Call::ResizeGrow { size, mode } => done_or_refused(image.resize_grow(alloc, *size, *mode)),
         Call::ResizeShrink { size } => done_or_refused(image.resize_shrink(*size)),

@@ -7,3 +7,15 @@ returns-in-Write-clause-step g c =
     let w = c.write in
     let h = subst (λ (bytes : List ℕ). IsWrite g.D.FormatDriverInstance.view c.args.image.now w.new.self c.in-Write.offset bytes w.result) c.deref.ensures.value w.ensures in
     rw c.in-Write.is (w.result, c.done_or_refused.ensures, h)
+
+pub returns-in-WriteZeroes-clause-step : goal.returns-in-WriteZeroes-clause-step
+returns-in-WriteZeroes-clause-step g c = rw c.in-WriteZeroes.is (c.write_zeroes.result, c.done_or_refused-in-WriteZeroes.ensures, c.write_zeroes.ensures)
+
+pub returns-in-DiscardToZero-clause-step : goal.returns-in-DiscardToZero-clause-step
+returns-in-DiscardToZero-clause-step g c = rw c.in-DiscardToZero.is (c.discard_to_zero.result, c.done_or_refused-in-DiscardToZero.ensures, c.discard_to_zero.ensures)
+
+pub returns-in-DiscardToAny-clause-step : goal.returns-in-DiscardToAny-clause-step
+returns-in-DiscardToAny-clause-step g c = rw c.in-DiscardToAny.is (c.discard_to_any.result, c.done_or_refused-in-DiscardToAny.ensures, c.discard_to_any.ensures)
+
+pub returns-in-DiscardToBacking-clause-step : goal.returns-in-DiscardToBacking-clause-step
+returns-in-DiscardToBacking-clause-step g c = rw c.in-DiscardToBacking.is (c.discard_to_backing.result, c.done_or_refused-in-DiscardToBacking.ensures, c.discard_to_backing.ensures)

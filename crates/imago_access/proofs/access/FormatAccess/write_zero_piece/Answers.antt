@@ -7,4 +7,4 @@ pub returns-clause-zeroed : goal.returns-clause-zeroed
 returns-clause-zeroed g c =
     let v = g.D.FormatDriverInstance.view in
     let x = c.args.self.now in
-    piece_written v x c.write_first.new.inner c.args.offset c.args.zeroes.now c.write_first.result _ (lent_is v c.below.result (backing x) c.below.ensures) c.requires.zeroes c.write_first.ensures
+    piece_written v x c.write_first.new.inner c.args.offset c.args.zeroes.now c.write_first.result _ _ (lent_is v c.below.result (backing x) c.below.ensures) c.requires.zeroes c.write_first.ensures
