@@ -2,7 +2,7 @@ use Rattle.std.proofs.Common.{arith, ◌≡◌, ◌+◌, ◌<◌, length, refl}
 use Rattle.imago_storage.specs.Padding.{padded_end, IsPaddedRequest}
 use Rattle.imago_storage.proofs.Outcomes.{WriteOutcome_unchanged}
 use Rattle.imago_storage.proofs.Writes.{splice_is_part, part_no_shorter}
-use Rattle.imago_storage.proofs.request.write_by.Goals as goal
+use Rattle.imago_storage.proofs.zeroes.write_by.Goals as goal
 
 pub returns-in_default-clause-written : goal.returns-in_default-clause-written
 returns-in_default-clause-written g c = λ some. WriteOutcome_unchanged _ _ _ _ _ refl (part_no_shorter _ _ _ _)
