@@ -98,45 +98,8 @@ pub(crate) fn write_any<S: Storage>(
     write_parts(storage, &mut block, source, offset, start, len)
 }
 
-/// Writes a range as [`write_any`] does, with a block that is there already.
-pub(crate) fn write_by<S: Storage>(
-    storage: &mut S,
-    block: &mut [u8],
-    source: &[u8],
-    offset: u64,
-) -> Result<(), Error>
-    requires { length block.old ≡ len_align (S.features storage.old) }
-    ensures empty { length source.now ≡ 0 → IsOk result × (storage.new ≡ storage.old) }
-    ensures written { 0 < length source.now
-        → WriteOutcome (S.features storage.old).keeps_data (S.bytes storage.old)
-        (splice
-        (zero_extended (S.bytes storage.old)
-        (padded_end (S.features storage.old) offset (length source.now)))
-        offset source.now)
-        (S.bytes storage.new) result }
-    ensures wraps { IsErrOf result Error.WrapAround ↔ Wraps (S.features storage.old) offset (length source.now) }
-    ensures features { S.features storage.new ≡ S.features storage.old }
-    ensures only { IfErr result IsExtRefusal }
-    ensures cause { CountsFaults (S.features storage.old).is_reliable (S.fault_count storage.old)
-        (S.fault_count storage.new) result }
-    ensures memory { IsErrOf result Error.Memory
-        → RequestMayRunOut (S.features storage.old) (length (S.bytes storage.old))
-        (padded_end (S.features storage.old) offset (length source.now)) }
-{
-    if source.is_empty() {
-        return Ok(());
-    }
-    let Some((start, len)) = padded_request(&*storage, offset, source.len() as u64) else {
-        return Err(Error::WrapAround);
-    };
-    if start == offset && len == source.len() as u64 {
-        return storage.pure_writev(source, offset);
-    }
-    write_parts(storage, block, source, offset, start, len)
-}
-
 /// Writes a request that isn't aligned: a first block of which it leaves a part, and then from a block's start on.
-fn write_parts<S: Storage>(
+pub(crate) fn write_parts<S: Storage>(
     storage: &mut S,
     block: &mut [u8],
     source: &[u8],

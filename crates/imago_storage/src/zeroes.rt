@@ -1,14 +1,15 @@
 //! Zero writes of any range.
 ghost use Rattle.std.specs.Prelude.{◌≡◌, ◌≢◌, ℕ, ◌+◌, ◌-◌, ◌%◌, ◌<◌, ◌≤◌, ◌⊎◌, ◌^◌, length, max, min, replicate, OnOk, OnErr, IfErr, IsErrOf, IsOk, Ok, List, ◌↔◌};
+ghost use Rattle.imago_storage.specs.Bytes.{splice, zero_extended, WriteOutcome};
 ghost use Rattle.imago_storage.specs.Error.{IsExtRefusal, IsPureRefusal, IsZeroRefusal};
 ghost use Rattle.imago_storage.specs.Faults.{CountsFaults};
 ghost use Rattle.imago_storage.specs.Features.{Features, InPlace, AsData, MayRunOut, MayBeUnsupported, IsAlignedTo, RequestMayRunOut, ZeroesMayRunOut, len_align, zero_support};
-ghost use Rattle.imago_storage.specs.Padding.{Wraps, RangeWraps, IsAlignedPart};
+ghost use Rattle.imago_storage.specs.Padding.{padded_end, Wraps, RangeWraps, IsAlignedPart};
 ghost use Rattle.imago_storage.specs.Zeroes.{HasZeroed, ZeroedPart, EdgeWraps, DataWraps, MayWrap, FitsZeroes};
 
-use crate::align::{aligned_part, head_length, length_align, zero_align};
+use crate::align::{aligned_part, head_length, length_align, padded_request, zero_align};
 use crate::error::Error;
-use crate::request::write_by;
+use crate::request::write_parts;
 use crate::storage::{Storage, ZERO_PIECE, ZeroKind, zero_buffer};
 use std::alloc::Global;
 
@@ -144,7 +145,7 @@ fn zero_part_and_edges<S: Storage>(
     ensures unchanged { IsErrOf result Error.Unsupported → storage.new ≡ storage.old }
 {
     if start == offset && end == offset + count {
-        return zero_part(storage, alloc, offset, count, kind);
+        return zero_part(storage, alloc, start, end - start, kind);
     }
     // all memory is asked for before anything is written
     let edge = (start - offset).max(offset + count - end);
@@ -246,6 +247,43 @@ fn zero_from<S: Storage>(
         (offset + count + (len_align (S.features storage.old) - 1)) }
 {
     write_by(storage, block, &zeroes[..count as usize], offset)
+}
+
+/// Writes a range as [`write_any`](crate::request::write_any) does, with a block that is there already.
+fn write_by<S: Storage>(
+    storage: &mut S,
+    block: &mut [u8],
+    source: &[u8],
+    offset: u64,
+) -> Result<(), Error>
+    requires { length block.old ≡ len_align (S.features storage.old) }
+    ensures empty { length source.now ≡ 0 → IsOk result × (storage.new ≡ storage.old) }
+    ensures written { 0 < length source.now
+        → WriteOutcome (S.features storage.old).keeps_data (S.bytes storage.old)
+        (splice
+        (zero_extended (S.bytes storage.old)
+        (padded_end (S.features storage.old) offset (length source.now)))
+        offset source.now)
+        (S.bytes storage.new) result }
+    ensures wraps { IsErrOf result Error.WrapAround ↔ Wraps (S.features storage.old) offset (length source.now) }
+    ensures features { S.features storage.new ≡ S.features storage.old }
+    ensures only { IfErr result IsExtRefusal }
+    ensures cause { CountsFaults (S.features storage.old).is_reliable (S.fault_count storage.old)
+        (S.fault_count storage.new) result }
+    ensures memory { IsErrOf result Error.Memory
+        → RequestMayRunOut (S.features storage.old) (length (S.bytes storage.old))
+        (padded_end (S.features storage.old) offset (length source.now)) }
+{
+    if source.is_empty() {
+        return Ok(());
+    }
+    let Some((start, len)) = padded_request(&*storage, offset, source.len() as u64) else {
+        return Err(Error::WrapAround);
+    };
+    if start == offset && len == source.len() as u64 {
+        return storage.pure_writev(source, offset);
+    }
+    write_parts(storage, block, source, offset, start, len)
 }
 
 /// Writes zeroes as data: up to the first multiple of the request alignment, where the range doesn't start at one,
