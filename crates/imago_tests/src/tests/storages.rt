@@ -1,0 +1,1 @@
+//! Storages, and requests of any alignment on them.
