@@ -1,11 +1,13 @@
 //! A storage that can be created.
 ghost use Rattle.std.specs.Prelude.{◌≡◌};
+ghost use Rattle.imago_storage.specs.Maintenance.{no_maintenance};
 ghost use Rattle.imago_storage.specs.Mem.{null_features, null_lawful};
 ghost use Rattle.imago_storage.specs.IoCount.{no_work};
 
 use imago_storage::error::Error;
 use imago_storage::null::Null;
-use imago_storage::storage::{PreallocateMode, Storage, StorageCreateOptions};
+use imago_storage::storage::{PreallocateMode, Storage, StorageCreateOptions, ZeroKind};
+use std::alloc::Global;
 use std::fmt;
 
 /// Zeroes that are created by a name and a size. Without a name it is [`Error::NotFound`].
@@ -29,7 +31,7 @@ impl Storage for Created {
 
     ghost work = { λ _. no_work };
 
-    ghost filename = { λ s. ⟦<Null as Storage>⟧.filename s.inner };
+    ghost maintenance = { no_maintenance };
 
     ghost lawful = { λ _. null_lawful };
 
@@ -62,6 +64,10 @@ impl Storage for Created {
         self.inner.size()
     }
 
+    fn resolve_relative_path(&self, alloc: Global, relative: &str) -> Result<String, Error> {
+        self.inner.resolve_relative_path(alloc, relative)
+    }
+
     fn get_filename(&self) -> Option<&str> {
         self.inner.get_filename()
     }
@@ -78,8 +84,12 @@ impl Storage for Created {
         self.inner.pure_writev(source, offset)
     }
 
-    fn zero_in_place(&mut self, offset: u64, count: u64, allocated: bool) -> Result<(), Error> {
-        self.inner.zero_in_place(offset, count, allocated)
+    fn zero_in_place(&mut self, offset: u64, count: u64, kind: ZeroKind) -> Result<(), Error> {
+        self.inner.zero_in_place(offset, count, kind)
+    }
+
+    fn pure_discard(&mut self, offset: u64, count: u64) -> Result<(), Error> {
+        self.inner.pure_discard(offset, count)
     }
 
     fn flush(&mut self) -> Result<(), Error> {
@@ -88,6 +98,10 @@ impl Storage for Created {
 
     fn sync(&mut self) -> Result<(), Error> {
         self.inner.sync()
+    }
+
+    fn settle_writes(&mut self) -> Result<(), Error> {
+        self.inner.settle_writes()
     }
 
     fn invalidate_cache(&mut self) -> Result<(), Error> {

@@ -6,7 +6,7 @@ ghost use Rattle.imago_test_storages.specs.Recording.{zeroing, discarding, recor
 
 use imago_storage::error::Error;
 use imago_storage::mem::MemStorage;
-use imago_storage::storage::{PreallocateMode, Storage};
+use imago_storage::storage::{PreallocateMode, Storage, ZeroKind};
 use std::alloc::Global;
 use std::fmt;
 
@@ -17,8 +17,8 @@ pub enum Recorded {
     Read(u64, u64),
     /// A pure write.
     Write(u64, u64),
-    /// A zero write in place, and whether it is to be allocated.
-    Zero(u64, u64, bool),
+    /// A zero write in place, and its kind.
+    Zero(u64, u64, ZeroKind),
     /// A discard.
     Discard(u64, u64),
     /// A new length.
@@ -65,7 +65,6 @@ impl Recording {
     pub fn new(inner: MemStorage) -> Self
         ensures bytes { ⟦<Recording as Storage>⟧.bytes result ≡ ⟦<MemStorage as Storage>⟧.bytes inner }
         ensures features { ⟦<Recording as Storage>⟧.features result ≡ ⟦<MemStorage as Storage>⟧.features inner }
-        ensures filename { ⟦<Recording as Storage>⟧.filename result ≡ ⟦<MemStorage as Storage>⟧.filename inner }
     {
         Recording {
             inner,
@@ -78,11 +77,11 @@ impl Recording {
         }
     }
 
-    /// Zero writes in place are [`Error::Unsupported`] from now on, so that both pure zero writes are made as data.
+    /// Zero writes in place are [`Error::Unsupported`] from now on and not recorded, so that both pure zero writes are made
+    /// as data.
     pub fn with_zeroes_as_data(mut self) -> Self
         ensures bytes { ⟦<Recording as Storage>⟧.bytes result ≡ ⟦<Recording as Storage>⟧.bytes self }
         ensures features { ⟦<Recording as Storage>⟧.features result ≡ zeroing (⟦<Recording as Storage>⟧.features self) }
-        ensures filename { ⟦<Recording as Storage>⟧.filename result ≡ ⟦<Recording as Storage>⟧.filename self }
     {
         self.zeroes_as_data = true;
         self
@@ -92,7 +91,6 @@ impl Recording {
     pub fn without_discards(mut self) -> Self
         ensures bytes { ⟦<Recording as Storage>⟧.bytes result ≡ ⟦<Recording as Storage>⟧.bytes self }
         ensures features { ⟦<Recording as Storage>⟧.features result ≡ discarding (⟦<Recording as Storage>⟧.features self) }
-        ensures filename { ⟦<Recording as Storage>⟧.filename result ≡ ⟦<Recording as Storage>⟧.filename self }
     {
         self.no_discards = true;
         self
@@ -110,7 +108,6 @@ impl Recording {
     pub fn clear(&mut self)
         ensures bytes { ⟦<Recording as Storage>⟧.bytes self.new ≡ ⟦<Recording as Storage>⟧.bytes self.old }
         ensures features { ⟦<Recording as Storage>⟧.features self.new ≡ ⟦<Recording as Storage>⟧.features self.old }
-        ensures filename { ⟦<Recording as Storage>⟧.filename self.new ≡ ⟦<Recording as Storage>⟧.filename self.old }
     {
         self.log.count = 0;
     }
@@ -138,7 +135,13 @@ impl Storage for Recording {
 
     ghost work = { λ _. no_work };
 
-    ghost filename = { λ s. ⟦<MemStorage as Storage>⟧.filename s.inner };
+    ghost maintenance = { record {
+      flushed = λ a b r. ⟦<MemStorage as Storage>⟧.maintenance.flushed a.inner b.inner r;
+      synced = λ a b r. ⟦<MemStorage as Storage>⟧.maintenance.synced a.inner b.inner r;
+      invalidated = λ a b r. ⟦<MemStorage as Storage>⟧.maintenance.invalidated a.inner b.inner r;
+      settled = λ a b r. ⟦<MemStorage as Storage>⟧.maintenance.settled a.inner b.inner r;
+      discarded = λ _ _ a b _. b.inner ≡ a.inner;
+    } };
 
     ghost lawful = { λ s. recording_lawful s.zeroes_as_data s.no_discards (⟦<MemStorage as Storage>⟧.features s.inner) (alignments_of s.inner) };
 
@@ -187,12 +190,12 @@ impl Storage for Recording {
         self.inner.pure_writev(source, offset)
     }
 
-    fn zero_in_place(&mut self, offset: u64, count: u64, allocated: bool) -> Result<(), Error> {
-        self.log.add(Recorded::Zero(offset, count, allocated));
+    fn zero_in_place(&mut self, offset: u64, count: u64, kind: ZeroKind) -> Result<(), Error> {
         if self.zeroes_as_data {
             return Err(Error::Unsupported);
         }
-        self.inner.zero_in_place(offset, count, allocated)
+        self.log.add(Recorded::Zero(offset, count, kind));
+        self.inner.zero_in_place(offset, count, kind)
     }
 
     fn pure_discard(&mut self, offset: u64, count: u64) -> Result<(), Error> {
