@@ -2,9 +2,13 @@
 mod calls;
 mod faults;
 mod make;
+mod opening;
+mod options;
 mod script;
 mod set_up;
 mod subject;
+mod sweep;
+mod texts;
 mod wraps;
 mod writes;
 mod zeroes;
