@@ -270,6 +270,10 @@ const KINDS: [Script; 5] = [
                 &[(4, 1)],
             ),
             Step::Done(Call::Resize(2, PreallocateMode::None), &[(2, 1)]),
+            Step::AtOnce(Call::Flush, &[(2, 1)]),
+            Step::AtOnce(Call::Sync, &[(2, 1)]),
+            Step::AtOnce(Call::Settle, &[(2, 1)]),
+            Step::AtOnce(Call::Invalidate, &[(2, 1)]),
         ],
     },
 ];
