@@ -1,0 +1,1 @@
+//! Drivers, and images over chains of layers.
