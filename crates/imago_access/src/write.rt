@@ -1,6 +1,6 @@
 //! Writing to an image.
 ghost use Rattle.std.specs.Prelude.{◌≡◌, ◌+◌, ◌^◌, ◌<◌, ◌≤◌, None, true, length};
-ghost use Rattle.imago_drivers.specs.Operation.{Write, Zero};
+ghost use Rattle.imago_drivers.specs.Operation.{Write};
 ghost use Rattle.imago_drivers.specs.LayerBelow.{lent};
 ghost use Rattle.imago_access.specs.Chain.{driver};
 ghost use Rattle.imago_access.specs.Calls.{IsTested, IsWrite};
@@ -69,23 +69,6 @@ impl<D: FormatDriverInstance> FormatAccess<D> {
         }
         let size = self.inner.size();
         if offset > size || count > size - offset {
-            return Err(Error::BeyondDisk);
-        }
-        Ok(())
-    }
-
-    /// The tests of a zero write or discard, in their order: the driver is writable, the range's end is within `u64`, and the range
-    /// lies in the disk. They are the same for all of these calls.
-    pub(crate) fn test_end(&self, offset: u64, count: u64) -> Result<(), Error>
-        ensures { IsTested (D.view (driver self.now)) Zero offset count result }
-    {
-        if !self.inner.writable() {
-            return Err(Error::ReadOnly);
-        }
-        if count > u64::MAX - offset {
-            return Err(Error::RangeOverflow);
-        }
-        if offset + count > self.inner.size() {
             return Err(Error::BeyondDisk);
         }
         Ok(())

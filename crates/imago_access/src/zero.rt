@@ -4,6 +4,7 @@ ghost use Rattle.imago_drivers.specs.Operation.{Zero, DiscardToZero};
 ghost use Rattle.imago_drivers.specs.LayerBelow.{lent};
 ghost use Rattle.imago_drivers.specs.Place.{Byte};
 ghost use Rattle.imago_access.specs.Chain.{driver, disk_value, as_layer_below};
+ghost use Rattle.imago_access.specs.Calls.{IsTested};
 ghost use Rattle.imago_access.specs.Zeroing.{operation_of, AreZero, IsPartlyZeroed, Carries, HasZeroed, HasZeroedPart, IsZeroedByDriver, IsZeroWrite, data_reasons, zero_reasons};
 
 use crate::access::{FormatAccess, below};
@@ -267,6 +268,23 @@ impl<D: FormatDriverInstance> FormatAccess<D> {
 }
 
 impl<D: FormatDriverInstance> FormatAccess<D> {
+    /// The tests of a zero write or discard, in their order: the driver is writable, the range's end is within `u64`, and the range
+    /// lies in the disk. They are the same for all of these calls.
+    pub(crate) fn test_end(&self, offset: u64, count: u64) -> Result<(), Error>
+        ensures { IsTested (D.view (driver self.now)) Zero offset count result }
+    {
+        if !self.inner.writable() {
+            return Err(Error::ReadOnly);
+        }
+        if count > u64::MAX - offset {
+            return Err(Error::RangeOverflow);
+        }
+        if offset + count > self.inner.size() {
+            return Err(Error::BeyondDisk);
+        }
+        Ok(())
+    }
+
     /// Zeroes a range. The driver zeroes what it can by itself; what it leaves is zeroed in whole granules where the driver has a
     /// granularity and the rest of a granule is zero already, and else written as zeroes, but for what is an explicit zero.
     /// Nothing below the top layer changes.

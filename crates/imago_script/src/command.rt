@@ -93,6 +93,15 @@ fn call_of(words: &[&str]) -> Option<Call> {
     match words {
         &["size"] => Some(Call::Size),
         &["read", offset, length] => read_of(number(offset)?, number(length)?),
+        &["zero", offset, length] => Some(Call::WriteZeroes {
+            offset: number(offset)?,
+            length: number(length)?,
+        }),
+        &["discard", to, offset, length] => discard_of(to, number(offset)?, number(length)?),
+        &["map", offset, most] => Some(Call::GetMapping {
+            offset: number(offset)?,
+            max_length: number(most)?,
+        }),
         &["resize", size, growth] => Some(Call::Resize {
             size: number(size)?,
             mode: mode(growth)?,
@@ -106,6 +115,16 @@ fn call_of(words: &[&str]) -> Option<Call> {
         }),
         &["flush"] => Some(Call::Flush),
         &["sync"] => Some(Call::Sync),
+        _ => None,
+    }
+}
+
+/// The discard of that name.
+fn discard_of(to: &str, offset: u64, length: u64) -> Option<Call> {
+    match to {
+        "zero" => Some(Call::DiscardToZero { offset, length }),
+        "any" => Some(Call::DiscardToAny { offset, length }),
+        "backing" => Some(Call::DiscardToBacking { offset, length }),
         _ => None,
     }
 }

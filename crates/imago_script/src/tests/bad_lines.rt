@@ -3,7 +3,7 @@
 use super::check;
 
 /// Texts that are no command, each by one fault.
-const BAD_LINES: [&[u8]; 67] = [
+const BAD_LINES: [&[u8]; 72] = [
     // The words: nothing but bytes that print, and one space between two.
     b" ",
     b" size",
@@ -24,9 +24,14 @@ const BAD_LINES: [&[u8]; 67] = [
     b"siz",
     b"-",
     b"probe a",
-    b"map 0 1",
-    b"zero 0 1",
-    b"discard any 0 1",
+    b"map 0",
+    b"map 0 1 2",
+    b"map x 1",
+    b"zero 0",
+    b"zero 0 -1",
+    b"discard 0 1",
+    b"discard none 0 1",
+    b"discard any 0",
     b"data 0 1 keep",
     b"open vmdk a",
     b"open qcow2 a ro",

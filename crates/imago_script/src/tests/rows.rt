@@ -3,7 +3,7 @@
 use super::check;
 
 /// Scripts whose every line is a command, and what they print.
-const ROWS: [(&str, &str); 17] = [
+const ROWS: [(&str, &str); 22] = [
     (
         "mem a 16 00 1 1\nopen raw a rw\nwrite 3 0102\nread 0 6\n",
         "ok\nok\nok\nok 000000010200\n",
@@ -55,6 +55,40 @@ const ROWS: [(&str, &str); 17] = [
          resize 3 full\ngrow 5 format\ngrow 6 none\nsize\nread 0 5\nread 0 2\n",
         "ok\nok\nok\nok\nok 01020000\nok\nok\nok 4\nok\nok\nok\nok\nok 6\nok 0102000000\nok 0102\n",
     ),
+    // Zeroes and discards, of any range of a disk.
+    (
+        "mem a 8 ff 1 1\nopen raw a rw\ndiscard zero 2 3\nread 0 8\nzero 6 2\nread 0 8\ndiscard backing 0 1\nread 0 8\n\
+         discard any 3 0\nread 0 8\n",
+        "ok\nok\nok\nok ffff000000ffffff\nok\nok ffff000000ff0000\nok\nok 00ff000000ff0000\nok\nok 00ff000000ff0000\n",
+    ),
+    // On blocks of 8 the edges are zeroed too, but a discard to backing leaves them.
+    (
+        "mem a 16 ff 8 8\nopen raw a rw\ndiscard backing 3 13\nread 0 16\nmem a 16 ff 8 8\nopen raw a rw\nzero 3 13\nread 0 16\n\
+         mem a 16 ff 8 8\nopen raw a rw\ndiscard zero 1 2\nread 0 16\n",
+        "ok\nok\nok\nok ffffffffffffffff0000000000000000\nok\nok\nok\nok ffffff00000000000000000000000000\n\
+         ok\nok\nok\nok ff0000ffffffffffffffffffffffffff\n",
+    ),
+    // Past the end of the disk, at its end, and past the greatest offset.
+    (
+        "null n 1024\nopen raw n rw\nzero 1024 4096\nzero 512 4096\ndiscard zero 1024 4096\ndiscard any 512 4096\n\
+         discard backing 512 4096\nzero 1024 0\ndiscard zero 1024 0\ndiscard any 1024 0\ndiscard backing 1024 0\nsize\n\
+         zero 18446744073709551615 1\ndiscard zero 18446744073709551615 1\ndiscard any 18446744073709551615 1\n\
+         discard backing 18446744073709551615 1\n",
+        "ok\nok\nerr UnexpectedEof\nerr UnexpectedEof\nerr UnexpectedEof\nerr UnexpectedEof\nerr UnexpectedEof\nok\nok\nok\nok\n\
+         ok 1024\nerr InvalidInput\nerr InvalidInput\nerr InvalidInput\nerr InvalidInput\n",
+    ),
+    // Opened to be read alone: whatever the range is.
+    (
+        "hex a 01020304\nopen raw a ro\nzero 18446744073709551615 1\nzero 0 0\ndiscard zero 0 1\ndiscard any 9 9\n\
+         discard backing 0 0\nmap 1 2\nread 0 4\n",
+        "ok\nok\nerr Other\nerr Other\nerr Other\nerr Other\nerr Other\nok 2 0/0:0x1/rw\nok 01020304\n",
+    ),
+    // What a range is: up to the end of the disk, at its end, and of no bytes.
+    (
+        "mem a 10000 a5 4096 4096\nopen raw a rw\ngrow 11000 zero\nmap 10999 8\nmap 11000 1\nmap 18446744073709551615 1\nmap 0 0\n\
+         map 0 18446744073709551615\n",
+        "ok\nok\nok\nok 1 0/0:0x2af7/rw\nok 0 <eof>\nok 0 <eof>\nok 0 0/0:0x0/rw\nok 11000 0/0:0x0/rw\n",
+    ),
     // Zeroes of any length.
     (
         "null n 7\nopen raw n rw\nshow\nwrite 0 ff\nread 0 7\nsize\nresize 9 zero\nshow\n",
@@ -66,8 +100,9 @@ const ROWS: [(&str, &str); 17] = [
     ),
     // With no open image.
     (
-        "size\nshow\nread 0 16777216\nwrite 0 00\nresize 0 none\ngrow 0 none\nshrink 0\nflush\nsync\nopen raw a ro\n",
-        "err NotFound\nerr NotFound\nerr NotFound\nerr NotFound\nerr NotFound\nerr NotFound\nerr NotFound\nerr NotFound\n\
+        "size\nshow\nread 0 16777216\nwrite 0 00\nresize 0 none\ngrow 0 none\nshrink 0\nflush\nsync\nzero 0 1\n\
+         discard any 0 1\nmap 0 1\nopen raw a ro\n",
+        "err NotFound\nerr NotFound\nerr NotFound\nerr NotFound\nerr NotFound\nerr NotFound\nerr NotFound\nerr NotFound\nerr NotFound\nerr NotFound\nerr NotFound\n\
          err NotFound\nerr NotFound\n",
     ),
     // An opening replaces the open image where it succeeds, and takes the storage out.

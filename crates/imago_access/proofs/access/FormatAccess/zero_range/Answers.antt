@@ -10,9 +10,10 @@ loop-done-init g c = (nothing_zeroed g.D.FormatDriverInstance.view c.args.self.n
 
 pub loop-done-preserved : goal.loop-done-preserved
 loop-done-preserved g c =
-    let i = c.loop-done.invariant in
-    (zeroed_next g.D.FormatDriverInstance.view c.args.self.now c.args.offset c.args.count c.loop-done.self c.zero_next.new.self c.loop-done.done i.0 _ c.in_ok-done.field-0 (c.in_ok-done.ensures.some.1) c.in_ok-done.ensures.zeroed,
-    once_next g.D.FormatDriverInstance.view (operation_of c.args.call) (zeroes_range c.args.call) c.args.self.now c.loop-done.self c.zero_next.new.self c.args.offset c.args.count c.loop-done.done i.0 i.1 c.in_ok-done.field-0 c.loop-done-test.true c.in_ok-done.ensures.whole)
+    let i = c.loop-done.invariant in (
+      zeroed_next g.D.FormatDriverInstance.view c.args.self.now c.args.offset c.args.count c.loop-done.self c.zero_next.new.self c.loop-done.done i.0 _ c.in_ok-done.field-0 (c.in_ok-done.ensures.some.1) c.in_ok-done.ensures.zeroed,
+      once_next g.D.FormatDriverInstance.view (operation_of c.args.call) (zeroes_range c.args.call) c.args.self.now c.loop-done.self c.zero_next.new.self c.args.offset c.args.count c.loop-done.done i.0 i.1 c.in_ok-done.field-0 c.loop-done-test.true c.in_ok-done.ensures.whole,
+    )
 
 pub returns-in_err-done : goal.returns-in_err-done
 returns-in_err-done g c =
