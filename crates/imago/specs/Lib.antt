@@ -2,6 +2,7 @@
 pub use Rattle.imago_storage.specs.Error
 pub use Rattle.imago_storage.specs.Bytes
 pub use Rattle.imago_storage.specs.Features
+pub use Rattle.imago_storage.specs.Maintenance
 pub use Rattle.imago_storage.specs.Faults
 pub use Rattle.imago_storage.specs.IoCount
 pub use Rattle.imago_storage.specs.Options
@@ -16,6 +17,8 @@ pub use Rattle.imago_drivers.specs.Reasons
 pub use Rattle.imago_drivers.specs.LayerBelow
 pub use Rattle.imago_drivers.specs.Causes
 pub use Rattle.imago_drivers.specs.Parts
+pub use Rattle.imago_drivers.specs.Ranges
+pub use Rattle.imago_drivers.specs.Flushes
 pub use Rattle.imago_drivers.specs.Pending
 pub use Rattle.imago_drivers.specs.View
 pub use Rattle.imago_drivers.specs.Changes
@@ -38,9 +41,13 @@ pub use Rattle.imago_access.specs.Ways
 pub use Rattle.imago_access.specs.Named
 pub use Rattle.imago_access.specs.Writing
 pub use Rattle.imago_access.specs.Calls
+pub use Rattle.imago_access.specs.PreparedOnDisk
 pub use Rattle.imago_access.specs.Sizes
 pub use Rattle.imago_access.specs.Runs
 pub use Rattle.imago_access.specs.Disk
+pub use Rattle.imago_access.specs.Histories
+pub use Rattle.imago_access.specs.Determined
+pub use Rattle.imago_access.specs.Success
 pub use Rattle.imago_access.specs.Alignments
 pub use Rattle.imago_access.specs.Lending
 pub use Rattle.imago_access.specs.ChainLaws

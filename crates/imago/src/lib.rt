@@ -7,6 +7,7 @@
 
 pub mod access;
 pub mod format;
+pub mod laws;
 pub mod storage;
 #[cfg(test)]
 mod tests;

@@ -10,7 +10,7 @@ use Rattle.imago_drivers.specs.declared.mapping.PreparedDataMapping.{PreparedDat
 use Rattle.std.specs.Borrow.{Bor}
 use Rattle.imago_storage.specs.declared.error.Error.{Error}
 use Rattle.imago_drivers.specs.Operation.{Operation}
-use Rattle.imago_drivers.specs.Place.{Value, values, shown}
+use Rattle.imago_drivers.specs.Place.{Value, End, values, shown}
 use Rattle.imago_drivers.specs.LayerBelow.{LayerBelow, lent}
 use Rattle.imago_drivers.specs.View.{View}
 use Rattle.imago_drivers.specs.Reasons.{Reasons, allowed}
@@ -121,6 +121,7 @@ module _ {D St T : Type 0} (view : D → View St) (x : FormatAccess D) (op : Ope
     reaches = λ l. reaches_same (view (driver x));
     settled = tt;
     same_size = refl;
+    ends = λ q h. h;
     kept = record { below = refl; kind = record { abilities = refl; store_count = refl; store_features = λ i. refl } };
     nothing_pending = p;
     faults = record { later = omega arith; reliable = λ t. refl; device = λ h. absurd (test_device {T = T} (view (driver x)) op o n e f h) };
@@ -144,6 +145,7 @@ module _ {D St T : Type 0} (view : D → View St) (x : FormatAccess D) (op : Ope
         reaches = λ l. subst (λ (y : D). ReachesNoMore (view (driver x)) (view y)) (sym e) (reaches l);
         settled = subst (λ (y : D). IfOk result (λ r. IsSettled (settles op) (view (driver x)).limits.cause (view y).limits.cause (view (driver x)).limits.copies (view y).limits.copies o (part r))) (sym e) settled;
         same_size = ap (λ (y : D). (view y).size) e ∙ framed.size;
+        ends = subst (λ (y : D). (p : ℕ) → (view y).place p ≡ End → (view (driver x)).place p ≡ End) (sym e) framed.ends;
         kept = record { below = backing_with x d; kind = subst (λ (y : D). IsKind (view (driver x)) (view y)) (sym e) framed.kind };
         nothing_pending = subst (λ (y : D). (view y).pending ≡ None) (sym e) spent;
         faults = subst (λ (y : D). ShowsFaults hidden (devices_reliable view x) (view (driver x)).fault_count (view y).fault_count result) (sym e) faults;
@@ -198,6 +200,7 @@ image_preparing {D = D} view x d o n result l h writable fits unchanged spent se
     record {
       tested = λ z g. absurd (not_failed (view (driver x)) Operation.Write o n writable fits (λ y. y) z g);
       same_size = ap (λ (y : D). (view y).size) e ∙ unchanged.framed.size;
+      ends = subst (λ (y : D). (p : ℕ) → (view y).place p ≡ End → (view (driver x)).place p ≡ End) (sym e) unchanged.framed.ends;
       unchanged = λ k. changed_image view x d (λ a b. (p : ℕ) → b p ≡ a p) (λ p. ap (shown (lent_image view (backing x)).at) (unchanged.places.same k p));
       reaches = subst (λ (y : D). ReachesNoMore (view (driver x)) (view y)) (sym e) unchanged.reaches;
       settled = subst (λ (y : D). IfOk result (λ m. IsSettled IsOnRange (view (driver x)).limits.cause (view y).limits.cause (view (driver x)).limits.copies (view y).limits.copies o m.length)) (sym e) settled;
@@ -214,6 +217,7 @@ failed_preparing {St = St} view x o n e f p = record {
   unchanged = λ k q. refl;
   reaches = reaches_same (view (driver x));
   settled = tt;
+  ends = λ q h. h;
   kept = record { below = refl; kind = record { abilities = refl; store_count = refl; store_features = λ i. refl } };
   nothing_pending = p;
   faults = record { later = omega arith; reliable = λ t. refl; device = λ h. absurd (test_device {T = PreparedDataMapping St} (view (driver x)) Operation.Write o n e f h) };

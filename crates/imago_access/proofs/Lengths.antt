@@ -1,4 +1,4 @@
-use Rattle.std.proofs.Common.{◌≡◌, ℕ, ◌+◌, ◌<◌, ◌≤◌, ◌⊎◌, ◌↔◌, inl, inr, ⊎_elim, Bool, true, false, Option, Some, None, refl, sym, ◌∙◌, subst, arith, min, max, zero, nat_eq, Box, Global}
+use Rattle.std.proofs.Common.{◌≡◌, ℕ, ◌+◌, ◌<◌, ◌≤◌, ◌↔◌, inl, inr, ⊎_elim, Bool, Option, Some, None, refl, sym, ◌∙◌, subst, arith, min, max, Box, Global}
 use Rattle.std.proofs.lemmas.Bool.{cases_lt}
 use Rattle.imago_drivers.specs.Operation.{Map}
 use Rattle.imago_drivers.specs.Place.{Place, Stored, Zeroed, Special, Lower, End}
@@ -10,8 +10,7 @@ use Rattle.imago_access.specs.declared.access.FormatAccess.{FormatAccess, out-Fo
 use Rattle.imago_access.specs.declared.chain.Way.{Way}
 use Rattle.imago_access.specs.Chain.{driver, backing, unboxed}
 use Rattle.imago_access.specs.Lengths.{IsOwnLength, is_followed, IsResolvedLength, length_below, IsFullLength}
-use Rattle.imago_access.specs.Resolved.{IsEndOfImage}
-use Rattle.imago_access.specs.Ways.{NamesOrEnds, IsPart, LeadsDown, HasLanded, part_length, IsBottom, resolved_mapping, resolved_length}
+use Rattle.imago_access.specs.Ways.{NamesOrEnds, IsPart, LeadsDown, part_length, IsBottom, resolved_mapping, resolved_length}
 use Rattle.imago_access.proofs.Landed.{not_zero, is_zero, left_some}
 
 end_length : (m : ShallowMapping) (n most : ℕ) → IsEof m → part_length m n most ≡ most

@@ -1,4 +1,4 @@
-use Rattle.std.proofs.Common.{◌≡◌, List, [], ◌∷◌, ◌++◌, refl, subst}
+use Rattle.std.proofs.Common.{List, [], ◌∷◌, ◌++◌, refl, subst}
 use Rattle.imago_drivers.specs.View.{View}
 use Rattle.imago_drivers.specs.Flushes.{Flushes}
 use Rattle.imago_access.specs.declared.access.FormatAccess.{FormatAccess}

@@ -1,5 +1,5 @@
 use Rattle.std.proofs.Common.{◌≡◌, ℕ, ◌+◌, ◌<◌, ◌≤◌, ◌⊎◌, inl, inr, ⊎_elim, Bool, true, false, Option, Some, None, List, length, ap, arith, Result, Ok, Err}
-use Rattle.std.specs.Prelude.{IsTrue, IsErrOf, OnOk, OnErr}
+use Rattle.std.specs.Prelude.{IsTrue, OnOk, OnErr}
 use Rattle.imago_storage.specs.declared.error.Error.{Error}
 use Rattle.imago_drivers.specs.declared.mapping.PreparedDataMapping.{PreparedDataMapping}
 use Rattle.imago_drivers.specs.Place.{Value, Place, Stored, PlacesAreWritableAt, SamePlaces, values, shown}

@@ -1,16 +1,16 @@
-use Rattle.std.proofs.Common.{◌≡◌, ℕ, ◌<◌, ◌≤◌, ◌&&◌, inl, inr, Bool, true, false, refl, sym, ap, ◌∙◌, subst, arith, Result, Ok, Err, min, max}
+use Rattle.std.proofs.Common.{◌≡◌, ℕ, ◌<◌, ◌≤◌, ◌&&◌, inl, inr, true, refl, sym, ap, ◌∙◌, subst, arith, Result, Ok, Err, min, max}
 use Rattle.std.specs.Prelude.{IsTrue, IsOk, IfErr, OnOk, OnErr}
 use Rattle.imago_storage.specs.declared.error.Error.{Error}
 use Rattle.imago_storage.specs.Faults.{CountsFaults}
-use Rattle.imago_drivers.specs.Operation.{Operation, Grow, Shrink, Flush}
+use Rattle.imago_drivers.specs.Operation.{Operation, Grow, Shrink}
 use Rattle.imago_drivers.specs.declared.format.PreallocateMode.{PreallocateMode}
-use Rattle.imago_drivers.specs.Place.{shown, values, SamePlaces}
+use Rattle.imago_drivers.specs.Place.{End, shown, values, SamePlaces}
 use Rattle.imago_drivers.specs.Pending.{ShowsRound}
 use Rattle.imago_drivers.specs.LayerBelow.{LayerBelow}
 use Rattle.imago_drivers.specs.View.{View}
 use Rattle.imago_drivers.specs.Reasons.{allowed}
 use Rattle.imago_drivers.specs.Frame.{IsKind}
-use Rattle.imago_drivers.specs.Calls.{IsFlush, IsGrowth, IsShrink}
+use Rattle.imago_drivers.specs.Calls.{IsFlush}
 use Rattle.imago_drivers.specs.Resized.{IsGrown, IsCut, IsSameDisk, grown_into}
 use Rattle.imago_drivers.specs.Done.{lending_reasons, driver_reasons}
 use Rattle.imago_access.specs.declared.access.FormatAccess.{FormatAccess}
@@ -62,14 +62,15 @@ module _ {D St : Type 0} (view : D → View St) (x : FormatAccess D) (d : D) whe
   }
 
   pub resized_image : (op : Operation) (n : ℕ) (effect : Type 0) (result : Result Unit Error) → (view (driver x)).abilities.is_writable ≡ true
-      → OnOk result effect → (IsIdle op (view (driver x)).size n → IsOk result) → OnErr result (IsSameDisk (view (driver x)) (view d)) → IsKind (view (driver x)) (view d)
+      → OnOk result effect → (IsIdle op (view (driver x)).size n → IsOk result) → OnErr result (IsSameDisk (view (driver x)) (view d)) → ((p : ℕ) → p < (view (driver x)).size → p < (view d).size → (view d).place p ≡ End → (view (driver x)).place p ≡ End) → IsKind (view (driver x)) (view d)
       → CountsFaults (resize_reliable view x op) (view (driver x)).fault_count (view d).fault_count result
       → IfErr result (allowed (resize_refusals view x op n)) → IsResize view op n effect x (with_driver x d) result
-  resized_image op n effect result w done idle same kind faults refusals = record {
+  resized_image op n effect result w done idle same ends kind faults refusals = record {
     tested = λ e f. absurd (let y = sym w ∙ f.1 in cc);
     done = done;
     idle = λ t i. idle i;
     unchanged = err_then result (λ h. same_image h.size h.places) same;
+    ends = with (λ (y : D). (p : ℕ) → p < (view (driver x)).size → p < (view y).size → (view y).place p ≡ End → (view (driver x)).place p ≡ End) ends;
     kept = kept_with kind;
     faults = with (λ (y : D). CountsFaults (resize_reliable view x op) (view (driver x)).fault_count (view y).fault_count result) faults;
     refusals = refused_then result _ _ (λ e h. inr h) refusals;
@@ -79,6 +80,7 @@ module _ {D St : Type 0} (view : D → View St) (x : FormatAccess D) (d : D) whe
   flushed_image relation result h = record {
     performed = with (λ (y : D). relation (driver x) y result) h.performed;
     unchanged = same_image h.unchanged.framed.size h.unchanged.places;
+    ends = with (λ (y : D). (p : ℕ) → (view y).place p ≡ End → (view (driver x)).place p ≡ End) h.unchanged.framed.ends;
     kept = kept_with h.unchanged.framed.kind;
     pending = with (λ (y : D). (view y).pending ≡ (view (driver x)).pending) h.pending;
     faults = with (λ (y : D). CountsFaults (view (driver x)).abilities.is_reliable (view (driver x)).fault_count (view y).fault_count result) h.faults;
@@ -98,6 +100,7 @@ read_only_resize view x op n effect e w = record {
   done = tt;
   idle = λ t i. let y = sym t ∙ w.1 in let z : ⊥ = cc in absurd z;
   unchanged = record { size = refl; values = λ k p. refl };
+  ends = λ p a b h. h;
   kept = record { below = refl; kind = record { abilities = refl; store_count = refl; store_features = λ i. refl } };
   faults = record { later = omega arith; reliable = λ t. refl; device = λ h. let y = w.0 in let z : ⊥ = cc in absurd z };
   refusals = inl w;
@@ -107,6 +110,11 @@ grow_weaker : {D St : Type 0} (view : D → View St) (x : FormatAccess D) (l : L
     → allowed (record (lending_reasons (view (driver x)) l op n 0) { beyond_disk = ⊥ }) e → allowed (record (range_refusals view x op n 0) { beyond_disk = ⊥ }) e
 grow_weaker view x l h op n e c = subst (λ (m : LayerBelow). allowed (record (lending_reasons (view (driver x)) m op n 0) { beyond_disk = ⊥ }) e) h c
 
+-- no place becomes an end, where a resize is done or refused
+ends_by : {St : Type 0} (old new : View St) (result : Result Unit Error) (effect : Type 0) → (effect → (p : ℕ) → p < old.size → p < new.size → new.place p ≡ End → old.place p ≡ End) → OnOk result effect → OnErr result (IsSameDisk old new) → (p : ℕ) → p < old.size → p < new.size → new.place p ≡ End → old.place p ≡ End
+ends_by old new (Ok t) effect f done same = f done
+ends_by old new (Err e) effect f done same = λ p a b h. same.ends p h
+
 -- a growth by the driver, over what it is lent
 pub grow_image : {D St : Type 0} (view : D → View St) (x : FormatAccess D) (d : D) (l : LayerBelow) → l ≡ lent_image view (backing x) → (mode : PreallocateMode) (n : ℕ) (result : Result Unit Error) → (view (driver x)).abilities.is_writable ≡ true
     → OnOk result (IsGrown mode l.at n (view (driver x)) (view d)) → (n ≤ (view (driver x)).size → IsOk result) → OnErr result (IsSameDisk (view (driver x)) (view d)) → IsKind (view (driver x)) (view d)
@@ -115,7 +123,7 @@ pub grow_image : {D St : Type 0} (view : D → View St) (x : FormatAccess D) (d 
 grow_image view x d l h mode n result w grown idle same kind faults refusals =
     resized_image view x d (Grow mode) n _ result w
     (ok_then result (λ g. grown_image view x d mode n (subst (λ (m : LayerBelow). IsGrown mode m.at n (view (driver x)) (view d)) h g)) grown)
-    idle same kind
+    idle same (ends_by (view (driver x)) (view d) result _ (λ g p a b h. g.ends p a h) grown same) kind
     (subst (λ (m : LayerBelow). CountsFaults ((view (driver x)).abilities.is_reliable && m.is_reliable) (view (driver x)).fault_count (view d).fault_count result) h faults)
     (refused_then result _ _ (grow_weaker view x l h (Grow mode) n) refusals)
 
@@ -125,4 +133,4 @@ pub shrink_image : {D St : Type 0} (view : D → View St) (x : FormatAccess D) (
     → CountsFaults (view (driver x)).abilities.is_reliable (view (driver x)).fault_count (view d).fault_count result
     → IfErr result (allowed (driver_reasons (view (driver x)) Shrink n 0)) → IsResize view Shrink n (HasShrunk view n x (with_driver x d)) x (with_driver x d) result
 shrink_image view x d n result w cut idle same kind faults refusals =
-    resized_image view x d Shrink n _ result w (ok_then result (cut_image view x d n) cut) idle same kind faults refusals
+    resized_image view x d Shrink n _ result w (ok_then result (cut_image view x d n) cut) idle same (ends_by (view (driver x)) (view d) result _ (λ g p a b h. g.ends p b h) cut same) kind faults refusals

@@ -3,6 +3,7 @@ use Rattle.imago_storage.specs.declared.error.Error.{Error}
 use Rattle.imago_storage.specs.Faults.{CountsFaults, RoseOrSaturated}
 use Rattle.imago_drivers.specs.declared.mapping.PreparedDataMapping.{PreparedDataMapping}
 use Rattle.imago_drivers.specs.Operation.{Operation, Map, Read, Write, Zero, DiscardToZero, DiscardToAny, DiscardToBacking, Grow, Shrink, Flush}
+use Rattle.imago_drivers.specs.Place.{End}
 use Rattle.imago_drivers.specs.Reasons.{Reasons, allowed}
 use Rattle.imago_drivers.specs.Causes.{IsSettled, IsOnRange}
 use Rattle.imago_drivers.specs.View.{View}
@@ -92,6 +93,8 @@ pub record IsRangeCall {D St T : Type 0} (view : D → View St) (op : Operation)
   pub reaches : (IsLoose op → ⊥) → ReachesNoMore (view (driver old)) (view (driver new))
   pub settled : IfOk result (λ r. IsSettled (settles op) (view (driver old)).limits.cause (view (driver new)).limits.cause (view (driver old)).limits.copies (view (driver new)).limits.copies o (part r))
   pub same_size : (view (driver new)).size ≡ (view (driver old)).size
+  -- no place becomes an end
+  pub ends : (p : ℕ) → (view (driver new)).place p ≡ End → (view (driver old)).place p ≡ End
   pub kept : IsKept view old new
   pub nothing_pending : (view (driver new)).pending ≡ None
   pub faults : ShowsFaults hidden (devices_reliable view old) (view (driver old)).fault_count (view (driver new)).fault_count result
@@ -120,6 +123,7 @@ pub record IsPreparing {D St : Type 0} (view : D → View St) (old new : FormatA
   -- no place leads below that didn't before, and a cause for a piece of the mapping's range was one for the whole
   pub reaches : ReachesNoMore (view (driver old)) (view (driver new))
   pub settled : IfOk result (λ m. IsSettled IsOnRange (view (driver old)).limits.cause (view (driver new)).limits.cause (view (driver old)).limits.copies (view (driver new)).limits.copies o m.length)
+  pub ends : (p : ℕ) → (view (driver new)).place p ≡ End → (view (driver old)).place p ≡ End
   pub kept : IsKept view old new
   pub nothing_pending : OnErr result ((view (driver new)).pending ≡ None)
   pub faults : CountsFaults (devices_reliable view old) (view (driver old)).fault_count (view (driver new)).fault_count result

@@ -3,6 +3,7 @@ use Rattle.imago_storage.specs.declared.error.Error.{Error}
 use Rattle.imago_storage.specs.Faults.{CountsFaults}
 use Rattle.imago_drivers.specs.Operation.{Operation, Grow, Shrink, Flush}
 use Rattle.imago_drivers.specs.declared.format.PreallocateMode.{PreallocateMode}
+use Rattle.imago_drivers.specs.Place.{End}
 use Rattle.imago_drivers.specs.Reasons.{Reasons, allowed}
 use Rattle.imago_drivers.specs.View.{View}
 use Rattle.imago_drivers.specs.Resized.{grown_into}
@@ -55,6 +56,8 @@ pub record IsResize {D St : Type 0} (view : D → View St) (op : Operation) (new
   -- where there is nothing to do it isn't refused, once its test has passed
   pub idle : (view (driver old)).abilities.is_writable ≡ true → IsIdle op (view (driver old)).size new_size → IsOk result
   pub unchanged : OnErr result (IsSameImage view old new)
+  -- no place below the old and the new size becomes an end
+  pub ends : (p : ℕ) → p < (view (driver old)).size → p < (view (driver new)).size → (view (driver new)).place p ≡ End → (view (driver old)).place p ≡ End
   pub kept : IsKept view old new
   pub faults : CountsFaults (resize_reliable view old op) (view (driver old)).fault_count (view (driver new)).fault_count result
   pub refusals : IfErr result (λ e. FailsWritable (view (driver old)) e ⊎ allowed (resize_refusals view old op new_size) e)
@@ -68,6 +71,7 @@ pub record IsResizeTo {D St : Type 0} (view : D → View St) (new_size : ℕ) (m
 pub record IsFlushed {D St : Type 0} (view : D → View St) (relation : D → D → Result Unit Error → Type 0) (old new : FormatAccess D) (result : Result Unit Error) : Type 0 where
   pub performed : relation (driver old) (driver new) result
   pub unchanged : IsSameImage view old new
+  pub ends : (p : ℕ) → (view (driver new)).place p ≡ End → (view (driver old)).place p ≡ End
   pub kept : IsKept view old new
   pub pending : (view (driver new)).pending ≡ (view (driver old)).pending
   pub faults : CountsFaults (view (driver old)).abilities.is_reliable (view (driver old)).fault_count (view (driver new)).fault_count result
