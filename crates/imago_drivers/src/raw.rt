@@ -256,6 +256,7 @@ impl<S: Storage> FormatDriverInstance for Raw<S> {
             (⟦<Raw<S> as FormatDriverInstance>⟧.view self.old)
             (⟦<Raw<S> as FormatDriverInstance>⟧.view self.new) result }
     {
+        // No layer stands below: what is given back to it is zero.
         zero_part(&mut self.storage, alloc, offset, count)
     }
 
