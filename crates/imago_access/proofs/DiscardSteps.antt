@@ -247,6 +247,7 @@ discard_call view call x new o n result w fits small loose h = record {
   torn = λ k. torn result (h.left k);
   reaches = λ l. absurd (l loose);
   settled = settled result;
+  ends = h.framed.ends;
   same_size = h.framed.size;
   kept = record { below = h.below; kind = h.framed.kind };
   nothing_pending = h.spent;

@@ -171,6 +171,7 @@ zero_call view op x new o n result w fits small h = record {
   torn = λ k. torn result (h.left.torn k);
   reaches = λ l. h.left.reaches;
   settled = settled result h.carries;
+  ends = h.left.framed.ends;
   same_size = h.left.framed.size;
   kept = record { below = h.left.below; kind = h.left.framed.kind };
   nothing_pending = h.left.spent;
