@@ -12,33 +12,24 @@ use imago_test_storages::recording::Recording;
 use std::alloc::Global;
 use std::process::Abort;
 
-/// What opening and creating answer: a storage's length, nothing, or a refusal.
-#[derive(Clone, Copy, PartialEq, Eq, Debug, Drop)]
-struct Answers {
-    open: Result<u64, Error>,
-    create_open: Result<u64, Error>,
-    create: Result<(), Error>,
-}
-
-/// All of them are unsupported.
-const NONE: Answers = Answers {
-    open: Err(Error::Unsupported),
-    create_open: Err(Error::Unsupported),
-    create: Err(Error::Unsupported),
-};
-
 /// The length of a storage, or its refusal.
 fn size_of<S: Storage>(storage: Result<S, Error>) -> Result<u64, Error> {
     storage?.size()
 }
 
-/// What a storage of 700 bytes answers, if it has a name.
-fn asked<S: Storage>(rt: &impl Abort, alloc: Global, named: bool) -> Answers {
-    Answers {
-        open: size_of(S::open(StorageOpenOptions::new())),
-        create_open: size_of(S::create_open(options(rt, alloc, named))),
-        create: S::create(options(rt, alloc, named)),
-    }
+/// No such storage is opened, and it is created as it is expected to be.
+fn is_created<S: Storage>(
+    rt: &impl Abort,
+    alloc: Global,
+    named: bool,
+    create_open: Result<u64, Error>,
+    create: Result<(), Error>,
+) {
+    let opened = size_of(S::open(StorageOpenOptions::new()));
+    assert_eq!(rt; opened, Err(Error::Unsupported));
+    let created = size_of(S::create_open(options(rt, alloc, named)));
+    assert_eq!(rt; created, create_open);
+    assert_eq!(rt; S::create(options(rt, alloc, named)), create);
 }
 
 /// Options for 700 bytes.
@@ -51,43 +42,38 @@ fn options(rt: &impl Abort, alloc: Global, named: bool) -> StorageCreateOptions 
 }
 
 #[test]
-fn no_storage_of_the_library_is_opened_by_name(rt: HostRuntime) {
-    let alloc = rt.alloc();
-    assert_eq!(rt; asked::<MemStorage>(&rt, alloc, true), NONE);
-    assert_eq!(rt; asked::<Null>(&rt, alloc, true), NONE);
-    assert_eq!(rt; asked::<&mut MemStorage>(&rt, alloc, true), NONE);
+fn memory_is_not_opened_by_name(rt: HostRuntime) {
+    let none = Err(Error::Unsupported);
+    is_created::<MemStorage>(&rt, rt.alloc(), true, none, Err(Error::Unsupported));
+}
+
+#[test]
+fn zeroes_are_not_opened_by_name(rt: HostRuntime) {
+    let none = Err(Error::Unsupported);
+    is_created::<Null>(&rt, rt.alloc(), true, none, Err(Error::Unsupported));
+}
+
+#[test]
+fn lent_memory_is_not_opened_by_name(rt: HostRuntime) {
+    let none = Err(Error::Unsupported);
+    is_created::<&mut MemStorage>(&rt, rt.alloc(), true, none, Err(Error::Unsupported));
 }
 
 #[test]
 fn a_storage_is_created_and_let_go(rt: HostRuntime) {
     let alloc = rt.alloc();
-    let made = Answers {
-        open: Err(Error::Unsupported),
-        create_open: Ok(700),
-        create: Ok(()),
-    };
-    assert_eq!(rt; asked::<Created>(&rt, alloc, true), made);
-    let refused = Answers {
-        open: Err(Error::Unsupported),
-        create_open: Err(Error::NotFound),
-        create: Err(Error::NotFound),
-    };
-    assert_eq!(rt; asked::<Created>(&rt, alloc, false), refused);
+    is_created::<Created>(&rt, alloc, true, Ok(700), Ok(()));
+    let refused = Err(Error::NotFound);
+    is_created::<Created>(&rt, alloc, false, Err(Error::NotFound), refused);
 }
 
 #[test]
 fn a_lent_storage_creates_as_its_own(rt: HostRuntime) {
     let alloc = rt.alloc();
-    let made = Answers {
-        create: Ok(()),
-        ..NONE
-    };
-    assert_eq!(rt; asked::<&mut Created>(&rt, alloc, true), made);
-    let refused = Answers {
-        create: Err(Error::NotFound),
-        ..NONE
-    };
-    assert_eq!(rt; asked::<&mut Created>(&rt, alloc, false), refused);
+    let none = Err(Error::Unsupported);
+    is_created::<&mut Created>(&rt, alloc, true, none, Ok(()));
+    let refused = Err(Error::NotFound);
+    is_created::<&mut Created>(&rt, alloc, false, Err(Error::Unsupported), refused);
 }
 
 /// A name relative to a storage.

@@ -12,7 +12,7 @@ use std::alloc::Global;
 use std::process::Abort;
 
 /// Which storage a script is made on.
-#[derive(Clone, Copy, PartialEq, Eq)]
+#[derive(Clone, Copy)]
 pub(super) enum Kind {
     /// Bytes in memory.
     Memory,
