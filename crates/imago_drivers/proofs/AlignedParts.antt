@@ -1,8 +1,10 @@
 use Rattle.std.proofs.Common.{◌≡◌, ℕ, ◌+◌, ◌-◌, ◌%◌, ◌^◌, ◌<◌, ⊎_elim, arith, ◌∙◌}
 use Rattle.std.proofs.Math.Nat.{mod_self, dvd-add, dvd_of_mod-eq-zero, mod-eq-zero_of_dvd}
+use Rattle.std.specs.Prelude.{List}
 use Rattle.imago_storage.specs.Features.{IsAlignedTo}
+use Rattle.imago_storage.specs.Bytes.{SameOutside}
 use Rattle.imago_storage.specs.Padding.{aligned_start, aligned_end, RangeWraps, IsAlignedPart}
-use Rattle.imago_drivers.specs.Raw.{IsPartAlignedTo}
+use Rattle.imago_drivers.specs.Ranges.{IsPartAlignedTo}
 
 start_whole : (align at : ℕ) → at % align ≡ 0 → aligned_start align at ≡ at
 start_whole align at e = let s : align - at % align ≡ align = omega (arith, e) in let z : (align - at % align) % align ≡ 0 = rw s (mod_self align) in omega arith
@@ -30,3 +32,12 @@ part_fits align at n start end p l w =
     let a = p.aligned (omega arith) in
     let s : aligned_start align start ≡ start = start_whole align start a.start in
     ⊎_elim (λ x. omega (arith, a.ends)) (λ y. omega (arith, p.start_fits)) w
+
+-- what stays outside the aligned part of a range's aligned part stays outside that part
+pub outside_part : (align mine at n start end : ℕ) (old now : List ℕ) → mine ≡ align → IsAlignedPart mine at n start end → start < end
+    → SameOutside (aligned_start align start) (aligned_end align start (end - start) - aligned_start align start) old now → SameOutside start (end - start) old now
+outside_part align mine at n start end old now e p l x =
+    let a : IsAlignedTo align start (end - start) = rw e at (p.aligned (omega arith)) in
+    let s : aligned_start align start ≡ start = start_whole align start a.start in
+    let w : aligned_end align start (end - start) ≡ start + (end - start) = end_whole align start (end - start) a.start a.whole in
+    record { before = λ q h. x.before q (rw s h); behind = λ q h. x.behind q (rw (s, w) (omega arith)); same_length = x.same_length }

@@ -5,10 +5,10 @@ use Rattle.imago_storage.specs.declared.error.Error.{Error}
 use Rattle.imago_storage.specs.declared.error.Error.TheVariants as E
 use Rattle.imago_drivers.specs.Operation.{Operation}
 use Rattle.imago_drivers.specs.declared.mapping.PreparedDataMapping.{PreparedDataMapping}
-use Rattle.imago_drivers.specs.Place.{Value, Byte, values, shown, AreStoredAt}
+use Rattle.imago_drivers.specs.Place.{Value, Byte, values, shown, PlacesAreWritableAt}
 use Rattle.imago_drivers.specs.Reasons.{allowed}
 use Rattle.imago_drivers.specs.LayerBelow.{LayerBelow}
-use Rattle.imago_drivers.specs.Causes.{Causes, Copies, IsSettled, EveryOperation}
+use Rattle.imago_drivers.specs.Causes.{Causes, Copies, IsSettled, IsOnRange}
 use Rattle.imago_drivers.specs.Pending.{Pending, ShowsRound}
 use Rattle.imago_drivers.specs.View.{View}
 use Rattle.imago_drivers.specs.Changes.{IsChanged, overwritten}
@@ -18,7 +18,7 @@ use Rattle.imago_drivers.specs.Prepared.{IsPrepared, IsDataMapping, is_foreign, 
 use Rattle.imago_drivers.specs.Commit.{is_committed, commit_reasons}
 
 -- a part that is settled in two steps
-pub settled_twice : (old mid new : Causes) (c d f : Copies) (o n : ℕ) → IsSettled EveryOperation old mid c d o n → IsSettled EveryOperation mid new d f o n → IsSettled EveryOperation old new c f o n
+pub settled_twice : (old mid new : Causes) (c d f : Copies) (o n : ℕ) → IsSettled IsOnRange old mid c d o n → IsSettled IsOnRange mid new d f o n → IsSettled IsOnRange old new c f o n
 settled_twice old mid new c d f o n s t = record {
   causes = λ op a len q m e r h i j k x. s.causes op a len a len e r h i (omega arith) (omega arith) (t.causes op a len q m e r h i j k x);
   copied = λ op a len q m p r h i j k x. s.copied op a len a len p r h i (omega arith) (omega arith) (t.copied op a len q m p r h i j k x);
@@ -37,7 +37,7 @@ zero_more a = omega arith
 -- a mapping that is prepared and then committed
 module _ {St : Type 0} (old mid new : View St) (below : ℕ → Value) (o n : ℕ) (w : Bool) (m : PreparedDataMapping St)
     (P : IsPrepared o n w (values below old.place) old mid m) (U : IsUnchanged old mid) where
-  origins : (st : Option St) → m.state ≡ st → is_committed mid.pending st false mid new → AreStoredAt new.place m.storage m.offset m.length o
+  origins : (st : Option St) → m.state ≡ st → is_committed mid.pending st false mid new → PlacesAreWritableAt new.place m.storage m.offset m.length o
   origins None e C i h = let x = (P.direct e).1 i h in C.stored (o + i) (x.0) m.storage (m.offset + i) true (x.1)
   origins (Some s) e C i h =
       let a = P.apart s e in
@@ -53,7 +53,7 @@ module _ {St : Type 0} (old mid new : View St) (below : ℕ → Value) (o n : �
     within = rw ec P.within;
     some = λ h. rw ec (P.some h);
     part = rw ec P.part;
-    whole = λ h. ec ∙ (P.whole h).0;
+    whole = λ h. ec ∙ P.whole h;
     origins = rw (es, ef, ec) (origins m.state refl C);
   }
 
@@ -118,20 +118,20 @@ module _ {St : Type 0} (old mid new : View St) (below : ℕ → Value) (o n : �
   never_foreign f = own_mapping m.state refl f
 
   -- what the commit may be refused for, the whole may
-  pub commit_refused : (l : LayerBelow) → IsSettled EveryOperation old.cause mid.cause old.copies mid.copies o m.length → (e : Error) → (e ≡ Error.ForeignMapping → ⊥) → allowed (commit_reasons mid m) e
+  pub commit_refused : (l : LayerBelow) → IsSettled IsOnRange old.limits.cause mid.limits.cause old.limits.copies mid.limits.copies o m.length → (e : Error) → (e ≡ Error.ForeignMapping → ⊥) → allowed (commit_reasons mid m) e
       → allowed (lending_reasons old l Operation.Write o n) e
   commit_refused l S e own a = reasons e own a
     where
-      earlier : (x : Error) → ((p : ℕ) → is_for mid m m.state 0 m.length p → mid.cause Operation.Write p m.length x) → old.cause Operation.Write o n x
+      earlier : (x : Error) → ((p : ℕ) → is_for mid m m.state 0 m.length p → mid.limits.cause Operation.Write p m.length x) → old.limits.cause Operation.Write o n x
       earlier x c = S.causes Operation.Write o n o m.length x tt (omega arith) (omega (arith, P.within)) (omega arith) (omega (arith, P.within)) (c o is_at_start)
 
       reasons : (x : Error) → (x ≡ Error.ForeignMapping → ⊥) → allowed (commit_reasons mid m) x → allowed (lending_reasons old l Operation.Write o n) x
-      reasons E.WrapAround own a = inl (earlier Error.WrapAround a)
-      reasons E.InvalidData own a = inl (earlier Error.InvalidData a)
-      reasons E.Unsupported own a = inl (earlier Error.Unsupported a)
-      reasons E.NoAccess own a = inl (earlier Error.NoAccess a)
+      reasons E.WrapAround own a = inl (earlier Error.WrapAround (a.1))
+      reasons E.InvalidData own a = inl (earlier Error.InvalidData (a.1))
+      reasons E.Unsupported own a = inl (earlier Error.Unsupported (a.1))
+      reasons E.NoAccess own a = inl (earlier Error.NoAccess (a.1))
       reasons E.Device own a = tt
-      reasons E.Memory own a = λ free. a ((P.whole free).1)
+      reasons E.Memory own a = λ free. (P.no_memory free).2 a
       reasons E.ForeignMapping own a = own refl
       reasons E.ReadOnly own a = a
       reasons E.BeyondDisk own a = absurd a

@@ -1,4 +1,5 @@
 pub mod StorageBytes
 pub mod AlignedParts
+pub mod Lengths
 pub mod RawSteps
 pub mod Ensured

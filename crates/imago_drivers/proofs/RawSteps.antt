@@ -9,10 +9,12 @@ use Rattle.imago_storage.specs.Padding.{Wraps}
 use Rattle.imago_drivers.specs.Operation.{Operation, Read}
 use Rattle.imago_drivers.specs.Reasons.{none, allowed}
 use Rattle.imago_drivers.specs.declared.mapping.PreparedDataMapping.{PreparedDataMapping}
-use Rattle.imago_drivers.specs.Place.{Stored, IsAt, AreWritable, HasStranger}
+use Rattle.imago_drivers.specs.Place.{Stored, PlacesStandAt, BytesAreWritable, HasStranger}
 use Rattle.imago_drivers.specs.View.{View}
+use Rattle.imago_drivers.specs.Pending.{StaysPending}
 use Rattle.imago_drivers.specs.Prepared.{IsPut, is_for, is_foreign_write, is_written}
-use Rattle.imago_drivers.specs.Raw.{raw_place, raw_cause, RequestWraps, HasBytes}
+use Rattle.imago_drivers.specs.Raw.{raw_place, raw_cause, RequestWraps}
+use Rattle.imago_drivers.specs.Ranges.{HasBytes}
 use Rattle.imago_drivers.specs.RawLaws.{raw_in, raw_out, raw_stored}
 
 module _ (size : ℕ) (old new : List ℕ) where
@@ -51,15 +53,19 @@ module _ (size : ℕ) (old new : List ℕ) where
         (cases_lt p o);
   }
 
+-- a mapping names the place that it was asked for
+pub raw_first : (size : ℕ) (bytes : List ℕ) (p : ℕ) → p < size → (b : ℕ) × (raw_place size bytes p ≡ Stored b 0 (p + 0) true)
+raw_first size bytes p h = let z : p + 0 ≡ p = omega arith in (slice_index bytes p, rw z (raw_in size bytes p h))
+
 -- storage bytes that stand at a place begin at that place
-pub raw_at : (size : ℕ) (bytes : List ℕ) (s f n o : ℕ) → 0 < n → IsAt (raw_place size bytes) s f n o → o ≡ f
+pub raw_at : (size : ℕ) (bytes : List ℕ) (s f n o : ℕ) → 0 < n → PlacesStandAt (raw_place size bytes) s f n o → o ≡ f
 raw_at size bytes s f n o h at = let a = at 0 h in let x = raw_stored size bytes (o + 0) (a.0) s (f + 0) (a.1) (a.2) in omega (arith, x.2)
 
-pub raw_within : (size : ℕ) (bytes : List ℕ) (s f n o : ℕ) → 0 < n → IsAt (raw_place size bytes) s f n o → f + n ≤ size
+pub raw_within : (size : ℕ) (bytes : List ℕ) (s f n o : ℕ) → 0 < n → PlacesStandAt (raw_place size bytes) s f n o → f + n ≤ size
 raw_within size bytes s f n o h at = let a = at (n - 1) (omega arith) in let x = raw_stored size bytes (o + (n - 1)) (a.0) s (f + (n - 1)) (a.1) (a.2) in omega (arith, x.0, x.2)
 
 -- storage bytes of writable places lie inside the disk
-pub raw_inside : (size : ℕ) (bytes : List ℕ) (s f n : ℕ) → 0 < n → AreWritable (raw_place size bytes) s f n → f + n ≤ size
+pub raw_inside : (size : ℕ) (bytes : List ℕ) (s f n : ℕ) → 0 < n → BytesAreWritable (raw_place size bytes) s f n → f + n ≤ size
 raw_inside size bytes s f n h w = let a = w (n - 1) (omega arith) in let x = raw_stored size bytes (a.0) (a.1) s (f + (n - 1)) true (a.2) in omega (arith, x.0, x.2)
 
 pub stranger : (size : ℕ) (bytes : List ℕ) (s f n : ℕ) → 0 < n → ((0 < s) ⊎ (size < f + n)) → HasStranger (raw_place size bytes) s f n
@@ -77,12 +83,12 @@ pub foreign_not : {St : Type 0} (v : View St) (m : PreparedDataMapping St) (st :
 foreign_not v m None e t h i = ⊎_elim (λ a. let z : ⊥ = cc in z) h i
 foreign_not v m (Some s) e t h i = let z : ⊥ = cc in absurd z
 
-pub written_stateless : {St : Type 0} (v v' : View St) (m : PreparedDataMapping St) (st : Option St) (torn : Bool) (at : ℕ) (xs : List ℕ) → is_none st ≡ true → v'.pending ≡ v.pending
+pub written_stateless : {St : Type 0} (v v' : View St) (m : PreparedDataMapping St) (st : Option St) (torn : Bool) (at : ℕ) (xs : List ℕ) → is_none st ≡ true → StaysPending v.abilities.keeps_data v.pending v'.pending
     → IsPut m.storage (m.offset + at) xs torn v.abilities.keeps_data v.place v'.place → is_written st torn v v' m at xs
 written_stateless v v' m None torn at xs e same h = (h, same)
 written_stateless v v' m (Some s) torn at xs e same h = let z : ⊥ = cc in absurd z
 
-pub for_stateless : {St : Type 0} (v : View St) (m : PreparedDataMapping St) (st : Option St) (at n o : ℕ) → is_none st ≡ true → is_for v m st at n o → IsAt v.place m.storage (m.offset + at) n o
+pub for_stateless : {St : Type 0} (v : View St) (m : PreparedDataMapping St) (st : Option St) (at n o : ℕ) → is_none st ≡ true → is_for v m st at n o → PlacesStandAt v.place m.storage (m.offset + at) n o
 for_stateless v m None at n o e h = h
 for_stateless v m (Some s) at n o e h = let z : ⊥ = cc in absurd z
 
@@ -98,14 +104,14 @@ pub request_refused : (f : Features) (size len f_at n : ℕ) (op : Operation) (t
     → ((x : ℕ) → 0 < n → P x → IsErrOf r Error.WrapAround → RequestWraps f size op f_at n)
     → (IsErrOf r Error.Memory → IsAlignedRequest f f_at n → MayRunOut takes len (f_at + n))
     → IfErr r (allowed record none {
-      cause = λ e. (x : ℕ) → P x → raw_cause f size op x n e;
+      cause = λ e. (e ≡ Error.WrapAround) × ((x : ℕ) → P x → raw_cause f size op x n e);
       device = D;
       memory = (x : ℕ) → P x → (x + n ≤ size) × IsAlignedRequest f x n × (MayRunOut takes len (x + n) → ⊥) → ⊥;
       foreign_mapping = F;
     })
 request_refused f size len at n op takes P D F (Ok u) same empty only device wraps memory = tt
 request_refused f size len at n op takes P D F (Err E.WrapAround) same empty only device wraps memory =
-    λ x q. ⊎_elim (λ some. let t : x ≡ at = same x some q in record { from = at; count = n; above = omega arith; below = omega arith; wraps = wraps x some q refl }) (λ zero. let i = empty (omega arith) in let z : ⊥ = cc in absurd z) (cases_lt 0 n)
+    (refl, λ x q. ⊎_elim (λ some. let t : x ≡ at = same x some q in record { from = at; count = n; above = omega arith; below = omega arith; wraps = wraps x some q refl }) (λ zero. let i = empty (omega arith) in let z : ⊥ = cc in absurd z) (cases_lt 0 n))
 request_refused f size len at n op takes P D F (Err E.Memory) same empty only device wraps memory =
     λ x q m. ⊎_elim (λ some. let t : x ≡ at = same x some q in let u = rw t at m in u.2 (memory refl (u.1))) (λ zero. let i = empty (omega arith) in let z : ⊥ = cc in absurd z) (cases_lt 0 n)
 request_refused f size len at n op takes P D F (Err E.Device) same empty only device wraps memory = device refl
@@ -126,13 +132,13 @@ pub read_refused : (f : Features) (size : ℕ) (bytes : List ℕ) (s f_at n : �
     → (IsErrOf r Error.WrapAround → Wraps f f_at n)
     → (IsErrOf r Error.Memory → IsAlignedRequest f f_at n → MayRunOut f.read_memory (length bytes) (f_at + n))
     → IfErr r (allowed record none {
-      cause = λ e. (x : ℕ) → IsAt (raw_place size bytes) s f_at n x → raw_cause f size Read x n e;
+      cause = λ e. (e ≡ Error.WrapAround) × ((x : ℕ) → PlacesStandAt (raw_place size bytes) s f_at n x → raw_cause f size Read x n e);
       device = f.is_reliable ≡ false;
-      memory = (x : ℕ) → IsAt (raw_place size bytes) s f_at n x → (x + n ≤ size) × IsAlignedRequest f x n × (MayRunOut f.read_memory (length bytes) (x + n) → ⊥) → ⊥;
+      memory = (x : ℕ) → PlacesStandAt (raw_place size bytes) s f_at n x → (x + n ≤ size) × IsAlignedRequest f x n × (MayRunOut f.read_memory (length bytes) (x + n) → ⊥) → ⊥;
       foreign_mapping = ⊥;
     })
 read_refused f size bytes s at n r empty only device wraps memory =
-    request_refused f size (length bytes) at n Read f.read_memory (λ x. IsAt (raw_place size bytes) s at n x) (f.is_reliable ≡ false) ⊥ r
+    request_refused f size (length bytes) at n Read f.read_memory (λ x. PlacesStandAt (raw_place size bytes) s at n x) (f.is_reliable ≡ false) ⊥ r
     (λ x h q. raw_at size bytes s at n x h q) empty only device (λ x h q e. (raw_within size bytes s at n x h q, wraps e)) memory
 
 pub if_ok : {T E : Type 0} (r : Result T E) {P : Type 0} → ((x : T) → r ≡ Ok x → P) → OnOk r P

@@ -5,7 +5,7 @@ use Rattle.std.specs.Prelude.{slice_index, Result, Ok, Err, OnOk, OnErr, IfErr, 
 use Rattle.imago_storage.specs.declared.error.Error.{Error}
 use Rattle.imago_storage.specs.Error.{IsExtRefusal, IsDeviceOrMemory}
 use Rattle.imago_storage.specs.Bytes.{splice, zero_extended, OldOrNew}
-use Rattle.imago_drivers.specs.Raw.{HasBytes}
+use Rattle.imago_drivers.specs.Ranges.{HasBytes}
 
 splice_inside : (xs : List ℕ) (at : ℕ) (new : List ℕ) (k : ℕ) → k < length new → get_or (splice xs at new) (at + k) 0 ≡ get_or new k 0
 unfolding splice

@@ -1,7 +1,7 @@
 use Rattle.std.specs.Prelude.{◌≡◌, ℕ, ◌+◌, ◌≤◌, ◌⊎◌, max, false, IsTrue, Result, IfOk, OnErr}
 use Rattle.imago_storage.specs.declared.error.Error.{Error}
 use Rattle.imago_drivers.specs.Operation.{Operation, Map, Read, Write}
-use Rattle.imago_drivers.specs.Place.{Value, values, IsAt, IsSpecialAt}
+use Rattle.imago_drivers.specs.Place.{Value, values, PlacesStandAt, PlacesAreSpecialAt}
 use Rattle.imago_drivers.specs.Reasons.{Reasons, none}
 use Rattle.imago_drivers.specs.LayerBelow.{LayerBelow}
 use Rattle.imago_drivers.specs.Causes.{CauseOver}
@@ -14,8 +14,8 @@ use Rattle.imago_drivers.specs.Changes.{Change, IsChanged, partly}
 pub record HasDone {St : Type 0} (how : (ℕ → Value) → ℕ → Change) (op : Operation) (o n : ℕ) (old new : View St) (result : Result (ℕ × ℕ) Error) : Type 0 where
   -- the part is empty, or lies in the range
   pub inside : IfOk result (λ r. (r.1 ≡ 0) ⊎ ((o ≤ r.0) × (r.0 + r.1 ≤ o + n)))
-  pub part : IfOk result (λ r. old.answers op o n r.0 r.1)
-  pub whole : old.no_memory op o n → IfOk result (λ r. (r.0 ≡ o) × (r.1 ≡ n))
+  pub part : IfOk result (λ r. old.limits.answers op o n r.0 r.1)
+  pub whole : old.limits.whole op o n → IfOk result (λ r. (r.0 ≡ o) × (r.1 ≡ n))
   pub done : IsTrue old.abilities.keeps_data → (below : ℕ → Value) → IfOk result (λ r. IsChanged r.0 r.1 (how below r.0) (values below old.place) (values below new.place))
   pub refused : IsTrue old.abilities.keeps_data → (below : ℕ → Value) → OnErr result (IsChanged o n (partly (how below o)) (values below old.place) (values below new.place))
 
@@ -23,14 +23,14 @@ pub record HasDone {St : Type 0} (how : (ℕ → Value) → ℕ → Change) (op 
 abbrev pub range_reasons : {St : Type 0} → View St → Operation → ℕ → ℕ → Reasons
 range_reasons v op o n = record none {
   beyond_disk = EndsIn v.place o n;
-  cause = v.cause op o n;
+  cause = v.limits.cause op o n;
   device = Unit {0};
-  memory = v.no_memory op o n → ⊥;
+  memory = v.limits.no_memory op o n → ⊥;
 }
 
 -- the same for a call that is lent a layer
 abbrev pub lending_reasons : {St : Type 0} → View St → LayerBelow → Operation → ℕ → ℕ → Reasons
-lending_reasons v l op o n = record (range_reasons v op o n) { cause = CauseOver v.cause v.copies l op o n }
+lending_reasons v l op o n = record (range_reasons v op o n) { cause = CauseOver v.limits.cause v.limits.copies l op o n }
 
 -- why a call on the driver as a whole may be refused
 abbrev pub driver_reasons : {St : Type 0} → View St → Operation → ℕ → ℕ → Reasons
@@ -38,36 +38,38 @@ driver_reasons v op o n = record (range_reasons v op o n) { beyond_disk = ⊥ }
 
 -- why a mapping may be refused: it takes no memory, and looks at the place asked for, also where nothing more is
 abbrev pub map_reasons : {St : Type 0} → View St → ℕ → ℕ → Reasons
-map_reasons v o n = record none { cause = v.cause Map o (max n 1); device = v.abilities.is_reliable ≡ false }
+map_reasons v o n = record none { cause = v.limits.cause Map o (max n 1); device = v.abilities.is_reliable ≡ false }
 
--- Why a read of stored bytes may be refused: as a read of any places that stand there.
+-- Why a read of stored bytes may be refused: no stored place is, so it can only wrap around, and only as a read of any places
+-- that stand there.
 abbrev pub stored_read_reasons : {St : Type 0} → View St → ℕ → ℕ → ℕ → Reasons
 stored_read_reasons v storage offset n = record none {
-  cause = λ e. (o : ℕ) → IsAt v.place storage offset n o → v.cause Read o n e;
+  cause = λ e. (e ≡ Error.WrapAround) × ((o : ℕ) → PlacesStandAt v.place storage offset n o → v.limits.cause Read o n e);
   device = v.abilities.is_reliable ≡ false;
-  memory = (o : ℕ) → IsAt v.place storage offset n o → v.no_memory Read o n → ⊥;
+  memory = (o : ℕ) → PlacesStandAt v.place storage offset n o → v.limits.no_memory Read o n → ⊥;
 }
 
+-- the same for special bytes, which the driver may not offer
 abbrev pub special_read_reasons : {St : Type 0} → View St → ℕ → ℕ → Reasons
 special_read_reasons v offset n = record none {
-  cause = λ e. (o : ℕ) → IsSpecialAt v.place offset n o → v.cause Read o n e;
+  cause = λ e. ((e ≡ Error.WrapAround) ⊎ (e ≡ Error.Unsupported)) × ((o : ℕ) → PlacesAreSpecialAt v.place offset n o → v.limits.cause Read o n e);
   device = v.abilities.is_reliable ≡ false;
-  memory = (o : ℕ) → IsSpecialAt v.place offset n o → v.no_memory Read o n → ⊥;
+  memory = (o : ℕ) → PlacesAreSpecialAt v.place offset n o → v.limits.no_memory Read o n → ⊥;
 }
 
--- why a write of stored bytes may be refused: as a write of any places that stand there
+-- why a write of stored bytes may be refused: it can only wrap around, and only as a write of any places that stand there
 abbrev pub stored_write_reasons : {St : Type 0} → View St → ℕ → ℕ → ℕ → Reasons
 stored_write_reasons v storage offset n = record none {
-  cause = λ e. (o : ℕ) → IsAt v.place storage offset n o → v.cause Write o n e;
+  cause = λ e. (e ≡ Error.WrapAround) × ((o : ℕ) → PlacesStandAt v.place storage offset n o → v.limits.cause Write o n e);
   device = Unit {0};
-  memory = (o : ℕ) → IsAt v.place storage offset n o → v.no_memory Write o n → ⊥;
+  memory = (o : ℕ) → PlacesStandAt v.place storage offset n o → v.limits.no_memory Write o n → ⊥;
 }
 
--- why a write into a prepared mapping may be refused: as a write of the places that it is for
+-- why a write into a prepared mapping may be refused: it can only wrap around, and only as a write of the places that it is for
 abbrev pub mapping_write_reasons : {St : Type 0} → View St → PreparedDataMapping St → ℕ → ℕ → Reasons
 mapping_write_reasons v m at n = record none {
-  cause = λ e. (o : ℕ) → IsFor v m at n o → v.cause Write o n e;
+  cause = λ e. (e ≡ Error.WrapAround) × ((o : ℕ) → IsFor v m at n o → v.limits.cause Write o n e);
   device = Unit {0};
-  memory = (o : ℕ) → IsFor v m at n o → v.no_memory Write o n → ⊥;
+  memory = (o : ℕ) → IsFor v m at n o → v.limits.no_memory Write o n → ⊥;
   foreign_mapping = Unit {0};
 }

@@ -48,7 +48,7 @@ CauseBound v op o n _ = ⊥
 -- The laws of a driver's causes: one for a part of a range is one for the whole, and the layer below is copied only by a
 -- driver that takes one.
 pub record AreCauses {St : Type 0} (v : View St) : Type 0 where
-  pub part : (op : Operation) (o n q m : ℕ) (e : Error) → o ≤ q → q + m ≤ o + n → v.cause op q m e → v.cause op o n e
-  pub part_copied : (op : Operation) (o n q m p : ℕ) → o ≤ q → q + m ≤ o + n → v.copies op q m p → v.copies op o n p
-  pub bound : (op : Operation) (o n : ℕ) (e : Error) → v.cause op o n e → CauseBound v op o n e
-  pub lends : (op : Operation) (o n p : ℕ) → v.copies op o n p → v.abilities.takes_backing ≡ true
+  pub part : (op : Operation) (o n q m : ℕ) (e : Error) → o ≤ q → q + m ≤ o + n → v.limits.cause op q m e → v.limits.cause op o n e
+  pub part_copied : (op : Operation) (o n q m p : ℕ) → o ≤ q → q + m ≤ o + n → v.limits.copies op q m p → v.limits.copies op o n p
+  pub bound : (op : Operation) (o n : ℕ) (e : Error) → v.limits.cause op o n e → CauseBound v op o n e
+  pub lends : (op : Operation) (o n p : ℕ) → v.limits.copies op o n p → v.abilities.takes_backing ≡ true

@@ -4,8 +4,11 @@ pub mod Reasons
 pub mod LayerBelow
 pub mod Causes
 pub mod Parts
+pub mod Ranges
 pub mod Pending
 pub mod View
+pub mod Lengths
+pub mod Flushes
 pub mod Changes
 pub mod Frame
 pub mod Mapping
@@ -13,6 +16,7 @@ pub mod Prepared
 pub mod Done
 pub mod Commit
 pub mod Resized
+pub mod Calls
 pub mod Laws
 pub mod Raw
 pub mod RawLaws

@@ -23,6 +23,8 @@ IsEof (M.Special offset) = ⊥
 pub record IsRight (place : ℕ → Place) (p most : ℕ) (m : ShallowMapping) (n : ℕ) : Type 0 where
   -- each of its places is what it names
   pub names : (i : ℕ) → i < n → Names m i (place (p + i))
+  -- an empty one too names the place that it was asked for, unless that is an end
+  pub first : (place p ≡ End → ⊥) → Names m 0 (place p)
   -- the end is answered exactly past the places
   pub eof : IsEof m ↔ (place p ≡ End)
   -- a refused place is answered by its refusal

@@ -1,4 +1,4 @@
-use Rattle.std.specs.Prelude.{◌≡◌, ℕ, ◌+◌, ◌<◌, ◌≤◌, ◌⊎◌, Option, Some, None}
+use Rattle.std.specs.Prelude.{◌≡◌, ℕ, ◌+◌, ◌<◌, ◌≤◌, ◌⊎◌, Bool, IsTrue, Option, Some, None}
 use Rattle.imago_drivers.specs.Place.{Value, Byte}
 use Rattle.imago_drivers.specs.declared.mapping.PreparedDataMapping.{PreparedDataMapping}
 
@@ -24,3 +24,13 @@ IsOwn (Some q) m = (m.storage ≡ q.storage) × (m.offset ≡ q.offset) × (m.le
 abbrev pub ShowsRound : {St : Type 0} → (ℕ → Value) → Option (Pending St) → Type 0
 ShowsRound disk None = Unit {0}
 ShowsRound disk (Some q) = (p : ℕ) → q.from ≤ p → p < q.until → (p < q.start) ⊎ (q.start + q.length ≤ p) → disk p ≡ Byte (q.bytes p)
+
+-- What is pending is the same: in all but its bytes, and in these as far as a commit shows them, where the storages keep data.
+pub record IsSamePending {St : Type 0} (keeps_data : Bool) (q r : Pending St) : Type 0 where
+  pub same : r ≡ record q { bytes = r.bytes }
+  pub shown : IsTrue keeps_data → (p : ℕ) → q.from ≤ p → p < q.until → r.bytes p ≡ q.bytes p
+
+-- the same is pending as before, or nothing as before
+abbrev pub StaysPending : {St : Type 0} → Bool → Option (Pending St) → Option (Pending St) → Type 0
+StaysPending keeps_data None new = new ≡ None
+StaysPending {St} keeps_data (Some q) new = (r : Pending St) × (new ≡ Some r) × IsSamePending keeps_data q r

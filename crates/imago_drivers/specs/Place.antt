@@ -43,20 +43,20 @@ abbrev pub HasValues : (ℕ → Value) → ℕ → List ℕ → Type 0
 HasValues at o buffer = (k : ℕ) → k < length buffer → at (o + k) ≡ Byte (slice_index buffer k)
 
 -- the n bytes of that storage from the offset on are what stands at the places from o on
-abbrev pub IsAt : (ℕ → Place) → ℕ → ℕ → ℕ → ℕ → Type 0
-IsAt place storage offset n o = (i : ℕ) → i < n → (b : ℕ) × (w : Bool) × (place (o + i) ≡ Stored b storage (offset + i) w)
+abbrev pub PlacesStandAt : (ℕ → Place) → ℕ → ℕ → ℕ → ℕ → Type 0
+PlacesStandAt place storage offset n o = (i : ℕ) → i < n → (b : ℕ) × (w : Bool) × (place (o + i) ≡ Stored b storage (offset + i) w)
 
 -- the n special bytes from the offset on are what stands at the places from o on
-abbrev pub IsSpecialAt : (ℕ → Place) → ℕ → ℕ → ℕ → Type 0
-IsSpecialAt place offset n o = (i : ℕ) → i < n → (b : ℕ) × (place (o + i) ≡ Special b (offset + i))
+abbrev pub PlacesAreSpecialAt : (ℕ → Place) → ℕ → ℕ → ℕ → Type 0
+PlacesAreSpecialAt place offset n o = (i : ℕ) → i < n → (b : ℕ) × (place (o + i) ≡ Special b (offset + i))
 
 -- each of the n bytes of that storage from the offset on is a writable place's
-abbrev pub AreWritable : (ℕ → Place) → ℕ → ℕ → ℕ → Type 0
-AreWritable place storage offset n = (i : ℕ) → i < n → (p : ℕ) × (b : ℕ) × (place p ≡ Stored b storage (offset + i) true)
+abbrev pub BytesAreWritable : (ℕ → Place) → ℕ → ℕ → ℕ → Type 0
+BytesAreWritable place storage offset n = (i : ℕ) → i < n → (p : ℕ) × (b : ℕ) × (place p ≡ Stored b storage (offset + i) true)
 
 -- the places from o on are writable, and stand in that storage from the offset on
-abbrev pub AreStoredAt : (ℕ → Place) → ℕ → ℕ → ℕ → ℕ → Type 0
-AreStoredAt place storage offset n o = (i : ℕ) → i < n → (b : ℕ) × (place (o + i) ≡ Stored b storage (offset + i) true)
+abbrev pub PlacesAreWritableAt : (ℕ → Place) → ℕ → ℕ → ℕ → ℕ → Type 0
+PlacesAreWritableAt place storage offset n o = (i : ℕ) → i < n → (b : ℕ) × (place (o + i) ≡ Stored b storage (offset + i) true)
 
 -- one of the n bytes of that storage from the offset on is no writable place's
 abbrev pub HasStranger : (ℕ → Place) → ℕ → ℕ → ℕ → Type 0

@@ -1,22 +1,32 @@
-use Rattle.std.specs.Prelude.{◌≡◌, ℕ, ◌+◌, ◌<◌, ◌≤◌, ◌⊎◌, Bool, true, false, List, Option, Some, None, length, slice_index, IsTrue}
+use Rattle.std.specs.Prelude.{◌≡◌, ℕ, ◌+◌, ◌<◌, ◌≤◌, ◌⊎◌, Bool, true, false, List, Option, Some, None, length, max, slice_index, is_some, IsTrue}
 use Rattle.imago_drivers.specs.Operation.{Operation}
-use Rattle.imago_drivers.specs.Place.{Value, Byte, Place, Stored, IsIn, IsAt, AreStoredAt, HasStranger, SamePlaces}
-use Rattle.imago_drivers.specs.Pending.{Pending, IsOwn, ShowsRound}
+use Rattle.imago_drivers.specs.Place.{Value, Byte, Place, Stored, IsIn, PlacesStandAt, PlacesAreWritableAt, HasStranger, SamePlaces}
+use Rattle.imago_drivers.specs.Pending.{Pending, IsOwn, ShowsRound, StaysPending}
 use Rattle.imago_drivers.specs.View.{View}
 use Rattle.imago_drivers.specs.Changes.{Change, IsChanged, or_torn, into}
 use Rattle.imago_drivers.specs.declared.mapping.PreparedDataMapping.{PreparedDataMapping}
+
+-- the commit of the mapping may take memory: it has a state, and the driver says so
+abbrev pub CommitTakesMemory : {St : Type 0} → View St → PreparedDataMapping St → Type 0
+CommitTakesMemory v m = (is_some m.state ≡ true) × v.limits.commit_memory
 
 -- A prepared mapping of places from o on, at most so many bytes: it stands for writable places, or has a list apart that waits.
 pub record IsPrepared {St : Type 0} (o most : ℕ) (overwrite : Bool) (disk : ℕ → Value) (old new : View St) (m : PreparedDataMapping St) : Type 0 where
   pub within : m.length ≤ most
   pub some : 0 < most → 0 < m.length
-  pub part : old.answers Operation.Write o most o m.length
-  pub whole : old.no_memory Operation.Write o most → (m.length ≡ most) × (m.state ≡ None) × new.no_memory Operation.Write o most
+  pub part : old.limits.answers Operation.Write o most o m.length
+  pub whole : old.limits.whole Operation.Write o most → m.length ≡ most
+  -- where preparing takes no memory, writing and committing take none
+  pub no_memory : old.limits.no_memory Operation.Write o most → new.limits.no_memory Operation.Write o most × new.limits.no_memory Operation.Write o m.length × (CommitTakesMemory new m → ⊥)
+  -- what a commit may add to a storage's length, the preparing might have
+  pub later : (index : ℕ) → new.limits.longest Operation.Write o m.length index ≤ max (length (old.stores.bytes index)) (old.limits.longest Operation.Write o most index)
   -- with no state its bytes are those of these places
-  pub direct : m.state ≡ None → (new.pending ≡ None) × AreStoredAt new.place m.storage m.offset m.length o
+  pub direct : m.state ≡ None → (new.pending ≡ None) × PlacesAreWritableAt new.place m.storage m.offset m.length o
   -- with state it is the pending one, and its list begins as the disk's bytes, or unspecified for overwriting
   pub apart : (s : St) → m.state ≡ Some s → (q : Pending St) × (new.pending ≡ Some q) × IsOwn (Some q) m × (q.start ≡ o)
       × (IsTrue old.abilities.keeps_data → overwrite ≡ false → (p : ℕ) → IsIn o m.length p → disk p ≡ Byte (q.bytes p))
+  -- what is pending is round its places
+  pub around : (q : Pending St) → new.pending ≡ Some q → (q.from ≤ q.start) × (q.start + q.length ≤ q.until)
   pub round : IsTrue old.abilities.keeps_data → ShowsRound disk new.pending
 
 -- what a mapping with or without state is refused as foreign for
@@ -38,7 +48,7 @@ abbrev pub IsForeignWrite : {St : Type 0} → View St → PreparedDataMapping St
 IsForeignWrite v m = is_foreign_write v m m.state
 
 abbrev pub is_for : {St : Type 0} → View St → PreparedDataMapping St → Option St → ℕ → ℕ → ℕ → Type 0
-is_for v m None at n o = IsAt v.place m.storage (m.offset + at) n o
+is_for v m None at n o = PlacesStandAt v.place m.storage (m.offset + at) n o
 is_for {St} v m (Some s) at n o = (q : Pending St) × (v.pending ≡ Some q) × (o ≡ q.start + at)
 
 -- the n bytes of the mapping from the at-th on are for the places from o on
@@ -60,7 +70,7 @@ pub record IsPutApart {St : Type 0} (q r : Pending St) (at n : ℕ) (how : Chang
 
 -- what a write into a mapping with that state does: to its places, or to its list apart alone
 abbrev pub is_written : {St : Type 0} → Option St → Bool → View St → View St → PreparedDataMapping St → ℕ → List ℕ → Type 0
-is_written None torn old new m at bytes = IsPut m.storage (m.offset + at) bytes torn old.abilities.keeps_data old.place new.place × (new.pending ≡ old.pending)
+is_written None torn old new m at bytes = IsPut m.storage (m.offset + at) bytes torn old.abilities.keeps_data old.place new.place × StaysPending old.abilities.keeps_data old.pending new.pending
 is_written {St} (Some s) torn old new m at bytes =
     SamePlaces old.abilities.keeps_data old.place new.place
     × ((q : Pending St) → old.pending ≡ Some q → (r : Pending St) × (new.pending ≡ Some r) × (r ≡ record q { bytes = r.bytes })
@@ -73,6 +83,6 @@ IsWritten torn old new m at bytes = is_written m.state torn old new m at bytes
 pub record IsDataMapping {St : Type 0} (o most s f c : ℕ) (old new : View St) : Type 0 where
   pub within : c ≤ most
   pub some : 0 < most → 0 < c
-  pub part : old.answers Operation.Write o most o c
-  pub whole : old.no_memory Operation.Write o most → c ≡ most
-  pub origins : AreStoredAt new.place s f c o
+  pub part : old.limits.answers Operation.Write o most o c
+  pub whole : old.limits.whole Operation.Write o most → c ≡ most
+  pub origins : PlacesAreWritableAt new.place s f c o

@@ -11,6 +11,8 @@ use Rattle.imago_drivers.specs.declared.format.Format.TheVariants as Format
 use Rattle.imago_drivers.specs.Operation.{Operation, Map, Read, Write, Zero, DiscardToZero, DiscardToAny, DiscardToBacking, Grow, Shrink, Flush}
 use Rattle.imago_drivers.specs.Place.{Place, Stored, End}
 use Rattle.imago_drivers.specs.Causes.{Causes}
+use Rattle.imago_drivers.specs.Ranges.{HasWrappingPart, IsPartAlignedTo}
+use Rattle.imago_drivers.specs.Lengths.{padded_to}
 use Rattle.imago_drivers.specs.View.{View}
 
 -- a place of a raw image: below the size, the storage's byte at the same offset, writable
@@ -29,14 +31,6 @@ RequestWraps f size DiscardToBacking o n = MayWrap f f.zeroes o n
 RequestWraps f size (Grow mode) o n = ⊥
 RequestWraps f size Shrink o n = ⊥
 RequestWraps f size Flush o n = ⊥
-
--- A part of the range wraps around.
-pub record HasWrappingPart (range_wraps : ℕ → ℕ → Type 0) (o n : ℕ) : Type 0 where
-  pub from : ℕ
-  pub count : ℕ
-  pub above : o ≤ from
-  pub below : from + count ≤ o + n
-  pub wraps : range_wraps from count
 
 -- what a raw image offers: a resize where its storage does, and everything else
 abbrev pub raw_offers : Features → Operation → Bool
@@ -76,6 +70,33 @@ raw_no_memory f size len (Grow mode) o n = MayRunOut f.resize_memory len o → �
 raw_no_memory f size len Shrink o n = MayRunOut f.resize_memory len o → ⊥
 raw_no_memory f size len Flush o n = MayRunOut f.other_memory 0 0 → ⊥
 
+-- an operation on that range of a raw image is done at once: inside the disk, and aligned where it zeroes or discards
+abbrev pub raw_whole : Features → ℕ → Operation → ℕ → ℕ → Type 0
+raw_whole f size Map o n = o + n ≤ size
+raw_whole f size Read o n = o + n ≤ size
+raw_whole f size Write o n = o + n ≤ size
+raw_whole f size Zero o n = IsAlignedTo f.zero_align o n
+raw_whole f size DiscardToZero o n = IsAlignedTo f.zero_align o n
+raw_whole f size DiscardToAny o n = IsAlignedTo f.discard_align o n
+raw_whole f size DiscardToBacking o n = IsAlignedTo f.zero_align o n
+raw_whole f size (Grow mode) o n = Unit {0}
+raw_whole f size Shrink o n = Unit {0}
+raw_whole f size Flush o n = Unit {0}
+
+-- how long an operation on a raw image may make its storage: written and zeroed ranges are padded, and a growth makes it as
+-- long as the new size
+abbrev pub raw_longest : Features → Operation → ℕ → ℕ → ℕ
+raw_longest f Map o n = 0
+raw_longest f Read o n = 0
+raw_longest f Write o n = padded_to f o n
+raw_longest f Zero o n = padded_to f o n
+raw_longest f DiscardToZero o n = padded_to f o n
+raw_longest f DiscardToAny o n = 0
+raw_longest f DiscardToBacking o n = padded_to f o n
+raw_longest f (Grow mode) o n = o
+raw_longest f Shrink o n = 0
+raw_longest f Flush o n = 0
+
 -- how the storage of a raw image is grown
 abbrev pub storage_mode_of : ImageMode → PreallocateMode
 storage_mode_of Mode.None = StorageMode.None
@@ -83,17 +104,6 @@ storage_mode_of Mode.Zero = StorageMode.Zero
 storage_mode_of Mode.FormatAllocate = StorageMode.Zero
 storage_mode_of Mode.FullAllocate = StorageMode.Allocate
 storage_mode_of Mode.WriteData = StorageMode.WriteData
-
--- The n bytes from the offset on are those, or, where the change was torn, each maybe its old one; all others are as they were.
-pub record HasBytes (torn : Bool) (at n : ℕ) (byte : ℕ → ℕ) (old now : List ℕ) : Type 0 where
-  pub inside : (k : ℕ) → k < n → (slice_index now (at + k) ≡ byte k) ⊎ ((torn ≡ true) × (slice_index now (at + k) ≡ slice_index old (at + k)))
-  pub before : (p : ℕ) → p < at → slice_index now p ≡ slice_index old p
-  pub behind : (p : ℕ) → at + n ≤ p → slice_index now p ≡ slice_index old p
-
--- The part is the one of the range that is aligned, or nothing.
-pub record IsPartAlignedTo (align o n part_start part_length : ℕ) : Type 0 where
-  pub len : part_length ≡ aligned_end align o n - aligned_start align o
-  pub start : 0 < part_length → part_start ≡ aligned_start align o
 
 -- which part of a range an operation on a raw image does: the mapped rest of the disk, or the aligned part
 abbrev pub raw_answers : Features → ℕ → Operation → ℕ → ℕ → ℕ → ℕ → Type 0
@@ -125,9 +135,14 @@ raw_view f fault_count bytes size writable = record {
   fault_count = fault_count;
   stores = record { count = 1; bytes = λ index. bytes; features = λ index. f };
   special = λ offset. 0;
-  cause = raw_cause f size;
-  copies = λ op o n p. ⊥;
-  no_memory = raw_no_memory f size (length bytes);
-  answers = raw_answers f size;
+  limits = record {
+    cause = raw_cause f size;
+    copies = λ op o n p. ⊥;
+    no_memory = raw_no_memory f size (length bytes);
+    commit_memory = ⊥;
+    whole = raw_whole f size;
+    answers = raw_answers f size;
+    longest = λ op o n index. raw_longest f op o n;
+  };
   pending = None;
 }

@@ -25,6 +25,23 @@ pub record Stores : Type 0 where
   pub bytes : ℕ → List ℕ
   pub features : ℕ → Features
 
+-- What a driver's calls may meet, take and do, by their operation and range; for a resize the new size and 0.
+pub record Limits : Type 1 where
+  -- the refusals that are the driver's own
+  pub cause : Causes
+  -- what of the layer below is copied
+  pub copies : Copies
+  -- it takes no memory
+  pub no_memory : Operation → ℕ → ℕ → Type 0
+  -- the commit of a mapping with state may take memory
+  pub commit_memory : Type 0
+  -- the whole of the range is done at once
+  pub whole : Operation → ℕ → ℕ → Type 0
+  -- which part may be done: asked offset and length, then those of the part
+  pub answers : Operation → ℕ → ℕ → ℕ → ℕ → Type 0
+  -- how long, in bytes, the storage of that index may become, where it isn't as long already
+  pub longest : Operation → ℕ → ℕ → ℕ → ℕ
+
 -- A driver as its callers see it: a layer, which is a size and what stands at each offset, and what its calls may do.
 pub record View (St : Type 0) : Type 1 where
   pub abilities : Abilities
@@ -36,12 +53,7 @@ pub record View (St : Type 0) : Type 1 where
   pub stores : Stores
   -- the special byte at an offset
   pub special : ℕ → ℕ
-  pub cause : Causes
-  pub copies : Copies
-  -- an operation on that range takes no memory, and does the whole of it
-  pub no_memory : Operation → ℕ → ℕ → Type 0
-  -- which part an operation on a range may answer: asked offset and length, then those of the part
-  pub answers : Operation → ℕ → ℕ → ℕ → ℕ → Type 0
+  pub limits : Limits
   -- the prepared mapping with state that isn't spent
   pub pending : Option (Pending St)
 

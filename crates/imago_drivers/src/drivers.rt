@@ -3,12 +3,12 @@ ghost use Rattle.std.specs.Prelude.{◌≡◌, ℕ, ◌+◌, ◌<◌, ◌≤◌,
 ghost use Rattle.imago_storage.specs.Error.{IsExtRefusal};
 ghost use Rattle.imago_storage.specs.Bytes.{IsReadAt};
 ghost use Rattle.imago_storage.specs.Faults.{CountsFaults};
-ghost use Rattle.imago_drivers.specs.Parts.{length_of};
-ghost use Rattle.imago_drivers.specs.Operation.{Map, Read, Write, Zero, DiscardToZero, DiscardToAny, DiscardToBacking, Grow, Shrink, Flush};
-ghost use Rattle.imago_drivers.specs.Place.{Refused, values, IsAt, AreWritable};
-ghost use Rattle.imago_drivers.specs.Reasons.{allowed, none};
+ghost use Rattle.imago_drivers.specs.Parts.{storage_of, offset_of, length_of};
+ghost use Rattle.imago_drivers.specs.Operation.{Map, Read, Write, Zero, DiscardToZero, DiscardToAny, DiscardToBacking};
+ghost use Rattle.imago_drivers.specs.Place.{Refused, values, PlacesStandAt, BytesAreWritable};
+ghost use Rattle.imago_drivers.specs.Reasons.{Reasons, allowed, none};
 ghost use Rattle.imago_drivers.specs.LayerBelow.{lent};
-ghost use Rattle.imago_drivers.specs.Causes.{IsSettled, EveryOperation, AddsNone};
+ghost use Rattle.imago_drivers.specs.Causes.{IsSettled, IsOnRange, AddsNone};
 ghost use Rattle.imago_drivers.specs.Pending.{ShowsRound};
 ghost use Rattle.imago_drivers.specs.View.{View};
 ghost use Rattle.imago_drivers.specs.Changes.{IsChanged, zeroes, unspecified, overwritten, to_backing};
@@ -17,7 +17,9 @@ ghost use Rattle.imago_drivers.specs.Mapping.{IsRight};
 ghost use Rattle.imago_drivers.specs.Done.{HasDone, map_reasons, stored_read_reasons, special_read_reasons, stored_write_reasons, mapping_write_reasons, range_reasons, lending_reasons, driver_reasons};
 ghost use Rattle.imago_drivers.specs.Prepared.{IsPrepared, IsForeignWrite, IsFor, IsPut, IsWritten, IsDataMapping};
 ghost use Rattle.imago_drivers.specs.Commit.{IsCommit, IsCancel};
-ghost use Rattle.imago_drivers.specs.Resized.{IsGrown, IsCut, IsSameDisk};
+ghost use Rattle.imago_drivers.specs.Lengths.{GrowTo, GrowAt};
+ghost use Rattle.imago_drivers.specs.Flushes.{Flushes};
+ghost use Rattle.imago_drivers.specs.Calls.{IsZeroCall, IsDiscard, IsGrowth, IsShrink, IsFlush};
 ghost use Rattle.imago_drivers.specs.Laws.{IsLawful, AreCauses};
 
 pub use crate::format::{Format, PreallocateMode};
@@ -51,6 +53,13 @@ pub trait FormatDriverInstance: Display + Drop {
     /// The storages that the format is found in, by their bytes.
     ghost recognizes: { List ℕ → Bool };
 
+    /// Why it may be refused to tell whether a storage has an image of the format.
+    ghost probe_reasons: { Self.Storage → Reasons };
+
+    /// What a flush, a sync and an invalidation are. Over a driver that isn't known nothing but the call itself gives
+    /// its relation.
+    ghost flushes: { Flushes Self };
+
     /// The image's format.
     fn format(&self) -> Format
         ensures { result ≡ (view self.now).abilities.format };
@@ -80,7 +89,8 @@ pub trait FormatDriverInstance: Display + Drop {
         ensures found { IfOk result (λ b. b ≡ recognizes (Self.Storage.bytes storage.now)) }
         ensures only { IfErr result IsExtRefusal }
         ensures device { IsErrOf result Error.Device
-            → (Self.Storage.features storage.now).is_reliable ≡ false };
+            → (Self.Storage.features storage.now).is_reliable ≡ false }
+        ensures refusals { IfErr result (allowed (probe_reasons storage.now)) };
 
     /// The driver's storages, in the order of their indices. Refused, it is [`Error::Memory`].
     fn collect_storage_dependencies(&self, alloc: Global) -> Result<Vec<&Self::Storage>, Error>
@@ -111,8 +121,8 @@ pub trait FormatDriverInstance: Display + Drop {
     /// offset is always looked at, also where `max_length` is 0.
     fn get_mapping(&self, offset: u64, max_length: u64) -> Result<(ShallowMapping, u64), Error>
         ensures right { IfOk result (λ r. IsRight (view self.now).place offset max_length r.0 r.1) }
-        ensures part { IfOk result (λ r. (view self.now).answers Map offset max_length offset r.1) }
-        ensures whole { (view self.now).no_memory Read offset max_length
+        ensures part { IfOk result (λ r. (view self.now).limits.answers Map offset max_length offset r.1) }
+        ensures whole { (view self.now).limits.whole Read offset max_length
             → IfOk result (λ r. max_length ≤ r.1) }
         ensures refused_place { IfErr result
             (λ e. (e ≡ Error.InvalidData) ⊎ (e ≡ Error.NoAccess)
@@ -149,7 +159,7 @@ pub trait FormatDriverInstance: Display + Drop {
         requires writable { (view self.old).abilities.is_writable ≡ true }
         requires spent { (view self.old).pending ≡ None }
         requires known { storage < (view self.old).stores.count }
-        requires mapped { AreWritable (view self.old).place storage offset (length source.now) }
+        requires mapped { BytesAreWritable (view self.old).place storage offset (length source.now) }
         ensures written { OnOk result
             (IsPut storage offset source.now false (view self.old).abilities.keeps_data
             (view self.old).place (view self.new).place) }
@@ -158,11 +168,12 @@ pub trait FormatDriverInstance: Display + Drop {
             (view self.old).place (view self.new).place) }
         ensures causes { OnOk result
             ((o : ℕ)
-            → IsAt (view self.old).place storage offset (length source.now) o
-            → IsSettled EveryOperation (view self.old).cause (view self.new).cause
-            (view self.old).copies (view self.new).copies o (length source.now)) }
+            → PlacesStandAt (view self.old).place storage offset (length source.now) o
+            → IsSettled IsOnRange (view self.old).limits.cause (view self.new).limits.cause
+            (view self.old).limits.copies (view self.new).limits.copies o (length source.now)) }
         ensures reaches { ReachesNoMore (view self.old) (view self.new) }
         ensures nothing_pending { (view self.new).pending ≡ None }
+        ensures lengths { GrowAt storage offset (length source.now) (view self.old).stores (view self.new).stores }
         ensures framed { IsFramed (view self.old) (view self.new) }
         ensures faults { CountsFaults (view self.old).abilities.is_reliable (view self.old).fault_count
             (view self.new).fault_count result }
@@ -180,15 +191,7 @@ pub trait FormatDriverInstance: Display + Drop {
         requires writable { (view self.old).abilities.is_writable ≡ true }
         requires spent { (view self.old).pending ≡ None }
         requires inside { offset + count ≤ (view self.old).size }
-        ensures done { HasDone (λ _ _. zeroes) Zero offset count (view self.old) (view self.new) result }
-        ensures causes { AddsNone (view self.old).cause (view self.new).cause (view self.old).copies
-            (view self.new).copies }
-        ensures reaches { ReachesNoMore (view self.old) (view self.new) }
-        ensures nothing_pending { (view self.new).pending ≡ None }
-        ensures framed { IsFramed (view self.old) (view self.new) }
-        ensures faults { CountsFaults (view self.old).abilities.is_reliable (view self.old).fault_count
-            (view self.new).fault_count result }
-        ensures refusals { IfErr result (allowed (range_reasons (view self.old) Zero offset count)) };
+        ensures { IsZeroCall Zero offset count (view self.old) (view self.new) result };
 
     /// Gives up the data of a part of the range, which reads as zeroes afterwards, and answers its offset and length.
     /// Refused, each byte of the range is as it was or zero.
@@ -201,15 +204,7 @@ pub trait FormatDriverInstance: Display + Drop {
         requires writable { (view self.old).abilities.is_writable ≡ true }
         requires spent { (view self.old).pending ≡ None }
         requires inside { offset + count ≤ (view self.old).size }
-        ensures done { HasDone (λ _ _. zeroes) DiscardToZero offset count (view self.old) (view self.new) result }
-        ensures causes { AddsNone (view self.old).cause (view self.new).cause (view self.old).copies
-            (view self.new).copies }
-        ensures reaches { ReachesNoMore (view self.old) (view self.new) }
-        ensures nothing_pending { (view self.new).pending ≡ None }
-        ensures framed { IsFramed (view self.old) (view self.new) }
-        ensures faults { CountsFaults (view self.old).abilities.is_reliable (view self.old).fault_count
-            (view self.new).fault_count result }
-        ensures refusals { IfErr result (allowed (range_reasons (view self.old) DiscardToZero offset count)) };
+        ensures { IsZeroCall DiscardToZero offset count (view self.old) (view self.new) result };
 
     /// Gives up the data of a part of the range, whose bytes are unspecified afterwards, and answers its offset and
     /// length. Refused, the range is unspecified.
@@ -222,16 +217,7 @@ pub trait FormatDriverInstance: Display + Drop {
         requires writable { (view self.old).abilities.is_writable ≡ true }
         requires spent { (view self.old).pending ≡ None }
         requires inside { offset + count ≤ (view self.old).size }
-        ensures done { HasDone (λ _ _. unspecified) DiscardToAny offset count (view self.old) (view self.new)
-            result }
-        ensures causes { IfOk result
-            (λ r. IsSettled (λ op. op ≡ DiscardToAny) (view self.old).cause (view self.new).cause
-            (view self.old).copies (view self.new).copies r.0 r.1) }
-        ensures nothing_pending { (view self.new).pending ≡ None }
-        ensures framed { IsFramed (view self.old) (view self.new) }
-        ensures faults { CountsFaults (view self.old).abilities.is_reliable (view self.old).fault_count
-            (view self.new).fault_count result }
-        ensures refusals { IfErr result (allowed (range_reasons (view self.old) DiscardToAny offset count)) };
+        ensures { IsDiscard (λ _ _. unspecified) DiscardToAny offset count (view self.old) (view self.new) result };
 
     /// Gives up the data of a part of the range, whose bytes are as they were or those of the layer below afterwards,
     /// and answers its offset and length. So are those of the range where it is refused.
@@ -244,16 +230,7 @@ pub trait FormatDriverInstance: Display + Drop {
         requires writable { (view self.old).abilities.is_writable ≡ true }
         requires spent { (view self.old).pending ≡ None }
         requires inside { offset + count ≤ (view self.old).size }
-        ensures done { HasDone (to_backing (view self.old).abilities.takes_backing) DiscardToBacking offset count
-            (view self.old) (view self.new) result }
-        ensures causes { IfOk result
-            (λ r. IsSettled (λ op. op ≡ DiscardToBacking) (view self.old).cause
-            (view self.new).cause (view self.old).copies (view self.new).copies r.0 r.1) }
-        ensures nothing_pending { (view self.new).pending ≡ None }
-        ensures framed { IsFramed (view self.old) (view self.new) }
-        ensures faults { CountsFaults (view self.old).abilities.is_reliable (view self.old).fault_count
-            (view self.new).fault_count result }
-        ensures refusals { IfErr result (allowed (range_reasons (view self.old) DiscardToBacking offset count)) };
+        ensures { IsDiscard (to_backing (view self.old).abilities.takes_backing) DiscardToBacking offset count (view self.old) (view self.new) result };
 
     /// Prepares the writing of data at the offset: the mapping holds at least 1 byte and at most `count`, none for 0.
     /// No place changes. The mapping is written by [`write_prepared`](Self::write_prepared), and spent by commit or
@@ -276,8 +253,9 @@ pub trait FormatDriverInstance: Display + Drop {
         ensures unchanged { IsUnchanged (view self.old) (view self.new) }
         ensures refused { OnErr result ((view self.new).pending ≡ None) }
         ensures causes { IfOk result
-            (λ m. IsSettled EveryOperation (view self.old).cause (view self.new).cause
-            (view self.old).copies (view self.new).copies offset (length_of m)) }
+            (λ m. IsSettled IsOnRange (view self.old).limits.cause (view self.new).limits.cause
+            (view self.old).limits.copies (view self.new).limits.copies offset (length_of m)) }
+        ensures lengths { GrowTo ((view self.old).limits.longest Write offset count) (view self.old).stores (view self.new).stores }
         ensures faults { CountsFaults
             ((view self.old).abilities.is_reliable &&
             (lent B.as_layer_below below.entry).is_reliable)
@@ -311,9 +289,10 @@ pub trait FormatDriverInstance: Display + Drop {
         ensures causes { OnOk result
             ((o : ℕ)
             → IsFor (view self.old) mapping.now at (length source.now) o
-            → IsSettled EveryOperation (view self.old).cause (view self.new).cause
-            (view self.old).copies (view self.new).copies o (length source.now)) }
+            → IsSettled IsOnRange (view self.old).limits.cause (view self.new).limits.cause
+            (view self.old).limits.copies (view self.new).limits.copies o (length source.now)) }
         ensures reaches { ReachesNoMore (view self.old) (view self.new) }
+        ensures lengths { GrowAt (storage_of mapping.now) (offset_of mapping.now + at) (length source.now) (view self.old).stores (view self.new).stores }
         ensures framed { IsFramed (view self.old) (view self.new) }
         ensures faults { CountsFaults (view self.old).abilities.is_reliable (view self.old).fault_count
             (view self.new).fault_count result }
@@ -361,10 +340,11 @@ pub trait FormatDriverInstance: Display + Drop {
             (values (lent B.as_layer_below below.entry).at (view self.old).place)
             (values (lent B.as_layer_below below.entry).at (view self.new).place)) }
         ensures causes { IfOk result
-            (λ r. IsSettled EveryOperation (view self.old).cause (view self.new).cause
-            (view self.old).copies (view self.new).copies offset r.2) }
+            (λ r. IsSettled IsOnRange (view self.old).limits.cause (view self.new).limits.cause
+            (view self.old).limits.copies (view self.new).limits.copies offset r.2) }
         ensures reaches { ReachesNoMore (view self.old) (view self.new) }
         ensures nothing_pending { (view self.new).pending ≡ None }
+        ensures lengths { GrowTo ((view self.old).limits.longest Write offset count) (view self.old).stores (view self.new).stores }
         ensures framed { IsFramed (view self.old) (view self.new) }
         ensures faults { CountsFaults
             ((view self.old).abilities.is_reliable &&
@@ -392,67 +372,26 @@ pub trait FormatDriverInstance: Display + Drop {
     ) -> Result<(), Error>
         requires writable { (view self.old).abilities.is_writable ≡ true }
         requires spent { (view self.old).pending ≡ None }
-        ensures grown { OnOk result
-            (IsGrown mode (lent B.as_layer_below below.entry).at new_size (view self.old)
-            (view self.new)) }
-        ensures idle { new_size ≤ (view self.old).size → IsOk result }
-        ensures unchanged { OnErr result (IsSameDisk (view self.old) (view self.new)) }
-        ensures nothing_pending { (view self.new).pending ≡ None }
-        ensures kind { IsKind (view self.old) (view self.new) }
-        ensures faults { CountsFaults
-            ((view self.old).abilities.is_reliable &&
-            (lent B.as_layer_below below.entry).is_reliable)
-            (view self.old).fault_count (view self.new).fault_count result }
-        ensures refusals { IfErr result
-            (allowed
-            (record
-            (lending_reasons (view self.old) (lent B.as_layer_below below.entry)
-            (Grow mode) new_size 0)
-            { beyond_disk = ⊥ })) };
+        ensures { IsGrowth mode (lent B.as_layer_below below.entry) new_size (view self.old) (view self.new) result };
 
     /// Cuts the disk to that size. It does nothing where the disk is as small already, and then isn't refused. Refused,
     /// nothing changed.
     fn resize_shrink(&mut self, new_size: u64) -> Result<(), Error>
         requires writable { (view self.old).abilities.is_writable ≡ true }
         requires spent { (view self.old).pending ≡ None }
-        ensures cut { OnOk result (IsCut new_size (view self.old) (view self.new)) }
-        ensures idle { (view self.old).size ≤ new_size → IsOk result }
-        ensures unchanged { OnErr result (IsSameDisk (view self.old) (view self.new)) }
-        ensures nothing_pending { (view self.new).pending ≡ None }
-        ensures kind { IsKind (view self.old) (view self.new) }
-        ensures faults { CountsFaults (view self.old).abilities.is_reliable (view self.old).fault_count
-            (view self.new).fault_count result }
-        ensures refusals { IfErr result (allowed (driver_reasons (view self.old) Shrink new_size 0)) };
+        ensures { IsShrink new_size (view self.old) (view self.new) result };
 
     /// Writes what the driver and its storages buffer. No place changes, also where it is refused.
     fn flush(&mut self) -> Result<(), Error>
-        ensures unchanged { IsUnchanged (view self.old) (view self.new) }
-        ensures pending { (view self.new).pending ≡ (view self.old).pending }
-        ensures causes { AddsNone (view self.old).cause (view self.new).cause (view self.old).copies
-            (view self.new).copies }
-        ensures faults { CountsFaults (view self.old).abilities.is_reliable (view self.old).fault_count
-            (view self.new).fault_count result }
-        ensures refusals { IfErr result (allowed (driver_reasons (view self.old) Flush 0 0)) };
+        ensures { IsFlush view flushes.flushed self.old self.new result };
 
     /// Syncs what is written to the hardware. No place changes, also where it is refused.
     fn sync(&mut self) -> Result<(), Error>
-        ensures unchanged { IsUnchanged (view self.old) (view self.new) }
-        ensures pending { (view self.new).pending ≡ (view self.old).pending }
-        ensures causes { AddsNone (view self.old).cause (view self.new).cause (view self.old).copies
-            (view self.new).copies }
-        ensures faults { CountsFaults (view self.old).abilities.is_reliable (view self.old).fault_count
-            (view self.new).fault_count result }
-        ensures refusals { IfErr result (allowed (driver_reasons (view self.old) Flush 0 0)) };
+        ensures { IsFlush view flushes.synced self.old self.new result };
 
     /// Drops what the driver and its storages cache. No place changes, also where it is refused.
     fn invalidate_cache(&mut self) -> Result<(), Error>
-        ensures unchanged { IsUnchanged (view self.old) (view self.new) }
-        ensures pending { (view self.new).pending ≡ (view self.old).pending }
-        ensures causes { AddsNone (view self.old).cause (view self.new).cause (view self.old).copies
-            (view self.new).copies }
-        ensures faults { CountsFaults (view self.old).abilities.is_reliable (view self.old).fault_count
-            (view self.new).fault_count result }
-        ensures refusals { IfErr result (allowed (driver_reasons (view self.old) Flush 0 0)) };
+        ensures { IsFlush view flushes.invalidated self.old self.new result };
 
     /// The laws of the driver's places.
     ghost lawful: { (d : Self) → IsLawful (view d) };

@@ -1,7 +1,8 @@
 //! What the definitions give for examples that are worked by hand. The functions do nothing; their contracts are proved.
 ghost use Rattle.std.specs.Prelude.{◌≡◌, ℕ, List, true};
 ghost use Rattle.imago_drivers.specs.Place.{Value, Byte, Stored, End, values, HasStranger};
-ghost use Rattle.imago_drivers.specs.Raw.{raw_place, IsPartAlignedTo};
+ghost use Rattle.imago_drivers.specs.Raw.{raw_place};
+ghost use Rattle.imago_drivers.specs.Ranges.{IsPartAlignedTo};
 ghost use Rattle.imago_drivers.specs.Worked.{four_bytes, seventeens, leading_below};
 
 /// A raw image of the bytes 1, 2, 3, 4 has the byte 3 at 2, in its storage at the same offset, where it may be written. It

@@ -1,11 +1,19 @@
 //! The driver of raw images.
-ghost use Rattle.std.specs.Prelude.{◌≡◌, ℕ, ◌+◌, ◌^◌, ◌<◌, ◌≤◌, ◌⊎◌, length, slice_index, IsTrue, IfOk, IfErr, OnErr, IsErrOf, true, false};
+ghost use Rattle.std.specs.Prelude.{◌≡◌, ℕ, ◌+◌, ◌^◌, ◌<◌, ◌≤◌, ◌⊎◌, max, length, slice_index, IsTrue, IfOk, IfErr, OnOk, OnErr, IsErrOf, true, false};
 ghost use Rattle.imago_storage.specs.Bytes.{SameOutside};
 ghost use Rattle.imago_storage.specs.Error.{IsDeviceOrMemory, IsExtRefusal};
 ghost use Rattle.imago_storage.specs.Faults.{CountsFaults};
 ghost use Rattle.imago_storage.specs.Features.{InPlace, MayRunOut, IsAlignedTo};
 ghost use Rattle.imago_storage.specs.Zeroes.{MayWrap};
-ghost use Rattle.imago_drivers.specs.Raw.{raw_view, IsPartAlignedTo, HasWrappingPart, HasBytes, storage_mode_of};
+ghost use Rattle.imago_drivers.specs.Raw.{raw_view, storage_mode_of};
+ghost use Rattle.imago_drivers.specs.Ranges.{IsPartAlignedTo, HasWrappingPart, HasBytes};
+ghost use Rattle.imago_drivers.specs.Operation.{DiscardToBacking};
+ghost use Rattle.imago_drivers.specs.LayerBelow.{lent};
+ghost use Rattle.imago_drivers.specs.Changes.{zeroes, to_backing};
+ghost use Rattle.imago_drivers.specs.Lengths.{padded_to};
+ghost use Rattle.imago_drivers.specs.Done.{HasDone};
+ghost use Rattle.imago_drivers.specs.Calls.{IsDiscard, IsGrowth, IsShrink};
+ghost use Rattle.imago_drivers.specs.Reasons.{none};
 ghost use Rattle.imago_drivers.specs.RawLaws.{raw_lawful, raw_causes};
 ghost use Rattle.imago_drivers.specs.Commit.{IsCommit, IsCancel};
 
@@ -105,6 +113,14 @@ impl<S: Storage> FormatDriverInstance for Raw<S> {
     ghost view = { λ r. raw_view (S.features r.storage) (S.fault_count r.storage) (S.bytes r.storage) r.size r.writable };
 
     ghost recognizes = { λ _. true };
+
+    ghost probe_reasons = { λ _. none };
+
+    ghost flushes = { record {
+      flushed = λ a b r. S.maintenance.flushed a.storage b.storage r × (b.size ≡ a.size) × (b.writable ≡ a.writable);
+      synced = λ a b r. S.maintenance.synced a.storage b.storage r × (b.size ≡ a.size) × (b.writable ≡ a.writable);
+      invalidated = λ a b r. S.maintenance.invalidated a.storage b.storage r × (b.size ≡ a.size) × (b.writable ≡ a.writable);
+    } };
 
     ghost lawful = { λ d. raw_lawful (S.features d.storage) (S.fault_count d.storage) (S.bytes d.storage) d.size d.writable };
 
@@ -229,7 +245,15 @@ impl<S: Storage> FormatDriverInstance for Raw<S> {
         alloc: Global,
         offset: u64,
         count: u64,
-    ) -> Result<(u64, u64), Error> {
+    ) -> Result<(u64, u64), Error>
+        requires inside { offset + count ≤ (⟦<Raw<S> as FormatDriverInstance>⟧.view self.old).size }
+        ensures call { IsDiscard (to_backing false) DiscardToBacking offset count
+            (⟦<Raw<S> as FormatDriverInstance>⟧.view self.old)
+            (⟦<Raw<S> as FormatDriverInstance>⟧.view self.new) result }
+        ensures zeroed { HasDone (λ _ _. zeroes) DiscardToBacking offset count
+            (⟦<Raw<S> as FormatDriverInstance>⟧.view self.old)
+            (⟦<Raw<S> as FormatDriverInstance>⟧.view self.new) result }
+    {
         zero_part(&mut self.storage, alloc, offset, count)
     }
 
@@ -293,7 +317,13 @@ impl<S: Storage> FormatDriverInstance for Raw<S> {
         _below: Option<&B>,
         new_size: u64,
         mode: PreallocateMode,
-    ) -> Result<(), Error> {
+    ) -> Result<(), Error>
+        ensures call { IsGrowth mode (lent B.as_layer_below _below.entry) new_size
+            (⟦<Raw<S> as FormatDriverInstance>⟧.view self.old)
+            (⟦<Raw<S> as FormatDriverInstance>⟧.view self.new) result }
+        ensures exact { (⟦<Raw<S> as FormatDriverInstance>⟧.view self.old).size < new_size
+            → OnOk result (length ((⟦<Raw<S> as FormatDriverInstance>⟧.view self.new).stores.bytes 0) ≡ new_size) }
+    {
         if new_size <= self.size {
             return Ok(());
         }
@@ -302,7 +332,12 @@ impl<S: Storage> FormatDriverInstance for Raw<S> {
         Ok(())
     }
 
-    fn resize_shrink(&mut self, new_size: u64) -> Result<(), Error> {
+    fn resize_shrink(&mut self, new_size: u64) -> Result<(), Error>
+        ensures call { IsShrink new_size (⟦<Raw<S> as FormatDriverInstance>⟧.view self.old)
+            (⟦<Raw<S> as FormatDriverInstance>⟧.view self.new) result }
+        ensures exact { new_size < (⟦<Raw<S> as FormatDriverInstance>⟧.view self.old).size
+            → OnOk result (length ((⟦<Raw<S> as FormatDriverInstance>⟧.view self.new).stores.bytes 0) ≡ new_size) }
+    {
         if self.size <= new_size {
             return Ok(());
         }
@@ -344,6 +379,8 @@ fn zero_part<S: Storage>(
         → OnErr result
         (HasBytes true offset count (λ k. 0) (S.bytes storage.old) (S.bytes storage.new)) }
     ensures no_shorter { length (S.bytes storage.old) ≤ length (S.bytes storage.new) }
+    ensures near { length (S.bytes storage.new)
+        ≤ max (length (S.bytes storage.old)) (padded_to (S.features storage.old) offset count) }
     ensures features { S.features storage.new ≡ S.features storage.old }
     ensures only { IfErr result IsExtRefusal }
     ensures wraps { IsErrOf result Error.WrapAround
@@ -376,6 +413,7 @@ fn discard_part<S: Storage>(storage: &mut S, offset: u64, count: u64) -> Result<
     ensures whole { IsAlignedTo (S.features storage.old).discard_align offset count
         → IfOk result (λ r. (r.0 ≡ offset) × (r.1 ≡ count)) }
     ensures discarded { IfOk result (λ r. SameOutside r.0 r.1 (S.bytes storage.old) (S.bytes storage.new)) }
+    ensures same_length { length (S.bytes storage.new) ≡ length (S.bytes storage.old) }
     ensures refused { OnErr result (SameOutside offset count (S.bytes storage.old) (S.bytes storage.new)) }
     ensures features { S.features storage.new ≡ S.features storage.old }
     ensures only { IfErr result IsDeviceOrMemory }

@@ -4,7 +4,8 @@ ghost use Rattle.imago_storage.specs.Error.{IsExtRefusal};
 ghost use Rattle.imago_storage.specs.Faults.{CountsFaults};
 ghost use Rattle.imago_storage.specs.Features.{MayRunOut, IsAlignedRequest};
 ghost use Rattle.imago_storage.specs.Padding.{Wraps, padded_end};
-ghost use Rattle.imago_drivers.specs.Raw.{HasBytes};
+ghost use Rattle.imago_drivers.specs.Lengths.{padded_to};
+ghost use Rattle.imago_drivers.specs.Ranges.{HasBytes};
 
 use imago_storage::error::Error;
 use imago_storage::ext::StorageExt;
@@ -33,10 +34,14 @@ pub fn write_bytes<S: Storage>(
         → OnErr result
         (HasBytes true offset (length source.now) (λ k. slice_index source.now k)
         (S.bytes storage.old) (S.bytes storage.new)) }
+    ensures nothing { length source.now ≡ 0 → storage.new ≡ storage.old }
     ensures no_shorter { length (S.bytes storage.old) ≤ length (S.bytes storage.new) }
     ensures no_longer { length (S.bytes storage.new)
         ≤ max (length (S.bytes storage.old))
         (padded_end (S.features storage.old) offset (length source.now)) }
+    ensures near { length (S.bytes storage.new)
+        ≤ max (length (S.bytes storage.old))
+        (padded_to (S.features storage.old) offset (length source.now)) }
     ensures features { S.features storage.new ≡ S.features storage.old }
     ensures only { IfErr result IsExtRefusal }
     ensures wraps { IsErrOf result Error.WrapAround

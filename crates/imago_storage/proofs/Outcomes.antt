@@ -1,6 +1,7 @@
-use Rattle.std.proofs.Common.{◌≡◌, ℕ, ◌≤◌, List, length, arith, inl, inr, refl, ◌∙◌, Bool, IsTrue, Result, Ok, Err, OnOk, OnErr}
+use Rattle.std.proofs.Common.{◌≡◌, ℕ, ◌<◌, ◌≤◌, List, length, arith, inl, inr, refl, ◌∙◌, Bool, IsTrue, Result, Ok, Err, OnOk, OnErr}
 use Rattle.imago_storage.specs.Bytes.{OldOrNew, WriteOutcome}
 use Rattle.imago_storage.specs.Faults.{CountsFaults}
+use Rattle.imago_storage.specs.Features.{MemoryUse, Never, ForGrowth, Any, MayRunOut}
 use Rattle.imago_storage.specs.declared.error.Error.{Error}
 use Rattle.imago_storage.specs.declared.error.Error.TheVariants.{WrapAround}
 use Rattle.imago_storage.proofs.Splices.{OldOrNew_more}
@@ -101,3 +102,9 @@ not_refused r y e was refused = cc
 pub fits_where_ok : {T : Type 0} (r : Result T Error) (W P : Type 0) → (W → r ≡ Err WrapAround) → ((¬ W) → P) → OnOk r P
 fits_where_ok (Ok x) W P refused fits = fits (λ w. not_refused (Ok x) x WrapAround refl (refused w))
 fits_where_ok (Err e) W P refused fits = tt
+
+-- what may run out of memory on a longer storage, for a nearer end, may do so on a shorter one for a farther end
+pub MayRunOut_more : (m : MemoryUse) (len more end whole : ℕ) → len ≤ more → end ≤ whole → MayRunOut m more end → MayRunOut m len whole
+MayRunOut_more Never len more end whole longer nearer may = may
+MayRunOut_more ForGrowth len more end whole longer nearer may = (let less : more < end = may in omega (arith, longer, nearer, less))
+MayRunOut_more Any len more end whole longer nearer may = tt

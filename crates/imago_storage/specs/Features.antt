@@ -1,5 +1,7 @@
-use Rattle.std.specs.Prelude.{◌≡◌, ◌≢◌, ℕ, ◌+◌, ◌%◌, ◌^◌, ◌<◌, Bool, cond, max}
+use Rattle.std.specs.Prelude.{◌≡◌, ◌≢◌, ℕ, ◌+◌, ◌%◌, ◌^◌, ◌<◌, Bool, List, Option, max}
 use Rattle.std.specs.Int.{IsPowerOfTwo}
+use Rattle.imago_storage.specs.declared.options.ZeroKind.{ZeroKind}
+use Rattle.imago_storage.specs.declared.options.ZeroKind.TheVariants as Kind
 
 -- how a storage zeroes a range
 pub data ZeroSupport : Type 0 where
@@ -24,6 +26,8 @@ MayRunOut Any len end = Unit {0}
 
 -- What never changes in a storage. Alignments are in bytes.
 pub record Features : Type 0 where
+  -- the name that it can be opened by, if it has one
+  pub filename : Option (List ℕ)
   pub mem_align : ℕ
   pub req_align : ℕ
   pub zero_align : ℕ
@@ -38,6 +42,8 @@ pub record Features : Type 0 where
   pub allocated_zeroes : ZeroSupport
   pub offers_discard : Bool
   pub offers_resize : Bool
+  -- it tells what a relative name stands for
+  pub resolves_paths : Bool
   pub read_memory : MemoryUse
   pub write_memory : MemoryUse
   pub zero_memory : MemoryUse
@@ -70,8 +76,9 @@ pub record IsAlignedTo (align at n : ℕ) : Type 0 where
   pub ends : at + n < 2 ^ 64
 
 -- how zero writes of that kind are done
-abbrev pub zero_support : Features → Bool → ZeroSupport
-zero_support f allocated = cond allocated f.allocated_zeroes f.zeroes
+abbrev pub zero_support : Features → ZeroKind → ZeroSupport
+zero_support f Kind.Any = f.zeroes
+zero_support f Kind.Allocated = f.allocated_zeroes
 
 -- a zero write of that many bytes may be refused as unsupported
 pub record MayBeUnsupported (z : ZeroSupport) (mem_align n : ℕ) : Type 0 where

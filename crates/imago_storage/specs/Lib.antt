@@ -1,6 +1,7 @@
 pub mod Error
 pub mod Bytes
 pub mod Features
+pub mod Maintenance
 pub mod Faults
 pub mod IoCount
 pub mod Options

@@ -1,11 +1,12 @@
-use Rattle.std.specs.Prelude.{◌≡◌, ℕ, ◌%◌, true, false, refl}
+use Rattle.std.specs.Prelude.{◌≡◌, ℕ, ◌%◌, List, Option, None, true, false, refl}
 use Rattle.imago_storage.specs.Powers.{IsAlignment, power_of_two}
 use Rattle.std.proofs.Math.Nat.{mod_self}
 use Rattle.imago_storage.specs.Features.{Features, InPlace, AsData, Never, ForGrowth, AreAlignments}
 
 -- Bytes in memory: kept, never failing, and refused for memory only where they grow, with nothing changed.
-abbrev pub mem_features : ℕ → ℕ → ℕ → Features
-mem_features mem req zeroed = record {
+abbrev pub mem_features : Option (List ℕ) → ℕ → ℕ → ℕ → Features
+mem_features name mem req zeroed = record {
+  filename = name;
   mem_align = mem;
   req_align = req;
   zero_align = zeroed;
@@ -17,6 +18,7 @@ mem_features mem req zeroed = record {
   allocated_zeroes = InPlace;
   offers_discard = true;
   offers_resize = true;
+  resolves_paths = true;
   read_memory = Never;
   write_memory = ForGrowth;
   zero_memory = ForGrowth;
@@ -24,9 +26,9 @@ mem_features mem req zeroed = record {
   other_memory = Never;
 }
 
-pub mem_lawful : (mem req zeroed : ℕ) → IsAlignment mem → IsAlignment req → IsAlignment zeroed → zeroed % req ≡ 0
-    → AreAlignments (mem_features mem req zeroed)
-mem_lawful mem req zeroed a b c whole = record {
+pub mem_lawful : (name : Option (List ℕ)) (mem req zeroed : ℕ) → IsAlignment mem → IsAlignment req → IsAlignment zeroed → zeroed % req ≡ 0
+    → AreAlignments (mem_features name mem req zeroed)
+mem_lawful name mem req zeroed a b c whole = record {
   mem = power_of_two mem a;
   req = power_of_two req b;
   zero = power_of_two zeroed c;
@@ -38,6 +40,7 @@ mem_lawful mem req zeroed a b c whole = record {
 -- Zeroes of any length: nothing is kept, nothing fails, no call takes memory but allocated zeroes, which are data.
 abbrev pub null_features : Features
 null_features = record {
+  filename = None;
   mem_align = 1;
   req_align = 1;
   zero_align = 1;
@@ -49,6 +52,7 @@ null_features = record {
   allocated_zeroes = AsData;
   offers_discard = true;
   offers_resize = true;
+  resolves_paths = false;
   read_memory = Never;
   write_memory = Never;
   zero_memory = Never;

@@ -6,11 +6,12 @@ ghost use Rattle.imago_storage.specs.Faults.{CountsFaults};
 ghost use Rattle.imago_storage.specs.Features.{IsAlignedRequest, IsAlignedTo, InPlace, MayRunOut, len_align};
 ghost use Rattle.imago_storage.specs.IoCount.{IsWriteWork};
 ghost use Rattle.imago_storage.specs.Zeroes.{HasZeroed, MayWrap, FitsZeroes};
+ghost use Rattle.imago_storage.specs.Maintenance.{IsDiscarded};
 ghost use Rattle.imago_storage.specs.Padding.{padded_end, Wraps, aligned_start, aligned_end, RangeWraps};
 
 use crate::error::Error;
 use crate::request::{discard_any, read_any, write_any};
-use crate::storage::Storage;
+use crate::storage::{Storage, ZeroKind};
 use crate::zeroes::zero_any;
 use std::alloc::Global;
 
@@ -176,6 +177,13 @@ pub trait StorageExt: Storage {
         ensures wraps { IsErrOf result Error.WrapAround ↔ RangeWraps (Self.features self.old).discard_align offset
             count }
         ensures unchanged { IsErrOf result Error.WrapAround → self.new ≡ self.old }
+        ensures performed { (¬ RangeWraps (Self.features self.old).discard_align offset count)
+            → aligned_start (Self.features self.old).discard_align offset < aligned_end
+            (Self.features self.old).discard_align offset count
+            → IsDiscarded Self.maintenance (aligned_start (Self.features self.old).discard_align offset)
+            (aligned_end (Self.features self.old).discard_align offset count - aligned_start
+            (Self.features self.old).discard_align offset)
+            self.old self.new result }
         ensures nothing { aligned_end (Self.features self.old).discard_align offset count ≤ aligned_start
             (Self.features self.old).discard_align offset
             → self.new ≡ self.old }
@@ -205,7 +213,7 @@ impl<S: Storage> StorageExt for S {
     }
 
     fn write_zeroes(&mut self, alloc: Global, offset: u64, count: u64) -> Result<(), Error> {
-        zero_any(self, alloc, offset, count, false)
+        zero_any(self, alloc, offset, count, ZeroKind::Any)
     }
 
     fn write_allocated_zeroes(
@@ -214,7 +222,7 @@ impl<S: Storage> StorageExt for S {
         offset: u64,
         count: u64,
     ) -> Result<(), Error> {
-        zero_any(self, alloc, offset, count, true)
+        zero_any(self, alloc, offset, count, ZeroKind::Allocated)
     }
 
     fn discard(&mut self, offset: u64, count: u64) -> Result<(), Error> {

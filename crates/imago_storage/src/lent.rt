@@ -2,7 +2,9 @@
 ghost use Rattle.std.specs.Prelude.{◌≡◌, ℕ, IsErrOf};
 
 use crate::error::Error;
-use crate::storage::{PreallocateMode, Storage, StorageCreateOptions, StorageOpenOptions};
+use crate::storage::{
+    PreallocateMode, Storage, StorageCreateOptions, StorageOpenOptions, ZeroKind,
+};
 use std::alloc::Global;
 
 impl<S: Storage> Storage for &mut S {
@@ -14,7 +16,13 @@ impl<S: Storage> Storage for &mut S {
 
     ghost work = { λ s. S.work s.now };
 
-    ghost filename = { λ s. S.filename s.now };
+    ghost maintenance = { record {
+      flushed = λ a b r. S.maintenance.flushed a.now b.now r;
+      synced = λ a b r. S.maintenance.synced a.now b.now r;
+      invalidated = λ a b r. S.maintenance.invalidated a.now b.now r;
+      settled = λ a b r. S.maintenance.settled a.now b.now r;
+      discarded = λ at n a b r. S.maintenance.discarded at n a.now b.now r;
+    } };
 
     ghost lawful = { λ s. S.lawful s.now };
 
@@ -76,8 +84,8 @@ impl<S: Storage> Storage for &mut S {
         Storage::pure_writev(&mut **self, source, offset)
     }
 
-    fn zero_in_place(&mut self, offset: u64, count: u64, allocated: bool) -> Result<(), Error> {
-        Storage::zero_in_place(&mut **self, offset, count, allocated)
+    fn zero_in_place(&mut self, offset: u64, count: u64, kind: ZeroKind) -> Result<(), Error> {
+        Storage::zero_in_place(&mut **self, offset, count, kind)
     }
 
     fn write_zeroes_as_data(

@@ -6,11 +6,12 @@ ghost use Rattle.std.specs.String.{string_bytes};
 ghost use Rattle.imago_storage.specs.Bytes.{splice, IsReadAt};
 ghost use Rattle.imago_storage.specs.Features.{Features};
 ghost use Rattle.imago_storage.specs.IoCount.{no_work};
+ghost use Rattle.imago_storage.specs.Maintenance.{no_maintenance};
 ghost use Rattle.imago_storage.specs.Mem.{mem_features, mem_lawful};
 
 use crate::bytes::overwrite;
 use crate::error::Error;
-use crate::storage::{PreallocateMode, Storage};
+use crate::storage::{PreallocateMode, Storage, ZeroKind};
 use std::alloc::Global;
 use std::fmt;
 
@@ -103,8 +104,7 @@ impl MemStorage {
     /// A storage of these bytes, without a name, all alignments 1.
     pub fn new(bytes: Vec<u8>) -> Self
         ensures bytes { ⟦<MemStorage as Storage>⟧.bytes result ≡ bytes.items }
-        ensures features { ⟦<MemStorage as Storage>⟧.features result ≡ mem_features 1 1 1 }
-        ensures name { ⟦<MemStorage as Storage>⟧.filename result ≡ None }
+        ensures features { ⟦<MemStorage as Storage>⟧.features result ≡ mem_features None 1 1 1 }
     {
         MemStorage {
             name: None,
@@ -118,8 +118,7 @@ impl MemStorage {
     /// A storage of these bytes with that file name, all alignments 1.
     pub fn named(name: String, bytes: Vec<u8>) -> Self
         ensures bytes { ⟦<MemStorage as Storage>⟧.bytes result ≡ bytes.items }
-        ensures features { ⟦<MemStorage as Storage>⟧.features result ≡ mem_features 1 1 1 }
-        ensures name { ⟦<MemStorage as Storage>⟧.filename result ≡ Some (string_bytes name) }
+        ensures features { ⟦<MemStorage as Storage>⟧.features result ≡ mem_features (Some (string_bytes name)) 1 1 1 }
     {
         MemStorage {
             name: Some(name),
@@ -135,8 +134,7 @@ impl MemStorage {
     pub fn with_align(self, align: usize) -> Self
         requires { IsAlignment align }
         ensures bytes { ⟦<MemStorage as Storage>⟧.bytes result ≡ ⟦<MemStorage as Storage>⟧.bytes self }
-        ensures features { ⟦<MemStorage as Storage>⟧.features result ≡ mem_features align align align }
-        ensures name { ⟦<MemStorage as Storage>⟧.filename result ≡ ⟦<MemStorage as Storage>⟧.filename self }
+        ensures features { ⟦<MemStorage as Storage>⟧.features result ≡ mem_features (⟦<MemStorage as Storage>⟧.features self).filename align align align }
     {
         self.with_aligns(align, align)
     }
@@ -147,8 +145,7 @@ impl MemStorage {
         requires mem { IsAlignment mem_align }
         requires req { IsAlignment req_align }
         ensures bytes { ⟦<MemStorage as Storage>⟧.bytes result ≡ ⟦<MemStorage as Storage>⟧.bytes self }
-        ensures features { ⟦<MemStorage as Storage>⟧.features result ≡ mem_features mem_align req_align req_align }
-        ensures name { ⟦<MemStorage as Storage>⟧.filename result ≡ ⟦<MemStorage as Storage>⟧.filename self }
+        ensures features { ⟦<MemStorage as Storage>⟧.features result ≡ mem_features (⟦<MemStorage as Storage>⟧.features self).filename mem_align req_align req_align }
     {
         let MemStorage {
             name,
@@ -173,7 +170,6 @@ impl MemStorage {
         ensures bytes { ⟦<MemStorage as Storage>⟧.bytes result ≡ ⟦<MemStorage as Storage>⟧.bytes self }
         ensures features { ⟦<MemStorage as Storage>⟧.features result ≡ record (⟦<MemStorage as Storage>⟧.features self)
             { zero_align = zero_align } }
-        ensures name { ⟦<MemStorage as Storage>⟧.filename result ≡ ⟦<MemStorage as Storage>⟧.filename self }
     {
         self.zero_align = zero_align;
         self
@@ -216,15 +212,15 @@ impl fmt::Display for MemStorage {
 impl Storage for MemStorage {
     ghost bytes = { λ s. s.bytes.items };
 
-    ghost features = { λ s. mem_features s.mem_align s.req_align s.zero_align };
+    ghost features = { λ s. mem_features (option_map string_bytes s.name) s.mem_align s.req_align s.zero_align };
 
     ghost fault_count = { λ _. 0 };
 
     ghost work = { λ _. no_work };
 
-    ghost filename = { λ s. option_map string_bytes s.name };
+    ghost maintenance = { no_maintenance };
 
-    ghost lawful = { λ s. mem_lawful s.mem_align s.req_align s.zero_align s.mem_power s.req_power s.zero_power s.zero_whole };
+    ghost lawful = { λ s. mem_lawful (option_map string_bytes s.name) s.mem_align s.req_align s.zero_align s.mem_power s.req_power s.zero_power s.zero_whole };
 
     fn mem_align(&self) -> usize {
         self.mem_align
@@ -249,7 +245,7 @@ impl Storage for MemStorage {
     /// Names in memory are not relative to one another: the same text comes back.
     fn resolve_relative_path(&self, alloc: Global, relative: &str) -> Result<String, Error>
         ensures same { IfOk result (λ path. string_bytes path ≡ relative.now) }
-        ensures memory { IfErr result (λ e. e ≡ Error.Memory) }
+        ensures only { IfErr result (λ e. e ≡ Error.Memory) }
     {
         match String::from_str(alloc, relative) {
             Ok(path) => Ok(path),
@@ -280,9 +276,15 @@ impl Storage for MemStorage {
     }
 
     #[tactic(auto, using(crate::proofs::Splices::splice_length, std::proofs::lemmas::List::places))]
-    fn zero_in_place(&mut self, offset: u64, count: u64, allocated: bool) -> Result<(), Error> {
-        let _ = allocated;
+    fn zero_in_place(&mut self, offset: u64, count: u64, kind: ZeroKind) -> Result<(), Error> {
+        let _ = kind;
         put_zeroes(&mut self.bytes, offset, count)
+    }
+
+    fn pure_discard(&mut self, offset: u64, count: u64) -> Result<(), Error> {
+        let _ = offset;
+        let _ = count;
+        Ok(())
     }
 
     fn flush(&mut self) -> Result<(), Error> {
@@ -290,6 +292,10 @@ impl Storage for MemStorage {
     }
 
     fn sync(&mut self) -> Result<(), Error> {
+        Ok(())
+    }
+
+    fn settle_writes(&mut self) -> Result<(), Error> {
         Ok(())
     }
 

@@ -1,10 +1,12 @@
 //! A storage of zeroes.
-ghost use Rattle.std.specs.Prelude.{◌≡◌, ℕ, Bool, true, false, replicate, length, None};
+ghost use Rattle.std.specs.Prelude.{◌≡◌, ℕ, Bool, true, false, replicate, length};
 ghost use Rattle.imago_storage.specs.Mem.{null_features, null_lawful};
 ghost use Rattle.imago_storage.specs.IoCount.{no_work};
+ghost use Rattle.imago_storage.specs.Maintenance.{no_maintenance};
 
 use crate::error::Error;
-use crate::storage::{PreallocateMode, Storage};
+use crate::storage::{PreallocateMode, Storage, ZeroKind};
+use std::alloc::Global;
 use std::fmt;
 
 /// Zeroes of any length, up to `u64::MAX` bytes. Nothing that is written is kept; writes raise the length to their
@@ -40,7 +42,7 @@ impl Storage for Null {
 
     ghost work = { λ _. no_work };
 
-    ghost filename = { λ _. None };
+    ghost maintenance = { no_maintenance };
 
     ghost lawful = { λ _. null_lawful };
 
@@ -64,6 +66,12 @@ impl Storage for Null {
         Ok(self.size)
     }
 
+    fn resolve_relative_path(&self, alloc: Global, relative: &str) -> Result<String, Error> {
+        let _ = alloc;
+        let _ = relative;
+        Err(Error::Unsupported)
+    }
+
     fn get_filename(&self) -> Option<&str> {
         None
     }
@@ -85,11 +93,17 @@ impl Storage for Null {
     }
 
     #[tactic(auto, using(crate::proofs::Splices::splice_length, std::proofs::lemmas::List::places))]
-    fn zero_in_place(&mut self, offset: u64, count: u64, allocated: bool) -> Result<(), Error> {
-        if allocated {
+    fn zero_in_place(&mut self, offset: u64, count: u64, kind: ZeroKind) -> Result<(), Error> {
+        if kind == ZeroKind::Allocated {
             return Err(Error::Unsupported);
         }
         self.size = self.size.max(offset + count);
+        Ok(())
+    }
+
+    fn pure_discard(&mut self, offset: u64, count: u64) -> Result<(), Error> {
+        let _ = offset;
+        let _ = count;
         Ok(())
     }
 
@@ -98,6 +112,10 @@ impl Storage for Null {
     }
 
     fn sync(&mut self) -> Result<(), Error> {
+        Ok(())
+    }
+
+    fn settle_writes(&mut self) -> Result<(), Error> {
         Ok(())
     }
 

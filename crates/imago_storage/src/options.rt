@@ -1,4 +1,4 @@
-//! Options to open or create a storage with.
+//! What storages are asked for: options to open or create one with, and how bytes are allocated or zeroed.
 ghost use Rattle.std.specs.Prelude.{◌≡◌, Option, Some, IfSome, option_map};
 ghost use Rattle.std.specs.Option.{option_copied};
 ghost use Rattle.std.specs.String.{string_bytes};
@@ -15,6 +15,15 @@ pub enum PreallocateMode {
     Allocate,
     /// Zeroes are written as data.
     WriteData,
+}
+
+/// What a zero write asks for beside zeroes.
+#[derive(Clone, Copy, Debug, PartialEq, Eq)]
+pub enum ZeroKind {
+    /// Nothing: the range may be left unallocated.
+    Any,
+    /// The range is to be allocated afterwards.
+    Allocated,
 }
 
 /// Parameters from which a storage can be opened.

@@ -7,6 +7,7 @@ ghost use Rattle.imago_storage.specs.Error.{IsDeviceOrMemory, IsExtRefusal};
 ghost use Rattle.imago_storage.specs.Faults.{CountsFaults};
 ghost use Rattle.imago_storage.specs.Features.{IsAlignedRequest, MayRunOut, len_align};
 ghost use Rattle.imago_storage.specs.IoCount.{AddsAtMost, IsWriteWork};
+ghost use Rattle.imago_storage.specs.Maintenance.{IsDiscarded};
 ghost use Rattle.imago_storage.specs.Padding.{padded_end, Wraps, aligned_start, aligned_end, RangeWraps};
 
 use crate::align::{aligned_part, discard_align, length_align, padded_request, whole_blocks};
@@ -188,6 +189,13 @@ pub(crate) fn discard_any<S: Storage>(storage: &mut S, offset: u64, count: u64) 
         (S.bytes storage.old) (S.bytes storage.new) }
     ensures wraps { IsErrOf result Error.WrapAround ↔ RangeWraps (S.features storage.old).discard_align offset count }
     ensures unchanged { IsErrOf result Error.WrapAround → storage.new ≡ storage.old }
+    ensures performed { (¬ RangeWraps (S.features storage.old).discard_align offset count)
+        → aligned_start (S.features storage.old).discard_align offset < aligned_end
+        (S.features storage.old).discard_align offset count
+        → IsDiscarded S.maintenance (aligned_start (S.features storage.old).discard_align offset)
+        (aligned_end (S.features storage.old).discard_align offset count - aligned_start
+        (S.features storage.old).discard_align offset)
+        storage.old storage.new result }
     ensures nothing { aligned_end (S.features storage.old).discard_align offset count ≤ aligned_start
         (S.features storage.old).discard_align offset
         → storage.new ≡ storage.old }

@@ -1,5 +1,5 @@
 //! The interface of a storage: aligned calls on a list of bytes.
-ghost use Rattle.std.specs.Prelude.{◌≡◌, ◌≢◌, ℕ, ◌+◌, ◌%◌, ◌↔◌, List, length, replicate, max, Bool, true, false, IsTrue, OnOk, OnErr, IfOk, IfErr, IsErrOf, Option};
+ghost use Rattle.std.specs.Prelude.{◌≡◌, ◌≢◌, ℕ, ◌+◌, ◌%◌, ◌↔◌, List, length, replicate, max, true, false, IsTrue, OnOk, OnErr, IfOk, IfErr, IsErrOf};
 ghost use Rattle.std.specs.Option.{option_copied};
 ghost use Rattle.imago_storage.specs.Bytes.{splice, OldOrNew, WriteOutcome, IsReadAt, SameOutside, IsResized};
 ghost use Rattle.imago_storage.specs.Error.{IsDeviceOrMemory, IsPureRefusal};
@@ -7,9 +7,10 @@ ghost use Rattle.imago_storage.specs.Faults.{CountsFaults};
 ghost use Rattle.imago_storage.specs.Features.{Features, InPlace, AsData, MayRunOut, MayBeUnsupported, zero_support, AreAlignments, IsAlignedRequest, IsAlignedTo};
 ghost use Rattle.imago_storage.specs.Powers.{IsAlignment};
 ghost use Rattle.imago_storage.specs.IoCount.{IoCount, AddsAtMost};
+ghost use Rattle.imago_storage.specs.Maintenance.{Maintenance};
 
 use crate::error::Error;
-pub use crate::options::{PreallocateMode, StorageCreateOptions, StorageOpenOptions};
+pub use crate::options::{PreallocateMode, StorageCreateOptions, StorageOpenOptions, ZeroKind};
 use std::alloc::Global;
 use std::fmt::Display;
 
@@ -46,7 +47,7 @@ pub trait Storage: Display + Drop + Sized {
     /// The bytes, as many as the storage is long.
     ghost bytes: { Self → List ℕ };
 
-    /// What never changes: alignments, what is kept and offered, which calls take memory.
+    /// What never changes: the name, alignments, what is kept and offered, which calls take memory.
     ghost features: { Self → Features };
 
     /// How often the device failed in exclusive calls: a count that saturates.
@@ -55,8 +56,8 @@ pub trait Storage: Display + Drop + Sized {
     /// The pure reads by exclusive calls and the pure writes so far.
     ghost work: { Self → IoCount };
 
-    /// The name that the storage can be opened by, if it has one.
-    ghost filename: { Self → Option (List ℕ) };
+    /// What a flush, a sync, an invalidation, a wait for writes and a discard are: only the call itself gives its relation.
+    ghost maintenance: { Maintenance Self };
 
     /// Opens a storage. Which options are needed depends on the storage; by default it is
     /// [`Error::Unsupported`].
@@ -102,19 +103,16 @@ pub trait Storage: Display + Drop + Sized {
         ensures device { IsErrOf result Error.Device → (features self.now).is_reliable ≡ false }
         ensures memory { IsErrOf result Error.Memory → MayRunOut (features self.now).other_memory 0 0 };
 
-    /// The name of a storage that is given relative to this one, as `open` takes it. By default it is
-    /// [`Error::Unsupported`].
+    /// The name of a storage that is given relative to this one, as `open` takes it. A storage whose names aren't
+    /// relative to one another answers [`Error::Unsupported`].
     fn resolve_relative_path(&self, alloc: Global, relative: &str) -> Result<String, Error>
-        ensures device { IsErrOf result Error.Device → (features self.now).is_reliable ≡ false }
-    {
-        let _ = alloc;
-        let _ = relative;
-        Err(Error::Unsupported)
-    }
+        ensures only { IfErr result IsPureRefusal }
+        ensures unsupported { IsErrOf result Error.Unsupported ↔ ((features self.now).resolves_paths ≡ false) }
+        ensures device { IsErrOf result Error.Device → (features self.now).is_reliable ≡ false };
 
     /// The name that the storage can be opened by, if it has one.
     fn get_filename(&self) -> Option<&str>
-        ensures { option_copied result ≡ filename self.now };
+        ensures { option_copied result ≡ (features self.now).filename };
 
     /// Fills the buffer with the bytes from the offset on, with 0 past the end. Refused, the buffer is unspecified.
     fn pure_readv(&self, buf: &mut [u8], offset: u64) -> Result<(), Error>
@@ -159,9 +157,9 @@ pub trait Storage: Display + Drop + Sized {
             → MayRunOut (features self.old).write_memory (length (bytes self.old))
             (offset + length source.now) };
 
-    /// Zeroes a range with no buffer, `allocated` where it has to be allocated afterwards. A storage that can't do
-    /// so answers [`Error::Unsupported`] with nothing changed, and zeroes are written as data in its place.
-    fn zero_in_place(&mut self, offset: u64, count: u64, allocated: bool) -> Result<(), Error>
+    /// Zeroes a range with no buffer. A storage that can't do so for that kind answers [`Error::Unsupported`] with
+    /// nothing changed, and zeroes are written as data in its place.
+    fn zero_in_place(&mut self, offset: u64, count: u64, kind: ZeroKind) -> Result<(), Error>
         requires { IsAlignedTo (features self.old).zero_align offset count }
         ensures written { WriteOutcome (features self.old).keeps_data (bytes self.old)
             (splice (bytes self.old) offset (replicate count 0)) (bytes self.new) result }
@@ -170,10 +168,10 @@ pub trait Storage: Display + Drop + Sized {
             (bytes self.new)) }
         ensures atomic { IsTrue (features self.old).atomic
             → OnErr result (bytes self.new ≡ bytes self.old) }
-        ensures unchanged { IsErrOf result Error.Unsupported → bytes self.new ≡ bytes self.old }
+        ensures unchanged { IsErrOf result Error.Unsupported → self.new ≡ self.old }
         ensures features { features self.new ≡ features self.old }
         ensures only { IfErr result IsPureRefusal }
-        ensures unsupported { IsErrOf result Error.Unsupported ↔ (zero_support (features self.old) allocated ≢ InPlace) }
+        ensures unsupported { IsErrOf result Error.Unsupported ↔ (zero_support (features self.old) kind ≢ InPlace) }
         ensures cause { CountsFaults (features self.old).is_reliable (fault_count self.old) (fault_count self.new)
             result }
         ensures memory { IsErrOf result Error.Memory
@@ -187,7 +185,11 @@ pub trait Storage: Display + Drop + Sized {
             (splice (bytes self.old) offset (replicate count 0)) (bytes self.new) result }
         ensures features { features self.new ≡ features self.old }
         ensures only { IfErr result IsPureRefusal }
+        ensures unchanged { IsErrOf result Error.Unsupported → self.new ≡ self.old }
         ensures unsupported { IsErrOf result Error.Unsupported ↔ (count % (features self.old).mem_align ≢ 0) }
+        ensures early { IsErrOf result Error.Memory
+            → (¬ MayRunOut (features self.old).write_memory (length (bytes self.old)) (offset + count))
+            → self.new ≡ self.old }
         ensures cause { CountsFaults (features self.old).is_reliable (fault_count self.old) (fault_count self.new)
             result }
     {
@@ -234,8 +236,13 @@ pub trait Storage: Display + Drop + Sized {
         ensures memory { IsErrOf result Error.Memory
             → (features self.old).zeroes ≡ InPlace
             → MayRunOut (features self.old).zero_memory (length (bytes self.old)) (offset + count) }
+        ensures early { IsErrOf result Error.Memory
+            → (features self.old).zeroes ≢ InPlace
+            → (¬ MayRunOut (features self.old).write_memory (length (bytes self.old)) (offset + count))
+            → self.new ≡ self.old }
+        ensures unchanged { IsErrOf result Error.Unsupported → self.new ≡ self.old }
     {
-        match self.zero_in_place(offset, count, false) {
+        match self.zero_in_place(offset, count, ZeroKind::Any) {
             Err(Error::Unsupported) => self.write_zeroes_as_data(alloc, offset, count),
             answer => answer,
         }
@@ -272,15 +279,20 @@ pub trait Storage: Display + Drop + Sized {
         ensures memory { IsErrOf result Error.Memory
             → (features self.old).allocated_zeroes ≡ InPlace
             → MayRunOut (features self.old).zero_memory (length (bytes self.old)) (offset + count) }
+        ensures early { IsErrOf result Error.Memory
+            → (features self.old).allocated_zeroes ≢ InPlace
+            → (¬ MayRunOut (features self.old).write_memory (length (bytes self.old)) (offset + count))
+            → self.new ≡ self.old }
+        ensures unchanged { IsErrOf result Error.Unsupported → self.new ≡ self.old }
     {
-        match self.zero_in_place(offset, count, true) {
+        match self.zero_in_place(offset, count, ZeroKind::Allocated) {
             Err(Error::Unsupported) => self.write_zeroes_as_data(alloc, offset, count),
             answer => answer,
         }
     }
 
     /// Says that a range is no longer needed. Its bytes are unspecified afterwards, also where it is refused; all
-    /// others, and the length, stay. By default nothing is done.
+    /// others, and the length, stay. A storage that offers no discards may answer [`Error::Unsupported`].
     fn pure_discard(&mut self, offset: u64, count: u64) -> Result<(), Error>
         requires { IsAlignedTo (features self.old).discard_align offset count }
         ensures bytes { SameOutside offset count (bytes self.old) (bytes self.new) }
@@ -291,11 +303,7 @@ pub trait Storage: Display + Drop + Sized {
         ensures cause { CountsFaults (features self.old).is_reliable (fault_count self.old) (fault_count self.new)
             result }
         ensures memory { IsErrOf result Error.Memory → MayRunOut (features self.old).other_memory 0 0 }
-    {
-        let _ = offset;
-        let _ = count;
-        Ok(())
-    }
+        ensures performed { maintenance.discarded offset count self.old self.new result };
 
     /// Writes what the storage buffers. No byte changes.
     fn flush(&mut self) -> Result<(), Error>
@@ -304,7 +312,8 @@ pub trait Storage: Display + Drop + Sized {
         ensures only { IfErr result IsDeviceOrMemory }
         ensures cause { CountsFaults (features self.old).is_reliable (fault_count self.old) (fault_count self.new)
             result }
-        ensures memory { IsErrOf result Error.Memory → MayRunOut (features self.old).other_memory 0 0 };
+        ensures memory { IsErrOf result Error.Memory → MayRunOut (features self.old).other_memory 0 0 }
+        ensures performed { maintenance.flushed self.old self.new result };
 
     /// Syncs what is written to the hardware. No byte changes.
     fn sync(&mut self) -> Result<(), Error>
@@ -313,9 +322,10 @@ pub trait Storage: Display + Drop + Sized {
         ensures only { IfErr result IsDeviceOrMemory }
         ensures cause { CountsFaults (features self.old).is_reliable (fault_count self.old) (fault_count self.new)
             result }
-        ensures memory { IsErrOf result Error.Memory → MayRunOut (features self.old).other_memory 0 0 };
+        ensures memory { IsErrOf result Error.Memory → MayRunOut (features self.old).other_memory 0 0 }
+        ensures performed { maintenance.synced self.old self.new result };
 
-    /// Waits for all writes, zero writes and discards made before. No byte changes. By default nothing is done.
+    /// Waits for all writes, zero writes and discards made before. No byte changes.
     fn settle_writes(&mut self) -> Result<(), Error>
         ensures unchanged { bytes self.new ≡ bytes self.old }
         ensures features { features self.new ≡ features self.old }
@@ -323,9 +333,7 @@ pub trait Storage: Display + Drop + Sized {
         ensures cause { CountsFaults (features self.old).is_reliable (fault_count self.old) (fault_count self.new)
             result }
         ensures memory { IsErrOf result Error.Memory → MayRunOut (features self.old).other_memory 0 0 }
-    {
-        Ok(())
-    }
+        ensures performed { maintenance.settled self.old self.new result };
 
     /// Drops what the storage caches. No byte changes.
     fn invalidate_cache(&mut self) -> Result<(), Error>
@@ -334,7 +342,8 @@ pub trait Storage: Display + Drop + Sized {
         ensures only { IfErr result IsDeviceOrMemory }
         ensures cause { CountsFaults (features self.old).is_reliable (fault_count self.old) (fault_count self.new)
             result }
-        ensures memory { IsErrOf result Error.Memory → MayRunOut (features self.old).other_memory 0 0 };
+        ensures memory { IsErrOf result Error.Memory → MayRunOut (features self.old).other_memory 0 0 }
+        ensures performed { maintenance.invalidated self.old self.new result };
 
     /// Sets the length in bytes. Bytes that stay are kept; new ones are zero, or unspecified for
     /// [`PreallocateMode::None`]. A smaller size ignores the mode. Refused, nothing changed; a storage that can't be

@@ -1,5 +1,5 @@
 //! Zero writes of any range.
-ghost use Rattle.std.specs.Prelude.{◌≡◌, ◌≢◌, ℕ, ◌+◌, ◌-◌, ◌%◌, ◌<◌, ◌≤◌, ◌^◌, length, min, replicate, Bool, OnOk, OnErr, IfErr, IsErrOf, IsOk, Ok, List, ◌↔◌};
+ghost use Rattle.std.specs.Prelude.{◌≡◌, ◌≢◌, ℕ, ◌+◌, ◌-◌, ◌%◌, ◌<◌, ◌≤◌, ◌^◌, length, min, replicate, OnOk, OnErr, IfErr, IsErrOf, IsOk, Ok, List, ◌↔◌};
 ghost use Rattle.imago_storage.specs.Error.{IsExtRefusal, IsPureRefusal, IsZeroRefusal};
 ghost use Rattle.imago_storage.specs.Faults.{CountsFaults};
 ghost use Rattle.imago_storage.specs.Features.{Features, InPlace, AsData, MayRunOut, MayBeUnsupported, IsAlignedTo, len_align, zero_support};
@@ -9,7 +9,7 @@ ghost use Rattle.imago_storage.specs.Zeroes.{HasZeroed, ZeroedPart, EdgeWraps, D
 use crate::align::{aligned_part, head_length, length_align, zero_align};
 use crate::error::Error;
 use crate::request::write_any;
-use crate::storage::{Storage, ZERO_PIECE, zero_buffer};
+use crate::storage::{Storage, ZERO_PIECE, ZeroKind, zero_buffer};
 use std::alloc::Global;
 
 /// Zeroes a range: its part that is aligned to the zero alignment by a zero write of the storage, and what stands
@@ -20,7 +20,7 @@ pub(crate) fn zero_any<S: Storage>(
     alloc: Global,
     offset: u64,
     count: u64,
-    allocated: bool,
+    kind: ZeroKind,
 ) -> Result<(), Error>
     ensures empty { count ≡ 0 → IsOk result × (storage.new ≡ storage.old) }
     ensures written { 0 < count
@@ -30,19 +30,19 @@ pub(crate) fn zero_any<S: Storage>(
         → RangeWraps (S.features storage.old).zero_align offset count
         → IsErrOf result Error.WrapAround × (storage.new ≡ storage.old) }
     ensures may_wrap { IsErrOf result Error.WrapAround
-        → MayWrap (S.features storage.old) (zero_support (S.features storage.old) allocated) offset
+        → MayWrap (S.features storage.old) (zero_support (S.features storage.old) kind) offset
         count }
     ensures fits { 0 < count
         → OnOk result
         (FitsZeroes (S.features storage.old)
-        (zero_support (S.features storage.old) allocated) offset count) }
+        (zero_support (S.features storage.old) kind) offset count) }
     ensures features { S.features storage.new ≡ S.features storage.old }
     ensures only { IfErr result IsExtRefusal }
     ensures cause { CountsFaults (S.features storage.old).is_reliable (S.fault_count storage.old)
         (S.fault_count storage.new) result }
     ensures memory { IsErrOf result Error.Memory
         → IsAlignedTo (S.features storage.old).zero_align offset count
-        → zero_support (S.features storage.old) allocated ≡ InPlace
+        → zero_support (S.features storage.old) kind ≡ InPlace
         → MayRunOut (S.features storage.old).zero_memory (length (S.bytes storage.old))
         (offset + count) }
 {
@@ -53,7 +53,7 @@ pub(crate) fn zero_any<S: Storage>(
     let Some((start, end)) = aligned_part(align, offset, count) else {
         return Err(Error::WrapAround);
     };
-    zero_range(storage, alloc, offset, count, start, end, allocated)
+    zero_range(storage, alloc, offset, count, start, end, kind)
 }
 
 /// Zeroes a range whose aligned part stands from `start` to `end`.
@@ -64,17 +64,17 @@ fn zero_range<S: Storage>(
     count: u64,
     start: u64,
     end: u64,
-    allocated: bool,
+    kind: ZeroKind,
 ) -> Result<(), Error>
     requires part { IsAlignedPart (S.features storage.old).zero_align offset count start end }
     requires some { 0 < count }
     ensures written { HasZeroed (S.features storage.old) (S.bytes storage.old) offset count (S.bytes storage.new)
         result }
     ensures may_wrap { IsErrOf result Error.WrapAround
-        → MayWrap (S.features storage.old) (zero_support (S.features storage.old) allocated) offset
+        → MayWrap (S.features storage.old) (zero_support (S.features storage.old) kind) offset
         count }
     ensures fits { OnOk result
-        (FitsZeroes (S.features storage.old) (zero_support (S.features storage.old) allocated)
+        (FitsZeroes (S.features storage.old) (zero_support (S.features storage.old) kind)
         offset count) }
     ensures features { S.features storage.new ≡ S.features storage.old }
     ensures only { IfErr result IsExtRefusal }
@@ -82,14 +82,14 @@ fn zero_range<S: Storage>(
         (S.fault_count storage.new) result }
     ensures memory { IsErrOf result Error.Memory
         → IsAlignedTo (S.features storage.old).zero_align offset count
-        → zero_support (S.features storage.old) allocated ≡ InPlace
+        → zero_support (S.features storage.old) kind ≡ InPlace
         → MayRunOut (S.features storage.old).zero_memory (length (S.bytes storage.old))
         (offset + count) }
 {
     if end <= start {
         return zero_as_data(storage, alloc, offset, count);
     }
-    match zero_part_and_edges(storage, alloc, offset, count, start, end, allocated) {
+    match zero_part_and_edges(storage, alloc, offset, count, start, end, kind) {
         Err(Error::Unsupported) => zero_as_data(storage, alloc, offset, count),
         Err(refusal) => Err(refusal),
         Ok(()) => Ok(()),
@@ -105,7 +105,7 @@ fn zero_part_and_edges<S: Storage>(
     count: u64,
     start: u64,
     end: u64,
-    allocated: bool,
+    kind: ZeroKind,
 ) -> Result<(), Error>
     requires part { IsAlignedPart (S.features storage.old).zero_align offset count start end }
     requires some { start < end }
@@ -114,9 +114,9 @@ fn zero_part_and_edges<S: Storage>(
     ensures wraps { IsErrOf result Error.WrapAround → EdgeWraps (S.features storage.old) offset count }
     ensures fits { OnOk result (¬ EdgeWraps (S.features storage.old) offset count) }
     ensures offered { IsErrOf result Error.Unsupported
-        → MayBeUnsupported (zero_support (S.features storage.old) allocated)
+        → MayBeUnsupported (zero_support (S.features storage.old) kind)
         (S.features storage.old).mem_align (end - start) }
-    ensures refused { zero_support (S.features storage.old) allocated ≡ AsData
+    ensures refused { zero_support (S.features storage.old) kind ≡ AsData
         → (end - start) % (S.features storage.old).mem_align ≢ 0
         → IsErrOf result Error.Unsupported }
     ensures features { S.features storage.new ≡ S.features storage.old }
@@ -126,11 +126,11 @@ fn zero_part_and_edges<S: Storage>(
     ensures memory { IsErrOf result Error.Memory
         → start ≡ offset
         → end ≡ offset + count
-        → zero_support (S.features storage.old) allocated ≡ InPlace
+        → zero_support (S.features storage.old) kind ≡ InPlace
         → MayRunOut (S.features storage.old).zero_memory (length (S.bytes storage.old))
         (offset + count) }
 {
-    zero_part(storage, alloc, start, end - start, allocated)?;
+    zero_part(storage, alloc, start, end - start, kind)?;
     if start == offset && end == offset + count {
         return Ok(());
     }
@@ -166,21 +166,21 @@ fn zero_edges<S: Storage>(
     zero_from(storage, alloc, &zeroes, end, tail)
 }
 
-/// Zeroes an aligned range by the storage's zero write, of the kind that allocates or of the other.
+/// Zeroes an aligned range by the storage's zero write of that kind.
 fn zero_part<S: Storage>(
     storage: &mut S,
     alloc: Global,
     offset: u64,
     count: u64,
-    allocated: bool,
+    kind: ZeroKind,
 ) -> Result<(), Error>
     requires { IsAlignedTo (S.features storage.old).zero_align offset count }
     ensures written { HasZeroed (S.features storage.old) (S.bytes storage.old) offset count (S.bytes storage.new)
         result }
     ensures offered { IsErrOf result Error.Unsupported
-        → MayBeUnsupported (zero_support (S.features storage.old) allocated)
+        → MayBeUnsupported (zero_support (S.features storage.old) kind)
         (S.features storage.old).mem_align count }
-    ensures refused { zero_support (S.features storage.old) allocated ≡ AsData
+    ensures refused { zero_support (S.features storage.old) kind ≡ AsData
         → count % (S.features storage.old).mem_align ≢ 0
         → IsErrOf result Error.Unsupported }
     ensures features { S.features storage.new ≡ S.features storage.old }
@@ -188,14 +188,13 @@ fn zero_part<S: Storage>(
     ensures cause { CountsFaults (S.features storage.old).is_reliable (S.fault_count storage.old)
         (S.fault_count storage.new) result }
     ensures memory { IsErrOf result Error.Memory
-        → zero_support (S.features storage.old) allocated ≡ InPlace
+        → zero_support (S.features storage.old) kind ≡ InPlace
         → MayRunOut (S.features storage.old).zero_memory (length (S.bytes storage.old))
         (offset + count) }
 {
-    if allocated {
-        storage.pure_write_allocated_zeroes(alloc, offset, count)
-    } else {
-        storage.pure_write_zeroes(alloc, offset, count)
+    match kind {
+        ZeroKind::Any => storage.pure_write_zeroes(alloc, offset, count),
+        ZeroKind::Allocated => storage.pure_write_allocated_zeroes(alloc, offset, count),
     }
 }
 

@@ -3,7 +3,7 @@ use Rattle.std.specs.Prelude.{IsErrOf}
 use Rattle.imago_storage.specs.declared.error.Error.{Error}
 use Rattle.imago_storage.specs.Padding.{RangeWraps}
 use Rattle.imago_drivers.proofs.StorageBytes.{no_wrap}
-use Rattle.imago_drivers.proofs.AlignedParts.{whole_start, whole_length, part_fits}
+use Rattle.imago_drivers.proofs.AlignedParts.{whole_start, whole_length, part_fits, outside_part}
 use Rattle.imago_drivers.proofs.raw.discard_part.Goals as goal
 
 pub returns-clause-whole : goal.returns-clause-whole
@@ -15,3 +15,8 @@ returns-in_err-discard-clause-only g c =
     let fits : RangeWraps c.discard_align-align.result c.in-Some.start (c.in-Some.end - c.in-Some.start) → ⊥ = part_fits _ _ _ _ _ p (omega (arith, c.if-end-start.false)) in
     let w : IsErrOf c.discard.result Error.WrapAround → ⊥ = λ e. fits (rw c.discard_align-align.ensures.value ((c.discard.ensures.wraps).0 e)) in
     search (rules, no_wrap)
+
+pub returns-clause-discarded : goal.returns-clause-discarded
+returns-clause-discarded g c =
+    outside_part (g.S.Storage.features c.args.storage.now).discard_align c.discard_align-align.result c.args.offset c.args.count c.in-Some.start c.in-Some.end _ _ c.discard_align-align.ensures.value c.in-Some.ensures
+    (omega (arith, c.if-end-start.false)) c.discard.ensures.bytes

@@ -2,6 +2,7 @@ use Rattle.std.proofs.Common.{rules, ◌≡◌, ◌-◌, ◌<◌, arith}
 use Rattle.imago_storage.specs.Features.{IsAlignedTo}
 use Rattle.imago_drivers.proofs.StorageBytes.{zeroed_bytes, torn_zeroes, torn_in_range, on_refusal}
 use Rattle.imago_drivers.proofs.AlignedParts.{whole_start, whole_length}
+use Rattle.imago_drivers.proofs.Lengths.{near_end, longest_zeroes}
 use Rattle.imago_drivers.proofs.raw.zero_part.Goals as goal
 
 pub returns-clause-whole : goal.returns-clause-whole
@@ -30,3 +31,19 @@ returns-in_err-write_zeroes-clause-memory g c = λ e a i.
     let m : c.in-Some.end - c.args.offset ≡ c.args.count = rw s at n in
     let refused = rw (s, m) at c.in_err-write_zeroes.ensures.memory in
     refused (search rules) a i
+
+pub returns-clause-near : goal.returns-clause-near
+returns-clause-near g c =
+    let some : 0 < c.in-Some.end - c.in-Some.start = omega (arith, c.if-end-start.false) in
+    let p = c.in-Some.ensures in
+    let z = c.in_ok-write_zeroes.ensures.written some in
+    near_end (g.S.Storage.features c.args.storage.now) c.args.offset c.args.count z.end _ _ (omega (arith, p.before, p.behind, some)) (omega (arith, z.near, p.behind, some))
+    (longest_zeroes _ c.in-Some.start (c.in-Some.end - c.in-Some.start) z.end _ z.covers z.written.no_longer)
+
+pub returns-in_err-write_zeroes-clause-near : goal.returns-in_err-write_zeroes-clause-near
+returns-in_err-write_zeroes-clause-near g c =
+    let some : 0 < c.in-Some.end - c.in-Some.start = omega (arith, c.if-end-start.false) in
+    let p = c.in-Some.ensures in
+    let z = c.in_err-write_zeroes.ensures.written some in
+    near_end (g.S.Storage.features c.args.storage.now) c.args.offset c.args.count z.end _ _ (omega (arith, p.before, p.behind, some)) (omega (arith, z.near, p.behind, some))
+    (longest_zeroes _ c.in-Some.start (c.in-Some.end - c.in-Some.start) z.end _ z.covers z.written.no_longer)

@@ -13,7 +13,10 @@ returns-clause-prepared g c =
       within = omega (arith, n);
       some = λ h. omega (arith, n);
       part = n;
-      whole = λ h. (n, c.existing.ensures.state, h);
+      whole = λ h. n;
+      no_memory = λ h. (h, rw n h, λ t. t.1);
+      later = λ i. rw n (omega arith);
+      around = λ q e. let z : ⊥ = cc in absurd z;
       direct = λ e. (
         refl,
         λ i h. (

@@ -1,7 +1,7 @@
 use Rattle.std.proofs.Common.{◌≡◌, arith, length, true}
 use Rattle.std.specs.Prelude.{IsTrue}
 use Rattle.imago_drivers.specs.Operation.{Write}
-use Rattle.imago_drivers.specs.Place.{IsAt}
+use Rattle.imago_drivers.specs.Place.{PlacesStandAt}
 use Rattle.imago_drivers.specs.Raw.{raw_place}
 use Rattle.imago_drivers.proofs.StorageBytes.{zero_behind_write, either_bytes}
 use Rattle.imago_drivers.proofs.RawSteps.{raw_at, raw_inside, raw_put_on_ok, raw_put_on_err, request_refused}
@@ -35,5 +35,5 @@ returns-clause-refusals g c =
     let s = c.args.self.now in
     let B = g.S.Storage.bytes s.storage in
     let n = length c.args.source.now in
-    request_refused (g.S.Storage.features s.storage) s.size (length B) c.args.offset n Write _ (IsAt (raw_place s.size B) c.args._storage c.args.offset n) _ ⊥ c.write_bytes.result
+    request_refused (g.S.Storage.features s.storage) s.size (length B) c.args.offset n Write _ (PlacesStandAt (raw_place s.size B) c.args._storage c.args.offset n) _ ⊥ c.write_bytes.result
     (λ x h q. raw_at s.size B c.args._storage c.args.offset n x h q) c.write_bytes.ensures.empty c.write_bytes.ensures.only (λ e. tt) (λ x h q. c.write_bytes.ensures.wraps) c.write_bytes.ensures.memory
