@@ -6,7 +6,8 @@ use Rattle.imago_storage.specs.Bytes.{splice, OldOrNew, WriteOutcome}
 use Rattle.imago_storage.specs.declared.error.Error.{Error}
 use Rattle.imago_test_storages.specs.declared.faulty.Tear.{Tear}
 use Rattle.imago_test_storages.specs.declared.faulty.Tear.TheVariants.{Nothing, All, First, Odd}
-use Rattle.imago_test_storages.specs.Faulty.{is_new, has_grown, IsTorn, IsTornRequest}
+use Rattle.imago_storage.specs.Features.{Features}
+use Rattle.imago_test_storages.specs.Faulty.{is_new, has_grown, IsPlain, IsTorn, IsTornRequest}
 
 splice_inside : (xs : List ℕ) (at : ℕ) (new : List ℕ) (k : ℕ) → k < length new → get_or (splice xs at new) (at + k) 0 ≡ get_or new k 0
 unfolding splice
@@ -146,3 +147,7 @@ unchanged_write old at new now same = rw same (record { each = λ p. inl refl; n
 pub on_refusal : {T E : Type 0} (r : Result T E) (P : Type 0) → P → OnErr r P
 on_refusal (Ok x) P h = tt
 on_refusal (Err e) P h = h
+
+-- the same features take every range as it is
+pub still_plain : (f g : Features) → f ≡ g → IsPlain g → IsPlain f
+still_plain f g same plain = rw same plain

@@ -17,7 +17,15 @@ faulty_features zero_writes f = record f {
 
 -- and what never changes in the one inside
 abbrev pub features_inside : Features → Features
-features_inside f = mem_features f.mem_align f.req_align f.zero_align
+features_inside f = mem_features f.filename f.mem_align f.req_align f.zero_align
+
+-- the one inside, but for its alignments
+abbrev pub features_outside : Features → ℕ → ℕ → ℕ → Features
+features_outside f mem req zeroed = mem_features f.filename mem req zeroed
+
+-- it takes every range as it is
+abbrev pub IsPlain : Features → Type 0
+IsPlain f = f ≡ mem_features f.filename 1 1 1
 
 pub faulty_lawful : (zero_writes : Bool) (f : Features) → AreAlignments f → AreAlignments (faulty_features zero_writes f)
 faulty_lawful zero_writes f l = record { mem = l.mem; req = l.req; zero = l.zero; discard = l.discard; zero_whole = l.zero_whole; discard_whole = l.discard_whole }

@@ -1,3 +1,4 @@
 pub mod Counting
 pub mod Faulty
 pub mod FaultyPlan
+pub mod Recording

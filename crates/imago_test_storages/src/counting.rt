@@ -10,7 +10,7 @@ ghost use Rattle.imago_test_storages.specs.Counting.{io_count, after_read, after
 
 use imago_storage::error::Error;
 use imago_storage::mem::MemStorage;
-use imago_storage::storage::{PreallocateMode, Storage};
+use imago_storage::storage::{PreallocateMode, Storage, ZeroKind};
 use std::alloc::Global;
 use std::fmt;
 
@@ -51,7 +51,6 @@ impl Counting {
     pub fn new(inner: MemStorage) -> Self
         ensures bytes { ⟦<Counting as Storage>⟧.bytes result ≡ ⟦<MemStorage as Storage>⟧.bytes inner }
         ensures features { ⟦<Counting as Storage>⟧.features result ≡ ⟦<MemStorage as Storage>⟧.features inner }
-        ensures filename { ⟦<Counting as Storage>⟧.filename result ≡ ⟦<MemStorage as Storage>⟧.filename inner }
         ensures work { ⟦<Counting as Storage>⟧.work result ≡ no_work }
     {
         Counting {
@@ -105,7 +104,13 @@ impl Storage for Counting {
 
     ghost work = { λ s. io_count s.counts };
 
-    ghost filename = { λ s. ⟦<MemStorage as Storage>⟧.filename s.inner };
+    ghost maintenance = { record {
+      flushed = λ a b r. ⟦<MemStorage as Storage>⟧.maintenance.flushed a.inner b.inner r;
+      synced = λ a b r. ⟦<MemStorage as Storage>⟧.maintenance.synced a.inner b.inner r;
+      invalidated = λ a b r. ⟦<MemStorage as Storage>⟧.maintenance.invalidated a.inner b.inner r;
+      settled = λ a b r. ⟦<MemStorage as Storage>⟧.maintenance.settled a.inner b.inner r;
+      discarded = λ at n a b r. ⟦<MemStorage as Storage>⟧.maintenance.discarded at n a.inner b.inner r;
+    } };
 
     ghost lawful = { λ s. alignments_of s.inner };
 
@@ -193,8 +198,12 @@ impl Storage for Counting {
         self.inner.pure_writev(source, offset)
     }
 
-    fn zero_in_place(&mut self, offset: u64, count: u64, allocated: bool) -> Result<(), Error> {
-        self.inner.zero_in_place(offset, count, allocated)
+    fn zero_in_place(&mut self, offset: u64, count: u64, kind: ZeroKind) -> Result<(), Error> {
+        self.inner.zero_in_place(offset, count, kind)
+    }
+
+    fn pure_discard(&mut self, offset: u64, count: u64) -> Result<(), Error> {
+        self.inner.pure_discard(offset, count)
     }
 
     fn flush(&mut self) -> Result<(), Error> {
@@ -205,6 +214,10 @@ impl Storage for Counting {
     fn sync(&mut self) -> Result<(), Error> {
         self.reached.syncs = self.reached.syncs.saturating_add(1);
         self.inner.sync()
+    }
+
+    fn settle_writes(&mut self) -> Result<(), Error> {
+        self.inner.settle_writes()
     }
 
     fn invalidate_cache(&mut self) -> Result<(), Error> {

@@ -4,13 +4,13 @@ ghost use Rattle.imago_storage.specs.Bytes.{splice};
 ghost use Rattle.imago_storage.specs.Faults.{RoseOrSaturated};
 ghost use Rattle.imago_storage.specs.Features.{Features};
 ghost use Rattle.imago_storage.specs.IoCount.{no_work};
-ghost use Rattle.imago_storage.specs.Mem.{mem_features, mem_lawful};
+ghost use Rattle.imago_storage.specs.Mem.{mem_lawful};
 ghost use Rattle.imago_storage.specs.Powers.{IsAlignment};
-ghost use Rattle.imago_test_storages.specs.Faulty.{faulty_features, features_inside, faulty_lawful, is_new, has_grown, IsTornRequest, no_faults, refused_next, after_call};
+ghost use Rattle.imago_test_storages.specs.Faulty.{faulty_features, features_inside, features_outside, IsPlain, faulty_lawful, is_new, has_grown, IsTornRequest, no_faults, refused_next, after_call};
 
 use imago_storage::error::Error;
 use imago_storage::mem::MemStorage;
-use imago_storage::storage::{PreallocateMode, Storage};
+use imago_storage::storage::{PreallocateMode, Storage, ZeroKind};
 use std::alloc::Global;
 use std::fmt;
 
@@ -97,7 +97,7 @@ fn grows(tear: Tear) -> bool
 
 /// Adds zeroes up to that length, if the bytes are fewer.
 fn lengthen(inner: &mut MemStorage, len: u64) -> Result<(), Error>
-    requires plain { ⟦<MemStorage as Storage>⟧.features inner.old ≡ mem_features 1 1 1 }
+    requires plain { IsPlain (⟦<MemStorage as Storage>⟧.features inner.old) }
     ensures same { (p : ℕ)
         → slice_index (⟦<MemStorage as Storage>⟧.bytes inner.new) p ≡ slice_index
         (⟦<MemStorage as Storage>⟧.bytes inner.old) p }
@@ -106,7 +106,7 @@ fn lengthen(inner: &mut MemStorage, len: u64) -> Result<(), Error>
         (length (⟦<MemStorage as Storage>⟧.bytes inner.old)) len) }
     ensures unchanged { OnErr result
         (⟦<MemStorage as Storage>⟧.bytes inner.new ≡ ⟦<MemStorage as Storage>⟧.bytes inner.old) }
-    ensures plain { ⟦<MemStorage as Storage>⟧.features inner.new ≡ mem_features 1 1 1 }
+    ensures features { ⟦<MemStorage as Storage>⟧.features inner.new ≡ ⟦<MemStorage as Storage>⟧.features inner.old }
     ensures memory { IfErr result (λ e. e ≡ Error.Memory) }
     ensures inside { len ≤ length (⟦<MemStorage as Storage>⟧.bytes inner.old) → IsOk result }
 {
@@ -121,19 +121,19 @@ fn lengthen(inner: &mut MemStorage, len: u64) -> Result<(), Error>
 
 /// Puts a byte where there is one.
 fn put(inner: &mut MemStorage, at: u64, byte: u8)
-    requires plain { ⟦<MemStorage as Storage>⟧.features inner.old ≡ mem_features 1 1 1 }
+    requires plain { IsPlain (⟦<MemStorage as Storage>⟧.features inner.old) }
     requires inside { at < length (⟦<MemStorage as Storage>⟧.bytes inner.old) }
     requires ends { at + 1 < 2 ^ 64 }
     ensures bytes { ⟦<MemStorage as Storage>⟧.bytes inner.new ≡ splice (⟦<MemStorage as Storage>⟧.bytes inner.old) at
         (byte ∷ []) }
-    ensures plain { ⟦<MemStorage as Storage>⟧.features inner.new ≡ mem_features 1 1 1 }
+    ensures features { ⟦<MemStorage as Storage>⟧.features inner.new ≡ ⟦<MemStorage as Storage>⟧.features inner.old }
 {
     let _ = inner.pure_writev(&[byte], at);
 }
 
 /// Puts the byte of one place of a refused request, if it is a new one.
 fn put_if_new(inner: &mut MemStorage, tear: Tear, offset: u64, place: u64, byte: u8)
-    requires plain { ⟦<MemStorage as Storage>⟧.features inner.old ≡ mem_features 1 1 1 }
+    requires plain { IsPlain (⟦<MemStorage as Storage>⟧.features inner.old) }
     requires inside { offset + place < length (⟦<MemStorage as Storage>⟧.bytes inner.old) }
     requires ends { offset + place + 1 < 2 ^ 64 }
     ensures new { is_new tear place ≡ true
@@ -141,7 +141,7 @@ fn put_if_new(inner: &mut MemStorage, tear: Tear, offset: u64, place: u64, byte:
         inner.old) (offset + place) (byte ∷ []) }
     ensures stays { is_new tear place ≡ false
         → ⟦<MemStorage as Storage>⟧.bytes inner.new ≡ ⟦<MemStorage as Storage>⟧.bytes inner.old }
-    ensures plain { ⟦<MemStorage as Storage>⟧.features inner.new ≡ mem_features 1 1 1 }
+    ensures features { ⟦<MemStorage as Storage>⟧.features inner.new ≡ ⟦<MemStorage as Storage>⟧.features inner.old }
 {
     if takes(tear, place) {
         put(inner, offset + place, byte);
@@ -150,14 +150,14 @@ fn put_if_new(inner: &mut MemStorage, tear: Tear, offset: u64, place: u64, byte:
 
 /// Leaves of a write what a refused one does.
 fn tear_write(inner: &mut MemStorage, source: &[u8], offset: u64, tear: Tear) -> Result<(), Error>
-    requires plain { ⟦<MemStorage as Storage>⟧.features inner.old ≡ mem_features 1 1 1 }
+    requires plain { IsPlain (⟦<MemStorage as Storage>⟧.features inner.old) }
     requires ends { offset + length source.now < 2 ^ 64 }
     ensures torn { OnOk result
         (IsTornRequest tear (⟦<MemStorage as Storage>⟧.bytes inner.old) offset (length source.now)
         (λ k. slice_index source.now k) (⟦<MemStorage as Storage>⟧.bytes inner.new)) }
     ensures unchanged { OnErr result
         (⟦<MemStorage as Storage>⟧.bytes inner.new ≡ ⟦<MemStorage as Storage>⟧.bytes inner.old) }
-    ensures plain { ⟦<MemStorage as Storage>⟧.features inner.new ≡ mem_features 1 1 1 }
+    ensures features { ⟦<MemStorage as Storage>⟧.features inner.new ≡ ⟦<MemStorage as Storage>⟧.features inner.old }
     ensures memory { IfErr result (λ e. e ≡ Error.Memory) }
     ensures inside { offset + length source.now ≤ length (⟦<MemStorage as Storage>⟧.bytes inner.old) → IsOk result }
 {
@@ -173,14 +173,14 @@ fn tear_write(inner: &mut MemStorage, source: &[u8], offset: u64, tear: Tear) ->
 
 /// Leaves of a zero write what a refused one does.
 fn tear_zeroes(inner: &mut MemStorage, offset: u64, count: u64, tear: Tear) -> Result<(), Error>
-    requires plain { ⟦<MemStorage as Storage>⟧.features inner.old ≡ mem_features 1 1 1 }
+    requires plain { IsPlain (⟦<MemStorage as Storage>⟧.features inner.old) }
     requires ends { offset + count < 2 ^ 64 }
     ensures torn { OnOk result
         (IsTornRequest tear (⟦<MemStorage as Storage>⟧.bytes inner.old) offset count (λ k. 0)
         (⟦<MemStorage as Storage>⟧.bytes inner.new)) }
     ensures unchanged { OnErr result
         (⟦<MemStorage as Storage>⟧.bytes inner.new ≡ ⟦<MemStorage as Storage>⟧.bytes inner.old) }
-    ensures plain { ⟦<MemStorage as Storage>⟧.features inner.new ≡ mem_features 1 1 1 }
+    ensures features { ⟦<MemStorage as Storage>⟧.features inner.new ≡ ⟦<MemStorage as Storage>⟧.features inner.old }
     ensures memory { IfErr result (λ e. e ≡ Error.Memory) }
     ensures inside { offset + count ≤ length (⟦<MemStorage as Storage>⟧.bytes inner.old) → IsOk result }
 {
@@ -209,7 +209,7 @@ pub struct Faulty {
     ghost req_power: { IsAlignment req_align },
     ghost zero_power: { IsAlignment zero_align },
     ghost zero_whole: { zero_align % req_align ≡ 0 },
-    ghost plain: { ⟦<MemStorage as Storage>⟧.features inner ≡ mem_features 1 1 1 },
+    ghost plain: { IsPlain (⟦<MemStorage as Storage>⟧.features inner) },
 }
 
 impl Faulty {
@@ -220,7 +220,6 @@ impl Faulty {
         ensures bytes { ⟦<Faulty as Storage>⟧.bytes result ≡ ⟦<MemStorage as Storage>⟧.bytes inner }
         ensures features { ⟦<Faulty as Storage>⟧.features result ≡ faulty_features true
             (⟦<MemStorage as Storage>⟧.features inner) }
-        ensures filename { ⟦<Faulty as Storage>⟧.filename result ≡ ⟦<MemStorage as Storage>⟧.filename inner }
         ensures plan { plan_of result ≡ no_faults }
     {
         let mem_align = inner.mem_align();
@@ -292,7 +291,6 @@ impl Faulty {
         ensures bytes { ⟦<MemStorage as Storage>⟧.bytes result ≡ ⟦<Faulty as Storage>⟧.bytes self }
         ensures features { ⟦<MemStorage as Storage>⟧.features result ≡ features_inside
             (⟦<Faulty as Storage>⟧.features self) }
-        ensures filename { ⟦<MemStorage as Storage>⟧.filename result ≡ ⟦<Faulty as Storage>⟧.filename self }
     {
         let Faulty {
             inner,
@@ -317,15 +315,21 @@ impl fmt::Display for Faulty {
 impl Storage for Faulty {
     ghost bytes = { λ s. ⟦<MemStorage as Storage>⟧.bytes s.inner };
 
-    ghost features = { λ s. faulty_features s.zero_writes (mem_features s.mem_align s.req_align s.zero_align) };
+    ghost features = { λ s. faulty_features s.zero_writes (features_outside (⟦<MemStorage as Storage>⟧.features s.inner) s.mem_align s.req_align s.zero_align) };
 
     ghost fault_count = { λ s. s.plan.faults };
 
     ghost work = { λ _. no_work };
 
-    ghost filename = { λ s. ⟦<MemStorage as Storage>⟧.filename s.inner };
+    ghost maintenance = { record {
+      flushed = λ a b r. ⟦<MemStorage as Storage>⟧.maintenance.flushed a.inner b.inner r;
+      synced = λ a b r. ⟦<MemStorage as Storage>⟧.maintenance.synced a.inner b.inner r;
+      invalidated = λ a b r. ⟦<MemStorage as Storage>⟧.maintenance.invalidated a.inner b.inner r;
+      settled = λ a b r. ⟦<MemStorage as Storage>⟧.maintenance.settled a.inner b.inner r;
+      discarded = λ _ _ a b _. b.inner ≡ a.inner;
+    } };
 
-    ghost lawful = { λ s. faulty_lawful s.zero_writes (mem_features s.mem_align s.req_align s.zero_align) (mem_lawful s.mem_align s.req_align s.zero_align s.mem_power s.req_power s.zero_power s.zero_whole) };
+    ghost lawful = { λ s. faulty_lawful s.zero_writes (features_outside (⟦<MemStorage as Storage>⟧.features s.inner) s.mem_align s.req_align s.zero_align) (mem_lawful (⟦<MemStorage as Storage>⟧.features s.inner).filename s.mem_align s.req_align s.zero_align s.mem_power s.req_power s.zero_power s.zero_whole) };
 
     fn mem_align(&self) -> usize {
         self.mem_align
@@ -379,12 +383,12 @@ impl Storage for Faulty {
         }
     }
 
-    fn zero_in_place(&mut self, offset: u64, count: u64, allocated: bool) -> Result<(), Error> {
+    fn zero_in_place(&mut self, offset: u64, count: u64, kind: ZeroKind) -> Result<(), Error> {
         if !self.zero_writes {
             return Err(Error::Unsupported);
         }
         match self.plan.count_call() {
-            None => self.inner.zero_in_place(offset, count, allocated),
+            None => self.inner.zero_in_place(offset, count, kind),
             Some(tear) => {
                 tear_zeroes(&mut self.inner, offset, count, tear)?;
                 self.plan.fail()
@@ -394,7 +398,7 @@ impl Storage for Faulty {
 
     fn pure_write_zeroes(&mut self, alloc: Global, offset: u64, count: u64) -> Result<(), Error> {
         let _ = alloc;
-        self.zero_in_place(offset, count, false)
+        self.zero_in_place(offset, count, ZeroKind::Any)
     }
 
     fn pure_write_allocated_zeroes(
@@ -404,7 +408,7 @@ impl Storage for Faulty {
         count: u64,
     ) -> Result<(), Error> {
         let _ = alloc;
-        self.zero_in_place(offset, count, true)
+        self.zero_in_place(offset, count, ZeroKind::Allocated)
     }
 
     fn pure_discard(&mut self, offset: u64, count: u64) -> Result<(), Error> {
@@ -420,6 +424,10 @@ impl Storage for Faulty {
 
     fn sync(&mut self) -> Result<(), Error> {
         self.inner.sync()
+    }
+
+    fn settle_writes(&mut self) -> Result<(), Error> {
+        self.inner.settle_writes()
     }
 
     fn invalidate_cache(&mut self) -> Result<(), Error> {
