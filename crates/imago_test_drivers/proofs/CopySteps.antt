@@ -7,12 +7,13 @@ use Rattle.imago_test_drivers.specs.declared.copy_once.Waiting.{Waiting}
 use Rattle.imago_drivers.specs.Place.{Value, Byte, End, values, shown, HasValues}
 use Rattle.imago_drivers.specs.Pending.{Pending, IsOwn, ShowsRound}
 use Rattle.imago_drivers.specs.Operation.{Operation, Map, Read, Write, Zero, DiscardToZero, DiscardToAny, DiscardToBacking, Grow, Shrink, Flush}
-use Rattle.imago_drivers.specs.Causes.{IsSettled, EveryOperation}
+use Rattle.imago_drivers.specs.Causes.{IsSettled, IsOnRange}
 use Rattle.imago_drivers.specs.View.{View}
 use Rattle.imago_drivers.specs.Frame.{IsFramed, IsUnchanged, ReachesNoMore}
 use Rattle.imago_drivers.specs.Prepared.{IsPut, is_foreign}
 use Rattle.imago_drivers.specs.Commit.{is_committed}
-use Rattle.imago_drivers.specs.Raw.{HasBytes, raw_place}
+use Rattle.imago_drivers.specs.Ranges.{HasBytes}
+use Rattle.imago_drivers.specs.Raw.{raw_place}
 use Rattle.imago_drivers.specs.RawLaws.{raw_in, raw_out, raw_lower}
 use Rattle.imago_test_drivers.specs.CopyOnce.{copy_place, copy_view, copy_pending, copy_cause, copy_copies, WaitsInside}
 use Rattle.imago_test_drivers.specs.CopyOnceLaws.{lower_in, lower_out, lower_only, copy_causes}
@@ -108,7 +109,7 @@ nothing_copied size (Grow mode) o n p c = c
 nothing_copied size Shrink o n p c = c
 nothing_copied size Flush o n p c = c
 
-pub copy_settled : (f : Features) (count : ℕ) (bytes : List ℕ) (size : ℕ) (copied : Bool) (w : Option Waiting) (o n : ℕ) → IsSettled EveryOperation copy_cause copy_cause (copy_copies copied size) (copy_copies true size) o n
+pub copy_settled : (f : Features) (count : ℕ) (bytes : List ℕ) (size : ℕ) (copied : Bool) (w : Option Waiting) (o n : ℕ) → IsSettled IsOnRange copy_cause copy_cause (copy_copies copied size) (copy_copies true size) o n
 copy_settled f count bytes size copied w o n = record {
   causes = λ op a c q m e r h i j k x. (copy_causes f count bytes size copied w).part op a c q m e j k x;
   copied = λ op a c q m p r h i j k x. absurd (nothing_copied size op q m p x);
