@@ -101,29 +101,30 @@ not_ext h w d m = ⊎_elim w (λ k. ⊎_elim d m k) h
 pub request_refused : (f : Features) (size len f_at n : ℕ) (op : Operation) (takes : MemoryUse) (P : ℕ → Type 0) (D F : Type 0) (r : Result Unit Error)
     → ((x : ℕ) → 0 < n → P x → x ≡ f_at) → (n ≡ 0 → IsOk r) → IfErr r IsExtRefusal
     → (IsErrOf r Error.Device → D)
-    → ((x : ℕ) → 0 < n → P x → IsErrOf r Error.WrapAround → RequestWraps f size op f_at n)
+    → (IsErrOf r Error.WrapAround → Wraps f f_at n)
+    → ((x : ℕ) → 0 < n → P x → Wraps f f_at n → RequestWraps f size op f_at n)
     → (IsErrOf r Error.Memory → IsAlignedRequest f f_at n → MayRunOut takes len (f_at + n))
     → IfErr r (allowed record none {
-      cause = λ e. (e ≡ Error.WrapAround) × ((x : ℕ) → P x → raw_cause f size op x n e);
+      cause = λ e. (e ≡ Error.WrapAround) × ((x : ℕ) → P x → raw_cause f size op x n e) × Wraps f f_at n;
       device = D;
       memory = (x : ℕ) → P x → (x + n ≤ size) × IsAlignedRequest f x n × (MayRunOut takes len (x + n) → ⊥) → ⊥;
       foreign_mapping = F;
     })
-request_refused f size len at n op takes P D F (Ok u) same empty only device wraps memory = tt
-request_refused f size len at n op takes P D F (Err E.WrapAround) same empty only device wraps memory =
-    (refl, λ x q. ⊎_elim (λ some. let t : x ≡ at = same x some q in record { from = at; count = n; above = omega arith; below = omega arith; wraps = wraps x some q refl }) (λ zero. let i = empty (omega arith) in let z : ⊥ = cc in absurd z) (cases_lt 0 n))
-request_refused f size len at n op takes P D F (Err E.Memory) same empty only device wraps memory =
+request_refused f size len at n op takes P D F (Ok u) same empty only device wrapped wraps memory = tt
+request_refused f size len at n op takes P D F (Err E.WrapAround) same empty only device wrapped wraps memory =
+    (refl, λ x q. ⊎_elim (λ some. let t : x ≡ at = same x some q in record { from = at; count = n; above = omega arith; below = omega arith; wraps = wraps x some q (wrapped refl) }) (λ zero. let i = empty (omega arith) in let z : ⊥ = cc in absurd z) (cases_lt 0 n), wrapped refl)
+request_refused f size len at n op takes P D F (Err E.Memory) same empty only device wrapped wraps memory =
     λ x q m. ⊎_elim (λ some. let t : x ≡ at = same x some q in let u = rw t at m in u.2 (memory refl (u.1))) (λ zero. let i = empty (omega arith) in let z : ⊥ = cc in absurd z) (cases_lt 0 n)
-request_refused f size len at n op takes P D F (Err E.Device) same empty only device wraps memory = device refl
-request_refused f size len at n op takes P D F (Err E.ReadOnly) same empty only device wraps memory = absurd (not_ext only (λ a. let z : ⊥ = cc in z) (λ a. let z : ⊥ = cc in z) (λ a. let z : ⊥ = cc in z))
-request_refused f size len at n op takes P D F (Err E.BeyondDisk) same empty only device wraps memory = absurd (not_ext only (λ a. let z : ⊥ = cc in z) (λ a. let z : ⊥ = cc in z) (λ a. let z : ⊥ = cc in z))
-request_refused f size len at n op takes P D F (Err E.RangeOverflow) same empty only device wraps memory = absurd (not_ext only (λ a. let z : ⊥ = cc in z) (λ a. let z : ⊥ = cc in z) (λ a. let z : ⊥ = cc in z))
-request_refused f size len at n op takes P D F (Err E.InvalidData) same empty only device wraps memory = absurd (not_ext only (λ a. let z : ⊥ = cc in z) (λ a. let z : ⊥ = cc in z) (λ a. let z : ⊥ = cc in z))
-request_refused f size len at n op takes P D F (Err E.Unsupported) same empty only device wraps memory = absurd (not_ext only (λ a. let z : ⊥ = cc in z) (λ a. let z : ⊥ = cc in z) (λ a. let z : ⊥ = cc in z))
-request_refused f size len at n op takes P D F (Err E.NoAccess) same empty only device wraps memory = absurd (not_ext only (λ a. let z : ⊥ = cc in z) (λ a. let z : ⊥ = cc in z) (λ a. let z : ⊥ = cc in z))
-request_refused f size len at n op takes P D F (Err E.ForeignMapping) same empty only device wraps memory = absurd (not_ext only (λ a. let z : ⊥ = cc in z) (λ a. let z : ⊥ = cc in z) (λ a. let z : ⊥ = cc in z))
-request_refused f size len at n op takes P D F (Err E.Denied) same empty only device wraps memory = absurd (not_ext only (λ a. let z : ⊥ = cc in z) (λ a. let z : ⊥ = cc in z) (λ a. let z : ⊥ = cc in z))
-request_refused f size len at n op takes P D F (Err E.NotFound) same empty only device wraps memory = absurd (not_ext only (λ a. let z : ⊥ = cc in z) (λ a. let z : ⊥ = cc in z) (λ a. let z : ⊥ = cc in z))
+request_refused f size len at n op takes P D F (Err E.Device) same empty only device wrapped wraps memory = device refl
+request_refused f size len at n op takes P D F (Err E.ReadOnly) same empty only device wrapped wraps memory = absurd (not_ext only (λ a. let z : ⊥ = cc in z) (λ a. let z : ⊥ = cc in z) (λ a. let z : ⊥ = cc in z))
+request_refused f size len at n op takes P D F (Err E.BeyondDisk) same empty only device wrapped wraps memory = absurd (not_ext only (λ a. let z : ⊥ = cc in z) (λ a. let z : ⊥ = cc in z) (λ a. let z : ⊥ = cc in z))
+request_refused f size len at n op takes P D F (Err E.RangeOverflow) same empty only device wrapped wraps memory = absurd (not_ext only (λ a. let z : ⊥ = cc in z) (λ a. let z : ⊥ = cc in z) (λ a. let z : ⊥ = cc in z))
+request_refused f size len at n op takes P D F (Err E.InvalidData) same empty only device wrapped wraps memory = absurd (not_ext only (λ a. let z : ⊥ = cc in z) (λ a. let z : ⊥ = cc in z) (λ a. let z : ⊥ = cc in z))
+request_refused f size len at n op takes P D F (Err E.Unsupported) same empty only device wrapped wraps memory = absurd (not_ext only (λ a. let z : ⊥ = cc in z) (λ a. let z : ⊥ = cc in z) (λ a. let z : ⊥ = cc in z))
+request_refused f size len at n op takes P D F (Err E.NoAccess) same empty only device wrapped wraps memory = absurd (not_ext only (λ a. let z : ⊥ = cc in z) (λ a. let z : ⊥ = cc in z) (λ a. let z : ⊥ = cc in z))
+request_refused f size len at n op takes P D F (Err E.ForeignMapping) same empty only device wrapped wraps memory = absurd (not_ext only (λ a. let z : ⊥ = cc in z) (λ a. let z : ⊥ = cc in z) (λ a. let z : ⊥ = cc in z))
+request_refused f size len at n op takes P D F (Err E.Denied) same empty only device wrapped wraps memory = absurd (not_ext only (λ a. let z : ⊥ = cc in z) (λ a. let z : ⊥ = cc in z) (λ a. let z : ⊥ = cc in z))
+request_refused f size len at n op takes P D F (Err E.NotFound) same empty only device wrapped wraps memory = absurd (not_ext only (λ a. let z : ⊥ = cc in z) (λ a. let z : ⊥ = cc in z) (λ a. let z : ⊥ = cc in z))
 
 -- a read at the storage
 pub read_refused : (f : Features) (size : ℕ) (bytes : List ℕ) (s f_at n : ℕ) (r : Result Unit Error)
@@ -132,14 +133,14 @@ pub read_refused : (f : Features) (size : ℕ) (bytes : List ℕ) (s f_at n : �
     → (IsErrOf r Error.WrapAround → Wraps f f_at n)
     → (IsErrOf r Error.Memory → IsAlignedRequest f f_at n → MayRunOut f.read_memory (length bytes) (f_at + n))
     → IfErr r (allowed record none {
-      cause = λ e. (e ≡ Error.WrapAround) × ((x : ℕ) → PlacesStandAt (raw_place size bytes) s f_at n x → raw_cause f size Read x n e);
+      cause = λ e. (e ≡ Error.WrapAround) × ((x : ℕ) → PlacesStandAt (raw_place size bytes) s f_at n x → raw_cause f size Read x n e) × Wraps f f_at n;
       device = f.is_reliable ≡ false;
       memory = (x : ℕ) → PlacesStandAt (raw_place size bytes) s f_at n x → (x + n ≤ size) × IsAlignedRequest f x n × (MayRunOut f.read_memory (length bytes) (x + n) → ⊥) → ⊥;
       foreign_mapping = ⊥;
     })
 read_refused f size bytes s at n r empty only device wraps memory =
     request_refused f size (length bytes) at n Read f.read_memory (λ x. PlacesStandAt (raw_place size bytes) s at n x) (f.is_reliable ≡ false) ⊥ r
-    (λ x h q. raw_at size bytes s at n x h q) empty only device (λ x h q e. (raw_within size bytes s at n x h q, wraps e)) memory
+    (λ x h q. raw_at size bytes s at n x h q) empty only device wraps (λ x h q w. (raw_within size bytes s at n x h q, w)) memory
 
 pub if_ok : {T E : Type 0} (r : Result T E) {P : Type 0} → ((x : T) → r ≡ Ok x → P) → OnOk r P
 if_ok (Ok x) h = h x refl

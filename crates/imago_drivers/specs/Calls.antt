@@ -2,11 +2,12 @@ use Rattle.std.specs.Prelude.{◌≡◌, ℕ, ◌≤◌, ◌&&◌, None, Result,
 use Rattle.imago_storage.specs.declared.error.Error.{Error}
 use Rattle.imago_storage.specs.Faults.{CountsFaults}
 use Rattle.imago_drivers.specs.declared.format.PreallocateMode.{PreallocateMode}
-use Rattle.imago_drivers.specs.Operation.{Operation, Grow, Shrink, Flush}
+use Rattle.imago_drivers.specs.declared.mapping.PreparedDataMapping.{PreparedDataMapping}
+use Rattle.imago_drivers.specs.Operation.{Operation, Write, Grow, Shrink, Flush}
 use Rattle.imago_drivers.specs.Place.{Value}
 use Rattle.imago_drivers.specs.Reasons.{allowed}
 use Rattle.imago_drivers.specs.LayerBelow.{LayerBelow}
-use Rattle.imago_drivers.specs.Causes.{IsSettled, AddsNone}
+use Rattle.imago_drivers.specs.Causes.{IsSettled, IsOnRange, AddsNone}
 use Rattle.imago_drivers.specs.View.{View}
 use Rattle.imago_drivers.specs.Changes.{Change, zeroes}
 use Rattle.imago_drivers.specs.Frame.{IsKind, IsFramed, IsUnchanged, ReachesNoMore}
@@ -34,6 +35,15 @@ pub record IsDiscard {St : Type 0} (how : (ℕ → Value) → ℕ → Change) (o
   pub framed : IsFramed old new
   pub faults : CountsFaults old.abilities.is_reliable old.fault_count new.fault_count result
   pub refusals : IfErr result (allowed (range_reasons old op o n))
+
+-- What is promised of the preparing of a mapping over that layer below, beside what the mapping is.
+pub record IsPreparation {St : Type 0} (below : LayerBelow) (o n : ℕ) (old new : View St) (result : Result (PreparedDataMapping St) Error) : Type 0 where
+  pub unchanged : IsUnchanged old new
+  pub refused : OnErr result (new.pending ≡ None)
+  pub causes : IfOk result (λ m. IsSettled IsOnRange old.limits.cause new.limits.cause old.limits.copies new.limits.copies o m.length)
+  pub lengths : GrowTo (old.limits.longest Write o n) old.stores new.stores
+  pub faults : CountsFaults (old.abilities.is_reliable && below.is_reliable) old.fault_count new.fault_count result
+  pub refusals : IfErr result (allowed (lending_reasons old below Write o n))
 
 -- Everything that is promised of a growth over that layer below.
 pub record IsGrowth {St : Type 0} (mode : PreallocateMode) (below : LayerBelow) (new_size : ℕ) (old new : View St) (result : Result Unit Error) : Type 0 where

@@ -1,5 +1,6 @@
 use Rattle.std.specs.Prelude.{◌≡◌, ℕ, ◌+◌, ◌≤◌, ◌⊎◌, max, false, IsTrue, Result, IfOk, OnErr}
 use Rattle.imago_storage.specs.declared.error.Error.{Error}
+use Rattle.imago_storage.specs.Padding.{Wraps}
 use Rattle.imago_drivers.specs.Operation.{Operation, Map, Read, Write}
 use Rattle.imago_drivers.specs.Place.{Value, values, PlacesStandAt, PlacesAreSpecialAt}
 use Rattle.imago_drivers.specs.Reasons.{Reasons, none}
@@ -40,11 +41,11 @@ driver_reasons v op o n = record (range_reasons v op o n) { beyond_disk = ⊥ }
 abbrev pub map_reasons : {St : Type 0} → View St → ℕ → ℕ → Reasons
 map_reasons v o n = record none { cause = v.limits.cause Map o (max n 1); device = v.abilities.is_reliable ≡ false }
 
--- Why a read of stored bytes may be refused: no stored place is, so it can only wrap around, and only as a read of any places
--- that stand there.
+-- Why a read of stored bytes may be refused: no stored place is, so the request at the storage wraps around, and that is a cause
+-- of a read of any places that stand there.
 abbrev pub stored_read_reasons : {St : Type 0} → View St → ℕ → ℕ → ℕ → Reasons
 stored_read_reasons v storage offset n = record none {
-  cause = λ e. (e ≡ Error.WrapAround) × ((o : ℕ) → PlacesStandAt v.place storage offset n o → v.limits.cause Read o n e);
+  cause = λ e. (e ≡ Error.WrapAround) × ((o : ℕ) → PlacesStandAt v.place storage offset n o → v.limits.cause Read o n e) × Wraps (v.stores.features storage) offset n;
   device = v.abilities.is_reliable ≡ false;
   memory = (o : ℕ) → PlacesStandAt v.place storage offset n o → v.limits.no_memory Read o n → ⊥;
 }
@@ -57,18 +58,19 @@ special_read_reasons v offset n = record none {
   memory = (o : ℕ) → PlacesAreSpecialAt v.place offset n o → v.limits.no_memory Read o n → ⊥;
 }
 
--- why a write of stored bytes may be refused: it can only wrap around, and only as a write of any places that stand there
+-- why a write of stored bytes may be refused: the request wraps around, and that is a cause of a write of any places there
 abbrev pub stored_write_reasons : {St : Type 0} → View St → ℕ → ℕ → ℕ → Reasons
 stored_write_reasons v storage offset n = record none {
-  cause = λ e. (e ≡ Error.WrapAround) × ((o : ℕ) → PlacesStandAt v.place storage offset n o → v.limits.cause Write o n e);
+  cause = λ e. (e ≡ Error.WrapAround) × ((o : ℕ) → PlacesStandAt v.place storage offset n o → v.limits.cause Write o n e) × Wraps (v.stores.features storage) offset n;
   device = Unit {0};
   memory = (o : ℕ) → PlacesStandAt v.place storage offset n o → v.limits.no_memory Write o n → ⊥;
 }
 
--- why a write into a prepared mapping may be refused: it can only wrap around, and only as a write of the places that it is for
+-- why a write into a prepared mapping may be refused: the request at its storage wraps around, and that is a cause of a write of
+-- the places that it is for
 abbrev pub mapping_write_reasons : {St : Type 0} → View St → PreparedDataMapping St → ℕ → ℕ → Reasons
 mapping_write_reasons v m at n = record none {
-  cause = λ e. (e ≡ Error.WrapAround) × ((o : ℕ) → IsFor v m at n o → v.limits.cause Write o n e);
+  cause = λ e. (e ≡ Error.WrapAround) × ((o : ℕ) → IsFor v m at n o → v.limits.cause Write o n e) × Wraps (v.stores.features m.storage) (m.offset + at) n;
   device = Unit {0};
   memory = (o : ℕ) → IsFor v m at n o → v.limits.no_memory Write o n → ⊥;
   foreign_mapping = Unit {0};

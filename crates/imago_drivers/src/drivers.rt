@@ -19,7 +19,7 @@ ghost use Rattle.imago_drivers.specs.Prepared.{IsPrepared, IsForeignWrite, IsFor
 ghost use Rattle.imago_drivers.specs.Commit.{IsCommit, IsCancel};
 ghost use Rattle.imago_drivers.specs.Lengths.{GrowTo, GrowAt};
 ghost use Rattle.imago_drivers.specs.Flushes.{Flushes};
-ghost use Rattle.imago_drivers.specs.Calls.{IsZeroCall, IsDiscard, IsGrowth, IsShrink, IsFlush};
+ghost use Rattle.imago_drivers.specs.Calls.{IsZeroCall, IsDiscard, IsPreparation, IsGrowth, IsShrink, IsFlush};
 ghost use Rattle.imago_drivers.specs.Laws.{IsLawful, AreCauses};
 
 pub use crate::format::{Format, PreallocateMode};
@@ -250,20 +250,7 @@ pub trait FormatDriverInstance: Display + Drop {
             (λ m. IsPrepared offset count overwrite
             (values (lent B.as_layer_below below.entry).at (view self.old).place)
             (view self.old) (view self.new) m) }
-        ensures unchanged { IsUnchanged (view self.old) (view self.new) }
-        ensures refused { OnErr result ((view self.new).pending ≡ None) }
-        ensures causes { IfOk result
-            (λ m. IsSettled IsOnRange (view self.old).limits.cause (view self.new).limits.cause
-            (view self.old).limits.copies (view self.new).limits.copies offset (length_of m)) }
-        ensures lengths { GrowTo ((view self.old).limits.longest Write offset count) (view self.old).stores (view self.new).stores }
-        ensures faults { CountsFaults
-            ((view self.old).abilities.is_reliable &&
-            (lent B.as_layer_below below.entry).is_reliable)
-            (view self.old).fault_count (view self.new).fault_count result }
-        ensures refusals { IfErr result
-            (allowed
-            (lending_reasons (view self.old) (lent B.as_layer_below below.entry) Write
-            offset count)) };
+        ensures call { IsPreparation (lent B.as_layer_below below.entry) offset count (view self.old) (view self.new) result };
 
     /// Writes data into a prepared mapping, from its `at`-th byte on: to the places that it stands for, or, with a
     /// state, to the bytes that wait for commit. Refused, each of these is old or new.

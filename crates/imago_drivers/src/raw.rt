@@ -12,9 +12,11 @@ ghost use Rattle.imago_drivers.specs.LayerBelow.{lent};
 ghost use Rattle.imago_drivers.specs.Changes.{zeroes, to_backing};
 ghost use Rattle.imago_drivers.specs.Lengths.{padded_to};
 ghost use Rattle.imago_drivers.specs.Done.{HasDone};
-ghost use Rattle.imago_drivers.specs.Calls.{IsDiscard, IsGrowth, IsShrink};
+ghost use Rattle.imago_drivers.specs.Calls.{IsDiscard, IsPreparation, IsGrowth, IsShrink};
 ghost use Rattle.imago_drivers.specs.Reasons.{none};
 ghost use Rattle.imago_drivers.specs.RawLaws.{raw_lawful, raw_causes};
+ghost use Rattle.imago_drivers.specs.Place.{values};
+ghost use Rattle.imago_drivers.specs.Prepared.{IsPrepared};
 ghost use Rattle.imago_drivers.specs.Commit.{IsCommit, IsCancel};
 
 use crate::drivers::{
@@ -264,7 +266,12 @@ impl<S: Storage> FormatDriverInstance for Raw<S> {
         offset: u64,
         count: u64,
         _overwrite: bool,
-    ) -> Result<PreparedDataMapping<()>, Error> {
+    ) -> Result<PreparedDataMapping<()>, Error>
+        requires inside { offset + count ≤ (⟦<Raw<S> as FormatDriverInstance>⟧.view self.old).size }
+        ensures prepared { IfOk result (λ m. IsPrepared offset count _overwrite (values (lent B.as_layer_below _below.entry).at (⟦<Raw<S> as FormatDriverInstance>⟧.view self.old).place) (⟦<Raw<S> as FormatDriverInstance>⟧.view self.old) (⟦<Raw<S> as FormatDriverInstance>⟧.view self.new) m) }
+        ensures call { IsPreparation (lent B.as_layer_below _below.entry) offset count (⟦<Raw<S> as FormatDriverInstance>⟧.view self.old) (⟦<Raw<S> as FormatDriverInstance>⟧.view self.new) result }
+        ensures untouched { self.new ≡ self.old }
+    {
         Ok(PreparedDataMapping::existing(0, offset, count))
     }
 

@@ -1,9 +1,9 @@
-use Rattle.std.proofs.Common.{◌≡◌, ℕ, ◌<◌, ◌≤◌, List, length, arith, inl, inr, refl, ◌∙◌, Bool, IsTrue, Result, Ok, Err, OnOk, OnErr}
+use Rattle.std.proofs.Common.{◌≡◌, ℕ, ◌<◌, ◌≤◌, ◌⊎◌, List, length, arith, inl, inr, refl, ◌∙◌, Bool, IsTrue, Result, Ok, Err, OnOk, OnErr}
 use Rattle.imago_storage.specs.Bytes.{OldOrNew, WriteOutcome}
 use Rattle.imago_storage.specs.Faults.{CountsFaults}
-use Rattle.imago_storage.specs.Features.{MemoryUse, Never, ForGrowth, Any, MayRunOut}
+use Rattle.imago_storage.specs.Features.{Features, MemoryUse, Never, ForGrowth, Any, MayRunOut, RequestMayRunOut, ZeroesMayRunOut}
 use Rattle.imago_storage.specs.declared.error.Error.{Error}
-use Rattle.imago_storage.specs.declared.error.Error.TheVariants.{WrapAround}
+use Rattle.imago_storage.specs.declared.error.Error.TheVariants.{WrapAround, Unsupported, Memory}
 use Rattle.imago_storage.proofs.Splices.{OldOrNew_more}
 
 pub OnErr_map : {T P Q : Type 0} (r : Result T Error) → (P → Q) → OnErr r P → OnErr r Q
@@ -108,3 +108,19 @@ pub MayRunOut_more : (m : MemoryUse) (len more end whole : ℕ) → len ≤ more
 MayRunOut_more Never len more end whole longer nearer may = may
 MayRunOut_more ForGrowth len more end whole longer nearer may = (let less : more < end = may in omega (arith, longer, nearer, less))
 MayRunOut_more Any len more end whole longer nearer may = tt
+
+pub RequestMayRunOut_more : (f g : Features) (len more end whole : ℕ) → g ≡ f → len ≤ more → end ≤ whole → RequestMayRunOut g more end → RequestMayRunOut f len whole
+RequestMayRunOut_more f g len more end whole same longer nearer may =
+    let here : RequestMayRunOut f more end = rw same at may in
+    elim here [ inl r ↦ inl (MayRunOut_more f.read_memory len more end whole longer nearer r) | inr w ↦ inr (MayRunOut_more f.write_memory len more end whole longer nearer w) ]
+
+pub ZeroesMayRunOut_more : (f : Features) (len more end whole : ℕ) → len ≤ more → end ≤ whole → ZeroesMayRunOut f more end → ZeroesMayRunOut f len whole
+ZeroesMayRunOut_more f len more end whole longer nearer may =
+    elim may [ inl r ↦ inl (RequestMayRunOut_more f f len more end whole refl longer nearer r) | inr z ↦ inr (MayRunOut_more f.zero_memory len more end whole longer nearer z) ]
+
+-- what is refused as unsupported or for memory is refused for nothing else, and is no success
+pub not_wrapped : {T : Type 0} (r : Result T Error) → (r ≡ Err Unsupported) ⊎ (r ≡ Err Memory) → r ≡ Err WrapAround → ⊥
+not_wrapped r which wraps = elim which [ inl u ↦ (let z : ⊥ = cc in z) | inr m ↦ (let z : ⊥ = cc in z) ]
+
+pub not_done : {T : Type 0} (r : Result T Error) (x : T) → r ≡ Ok x → (r ≡ Err Unsupported) ⊎ (r ≡ Err Memory) → ⊥
+not_done r x was which = elim which [ inl u ↦ not_refused r x Unsupported was u | inr m ↦ not_refused r x Memory was m ]

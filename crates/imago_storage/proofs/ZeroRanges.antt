@@ -1,4 +1,4 @@
-use Rattle.std.proofs.Common.{◌≡◌, ℕ, ◌+◌, ◌-◌, ◌<◌, ◌≤◌, ◌⊎◌, List, length, replicate, get_or, max, arith, inl, inr, refl, sym, ap, ◌∙◌, Result, Ok, Err, IsOk}
+use Rattle.std.proofs.Common.{◌≡◌, ℕ, ◌+◌, ◌-◌, ◌<◌, ◌≤◌, ◌⊎◌, List, length, replicate, get_or, max, arith, inl, inr, ⊎_elim, refl, sym, ap, ◌∙◌, Result, Ok, Err, IsOk}
 use Rattle.std.proofs.lemmas.List.{length-append, length-replicate, get_or-replicate, append-nil}
 use Rattle.std.proofs.lemmas.Grind.{same_number_lists}
 use Rattle.std.proofs.lemmas.Bool.{cases_lt}
@@ -295,3 +295,8 @@ HasZeroed_again f old mid now at n r e q w was v =
       | inl grew ↦ again_with f old mid now at n (max (length mid) v.end) r e q w was v (omega (arith, v.covers)) (omega (arith, v.near, w.near, long)) (omega arith)
       | inr same ↦ again_with f old mid now at n v.end r e q w was v v.covers v.near (omega (arith, w.written.no_shorter))
     ]
+
+-- a range that was zeroed, or wasn't, leaves the list no shorter
+pub ZeroedPart_longer : {T : Type 0} (f : Features) (old : List ℕ) (at n : ℕ) (now : List ℕ) (r : Result T Error) → ZeroedPart f old at n now r → length old ≤ length now
+ZeroedPart_longer f old at n now r z =
+    ⊎_elim (λ (some : 0 < n). (z.some some).written.no_shorter) (λ (none : n ≤ 0). let e = z.none (omega arith) in omega (arith, ap length e.1)) (cases_lt 0 n)

@@ -48,6 +48,10 @@ pub record SameOutside (at n : ℕ) (old now : List ℕ) : Type 0 where
   pub behind : (p : ℕ) → at + n ≤ p → slice_index now p ≡ slice_index old p
   pub same_length : length now ≡ length old
 
+-- every byte from the offset on is 0
+abbrev pub IsZeroFrom : ℕ → List ℕ → Type 0
+IsZeroFrom at bytes = (p : ℕ) → at ≤ p → slice_index bytes p ≡ 0
+
 -- The length is the new size, bytes that stay are kept, and new bytes are 0 unless the mode leaves them unspecified.
 pub record IsResized (old : List ℕ) (new_size : ℕ) (mode : PreallocateMode) (now : List ℕ) : Type 0 where
   pub size : length now ≡ new_size

@@ -1,4 +1,4 @@
-use Rattle.std.specs.Prelude.{◌≡◌, ◌≢◌, ℕ, ◌+◌, ◌%◌, ◌^◌, ◌<◌, Bool, List, Option, max}
+use Rattle.std.specs.Prelude.{◌≡◌, ◌≢◌, ℕ, ◌+◌, ◌%◌, ◌^◌, ◌<◌, ◌⊎◌, Bool, List, Option, max}
 use Rattle.std.specs.Int.{IsPowerOfTwo}
 use Rattle.imago_storage.specs.declared.options.ZeroKind.{ZeroKind}
 use Rattle.imago_storage.specs.declared.options.ZeroKind.TheVariants as Kind
@@ -42,6 +42,8 @@ pub record Features : Type 0 where
   pub allocated_zeroes : ZeroSupport
   pub offers_discard : Bool
   pub offers_resize : Bool
+  -- a resize adds zeroes in every mode
+  pub grows_by_zeroes : Bool
   -- it tells what a relative name stands for
   pub resolves_paths : Bool
   pub read_memory : MemoryUse
@@ -84,3 +86,11 @@ zero_support f Kind.Allocated = f.allocated_zeroes
 pub record MayBeUnsupported (z : ZeroSupport) (mem_align n : ℕ) : Type 0 where
   pub not_in_place : z ≢ InPlace
   pub as_data : z ≡ AsData → n % mem_align ≢ 0
+
+-- a read or write up to that end may run out of memory of the storage's own
+abbrev pub RequestMayRunOut : Features → ℕ → ℕ → Type 0
+RequestMayRunOut f len end = MayRunOut f.read_memory len end ⊎ MayRunOut f.write_memory len end
+
+-- a zero write up to that end may do so, with its reads and writes
+abbrev pub ZeroesMayRunOut : Features → ℕ → ℕ → Type 0
+ZeroesMayRunOut f len end = RequestMayRunOut f len end ⊎ MayRunOut f.zero_memory len end

@@ -3,8 +3,8 @@ ghost use Rattle.std.specs.Prelude.{◌≡◌, ◌+◌, ◌-◌, ◌<◌, ◌≤
 ghost use Rattle.imago_storage.specs.Bytes.{splice, zero_extended, WriteOutcome, IsReadAt, SameOutside};
 ghost use Rattle.imago_storage.specs.Error.{IsExtRefusal};
 ghost use Rattle.imago_storage.specs.Faults.{CountsFaults};
-ghost use Rattle.imago_storage.specs.Features.{IsAlignedRequest, IsAlignedTo, InPlace, MayRunOut, len_align};
-ghost use Rattle.imago_storage.specs.IoCount.{IsWriteWork};
+ghost use Rattle.imago_storage.specs.Features.{IsAlignedRequest, IsAlignedTo, InPlace, MayRunOut, RequestMayRunOut, ZeroesMayRunOut, len_align};
+ghost use Rattle.imago_storage.specs.IoCount.{IsWriteWork, AddsAtMost};
 ghost use Rattle.imago_storage.specs.Zeroes.{HasZeroed, MayWrap, FitsZeroes};
 ghost use Rattle.imago_storage.specs.Maintenance.{IsDiscarded};
 ghost use Rattle.imago_storage.specs.Padding.{padded_end, Wraps, aligned_start, aligned_end, RangeWraps};
@@ -70,6 +70,12 @@ pub trait StorageExt: Storage {
         ensures features { Self.features self.new ≡ Self.features self.old }
         ensures work { IsWriteWork (len_align (Self.features self.old)) (length source.now) (Self.work self.old)
             (Self.work self.new) }
+        ensures direct { IsAlignedRequest (Self.features self.old) offset (length source.now)
+            → AddsAtMost 0 0 1 (length source.now) (Self.work self.old) (Self.work self.new) }
+        ensures early { IsErrOf result Error.Memory
+            → (¬ RequestMayRunOut (Self.features self.old) (length (Self.bytes self.old))
+            (padded_end (Self.features self.old) offset (length source.now)))
+            → self.new ≡ self.old }
         ensures only { IfErr result IsExtRefusal }
         ensures cause { CountsFaults (Self.features self.old).is_reliable (Self.fault_count self.old)
             (Self.fault_count self.new) result }
@@ -93,6 +99,12 @@ pub trait StorageExt: Storage {
         ensures features { Self.features self.new ≡ Self.features self.old }
         ensures work { IsWriteWork (len_align (Self.features self.old)) (length source.now) (Self.work self.old)
             (Self.work self.new) }
+        ensures direct { IsAlignedRequest (Self.features self.old) offset (length source.now)
+            → AddsAtMost 0 0 1 (length source.now) (Self.work self.old) (Self.work self.new) }
+        ensures early { IsErrOf result Error.Memory
+            → (¬ RequestMayRunOut (Self.features self.old) (length (Self.bytes self.old))
+            (padded_end (Self.features self.old) offset (length source.now)))
+            → self.new ≡ self.old }
         ensures only { IfErr result IsExtRefusal }
         ensures cause { CountsFaults (Self.features self.old).is_reliable (Self.fault_count self.old)
             (Self.fault_count self.new) result }
@@ -130,7 +142,11 @@ pub trait StorageExt: Storage {
             → IsAlignedTo (Self.features self.old).zero_align offset count
             → (Self.features self.old).zeroes ≡ InPlace
             → MayRunOut (Self.features self.old).zero_memory (length (Self.bytes self.old))
-            (offset + count) };
+            (offset + count) }
+        ensures early { IsErrOf result Error.Memory
+            → (¬ ZeroesMayRunOut (Self.features self.old) (length (Self.bytes self.old))
+            (offset + count + (len_align (Self.features self.old) - 1)))
+            → self.new ≡ self.old };
 
     /// Zeroes a range and allocates it, as [`write_zeroes`](Self::write_zeroes) does otherwise.
     fn write_allocated_zeroes(
@@ -161,7 +177,11 @@ pub trait StorageExt: Storage {
             → IsAlignedTo (Self.features self.old).zero_align offset count
             → (Self.features self.old).allocated_zeroes ≡ InPlace
             → MayRunOut (Self.features self.old).zero_memory (length (Self.bytes self.old))
-            (offset + count) };
+            (offset + count) }
+        ensures early { IsErrOf result Error.Memory
+            → (¬ ZeroesMayRunOut (Self.features self.old) (length (Self.bytes self.old))
+            (offset + count + (len_align (Self.features self.old) - 1)))
+            → self.new ≡ self.old };
 
     /// Says that a range is no longer needed. The part of it that is aligned to the discard alignment is unspecified
     /// afterwards, also where the call is refused; all other bytes, and the length, stay. A storage that offers no

@@ -11,7 +11,9 @@ ghost use Rattle.imago_storage.specs.Mem.{mem_features, mem_lawful};
 
 use crate::bytes::overwrite;
 use crate::error::Error;
-use crate::storage::{PreallocateMode, Storage, ZeroKind};
+use crate::storage::{
+    PreallocateMode, Storage, StorageCreateOptions, StorageOpenOptions, ZeroKind,
+};
 use std::alloc::Global;
 use std::fmt;
 
@@ -221,6 +223,20 @@ impl Storage for MemStorage {
     ghost maintenance = { no_maintenance };
 
     ghost lawful = { λ s. mem_lawful (option_map string_bytes s.name) s.mem_align s.req_align s.zero_align s.mem_power s.req_power s.zero_power s.zero_whole };
+
+    fn open(opts: StorageOpenOptions) -> Result<Self, Error>
+        ensures { IsErrOf result Error.Unsupported }
+    {
+        let _ = opts;
+        Err(Error::Unsupported)
+    }
+
+    fn create_open(opts: StorageCreateOptions) -> Result<Self, Error>
+        ensures { IsErrOf result Error.Unsupported }
+    {
+        let _ = opts;
+        Err(Error::Unsupported)
+    }
 
     fn mem_align(&self) -> usize {
         self.mem_align

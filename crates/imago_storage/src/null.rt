@@ -1,11 +1,13 @@
 //! A storage of zeroes.
-ghost use Rattle.std.specs.Prelude.{◌≡◌, ℕ, Bool, true, false, replicate, length};
+ghost use Rattle.std.specs.Prelude.{◌≡◌, ℕ, Bool, true, false, replicate, length, IsErrOf};
 ghost use Rattle.imago_storage.specs.Mem.{null_features, null_lawful};
 ghost use Rattle.imago_storage.specs.IoCount.{no_work};
 ghost use Rattle.imago_storage.specs.Maintenance.{no_maintenance};
 
 use crate::error::Error;
-use crate::storage::{PreallocateMode, Storage, ZeroKind};
+use crate::storage::{
+    PreallocateMode, Storage, StorageCreateOptions, StorageOpenOptions, ZeroKind,
+};
 use std::alloc::Global;
 use std::fmt;
 
@@ -45,6 +47,20 @@ impl Storage for Null {
     ghost maintenance = { no_maintenance };
 
     ghost lawful = { λ _. null_lawful };
+
+    fn open(opts: StorageOpenOptions) -> Result<Self, Error>
+        ensures { IsErrOf result Error.Unsupported }
+    {
+        let _ = opts;
+        Err(Error::Unsupported)
+    }
+
+    fn create_open(opts: StorageCreateOptions) -> Result<Self, Error>
+        ensures { IsErrOf result Error.Unsupported }
+    {
+        let _ = opts;
+        Err(Error::Unsupported)
+    }
 
     fn mem_align(&self) -> usize {
         1

@@ -5,7 +5,7 @@ ghost use Rattle.imago_storage.specs.Blocks.{IsInParts, IsInBlocks};
 ghost use Rattle.imago_storage.specs.Bytes.{splice, zero_extended, WriteOutcome, IsReadAt, SameOutside};
 ghost use Rattle.imago_storage.specs.Error.{IsDeviceOrMemory, IsExtRefusal};
 ghost use Rattle.imago_storage.specs.Faults.{CountsFaults};
-ghost use Rattle.imago_storage.specs.Features.{IsAlignedRequest, MayRunOut, len_align};
+ghost use Rattle.imago_storage.specs.Features.{IsAlignedRequest, MayRunOut, RequestMayRunOut, len_align};
 ghost use Rattle.imago_storage.specs.IoCount.{AddsAtMost, IsWriteWork};
 ghost use Rattle.imago_storage.specs.Maintenance.{IsDiscarded};
 ghost use Rattle.imago_storage.specs.Padding.{padded_end, Wraps, aligned_start, aligned_end, RangeWraps};
@@ -70,6 +70,12 @@ pub(crate) fn write_any<S: Storage>(
     ensures features { S.features storage.new ≡ S.features storage.old }
     ensures work { IsWriteWork (len_align (S.features storage.old)) (length source.now) (S.work storage.old)
         (S.work storage.new) }
+    ensures direct { IsAlignedRequest (S.features storage.old) offset (length source.now)
+        → AddsAtMost 0 0 1 (length source.now) (S.work storage.old) (S.work storage.new) }
+    ensures early { IsErrOf result Error.Memory
+        → (¬ RequestMayRunOut (S.features storage.old) (length (S.bytes storage.old))
+        (padded_end (S.features storage.old) offset (length source.now)))
+        → storage.new ≡ storage.old }
     ensures only { IfErr result IsExtRefusal }
     ensures cause { CountsFaults (S.features storage.old).is_reliable (S.fault_count storage.old)
         (S.fault_count storage.new) result }
@@ -92,6 +98,43 @@ pub(crate) fn write_any<S: Storage>(
     write_parts(storage, &mut block, source, offset, start, len)
 }
 
+/// Writes a range as [`write_any`] does, with a block that is there already.
+pub(crate) fn write_by<S: Storage>(
+    storage: &mut S,
+    block: &mut [u8],
+    source: &[u8],
+    offset: u64,
+) -> Result<(), Error>
+    requires { length block.old ≡ len_align (S.features storage.old) }
+    ensures empty { length source.now ≡ 0 → IsOk result × (storage.new ≡ storage.old) }
+    ensures written { 0 < length source.now
+        → WriteOutcome (S.features storage.old).keeps_data (S.bytes storage.old)
+        (splice
+        (zero_extended (S.bytes storage.old)
+        (padded_end (S.features storage.old) offset (length source.now)))
+        offset source.now)
+        (S.bytes storage.new) result }
+    ensures wraps { IsErrOf result Error.WrapAround ↔ Wraps (S.features storage.old) offset (length source.now) }
+    ensures features { S.features storage.new ≡ S.features storage.old }
+    ensures only { IfErr result IsExtRefusal }
+    ensures cause { CountsFaults (S.features storage.old).is_reliable (S.fault_count storage.old)
+        (S.fault_count storage.new) result }
+    ensures memory { IsErrOf result Error.Memory
+        → RequestMayRunOut (S.features storage.old) (length (S.bytes storage.old))
+        (padded_end (S.features storage.old) offset (length source.now)) }
+{
+    if source.is_empty() {
+        return Ok(());
+    }
+    let Some((start, len)) = padded_request(&*storage, offset, source.len() as u64) else {
+        return Err(Error::WrapAround);
+    };
+    if start == offset && len == source.len() as u64 {
+        return storage.pure_writev(source, offset);
+    }
+    write_parts(storage, block, source, offset, start, len)
+}
+
 /// Writes a request that isn't aligned: a first block of which it leaves a part, and then from a block's start on.
 fn write_parts<S: Storage>(
     storage: &mut S,
@@ -107,6 +150,8 @@ fn write_parts<S: Storage>(
         (S.bytes storage.new) result }
     ensures features { S.features storage.new ≡ S.features storage.old }
     ensures work { AddsAtMost 2 (2 * length block.old) 3 len (S.work storage.old) (S.work storage.new) }
+    ensures memory { IsErrOf result Error.Memory
+        → RequestMayRunOut (S.features storage.old) (length (S.bytes storage.old)) (start + len) }
     ensures only { IfErr result IsDeviceOrMemory }
     ensures cause { CountsFaults (S.features storage.old).is_reliable (S.fault_count storage.old)
         (S.fault_count storage.new) result }
@@ -141,6 +186,9 @@ fn write_blocks<S: Storage>(
     ensures features { S.features storage.new ≡ S.features storage.old }
     ensures work { AddsAtMost 1 (length block.old) 2 (next_multiple_of (length source.now) (length block.old))
         (S.work storage.old) (S.work storage.new) }
+    ensures memory { IsErrOf result Error.Memory
+        → RequestMayRunOut (S.features storage.old) (length (S.bytes storage.old))
+        (start + next_multiple_of (length source.now) (length block.old)) }
     ensures only { IfErr result IsDeviceOrMemory }
     ensures cause { CountsFaults (S.features storage.old).is_reliable (S.fault_count storage.old)
         (S.fault_count storage.new) result }
@@ -172,6 +220,9 @@ fn update_block<S: Storage>(
         (S.bytes storage.new) result }
     ensures features { S.features storage.new ≡ S.features storage.old }
     ensures work { AddsAtMost 1 (length block.old) 1 (length block.old) (S.work storage.old) (S.work storage.new) }
+    ensures memory { IsErrOf result Error.Memory
+        → RequestMayRunOut (S.features storage.old) (length (S.bytes storage.old))
+        (start + length block.old) }
     ensures only { IfErr result IsDeviceOrMemory }
     ensures cause { CountsFaults (S.features storage.old).is_reliable (S.fault_count storage.old)
         (S.fault_count storage.new) result }

@@ -1,7 +1,7 @@
 //! The interface of a storage: aligned calls on a list of bytes.
 ghost use Rattle.std.specs.Prelude.{◌≡◌, ◌≢◌, ℕ, ◌+◌, ◌%◌, ◌↔◌, List, length, replicate, max, true, false, IsTrue, OnOk, OnErr, IfOk, IfErr, IsErrOf};
 ghost use Rattle.std.specs.Option.{option_copied};
-ghost use Rattle.imago_storage.specs.Bytes.{splice, OldOrNew, WriteOutcome, IsReadAt, SameOutside, IsResized};
+ghost use Rattle.imago_storage.specs.Bytes.{splice, OldOrNew, WriteOutcome, IsReadAt, SameOutside, IsResized, IsZeroFrom};
 ghost use Rattle.imago_storage.specs.Error.{IsDeviceOrMemory, IsPureRefusal};
 ghost use Rattle.imago_storage.specs.Faults.{CountsFaults};
 ghost use Rattle.imago_storage.specs.Features.{Features, InPlace, AsData, MayRunOut, MayBeUnsupported, zero_support, AreAlignments, IsAlignedRequest, IsAlignedTo};
@@ -213,6 +213,10 @@ pub trait Storage: Display + Drop + Sized {
 
     /// Zeroes a range: in place, or else as data. Refused, each byte of the range is old or zero, all others are
     /// old, and the length is between.
+    ///
+    /// [`Error::Unsupported`] changes nothing. A storage that zeroes in place never answers it; one that writes zeroes
+    /// as data answers it exactly where the count is no multiple of `mem_align`; any other may answer it for any range.
+    /// The buffer of zeroes is asked for before anything is written.
     fn pure_write_zeroes(&mut self, alloc: Global, offset: u64, count: u64) -> Result<(), Error>
         requires { IsAlignedTo (features self.old).zero_align offset count }
         ensures written { WriteOutcome (features self.old).keeps_data (bytes self.old)
@@ -248,8 +252,9 @@ pub trait Storage: Display + Drop + Sized {
         }
     }
 
-    /// Zeroes a range and allocates it: in place, or else as data. Refused, it leaves what
-    /// [`pure_write_zeroes`](Self::pure_write_zeroes) leaves.
+    /// Zeroes a range and allocates it: in place, or else as data. It is refused for what
+    /// [`pure_write_zeroes`](Self::pure_write_zeroes) is refused for, [`Error::Unsupported`] by how the storage does
+    /// these, and leaves the same.
     fn pure_write_allocated_zeroes(
         &mut self,
         alloc: Global,
@@ -292,7 +297,8 @@ pub trait Storage: Display + Drop + Sized {
     }
 
     /// Says that a range is no longer needed. Its bytes are unspecified afterwards, also where it is refused; all
-    /// others, and the length, stay. A storage that offers no discards may answer [`Error::Unsupported`].
+    /// others, and the length, stay. [`Error::Unsupported`] is answered only by a storage that offers no discards; it
+    /// may as well answer `Ok` and do nothing.
     fn pure_discard(&mut self, offset: u64, count: u64) -> Result<(), Error>
         requires { IsAlignedTo (features self.old).discard_align offset count }
         ensures bytes { SameOutside offset count (bytes self.old) (bytes self.new) }
@@ -345,11 +351,13 @@ pub trait Storage: Display + Drop + Sized {
         ensures memory { IsErrOf result Error.Memory → MayRunOut (features self.old).other_memory 0 0 }
         ensures performed { maintenance.invalidated self.old self.new result };
 
-    /// Sets the length in bytes. Bytes that stay are kept; new ones are zero, or unspecified for
-    /// [`PreallocateMode::None`]. A smaller size ignores the mode. Refused, nothing changed; a storage that can't be
+    /// Sets the length in bytes. Bytes that stay are kept; new ones are zero, or for [`PreallocateMode::None`]
+    /// unspecified, unless the storage adds zeroes in every mode. A smaller size ignores the mode. Refused, nothing changed; a storage that can't be
     /// resized answers [`Error::Unsupported`].
     fn resize(&mut self, new_size: u64, mode: PreallocateMode) -> Result<(), Error>
         ensures resized { OnOk result (IsResized (bytes self.old) new_size mode (bytes self.new)) }
+        ensures filled { IsTrue (features self.old).grows_by_zeroes
+            → OnOk result (IsZeroFrom (length (bytes self.old)) (bytes self.new)) }
         ensures unchanged { OnErr result (bytes self.new ≡ bytes self.old) }
         ensures features { features self.new ≡ features self.old }
         ensures only { IfErr result IsPureRefusal }

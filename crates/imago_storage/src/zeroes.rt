@@ -1,14 +1,14 @@
 //! Zero writes of any range.
-ghost use Rattle.std.specs.Prelude.{◌≡◌, ◌≢◌, ℕ, ◌+◌, ◌-◌, ◌%◌, ◌<◌, ◌≤◌, ◌^◌, length, min, replicate, OnOk, OnErr, IfErr, IsErrOf, IsOk, Ok, List, ◌↔◌};
+ghost use Rattle.std.specs.Prelude.{◌≡◌, ◌≢◌, ℕ, ◌+◌, ◌-◌, ◌%◌, ◌<◌, ◌≤◌, ◌⊎◌, ◌^◌, length, max, min, replicate, OnOk, OnErr, IfErr, IsErrOf, IsOk, Ok, List, ◌↔◌};
 ghost use Rattle.imago_storage.specs.Error.{IsExtRefusal, IsPureRefusal, IsZeroRefusal};
 ghost use Rattle.imago_storage.specs.Faults.{CountsFaults};
-ghost use Rattle.imago_storage.specs.Features.{Features, InPlace, AsData, MayRunOut, MayBeUnsupported, IsAlignedTo, len_align, zero_support};
+ghost use Rattle.imago_storage.specs.Features.{Features, InPlace, AsData, MayRunOut, MayBeUnsupported, IsAlignedTo, RequestMayRunOut, ZeroesMayRunOut, len_align, zero_support};
 ghost use Rattle.imago_storage.specs.Padding.{Wraps, RangeWraps, IsAlignedPart};
 ghost use Rattle.imago_storage.specs.Zeroes.{HasZeroed, ZeroedPart, EdgeWraps, DataWraps, MayWrap, FitsZeroes};
 
 use crate::align::{aligned_part, head_length, length_align, zero_align};
 use crate::error::Error;
-use crate::request::write_any;
+use crate::request::write_by;
 use crate::storage::{Storage, ZERO_PIECE, ZeroKind, zero_buffer};
 use std::alloc::Global;
 
@@ -45,6 +45,10 @@ pub(crate) fn zero_any<S: Storage>(
         → zero_support (S.features storage.old) kind ≡ InPlace
         → MayRunOut (S.features storage.old).zero_memory (length (S.bytes storage.old))
         (offset + count) }
+    ensures early { IsErrOf result Error.Memory
+        → (¬ ZeroesMayRunOut (S.features storage.old) (length (S.bytes storage.old))
+        (offset + count + (len_align (S.features storage.old) - 1)))
+        → storage.new ≡ storage.old }
 {
     if count == 0 {
         return Ok(());
@@ -85,6 +89,10 @@ fn zero_range<S: Storage>(
         → zero_support (S.features storage.old) kind ≡ InPlace
         → MayRunOut (S.features storage.old).zero_memory (length (S.bytes storage.old))
         (offset + count) }
+    ensures early { IsErrOf result Error.Memory
+        → (¬ ZeroesMayRunOut (S.features storage.old) (length (S.bytes storage.old))
+        (offset + count + (len_align (S.features storage.old) - 1)))
+        → storage.new ≡ storage.old }
 {
     if end <= start {
         return zero_as_data(storage, alloc, offset, count);
@@ -97,7 +105,7 @@ fn zero_range<S: Storage>(
 }
 
 /// Zeroes the aligned part of a range by a zero write of the storage, and then its edges as data. Where that zero
-/// write is refused as unsupported, so is this, and each byte of the range is old or zero.
+/// write is refused as unsupported, so is this, and nothing changed.
 fn zero_part_and_edges<S: Storage>(
     storage: &mut S,
     alloc: Global,
@@ -118,7 +126,7 @@ fn zero_part_and_edges<S: Storage>(
         (S.features storage.old).mem_align (end - start) }
     ensures refused { zero_support (S.features storage.old) kind ≡ AsData
         → (end - start) % (S.features storage.old).mem_align ≢ 0
-        → IsErrOf result Error.Unsupported }
+        → IsErrOf result Error.Unsupported ⊎ IsErrOf result Error.Memory }
     ensures features { S.features storage.new ≡ S.features storage.old }
     ensures only { IfErr result IsZeroRefusal }
     ensures cause { CountsFaults (S.features storage.old).is_reliable (S.fault_count storage.old)
@@ -129,18 +137,28 @@ fn zero_part_and_edges<S: Storage>(
         → zero_support (S.features storage.old) kind ≡ InPlace
         → MayRunOut (S.features storage.old).zero_memory (length (S.bytes storage.old))
         (offset + count) }
+    ensures early { IsErrOf result Error.Memory
+        → (¬ ZeroesMayRunOut (S.features storage.old) (length (S.bytes storage.old))
+        (offset + count + (len_align (S.features storage.old) - 1)))
+        → storage.new ≡ storage.old }
+    ensures unchanged { IsErrOf result Error.Unsupported → storage.new ≡ storage.old }
 {
-    zero_part(storage, alloc, start, end - start, kind)?;
     if start == offset && end == offset + count {
-        return Ok(());
+        return zero_part(storage, alloc, offset, count, kind);
     }
-    zero_edges(storage, alloc, offset, count, start, end)
+    // all memory is asked for before anything is written
+    let edge = (start - offset).max(offset + count - end);
+    let zeroes = zero_buffer(alloc, edge as usize)?;
+    let mut block = zero_buffer(alloc, length_align(&*storage) as usize)?;
+    zero_part(storage, alloc, start, end - start, kind)?;
+    zero_edges(storage, &zeroes, &mut block, offset, count, start, end)
 }
 
 /// Zeroes as data what stands before and behind the aligned part of a range, which is zeroed already.
 fn zero_edges<S: Storage>(
     storage: &mut S,
-    alloc: Global,
+    zeroes: &[u8],
+    block: &mut [u8],
     offset: u64,
     count: u64,
     start: u64,
@@ -148,6 +166,9 @@ fn zero_edges<S: Storage>(
 ) -> Result<(), Error>
     requires part { IsAlignedPart (S.features storage.old).zero_align offset count start end }
     requires some { start < end }
+    requires zeroes { zeroes.now ≡ replicate (length zeroes.now) 0 }
+    requires enough { max (start - offset) (offset + count - end) ≤ length zeroes.now }
+    requires block { length block.old ≡ len_align (S.features storage.old) }
     ensures written { (old : List ℕ)
         → HasZeroed {T = Unit {0}} (S.features storage.old) old start (end - start)
         (S.bytes storage.old) (Ok tt)
@@ -158,12 +179,12 @@ fn zero_edges<S: Storage>(
     ensures only { IfErr result IsExtRefusal }
     ensures cause { CountsFaults (S.features storage.old).is_reliable (S.fault_count storage.old)
         (S.fault_count storage.new) result }
+    ensures memory { IsErrOf result Error.Memory
+        → RequestMayRunOut (S.features storage.old) (length (S.bytes storage.old))
+        (offset + count + (len_align (S.features storage.old) - 1)) }
 {
-    let head = start - offset;
-    let tail = offset + count - end;
-    let zeroes = zero_buffer(alloc, head.max(tail) as usize)?;
-    zero_from(storage, alloc, &zeroes, offset, head)?;
-    zero_from(storage, alloc, &zeroes, end, tail)
+    zero_from(storage, zeroes, block, offset, start - offset)?;
+    zero_from(storage, zeroes, block, end, offset + count - end)
 }
 
 /// Zeroes an aligned range by the storage's zero write of that kind.
@@ -191,6 +212,10 @@ fn zero_part<S: Storage>(
         → zero_support (S.features storage.old) kind ≡ InPlace
         → MayRunOut (S.features storage.old).zero_memory (length (S.bytes storage.old))
         (offset + count) }
+    ensures early { IsErrOf result Error.Memory
+        → (¬ ZeroesMayRunOut (S.features storage.old) (length (S.bytes storage.old)) (offset + count))
+        → storage.new ≡ storage.old }
+    ensures unchanged { IsErrOf result Error.Unsupported → storage.new ≡ storage.old }
 {
     match kind {
         ZeroKind::Any => storage.pure_write_zeroes(alloc, offset, count),
@@ -198,16 +223,17 @@ fn zero_part<S: Storage>(
     }
 }
 
-/// Writes that many zeroes out of a buffer of zeroes.
+/// Writes that many zeroes out of a buffer of zeroes, with a block for what isn't aligned.
 fn zero_from<S: Storage>(
     storage: &mut S,
-    alloc: Global,
     zeroes: &[u8],
+    block: &mut [u8],
     offset: u64,
     count: u64,
 ) -> Result<(), Error>
     requires zeroes { zeroes.now ≡ replicate (length zeroes.now) 0 }
     requires enough { count ≤ length zeroes.now }
+    requires block { length block.old ≡ len_align (S.features storage.old) }
     ensures written { ZeroedPart (S.features storage.old) (S.bytes storage.old) offset count (S.bytes storage.new)
         result }
     ensures wraps { IsErrOf result Error.WrapAround ↔ Wraps (S.features storage.old) offset count }
@@ -215,12 +241,15 @@ fn zero_from<S: Storage>(
     ensures only { IfErr result IsExtRefusal }
     ensures cause { CountsFaults (S.features storage.old).is_reliable (S.fault_count storage.old)
         (S.fault_count storage.new) result }
+    ensures memory { IsErrOf result Error.Memory
+        → RequestMayRunOut (S.features storage.old) (length (S.bytes storage.old))
+        (offset + count + (len_align (S.features storage.old) - 1)) }
 {
-    write_any(storage, alloc, &zeroes[..count as usize], offset)
+    write_by(storage, block, &zeroes[..count as usize], offset)
 }
 
 /// Writes zeroes as data: up to the first multiple of the request alignment, where the range doesn't start at one,
-/// and then in whole pieces, all from one buffer.
+/// and then in whole pieces, all from one buffer. All memory is asked for before the first write.
 fn zero_as_data<S: Storage>(
     storage: &mut S,
     alloc: Global,
@@ -237,21 +266,26 @@ fn zero_as_data<S: Storage>(
     ensures only { IfErr result IsExtRefusal }
     ensures cause { CountsFaults (S.features storage.old).is_reliable (S.fault_count storage.old)
         (S.fault_count storage.new) result }
+    ensures early { IsErrOf result Error.Memory
+        → (¬ RequestMayRunOut (S.features storage.old) (length (S.bytes storage.old))
+        (offset + count + (len_align (S.features storage.old) - 1)))
+        → storage.new ≡ storage.old }
 {
     let piece = length_align(&*storage).max(ZERO_PIECE);
     let zeroes = zero_buffer(alloc, piece.min(count) as usize)?;
+    let mut block = zero_buffer(alloc, length_align(&*storage) as usize)?;
     let first = head_length(&*storage, offset, count);
     if first == 0 {
-        return zero_pieces(storage, alloc, &zeroes, piece, offset, count);
+        return zero_pieces(storage, &zeroes, &mut block, piece, offset, count);
     }
-    zero_from(storage, alloc, &zeroes, offset, first)?;
+    zero_from(storage, &zeroes, &mut block, offset, first)?;
     if first == count {
         return Ok(());
     }
     zero_pieces(
         storage,
-        alloc,
         &zeroes,
+        &mut block,
         piece,
         offset + first,
         count - first,
@@ -261,14 +295,15 @@ fn zero_as_data<S: Storage>(
 /// Writes zeroes as data from a multiple of the request alignment on, in pieces from a buffer of zeroes.
 fn zero_pieces<S: Storage>(
     storage: &mut S,
-    alloc: Global,
     zeroes: &[u8],
+    block: &mut [u8],
     piece: u64,
     offset: u64,
     count: u64,
 ) -> Result<(), Error>
     requires zeroes { zeroes.now ≡ replicate (length zeroes.now) 0 }
     requires enough { min piece count ≤ length zeroes.now }
+    requires block { length block.old ≡ len_align (S.features storage.old) }
     requires positive { 0 < piece }
     requires whole { piece % len_align (S.features storage.old) ≡ 0 }
     requires start { offset % (S.features storage.old).req_align ≡ 0 }
@@ -282,11 +317,14 @@ fn zero_pieces<S: Storage>(
     ensures only { IfErr result IsExtRefusal }
     ensures cause { CountsFaults (S.features storage.old).is_reliable (S.fault_count storage.old)
         (S.fault_count storage.new) result }
+    ensures memory { IsErrOf result Error.Memory
+        → RequestMayRunOut (S.features storage.old) (length (S.bytes storage.old))
+        (offset + count + (len_align (S.features storage.old) - 1)) }
 {
     let mut done = 0;
     while done < count {
         let next = piece.min(count - done);
-        zero_from(storage, alloc, zeroes, offset + done, next)?;
+        zero_from(storage, zeroes, block, offset + done, next)?;
         done += next;
     }
     Ok(())

@@ -1,7 +1,8 @@
-use Rattle.std.proofs.Common.{arith, ◌≡◌, ◌+◌, length, take}
+use Rattle.std.proofs.Common.{arith, ◌≡◌, ◌+◌, ◌≤◌, length, take}
+use Rattle.std.specs.Int.{next_multiple_of}
 use Rattle.std.proofs.lemmas.List.{length-take-le, take_all, take_rest}
 use Rattle.imago_storage.proofs.Blocks.{block_facts}
-use Rattle.imago_storage.proofs.Outcomes.{WriteOutcome_ok}
+use Rattle.imago_storage.proofs.Outcomes.{WriteOutcome_ok, RequestMayRunOut_more}
 use Rattle.imago_storage.proofs.Writes.{first_is_part, splice_is_part, first_refused, second_written}
 use Rattle.imago_storage.proofs.request.write_blocks.Goals as goal
 
@@ -40,3 +41,10 @@ returns-clause-written g c =
     let first = rw (first_is_part _ _ _ c.args.source.now b.fits) at c.pure_writev.ensures.written in
     let last = rw (c.in_ok-pure_writev.ensures.features, end, at, take_rest c.args.source.now whole) at c.update_block-2.ensures.written in
     second_written c.args.source.now b.split first c.in_ok-pure_writev.was last
+
+pub returns-clause-memory : goal.returns-clause-memory
+returns-clause-memory g c = λ m.
+    let b = block_facts c.whole_blocks-whole.result c.whole_blocks-whole.ensures c.requires in
+    let more = b.one_more (omega (arith, b.fits, c.if-whole-source.false)) in
+    let end : c.args.start + c.whole_blocks-whole.result + length c.args.block.now ≤ c.args.start + next_multiple_of (length c.args.source.now) (length c.args.block.now) = omega (arith, more) in
+    RequestMayRunOut_more _ _ _ _ _ _ c.in_ok-pure_writev.ensures.features c.in_ok-pure_writev.ensures.written.no_shorter end (c.update_block-2.ensures.memory m)

@@ -1,6 +1,8 @@
-use Rattle.std.proofs.Common.{arith, ◌≡◌, ◌+◌, ◌-◌, length}
+use Rattle.std.proofs.Common.{arith, ◌≡◌, ◌+◌, ◌-◌, ◌≤◌, length, refl}
+use Rattle.std.specs.Int.{next_multiple_of}
 use Rattle.std.proofs.lemmas.List.{take_rest}
 use Rattle.imago_storage.proofs.Blocks.{part_facts}
+use Rattle.imago_storage.proofs.Outcomes.{RequestMayRunOut_more}
 use Rattle.imago_storage.proofs.Writes.{length-rest, first_refused, second_written}
 use Rattle.imago_storage.proofs.request.write_parts.Goals as goal
 
@@ -61,3 +63,19 @@ returns-clause-work g c =
       writes = omega (arith, u.writes, v.writes);
       bytes_written = omega (arith, u.bytes_written, v.bytes_written, (part_facts c.requires).rest_ends c.if-source-align.false);
     }
+
+pub returns-then-source-align-clause-memory : goal.returns-then-source-align-clause-memory
+returns-then-source-align-clause-memory g c = λ m.
+    let f = g.S.Storage.features c.args.storage.now in
+    let xs = g.S.Storage.bytes c.args.storage.now in
+    let longer : length xs ≤ length xs = omega arith in
+    let end : c.args.start + length c.args.block.now ≤ c.args.start + c.args.len = omega (arith, (part_facts c.requires).wide) in
+    RequestMayRunOut_more f f _ _ _ _ refl longer end (c.update_block.ensures.memory m)
+
+pub returns-clause-memory : goal.returns-clause-memory
+returns-clause-memory g c = λ m.
+    let a = length c.args.block.now in
+    let n = length c.args.source.now - (a - (c.args.offset - c.args.start)) in
+    let v = rw (c.update_block-2.auto.block, length-rest c.args.source.now _) at (c.write_blocks-2.ensures.memory m) in
+    let end : c.args.start + a + next_multiple_of n a ≤ c.args.start + c.args.len = omega (arith, (part_facts c.requires).rest_ends c.if-source-align.false) in
+    RequestMayRunOut_more _ _ _ _ _ _ c.in_ok-update_block.ensures.features c.in_ok-update_block.ensures.written.no_shorter end v

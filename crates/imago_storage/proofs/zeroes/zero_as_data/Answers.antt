@@ -1,11 +1,11 @@
-use Rattle.std.proofs.Common.{◌≡◌, ◌+◌, ◌-◌, arith}
+use Rattle.std.proofs.Common.{◌≡◌, ◌+◌, ◌-◌, ◌≤◌, length, arith, refl}
 use Rattle.std.proofs.lemmas.Result.{err_from_is_err_and}
 use Rattle.imago_storage.specs.Features.{len_align}
 use Rattle.imago_storage.specs.Zeroes.{IsHead}
-use Rattle.imago_storage.proofs.Outcomes.{OnOk_map, same_refusal, not_refused}
+use Rattle.imago_storage.proofs.Outcomes.{OnOk_map, RequestMayRunOut_more, same_refusal, not_refused}
 use Rattle.imago_storage.proofs.Padding.{len_positive}
 use Rattle.imago_storage.proofs.ZeroPieces.{piece_whole, align_power}
-use Rattle.imago_storage.proofs.ZeroRanges.{HasZeroed_unchanged, HasZeroed_refused, HasZeroed_next}
+use Rattle.imago_storage.proofs.ZeroRanges.{HasZeroed_unchanged, HasZeroed_refused, HasZeroed_next, ZeroedPart_longer}
 use Rattle.imago_storage.proofs.ZeroWraps.{data_from_start}
 use Rattle.imago_storage.proofs.zeroes.zero_as_data.Goals as goal
 
@@ -13,6 +13,12 @@ pub returns-in_err-zeroes-clause-written : goal.returns-in_err-zeroes-clause-wri
 returns-in_err-zeroes-clause-written g c =
     let f = g.S.Storage.features c.args.storage.now in
     let p = err_from_is_err_and c.from_residual.result c.from_residual.ensures.1 in
+    HasZeroed_unchanged f _ _ _ _ _ (len_positive f (g.met.S.Storage.lawful c.args.storage.now)) p.1
+
+pub returns-in_err-block-clause-written : goal.returns-in_err-block-clause-written
+returns-in_err-block-clause-written g c =
+    let f = g.S.Storage.features c.args.storage.now in
+    let p = err_from_is_err_and c.from_residual-in_err-block.result c.from_residual-in_err-block.ensures.1 in
     HasZeroed_unchanged f _ _ _ _ _ (len_positive f (g.met.S.Storage.lawful c.args.storage.now)) p.1
 
 pub zero_pieces-requires-clause-whole : goal.zero_pieces-requires-clause-whole
@@ -83,3 +89,21 @@ returns-clause-fits g c =
     let h = c.head_length-first.ensures.some (omega arith) in
     let fits = rw c.in_ok-zero_from.ensures.features at c.zero_pieces-2.ensures.fits in
     OnOk_map _ (h.rest_fits (omega (arith, h.within, c.if-first-count.false)) (λ w. not_refused _ _ _ c.in_ok-zero_from.was (c.zero_from.ensures.wraps.1 w))) fits
+
+pub returns-in_err-zero_from-clause-early : goal.returns-in_err-zero_from-clause-early
+returns-in_err-zero_from-clause-early g c = λ m none.
+    let f = g.S.Storage.features c.args.storage.now in
+    let xs = g.S.Storage.bytes c.args.storage.now in
+    let p = err_from_is_err_and c.from_residual-in_err-zero_from.result c.from_residual-in_err-zero_from.ensures.1 in
+    let h = c.head_length-first.ensures.some (omega arith) in
+    let longer : length xs ≤ length xs = omega arith in
+    let end : c.args.offset + c.head_length-first.result + (len_align f - 1) ≤ c.args.offset + c.args.count + (len_align f - 1) = omega (arith, h.within) in
+    absurd (none (RequestMayRunOut_more f f _ _ _ _ refl longer end (c.zero_from.ensures.memory (same_refusal _ _ _ _ _ c.in_err-zero_from.was p.1 p.2 m))))
+
+pub returns-clause-early : goal.returns-clause-early
+returns-clause-early g c = λ m none.
+    let f = g.S.Storage.features c.args.storage.now in
+    let h = c.head_length-first.ensures.some (omega arith) in
+    let longer = ZeroedPart_longer f _ _ _ _ _ c.zero_from.ensures.written in
+    let end : c.args.offset + c.head_length-first.result + (c.args.count - c.head_length-first.result) + (len_align f - 1) ≤ c.args.offset + c.args.count + (len_align f - 1) = omega (arith, h.within) in
+    absurd (none (RequestMayRunOut_more f f _ _ _ _ refl longer end (rw c.in_ok-zero_from.ensures.features at (c.zero_pieces-2.ensures.memory m))))

@@ -1,21 +1,16 @@
-use Rattle.std.proofs.Common.{◌≡◌, ◌+◌, ◌-◌, arith, inl, inr}
+use Rattle.std.proofs.Common.{◌≡◌, ◌+◌, ◌-◌, ◌≤◌, length, arith, inl, inr, refl}
 use Rattle.std.proofs.lemmas.Result.{err_from_is_err_and}
+use Rattle.imago_storage.specs.Features.{len_align}
 use Rattle.imago_storage.specs.Padding.{Wraps}
-use Rattle.imago_storage.proofs.Outcomes.{same_refusal, not_refused, fits_where_ok}
-use Rattle.imago_storage.proofs.ZeroRanges.{HasZeroed_stopped, HasZeroed_refused, HasZeroed_before, HasZeroed_behind}
+use Rattle.imago_storage.proofs.Outcomes.{RequestMayRunOut_more, same_refusal, not_refused, fits_where_ok}
+use Rattle.imago_storage.proofs.ZeroRanges.{HasZeroed_refused, HasZeroed_before, HasZeroed_behind, ZeroedPart_longer}
 use Rattle.imago_storage.proofs.ZeroWraps.{edge_wraps, edge_fits}
 use Rattle.imago_storage.proofs.zeroes.zero_edges.Goals as goal
-
-pub returns-in_err-zeroes-clause-written : goal.returns-in_err-zeroes-clause-written
-returns-in_err-zeroes-clause-written g c = λ old part.
-    let f = g.S.Storage.features c.args.storage.now in
-    let p = err_from_is_err_and c.from_residual.result c.from_residual.ensures.1 in
-    HasZeroed_stopped f old _ c.args.start (c.args.end - c.args.start) c.args.offset c.args.count _ _ part p.1 (omega (arith, c.requires.part.before)) (omega (arith, c.requires.part.behind, c.requires.some))
 
 pub returns-in_err-zero_from-clause-written : goal.returns-in_err-zero_from-clause-written
 returns-in_err-zero_from-clause-written g c = λ old part.
     let f = g.S.Storage.features c.args.storage.now in
-    let p = err_from_is_err_and c.from_residual-in_err-zero_from.result c.from_residual-in_err-zero_from.ensures.1 in
+    let p = err_from_is_err_and c.from_residual.result c.from_residual.ensures.1 in
     let head = c.args.start - c.args.offset in
     let here : c.args.offset + head ≡ c.args.start = omega (arith, c.requires.part.before) in
     let both = HasZeroed_before f old _ _ c.args.offset head c.args.start (c.args.end - c.args.start) _ here part c.zero_from.ensures.written in
@@ -24,7 +19,7 @@ returns-in_err-zero_from-clause-written g c = λ old part.
 pub returns-in_err-zero_from-clause-wraps : goal.returns-in_err-zero_from-clause-wraps
 returns-in_err-zero_from-clause-wraps g c = λ wraps.
     let f = g.S.Storage.features c.args.storage.now in
-    let p = err_from_is_err_and c.from_residual-in_err-zero_from.result c.from_residual-in_err-zero_from.ensures.1 in
+    let p = err_from_is_err_and c.from_residual.result c.from_residual.ensures.1 in
     edge_wraps f _ _ _ _ c.requires.part (inl (c.zero_from.ensures.wraps.0 (same_refusal _ _ _ _ _ c.in_err-zero_from.was p.1 p.2 wraps)))
 
 pub returns-clause-written : goal.returns-clause-written
@@ -49,3 +44,19 @@ returns-clause-fits g c =
     let f = g.S.Storage.features c.args.storage.now in
     let head = λ (w : Wraps f c.args.offset (c.args.start - c.args.offset)). not_refused _ _ _ c.in_ok-zero_from.was (c.zero_from.ensures.wraps.1 w) in
     fits_where_ok c.zero_from-2.result _ _ (λ w. c.zero_from-2.ensures.wraps.1 (rw c.in_ok-zero_from.ensures.features w)) (λ tail. edge_fits f _ _ _ _ c.requires.part head tail)
+
+pub returns-in_err-zero_from-clause-memory : goal.returns-in_err-zero_from-clause-memory
+returns-in_err-zero_from-clause-memory g c = λ m.
+    let f = g.S.Storage.features c.args.storage.now in
+    let xs = g.S.Storage.bytes c.args.storage.now in
+    let p = err_from_is_err_and c.from_residual.result c.from_residual.ensures.1 in
+    let longer : length xs ≤ length xs = omega arith in
+    let end : c.args.offset + (c.args.start - c.args.offset) + (len_align f - 1) ≤ c.args.offset + c.args.count + (len_align f - 1) = omega (arith, c.requires.part.behind, c.requires.some) in
+    RequestMayRunOut_more f f _ _ _ _ refl longer end (c.zero_from.ensures.memory (same_refusal _ _ _ _ _ c.in_err-zero_from.was p.1 p.2 m))
+
+pub returns-clause-memory : goal.returns-clause-memory
+returns-clause-memory g c = λ m.
+    let f = g.S.Storage.features c.args.storage.now in
+    let longer = ZeroedPart_longer f _ _ _ _ _ c.zero_from.ensures.written in
+    let end : c.args.end + (c.args.offset + c.args.count - c.args.end) + (len_align f - 1) ≤ c.args.offset + c.args.count + (len_align f - 1) = omega (arith, c.requires.part.behind) in
+    RequestMayRunOut_more f f _ _ _ _ refl longer end (rw c.in_ok-zero_from.ensures.features at (c.zero_from-2.ensures.memory m))

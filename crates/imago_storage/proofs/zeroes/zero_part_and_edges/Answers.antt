@@ -1,10 +1,46 @@
-use Rattle.std.proofs.Common.{◌-◌, arith}
+use Rattle.std.proofs.Common.{◌≡◌, ◌+◌, ◌-◌, ◌≤◌, length, arith, inl, refl}
 use Rattle.std.proofs.lemmas.Result.{err_from_is_err_and}
-use Rattle.imago_storage.proofs.ZeroRanges.{HasZeroed_refused}
+use Rattle.imago_storage.specs.Features.{len_align}
+use Rattle.imago_storage.proofs.Outcomes.{RequestMayRunOut_more, ZeroesMayRunOut_more, same_refusal}
+use Rattle.imago_storage.proofs.Padding.{len_positive}
+use Rattle.imago_storage.proofs.ZeroRanges.{HasZeroed_refused, HasZeroed_unchanged}
 use Rattle.imago_storage.proofs.zeroes.zero_part_and_edges.Goals as goal
+
+pub returns-in_err-zeroes-clause-written : goal.returns-in_err-zeroes-clause-written
+returns-in_err-zeroes-clause-written g c =
+    let p = err_from_is_err_and c.from_residual.result c.from_residual.ensures.1 in
+    HasZeroed_unchanged _ _ _ _ _ _ (len_positive _ (g.met.S.Storage.lawful c.args.storage.now)) p.1
+
+pub returns-in_err-block-clause-written : goal.returns-in_err-block-clause-written
+returns-in_err-block-clause-written g c =
+    let p = err_from_is_err_and c.from_residual-in_err-block.result c.from_residual-in_err-block.ensures.1 in
+    HasZeroed_unchanged _ _ _ _ _ _ (len_positive _ (g.met.S.Storage.lawful c.args.storage.now)) p.1
 
 pub returns-in_err-zero_part-clause-written : goal.returns-in_err-zero_part-clause-written
 returns-in_err-zero_part-clause-written g c =
     let f = g.S.Storage.features c.args.storage.now in
-    let p = err_from_is_err_and c.from_residual.result c.from_residual.ensures.1 in
-    HasZeroed_refused f _ _ c.args.start (c.args.end - c.args.start) c.args.offset c.args.count _ _ _ _ c.zero_part.ensures.written c.in_err-zero_part.was p.1 (omega (arith, c.requires.part.before)) (omega (arith, c.requires.part.behind, c.requires.some))
+    let p = err_from_is_err_and c.from_residual-in_err-zero_part.result c.from_residual-in_err-zero_part.ensures.1 in
+    HasZeroed_refused f _ _ c.args.start (c.args.end - c.args.start) c.args.offset c.args.count _ _ _ _ c.zero_part-2.ensures.written c.in_err-zero_part.was p.1 (omega (arith, c.requires.part.before)) (omega (arith, c.requires.part.behind, c.requires.some))
+
+pub returns-in_err-zero_part-clause-early : goal.returns-in_err-zero_part-clause-early
+returns-in_err-zero_part-clause-early g c = λ m none.
+    let f = g.S.Storage.features c.args.storage.now in
+    let xs = g.S.Storage.bytes c.args.storage.now in
+    let p = err_from_is_err_and c.from_residual-in_err-zero_part.result c.from_residual-in_err-zero_part.ensures.1 in
+    let longer : length xs ≤ length xs = omega arith in
+    let end : c.args.start + (c.args.end - c.args.start) ≤ c.args.offset + c.args.count + (len_align f - 1) = omega (arith, c.requires.part.behind, c.requires.some) in
+    c.zero_part-2.ensures.early (same_refusal _ _ _ _ _ c.in_err-zero_part.was p.1 p.2 m) (λ may. none (ZeroesMayRunOut_more f _ _ _ _ longer end may))
+
+pub returns-clause-written : goal.returns-clause-written
+returns-clause-written g c =
+    let part = rw c.in_ok-zero_part.was at c.zero_part-2.ensures.written in
+    let edges = rw c.in_ok-zero_part.ensures.features at c.zero_edges.ensures.written in
+    edges _ part
+
+pub returns-clause-early : goal.returns-clause-early
+returns-clause-early g c = λ m none.
+    let f = g.S.Storage.features c.args.storage.now in
+    let longer = c.zero_part-2.ensures.written.written.no_shorter in
+    let may = rw c.in_ok-zero_part.ensures.features at (c.zero_edges.ensures.memory m) in
+    let end : c.args.offset + c.args.count + (len_align f - 1) ≤ c.args.offset + c.args.count + (len_align f - 1) = omega arith in
+    absurd (none (inl (RequestMayRunOut_more f f _ _ _ _ refl longer end may)))

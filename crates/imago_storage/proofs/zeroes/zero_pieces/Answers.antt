@@ -1,9 +1,9 @@
-use Rattle.std.proofs.Common.{◌≡◌, ◌≢◌, ◌<◌, ◌+◌, ◌-◌, ◌%◌, ◌⊎◌, arith, inl, inr, ap, ◌∙◌}
+use Rattle.std.proofs.Common.{◌≡◌, ◌≢◌, ◌<◌, ◌≤◌, ◌+◌, ◌-◌, ◌%◌, ◌⊎◌, arith, inl, inr, ap, refl, ◌∙◌}
 use Rattle.std.proofs.lemmas.Result.{err_from_is_err_and}
 use Rattle.imago_storage.specs.Features.{len_align}
 use Rattle.imago_storage.proofs.Alignment.{multiple_add}
-use Rattle.imago_storage.proofs.Outcomes.{CountsFaults_ok, CountsFaults_then, same_refusal, not_refused}
-use Rattle.imago_storage.proofs.ZeroRanges.{ZeroedPart_next, HasZeroed_refused}
+use Rattle.imago_storage.proofs.Outcomes.{CountsFaults_ok, CountsFaults_then, RequestMayRunOut_more, same_refusal, not_refused}
+use Rattle.imago_storage.proofs.ZeroRanges.{ZeroedPart_next, ZeroedPart_longer, HasZeroed_refused}
 use Rattle.imago_storage.proofs.ZeroWraps.{piece_wraps, last_fits, piece_kind}
 use Rattle.imago_storage.proofs.zeroes.zero_pieces.Goals as goal
 
@@ -43,3 +43,11 @@ loop-done-preserved g c =
       fits = λ all. last_fits f c.args.offset c.args.count c.loop-done.done c.min-next.result lawful c.requires.start whole all more (λ w. not_refused _ _ _ c.in_ok-zero_from.was (c.zero_from.ensures.wraps.1 (rw c.loop-done.invariant.features w)));
       cause = CountsFaults_ok _ _ _ _ tt (CountsFaults_then _ _ _ _ _ _ _ (ap (λ x. x.is_reliable) c.loop-done.invariant.features) c.loop-done.invariant.cause c.zero_from.ensures.cause);
     }
+
+pub returns-in_err-zero_from-clause-memory : goal.returns-in_err-zero_from-clause-memory
+returns-in_err-zero_from-clause-memory g c = λ m.
+    let f = g.S.Storage.features c.args.storage.now in
+    let p = err_from_is_err_and c.from_residual.result c.from_residual.ensures.1 in
+    let longer = ZeroedPart_longer f _ _ _ _ _ c.loop-done.invariant.zeroed in
+    let end : c.args.offset + c.loop-done.done + c.min-next.result + (len_align f - 1) ≤ c.args.offset + c.args.count + (len_align f - 1) = omega arith in
+    RequestMayRunOut_more f f _ _ _ _ refl longer end (rw c.loop-done.invariant.features at (c.zero_from.ensures.memory (same_refusal _ _ _ _ _ c.in_err-zero_from.was p.1 p.2 m)))

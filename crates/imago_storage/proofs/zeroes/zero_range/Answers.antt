@@ -1,6 +1,6 @@
-use Rattle.std.proofs.Common.{arith, ap, Err, ◌∙◌}
+use Rattle.std.proofs.Common.{arith, ap, Err, inl, ◌∙◌}
 use Rattle.imago_storage.proofs.Alignment.{power_positive}
-use Rattle.imago_storage.proofs.Outcomes.{OnOk_map, not_refused}
+use Rattle.imago_storage.proofs.Outcomes.{OnOk_map, not_wrapped, not_done}
 use Rattle.imago_storage.proofs.ZeroRanges.{HasZeroed_again}
 use Rattle.imago_storage.proofs.ZeroWraps.{fits_without_part, fits_by_edges, fits_by_data, wrap_without_part, wrap_by_edges, wrap_by_data, part_of_aligned}
 use Rattle.imago_storage.proofs.zeroes.zero_range.Goals as goal
@@ -31,7 +31,7 @@ returns-in-Err-Unsupported-clause-fits g c =
 
 pub returns-in-Err-clause-may_wrap : goal.returns-in-Err-clause-may_wrap
 returns-in-Err-clause-may_wrap g c = λ w. wrap_by_edges _ _ _ _ _ _ c.requires.part c.requires.some (omega arith) (c.zero_part_and_edges.ensures.wraps (c.in-Err.is ∙ w))
-    (λ made odd. let u = c.zero_part_and_edges.ensures.refused made odd in let e = c.in-Err.is ∙ w in let z : ⊥ = cc in z)
+    (λ made odd. not_wrapped _ (c.zero_part_and_edges.ensures.refused made odd) (c.in-Err.is ∙ w))
 
 pub returns-in-Err-clause-memory : goal.returns-in-Err-clause-memory
 returns-in-Err-clause-memory g c = λ m aligned.
@@ -40,4 +40,10 @@ returns-in-Err-clause-memory g c = λ m aligned.
 
 pub returns-in-Ok-clause-fits : goal.returns-in-Ok-clause-fits
 returns-in-Ok-clause-fits g c = fits_by_edges _ _ _ _ _ _ c.requires.part (omega arith) (rw c.in-Ok.is at c.zero_part_and_edges.ensures.fits)
-    (λ made odd. not_refused _ _ _ c.in-Ok.is (c.zero_part_and_edges.ensures.refused made odd))
+    (λ made odd. not_done _ _ c.in-Ok.is (c.zero_part_and_edges.ensures.refused made odd))
+
+pub returns-in-Err-Unsupported-clause-early : goal.returns-in-Err-Unsupported-clause-early
+returns-in-Err-Unsupported-clause-early g c = λ m none.
+    let same = c.zero_part_and_edges.ensures.unchanged (c.in-Err-Unsupported.is ∙ ap Err c.in-Err-Unsupported.field-0-is) in
+    let early = rw same at c.zero_as_data-in-Err-Unsupported.ensures.early in
+    early m (λ may. none (inl may))

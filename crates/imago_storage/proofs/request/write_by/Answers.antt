@@ -1,0 +1,24 @@
+use Rattle.std.proofs.Common.{arith, ◌≡◌, ◌+◌, ◌<◌, length, refl}
+use Rattle.imago_storage.specs.Padding.{padded_end, IsPaddedRequest}
+use Rattle.imago_storage.proofs.Outcomes.{WriteOutcome_unchanged}
+use Rattle.imago_storage.proofs.Writes.{splice_is_part, part_no_shorter}
+use Rattle.imago_storage.proofs.request.write_by.Goals as goal
+
+pub returns-in_default-clause-written : goal.returns-in_default-clause-written
+returns-in_default-clause-written g c = λ some. WriteOutcome_unchanged _ _ _ _ _ refl (part_no_shorter _ _ _ _)
+
+pub returns-then-len-source-clause-written : goal.returns-then-len-source-clause-written
+returns-then-len-source-clause-written g c = λ some. (
+    let f = g.S.Storage.features c.args.storage.now in
+    let at = c.args.offset in
+    let source = c.args.source.now in
+    let q : IsPaddedRequest f at (length source) c.in-Some.start c.in-Some.len = rw (c.in-Some.start-is, c.in-Some.len-is) c.in-Some.ensures in
+    let ends : at + length source ≡ padded_end f at (length source) = omega (arith, q.is_start, q.is_len, c.if-start-offset.true, c.if-len-source.true) in
+    rw (splice_is_part (g.S.Storage.bytes c.args.storage.now) at source (padded_end f at (length source)) ends) at c.pure_writev.ensures.written)
+
+pub write_parts-requires : goal.write_parts-requires
+write_parts-requires g c =
+    let f = g.S.Storage.features c.args.storage.now in
+    let q : IsPaddedRequest f c.args.offset (length c.args.source.now) c.in-Some.start c.in-Some.len = rw (c.in-Some.start-is, c.in-Some.len-is) c.in-Some.ensures in
+    let some : 0 < length c.args.source.now = grind (arith, c.if-is_empty.false, c.is_empty.ensures) in
+    record { lawful = g.met.S.Storage.lawful c.args.storage.now; is_block = c.requires; some = some; padded = q }
