@@ -3,6 +3,7 @@ use Rattle.std.proofs.Math.Path.{subst⁻¹}
 use Rattle.std.specs.Prelude.{Result, OnOk, IfErr}
 use Rattle.imago_storage.specs.declared.error.Error.{Error}
 use Rattle.imago_drivers.specs.Causes.{IsSettled, IsOnRange}
+use Rattle.imago_drivers.specs.Calls.{IsFlush}
 use Rattle.imago_drivers.specs.Commit.{IsCommit, IsCancel}
 use Rattle.imago_drivers.specs.Done.{mapping_write_reasons}
 use Rattle.imago_drivers.specs.Prepared.{IsFor, IsForeignWrite}
@@ -40,6 +41,19 @@ module _ {A Self St : Type 0} (holding : A → Self) (view : Self → View St) (
     later = x.later;
     reliable = x.reliable;
   }
+
+-- the same of a flush
+pub flush_of : {A Self St : Type 0} (holding : A → Self) (view : Self → View St) (old new : A) (result : Result Unit Error) (inner : A → A → Result Unit Error → Type 0) (outer : Self → Self → Result Unit Error → Type 0)
+    → (inner old new result → outer (holding old) (holding new) result) → IsFlush (λ a. view (holding a)) inner old new result → IsFlush view outer (holding old) (holding new) result
+flush_of holding view old new result inner outer h x = record {
+  performed = h x.performed;
+  unchanged = x.unchanged;
+  pending = x.pending;
+  causes = x.causes;
+  lengths = x.lengths;
+  faults = x.faults;
+  refusals = x.refusals;
+}
 
 -- What is said of a write into a mapping is said of a driver that is known to be another one.
 module _ {D St : Type 0} (view : D → View St) {d e : D} (is : d ≡ e) (m : PreparedDataMapping St) where

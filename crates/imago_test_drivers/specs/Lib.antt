@@ -3,4 +3,3 @@ pub mod PatternLaws
 pub mod TestDriver
 pub mod CopyOnce
 pub mod CopyOnceLaws
-pub mod CopyOnceImage

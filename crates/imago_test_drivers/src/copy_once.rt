@@ -6,7 +6,6 @@ ghost use Rattle.imago_drivers.specs.LayerBelow.{lent, below_reasons};
 ghost use Rattle.imago_drivers.specs.Reasons.{allowed, none};
 ghost use Rattle.imago_drivers.specs.Pending.{IsOwn};
 ghost use Rattle.imago_test_drivers.specs.CopyOnce.{copy_view, copy_pending, WaitsInside};
-ghost use Rattle.imago_test_drivers.specs.CopyOnceImage.{IsSameCopy};
 ghost use Rattle.imago_test_drivers.specs.CopyOnceLaws.{copy_lawful, copy_causes};
 ghost use Rattle.imago_drivers.specs.Commit.{IsCommit, IsCancel};
 
@@ -117,9 +116,9 @@ impl<S: Storage> FormatDriverInstance for CopyOnce<S> {
     ghost probe_reasons = { λ _. none };
 
     ghost flushes = { record {
-      flushed = λ a b r. S.maintenance.flushed a.storage b.storage r × IsSameCopy a b;
-      synced = λ a b r. S.maintenance.synced a.storage b.storage r × IsSameCopy a b;
-      invalidated = λ a b r. S.maintenance.invalidated a.storage b.storage r × IsSameCopy a b;
+      flushed = λ a b r. S.maintenance.flushed a.storage b.storage r × (b.size ≡ a.size) × (b.copied ≡ a.copied) × (b.waiting ≡ a.waiting) × (b.tickets ≡ a.tickets) × (b.faults ≡ a.faults) × (b.overwrites ≡ a.overwrites);
+      synced = λ a b r. S.maintenance.synced a.storage b.storage r × (b.size ≡ a.size) × (b.copied ≡ a.copied) × (b.waiting ≡ a.waiting) × (b.tickets ≡ a.tickets) × (b.faults ≡ a.faults) × (b.overwrites ≡ a.overwrites);
+      invalidated = λ a b r. S.maintenance.invalidated a.storage b.storage r × (b.size ≡ a.size) × (b.copied ≡ a.copied) × (b.waiting ≡ a.waiting) × (b.tickets ≡ a.tickets) × (b.faults ≡ a.faults) × (b.overwrites ≡ a.overwrites);
     } };
 
     ghost lawful = { λ d. copy_lawful (S.features d.storage) (S.fault_count d.storage + d.faults) (S.bytes d.storage) d.size d.copied d.waiting };
