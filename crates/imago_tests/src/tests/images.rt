@@ -3,10 +3,13 @@
 //! A table is made on a driver or an image by one generic function, which is named once for each type: so the proofs of
 //! the tests stay short.
 mod answer;
+mod chains;
+mod copies;
 mod driver;
 mod image;
 mod mem;
 mod raw;
 mod runs;
 mod set_up;
+mod sparse;
 mod zeroes;
