@@ -1,18 +1,24 @@
-use Rattle.std.proofs.Common.{◌≡◌, ℕ, ◌+◌, ◌<◌, ◌≤◌, ◌⊎◌, ⊎_elim, inl, inr, Bool, true, false, List, length, Option, Some, None, refl, sym, ap, ◌∙◌, arith, Result}
-use Rattle.std.specs.Prelude.{slice_index, IsTrue, OnOk, OnErr}
+use Rattle.std.proofs.Common.{◌≡◌, ℕ, ◌+◌, ◌<◌, ◌≤◌, ◌⊎◌, ⊎_elim, inl, inr, Bool, true, false, List, length, Option, Some, None, refl, sym, ap, ◌∙◌, arith, Result, Ok, Err}
+use Rattle.std.specs.Prelude.{slice_index, IsTrue, OnOk, OnErr, IfErr}
 use Rattle.std.proofs.lemmas.Bool.{cases_lt}
+use Rattle.imago_storage.specs.declared.error.Error.{Error}
+use Rattle.imago_storage.specs.Error.{IsDeviceOrMemory}
+use Rattle.imago_storage.specs.Faults.{CountsFaults}
 use Rattle.imago_storage.specs.Features.{Features}
+use Rattle.imago_drivers.specs.Done.{driver_reasons}
+use Rattle.imago_drivers.specs.Reasons.{allowed}
 use Rattle.imago_drivers.specs.declared.mapping.PreparedDataMapping.{PreparedDataMapping}
 use Rattle.imago_test_drivers.specs.declared.copy_once.Waiting.{Waiting}
 use Rattle.imago_drivers.specs.Place.{Value, Byte, End, values, shown, HasValues}
-use Rattle.imago_drivers.specs.Pending.{Pending, IsOwn, ShowsRound}
+use Rattle.imago_drivers.specs.Pending.{Pending, IsOwn, ShowsRound, StaysPending}
 use Rattle.imago_drivers.specs.Operation.{Operation, Map, Read, Write, Zero, DiscardToZero, DiscardToAny, DiscardToBacking, Grow, Shrink, Flush}
-use Rattle.imago_drivers.specs.Causes.{IsSettled, EveryOperation}
+use Rattle.imago_drivers.specs.Causes.{IsSettled, IsOnRange}
 use Rattle.imago_drivers.specs.View.{View}
 use Rattle.imago_drivers.specs.Frame.{IsFramed, IsUnchanged, ReachesNoMore}
 use Rattle.imago_drivers.specs.Prepared.{IsPut, is_foreign}
 use Rattle.imago_drivers.specs.Commit.{is_committed}
-use Rattle.imago_drivers.specs.Raw.{HasBytes, raw_place}
+use Rattle.imago_drivers.specs.Ranges.{HasBytes}
+use Rattle.imago_drivers.specs.Raw.{raw_place}
 use Rattle.imago_drivers.specs.RawLaws.{raw_in, raw_out, raw_lower}
 use Rattle.imago_test_drivers.specs.CopyOnce.{copy_place, copy_view, copy_pending, copy_cause, copy_copies, WaitsInside}
 use Rattle.imago_test_drivers.specs.CopyOnceLaws.{lower_in, lower_out, lower_only, copy_causes}
@@ -108,17 +114,17 @@ nothing_copied size (Grow mode) o n p c = c
 nothing_copied size Shrink o n p c = c
 nothing_copied size Flush o n p c = c
 
-pub copy_settled : (f : Features) (count : ℕ) (bytes : List ℕ) (size : ℕ) (copied : Bool) (w : Option Waiting) (o n : ℕ) → IsSettled EveryOperation copy_cause copy_cause (copy_copies copied size) (copy_copies true size) o n
+pub copy_settled : (f : Features) (count : ℕ) (bytes : List ℕ) (size : ℕ) (copied : Bool) (w : Option Waiting) (o n : ℕ) → IsSettled IsOnRange copy_cause copy_cause (copy_copies copied size) (copy_copies true size) o n
 copy_settled f count bytes size copied w o n = record {
   causes = λ op a c q m e r h i j k x. (copy_causes f count bytes size copied w).part op a c q m e j k x;
   copied = λ op a c q m p r h i j k x. absurd (nothing_copied size op q m p x);
 }
 
 -- once it is copied, nothing waits
-pub no_pending : (size : ℕ) (old new : List ℕ) (copied : Bool) (waiting : Option Waiting) → copied ≡ true → ((w : Waiting) → waiting ≡ Some w → WaitsInside size copied w)
-    → copy_pending size new waiting ≡ copy_pending size old waiting
-no_pending size old new copied None e inside = refl
-no_pending size old new copied (Some w) e inside = let i = inside w refl in let x = i.1 in let z : ⊥ = cc in absurd z
+pub no_pending : (keeps : Bool) (size : ℕ) (old new : List ℕ) (copied : Bool) (waiting : Option Waiting) → copied ≡ true → ((w : Waiting) → waiting ≡ Some w → WaitsInside size copied w)
+    → StaysPending keeps (copy_pending size old waiting) (copy_pending size new waiting)
+no_pending keeps size old new copied None e inside = refl
+no_pending keeps size old new copied (Some w) e inside = let i = inside w refl in let x = i.1 in let z : ⊥ = cc in absurd z
 
 -- what was read of the layer below and written into the storage is what the disk shows
 pub copied_below : (size : ℕ) (old new items : List ℕ) (copied : Bool) (at : ℕ → Value) → copied ≡ false → length items ≡ size → HasValues at 0 items → HasBytes false 0 (length items) (λ k. slice_index items k) old new
@@ -129,3 +135,20 @@ copied_below size old new items copied at e l v b p h =
     let x : slice_index new p ≡ slice_index items p = rw at_p at (⊎_elim (λ a. a) (λ a. let y = a.0 in let z : ⊥ = cc in absurd z) (b.inside p q)) in
     let y : at p ≡ Byte (slice_index items p) = rw at_p at (v p q) in
     rw e (ap (shown at) (lower_in size old p h) ∙ y ∙ ap (λ i. Byte i) (sym x))
+
+-- what waits is a part of the copy
+pub around_copy : (size : ℕ) (bytes : List ℕ) (w : Waiting) (q : Pending ℕ) → copy_pending size bytes (Some w) ≡ Some q → w.start + w.length ≤ size → (q.from ≤ q.start) × (q.start + q.length ≤ q.until)
+around_copy size bytes w q e h = let x : q ≡ record { start = w.start; storage = 0; offset = w.start; length = w.length; state = w.ticket; from = 0; until = size; bytes = λ p. slice_index bytes p } = cc in rw x (omega arith, h)
+
+-- the count of faults of a storage's call is that of the copy's
+pub copy_faults : (count now_count faults : ℕ) (reliable : Bool) (result : Result Unit Error) → CountsFaults reliable count now_count result → CountsFaults reliable (count + faults) (now_count + faults) result
+copy_faults count now_count faults reliable result x = record {
+  later = omega (arith, x.later);
+  reliable = λ e. ap (λ i. i + faults) (x.reliable e);
+  device = λ e. ⊎_elim (λ a. inl (omega (arith, a))) (λ a. inr (omega (arith, a))) (x.device e);
+}
+
+-- what a storage's flush is refused for, the copy's may be
+pub copy_flush_refused : (v : View ℕ) → (v.limits.no_memory Flush 0 0 → ⊥) → (result : Result Unit Error) → IfErr result IsDeviceOrMemory → IfErr result (allowed (driver_reasons v Flush 0 0))
+copy_flush_refused v takes (Ok x) h = tt
+copy_flush_refused v takes (Err e) h = ⊎_elim (λ device. rw device tt) (λ memory. rw memory takes) h

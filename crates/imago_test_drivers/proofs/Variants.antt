@@ -2,7 +2,8 @@ use Rattle.std.proofs.Common.{◌≡◌, ◌↔◌, ℕ, ap}
 use Rattle.std.proofs.Math.Path.{subst⁻¹}
 use Rattle.std.specs.Prelude.{Result, OnOk, IfErr}
 use Rattle.imago_storage.specs.declared.error.Error.{Error}
-use Rattle.imago_drivers.specs.Causes.{IsSettled, EveryOperation}
+use Rattle.imago_drivers.specs.Causes.{IsSettled, IsOnRange}
+use Rattle.imago_drivers.specs.Calls.{IsFlush}
 use Rattle.imago_drivers.specs.Commit.{IsCommit, IsCancel}
 use Rattle.imago_drivers.specs.Done.{mapping_write_reasons}
 use Rattle.imago_drivers.specs.Prepared.{IsFor, IsForeignWrite}
@@ -22,6 +23,7 @@ module _ {A Self St : Type 0} (holding : A → Self) (view : Self → View St) (
     others_stay = x.others_stay;
     reaches = x.reaches;
     settled = x.settled;
+    lengths = x.lengths;
     framed = x.framed;
     faults = x.faults;
     refusals = x.refusals;
@@ -34,10 +36,24 @@ module _ {A Self St : Type 0} (holding : A → Self) (view : Self → View St) (
     untouched = λ f. ap holding (x.untouched f);
     places = x.places;
     reaches = x.reaches;
+    lengths = x.lengths;
     framed = x.framed;
     later = x.later;
     reliable = x.reliable;
   }
+
+-- the same of a flush
+pub flush_of : {A Self St : Type 0} (holding : A → Self) (view : Self → View St) (old new : A) (result : Result Unit Error) (inner : A → A → Result Unit Error → Type 0) (outer : Self → Self → Result Unit Error → Type 0)
+    → (inner old new result → outer (holding old) (holding new) result) → IsFlush (λ a. view (holding a)) inner old new result → IsFlush view outer (holding old) (holding new) result
+flush_of holding view old new result inner outer h x = record {
+  performed = h x.performed;
+  unchanged = x.unchanged;
+  pending = x.pending;
+  causes = x.causes;
+  lengths = x.lengths;
+  faults = x.faults;
+  refusals = x.refusals;
+}
 
 -- What is said of a write into a mapping is said of a driver that is known to be another one.
 module _ {D St : Type 0} (view : D → View St) {d e : D} (is : d ≡ e) (m : PreparedDataMapping St) where
@@ -45,7 +61,7 @@ module _ {D St : Type 0} (view : D → View St) {d e : D} (is : d ≡ e) (m : Pr
   foreign_at X h = subst⁻¹ (λ (x : D). X ↔ IsForeignWrite (view x) m) is h
 
   abbrev pub SettlesAt : (x : D) (new : View St) (at n : ℕ) → Type 0
-  SettlesAt x new at n = (o : ℕ) → IsFor (view x) m at n o → IsSettled EveryOperation (view x).cause new.cause (view x).copies new.copies o n
+  SettlesAt x new at n = (o : ℕ) → IsFor (view x) m at n o → IsSettled IsOnRange (view x).limits.cause new.limits.cause (view x).limits.copies new.limits.copies o n
 
   pub causes_at : (new : View St) (at n : ℕ) (result : Result Unit Error) → OnOk result (SettlesAt e new at n) → OnOk result (SettlesAt d new at n)
   causes_at new at n result h = subst⁻¹ (λ (x : D). OnOk result (SettlesAt x new at n)) is h

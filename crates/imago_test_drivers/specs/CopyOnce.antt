@@ -7,6 +7,7 @@ use Rattle.imago_drivers.specs.Operation.{Operation, Map, Read, Write, Zero, Dis
 use Rattle.imago_drivers.specs.Place.{Place, Lower, End}
 use Rattle.imago_drivers.specs.Causes.{Causes}
 use Rattle.imago_drivers.specs.Pending.{Pending}
+use Rattle.imago_drivers.specs.Lengths.{padded_to}
 use Rattle.imago_drivers.specs.View.{View}
 use Rattle.imago_drivers.specs.Raw.{raw_place}
 
@@ -46,6 +47,19 @@ copy_copies copied size (Grow mode) o n p = ⊥
 copy_copies copied size Shrink o n p = ⊥
 copy_copies copied size Flush o n p = ⊥
 
+-- a write copies the whole disk into the storage, whose last block is padded
+abbrev pub copy_longest : Features → ℕ → Operation → ℕ
+copy_longest f size Write = padded_to f 0 size
+copy_longest f size Map = 0
+copy_longest f size Read = 0
+copy_longest f size Zero = 0
+copy_longest f size DiscardToZero = 0
+copy_longest f size DiscardToAny = 0
+copy_longest f size DiscardToBacking = 0
+copy_longest f size (Grow mode) = 0
+copy_longest f size Shrink = 0
+copy_longest f size Flush = 0
+
 -- a write that waits: its start, its length and its ticket; the bytes of the copy are what it will show
 abbrev pub copy_pending : ℕ → List ℕ → Option Waiting → Option (Pending ℕ)
 copy_pending size bytes None = None
@@ -76,10 +90,15 @@ copy_view f fault_count bytes size copied waiting = record {
   fault_count = fault_count;
   stores = record { count = 1; bytes = λ index. bytes; features = λ index. f };
   special = λ offset. 0;
-  cause = copy_cause;
-  copies = copy_copies copied size;
-  no_memory = λ op o n. ⊥;
-  answers = λ op o n q m. Unit {0};
+  limits = record {
+    cause = copy_cause;
+    copies = copy_copies copied size;
+    no_memory = λ op o n. ⊥;
+    commit_memory = ⊥;
+    whole = λ op o n. ⊥;
+    answers = λ op o n q m. Unit {0};
+    longest = λ op o n index. copy_longest f size op;
+  };
   pending = copy_pending size bytes waiting;
 }
 

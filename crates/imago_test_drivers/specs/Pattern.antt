@@ -67,9 +67,14 @@ pattern_view kind size = record {
   fault_count = 0;
   stores = record { count = 0; bytes = λ index. []; features = λ index. null_features };
   special = λ offset. pattern_byte kind;
-  cause = pattern_cause kind size;
-  copies = λ op o n p. ⊥;
-  no_memory = λ op o n. o + n ≤ size;
-  answers = λ op o n q m. Unit {0};
+  limits = record {
+    cause = pattern_cause kind size;
+    copies = λ op o n p. ⊥;
+    no_memory = λ op o n. Unit {0};
+    commit_memory = ⊥;
+    whole = λ op o n. o + n ≤ size;
+    answers = λ op o n q m. Unit {0};
+    longest = λ op o n index. 0;
+  };
   pending = None;
 }

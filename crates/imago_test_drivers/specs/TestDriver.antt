@@ -1,12 +1,15 @@
-use Rattle.std.specs.Prelude.{ℕ, List}
+use Rattle.std.specs.Prelude.{ℕ, List, Result}
+use Rattle.imago_storage.specs.declared.error.Error.{Error}
 use Rattle.imago_storage.specs.Features.{Features}
 use Rattle.imago_drivers.specs.Laws.{IsLawful, AreCauses}
+use Rattle.imago_drivers.specs.declared.raw.Raw.{Raw}
 use Rattle.imago_drivers.specs.Raw.{raw_view}
 use Rattle.imago_drivers.specs.RawImage.{storage_in, writability_of, size_of as raw_size}
 use Rattle.imago_drivers.specs.RawLaws.{raw_lawful, raw_causes}
 use Rattle.imago_drivers.specs.View.{View}
 use Rattle.imago_test_drivers.specs.Pattern.{kind_of, size_of, pattern_view}
 use Rattle.imago_test_drivers.specs.PatternLaws.{pattern_lawful, pattern_causes}
+use Rattle.imago_test_drivers.specs.declared.pattern.Pattern.{Pattern}
 use Rattle.imago_test_drivers.specs.declared.test_driver.TestDriver.{TestDriver}
 use Rattle.imago_test_drivers.specs.declared.test_driver.TestDriver.TheVariants as T
 
@@ -14,6 +17,13 @@ use Rattle.imago_test_drivers.specs.declared.test_driver.TestDriver.TheVariants 
 abbrev pub test_view : {S : Type 0} {g : _} {h : _} → (S → Features) → (S → ℕ) → (S → List ℕ) → TestDriver S g h → View Unit
 test_view features fault_count bytes (T.Raw r) = raw_view (features (storage_in r)) (fault_count (storage_in r)) (bytes (storage_in r)) (raw_size r) (writability_of r)
 test_view features fault_count bytes (T.Pattern p) = pattern_view (kind_of p) (size_of p)
+
+-- a call on a driver is one on the driver that it is, which stays that one
+abbrev pub by_driver : {S : Type 0} {g : _} {h : _} → (Raw S g h → Raw S g h → Result Unit Error → Type 0) → (Pattern → Pattern → Result Unit Error → Type 0) → TestDriver S g h → TestDriver S g h → Result Unit Error → Type 0
+by_driver raw pattern (T.Raw a) (T.Raw b) r = raw a b r
+by_driver raw pattern (T.Pattern a) (T.Pattern b) r = pattern a b r
+by_driver raw pattern (T.Raw a) (T.Pattern b) r = ⊥
+by_driver raw pattern (T.Pattern a) (T.Raw b) r = ⊥
 
 pub test_lawful : {S : Type 0} {g : _} {h : _} (features : S → Features) (fault_count : S → ℕ) (bytes : S → List ℕ) (d : TestDriver S g h) → IsLawful (test_view features fault_count bytes d)
 test_lawful features fault_count bytes (T.Raw r) = raw_lawful (features (storage_in r)) (fault_count (storage_in r)) (bytes (storage_in r)) (raw_size r) (writability_of r)

@@ -3,7 +3,7 @@ ghost use Rattle.std.specs.Prelude.{◌≡◌, ℕ, ◌+◌, ◌^◌, ◌<◌, �
 ghost use Rattle.std.specs.Option.{ForSome};
 ghost use Rattle.imago_drivers.specs.Place.{HasValues};
 ghost use Rattle.imago_drivers.specs.LayerBelow.{lent, below_reasons};
-ghost use Rattle.imago_drivers.specs.Reasons.{allowed};
+ghost use Rattle.imago_drivers.specs.Reasons.{allowed, none};
 ghost use Rattle.imago_drivers.specs.Pending.{IsOwn};
 ghost use Rattle.imago_test_drivers.specs.CopyOnce.{copy_view, copy_pending, WaitsInside};
 ghost use Rattle.imago_test_drivers.specs.CopyOnceLaws.{copy_lawful, copy_causes};
@@ -37,6 +37,7 @@ pub struct CopyOnce<S: Storage> {
     waiting: Option<Waiting>,
     tickets: u64,
     faults: u64,
+    overwrites: Option<bool>,
     ghost fits: { size < 2 ^ 64 },
     ghost waits_inside: { ForSome waiting (λ w. WaitsInside size copied w) },
 }
@@ -51,7 +52,13 @@ impl<S: Storage> CopyOnce<S> {
             waiting: None,
             tickets: 0,
             faults: 0,
+            overwrites: None,
         }
+    }
+
+    /// Whether the last mapping that was to be prepared was for overwriting. `None` where none was.
+    pub fn overwrites(&self) -> Option<bool> {
+        self.overwrites
     }
 
     /// Whether the mapping is the write that waits.
@@ -105,6 +112,14 @@ impl<S: Storage> FormatDriverInstance for CopyOnce<S> {
     ghost view = { λ d. copy_view (S.features d.storage) (S.fault_count d.storage + d.faults) (S.bytes d.storage) d.size d.copied d.waiting };
 
     ghost recognizes = { λ _. true };
+
+    ghost probe_reasons = { λ _. none };
+
+    ghost flushes = { record {
+      flushed = λ a b r. S.maintenance.flushed a.storage b.storage r × (b.size ≡ a.size) × (b.copied ≡ a.copied) × (b.waiting ≡ a.waiting) × (b.tickets ≡ a.tickets) × (b.faults ≡ a.faults) × (b.overwrites ≡ a.overwrites);
+      synced = λ a b r. S.maintenance.synced a.storage b.storage r × (b.size ≡ a.size) × (b.copied ≡ a.copied) × (b.waiting ≡ a.waiting) × (b.tickets ≡ a.tickets) × (b.faults ≡ a.faults) × (b.overwrites ≡ a.overwrites);
+      invalidated = λ a b r. S.maintenance.invalidated a.storage b.storage r × (b.size ≡ a.size) × (b.copied ≡ a.copied) × (b.waiting ≡ a.waiting) × (b.tickets ≡ a.tickets) × (b.faults ≡ a.faults) × (b.overwrites ≡ a.overwrites);
+    } };
 
     ghost lawful = { λ d. copy_lawful (S.features d.storage) (S.fault_count d.storage + d.faults) (S.bytes d.storage) d.size d.copied d.waiting };
 
@@ -247,8 +262,9 @@ impl<S: Storage> FormatDriverInstance for CopyOnce<S> {
         below: Option<&B>,
         offset: u64,
         count: u64,
-        _overwrite: bool,
+        overwrite: bool,
     ) -> Result<PreparedDataMapping<u64>, Error> {
+        self.overwrites = Some(overwrite);
         if count == 0 {
             return Ok(PreparedDataMapping::existing(0, 0, 0));
         }

@@ -1,8 +1,10 @@
 //! A read-only disk of one kind of place: explicit zeroes, special bytes, or all that the layer below has.
 ghost use Rattle.std.specs.Prelude.{◌≡◌, false, IsErrOf};
+ghost use Rattle.imago_storage.specs.Maintenance.{IsNothing};
 ghost use Rattle.imago_test_drivers.specs.Pattern.{pattern_view, kind_of, size_of};
 ghost use Rattle.imago_test_drivers.specs.PatternLaws.{pattern_lawful, pattern_causes};
 ghost use Rattle.imago_drivers.specs.Commit.{IsCommit, IsCancel};
+ghost use Rattle.imago_drivers.specs.Reasons.{none};
 
 use imago_drivers::drivers::{
     Format, FormatDriverInstance, PreallocateMode, PreparedDataMapping, ShallowMapping,
@@ -64,6 +66,10 @@ impl FormatDriverInstance for Pattern {
     ghost view = { λ d. pattern_view d.kind d.size };
 
     ghost recognizes = { λ _. false };
+
+    ghost probe_reasons = { λ _. none };
+
+    ghost flushes = { record { flushed = IsNothing; synced = IsNothing; invalidated = IsNothing } };
 
     ghost lawful = { λ d. pattern_lawful d.kind d.size };
 

@@ -1,6 +1,6 @@
 //! One of several drivers, so that an image's layers can have different ones.
 ghost use Rattle.imago_drivers.specs.Commit.{IsCommit, IsCancel};
-ghost use Rattle.imago_test_drivers.specs.TestDriver.{test_view, test_lawful, test_causes};
+ghost use Rattle.imago_test_drivers.specs.TestDriver.{test_view, test_lawful, test_causes, by_driver};
 
 use crate::pattern::Pattern;
 use imago_drivers::drivers::{
@@ -46,6 +46,14 @@ impl<S: Storage> FormatDriverInstance for TestDriver<S> {
     ghost view = { λ d. test_view S.features S.fault_count S.bytes d };
 
     ghost recognizes = { ⟦<Raw<S> as FormatDriverInstance>⟧.recognizes };
+
+    ghost probe_reasons = { ⟦<Raw<S> as FormatDriverInstance>⟧.probe_reasons };
+
+    ghost flushes = { record {
+      flushed = by_driver ⟦<Raw<S> as FormatDriverInstance>⟧.flushes.flushed ⟦<Pattern as FormatDriverInstance>⟧.flushes.flushed;
+      synced = by_driver ⟦<Raw<S> as FormatDriverInstance>⟧.flushes.synced ⟦<Pattern as FormatDriverInstance>⟧.flushes.synced;
+      invalidated = by_driver ⟦<Raw<S> as FormatDriverInstance>⟧.flushes.invalidated ⟦<Pattern as FormatDriverInstance>⟧.flushes.invalidated;
+    } };
 
     ghost lawful = { λ d. test_lawful S.features S.fault_count S.bytes d };
 

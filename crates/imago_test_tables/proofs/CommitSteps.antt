@@ -13,7 +13,7 @@ use Rattle.imago_test_tables.specs.declared.sparse.Waiting.{Waiting}
 use Rattle.imago_test_tables.specs.declared.table.Origin.{Origin}
 use Rattle.imago_drivers.specs.Operation.{Operation, Map, Read, Write, Zero, DiscardToZero, DiscardToAny, DiscardToBacking, Grow, Shrink, Flush}
 use Rattle.imago_drivers.specs.Place.{Byte, shown}
-use Rattle.imago_drivers.specs.Causes.{IsSettled, EveryOperation}
+use Rattle.imago_drivers.specs.Causes.{IsSettled, IsOnRange}
 use Rattle.imago_drivers.specs.Pending.{Pending, IsOwn}
 use Rattle.imago_drivers.specs.View.{View}
 use Rattle.imago_drivers.specs.Laws.{AreCauses}
@@ -78,6 +78,7 @@ commit_nothing view d m e laws = record {
   others_stay = λ x. refl;
   reaches = λ p q w x. (w, x);
   settled = λ o x. record { causes = λ op a n q k r t h i j l c. laws.part op a n q k r j l c; copied = λ op a n q k p t h i j l c. laws.part_copied op a n q k p j l c };
+  lengths = record { no_shorter = λ i. omega arith; no_longer = λ i. omega arith };
   framed = record { kind = record { abilities = refl; store_count = refl; store_features = λ i. refl }; size = refl; ends = λ p x. x };
   faults = record { later = omega arith; reliable = λ x. refl; device = λ x. let z : ⊥ = cc in absurd z };
   refusals = tt;
@@ -134,7 +135,7 @@ module _ (f g : Features) (count now_count : ℕ) (first second : List ℕ) (tab
     ends = λ p e. let x = end_entry (at_index first second) p (slice_get now p) e in ap (entry_place (at_index first second) p) (was o n table now fill p None x (λ y. let z : ⊥ = cc in z));
   }
 
-  pub commit_settled : (a b : ℕ) → IsSettled EveryOperation (sparse_cause table short) (sparse_cause now short) (sparse_copies table) (sparse_copies now) a b
+  pub commit_settled : (a b : ℕ) → IsSettled IsOnRange (sparse_cause table short) (sparse_cause now short) (sparse_copies table) (sparse_copies now) a b
   commit_settled a b = record {
     causes = λ op c d q m e t h i j k x. cause_sub table now short op c d q m e (λ p y. was o n table now fill p (Some Origin.Barred) y (λ u. let z : ⊥ = cc in z)) j k x;
     copied = λ op c d q m p t h i j k x. copies_sub table now op c d q m p (λ y. was o n table now fill p (Some Origin.Lower) y (λ u. let z : ⊥ = cc in z)) j k x;

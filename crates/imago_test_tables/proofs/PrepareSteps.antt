@@ -12,7 +12,7 @@ use Rattle.imago_drivers.specs.LayerBelow.{LayerBelow, below_reasons}
 use Rattle.imago_drivers.specs.Reasons.{allowed}
 use Rattle.imago_drivers.specs.Done.{lending_reasons}
 use Rattle.imago_drivers.specs.Causes.{CauseOver}
-use Rattle.imago_drivers.specs.Raw.{HasBytes}
+use Rattle.imago_drivers.specs.Ranges.{HasBytes}
 use Rattle.imago_test_tables.specs.Table.{IsFree}
 use Rattle.imago_test_tables.specs.Sparse.{entry_place, sparse_view, sparse_cause, sparse_copies, HasOldBytes}
 use Rattle.imago_test_tables.proofs.SparseSteps.{copied_shows}
@@ -36,7 +36,7 @@ not_reliable true true e h = let z : ⊥ = cc in z
 not_reliable true false e h = let z : ⊥ = cc in z
 not_reliable false l e h = let z : ⊥ = cc in z
 
-module _ (f g : Features) (count : ℕ) (first second : List ℕ) (table : List Origin) (size : ℕ) (s : Settings) (short : Bool) (waiting : Option Waiting) (l : LayerBelow) (o n run : ℕ) (origin : Origin) (most : run ≤ n)
+module _ (f g : Features) (count : ℕ) (first second : List ℕ) (table : List Origin) (size : ℕ) (s : Settings) (short : Bool) (waiting : Option Waiting) (l : LayerBelow) (o n run : ℕ) (origin : Origin) (most : run ≤ n) (some : 0 < run)
     (equal : (k : ℕ) → k < run → slice_get table (o + k) ≡ Some origin) where
   lower_run : origin ≡ Origin.Lower → (p : ℕ) → IsIn o run p → sparse_copies table Write o n p
   lower_run e p i =
@@ -47,7 +47,7 @@ module _ (f g : Features) (count : ℕ) (first second : List ℕ) (table : List 
       ((a, b), rw q at (equal (p - o) k) ∙ ap (λ x. Some x) e)
 
   below_cause : (e : Error) → origin ≡ Origin.Lower → l.cause o run e → CauseOver (sparse_cause table short) (sparse_copies table) l Write o n e
-  below_cause e lower c = inr (o, run, lower_run lower, c)
+  below_cause e lower c = inr (o, run, some, lower_run lower, c)
 
   -- why the bytes that a copy needs couldn't be had
   pub copy_refused : (e : Error) → (e ≡ Error.Memory) ⊎ ((origin ≡ Origin.Lower) × allowed (below_reasons l o run) e) → allowed (lending_reasons (sparse_view f g count first second table size s short waiting) l Write o n) e

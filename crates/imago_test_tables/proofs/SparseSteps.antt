@@ -1,19 +1,22 @@
-use Rattle.std.proofs.Common.{◌≡◌, ◌≢◌, ℕ, ◌+◌, ◌-◌, ◌<◌, ◌≤◌, ◌⊎◌, ◌&&◌, ⊎_elim, inl, inr, Bool, true, false, List, length, Option, Some, None, refl, sym, ap, ◌∙◌, arith}
+use Rattle.std.proofs.Common.{◌≡◌, ◌≢◌, ℕ, ◌+◌, ◌-◌, ◌<◌, ◌≤◌, ◌⊎◌, ◌&&◌, ⊎_elim, inl, inr, Bool, true, false, List, length, Option, Some, None, refl, sym, ap, ◌∙◌, arith, nat_lt}
 use Rattle.std.specs.Prelude.{slice_index, slice_get, is_none, IsTrue}
 use Rattle.std.proofs.lemmas.Bool.{cases_lt, cases_eq}
+use Rattle.std.proofs.lemmas.Bool.Decides.{nat_tests}
 use Rattle.imago_storage.specs.Features.{Features}
 use Rattle.imago_drivers.specs.declared.mapping.PreparedDataMapping.{PreparedDataMapping}
 use Rattle.imago_test_tables.specs.declared.sparse.Settings.{Settings}
 use Rattle.imago_test_tables.specs.declared.sparse.Waiting.{Waiting}
 use Rattle.imago_test_tables.specs.declared.table.Origin.{Origin}
 use Rattle.imago_test_tables.specs.declared.table.Origin.TheVariants as O
+use Rattle.imago_drivers.specs.Operation.{Write}
 use Rattle.imago_drivers.specs.Place.{Value, Byte, Stored, Lower, IsIn, HasStranger, shown}
-use Rattle.imago_drivers.specs.Pending.{Pending, IsOwn}
+use Rattle.imago_drivers.specs.Pending.{Pending, IsOwn, StaysPending}
+use Rattle.imago_drivers.specs.Lengths.{padded_to}
 use Rattle.imago_drivers.specs.View.{View}
 use Rattle.imago_drivers.specs.Resized.{IsSameDisk}
 use Rattle.imago_drivers.specs.Frame.{IsUnchanged}
 use Rattle.imago_drivers.specs.Prepared.{IsPrepared, IsPut, is_written}
-use Rattle.imago_drivers.specs.Raw.{HasBytes}
+use Rattle.imago_drivers.specs.Ranges.{HasBytes}
 use Rattle.imago_test_tables.specs.Pair.{at_index}
 use Rattle.imago_test_tables.specs.Table.{IsOneKind, IsFree, index_of}
 use Rattle.imago_test_tables.specs.Sparse.{entry_place, sparse_place, sparse_view, sparse_pending, waiting_byte, waiting_write, HasOldByte, WaitsApart}
@@ -135,16 +138,31 @@ sparse_put bytes now table s o xs torn keeps known change other = record {
       (λ e. byte_stays bytes now table s o xs torn known (change k) other 1 p (omega arith) (λ same. outside bytes table s o (length xs) p non Origin.Second e (ap (λ x. Some x) same)));
 }
 
+-- what is pending stays so where it is the same
+pub stays_same : (keeps : Bool) (p : Option (Pending ℕ)) → StaysPending keeps p p
+stays_same keeps None = refl
+stays_same keeps (Some q) = (q, refl, record { same = refl; shown = λ k p a b. refl })
+
+pub stays_equal : (keeps : Bool) (old new : Option (Pending ℕ)) → new ≡ old → StaysPending keeps old new
+stays_equal keeps old new e = rw e (stays_same keeps old)
+
+-- a write of fewer bytes pads no further
+pub padded_more : (f : Features) (at m n : ℕ) → m ≤ n → padded_to f at m ≤ padded_to f at n
+padded_more f at m n h = ⊎_elim
+    (λ some. let t : nat_lt 0 m ≡ true = grind (arith, nat_tests) in let u : nat_lt 0 n ≡ true = grind (arith, nat_tests) in rw (t, u) (omega arith))
+    (λ none. let t : nat_lt 0 m ≡ false = grind (arith, nat_tests) in rw t (omega arith))
+    (cases_lt 0 m)
+
 -- a mapping without state that wasn't written, since it is refused or has no byte
 pub unwritten : (v : View ℕ) (m : PreparedDataMapping ℕ) (st : Option ℕ) (at : ℕ) (xs : List ℕ) → is_written st true v v m at xs
-unwritten v m None at xs = (record { stored = λ p b s f w e. (b, e); hit = λ k p b i w l e. inr (refl, refl); miss = λ k p n. refl }, refl)
+unwritten v m None at xs = (record { stored = λ p b s f w e. (b, e); hit = λ k p b i w l e. inr (refl, refl); miss = λ k p n. refl }, stays_same v.abilities.keeps_data v.pending)
 unwritten v m (Some s) at xs = (
   record { stored = λ p b s f w e. (b, e); same = λ k p. refl },
   λ q e. (q, e, refl, λ k. record { same = refl; changed = record { inside = λ j h. inr (refl, refl); before = λ p h. refl; behind = λ p h. refl } }),
 )
 
 pub nothing_written : (v : View ℕ) (m : PreparedDataMapping ℕ) (st : Option ℕ) (at : ℕ) (xs : List ℕ) → is_none st ≡ true → length xs ≡ 0 → is_written st false v v m at xs
-nothing_written v m None at xs e n = (record { stored = λ p b s f w e. (b, e); hit = λ k p b i w l e. absurd (omega (arith, n, l)); miss = λ k p x. refl }, refl)
+nothing_written v m None at xs e n = (record { stored = λ p b s f w e. (b, e); hit = λ k p b i w l e. absurd (omega (arith, n, l)); miss = λ k p x. refl }, stays_same v.abilities.keeps_data v.pending)
 nothing_written v m (Some s) at xs e n = let z : ⊥ = cc in absurd z
 
 module _ (f g : Features) (count now_count : ℕ) (first second now : List ℕ) (table : List Origin) (size : ℕ) (s : Settings) (short : Bool) where
@@ -215,6 +233,8 @@ same_table f g count first second table now size s short waiting e = rw e (recor
   size = refl;
   places = record { stored = λ p b s o v x. (b, x); same = λ k p. refl };
   reaches = λ p q v x. (v, x);
+  ends = λ p x. x;
+  no_shorter = λ i. omega arith;
 })
 
 -- entries of an origin that is none of a storage, nor barred, are free
@@ -243,7 +263,7 @@ still_waits keeps bytes now table waiting s o xs torn origin known i apart equal
     (cases_lt p (o + length xs)))
     (cases_lt p o)))
 
-some_run : (table : List Origin) (o run count : ℕ) (origin : Origin) → slice_get table o ≡ Some origin → (run < count → slice_get table (o + run) ≢ Some origin) → 0 < count → 0 < run
+pub some_run : (table : List Origin) (o run count : ℕ) (origin : Origin) → slice_get table o ≡ Some origin → (run < count → slice_get table (o + run) ≢ Some origin) → 0 < count → 0 < run
 some_run table o run count origin at ends some = ⊎_elim
     (λ a. a)
     (λ none. let z : run ≡ 0 = omega arith in let q : o + run ≡ o = omega arith in absurd (ends (omega arith) (rw q at)))
@@ -261,6 +281,9 @@ prepared_existing f g count first second table size s short waiting o most run i
   some = λ h. let x = some_run table o run most origin at ends h in omega (arith, c, x);
   part = (omega (arith, c), one_kind table o m.length (Some origin) at (λ k h. equal k (omega (arith, c, h))));
   whole = λ h. absurd h;
+  no_memory = λ h. absurd h;
+  later = λ i. let x = padded_more f o m.length most (omega (arith, c)) in omega (arith, x);
+  around = λ q e. let x = sym spent ∙ e in let z : ⊥ = cc in absurd z;
   direct = λ e. (
     spent,
     λ k h. (
@@ -277,14 +300,19 @@ pub prepared_apart : (f g : Features) (count : ℕ) (first second now : List ℕ
     (o most run t : ℕ) (origin : Origin) (overwrite : Bool) (disk : ℕ → Value) (m : PreparedDataMapping ℕ)
     → v.pending ≡ sparse_pending (f.keeps_data && g.keeps_data) now (Some (waiting_write o run t)) → slice_get table o ≡ Some origin → run ≤ most
     → ((k : ℕ) → k < run → slice_get table (o + k) ≡ Some origin) → (run < most → slice_get table (o + run) ≢ Some origin)
-    → m.storage ≡ 0 → m.offset ≡ o → m.length ≡ run → m.state ≡ Some t
+    → ((i : ℕ) → v.limits.longest Write o m.length i ≡ padded_to f o m.length) → m.storage ≡ 0 → m.offset ≡ o → m.length ≡ run → m.state ≡ Some t
     → (IsTrue (f.keeps_data && g.keeps_data) → overwrite ≡ false → (p : ℕ) → IsIn o run p → disk p ≡ Byte (slice_index now p))
     → IsPrepared o most overwrite disk (sparse_view f g count first second table size s short waiting) v m
-prepared_apart f g count first second now table size s short waiting v o most run t origin overwrite disk m pending at within equal ends a b c d shows = record {
+prepared_apart f g count first second now table size s short waiting v o most run t origin overwrite disk m pending at within equal ends long a b c d shows = record {
   within = omega (arith, c);
   some = λ h. let x = some_run table o run most origin at ends h in omega (arith, c, x);
   part = (omega (arith, c), one_kind table o m.length (Some origin) at (λ k h. equal k (omega (arith, c, h))));
   whole = λ h. absurd h;
+  no_memory = λ h. absurd h;
+  later = λ i. let x = padded_more f o m.length most (omega (arith, c)) in rw (long i) (omega (arith, x));
+  around = λ q e.
+      let x : q ≡ record { start = o; storage = 0; offset = o; length = run; state = t; from = o; until = o + run; bytes = waiting_byte (f.keeps_data && g.keeps_data) now (waiting_write o run t) } = cc in
+      rw x (omega arith, omega arith);
   direct = λ e. let z : ⊥ = cc in absurd z;
   apart = λ x e. (
     record { start = o; storage = 0; offset = o; length = run; state = t; from = o; until = o + run; bytes = waiting_byte (f.keeps_data && g.keeps_data) now (waiting_write o run t) },

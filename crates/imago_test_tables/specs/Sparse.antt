@@ -14,9 +14,10 @@ use Rattle.imago_drivers.specs.Operation.{Operation, Map, Read, Write, Zero, Dis
 use Rattle.imago_drivers.specs.Place.{Value, Byte, Place, Stored, Zeroed, Lower, Refused, End, IsIn}
 use Rattle.imago_drivers.specs.Causes.{Causes}
 use Rattle.imago_drivers.specs.Pending.{Pending}
+use Rattle.imago_drivers.specs.Lengths.{padded_to}
 use Rattle.imago_drivers.specs.View.{View}
 use Rattle.imago_test_tables.specs.Table.{AllClear, HasBarred, IsFree, IsOneKind}
-use Rattle.imago_test_tables.specs.Pair.{at_index}
+use Rattle.imago_test_tables.specs.Pair.{at_index, pair_stores}
 
 -- the place of an entry at an offset, over storages of these bytes
 abbrev pub entry_place : (ℕ → List ℕ) → ℕ → Option Origin → Place
@@ -85,17 +86,17 @@ sparse_copies table Shrink o n p = ⊥
 sparse_copies table Flush o n p = ⊥
 
 -- Zero calls and discards take no memory, and do the whole of a range with no barred entry inside the table; a cut takes none.
-abbrev pub sparse_no_memory : List Origin → Operation → ℕ → ℕ → Type 0
-sparse_no_memory table Map o n = ⊥
-sparse_no_memory table Read o n = ⊥
-sparse_no_memory table Write o n = ⊥
-sparse_no_memory table Zero o n = AllClear table o n
-sparse_no_memory table DiscardToZero o n = AllClear table o n
-sparse_no_memory table DiscardToAny o n = AllClear table o n
-sparse_no_memory table DiscardToBacking o n = AllClear table o n
-sparse_no_memory table (Grow mode) o n = ⊥
-sparse_no_memory table Shrink o n = Unit {0}
-sparse_no_memory table Flush o n = ⊥
+abbrev pub is_plain : List Origin → Operation → ℕ → ℕ → Type 0
+is_plain table Map o n = ⊥
+is_plain table Read o n = ⊥
+is_plain table Write o n = ⊥
+is_plain table Zero o n = AllClear table o n
+is_plain table DiscardToZero o n = AllClear table o n
+is_plain table DiscardToAny o n = AllClear table o n
+is_plain table DiscardToBacking o n = AllClear table o n
+is_plain table (Grow mode) o n = ⊥
+is_plain table Shrink o n = Unit {0}
+is_plain table Flush o n = ⊥
 
 -- A mapping is for entries of one kind; a zero call or discard does the whole range.
 abbrev pub sparse_answers : List Origin → Operation → ℕ → ℕ → ℕ → ℕ → Type 0
@@ -109,6 +110,19 @@ sparse_answers table DiscardToBacking o n q m = (q ≡ o) × (m ≡ n)
 sparse_answers table (Grow mode) o n q m = Unit {0}
 sparse_answers table Shrink o n q m = Unit {0}
 sparse_answers table Flush o n q m = Unit {0}
+
+-- a write copies bytes into the first storage, whose last block is padded
+abbrev pub sparse_longest : Features → Operation → ℕ → ℕ → ℕ → ℕ
+sparse_longest f Write o n index = padded_to f o n
+sparse_longest f Map o n index = 0
+sparse_longest f Read o n index = 0
+sparse_longest f Zero o n index = 0
+sparse_longest f DiscardToZero o n index = 0
+sparse_longest f DiscardToAny o n index = 0
+sparse_longest f DiscardToBacking o n index = 0
+sparse_longest f (Grow mode) o n index = 0
+sparse_longest f Shrink o n index = 0
+sparse_longest f Flush o n index = 0
 
 -- a byte of the range that a write waits for, as the first storage has it; 0 outside, and where storages don't keep their data
 abbrev pub waiting_byte : Bool → List ℕ → Waiting → ℕ → ℕ
@@ -142,12 +156,17 @@ sparse_view f g fault_count first second table size s short waiting = record {
   size = size;
   place = sparse_place (at_index first second) table;
   fault_count = fault_count;
-  stores = record { count = 2; bytes = at_index first second; features = at_index f g };
+  stores = pair_stores f g first second;
   special = λ offset. 0;
-  cause = sparse_cause table short;
-  copies = sparse_copies table;
-  no_memory = sparse_no_memory table;
-  answers = sparse_answers table;
+  limits = record {
+    cause = sparse_cause table short;
+    copies = sparse_copies table;
+    no_memory = is_plain table;
+    commit_memory = ⊥;
+    whole = is_plain table;
+    answers = sparse_answers table;
+    longest = sparse_longest f;
+  };
   pending = sparse_pending (f.keeps_data && g.keeps_data) first waiting;
 }
 

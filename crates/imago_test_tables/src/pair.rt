@@ -3,8 +3,9 @@ ghost use Rattle.std.specs.Prelude.{◌≡◌, ◌≢◌, ℕ, ◌+◌, ◌<◌,
 ghost use Rattle.imago_storage.specs.Bytes.{IsReadAt};
 ghost use Rattle.imago_storage.specs.Error.{IsExtRefusal, IsDeviceOrMemory};
 ghost use Rattle.imago_storage.specs.Faults.{CountsFaults};
-ghost use Rattle.imago_drivers.specs.Raw.{HasBytes};
-ghost use Rattle.imago_test_tables.specs.Pair.{at_index};
+ghost use Rattle.imago_drivers.specs.Lengths.{GrowAt};
+ghost use Rattle.imago_drivers.specs.Ranges.{HasBytes};
+ghost use Rattle.imago_test_tables.specs.Pair.{at_index, pair_stores, in_turn};
 
 use imago_drivers::stored::write_bytes;
 use imago_storage::error::Error;
@@ -84,6 +85,11 @@ impl<S: Storage> Pair<S> {
             → i ≢ index
             → at_index (S.bytes self.new.first) (S.bytes self.new.second) i ≡ at_index (S.bytes self.old.first)
             (S.bytes self.old.second) i }
+        ensures lengths { GrowAt index offset (length source.now)
+            (pair_stores (S.features self.old.first) (S.features self.old.second) (S.bytes self.old.first)
+            (S.bytes self.old.second))
+            (pair_stores (S.features self.new.first) (S.features self.new.second) (S.bytes self.new.first)
+            (S.bytes self.new.second)) }
         ensures first_features { S.features self.new.first ≡ S.features self.old.first }
         ensures second_features { S.features self.new.second ≡ S.features self.old.second }
         ensures only { IfErr result IsExtRefusal }
@@ -100,6 +106,8 @@ impl<S: Storage> Pair<S> {
 
     /// Writes what both storages buffer.
     pub(crate) fn flush(&mut self) -> Result<(), Error>
+        ensures performed { in_turn S.maintenance.flushed self.old.first self.old.second self.new.first
+            self.new.second result }
         ensures first { S.bytes self.new.first ≡ S.bytes self.old.first }
         ensures second { S.bytes self.new.second ≡ S.bytes self.old.second }
         ensures first_features { S.features self.new.first ≡ S.features self.old.first }
@@ -116,6 +124,8 @@ impl<S: Storage> Pair<S> {
 
     /// Syncs both storages.
     pub(crate) fn sync(&mut self) -> Result<(), Error>
+        ensures performed { in_turn S.maintenance.synced self.old.first self.old.second self.new.first
+            self.new.second result }
         ensures first { S.bytes self.new.first ≡ S.bytes self.old.first }
         ensures second { S.bytes self.new.second ≡ S.bytes self.old.second }
         ensures first_features { S.features self.new.first ≡ S.features self.old.first }
@@ -132,6 +142,8 @@ impl<S: Storage> Pair<S> {
 
     /// Drops what both storages cache.
     pub(crate) fn invalidate_cache(&mut self) -> Result<(), Error>
+        ensures performed { in_turn S.maintenance.invalidated self.old.first self.old.second self.new.first
+            self.new.second result }
         ensures first { S.bytes self.new.first ≡ S.bytes self.old.first }
         ensures second { S.bytes self.new.second ≡ S.bytes self.old.second }
         ensures first_features { S.features self.new.first ≡ S.features self.old.first }

@@ -4,10 +4,10 @@ ghost use Rattle.std.specs.Option.{ForSome};
 ghost use Rattle.imago_drivers.specs.Parts.{storage_of, offset_of, length_of, state_of};
 ghost use Rattle.imago_drivers.specs.Place.{HasValues, IsIn, values};
 ghost use Rattle.imago_drivers.specs.LayerBelow.{lent, below_reasons};
-ghost use Rattle.imago_drivers.specs.Reasons.{allowed};
+ghost use Rattle.imago_drivers.specs.Reasons.{allowed, none};
 ghost use Rattle.imago_drivers.specs.Pending.{IsOwn};
 ghost use Rattle.imago_drivers.specs.Commit.{IsCommit, IsCancel};
-ghost use Rattle.imago_test_tables.specs.Pair.{at_index};
+ghost use Rattle.imago_test_tables.specs.Pair.{at_index, in_turn};
 ghost use Rattle.imago_test_tables.specs.Table.{IsFree};
 ghost use Rattle.imago_test_tables.specs.Sparse.{sparse_view, sparse_pending, sparse_place, WaitsApart, HasOldByte, HasOldBytes, mapping_of, origin_for, waiting_write};
 ghost use Rattle.imago_test_tables.specs.SparseLaws.{sparse_lawful, sparse_causes};
@@ -190,6 +190,14 @@ impl<S: Storage> FormatDriverInstance for Sparse<S> {
     ghost view = { λ d. sparse_view (S.features d.storages.first) (S.features d.storages.second) (S.fault_count d.storages.first + S.fault_count d.storages.second + d.faults) (S.bytes d.storages.first) (S.bytes d.storages.second) d.table.items d.size d.settings d.short d.waiting };
 
     ghost recognizes = { λ _. false };
+
+    ghost probe_reasons = { λ _. none };
+
+    ghost flushes = { record {
+      flushed = λ a b r. in_turn S.maintenance.flushed a.storages.first a.storages.second b.storages.first b.storages.second r × (b.table.items ≡ a.table.items);
+      synced = λ a b r. in_turn S.maintenance.synced a.storages.first a.storages.second b.storages.first b.storages.second r × (b.table.items ≡ a.table.items);
+      invalidated = λ a b r. in_turn S.maintenance.invalidated a.storages.first a.storages.second b.storages.first b.storages.second r × (b.table.items ≡ a.table.items);
+    } };
 
     ghost lawful = { λ d. sparse_lawful (S.features d.storages.first) (S.features d.storages.second) (S.fault_count d.storages.first + S.fault_count d.storages.second + d.faults) (S.bytes d.storages.first) (S.bytes d.storages.second) d.table.items d.size d.settings d.short d.waiting d.bounded d.granular };
 

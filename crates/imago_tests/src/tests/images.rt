@@ -1,1 +1,15 @@
-//! Drivers, and images over chains of layers.
+//! Drivers, and images of them: tables of calls and what each answers.
+//!
+//! A table is made on a driver or an image by one generic function, which is named once for each type: so the proofs of
+//! the tests stay short.
+mod answer;
+mod chains;
+mod copies;
+mod driver;
+mod image;
+mod mem;
+mod raw;
+mod runs;
+mod set_up;
+mod sparse;
+mod zeroes;

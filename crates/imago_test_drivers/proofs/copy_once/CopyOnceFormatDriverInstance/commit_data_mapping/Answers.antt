@@ -20,6 +20,7 @@ returns g c =
       others_stay = λ e. absurd (own_has_state _ m own e);
       reaches = copy_reaches f n n B B s.size s.copied s.waiting;
       settled = λ o e. copy_settled f n B s.size s.copied s.waiting o m.length;
+      lengths = record { no_shorter = λ i. omega arith; no_longer = λ i. omega arith };
       framed = copy_framed f n n B B s.size s.copied s.waiting;
       faults = record { later = omega arith; reliable = λ e. refl; device = λ e. let z : ⊥ = cc in absurd z };
       refusals = tt;

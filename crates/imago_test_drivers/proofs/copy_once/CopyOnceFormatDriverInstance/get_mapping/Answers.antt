@@ -1,6 +1,7 @@
 use Rattle.std.proofs.Common.{arith, inr, ◌+◌, ◌≡◌, true}
 use Rattle.std.specs.Prelude.{slice_index}
 use Rattle.imago_drivers.specs.RawLaws.{raw_in, raw_refused}
+use Rattle.imago_drivers.proofs.RawSteps.{raw_first}
 use Rattle.imago_test_drivers.proofs.copy_once.CopyOnceFormatDriverInstance.get_mapping.Goals as goal
 
 pub returns-clause-right : goal.returns-clause-right
@@ -10,6 +11,7 @@ returns-clause-right g c =
     let copied : s.copied ≡ true = c.if-not-self.false in
     rw copied (record {
       names = λ i h. (slice_index B (c.args.offset + i), raw_in s.size B (c.args.offset + i) (omega arith));
+      first = λ e. raw_first s.size B c.args.offset (omega arith);
       eof = (λ z. absurd z, λ e. let x = raw_in s.size B c.args.offset (omega arith) in let z : ⊥ = cc in z);
       no_refusal = λ e. raw_refused s.size B c.args.offset e;
       empty = λ z. inr (omega arith);

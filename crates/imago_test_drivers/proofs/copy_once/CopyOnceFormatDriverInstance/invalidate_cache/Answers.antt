@@ -1,7 +1,18 @@
-use Rattle.imago_test_drivers.proofs.CopySteps.{same_bytes}
+use Rattle.std.proofs.Common.{◌+◌, arith, refl}
+use Rattle.imago_test_drivers.specs.CopyOnce.{copy_view}
+use Rattle.imago_test_drivers.proofs.CopySteps.{same_bytes, copy_faults, copy_flush_refused}
 use Rattle.imago_test_drivers.proofs.copy_once.CopyOnceFormatDriverInstance.invalidate_cache.Goals as goal
 
-pub returns-clause-unchanged : goal.returns-clause-unchanged
-returns-clause-unchanged g c =
+pub returns : goal.returns
+returns g c =
     let s = c.args.self.now in
-    same_bytes _ _ _ _ _ _ s.size s.copied s.waiting c.invalidate_cache.ensures.unchanged c.invalidate_cache.ensures.features
+    let e = c.invalidate_cache.ensures in
+    record {
+      performed = (e.performed, refl, refl, refl, refl, refl, refl);
+      unchanged = same_bytes _ _ _ _ _ _ s.size s.copied s.waiting e.unchanged e.features;
+      pending = rw e.unchanged refl;
+      causes = record { causes = λ op o n r x. x; copied = λ op o n p x. x };
+      lengths = record { no_shorter = λ i. rw e.unchanged (omega arith); no_longer = λ i. rw e.unchanged (omega arith) };
+      faults = copy_faults _ _ s.faults _ c.invalidate_cache.result e.cause;
+      refusals = copy_flush_refused (copy_view (g.S.Storage.features s.storage) (g.S.Storage.fault_count s.storage + s.faults) (g.S.Storage.bytes s.storage) s.size s.copied s.waiting) (λ x. x) c.invalidate_cache.result e.only;
+    }

@@ -28,7 +28,7 @@ returns-clause-written g c =
     let m = c.args.mapping.now in
     let stateless : is_none m.state ≡ true = sym c.if-not-is_nonblocking.ensures in
     let zero : m.storage ≡ 0 = omega (arith, c.storage.ensures, c.if-storage-ne0.false) in
-    on_ok_weaker c.write_bytes-2.result (λ h. written_stateless _ _ m m.state false c.args.at c.args.source.now stateless (no_pending s.size _ _ s.copied s.waiting c.if-not-self.false s.waits_inside) (rw zero h))
+    on_ok_weaker c.write_bytes-2.result (λ h. written_stateless _ _ m m.state false c.args.at c.args.source.now stateless (no_pending (g.S.Storage.features s.storage).keeps_data s.size (g.S.Storage.bytes s.storage) (g.S.Storage.bytes c.write_bytes-2.new.storage) s.copied s.waiting c.if-not-self.false s.waits_inside) (rw zero h))
     (copy_put_on_ok s.size _ _ s.copied _ (m.offset + c.args.at) _ c.write_bytes-2.result (rw c.offset-start.ensures at c.write_bytes-2.ensures.written))
 
 pub returns-clause-torn : goal.returns-clause-torn
@@ -37,7 +37,7 @@ returns-clause-torn g c =
     let m = c.args.mapping.now in
     let stateless : is_none m.state ≡ true = sym c.if-not-is_nonblocking.ensures in
     let zero : m.storage ≡ 0 = omega (arith, c.storage.ensures, c.if-storage-ne0.false) in
-    on_err_weaker c.write_bytes-2.result (λ h. written_stateless _ _ m m.state true c.args.at c.args.source.now stateless (no_pending s.size _ _ s.copied s.waiting c.if-not-self.false s.waits_inside) (rw zero h))
+    on_err_weaker c.write_bytes-2.result (λ h. written_stateless _ _ m m.state true c.args.at c.args.source.now stateless (no_pending (g.S.Storage.features s.storage).keeps_data s.size (g.S.Storage.bytes s.storage) (g.S.Storage.bytes c.write_bytes-2.new.storage) s.copied s.waiting c.if-not-self.false s.waits_inside) (rw zero h))
     (copy_put_on_err s.size _ _ s.copied _ (m.offset + c.args.at) _ c.write_bytes-2.result (rw c.offset-start.ensures at c.write_bytes-2.ensures.torn))
 
 pub returns-then-start-self-clause-foreign : goal.returns-then-start-self-clause-foreign

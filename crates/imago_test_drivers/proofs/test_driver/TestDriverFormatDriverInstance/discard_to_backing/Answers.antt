@@ -1,4 +1,4 @@
 use Rattle.imago_test_drivers.proofs.test_driver.TestDriverFormatDriverInstance.discard_to_backing.Goals as goal
 
-pub returns-in-Raw-clause-framed : goal.returns-in-Raw-clause-framed
-returns-in-Raw-clause-framed g c = rw c.in-Raw.is c.discard_to_backing.ensures.framed
+pub returns-in-Raw : goal.returns-in-Raw
+returns-in-Raw g c = rw c.in-Raw.is c.discard_to_backing.ensures.call

@@ -1,7 +1,9 @@
+use Rattle.imago_test_drivers.specs.declared.test_driver.TestDriver.TheVariants as T
+use Rattle.imago_test_drivers.proofs.Variants.{flush_of}
 use Rattle.imago_test_drivers.proofs.test_driver.TestDriverFormatDriverInstance.flush.Goals as goal
 
-pub returns-in-Raw-clause-unchanged : goal.returns-in-Raw-clause-unchanged
-returns-in-Raw-clause-unchanged g c = rw c.in-Raw.is c.flush.ensures.unchanged
+pub returns-in-Raw : goal.returns-in-Raw
+returns-in-Raw g c = rw c.in-Raw.is (flush_of (λ r. T.Raw r) _ _ _ _ _ _ (λ p. p) c.flush.ensures)
 
-pub returns-in-Pattern-clause-unchanged : goal.returns-in-Pattern-clause-unchanged
-returns-in-Pattern-clause-unchanged g c = rw c.in-Pattern.is c.flush-in-Pattern.ensures.unchanged
+pub returns-in-Pattern : goal.returns-in-Pattern
+returns-in-Pattern g c = rw c.in-Pattern.is (flush_of (λ p. T.Pattern p) _ _ _ _ _ _ (λ p. p) c.flush-in-Pattern.ensures)

@@ -13,6 +13,7 @@ returns-then-own g c =
       untouched = λ x. absurd (own_is_known _ m m.state refl own x);
       places = record { stored = λ p b i o w e. (b, e); same = λ k p. refl };
       reaches = λ p q w e. (w, e);
+      lengths = record { no_shorter = λ i. omega arith; no_longer = λ i. omega arith };
       framed = record { kind = record { abilities = refl; store_count = refl; store_features = λ i. refl }; size = refl; ends = λ p x. x };
       later = omega arith;
       reliable = λ e. refl;
@@ -27,6 +28,7 @@ returns-else-own g c =
       untouched = λ x. refl;
       places = record { stored = λ p b i o w e. (b, e); same = λ k p. refl };
       reaches = λ p q w e. (w, e);
+      lengths = record { no_shorter = λ i. omega arith; no_longer = λ i. omega arith };
       framed = record { kind = record { abilities = refl; store_count = refl; store_features = λ i. refl }; size = refl; ends = λ p x. x };
       later = omega arith;
       reliable = λ e. refl;

@@ -29,6 +29,7 @@ returns-in_default-fail_commit_after g c =
       others_stay = λ e. absurd (own_has_state _ m own e);
       reaches = commit_reaches f h n n A B s.table.items _ s.size s.settings s.short m.offset m.length fill s.waiting None;
       settled = λ o e. commit_settled f h n n A B s.table.items _ s.size s.settings s.short m.offset m.length fill o m.length;
+      lengths = record { no_shorter = λ i. omega arith; no_longer = λ i. omega arith };
       framed = commit_framed f h n n A B s.table.items _ s.size s.settings s.short m.offset m.length fill s.waiting None;
       faults = record { later = omega arith; reliable = λ e. refl; device = λ e. let z : ⊥ = cc in absurd z };
       refusals = tt;
@@ -55,6 +56,7 @@ returns g c =
       others_stay = λ e. absurd (own_has_state _ m own e);
       reaches = commit_reaches f h n (g.S.Storage.fault_count s.storages.first + g.S.Storage.fault_count s.storages.second + c.saturating_add-self.result) A B s.table.items _ s.size s.settings s.short m.offset made fill s.waiting None;
       settled = tt;
+      lengths = record { no_shorter = λ i. omega arith; no_longer = λ i. omega arith };
       framed = commit_framed f h n (g.S.Storage.fault_count s.storages.first + g.S.Storage.fault_count s.storages.second + c.saturating_add-self.result) A B s.table.items _ s.size s.settings s.short m.offset made fill s.waiting None;
       faults = record {
         later = omega (arith, c.saturating_add-self.ensures);

@@ -1,8 +1,17 @@
+use Rattle.std.proofs.Common.{arith, refl}
 use Rattle.imago_test_tables.proofs.SparseSteps.{same_stores}
 use Rattle.imago_test_tables.proofs.sparse.SparseFormatDriverInstance.flush.Goals as goal
 
-pub returns-clause-unchanged : goal.returns-clause-unchanged
-returns-clause-unchanged g c =
+pub returns : goal.returns
+returns g c =
     let s = c.args.self.now in
     let e = c.flush.ensures in
-    same_stores _ _ _ _ _ _ _ _ _ _ s.table.items s.size s.settings s.short s.waiting e.first e.second e.first_features e.second_features
+    record {
+      performed = (e.performed, refl);
+      unchanged = same_stores _ _ _ _ _ _ _ _ _ _ s.table.items s.size s.settings s.short s.waiting e.first e.second e.first_features e.second_features;
+      pending = rw (e.first, e.first_features, e.second_features) refl;
+      causes = record { causes = λ op o n r x. x; copied = λ op o n p x. x };
+      lengths = record { no_shorter = λ i. rw (e.first, e.second) (omega arith); no_longer = λ i. rw (e.first, e.second) (omega arith) };
+      faults = search;
+      refusals = search;
+    }

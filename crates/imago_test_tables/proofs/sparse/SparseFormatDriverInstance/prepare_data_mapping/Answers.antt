@@ -5,7 +5,7 @@ use Rattle.imago_test_tables.specs.Pair.{at_index}
 use Rattle.imago_test_tables.specs.Table.{index_of}
 use Rattle.imago_test_tables.specs.Sparse.{sparse_place}
 use Rattle.imago_test_tables.proofs.CommitSteps.{rose}
-use Rattle.imago_test_tables.proofs.SparseSteps.{free_run, prepared_existing, prepared_apart, unchanged_apart, hidden_write}
+use Rattle.imago_test_tables.proofs.SparseSteps.{some_run, free_run, prepared_existing, prepared_apart, unchanged_apart, hidden_write}
 use Rattle.imago_test_tables.proofs.PrepareSteps.{shown_copy, not_reliable, unreliable, copy_refused}
 use Rattle.imago_test_tables.proofs.sparse.SparseFormatDriverInstance.prepare_data_mapping.Goals as goal
 
@@ -83,7 +83,7 @@ returns-then-overwrite-clause-prepared g c =
     let none : index_of origin ≡ None = sym c.storage_index.ensures ∙ c.in_default-storage_index.is in
     let e = c.wait.ensures in
     prepared_apart f h n A B A table s.size s.settings s.short s.waiting _ o c.args.count run c.wait.new.self.tickets origin c.args.overwrite _ c.wait.result
-    (rw (e.storages, e.waits) refl) at c.run_of-run.ensures.most equal ends e.storage e.start e.count e.state (λ k over. let x = c.if-overwrite.true in let z : ⊥ = cc in absurd z)
+    (rw (e.storages, e.waits) refl) at c.run_of-run.ensures.most equal ends (λ i. rw (e.storages) refl) e.storage e.start e.count e.state (λ k over. let x = c.if-overwrite.true in let z : ⊥ = cc in absurd z)
 
 pub returns-then-overwrite-clause-unchanged : goal.returns-then-overwrite-clause-unchanged
 returns-then-overwrite-clause-unchanged g c =
@@ -179,7 +179,7 @@ returns-in_ok-write-in-Ok-clause-prepared g c =
     let e = c.wait-in-Ok.ensures in
     let free = free_run table o run origin none c.in_default-origin.not-Barred equal in
     prepared_apart f h n A B (g.S.Storage.bytes t.first) table s.size s.settings s.short s.waiting _ o c.args.count run c.wait-in-Ok.new.self.tickets origin c.args.overwrite _ c.wait-in-Ok.result
-    (rw (e.storages, c.write.ensures.first_features, c.write.ensures.second_features, e.waits) refl) at c.run_of-run.ensures.most equal ends e.storage e.start e.count e.state
+    (rw (e.storages, c.write.ensures.first_features, c.write.ensures.second_features, e.waits) refl) at c.run_of-run.ensures.most equal ends (λ i. rw (e.storages, c.write.ensures.first_features) refl) e.storage e.start e.count e.state
     (λ k over. shown_copy _ (at_index A B) table A (g.S.Storage.bytes t.first) c.in-Ok.bytes.items o run origin free equal c.in-Ok.ensures.count c.in-Ok.ensures.bytes (rw c.deref-in-Ok.ensures.value at (c.in_ok-write-in-Ok.ensures.written k)))
 
 pub returns-in-Err-clause-refusals : goal.returns-in-Err-clause-refusals
@@ -197,7 +197,7 @@ returns-in-Err-clause-refusals g c =
     let at : slice_get table o ≡ Some origin = rw c.deref.ensures.value at (sym c.entry.ensures ∙ c.in-Some.is) in
     let equal : (k : ℕ) → k < run → slice_get table (o + k) ≡ Some origin = rw c.deref-2.ensures.value at c.run_of-run.ensures.equal in
     let ends : run < c.args.count → slice_get table (o + run) ≢ Some origin = rw c.deref-2.ensures.value at c.run_of-run.ensures.ends in
-    copy_refused f h n A B table s.size s.settings s.short s.waiting (lent g.B.LowerLayer.as_layer_below c.args.below) o c.args.count run origin c.run_of-run.ensures.most equal c.in-Err.e c.in-Err.ensures.refusals
+    copy_refused f h n A B table s.size s.settings s.short s.waiting (lent g.B.LowerLayer.as_layer_below c.args.below) o c.args.count run origin c.run_of-run.ensures.most (some_run table o run c.args.count origin at ends (omega arith)) equal c.in-Err.e c.in-Err.ensures.refusals
 
 pub returns-in-Err-Device-clause-faults : goal.returns-in-Err-Device-clause-faults
 returns-in-Err-Device-clause-faults g c =

@@ -2,9 +2,9 @@ use Rattle.std.proofs.Common.{arith, ◌&&◌, ℕ, refl, sym, ◌≡◌, ◌+�
 use Rattle.std.specs.Prelude.{is_none}
 use Rattle.imago_drivers.proofs.RawSteps.{if_ok, if_err, ok_of, err_of, foreign_stateless, foreign_not, written_stateless}
 use Rattle.imago_drivers.proofs.StorageBytes.{not_foreign}
-use Rattle.imago_test_tables.proofs.SparseSteps.{sparse_put, unwritten, nothing_written, apart_written, stranger, no_stranger, still_waits}
+use Rattle.imago_test_tables.proofs.SparseSteps.{sparse_put, unwritten, nothing_written, apart_written, stranger, no_stranger, still_waits, stays_equal}
 use Rattle.imago_test_tables.specs.Pair.{at_index}
-use Rattle.imago_test_tables.specs.Sparse.{sparse_view, sparse_place}
+use Rattle.imago_test_tables.specs.Sparse.{sparse_view, sparse_place, sparse_pending}
 use Rattle.imago_drivers.specs.Place.{HasStranger}
 use Rattle.imago_test_tables.proofs.sparse.SparseFormatDriverInstance.write_prepared.Goals as goal
 
@@ -51,10 +51,10 @@ returns-clause-written g c =
     let keeps = (g.S.Storage.features s.storages.first).keeps_data && (g.S.Storage.features s.storages.second).keeps_data in
     if_ok c.write-2.result (λ x e.
     written_stateless _ _ m m.state false c.args.at c.args.source.now stateless
-    (rw (c.write-2.ensures.first_features, c.write-2.ensures.second_features) (still_waits keeps (at_index (g.S.Storage.bytes s.storages.first) (g.S.Storage.bytes s.storages.second)) (at_index (g.S.Storage.bytes t.first) (g.S.Storage.bytes t.second))
+    (stays_equal keeps (sparse_pending keeps (g.S.Storage.bytes s.storages.first) s.waiting) (sparse_pending ((g.S.Storage.features t.first).keeps_data && (g.S.Storage.features t.second).keeps_data) (g.S.Storage.bytes t.first) s.waiting) (rw (c.write-2.ensures.first_features, c.write-2.ensures.second_features) (still_waits keeps (at_index (g.S.Storage.bytes s.storages.first) (g.S.Storage.bytes s.storages.second)) (at_index (g.S.Storage.bytes t.first) (g.S.Storage.bytes t.second))
     s.table.items s.waiting c.storage-index.result (c.offset-start.result + c.args.at) c.args.source.now false c.in-Some.origin (i.0) (i.1) s.waits_apart
     (λ k l. let u : c.args.at + k < c.run_of.result = omega (arith, c.requires, c.if-run_of-count.false, c.length-count.ensures) in rw (add_assoc c.offset-start.result c.args.at k) (equal (c.args.at + k) u))
-    (λ k. ok_of x e (c.write-2.ensures.written k)) c.write-2.ensures.other))
+    (λ k. ok_of x e (c.write-2.ensures.written k)) c.write-2.ensures.other)))
     (rw (c.storage-index.ensures, c.offset-start.ensures) at (sparse_put _ _ s.table.items c.storage-index.result (c.offset-start.result + c.args.at) c.args.source.now false keeps (i.0) (λ k. ok_of x e (c.write-2.ensures.written k)) c.write-2.ensures.other)))
 
 pub returns-then-not-is_nonblocking-clause-torn : goal.returns-then-not-is_nonblocking-clause-torn
@@ -79,10 +79,10 @@ returns-clause-torn g c =
     let keeps = (g.S.Storage.features s.storages.first).keeps_data && (g.S.Storage.features s.storages.second).keeps_data in
     if_err c.write-2.result (λ x e.
     written_stateless _ _ m m.state true c.args.at c.args.source.now stateless
-    (rw (c.write-2.ensures.first_features, c.write-2.ensures.second_features) (still_waits keeps (at_index (g.S.Storage.bytes s.storages.first) (g.S.Storage.bytes s.storages.second)) (at_index (g.S.Storage.bytes t.first) (g.S.Storage.bytes t.second))
+    (stays_equal keeps (sparse_pending keeps (g.S.Storage.bytes s.storages.first) s.waiting) (sparse_pending ((g.S.Storage.features t.first).keeps_data && (g.S.Storage.features t.second).keeps_data) (g.S.Storage.bytes t.first) s.waiting) (rw (c.write-2.ensures.first_features, c.write-2.ensures.second_features) (still_waits keeps (at_index (g.S.Storage.bytes s.storages.first) (g.S.Storage.bytes s.storages.second)) (at_index (g.S.Storage.bytes t.first) (g.S.Storage.bytes t.second))
     s.table.items s.waiting c.storage-index.result (c.offset-start.result + c.args.at) c.args.source.now true c.in-Some.origin (i.0) (i.1) s.waits_apart
     (λ k l. let u : c.args.at + k < c.run_of.result = omega (arith, c.requires, c.if-run_of-count.false, c.length-count.ensures) in rw (add_assoc c.offset-start.result c.args.at k) (equal (c.args.at + k) u))
-    (λ k. err_of x e (c.write-2.ensures.torn k)) c.write-2.ensures.other))
+    (λ k. err_of x e (c.write-2.ensures.torn k)) c.write-2.ensures.other)))
     (rw (c.storage-index.ensures, c.offset-start.ensures) at (sparse_put _ _ s.table.items c.storage-index.result (c.offset-start.result + c.args.at) c.args.source.now true keeps (i.0) (λ k. err_of x e (c.write-2.ensures.torn k)) c.write-2.ensures.other)))
 
 pub returns-clause-foreign : goal.returns-clause-foreign

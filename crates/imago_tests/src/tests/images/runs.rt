@@ -1,0 +1,101 @@
+//! The same calls as a list for `run`, and the replies.
+use super::answer::Answer;
+use super::image::{Call, is_spent};
+use super::set_up::{copied, printed, runs};
+use imago_access::access::FormatAccess;
+use imago_access::run::{self, Reply};
+use imago_drivers::drivers::FormatDriverInstance;
+use imago_storage::error::Error;
+use std::alloc::Global;
+use std::process::Abort;
+
+/// The call, as `run` takes it.
+fn listed(rt: &impl Abort, alloc: Global, call: Call) -> run::Call {
+    match call {
+        Call::Size => run::Call::Size,
+        Call::Read(offset, bytes) => run::Call::Read {
+            offset,
+            length: bytes.len() as u64,
+        },
+        Call::ReadLong(offset, length) => run::Call::Read { offset, length },
+        Call::Write(offset, bytes) => run::Call::Write {
+            offset,
+            bytes: copied(rt, alloc, bytes),
+        },
+        Call::WriteRun(offset, count, byte) => run::Call::Write {
+            offset,
+            bytes: runs(rt, alloc, &[(count, byte)]),
+        },
+        Call::Map(offset, max_length, _) => run::Call::GetMapping { offset, max_length },
+        Call::Resize(size, mode) => run::Call::Resize { size, mode },
+        Call::Grow(size, mode) => run::Call::ResizeGrow { size, mode },
+        Call::Shrink(size) => run::Call::ResizeShrink { size },
+        Call::Flush => run::Call::Flush,
+        Call::Sync => run::Call::Sync,
+        Call::Invalidate => run::Call::InvalidateCache,
+        _ => rt.abort(),
+    }
+}
+
+/// The list of calls.
+fn list(rt: &impl Abort, alloc: Global, calls: &[(Call, Answer)]) -> Vec<run::Call> {
+    let mut list = Vec::new(alloc);
+    if list.reserve(calls.len()).is_err() {
+        list.reserve(calls.len()).expect(rt, "memory for calls");
+    }
+    for &(call, _) in calls {
+        list.push(listed(rt, alloc, call)).expect(rt, "room for a call");
+    }
+    list
+}
+
+/// The answer that a reply to the call is. What it holds is as the call says.
+fn told(rt: &impl Abort, alloc: Global, call: Call, reply: &Reply) -> Answer {
+    match reply {
+        Reply::Done => Answer::Done,
+        Reply::Size(size) => Answer::Length(*size),
+        Reply::Refused(refusal) => Answer::Refused(*refusal),
+        Reply::Data(bytes) => match call {
+            Call::Read(_, expected) => {
+                assert_eq!(rt; bytes.as_slice(), expected);
+                Answer::Done
+            }
+            _ => Answer::Missing,
+        },
+        Reply::Mapped { mapping, length } => match call {
+            Call::Map(_, _, text) => {
+                assert_eq!(rt; printed(rt, alloc, mapping).as_str(), text);
+                Answer::Length(*length)
+            }
+            _ => Answer::Missing,
+        },
+    }
+}
+
+/// Runs the calls as one list, each of which is answered like that, and appends the replies. Answers whether there was
+/// memory for it.
+pub(super) fn by_run<D: FormatDriverInstance>(
+    rt: &impl Abort,
+    alloc: Global,
+    image: &mut FormatAccess<D>,
+    calls: &[(Call, Answer)],
+    replies: &mut Vec<Reply>,
+) -> bool {
+    let list = list(rt, alloc, calls);
+    let before = replies.len();
+    assert!(rt; is_spent(&*image));
+    if run::run(alloc, image, &list, replies).is_err() {
+        assert_eq!(rt; replies.len(), before);
+        return false;
+    }
+    let new = replies.get(before..).expect(rt, "replies");
+    assert_eq!(rt; new.len(), calls.len());
+    for (i, (&(call, expected), reply)) in calls.iter().zip(new).enumerate() {
+        let answer = told(rt, alloc, call, reply);
+        if answer == Answer::Refused(Error::Memory) && answer != expected {
+            return false;
+        }
+        assert_eq!(rt; answer, expected, "call {i}");
+    }
+    true
+}

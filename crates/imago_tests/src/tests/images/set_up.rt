@@ -1,0 +1,63 @@
+//! Bytes and storages to start from.
+//!
+//! A test's run refuses one request for memory at most. So what is refused is tried again, and has its memory then.
+use imago_drivers::raw::Raw;
+use imago_storage::mem::MemStorage;
+use imago_storage::storage::is_alignment;
+use std::alloc::Global;
+use std::fmt::Display;
+use std::process::Abort;
+
+/// Runs of equal bytes, one behind the other. Each is given by its length and its byte.
+pub(super) fn runs(rt: &impl Abort, alloc: Global, runs: &[(usize, u8)]) -> Vec<u8> {
+    let mut bytes = Vec::new(alloc);
+    for &(count, byte) in runs {
+        let len = bytes.len().saturating_add(count);
+        if bytes.resize(len, byte).is_err() {
+            bytes.resize(len, byte).expect(rt, "memory for bytes");
+        }
+    }
+    bytes
+}
+
+/// A buffer of so many bytes.
+pub(super) fn buffer(rt: &impl Abort, alloc: Global, count: usize) -> Vec<u8> {
+    runs(rt, alloc, &[(count, 0x77)])
+}
+
+/// A storage of runs of equal bytes.
+pub(super) fn stored(rt: &impl Abort, alloc: Global, given: &[(usize, u8)]) -> MemStorage {
+    MemStorage::new(runs(rt, alloc, given))
+}
+
+/// The storage in blocks of that length.
+pub(super) fn in_blocks(rt: &impl Abort, storage: MemStorage, align: usize) -> MemStorage {
+    assert!(rt; is_alignment(align));
+    storage.with_align(align)
+}
+
+/// A copy.
+pub(super) fn copied(rt: &impl Abort, alloc: Global, bytes: &[u8]) -> Vec<u8> {
+    match bytes.to_vec(alloc) {
+        Ok(copy) => copy,
+        Err(_) => bytes.to_vec(alloc).expect(rt, "memory for a copy"),
+    }
+}
+
+/// A storage of these bytes.
+pub(super) fn storing(rt: &impl Abort, alloc: Global, bytes: &[u8]) -> MemStorage {
+    MemStorage::new(copied(rt, alloc, bytes))
+}
+
+/// The driver of the raw image that a storage is.
+pub(super) fn raw(rt: &impl Abort, storage: MemStorage, writable: bool) -> Raw<MemStorage> {
+    Raw::open_image(storage, writable).expect(rt, "a raw image")
+}
+
+/// What is printed of a value.
+pub(super) fn printed<T: Display>(rt: &impl Abort, alloc: Global, value: &T) -> String {
+    match format!(in alloc; "{value}") {
+        Ok(text) => text,
+        Err(_) => format!(in alloc; "{value}").expect(rt, "memory for a text"),
+    }
+}
