@@ -2,5 +2,5 @@
 
 pub use imago_storage::ext;
 pub use imago_storage::storage::{
-    PreallocateMode, Storage, StorageCreateOptions, StorageOpenOptions, is_alignment,
+    PreallocateMode, Storage, StorageCreateOptions, StorageOpenOptions, ZeroKind, is_alignment,
 };

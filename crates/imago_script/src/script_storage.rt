@@ -1,10 +1,10 @@
 //! The storages of a script.
-ghost use Rattle.imago_script.specs.ScriptStorage.{by_kind, kinds_lawful};
+ghost use Rattle.imago_script.specs.ScriptStorage.{by_kind, kinds_lawful, maintenance_by_kind};
 
 use imago::error::Error;
 use imago::mem::MemStorage;
 use imago::null::Null;
-use imago::storage::{PreallocateMode, Storage};
+use imago::storage::{PreallocateMode, Storage, ZeroKind};
 use std::alloc::Global;
 use std::fmt::{self, Display, Formatter, Write};
 
@@ -35,7 +35,7 @@ impl Storage for ScriptStorage {
 
     ghost work = { by_kind ⟦<MemStorage as Storage>⟧.work ⟦<Null as Storage>⟧.work };
 
-    ghost filename = { by_kind ⟦<MemStorage as Storage>⟧.filename ⟦<Null as Storage>⟧.filename };
+    ghost maintenance = { maintenance_by_kind ⟦<MemStorage as Storage>⟧.maintenance ⟦<Null as Storage>⟧.maintenance };
 
     ghost lawful = { kinds_lawful };
 
@@ -109,14 +109,10 @@ impl Storage for ScriptStorage {
         }
     }
 
-    fn zero_in_place(&mut self, offset: u64, count: u64, allocated: bool) -> Result<(), Error> {
+    fn zero_in_place(&mut self, offset: u64, count: u64, kind: ZeroKind) -> Result<(), Error> {
         match self {
-            ScriptStorage::Mem(storage) => {
-                Storage::zero_in_place(storage, offset, count, allocated)
-            }
-            ScriptStorage::Null(storage) => {
-                Storage::zero_in_place(storage, offset, count, allocated)
-            }
+            ScriptStorage::Mem(storage) => Storage::zero_in_place(storage, offset, count, kind),
+            ScriptStorage::Null(storage) => Storage::zero_in_place(storage, offset, count, kind),
         }
     }
 
