@@ -1,6 +1,14 @@
 //! Storages, and requests of any alignment on them.
+mod calls;
+mod faults;
 mod make;
+mod opening;
+mod options;
 mod script;
 mod set_up;
 mod subject;
+mod sweep;
+mod texts;
+mod wraps;
 mod writes;
+mod zeroes;

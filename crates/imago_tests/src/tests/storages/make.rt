@@ -3,7 +3,7 @@ ghost use Rattle.std.specs.Prelude.{◌≡◌, true};
 ghost use Rattle.imago_storage.specs.Features.{IsAlignedRequest, IsAlignedTo};
 
 use super::script::{Call, Runs};
-use super::set_up::runs;
+use super::set_up::{offsets, runs};
 use imago_storage::align::{discard_align, zero_align};
 use imago_storage::error::Error;
 use imago_storage::ext::StorageExt;
@@ -22,6 +22,7 @@ pub(super) fn make<S: Storage>(
         Call::Read(at, bytes) => read(rt, alloc, storage, at, bytes, false),
         Call::Readv(at, bytes) => read(rt, alloc, storage, at, bytes, true),
         Call::Write(at, bytes) => storage.write(alloc, &runs(rt, alloc, bytes), at),
+        Call::WriteOffsets(at, count) => storage.write(alloc, &offsets(rt, alloc, at, count), at),
         Call::Writev(at, bytes) => storage.writev(alloc, &runs(rt, alloc, bytes), at),
         Call::Zero(at, count) => storage.write_zeroes(alloc, at, count),
         Call::ZeroAllocated(at, count) => storage.write_allocated_zeroes(alloc, at, count),

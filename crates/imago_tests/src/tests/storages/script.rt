@@ -26,6 +26,8 @@ pub(super) enum Call {
     Readv(u64, Runs),
     /// A write by `write`.
     Write(u64, Runs),
+    /// A write of so many bytes, each of which tells its offset.
+    WriteOffsets(u64, usize),
     /// A write by `writev`.
     Writev(u64, Runs),
     /// A zero write of any range.
@@ -61,8 +63,12 @@ pub(super) enum Call {
 /// One line of a script.
 #[derive(Clone, Copy)]
 pub(super) enum Step {
-    /// A call, its answer, and the bytes that the storage has then.
-    Make(Call, Result<(), Error>, Runs),
+    /// A call that is done, and the bytes that the storage has then.
+    Done(Call, Runs),
+    /// The same of a call that takes no memory.
+    AtOnce(Call, Runs),
+    /// A call that is refused, and the bytes that the storage has then.
+    Refused(Call, Error, Runs),
     /// The device fails behind so many calls, and leaves what the tear says.
     Arm(u64, Tear),
     /// The next resizes are refused, so many.
@@ -119,7 +125,12 @@ struct State {
 impl State {
     fn step(&mut self, rt: &impl Abort, alloc: Global, step: Step) {
         match step {
-            Step::Make(call, answer, left) => self.make(rt, alloc, call, answer, left),
+            Step::Done(call, left) => self.make(rt, alloc, call, Ok(()), left),
+            Step::AtOnce(call, left) => {
+                let answer = self.subject.make(rt, alloc, call);
+                self.is_left(rt, alloc, call, answer, Ok(()), left);
+            }
+            Step::Refused(call, error, left) => self.make(rt, alloc, call, Err(error), left),
             Step::Arm(pass, tear) => {
                 self.armed = Some((pass, tear));
                 self.subject.arm(rt, pass, tear);
@@ -145,13 +156,30 @@ impl State {
         let mut answer = self.subject.make(rt, alloc, call);
         if answer == Err(Error::Memory) && expected != answer {
             let now = self.subject.bytes();
-            assert!(rt; is_old_or_new(&before, &after, now), "bytes that may not stand there");
+            assert!(rt;
+                is_old_or_new(&before, &after, now),
+                "bytes that may not stand there"
+            );
             self.arm_again(rt);
             answer = self.subject.make(rt, alloc, call);
         }
+        self.is_left(rt, alloc, call, answer, expected, left);
+    }
+
+    /// A call was answered as it has to be, and left what it has to.
+    fn is_left(
+        &mut self,
+        rt: &impl Abort,
+        alloc: Global,
+        call: Call,
+        answer: Result<(), Error>,
+        expected: Result<(), Error>,
+        left: Runs,
+    ) {
         assert_eq!(rt; answer, expected);
         self.count(call, answer);
-        assert!(rt; self.subject.bytes() == after.as_slice(), "other bytes");
+        let bytes = runs_of(rt, alloc, &self.subject, left);
+        assert!(rt; self.subject.bytes() == bytes.as_slice(), "other bytes");
         self.subject.is_named(rt, total(left));
         assert_eq!(rt; self.subject.faults(self.faults), self.faults);
     }

@@ -15,6 +15,15 @@ pub(super) fn runs(rt: &impl Abort, alloc: Global, runs: &[(usize, u8)]) -> Vec<
     bytes
 }
 
+/// So many bytes from 101 on, each of which tells its offset.
+pub(super) fn offsets(rt: &impl Abort, alloc: Global, offset: u64, count: usize) -> Vec<u8> {
+    let mut bytes = runs(rt, alloc, &[(count, 0)]);
+    for (i, byte) in bytes.iter_mut().enumerate() {
+        *byte = (offset.wrapping_add(i as u64) % 100) as u8 + 101;
+    }
+    bytes
+}
+
 /// The length of runs.
 pub(super) fn total(runs: &[(usize, u8)]) -> u64 {
     let mut total: u64 = 0;

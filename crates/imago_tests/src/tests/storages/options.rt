@@ -1,0 +1,50 @@
+//! Options to open and create storages with.
+use super::set_up::owned;
+use imago_storage::storage::{PreallocateMode, StorageCreateOptions, StorageOpenOptions};
+
+#[test]
+fn nothing_is_set_at_first(rt: HostRuntime) {
+    for opts in [StorageOpenOptions::new(), StorageOpenOptions::default()] {
+        assert_eq!(rt; opts.get_filename(), None);
+        assert!(rt; !opts.get_writable());
+        assert!(rt; !opts.get_direct());
+    }
+    for opts in [StorageCreateOptions::new(), StorageCreateOptions::default()] {
+        assert_eq!(rt; opts.get_filename(), None);
+        assert_eq!(rt; opts.get_size(), 0);
+        assert_eq!(rt; opts.get_preallocate(), PreallocateMode::None);
+        assert!(rt; !opts.get_overwrite());
+        assert!(rt; !opts.get_open_options().get_writable());
+    }
+}
+
+#[test]
+fn opening_options_are_kept(rt: HostRuntime) {
+    let name = owned(&rt, rt.alloc(), "a.img");
+    let opts = StorageOpenOptions::new().filename(name).write(true);
+    assert_eq!(rt; opts.get_filename(), Some("a.img"));
+    assert!(rt; opts.get_writable());
+    assert!(rt; !opts.get_direct());
+    let opts = opts.write(false).direct(true);
+    assert!(rt; !opts.get_writable());
+    assert!(rt; opts.get_direct());
+}
+
+#[test]
+fn creation_options_are_kept(rt: HostRuntime) {
+    let name = owned(&rt, rt.alloc(), "b.img");
+    let opts = StorageCreateOptions::new()
+        .filename(name)
+        .size(65536)
+        .preallocate(PreallocateMode::Allocate)
+        .overwrite(true)
+        .modify_open_opts(|opts| opts.direct(true));
+    assert_eq!(rt; opts.get_filename(), Some("b.img"));
+    assert_eq!(rt; opts.get_size(), 65536);
+    assert_eq!(rt; opts.get_preallocate(), PreallocateMode::Allocate);
+    assert!(rt; opts.get_overwrite());
+    let to_open = opts.get_open_options();
+    assert_eq!(rt; to_open.get_filename(), Some("b.img"));
+    assert!(rt; to_open.get_direct());
+    assert!(rt; !to_open.get_writable());
+}
