@@ -184,7 +184,10 @@ fn a_run_over_failing_reads(rt: HostRuntime) {
         image = unreadable(&rt, alloc);
         assert!(rt; run_on(&rt, alloc, &mut image, &UNREAD));
     }
-    assert_eq!(rt; storage_of(&rt, &image).as_bytes(), [0xff, 1, 2, 0xff].as_slice());
+    assert_eq!(rt;
+        storage_of(&rt, &image).as_bytes(),
+        [0xff, 1, 2, 0xff].as_slice()
+    );
 }
 
 /// On 16 bytes ff in blocks of 8. The first write stops in its first block, and the growth is refused.
@@ -227,12 +230,7 @@ fn a_run_goes_on_after_refused_calls(rt: HostRuntime) {
 }
 
 /// The calls of a driver whose storage is lent to it.
-fn on_lent(
-    rt: &impl Abort,
-    alloc: Global,
-    storage: &mut Faulty,
-    calls: &[(driver::Call, Answer)],
-) {
+fn on_lent(rt: &impl Abort, alloc: Global, storage: &mut Faulty, calls: &[(driver::Call, Answer)]) {
     let mut raw = Raw::open_image(storage, true).expect(rt, "a driver");
     driver::script(rt, alloc, &mut raw, calls);
 }

@@ -130,7 +130,9 @@ fn flushes_of_an_image_and_of_a_run_reach_the_storage(rt: HostRuntime) {
     on(&rt, alloc, &mut image, &FLUSHES);
     was_reached(&rt, image.inner(), &FLUSHED);
     let mut image = FormatAccess::new(opened(&rt, alloc));
-    assert!(rt; run_on(&rt, alloc, &mut image, &FLUSHES) || run_on(&rt, alloc, &mut image, &FLUSHES));
+    assert!(rt;
+        run_on(&rt, alloc, &mut image, &FLUSHES) || run_on(&rt, alloc, &mut image, &FLUSHES)
+    );
     was_reached(&rt, image.inner(), &FLUSHED);
 }
 
@@ -186,7 +188,10 @@ const LEFT: [[(usize, u8); 3]; 5] = [
 /// The bytes of the storage are these runs.
 fn holds(rt: &impl Abort, alloc: Global, raw: &Raw<Recording>, left: &[(usize, u8)]) {
     let storage = raw.storage(0).expect(rt, "a raw image's storage");
-    assert_eq!(rt; storage.as_bytes(), super::set_up::runs(rt, alloc, left).as_slice());
+    assert_eq!(rt;
+        storage.as_bytes(),
+        super::set_up::runs(rt, alloc, left).as_slice()
+    );
 }
 
 #[test]
