@@ -1,4 +1,12 @@
+use Rattle.std.proofs.Common.{◌≡◌, ◌≢◌, ℕ, zero, suc, ◌<◌, ◌≤◌, List, length, max, refl, ap, arith}
+use Rattle.imago_storage.specs.Features.{Features}
+use Rattle.imago_drivers.specs.Lengths.{GrowAt, padded_to}
+use Rattle.imago_test_tables.specs.Pair.{at_index, pair_stores}
 
+-- a write to the second of two leaves the first
+pub first_stays : (A B C : List ℕ) (index : ℕ) → index ≢ 0 → index < 2 → (i : ℕ) → i < 2 → i ≢ index → at_index A C i ≡ at_index A B i
+first_stays A B C index h l zero k e = refl
+first_stays A B C index h l (suc i) k e = let x : i ≡ 0 = omega (arith, k) in absurd (e (omega (arith, x, h, l)))
 
 grow_each : (A B C D : List ℕ) → length A ≤ length C → length B ≤ length D → (k : ℕ) → length (at_index A B k) ≤ length (at_index C D k)
 grow_each A B C D a b zero = a

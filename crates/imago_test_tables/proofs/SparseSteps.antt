@@ -1,14 +1,19 @@
-use Rattle.std.proofs.Common.{◌≡◌, ◌≢◌, ℕ, ◌+◌, ◌-◌, ◌<◌, ◌≤◌, ◌⊎◌, ◌&&◌, ⊎_elim, inl, inr, Bool, true, false, List, length, Option, Some, None, refl, sym, ap, ◌∙◌, arith, nat_lt}
-use Rattle.std.specs.Prelude.{slice_index, slice_get, is_none, IsTrue}
+use Rattle.std.proofs.Common.{◌≡◌, ◌≢◌, ℕ, ◌+◌, ◌-◌, ◌<◌, ◌≤◌, ◌⊎◌, ◌&&◌, ⊎_elim, inl, inr, Bool, true, false, List, length, Option, Some, None, refl, sym, ap, ◌∙◌, arith, nat_lt, Result, Ok, Err}
+use Rattle.std.specs.Prelude.{slice_index, slice_get, is_none, IsTrue, IfErr}
 use Rattle.std.proofs.lemmas.Bool.{cases_lt, cases_eq}
 use Rattle.std.proofs.lemmas.Bool.Decides.{nat_tests}
+use Rattle.imago_storage.specs.declared.error.Error.{Error}
+use Rattle.imago_storage.specs.Error.{IsDeviceOrMemory}
+use Rattle.imago_storage.specs.Faults.{CountsFaults}
 use Rattle.imago_storage.specs.Features.{Features}
+use Rattle.imago_drivers.specs.Done.{driver_reasons}
+use Rattle.imago_drivers.specs.Reasons.{allowed}
 use Rattle.imago_drivers.specs.declared.mapping.PreparedDataMapping.{PreparedDataMapping}
 use Rattle.imago_test_tables.specs.declared.sparse.Settings.{Settings}
 use Rattle.imago_test_tables.specs.declared.sparse.Waiting.{Waiting}
 use Rattle.imago_test_tables.specs.declared.table.Origin.{Origin}
 use Rattle.imago_test_tables.specs.declared.table.Origin.TheVariants as O
-use Rattle.imago_drivers.specs.Operation.{Write}
+use Rattle.imago_drivers.specs.Operation.{Write, Flush}
 use Rattle.imago_drivers.specs.Place.{Value, Byte, Stored, Lower, IsIn, HasStranger, shown}
 use Rattle.imago_drivers.specs.Pending.{Pending, IsOwn, StaysPending}
 use Rattle.imago_drivers.specs.Lengths.{padded_to}
@@ -361,3 +366,20 @@ copied_shows at bytes p O.Lower byte free h = h
 copied_shows at bytes p O.First byte free h = let z : ⊥ = cc in absurd z
 copied_shows at bytes p O.Second byte free h = let z : ⊥ = cc in absurd z
 copied_shows at bytes p O.Barred byte free h = let z : ⊥ = cc in absurd z
+
+and_left : (a b : Bool) → IsTrue (a && b) → IsTrue a
+and_left true b e = refl
+and_left false b e = e
+
+-- the count of faults of the storages' calls is that of the disk's
+pub sparse_faults : (count now_count faults : ℕ) (reliable whole : Bool) (result : Result Unit Error) → CountsFaults reliable count now_count result → CountsFaults (reliable && whole) (count + faults) (now_count + faults) result
+sparse_faults count now_count faults reliable whole result x = record {
+  later = omega (arith, x.later);
+  reliable = λ e. ap (λ i. i + faults) (x.reliable (and_left reliable whole e));
+  device = λ e. ⊎_elim (λ a. inl (omega (arith, a))) (λ a. inr (omega (arith, a))) (x.device e);
+}
+
+-- what the storages' flush is refused for, the disk's may be
+pub sparse_flush_refused : (v : View ℕ) → (v.limits.no_memory Flush 0 0 → ⊥) → (result : Result Unit Error) → IfErr result IsDeviceOrMemory → IfErr result (allowed (driver_reasons v Flush 0 0))
+sparse_flush_refused v takes (Ok x) h = tt
+sparse_flush_refused v takes (Err e) h = ⊎_elim (λ device. rw device tt) (λ memory. rw memory takes) h

@@ -118,8 +118,10 @@ impl<S: Storage> Pair<S> {
             (S.fault_count self.old.first + S.fault_count self.old.second)
             (S.fault_count self.new.first + S.fault_count self.new.second) result }
     {
-        self.first.flush()?;
-        self.second.flush()
+        match self.first.flush() {
+            Ok(()) => self.second.flush(),
+            Err(e) => Err(e),
+        }
     }
 
     /// Syncs both storages.
@@ -136,8 +138,10 @@ impl<S: Storage> Pair<S> {
             (S.fault_count self.old.first + S.fault_count self.old.second)
             (S.fault_count self.new.first + S.fault_count self.new.second) result }
     {
-        self.first.sync()?;
-        self.second.sync()
+        match self.first.sync() {
+            Ok(()) => self.second.sync(),
+            Err(e) => Err(e),
+        }
     }
 
     /// Drops what both storages cache.
@@ -154,7 +158,9 @@ impl<S: Storage> Pair<S> {
             (S.fault_count self.old.first + S.fault_count self.old.second)
             (S.fault_count self.new.first + S.fault_count self.new.second) result }
     {
-        self.first.invalidate_cache()?;
-        self.second.invalidate_cache()
+        match self.first.invalidate_cache() {
+            Ok(()) => self.second.invalidate_cache(),
+            Err(e) => Err(e),
+        }
     }
 }

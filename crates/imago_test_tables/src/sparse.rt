@@ -431,9 +431,13 @@ impl<S: Storage> FormatDriverInstance for Sparse<S> {
         let Some(origin) = new_origin(mode) else {
             return Err(Error::Unsupported);
         };
-        grow(&mut self.table, new_size, origin)?;
-        self.size = new_size;
-        Ok(())
+        match grow(&mut self.table, new_size, origin) {
+            Ok(()) => {
+                self.size = new_size;
+                Ok(())
+            }
+            Err(e) => Err(e),
+        }
     }
 
     fn resize_shrink(&mut self, new_size: u64) -> Result<(), Error> {

@@ -100,8 +100,10 @@ fn a_layer_below_may_end_before(rt: HostRuntime) {
 
 const EXPLICIT: [(Call, Answer); 1] = [(Call::Map(0, 512, "<zero:explicit>"), Answer::Length(512))];
 
-const UNALLOCATED: [(Call, Answer); 1] =
-    [(Call::Map(0, 512, "<zero:unallocated>"), Answer::Length(512))];
+const UNALLOCATED: [(Call, Answer); 1] = [(
+    Call::Map(0, 512, "<zero:unallocated>"),
+    Answer::Length(512),
+)];
 
 #[test]
 fn zeroes_are_explicit_in_the_top_layer_alone(rt: HostRuntime) {

@@ -170,10 +170,7 @@ const MAPPINGS: [(Call, Answer); 8] = [
         },
         Answer::Prepared(4, false),
     ),
-    (
-        Call::Read(0, &[0, 0, 0xaa, 0xbb, 0, 0, 0, 0]),
-        Answer::Done,
-    ),
+    (Call::Read(0, &[0, 0, 0xaa, 0xbb, 0, 0, 0, 0]), Answer::Done),
     // what doesn't fit isn't written
     (
         Call::Prepare {
@@ -206,7 +203,10 @@ const MAPPINGS: [(Call, Answer); 8] = [
         },
         FOREIGN,
     ),
-    (Call::Look(driver::Call::StorageLength(0)), Answer::Length(8)),
+    (
+        Call::Look(driver::Call::StorageLength(0)),
+        Answer::Length(8),
+    ),
 ];
 
 /// Commits a mapping with a state that wasn't prepared.
@@ -219,10 +219,7 @@ fn data_mappings(rt: HostRuntime) {
     let alloc = rt.alloc();
     on_bytes(&rt, alloc, &[0; 8], &MAPPINGS);
     let mut image = image_of(&rt, alloc, &[0; 8], true);
-    assert_eq!(rt;
-        commit_stranger(&mut image),
-        Err(Error::ForeignMapping)
-    );
+    assert_eq!(rt; commit_stranger(&mut image), Err(Error::ForeignMapping));
     on(
         &rt,
         alloc,
@@ -264,7 +261,10 @@ const SIZES: [(Call, Answer); 25] = [
 /// On the same.
 const STORED: [(Call, Answer); 3] = [
     (Call::Grow(u64::MAX, ZERO), Answer::Refused(Error::Memory)),
-    (Call::Look(driver::Call::StorageLength(0)), Answer::Length(4)),
+    (
+        Call::Look(driver::Call::StorageLength(0)),
+        Answer::Length(4),
+    ),
     (
         Call::Look(driver::Call::Stored(0, 0, &[1, 2, 3, 4])),
         Answer::Done,
@@ -355,10 +355,7 @@ fn each_call_has_its_reply(rt: HostRuntime) {
 
 /// On the bytes 1 to 4 that may not be written. There is no memory for that buffer.
 const REFUSED: [(Call, Answer); 4] = [
-    (
-        Call::ReadLong(0, u64::MAX),
-        Answer::Refused(Error::Memory),
-    ),
+    (Call::ReadLong(0, u64::MAX), Answer::Refused(Error::Memory)),
     (Call::Write(0, &[9]), READ_ONLY),
     (Call::Size, Answer::Length(4)),
     (Call::Read(0, &[1, 2, 3, 4]), Answer::Done),
@@ -415,14 +412,8 @@ fn four_above_eight(rt: &impl Abort, alloc: Global) -> MemImage {
 
 /// On 4 bytes ff above 8 bytes 11.
 const HIDES: [(Call, Answer); 6] = [
-    (
-        Call::Read(2, &[0xff, 0xff, 0, 0, 0, 0]),
-        Answer::Done,
-    ),
-    (
-        Call::Grow(6, PreallocateMode::FullAllocate),
-        Answer::Done,
-    ),
+    (Call::Read(2, &[0xff, 0xff, 0, 0, 0, 0]), Answer::Done),
+    (Call::Grow(6, PreallocateMode::FullAllocate), Answer::Done),
     (Call::Read(2, &[0xff, 0xff, 0, 0]), Answer::Done),
     (Call::ReadBelow(0, &[0x11; 8]), Answer::Done),
     (Call::ReadBelow(7, &[0x11, 0]), Answer::Done),

@@ -1,7 +1,7 @@
 //! Drivers of raw images in memory.
 use super::answer::Answer;
 use super::driver::{Call, Give, script};
-use super::set_up::{raw, storing, stored};
+use super::set_up::{raw, stored, storing};
 use imago_drivers::drivers::{FormatDriverInstance, PreallocateMode, PreparedDataMapping};
 use imago_drivers::layer::LowerLayer;
 use imago_drivers::raw::Raw;
@@ -191,10 +191,7 @@ const GROWN: [(Call, Answer); 5] = [
         Call::Stored(0, 0, &[0xff, 0xff, 0xff, 0xff, 0, 0]),
         Answer::Done,
     ),
-    (
-        Call::Give(Give::DiscardToBacking, 0, 4),
-        Answer::Part(0, 4),
-    ),
+    (Call::Give(Give::DiscardToBacking, 0, 4), Answer::Part(0, 4)),
     (Call::Stored(0, 0, &[0; 6]), Answer::Done),
 ];
 
@@ -255,10 +252,7 @@ fn a_zero_call_of_one_byte_blocks(rt: HostRuntime) {
 
 /// On 1024 zeroes.
 const NOTHING: [(Call, Answer); 8] = [
-    (
-        Call::Give(Give::EnsureZero, 1024, 0),
-        Answer::Part(1024, 0),
-    ),
+    (Call::Give(Give::EnsureZero, 1024, 0), Answer::Part(1024, 0)),
     (
         Call::Give(Give::DiscardToZero, 1024, 0),
         Answer::Part(1024, 0),
@@ -375,10 +369,7 @@ fn commit_stranger(raw: &mut Raw<MemStorage>) -> Result<(), Error> {
 fn foreign_mappings(rt: HostRuntime) {
     let alloc = rt.alloc();
     let mut driver = raw(&rt, storing(&rt, alloc, &[0; 8]), true);
-    assert_eq!(rt;
-        commit_stranger(&mut driver),
-        Err(Error::ForeignMapping)
-    );
+    assert_eq!(rt; commit_stranger(&mut driver), Err(Error::ForeignMapping));
     on(&rt, alloc, &mut driver, &STRANGERS);
     let mut read_only = raw(&rt, storing(&rt, alloc, &[0; 8]), false);
     on(&rt, alloc, &mut read_only, &READ_ONLY);

@@ -44,7 +44,8 @@ fn list(rt: &impl Abort, alloc: Global, calls: &[(Call, Answer)]) -> Vec<run::Ca
         list.reserve(calls.len()).expect(rt, "memory for calls");
     }
     for &(call, _) in calls {
-        list.push(listed(rt, alloc, call)).expect(rt, "room for a call");
+        list.push(listed(rt, alloc, call))
+            .expect(rt, "room for a call");
     }
     list
 }

@@ -1,11 +1,10 @@
 //! Disks held as tables, alone and one above another. The first storage has ones, the second twos.
 use super::answer::Answer;
-use super::driver;
 use super::driver::Give;
-use super::image;
 use super::image::Call;
 use super::runs::by_run;
 use super::set_up::stored;
+use super::{driver, image};
 use imago_access::access::FormatAccess;
 use imago_drivers::drivers::PreallocateMode;
 use imago_storage::error::Error;
@@ -59,12 +58,7 @@ fn disk(rt: &impl Abort, alloc: Global, table: &[Origin], size: u64) -> Disk {
 }
 
 /// The calls on a disk.
-fn on_disk(
-    rt: &impl Abort,
-    alloc: Global,
-    disk: &mut Disk,
-    calls: &[(driver::Call, Answer)],
-) {
+fn on_disk(rt: &impl Abort, alloc: Global, disk: &mut Disk, calls: &[(driver::Call, Answer)]) {
     driver::script(rt, alloc, disk, calls);
 }
 
@@ -130,10 +124,7 @@ fn discards_lead_to_the_layer_below(rt: HostRuntime) {
 
 /// On a byte of the first storage.
 const GROWN: [(driver::Call, Answer); 8] = [
-    (
-        driver::Call::Grow(3, PreallocateMode::FormatAllocate),
-        DONE,
-    ),
+    (driver::Call::Grow(3, PreallocateMode::FormatAllocate), DONE),
     (driver::Call::Grow(5, PreallocateMode::Zero), DONE),
     (
         driver::Call::Grow(6, PreallocateMode::WriteData),
@@ -304,10 +295,7 @@ const LAYERS: [(Call, Answer); 14] = [
     (Call::Read(1, &[8, 8]), DONE),
     (Call::Flush, DONE),
     (Call::Depth, Answer::Length(1)),
-    (
-        Call::Print("sparse[mem:[8B], mem:[8B]]"),
-        Answer::Is(true),
-    ),
+    (Call::Print("sparse[mem:[8B], mem:[8B]]"), Answer::Is(true)),
 ];
 
 #[test]
@@ -361,10 +349,7 @@ fn a_data_mapping_copies_what_is_below(rt: HostRuntime) {
 
 /// On the same, whose commit fails once it has made one byte show.
 const TORN_IMAGE: [(Call, Answer); 3] = [
-    (
-        Call::Write(1, &[8, 9]),
-        Answer::Refused(Error::Device),
-    ),
+    (Call::Write(1, &[8, 9]), Answer::Refused(Error::Device)),
     (Call::Read(0, &[2, 8]), DONE),
     (Call::Read(2, &[2, 2]), DONE),
 ];

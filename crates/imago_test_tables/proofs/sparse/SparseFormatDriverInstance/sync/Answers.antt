@@ -1,5 +1,7 @@
-use Rattle.std.proofs.Common.{arith, refl}
-use Rattle.imago_test_tables.proofs.SparseSteps.{same_stores}
+use Rattle.std.proofs.Common.{◌+◌, arith, refl}
+use Rattle.std.specs.Prelude.{is_none}
+use Rattle.imago_test_tables.specs.Sparse.{sparse_view}
+use Rattle.imago_test_tables.proofs.SparseSteps.{same_stores, sparse_faults, sparse_flush_refused}
 use Rattle.imago_test_tables.proofs.sparse.SparseFormatDriverInstance.sync.Goals as goal
 
 pub returns : goal.returns
@@ -12,6 +14,6 @@ returns g c =
       pending = rw (e.first, e.first_features, e.second_features) refl;
       causes = record { causes = λ op o n r x. x; copied = λ op o n p x. x };
       lengths = record { no_shorter = λ i. rw (e.first, e.second) (omega arith); no_longer = λ i. rw (e.first, e.second) (omega arith) };
-      faults = search;
-      refusals = search;
+      faults = sparse_faults _ _ s.faults _ (is_none s.settings.fail_commit_after) c.sync.result e.faults;
+      refusals = sparse_flush_refused (sparse_view (g.S.Storage.features s.storages.first) (g.S.Storage.features s.storages.second) (g.S.Storage.fault_count s.storages.first + g.S.Storage.fault_count s.storages.second + s.faults) (g.S.Storage.bytes s.storages.first) (g.S.Storage.bytes s.storages.second) s.table.items s.size s.settings s.short s.waiting) (λ x. x) c.sync.result e.only;
     }
