@@ -13,6 +13,5 @@ mod raw;
 mod reached;
 mod runs;
 mod set_up;
-mod sparse;
 mod sweep;
 mod zeroes;

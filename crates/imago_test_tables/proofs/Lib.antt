@@ -1,5 +1,0 @@
-pub mod TableSteps
-pub mod PairSteps
-pub mod SparseSteps
-pub mod CommitSteps
-pub mod PrepareSteps

@@ -1,5 +1,0 @@
-pub mod Table
-pub mod Pair
-pub mod Sparse
-pub mod SparseLaws
-pub mod SparseImage
