@@ -25,10 +25,21 @@ fn opened(rt: &impl Abort, alloc: Global) -> Raw<Recording> {
     Raw::open_image(recording(rt, alloc), true).expect(rt, "a raw image")
 }
 
-/// These calls reached the storage.
+/// These calls reached the storage. A resize that is refused for memory is made again, and reaches it twice.
 fn was_reached(rt: &impl Abort, raw: &Raw<Recording>, expected: &[Recorded]) {
     let storage = raw.storage(0).expect(rt, "a raw image's storage");
-    assert_eq!(rt; storage.calls(), expected);
+    let mut repeated = false;
+    let mut last = None;
+    let mut rest = expected.iter();
+    for &call in storage.calls() {
+        if matches!(call, Recorded::Resize(_, _)) && last == Some(call) && !repeated {
+            repeated = true;
+            continue;
+        }
+        assert_eq!(rt; Some(&call), rest.next());
+        last = Some(call);
+    }
+    assert!(rt; rest.next().is_none());
 }
 
 /// The calls on a driver.
