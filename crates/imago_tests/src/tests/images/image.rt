@@ -4,7 +4,7 @@ ghost use Rattle.imago_access.specs.Chain.{driver};
 
 use super::answer::{Answer, data, done, place, prepared};
 use super::driver;
-use super::set_up::{buffer, printed, runs};
+use super::set_up::{buffer, numbers, printed, runs};
 use imago_access::access::FormatAccess;
 use imago_drivers::drivers::{FormatDriverInstance, PreallocateMode, PreparedDataMapping};
 use imago_storage::error::Error;
@@ -42,6 +42,8 @@ pub(super) enum Call {
     Writev(u64, &'static [u8]),
     /// Writes so many equal bytes.
     WriteRun(u64, usize, u8),
+    /// Writes so many bytes that differ, the first of them that one.
+    WriteNumbers(u64, usize, u8),
     Resize(u64, PreallocateMode),
     Grow(u64, PreallocateMode),
     Shrink(u64),
@@ -298,6 +300,13 @@ fn make<D: FormatDriverInstance>(
         Call::WriteRun(offset, count, byte) => {
             write(rt, alloc, image, offset, &runs(rt, alloc, &[(count, byte)]))
         }
+        Call::WriteNumbers(offset, count, first) => write(
+            rt,
+            alloc,
+            image,
+            offset,
+            &numbers(rt, alloc, count, first),
+        ),
         Call::Writev(offset, bytes) => {
             assert!(rt; is_spent(&*image));
             done(image.writev(alloc, bytes, offset))

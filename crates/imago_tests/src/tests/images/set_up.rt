@@ -20,6 +20,20 @@ pub(super) fn runs(rt: &impl Abort, alloc: Global, runs: &[(usize, u8)]) -> Vec<
     bytes
 }
 
+/// So many bytes, each of them another than its neighbours: those from `first` on, again and again.
+pub(super) fn numbers(rt: &impl Abort, alloc: Global, count: usize, first: u8) -> Vec<u8> {
+    let mut bytes = runs(rt, alloc, &[(count, 0)]);
+    for (i, byte) in bytes.iter_mut().enumerate() {
+        *byte = number(i, first);
+    }
+    bytes
+}
+
+/// The byte at an index of such bytes.
+pub(super) fn number(index: usize, first: u8) -> u8 {
+    first.saturating_add((index % 100) as u8)
+}
+
 /// A buffer of so many bytes.
 pub(super) fn buffer(rt: &impl Abort, alloc: Global, count: usize) -> Vec<u8> {
     runs(rt, alloc, &[(count, 0x77)])

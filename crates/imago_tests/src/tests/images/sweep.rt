@@ -2,8 +2,9 @@
 use super::answer::Answer;
 use super::faults::{Image, on, opened, storage_of};
 use super::image::Call;
-use super::set_up::{in_blocks, stored};
+use super::set_up::{in_blocks, number, numbers};
 use imago_storage::error::Error;
+use imago_storage::mem::MemStorage;
 use imago_test_storages::faulty::{Faulty, Tear};
 use std::alloc::Global;
 use std::process::Abort;
@@ -15,18 +16,18 @@ const OFFSET: usize = 515;
 
 const COUNT: usize = 1030;
 
-/// The bytes before and afterwards.
-const OLD: u8 = 0x11;
+/// The first of the bytes before, and of those that are written. They differ from offset to offset.
+const OLD: u8 = 1;
 
-const NEW: u8 = 0xee;
+const NEW: u8 = 101;
 
 const TEARS: [Tear; 4] = [Tear::Nothing, Tear::All, Tear::First(3), Tear::Odd];
 
 /// The write of the range, and the same where the device fails.
-const WRITTEN: [(Call, Answer); 1] = [(Call::WriteRun(515, 1030, NEW), Answer::Done)];
+const WRITTEN: [(Call, Answer); 1] = [(Call::WriteNumbers(515, 1030, NEW), Answer::Done)];
 
 const REFUSED: [(Call, Answer); 1] = [(
-    Call::WriteRun(515, 1030, NEW),
+    Call::WriteNumbers(515, 1030, NEW),
     Answer::Refused(Error::Device),
 )];
 
@@ -34,12 +35,9 @@ const REFUSED: [(Call, Answer); 1] = [(
 fn is_written(bytes: &[u8], torn: bool) -> bool {
     for (i, &byte) in bytes.iter().enumerate() {
         let inside = i >= OFFSET && i < OFFSET + COUNT;
-        let right = if inside {
-            byte == NEW || torn && byte == OLD
-        } else {
-            byte == OLD
-        };
-        if !right {
+        let old = byte == number(i, OLD);
+        let new = inside && byte == number(i.saturating_sub(OFFSET), NEW);
+        if !new && (inside && !torn || !old) {
             return false;
         }
     }
@@ -48,7 +46,8 @@ fn is_written(bytes: &[u8], torn: bool) -> bool {
 
 /// An image in blocks of that length, whose storage fails at that call.
 fn armed(rt: &impl Abort, alloc: Global, align: usize, pass: u64, tear: Tear) -> Image {
-    let inner = in_blocks(rt, stored(rt, alloc, &[(SIZE, OLD)]), align);
+    let bytes = numbers(rt, alloc, SIZE, OLD);
+    let inner = in_blocks(rt, MemStorage::new(bytes), align);
     let mut storage = Faulty::new(inner);
     storage.arm(pass, tear);
     opened(rt, storage)
