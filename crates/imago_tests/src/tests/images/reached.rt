@@ -25,21 +25,28 @@ fn opened(rt: &impl Abort, alloc: Global) -> Raw<Recording> {
     Raw::open_image(recording(rt, alloc), true).expect(rt, "a raw image")
 }
 
+/// Whether a call is a resize that is made again.
+fn is_repeated(call: Recorded, last: Option<Recorded>) -> bool {
+    matches!(call, Recorded::Resize(_, _)) && last == Some(call)
+}
+
 /// These calls reached the storage. A resize that is refused for memory is made again, and reaches it twice.
 fn was_reached(rt: &impl Abort, raw: &Raw<Recording>, expected: &[Recorded]) {
     let storage = raw.storage(0).expect(rt, "a raw image's storage");
-    let mut repeated = false;
+    let mut repeats: usize = 0;
+    let mut made: usize = 0;
     let mut last = None;
-    let mut rest = expected.iter();
     for &call in storage.calls() {
-        if matches!(call, Recorded::Resize(_, _)) && last == Some(call) && !repeated {
-            repeated = true;
-            continue;
+        if is_repeated(call, last) {
+            repeats = repeats.saturating_add(1);
+        } else {
+            assert_eq!(rt; expected.get(made), Some(&call));
+            made = made.saturating_add(1);
         }
-        assert_eq!(rt; Some(&call), rest.next());
         last = Some(call);
     }
-    assert!(rt; rest.next().is_none());
+    assert_eq!(rt; made, expected.len());
+    assert!(rt; repeats <= 1);
 }
 
 /// The calls on a driver.
