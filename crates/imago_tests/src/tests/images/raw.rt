@@ -1,7 +1,7 @@
 //! Drivers of raw images in memory.
 use super::answer::Answer;
 use super::driver::{Call, Give, script};
-use super::set_up::{raw, stored, storing};
+use super::set_up::{raw, runs, stored, storing};
 use imago_drivers::drivers::{FormatDriverInstance, PreallocateMode, PreparedDataMapping};
 use imago_drivers::layer::LowerLayer;
 use imago_drivers::raw::Raw;
@@ -231,7 +231,8 @@ const BLOCKS: [(Call, Answer); 10] = [
 #[test]
 fn only_the_aligned_part_is_zeroed(rt: HostRuntime) {
     let alloc = rt.alloc();
-    let storage = stored(&rt, alloc, &[(16, 0xff)]).with_zero_align(8);
+    let bytes = runs(&rt, alloc, &[(16, 0xff)]);
+    let storage = MemStorage::new(bytes).with_zero_align(8);
     on_storage(&rt, alloc, storage, &BLOCKS);
 }
 
