@@ -1,4 +1,4 @@
-use Rattle.std.specs.Prelude.{ℕ, Result}
+use Rattle.std.specs.Prelude.{Result}
 use Rattle.imago_storage.specs.declared.error.Error.{Error}
 use Rattle.imago_storage.specs.Maintenance.{Maintenance}
 use Rattle.imago_script.specs.declared.script_storage.ScriptStorage.{ScriptStorage}
