@@ -3,7 +3,7 @@ use Rattle.std.proofs.Math.Nat.{add-mul-mod_self_left, div-add-mod, mod-eq_of_lt
 use Rattle.std.proofs.lemmas.Bool.{cases_lt}
 use Rattle.std.specs.Int.{next_multiple_of}
 use Rattle.imago_storage.specs.Features.{Features, ZeroSupport, AsData, MayBeUnsupported, AreAlignments, IsAlignedTo, len_align}
-use Rattle.imago_storage.specs.Padding.{padded_length, padded_end, Wraps, aligned_start, aligned_end, IsAlignedPart}
+use Rattle.imago_storage.specs.Padding.{padded_length, padded_end, Wraps, aligned_start, aligned_end, RangeWraps, IsAlignedPart}
 use Rattle.imago_storage.specs.Zeroes.{DataWraps, EdgeWraps, MayWrap, FitsZeroes, IsHead}
 use Rattle.imago_storage.proofs.Alignment.{power_positive, multiple_add, multiple_of_multiple}
 use Rattle.imago_storage.proofs.Padding.{len_positive, len_whole, next_whole_zero, next_multiple, next_below}
@@ -108,6 +108,10 @@ pub no_edges : (f : Features) (at n start end : ℕ) → IsAlignedPart f.zero_al
 no_edges f at n start end p first last = edge_fits f at n start end p
     (λ w. let some : 0 < start - at = w.0 in omega (arith, some, first))
     (λ w. let some : 0 < at + n - end = w.0 in omega (arith, some, last))
+
+-- a range whose aligned part is had doesn't wrap around
+pub range_fits : (align at n start end : ℕ) → IsAlignedPart align at n start end → RangeWraps align at n → ⊥
+range_fits align at n start end p w = ⊎_elim (λ x. omega (arith, p.range_ends)) (λ y. omega (arith, p.is_start, p.start_fits)) w
 
 -- a range that doesn't wrap around, with no aligned part
 pub fits_without_part : (f : Features) (z : ZeroSupport) (at n start end : ℕ) → IsAlignedPart f.zero_align at n start end → end ≤ start → ¬ DataWraps f at n → FitsZeroes f z at n

@@ -11,3 +11,4 @@ pub mod MemParts
 pub mod Padding
 pub mod Blocks
 pub mod Zeroes
+pub mod Calls

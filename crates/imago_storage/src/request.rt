@@ -3,6 +3,7 @@ ghost use Rattle.std.specs.Prelude.{◌≡◌, ◌+◌, ◌-◌, ◌<◌, ◌≤
 ghost use Rattle.std.specs.Int.{next_multiple_of};
 ghost use Rattle.imago_storage.specs.Blocks.{IsInParts, IsInBlocks};
 ghost use Rattle.imago_storage.specs.Bytes.{splice, zero_extended, WriteOutcome, IsReadAt, SameOutside};
+ghost use Rattle.imago_storage.specs.Calls.{IsRangeRead, IsRangeWrite, IsRangeDiscard};
 ghost use Rattle.imago_storage.specs.Error.{IsDeviceOrMemory, IsExtRefusal};
 ghost use Rattle.imago_storage.specs.Faults.{CountsFaults};
 ghost use Rattle.imago_storage.specs.Features.{IsAlignedRequest, MayRunOut, RequestMayRunOut, len_align};
@@ -24,15 +25,7 @@ pub(crate) fn read_any<S: Storage>(
     buf: &mut [u8],
     offset: u64,
 ) -> Result<(), Error>
-    ensures empty { length buf.old ≡ 0 → IsOk result }
-    ensures bytes { OnOk result (IsReadAt (S.bytes storage.now) offset buf.new) }
-    ensures wraps { IsErrOf result Error.WrapAround ↔ Wraps (S.features storage.now) offset (length buf.old) }
-    ensures only { IfErr result IsExtRefusal }
-    ensures device { IsErrOf result Error.Device → (S.features storage.now).is_reliable ≡ false }
-    ensures memory { IsErrOf result Error.Memory
-        → IsAlignedRequest (S.features storage.now) offset (length buf.old)
-        → MayRunOut (S.features storage.now).read_memory (length (S.bytes storage.now))
-        (offset + length buf.old) }
+    ensures { IsRangeRead (S.features storage.now) (S.bytes storage.now) offset (length buf.old) buf.new result }
 {
     if buf.is_empty() {
         return Ok(());
@@ -57,32 +50,7 @@ pub(crate) fn write_any<S: Storage>(
     source: &[u8],
     offset: u64,
 ) -> Result<(), Error>
-    ensures empty { length source.now ≡ 0 → IsOk result × (storage.new ≡ storage.old) }
-    ensures written { 0 < length source.now
-        → WriteOutcome (S.features storage.old).keeps_data (S.bytes storage.old)
-        (splice
-        (zero_extended (S.bytes storage.old)
-        (padded_end (S.features storage.old) offset (length source.now)))
-        offset source.now)
-        (S.bytes storage.new) result }
-    ensures wraps { IsErrOf result Error.WrapAround ↔ Wraps (S.features storage.old) offset (length source.now) }
-    ensures unchanged { IsErrOf result Error.WrapAround → storage.new ≡ storage.old }
-    ensures features { S.features storage.new ≡ S.features storage.old }
-    ensures work { IsWriteWork (len_align (S.features storage.old)) (length source.now) (S.work storage.old)
-        (S.work storage.new) }
-    ensures direct { IsAlignedRequest (S.features storage.old) offset (length source.now)
-        → AddsAtMost 0 0 1 (length source.now) (S.work storage.old) (S.work storage.new) }
-    ensures early { IsErrOf result Error.Memory
-        → (¬ RequestMayRunOut (S.features storage.old) (length (S.bytes storage.old))
-        (padded_end (S.features storage.old) offset (length source.now)))
-        → storage.new ≡ storage.old }
-    ensures only { IfErr result IsExtRefusal }
-    ensures cause { CountsFaults (S.features storage.old).is_reliable (S.fault_count storage.old)
-        (S.fault_count storage.new) result }
-    ensures memory { IsErrOf result Error.Memory
-        → IsAlignedRequest (S.features storage.old) offset (length source.now)
-        → MayRunOut (S.features storage.old).write_memory (length (S.bytes storage.old))
-        (offset + length source.now) }
+    ensures { IsRangeWrite S.features S.bytes S.fault_count S.work offset source.now storage.old storage.new result }
 {
     if source.is_empty() {
         return Ok(());
@@ -197,27 +165,7 @@ fn update_block<S: Storage>(
 
 /// Discards the aligned part of a range, if it has one. A discard that isn't offered is no refusal.
 pub(crate) fn discard_any<S: Storage>(storage: &mut S, offset: u64, count: u64) -> Result<(), Error>
-    ensures bytes { SameOutside (aligned_start (S.features storage.old).discard_align offset)
-        (aligned_end (S.features storage.old).discard_align offset count - aligned_start
-        (S.features storage.old).discard_align offset)
-        (S.bytes storage.old) (S.bytes storage.new) }
-    ensures wraps { IsErrOf result Error.WrapAround ↔ RangeWraps (S.features storage.old).discard_align offset count }
-    ensures unchanged { IsErrOf result Error.WrapAround → storage.new ≡ storage.old }
-    ensures performed { (¬ RangeWraps (S.features storage.old).discard_align offset count)
-        → aligned_start (S.features storage.old).discard_align offset < aligned_end
-        (S.features storage.old).discard_align offset count
-        → IsDiscarded S.maintenance (aligned_start (S.features storage.old).discard_align offset)
-        (aligned_end (S.features storage.old).discard_align offset count - aligned_start
-        (S.features storage.old).discard_align offset)
-        storage.old storage.new result }
-    ensures nothing { aligned_end (S.features storage.old).discard_align offset count ≤ aligned_start
-        (S.features storage.old).discard_align offset
-        → storage.new ≡ storage.old }
-    ensures features { S.features storage.new ≡ S.features storage.old }
-    ensures only { IfErr result IsExtRefusal }
-    ensures cause { CountsFaults (S.features storage.old).is_reliable (S.fault_count storage.old)
-        (S.fault_count storage.new) result }
-    ensures memory { IsErrOf result Error.Memory → MayRunOut (S.features storage.old).other_memory 0 0 }
+    ensures { IsRangeDiscard S.features S.bytes S.fault_count S.maintenance offset count storage.old storage.new result }
 {
     let align = discard_align(&*storage);
     let Some((start, end)) = aligned_part(align, offset, count) else {

@@ -1,6 +1,7 @@
 //! Zero writes of any range.
 ghost use Rattle.std.specs.Prelude.{◌≡◌, ◌≢◌, ℕ, ◌+◌, ◌-◌, ◌%◌, ◌<◌, ◌≤◌, ◌⊎◌, ◌^◌, length, max, min, replicate, OnOk, OnErr, IfErr, IsErrOf, IsOk, Ok, List, ◌↔◌};
 ghost use Rattle.imago_storage.specs.Bytes.{splice, zero_extended, WriteOutcome};
+ghost use Rattle.imago_storage.specs.Calls.{IsRangeZeroing};
 ghost use Rattle.imago_storage.specs.Error.{IsExtRefusal, IsPureRefusal, IsZeroRefusal};
 ghost use Rattle.imago_storage.specs.Faults.{CountsFaults};
 ghost use Rattle.imago_storage.specs.Features.{Features, InPlace, AsData, MayRunOut, MayBeUnsupported, IsAlignedTo, RequestMayRunOut, ZeroesMayRunOut, len_align, zero_support};
@@ -23,33 +24,7 @@ pub(crate) fn zero_any<S: Storage>(
     count: u64,
     kind: ZeroKind,
 ) -> Result<(), Error>
-    ensures empty { count ≡ 0 → IsOk result × (storage.new ≡ storage.old) }
-    ensures written { 0 < count
-        → HasZeroed (S.features storage.old) (S.bytes storage.old) offset count
-        (S.bytes storage.new) result }
-    ensures wraps { 0 < count
-        → RangeWraps (S.features storage.old).zero_align offset count
-        → IsErrOf result Error.WrapAround × (storage.new ≡ storage.old) }
-    ensures may_wrap { IsErrOf result Error.WrapAround
-        → MayWrap (S.features storage.old) (zero_support (S.features storage.old) kind) offset
-        count }
-    ensures fits { 0 < count
-        → OnOk result
-        (FitsZeroes (S.features storage.old)
-        (zero_support (S.features storage.old) kind) offset count) }
-    ensures features { S.features storage.new ≡ S.features storage.old }
-    ensures only { IfErr result IsExtRefusal }
-    ensures cause { CountsFaults (S.features storage.old).is_reliable (S.fault_count storage.old)
-        (S.fault_count storage.new) result }
-    ensures memory { IsErrOf result Error.Memory
-        → IsAlignedTo (S.features storage.old).zero_align offset count
-        → zero_support (S.features storage.old) kind ≡ InPlace
-        → MayRunOut (S.features storage.old).zero_memory (length (S.bytes storage.old))
-        (offset + count) }
-    ensures early { IsErrOf result Error.Memory
-        → (¬ ZeroesMayRunOut (S.features storage.old) (length (S.bytes storage.old))
-        (offset + count + (len_align (S.features storage.old) - 1)))
-        → storage.new ≡ storage.old }
+    ensures { IsRangeZeroing S.features S.bytes S.fault_count (zero_support (S.features storage.old) kind) offset count storage.old storage.new result }
 {
     if count == 0 {
         return Ok(());
@@ -73,27 +48,7 @@ fn zero_range<S: Storage>(
 ) -> Result<(), Error>
     requires part { IsAlignedPart (S.features storage.old).zero_align offset count start end }
     requires some { 0 < count }
-    ensures written { HasZeroed (S.features storage.old) (S.bytes storage.old) offset count (S.bytes storage.new)
-        result }
-    ensures may_wrap { IsErrOf result Error.WrapAround
-        → MayWrap (S.features storage.old) (zero_support (S.features storage.old) kind) offset
-        count }
-    ensures fits { OnOk result
-        (FitsZeroes (S.features storage.old) (zero_support (S.features storage.old) kind)
-        offset count) }
-    ensures features { S.features storage.new ≡ S.features storage.old }
-    ensures only { IfErr result IsExtRefusal }
-    ensures cause { CountsFaults (S.features storage.old).is_reliable (S.fault_count storage.old)
-        (S.fault_count storage.new) result }
-    ensures memory { IsErrOf result Error.Memory
-        → IsAlignedTo (S.features storage.old).zero_align offset count
-        → zero_support (S.features storage.old) kind ≡ InPlace
-        → MayRunOut (S.features storage.old).zero_memory (length (S.bytes storage.old))
-        (offset + count) }
-    ensures early { IsErrOf result Error.Memory
-        → (¬ ZeroesMayRunOut (S.features storage.old) (length (S.bytes storage.old))
-        (offset + count + (len_align (S.features storage.old) - 1)))
-        → storage.new ≡ storage.old }
+    ensures { IsRangeZeroing S.features S.bytes S.fault_count (zero_support (S.features storage.old) kind) offset count storage.old storage.new result }
 {
     if end <= start {
         return zero_as_data(storage, alloc, offset, count);

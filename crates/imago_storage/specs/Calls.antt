@@ -1,0 +1,61 @@
+use Rattle.std.specs.Prelude.{◌≡◌, ℕ, ◌+◌, ◌-◌, ◌<◌, ◌≤◌, ◌↔◌, false, List, length, Result, OnOk, IfErr, IsErrOf, IsOk}
+use Rattle.imago_storage.specs.declared.error.Error.{Error}
+use Rattle.imago_storage.specs.Bytes.{splice, zero_extended, WriteOutcome, IsReadAt, SameOutside}
+use Rattle.imago_storage.specs.Error.{IsExtRefusal}
+use Rattle.imago_storage.specs.Faults.{CountsFaults}
+use Rattle.imago_storage.specs.Features.{Features, ZeroSupport, InPlace, IsAlignedRequest, IsAlignedTo, MayRunOut, RequestMayRunOut, ZeroesMayRunOut, len_align}
+use Rattle.imago_storage.specs.IoCount.{IoCount, IsWriteWork, AddsAtMost}
+use Rattle.imago_storage.specs.Maintenance.{Maintenance, IsDiscarded}
+use Rattle.imago_storage.specs.Padding.{padded_end, Wraps, aligned_start, aligned_end, RangeWraps}
+use Rattle.imago_storage.specs.Zeroes.{HasZeroed, MayWrap, FitsZeroes}
+
+-- Everything that is promised of a call on any range, one record for each kind. A storage is seen by its ghost members.
+
+-- A read of n bytes into a buffer.
+pub record IsRangeRead (f : Features) (stored : List ℕ) (at n : ℕ) (buffer : List ℕ) (result : Result (Unit {0}) Error) : Type 0 where
+  pub empty : n ≡ 0 → IsOk result
+  pub bytes : OnOk result (IsReadAt stored at buffer)
+  pub wraps : IsErrOf result Error.WrapAround ↔ Wraps f at n
+  pub only : IfErr result IsExtRefusal
+  pub device : IsErrOf result Error.Device → f.is_reliable ≡ false
+  pub memory : IsErrOf result Error.Memory → IsAlignedRequest f at n → MayRunOut f.read_memory (length stored) (at + n)
+
+-- A write.
+pub record IsRangeWrite {S : Type 0} (features_of : S → Features) (bytes_of : S → List ℕ) (faults_of : S → ℕ) (work_of : S → IoCount) (at : ℕ) (source : List ℕ) (old new : S) (result : Result (Unit {0}) Error) : Type 0 where
+  pub empty : length source ≡ 0 → IsOk result × (new ≡ old)
+  pub written : 0 < length source → WriteOutcome (features_of old).keeps_data (bytes_of old) (splice (zero_extended (bytes_of old) (padded_end (features_of old) at (length source))) at source) (bytes_of new) result
+  pub wraps : IsErrOf result Error.WrapAround ↔ Wraps (features_of old) at (length source)
+  pub unchanged : IsErrOf result Error.WrapAround → new ≡ old
+  pub features : features_of new ≡ features_of old
+  pub work : IsWriteWork (len_align (features_of old)) (length source) (work_of old) (work_of new)
+  pub direct : IsAlignedRequest (features_of old) at (length source) → AddsAtMost 0 0 1 (length source) (work_of old) (work_of new)
+  pub early : IsErrOf result Error.Memory → (¬ RequestMayRunOut (features_of old) (length (bytes_of old)) (padded_end (features_of old) at (length source))) → new ≡ old
+  pub only : IfErr result IsExtRefusal
+  pub cause : CountsFaults (features_of old).is_reliable (faults_of old) (faults_of new) result
+  pub memory : IsErrOf result Error.Memory → IsAlignedRequest (features_of old) at (length source) → MayRunOut (features_of old).write_memory (length (bytes_of old)) (at + length source)
+
+-- A zero write, by how the storage zeroes.
+pub record IsRangeZeroing {S : Type 0} (features_of : S → Features) (bytes_of : S → List ℕ) (faults_of : S → ℕ) (z : ZeroSupport) (at n : ℕ) (old new : S) (result : Result (Unit {0}) Error) : Type 0 where
+  pub empty : n ≡ 0 → IsOk result × (new ≡ old)
+  pub written : 0 < n → HasZeroed (features_of old) (bytes_of old) at n (bytes_of new) result
+  pub wraps : 0 < n → RangeWraps (features_of old).zero_align at n → IsErrOf result Error.WrapAround × (new ≡ old)
+  pub may_wrap : IsErrOf result Error.WrapAround → MayWrap (features_of old) z at n
+  pub fits : 0 < n → OnOk result (FitsZeroes (features_of old) z at n)
+  pub features : features_of new ≡ features_of old
+  pub only : IfErr result IsExtRefusal
+  pub cause : CountsFaults (features_of old).is_reliable (faults_of old) (faults_of new) result
+  pub memory : IsErrOf result Error.Memory → IsAlignedTo (features_of old).zero_align at n → z ≡ InPlace → MayRunOut (features_of old).zero_memory (length (bytes_of old)) (at + n)
+  pub early : IsErrOf result Error.Memory → (¬ ZeroesMayRunOut (features_of old) (length (bytes_of old)) (at + n + (len_align (features_of old) - 1))) → new ≡ old
+
+-- A discard, which is made of the range's aligned part.
+pub record IsRangeDiscard {S : Type 0} (features_of : S → Features) (bytes_of : S → List ℕ) (faults_of : S → ℕ) (calls : Maintenance S) (at n : ℕ) (old new : S) (result : Result (Unit {0}) Error) : Type 0 where
+  pub bytes : SameOutside (aligned_start (features_of old).discard_align at) (aligned_end (features_of old).discard_align at n - aligned_start (features_of old).discard_align at) (bytes_of old) (bytes_of new)
+  pub wraps : IsErrOf result Error.WrapAround ↔ RangeWraps (features_of old).discard_align at n
+  pub unchanged : IsErrOf result Error.WrapAround → new ≡ old
+  pub performed : (¬ RangeWraps (features_of old).discard_align at n) → aligned_start (features_of old).discard_align at < aligned_end (features_of old).discard_align at n
+      → IsDiscarded calls (aligned_start (features_of old).discard_align at) (aligned_end (features_of old).discard_align at n - aligned_start (features_of old).discard_align at) old new result
+  pub nothing : aligned_end (features_of old).discard_align at n ≤ aligned_start (features_of old).discard_align at → new ≡ old
+  pub features : features_of new ≡ features_of old
+  pub only : IfErr result IsExtRefusal
+  pub cause : CountsFaults (features_of old).is_reliable (faults_of old) (faults_of new) result
+  pub memory : IsErrOf result Error.Memory → MayRunOut (features_of old).other_memory 0 0
