@@ -1,9 +1,9 @@
-use Rattle.std.specs.Prelude.{◌≡◌, ℕ, ◌+◌, ◌-◌, ◌<◌, ◌≤◌, ◌↔◌, false, List, length, Result, OnOk, IfErr, IsErrOf, IsOk}
+use Rattle.std.specs.Prelude.{◌≡◌, ◌≢◌, ℕ, ◌+◌, ◌-◌, ◌%◌, ◌<◌, ◌≤◌, ◌↔◌, false, List, length, replicate, Result, IsTrue, OnOk, OnErr, IfErr, IsErrOf, IsOk}
 use Rattle.imago_storage.specs.declared.error.Error.{Error}
-use Rattle.imago_storage.specs.Bytes.{splice, zero_extended, WriteOutcome, IsReadAt, SameOutside}
-use Rattle.imago_storage.specs.Error.{IsExtRefusal}
+use Rattle.imago_storage.specs.Bytes.{splice, zero_extended, OldOrNew, WriteOutcome, IsReadAt, SameOutside}
+use Rattle.imago_storage.specs.Error.{IsDeviceOrMemory, IsPureRefusal, IsExtRefusal}
 use Rattle.imago_storage.specs.Faults.{CountsFaults}
-use Rattle.imago_storage.specs.Features.{Features, ZeroSupport, InPlace, IsAlignedRequest, IsAlignedTo, MayRunOut, RequestMayRunOut, ZeroesMayRunOut, len_align}
+use Rattle.imago_storage.specs.Features.{Features, ZeroSupport, InPlace, AsData, IsAlignedRequest, IsAlignedTo, MayRunOut, MayBeUnsupported, RequestMayRunOut, ZeroesMayRunOut, len_align}
 use Rattle.imago_storage.specs.IoCount.{IoCount, IsWriteWork, AddsAtMost}
 use Rattle.imago_storage.specs.Maintenance.{Maintenance, IsDiscarded}
 use Rattle.imago_storage.specs.Padding.{padded_end, Wraps, aligned_start, aligned_end, RangeWraps}
@@ -59,3 +59,26 @@ pub record IsRangeDiscard {S : Type 0} (features_of : S → Features) (bytes_of 
   pub only : IfErr result IsExtRefusal
   pub cause : CountsFaults (features_of old).is_reliable (faults_of old) (faults_of new) result
   pub memory : IsErrOf result Error.Memory → MayRunOut (features_of old).other_memory 0 0
+
+-- What is promised of an aligned zero write, in place or else as data, by how the storage zeroes.
+pub record IsPureZeroing {S : Type 0} (features_of : S → Features) (bytes_of : S → List ℕ) (faults_of : S → ℕ) (z : ZeroSupport) (at n : ℕ) (old new : S) (result : Result (Unit {0}) Error) : Type 0 where
+  pub written : WriteOutcome (features_of old).keeps_data (bytes_of old) (splice (bytes_of old) at (replicate n 0)) (bytes_of new) result
+  pub torn : z ≡ InPlace → OnErr result (OldOrNew (bytes_of old) (splice (bytes_of old) at (replicate n 0)) (bytes_of new))
+  pub atomic : z ≡ InPlace → IsTrue (features_of old).atomic → OnErr result (bytes_of new ≡ bytes_of old)
+  pub features : features_of new ≡ features_of old
+  pub only : IfErr result IsPureRefusal
+  pub offered : IsErrOf result Error.Unsupported → MayBeUnsupported z (features_of old).mem_align n
+  pub refused : z ≡ AsData → n % (features_of old).mem_align ≢ 0 → IsErrOf result Error.Unsupported
+  pub cause : CountsFaults (features_of old).is_reliable (faults_of old) (faults_of new) result
+  pub memory : IsErrOf result Error.Memory → z ≡ InPlace → MayRunOut (features_of old).zero_memory (length (bytes_of old)) (at + n)
+  pub early : IsErrOf result Error.Memory → z ≢ InPlace → (¬ MayRunOut (features_of old).write_memory (length (bytes_of old)) (at + n)) → new ≡ old
+  pub unchanged : IsErrOf result Error.Unsupported → new ≡ old
+
+-- What is promised of a flush, a sync, a wait for writes or an invalidation, each of which is that relation.
+pub record IsMaintained {S : Type 0} (features_of : S → Features) (bytes_of : S → List ℕ) (faults_of : S → ℕ) (relation : S → S → Result (Unit {0}) Error → Type 0) (old new : S) (result : Result (Unit {0}) Error) : Type 0 where
+  pub unchanged : bytes_of new ≡ bytes_of old
+  pub features : features_of new ≡ features_of old
+  pub only : IfErr result IsDeviceOrMemory
+  pub cause : CountsFaults (features_of old).is_reliable (faults_of old) (faults_of new) result
+  pub memory : IsErrOf result Error.Memory → MayRunOut (features_of old).other_memory 0 0
+  pub performed : relation old new result

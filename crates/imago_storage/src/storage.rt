@@ -2,6 +2,7 @@
 ghost use Rattle.std.specs.Prelude.{◌≡◌, ◌≢◌, ℕ, ◌+◌, ◌%◌, ◌↔◌, List, length, replicate, max, true, false, IsTrue, OnOk, OnErr, IfOk, IfErr, IsErrOf};
 ghost use Rattle.std.specs.Option.{option_copied};
 ghost use Rattle.imago_storage.specs.Bytes.{splice, OldOrNew, WriteOutcome, IsReadAt, SameOutside, IsResized, IsZeroFrom};
+ghost use Rattle.imago_storage.specs.Calls.{IsPureZeroing, IsMaintained};
 ghost use Rattle.imago_storage.specs.Error.{IsDeviceOrMemory, IsPureRefusal};
 ghost use Rattle.imago_storage.specs.Faults.{CountsFaults};
 ghost use Rattle.imago_storage.specs.Features.{Features, InPlace, AsData, MayRunOut, MayBeUnsupported, zero_support, AreAlignments, IsAlignedRequest, IsAlignedTo};
@@ -219,32 +220,7 @@ pub trait Storage: Display + Drop + Sized {
     /// The buffer of zeroes is asked for before anything is written.
     fn pure_write_zeroes(&mut self, alloc: Global, offset: u64, count: u64) -> Result<(), Error>
         requires { IsAlignedTo (features self.old).zero_align offset count }
-        ensures written { WriteOutcome (features self.old).keeps_data (bytes self.old)
-            (splice (bytes self.old) offset (replicate count 0)) (bytes self.new) result }
-        ensures torn { (features self.old).zeroes ≡ InPlace
-            → OnErr result
-            (OldOrNew (bytes self.old) (splice (bytes self.old) offset (replicate count 0))
-            (bytes self.new)) }
-        ensures atomic { (features self.old).zeroes ≡ InPlace
-            → IsTrue (features self.old).atomic
-            → OnErr result (bytes self.new ≡ bytes self.old) }
-        ensures features { features self.new ≡ features self.old }
-        ensures only { IfErr result IsPureRefusal }
-        ensures offered { IsErrOf result Error.Unsupported
-            → MayBeUnsupported (features self.old).zeroes (features self.old).mem_align count }
-        ensures refused { (features self.old).zeroes ≡ AsData
-            → count % (features self.old).mem_align ≢ 0
-            → IsErrOf result Error.Unsupported }
-        ensures cause { CountsFaults (features self.old).is_reliable (fault_count self.old) (fault_count self.new)
-            result }
-        ensures memory { IsErrOf result Error.Memory
-            → (features self.old).zeroes ≡ InPlace
-            → MayRunOut (features self.old).zero_memory (length (bytes self.old)) (offset + count) }
-        ensures early { IsErrOf result Error.Memory
-            → (features self.old).zeroes ≢ InPlace
-            → (¬ MayRunOut (features self.old).write_memory (length (bytes self.old)) (offset + count))
-            → self.new ≡ self.old }
-        ensures unchanged { IsErrOf result Error.Unsupported → self.new ≡ self.old }
+        ensures { IsPureZeroing features bytes fault_count (features self.old).zeroes offset count self.old self.new result }
     {
         match self.zero_in_place(offset, count, ZeroKind::Any) {
             Err(Error::Unsupported) => self.write_zeroes_as_data(alloc, offset, count),
@@ -262,33 +238,7 @@ pub trait Storage: Display + Drop + Sized {
         count: u64,
     ) -> Result<(), Error>
         requires { IsAlignedTo (features self.old).zero_align offset count }
-        ensures written { WriteOutcome (features self.old).keeps_data (bytes self.old)
-            (splice (bytes self.old) offset (replicate count 0)) (bytes self.new) result }
-        ensures torn { (features self.old).allocated_zeroes ≡ InPlace
-            → OnErr result
-            (OldOrNew (bytes self.old) (splice (bytes self.old) offset (replicate count 0))
-            (bytes self.new)) }
-        ensures atomic { (features self.old).allocated_zeroes ≡ InPlace
-            → IsTrue (features self.old).atomic
-            → OnErr result (bytes self.new ≡ bytes self.old) }
-        ensures features { features self.new ≡ features self.old }
-        ensures only { IfErr result IsPureRefusal }
-        ensures offered { IsErrOf result Error.Unsupported
-            → MayBeUnsupported (features self.old).allocated_zeroes (features self.old).mem_align
-            count }
-        ensures refused { (features self.old).allocated_zeroes ≡ AsData
-            → count % (features self.old).mem_align ≢ 0
-            → IsErrOf result Error.Unsupported }
-        ensures cause { CountsFaults (features self.old).is_reliable (fault_count self.old) (fault_count self.new)
-            result }
-        ensures memory { IsErrOf result Error.Memory
-            → (features self.old).allocated_zeroes ≡ InPlace
-            → MayRunOut (features self.old).zero_memory (length (bytes self.old)) (offset + count) }
-        ensures early { IsErrOf result Error.Memory
-            → (features self.old).allocated_zeroes ≢ InPlace
-            → (¬ MayRunOut (features self.old).write_memory (length (bytes self.old)) (offset + count))
-            → self.new ≡ self.old }
-        ensures unchanged { IsErrOf result Error.Unsupported → self.new ≡ self.old }
+        ensures { IsPureZeroing features bytes fault_count (features self.old).allocated_zeroes offset count self.old self.new result }
     {
         match self.zero_in_place(offset, count, ZeroKind::Allocated) {
             Err(Error::Unsupported) => self.write_zeroes_as_data(alloc, offset, count),
@@ -313,43 +263,19 @@ pub trait Storage: Display + Drop + Sized {
 
     /// Writes what the storage buffers. No byte changes.
     fn flush(&mut self) -> Result<(), Error>
-        ensures unchanged { bytes self.new ≡ bytes self.old }
-        ensures features { features self.new ≡ features self.old }
-        ensures only { IfErr result IsDeviceOrMemory }
-        ensures cause { CountsFaults (features self.old).is_reliable (fault_count self.old) (fault_count self.new)
-            result }
-        ensures memory { IsErrOf result Error.Memory → MayRunOut (features self.old).other_memory 0 0 }
-        ensures performed { maintenance.flushed self.old self.new result };
+        ensures { IsMaintained features bytes fault_count maintenance.flushed self.old self.new result };
 
     /// Syncs what is written to the hardware. No byte changes.
     fn sync(&mut self) -> Result<(), Error>
-        ensures unchanged { bytes self.new ≡ bytes self.old }
-        ensures features { features self.new ≡ features self.old }
-        ensures only { IfErr result IsDeviceOrMemory }
-        ensures cause { CountsFaults (features self.old).is_reliable (fault_count self.old) (fault_count self.new)
-            result }
-        ensures memory { IsErrOf result Error.Memory → MayRunOut (features self.old).other_memory 0 0 }
-        ensures performed { maintenance.synced self.old self.new result };
+        ensures { IsMaintained features bytes fault_count maintenance.synced self.old self.new result };
 
     /// Waits for all writes, zero writes and discards made before. No byte changes.
     fn settle_writes(&mut self) -> Result<(), Error>
-        ensures unchanged { bytes self.new ≡ bytes self.old }
-        ensures features { features self.new ≡ features self.old }
-        ensures only { IfErr result IsDeviceOrMemory }
-        ensures cause { CountsFaults (features self.old).is_reliable (fault_count self.old) (fault_count self.new)
-            result }
-        ensures memory { IsErrOf result Error.Memory → MayRunOut (features self.old).other_memory 0 0 }
-        ensures performed { maintenance.settled self.old self.new result };
+        ensures { IsMaintained features bytes fault_count maintenance.settled self.old self.new result };
 
     /// Drops what the storage caches. No byte changes.
     fn invalidate_cache(&mut self) -> Result<(), Error>
-        ensures unchanged { bytes self.new ≡ bytes self.old }
-        ensures features { features self.new ≡ features self.old }
-        ensures only { IfErr result IsDeviceOrMemory }
-        ensures cause { CountsFaults (features self.old).is_reliable (fault_count self.old) (fault_count self.new)
-            result }
-        ensures memory { IsErrOf result Error.Memory → MayRunOut (features self.old).other_memory 0 0 }
-        ensures performed { maintenance.invalidated self.old self.new result };
+        ensures { IsMaintained features bytes fault_count maintenance.invalidated self.old self.new result };
 
     /// Sets the length in bytes. Bytes that stay are kept; new ones are zero, or for [`PreallocateMode::None`]
     /// unspecified, unless the storage adds zeroes in every mode. A smaller size ignores the mode. Refused, nothing changed; a storage that can't be
