@@ -1,9 +1,12 @@
-use Rattle.std.proofs.Common.{◌≡◌, ℕ, ◌+◌, ◌-◌, ◌<◌, ◌≤◌, ◌⊎◌, List, ◌++◌, length, take, drop, replicate, get_or, max, arith, inl, inr, refl, sym, ap, ◌∙◌, Bool, Result, Ok, Err, IsErrAnd}
+use Rattle.std.proofs.Common.{◌≡◌, ℕ, ◌+◌, ◌-◌, ◌*◌, ◌<◌, ◌≤◌, ◌⊎◌, List, ◌++◌, length, take, drop, replicate, get_or, max, arith, inl, inr, refl, sym, ap, ◌∙◌, Bool, Result, Ok, Err, IsErrAnd}
 use Rattle.std.proofs.lemmas.List.{places, length-append, length-replicate, length-take-le, length-drop, take-append-drop, take_rest, get_or_append_left, get_or-append_right}
 use Rattle.std.proofs.lemmas.Grind.{same_number_lists}
 use Rattle.std.proofs.lemmas.Bool.{cases_lt}
 use Rattle.std.proofs.lemmas.Result.{err_from_is_err_and}
 use Rattle.imago_storage.specs.Bytes.{splice, zero_extended, OldOrNew, WriteOutcome, IsReadAt}
+use Rattle.imago_storage.specs.Features.{Features, len_align}
+use Rattle.imago_storage.specs.IoCount.{IoCount, AddsAtMost, IsWriteWork}
+use Rattle.imago_storage.specs.Padding.{IsPaddedRequest}
 use Rattle.imago_storage.specs.declared.error.Error.{Error}
 use Rattle.imago_storage.proofs.Outcomes.{WriteOutcome_unchanged, WriteOutcome_refused, WriteOutcome_then}
 use Rattle.imago_storage.proofs.Splices.{length-splice, splice_inside, splice_before, splice_after}
@@ -164,3 +167,13 @@ second_written {xs = xs} {mid = mid} {k = k} {at = at} {e = e} {d = d} vs s w wa
     WriteOutcome_then _ _ _ _ _ _ _ _ _ _ w was v (first_between xs vs k at e d s)
     (λ made. rw made (both_parts xs vs k at e d s))
     (λ size. omega (arith, size, s.longer, length-part mid (at + k) (drop k vs) d second, length-part xs at (take k vs) e (omega (arith, l, s.first)), length-part xs at vs d s.covers))
+
+-- the parts of a padded request are the work of one write
+pub write_work : (f : Features) (at n start len block : ℕ) (old new : IoCount) → AddsAtMost 2 (2 * block) 3 len old new → block ≡ len_align f
+    → IsPaddedRequest f at n start len → IsWriteWork (len_align f) n old new
+write_work f at n start len block old new w same q = record {
+  reads = w.reads;
+  bytes_read = rw same at w.bytes_read;
+  writes = w.writes;
+  bytes_written = omega (arith, w.bytes_written, q.small, q.near);
+}

@@ -1,15 +1,13 @@
 //! Reads, writes and discards of any range.
-ghost use Rattle.std.specs.Prelude.{◌≡◌, ◌+◌, ◌-◌, ◌<◌, ◌≤◌, ◌↔◌, ◌*◌, length, false, OnOk, IfErr, IsErrOf, IsOk};
+ghost use Rattle.std.specs.Prelude.{◌≡◌, ◌+◌, ◌-◌, ◌<◌, ◌≤◌, ◌*◌, length, IfErr, IsErrOf};
 ghost use Rattle.std.specs.Int.{next_multiple_of};
 ghost use Rattle.imago_storage.specs.Blocks.{IsInParts, IsInBlocks};
-ghost use Rattle.imago_storage.specs.Bytes.{splice, zero_extended, WriteOutcome, IsReadAt, SameOutside};
+ghost use Rattle.imago_storage.specs.Bytes.{splice, zero_extended, WriteOutcome};
 ghost use Rattle.imago_storage.specs.Calls.{IsRangeRead, IsRangeWrite, IsRangeDiscard};
-ghost use Rattle.imago_storage.specs.Error.{IsDeviceOrMemory, IsExtRefusal};
+ghost use Rattle.imago_storage.specs.Error.{IsDeviceOrMemory};
 ghost use Rattle.imago_storage.specs.Faults.{CountsFaults};
-ghost use Rattle.imago_storage.specs.Features.{IsAlignedRequest, MayRunOut, RequestMayRunOut, len_align};
-ghost use Rattle.imago_storage.specs.IoCount.{AddsAtMost, IsWriteWork};
-ghost use Rattle.imago_storage.specs.Maintenance.{IsDiscarded};
-ghost use Rattle.imago_storage.specs.Padding.{padded_end, Wraps, aligned_start, aligned_end, RangeWraps};
+ghost use Rattle.imago_storage.specs.Features.{IsAlignedRequest, RequestMayRunOut};
+ghost use Rattle.imago_storage.specs.IoCount.{AddsAtMost};
 
 use crate::align::{aligned_part, discard_align, length_align, padded_request, whole_blocks};
 use crate::bytes::overwrite;
@@ -44,6 +42,7 @@ pub(crate) fn read_any<S: Storage>(
 }
 
 /// Writes a range: as it is where it is aligned, and else in up to three parts.
+#[tactic(auto, using(crate::proofs::Writes::write_work))]
 pub(crate) fn write_any<S: Storage>(
     storage: &mut S,
     alloc: Global,

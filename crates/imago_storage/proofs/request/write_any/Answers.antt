@@ -1,5 +1,4 @@
 use Rattle.std.proofs.Common.{rules, arith, ◌≡◌, ◌+◌, length, refl}
-use Rattle.std.proofs.lemmas.Grind.{common_steps}
 use Rattle.imago_storage.specs.Padding.{padded_end, IsPaddedRequest}
 use Rattle.imago_storage.proofs.Outcomes.{WriteOutcome_unchanged}
 use Rattle.imago_storage.proofs.Writes.{splice_is_part, part_no_shorter, refused_at_once}
@@ -56,20 +55,3 @@ returns-in_err-block g c = record {
   cause = search rules;
   memory = search rules;
 }
-
-pub returns : goal.returns
-returns g c =
-    let e = c.write_parts.ensures in
-    record {
-      empty = search rules;
-      written = search rules;
-      wraps = search rules;
-      unchanged = search rules;
-      features = e.features;
-      work = record { reads = e.work.reads; bytes_read = grind (arith, common_steps); writes = e.work.writes; bytes_written = grind (arith, common_steps) };
-      direct = search rules;
-      early = search rules;
-      only = search rules;
-      cause = e.cause;
-      memory = search rules;
-    }
