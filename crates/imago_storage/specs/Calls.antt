@@ -9,9 +9,9 @@ use Rattle.imago_storage.specs.Maintenance.{Maintenance, IsDiscarded}
 use Rattle.imago_storage.specs.Padding.{padded_end, Wraps, aligned_start, aligned_end, RangeWraps}
 use Rattle.imago_storage.specs.Zeroes.{HasZeroed, MayWrap, FitsZeroes}
 
--- Everything that is promised of a call on any range, one record for each kind. A storage is seen by its ghost members.
+-- Everything that is promised of a call, one record for each kind of which there are several. A storage is seen by its ghost members.
 
--- A read of n bytes into a buffer.
+-- A read of any range, of n bytes into a buffer.
 pub record IsRangeRead (f : Features) (stored : List ℕ) (at n : ℕ) (buffer : List ℕ) (result : Result (Unit {0}) Error) : Type 0 where
   pub empty : n ≡ 0 → IsOk result
   pub bytes : OnOk result (IsReadAt stored at buffer)
@@ -20,7 +20,7 @@ pub record IsRangeRead (f : Features) (stored : List ℕ) (at n : ℕ) (buffer :
   pub device : IsErrOf result Error.Device → f.is_reliable ≡ false
   pub memory : IsErrOf result Error.Memory → IsAlignedRequest f at n → MayRunOut f.read_memory (length stored) (at + n)
 
--- A write.
+-- A write of any range.
 pub record IsRangeWrite {S : Type 0} (features_of : S → Features) (bytes_of : S → List ℕ) (faults_of : S → ℕ) (work_of : S → IoCount) (at : ℕ) (source : List ℕ) (old new : S) (result : Result (Unit {0}) Error) : Type 0 where
   pub empty : length source ≡ 0 → IsOk result × (new ≡ old)
   pub written : 0 < length source → WriteOutcome (features_of old).keeps_data (bytes_of old) (splice (zero_extended (bytes_of old) (padded_end (features_of old) at (length source))) at source) (bytes_of new) result
@@ -34,7 +34,7 @@ pub record IsRangeWrite {S : Type 0} (features_of : S → Features) (bytes_of : 
   pub cause : CountsFaults (features_of old).is_reliable (faults_of old) (faults_of new) result
   pub memory : IsErrOf result Error.Memory → IsAlignedRequest (features_of old) at (length source) → MayRunOut (features_of old).write_memory (length (bytes_of old)) (at + length source)
 
--- A zero write, by how the storage zeroes.
+-- A zero write of any range, by how the storage zeroes.
 pub record IsRangeZeroing {S : Type 0} (features_of : S → Features) (bytes_of : S → List ℕ) (faults_of : S → ℕ) (z : ZeroSupport) (at n : ℕ) (old new : S) (result : Result (Unit {0}) Error) : Type 0 where
   pub empty : n ≡ 0 → IsOk result × (new ≡ old)
   pub written : 0 < n → HasZeroed (features_of old) (bytes_of old) at n (bytes_of new) result
@@ -47,7 +47,7 @@ pub record IsRangeZeroing {S : Type 0} (features_of : S → Features) (bytes_of 
   pub memory : IsErrOf result Error.Memory → IsAlignedTo (features_of old).zero_align at n → z ≡ InPlace → MayRunOut (features_of old).zero_memory (length (bytes_of old)) (at + n)
   pub early : IsErrOf result Error.Memory → (¬ ZeroesMayRunOut (features_of old) (length (bytes_of old)) (at + n + (len_align (features_of old) - 1))) → new ≡ old
 
--- A discard, which is made of the range's aligned part.
+-- A discard of any range, which is made of its aligned part.
 pub record IsRangeDiscard {S : Type 0} (features_of : S → Features) (bytes_of : S → List ℕ) (faults_of : S → ℕ) (calls : Maintenance S) (at n : ℕ) (old new : S) (result : Result (Unit {0}) Error) : Type 0 where
   pub bytes : SameOutside (aligned_start (features_of old).discard_align at) (aligned_end (features_of old).discard_align at n - aligned_start (features_of old).discard_align at) (bytes_of old) (bytes_of new)
   pub wraps : IsErrOf result Error.WrapAround ↔ RangeWraps (features_of old).discard_align at n
@@ -60,7 +60,7 @@ pub record IsRangeDiscard {S : Type 0} (features_of : S → Features) (bytes_of 
   pub cause : CountsFaults (features_of old).is_reliable (faults_of old) (faults_of new) result
   pub memory : IsErrOf result Error.Memory → MayRunOut (features_of old).other_memory 0 0
 
--- What is promised of an aligned zero write, in place or else as data, by how the storage zeroes.
+-- An aligned zero write, in place or else as data, by how the storage zeroes.
 pub record IsPureZeroing {S : Type 0} (features_of : S → Features) (bytes_of : S → List ℕ) (faults_of : S → ℕ) (z : ZeroSupport) (at n : ℕ) (old new : S) (result : Result (Unit {0}) Error) : Type 0 where
   pub written : WriteOutcome (features_of old).keeps_data (bytes_of old) (splice (bytes_of old) at (replicate n 0)) (bytes_of new) result
   pub torn : z ≡ InPlace → OnErr result (OldOrNew (bytes_of old) (splice (bytes_of old) at (replicate n 0)) (bytes_of new))
@@ -74,7 +74,7 @@ pub record IsPureZeroing {S : Type 0} (features_of : S → Features) (bytes_of :
   pub early : IsErrOf result Error.Memory → z ≢ InPlace → (¬ MayRunOut (features_of old).write_memory (length (bytes_of old)) (at + n)) → new ≡ old
   pub unchanged : IsErrOf result Error.Unsupported → new ≡ old
 
--- What is promised of a flush, a sync, a wait for writes or an invalidation, each of which is that relation.
+-- A flush, a sync, a wait for writes or an invalidation, each of which is that relation.
 pub record IsMaintained {S : Type 0} (features_of : S → Features) (bytes_of : S → List ℕ) (faults_of : S → ℕ) (relation : S → S → Result (Unit {0}) Error → Type 0) (old new : S) (result : Result (Unit {0}) Error) : Type 0 where
   pub unchanged : bytes_of new ≡ bytes_of old
   pub features : features_of new ≡ features_of old
