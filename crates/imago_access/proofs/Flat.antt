@@ -183,8 +183,8 @@ module _ {D St : Type 0} (view : D → View St) where
       (bool_cases (view (driver x)).abilities.is_writable)
 
   -- a call that succeeded lies in the disk
-  call_fits : {T : Type 0} {reasons : Reasons} {hidden : Type 0} {part : T → ℕ} {effect : T → Type 0} {remains : Type 0} {t : T} (old new : FormatAccess D) (op : Operation) (o n : ℕ) → Overflows op o n ⊎ (Overflows op o n → ⊥)
-      → IsRangeCall view op o n reasons hidden part effect remains old new (Ok t) → o + n ≤ (view (driver old)).size
+  call_fits : {T : Type 0} {of : Operation → Type 0} {reasons : Reasons} {hidden : Type 0} {part : T → ℕ} {effect : T → Type 0} {remains : Type 0} {t : T} (old new : FormatAccess D) (op : Operation) (o n : ℕ) → Overflows op o n ⊎ (Overflows op o n → ⊥)
+      → IsRangeCall view op o n of reasons hidden part effect remains old new (Ok t) → o + n ≤ (view (driver old)).size
   call_fits old new op o n over h = ⊎_elim
       (λ (past : (view (driver old)).size < o + n).
       let f = call_fails old op o n over past in
@@ -195,8 +195,8 @@ module _ {D St : Type 0} (view : D → View St) where
       (cases_lt (view (driver old)).size (o + n))
 
   -- a call that a test refused changed nothing
-  call_untouched : {T : Type 0} {reasons : Reasons} {hidden : Type 0} {part : T → ℕ} {effect : T → Type 0} {remains : Type 0} (old new : FormatAccess D) (op : Operation) (o n : ℕ) → Overflows op o n ⊎ (Overflows op o n → ⊥) → (e : Error)
-      → (reasons.read_only → ⊥) → (reasons.range_overflow → ⊥) → IsRangeCall {T = T} view op o n reasons hidden part effect remains old new (Err e) → IsEndRefusal (disk view old) o n e → disk view new ≡ disk view old
+  call_untouched : {T : Type 0} {of : Operation → Type 0} {reasons : Reasons} {hidden : Type 0} {part : T → ℕ} {effect : T → Type 0} {remains : Type 0} (old new : FormatAccess D) (op : Operation) (o n : ℕ) → Overflows op o n ⊎ (Overflows op o n → ⊥) → (e : Error)
+      → (reasons.read_only → ⊥) → (reasons.range_overflow → ⊥) → IsRangeCall {T = T} view op o n of reasons hidden part effect remains old new (Err e) → IsEndRefusal (disk view old) o n e → disk view new ≡ disk view old
   call_untouched {reasons = reasons} old new op o n over e no_read_only no_overflow h t = ap (disk view) (⊎_elim
       (λ overflow. ⊎_elim (λ f. (h.tested e f).1) (λ a. let none : reasons.range_overflow = subst (allowed reasons) overflow a in absurd (no_overflow none)) h.refusals)
       (λ test. ⊎_elim

@@ -13,7 +13,7 @@ use Rattle.imago_access.specs.declared.access.FormatAccess.{FormatAccess}
 use Rattle.imago_access.specs.declared.zero.ZeroCall.{ZeroCall}
 use Rattle.imago_access.specs.declared.zero.ZeroCall.TheVariants as Z
 use Rattle.imago_access.specs.Chain.{driver, backing, disk_value, is_reliable, lent_image, chain_cause}
-use Rattle.imago_access.specs.Calls.{devices_reliable, IsRangeCall}
+use Rattle.imago_access.specs.Calls.{devices_reliable, settles, IsRangeCall}
 
 -- what a zeroing call of the driver is, for its causes
 abbrev pub operation_of : ZeroCall → Operation
@@ -91,7 +91,7 @@ pub record IsZeroedByDriver {D St : Type 0} (view : D → View St) (o n : ℕ) (
 
 -- a zero write: zeroes stand in the range, or, where it is refused, each of its bytes may be zero
 abbrev pub IsZeroWrite : {D St : Type 0} → (D → View St) → Operation → FormatAccess D → FormatAccess D → ℕ → ℕ → Result (Unit {0}) Error → Type 0
-IsZeroWrite view op old new o n result = IsRangeCall view op o n (zero_reasons view old op o n) (is_reliable view old ≡ false) (λ u. n)
+IsZeroWrite view op old new o n result = IsRangeCall view op o n (settles op) (zero_reasons view old op o n) (is_reliable view old ≡ false) (λ u. n)
     (λ u. IsChanged o n zeroes (disk_value view old) (disk_value view new))
     (IsChanged o n (partly zeroes) (disk_value view old) (disk_value view new))
     old new result
