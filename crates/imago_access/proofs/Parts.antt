@@ -80,7 +80,7 @@ module _ {D St : Type 0} (view : D → View St) (l : LayerBelow) (old mid wrote 
   fill_done w round causes =
       let len : length (take k bytes) ≡ k = written_length (view old) (view mid) (view wrote) l o n overwrite bytes k m P U law fit in
       let part = subst (λ (i : ℕ). (p : ℕ) → is_for (view mid) m m.state 0 i p → IsSettled IsOnRange (view mid).limits.cause (view wrote).limits.cause (view mid).limits.copies (view wrote).limits.copies p i) len causes o
-          (is_at_start (view old) (view mid) (view wrote) l o n overwrite bytes k m P U law fit) in
+      (is_at_start (view old) (view mid) (view wrote) l o n overwrite bytes k m P U law fit) in
       record {
         mapping = record { within = P.within; some = P.some; part = P.part; whole = P.whole };
         written = filled_so (view old) (view mid) (view wrote) l o n overwrite bytes k m P U law fit F w (λ keeps. round keeps l.at);

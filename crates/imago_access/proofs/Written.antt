@@ -275,14 +275,17 @@ module _ {St : Type 0} (old mid wrote : View St) (l : LayerBelow) (o n : ℕ) (o
       let x = W.1 q a.1 in
       let r = x.0 in
       let own : IsOwn (Some r) m = subst (λ (p : Option (Pending St)). IsOwn p m) x.1 (own_after false (Some s) e W s refl) in
-      let start : r.start ≡ o = ap (λ (p : Pending St). p.start) x.2 ∙ a.3 in
-      (r, x.1, record {
-        own = own;
-        start = start;
-        same = λ keeps p. ap (shown l.at) (W.0.same (mid_keeps F keeps) p) ∙ same_value keeps p;
-        round = λ keeps. subst (λ (p : Option (Pending St)). ShowsRound (values l.at wrote.place) p) x.1 (round (mid_keeps F keeps) (shows_same F keeps mid.pending (P.round keeps)));
-        listed = λ keeps. listed F keeps q r a.3 (x.3 (mid_keeps F keeps)).changed (a.4 keeps);
-      })
+      let start : r.start ≡ o = ap (λ (p : Pending St). p.start) x.2 ∙ a.3 in (
+        r,
+        x.1,
+        record {
+          own = own;
+          start = start;
+          same = λ keeps p. ap (shown l.at) (W.0.same (mid_keeps F keeps) p) ∙ same_value keeps p;
+          round = λ keeps. subst (λ (p : Option (Pending St)). ShowsRound (values l.at wrote.place) p) x.1 (round (mid_keeps F keeps) (shows_same F keeps mid.pending (P.round keeps)));
+          listed = λ keeps. listed F keeps q r a.3 (x.3 (mid_keeps F keeps)).changed (a.4 keeps);
+        },
+      )
 
   filled_at : (wrote_framed : IsFramed mid wrote) (st : Option St) → m.state ≡ st → is_written st false mid wrote m 0 (take k bytes)
       → (IsTrue mid.abilities.keeps_data → ShowsRound (values l.at mid.place) mid.pending → ShowsRound (values l.at wrote.place) wrote.pending) → is_filled st l old wrote o overwrite bytes m
