@@ -278,7 +278,7 @@ module _ {D St : Type 0} (view : D → View St) (lawful : (d : D) → IsLawful (
   zero_done old new op o n over k h =
       let fits : o + n ≤ (view (driver old)).size = call_fits view old new op o n over h in
       let len : length (replicate {A = ℕ} n 0) ≡ n = length-replicate n 0 in
-      (omega (arith, fits, disk_length view old), written old new o (replicate n 0) h.same_size (omega arith) (zeroes_into o n _ _ (h.done k)))
+      (omega (arith, fits, disk_length view old), written old new o (replicate n 0) h.same_size (omega arith) (zeroes_into o n _ _ (h.done k).0))
 
   zero_refused : (old new : FormatAccess D) (op : Operation) (o n : ℕ) → Overflows op o n ⊎ (Overflows op o n → ⊥) → (e : Error) → IsTrue (view (driver old)).abilities.keeps_data → IsZeroWrite view op old new o n (Err e) → IsPartlyZeroed (disk view old) o n e (disk view new)
   zero_refused old new op o n over e k h = record {

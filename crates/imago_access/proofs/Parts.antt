@@ -1,11 +1,11 @@
-use Rattle.std.proofs.Common.{◌≡◌, ℕ, ◌+◌, ◌<◌, ◌≤◌, ◌⊎◌, ◌&&◌, inl, inr, ⊎_elim, Bool, true, false, List, length, take, Option, Some, None, refl, sym, ap, ◌∙◌, arith, Ok, Err, subst, min}
+use Rattle.std.proofs.Common.{◌≡◌, ℕ, ◌+◌, ◌-◌, ◌<◌, ◌≤◌, ◌⊎◌, ◌&&◌, inl, inr, ⊎_elim, Bool, true, false, List, length, take, Option, Some, None, refl, sym, ap, ◌∙◌, arith, Ok, Err, subst, min}
 use Rattle.std.specs.Prelude.{IsTrue, IsErrOf, is_none, not}
 use Rattle.imago_storage.specs.declared.error.Error.{Error}
 use Rattle.imago_storage.specs.declared.error.Error.TheVariants as E
 use Rattle.imago_storage.specs.Faults.{RoseOrSaturated}
 use Rattle.imago_drivers.specs.declared.mapping.PreparedDataMapping.{PreparedDataMapping}
 use Rattle.imago_drivers.specs.Operation.{Operation}
-use Rattle.imago_drivers.specs.Place.{Value, values, shown, SamePlaces}
+use Rattle.imago_drivers.specs.Place.{Value, Stored, Lower, values, shown, SamePlaces}
 use Rattle.imago_drivers.specs.Reasons.{allowed}
 use Rattle.imago_drivers.specs.LayerBelow.{LayerBelow}
 use Rattle.imago_drivers.specs.Causes.{Causes, Copies, IsSettled, IsOnRange}
@@ -17,7 +17,7 @@ use Rattle.imago_drivers.specs.Frame.{IsKind, IsFramed, IsUnchanged, ReachesNoMo
 use Rattle.imago_drivers.specs.Done.{lending_reasons, mapping_write_reasons}
 use Rattle.imago_drivers.specs.Prepared.{IsPrepared, IsWritten, IsForeignWrite, is_for, is_foreign}
 use Rattle.imago_drivers.specs.Commit.{IsCommit, IsCancel, commit_reasons, is_committed, prepared_bytes}
-use Rattle.imago_access.specs.Writing.{CommitMayTakeMemory, HasWritten, HasFilled, HasMapped, IsWaiting, is_filled, filled, shown_length, shown_change, settles_by, first_reasons, filling_reasons, mapping_reasons}
+use Rattle.imago_access.specs.Writing.{CommitMayTakeMemory, StandsAlone, HasWritten, HasFilled, HasMapped, IsWaiting, is_filled, filled, shown_length, shown_change, settles_by, first_reasons, filling_reasons, mapping_reasons}
 use Rattle.imago_access.proofs.Weaker.{IsWeaker, allowed_more}
 use Rattle.imago_access.proofs.Written.{settled_twice, kind_twice, framed_twice, changed_wider, changed_whole, written_length, is_at_start, is_at_start_after, never_foreign_write, is_spent, write_refused, cancelled, filled_so, filling_weaker}
 use Rattle.imago_access.proofs.Writes.{GoesOn, goes_on, goes_on_twice, goes_on_with, reaches_twice, rose_more, counted, refused_first, wrote_first, unchanged_values}
@@ -214,11 +214,30 @@ module _ {D St : Type 0} (view : D → View St) (l : LayerBelow) (old wrote new 
       reasons E.Denied own a = a
       reasons E.NotFound own a = a
 
+  -- what is committed stands in the layer itself
+  stands_at : (st : Option St) → is_for (view wrote) m st 0 m.length o → is_filled st l (view old) (view wrote) o overwrite bytes m → is_committed (view wrote).pending st false (view wrote) (view new) → StandsAlone (view new).place o m.length
+  stands_at None f w c p i q v h =
+      let e : o + (p - o) ≡ p = omega (arith, i.0) in
+      let x = f (p - o) (omega (arith, i.0, i.1)) in
+      let y = c.stored (o + (p - o)) x.0 m.storage (m.offset + 0 + (p - o)) x.1 x.2 in
+      let k : Lower q v ≡ Stored y.0 m.storage (m.offset + 0 + (p - o)) x.1 = sym h ∙ sym (ap (view new).place e) ∙ y.1 in
+      cc
+  stands_at (Some s) f w c p i q v h =
+      let d : is_committed (Some w.0) (Some s) false (view wrote) (view new) = subst (λ (r : Option (Pending St)). is_committed r (Some s) false (view wrote) (view new)) w.1 c in
+      let r = w.0 in
+      let start : r.start ≡ o = w.2.start in
+      let len : m.length ≡ r.length = w.2.own.2 in
+      let e : r.start + (p - o) ≡ p = omega (arith, i.0, start) in
+      let y = d.0 refl (p - o) (omega (arith, i.0, i.1, len)) in
+      let k : Lower q v ≡ Stored y.0 r.storage (r.offset + (p - o)) true = sym h ∙ sym (ap (view new).place e) ∙ y.1 in
+      cc
+
   pub mapping_committed : IsCommit view wrote new m (Ok tt) → HasMapped l (CommitMayTakeMemory view old) (view old) (view new) o n overwrite bytes true (Ok (m.length, is_none m.state))
   mapping_committed c = record {
     mapping = H.mapping;
     done = λ keeps. changed_whole o m.length (filled (overwrite && not (is_none m.state)) bytes) _ _ (shown_by_commit false c.done keeps);
     torn = λ keeps. tt;
+    alone = λ e. stands_at m.state H.for H.written c.done;
     settled = settled_for (settled_twice _ _ _ _ _ _ o m.length H.settled (c.settled o H.for));
     reaches = reaches_twice (view old) (view wrote) (view new) H.reaches c.reaches;
     framed = new_framed c.framed;
@@ -243,6 +262,7 @@ module _ {D St : Type 0} (view : D → View St) (l : LayerBelow) (old wrote new 
       record {
         mapping = tt;
         done = λ keeps. tt;
+        alone = λ z. tt;
         torn = λ keeps. looser_part (not (is_none m.state)) (changed_wider o m.length n (filled (overwrite && not (is_none m.state)) bytes) _ _ H.mapping.within (shown_by_commit true (c.torn (λ h. own (of_err e Error.ForeignMapping h))) keeps));
         settled = tt;
         reaches = reaches_twice (view old) (view wrote) (view new) H.reaches c.reaches;
@@ -257,6 +277,7 @@ module _ {D St : Type 0} (view : D → View St) (l : LayerBelow) (old wrote new 
     mapping = H.mapping;
     done = λ keeps. unshown_at m.state H.written c.places keeps;
     torn = λ keeps. tt;
+    alone = λ e. let x : ⊥ = cc in absurd x;
     settled = record { causes = λ op a z q i e t. let y = t.1 in let x : ⊥ = cc in absurd x; copied = λ op a z q i p t. let y = t.1 in let x : ⊥ = cc in absurd x };
     reaches = reaches_twice (view old) (view wrote) (view new) H.reaches c.reaches;
     framed = new_framed c.framed;
@@ -271,6 +292,7 @@ mapping_refused l commit_memory old new o n overwrite bytes commit e h = record 
   mapping = tt;
   done = λ keeps. tt;
   torn = λ keeps. more (h.torn keeps);
+  alone = λ z. tt;
   settled = tt;
   reaches = h.reaches;
   framed = h.framed;
@@ -305,7 +327,7 @@ module _ {St : Type 0} (l : LayerBelow) (commit_memory : Type 0) (old new : View
   pub first_written : (c : ℕ) (b : Bool) → 0 < length bytes → HasMapped l commit_memory old new o (length bytes) true bytes true (Ok (c, b)) → HasWritten l commit_memory old new o bytes (Ok c)
   first_written c b some h = wrote_first l commit_memory old new o bytes c (h.mapping.some some) h.mapping.within
       (λ keeps. let d = h.done keeps in record { inside = λ k lt. (d.inside k lt).0 (omega (arith, h.mapping.within)); before = d.before; behind = d.behind })
-      h.mapping.whole
+      h.mapping.whole (h.alone refl)
       (record { causes = λ op a z q i e t. h.settled.causes op a z q i e (t, refl); copied = λ op a z q i p t. h.settled.copied op a z q i p (t, refl) })
       h.reaches h.framed h.spent (goes_on _ _ _ _ h.faults)
 

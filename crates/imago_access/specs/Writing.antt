@@ -3,7 +3,7 @@ use Rattle.imago_storage.specs.declared.error.Error.{Error}
 use Rattle.imago_storage.specs.Faults.{CountsFaults}
 use Rattle.imago_drivers.specs.Operation.{Operation, Write}
 use Rattle.imago_drivers.specs.declared.mapping.PreparedDataMapping.{PreparedDataMapping}
-use Rattle.imago_drivers.specs.Place.{Byte, values}
+use Rattle.imago_drivers.specs.Place.{Byte, Place, Lower, IsIn, values}
 use Rattle.imago_drivers.specs.Reasons.{Reasons, allowed}
 use Rattle.imago_drivers.specs.LayerBelow.{LayerBelow}
 use Rattle.imago_drivers.specs.Causes.{IsSettled, IsOnRange}
@@ -25,6 +25,10 @@ first_reasons v l commit_memory o n = record (lending_reasons v l Write o n) { m
 -- the same for the whole of a range, mapping after mapping: it takes no memory where none of it does, and one mapping is enough
 abbrev pub write_reasons : {St : Type 0} → View St → LayerBelow → Type 0 → ℕ → ℕ → Reasons
 write_reasons v l commit_memory o n = record (lending_reasons v l Write o n) { memory = (v.limits.whole Write o n × v.limits.no_memory Write o n → ⊥) ⊎ commit_memory }
+
+-- no place of the range is left to the layer below
+abbrev pub StandsAlone : (ℕ → Place) → ℕ → ℕ → Type 0
+StandsAlone place o n = (p : ℕ) → IsIn o n p → (q : ℕ) (w : Bool) → place p ≡ Lower q w → ⊥
 
 -- the k-th place of a mapping that bytes are written to: the k-th byte, and past the bytes what it was, or whatever it may be where it
 -- was prepared for overwriting
@@ -92,6 +96,8 @@ pub record HasMapped {St : Type 0} (l : LayerBelow) (commit_memory : Type 0) (ol
   pub mapping : IfOk result (λ m. IsMappedLength old o n m.0)
   pub done : IsTrue old.abilities.keeps_data → IfOk result (λ m. IsChanged o (shown_length commit m) (shown_change overwrite bytes m) (values l.at old.place) (values l.at new.place))
   pub torn : IsTrue old.abilities.keeps_data → OnErr result (IsChanged o n (partly (filled overwrite bytes)) (values l.at old.place) (values l.at new.place))
+  -- what is committed stands in the layer itself
+  pub alone : commit ≡ true → IfOk result (λ m. StandsAlone new.place o m.0)
   pub settled : IfOk result (λ m. IsSettled (settles_by commit) old.limits.cause new.limits.cause old.limits.copies new.limits.copies o m.0)
   pub reaches : ReachesNoMore old new
   pub framed : IsFramed old new
@@ -106,6 +112,7 @@ pub record HasWritten {St : Type 0} (l : LayerBelow) (commit_memory : Type 0) (o
   pub done : IsTrue old.abilities.keeps_data → IfOk result (λ n. IsChanged o n (into bytes) (values l.at old.place) (values l.at new.place))
   pub torn : IsTrue old.abilities.keeps_data → OnErr result (IsChanged o (length bytes) (partly (into bytes)) (values l.at old.place) (values l.at new.place))
   pub whole : old.limits.whole Write o (length bytes) → IfOk result (λ n. n ≡ length bytes)
+  pub alone : IfOk result (λ n. StandsAlone new.place o n)
   pub settled : IfOk result (λ n. IsSettled IsOnRange old.limits.cause new.limits.cause old.limits.copies new.limits.copies o n)
   pub reaches : ReachesNoMore old new
   pub framed : IsFramed old new
