@@ -28,7 +28,7 @@ use Rattle.imago_access.specs.Calls.{IsKept, IsWrite, IsMappedWrite, FailsTest, 
 use Rattle.imago_access.specs.Sizes.{IsSameImage, IsResize, IsResizeTo, IsFlushed, HasGrown, HasShrunk}
 use Rattle.imago_access.specs.Writing.{filled, shown_length}
 use Rattle.imago_access.specs.Runs.{Answers, told_done, told_mapping, told_data, told_prepared, IsReadRefusal, IsBufferRead, IsMapped, IsDataMapped, IsStep, IsRun}
-use Rattle.imago_access.specs.Disk.{values_from, disk, backed_value, value_at, splice, OldOrNewValues, IsTestRefusal, IsSpliced, IsTorn, IsExtended, IsSameWrite, IsEndRefusal, IsZeroed, IsPartlyZeroed, IsUnspecifiedIn, IsGivenBack, IsOverwritten, IsFilledIn, IsPartlyFilled}
+use Rattle.imago_access.specs.Disk.{values_from, disk, backed_value, value_at, splice, OldOrNewValues, IsTestRefusal, IsSpliced, IsTorn, IsExtended, IsSameWrite, IsEndRefusal, IsZeroed, IsPartlyZeroed, IsUnspecifiedIn, IsGivenBack, IsFilledIn, IsPartlyFilled}
 use Rattle.imago_access.specs.Histories.{DoneOrRefused, IsDataOf, IsMappingOf, IsPart, IsDataStep, IsSame, IsFlatStep, IsFlatHistory}
 use Rattle.imago_access.proofs.Targets.{target_shows, mapped_value}
 use Rattle.imago_access.proofs.DiskLists.{filled_list, partly_filled, overwritten_list, listed_at, from_length, same_listed, spliced, written_list, torn_list, torn_values, cut_list, grown_list, extended_by, is_extended_none}
@@ -343,10 +343,13 @@ module _ {D St : Type 0} (view : D → View St) (lawful : (d : D) → IsLawful (
       → (o + n ≤ length (disk view old)) × IsPart n m.0 × IsFilledIn (overwrite && not m.1) (disk view old) o (shown_length commit m) bytes (disk view new)
   prepared_done old new o n overwrite bytes commit m k x =
       let fits = call_fits view old new Write o n (inr (λ z. z)) x.call in
+      let p = x.told.2 in
+      let len : m.0 ≡ x.told.1.length = x.told.3 in
+      let within : m.0 ≤ n = omega (arith, len, p.within) in
       let inside : o + n ≤ length (disk view old) = omega (arith, fits, disk_length view old) in
-      let part : o + shown_length commit m ≤ length (disk view old) = omega (arith, shown_within commit m n x.mapping.within) in (
+      let part : o + shown_length commit m ≤ length (disk view old) = omega (arith, shown_within commit m n within) in (
         inside,
-        (x.mapping.within, x.mapping.some),
+        (within, λ some. omega (arith, len, p.some some)),
         filled_list (disk view old) o (shown_length commit m) bytes part (overwrite && not m.1) (disk view new) (list_length old new x.call.same_size)
             (listed (λ f g. IsChanged o (shown_length commit m) (filled (overwrite && not m.1) bytes) f g) old new (x.call.done k)),
       )

@@ -19,7 +19,7 @@ use Rattle.imago_access.specs.declared.access.FormatAccess.{FormatAccess, Format
 use Rattle.imago_access.specs.Chain.{driver, backing, unboxed, disk_value, as_layer_below, lent_image}
 use Rattle.imago_access.specs.Lending.{with_driver}
 use Rattle.imago_access.specs.Calls.{Overflows, FailsTest, IsLoose, settles, ShowsFaults, IsRangeCall, IsWrite, devices_reliable, IsMappedWrite, IsEnsured, IsPreparing}
-use Rattle.imago_access.specs.Writing.{CommitMayTakeMemory, HasWrittenAll, HasMapped, filled, shown_length, shown_change}
+use Rattle.imago_access.specs.Writing.{CommitMayTakeMemory, WasPrepared, HasWrittenAll, HasMapped, filled, shown_length, shown_change}
 use Rattle.imago_access.proofs.Chains.{value_out}
 
 -- what a driver is lent, as the image below
@@ -170,11 +170,12 @@ image_write view x d o bytes result l e w fits h =
 -- a write through a mapping by the driver, over what it is lent
 pub image_mapped : {D St : Type 0} (view : D → View St) (x : FormatAccess D) (d : D) (o n : ℕ) (w : Bool) (bytes : List ℕ) (commit : Bool) (result : Result (ℕ × Bool) Error) (l : LayerBelow) → l ≡ lent_image view (backing x)
     → (view (driver x)).abilities.is_writable ≡ true → o + n ≤ (view (driver x)).size
+    → IfOk result (WasPrepared view (values l.at (view (driver x)).place) (driver x) o n w)
     → HasMapped l (CommitMayTakeMemory view (driver x)) (view (driver x)) (view d) o n w bytes commit result → IsMappedWrite view x (with_driver x d) o n w bytes commit result
-image_mapped view x d o n w bytes commit result l e writable fits h =
+image_mapped view x d o n w bytes commit result l e writable fits told h =
     let k = subst (λ (m : LayerBelow). HasMapped m (CommitMayTakeMemory view (driver x)) (view (driver x)) (view d) o n w bytes commit result) e h in
     record {
-      mapping = k.mapping;
+      told = subst (λ (f : ℕ → Value). IfOk result (WasPrepared view f (driver x) o n w)) (sym (value_out view x)) (subst (λ (m : LayerBelow). IfOk result (WasPrepared view (values m.at (view (driver x)).place) (driver x) o n w)) e told);
       call = passed_call view x Operation.Write o n _ _ _ _ _ _ d result writable fits (λ z. z)
           (λ keeps. ok_more result _ _ (λ m c. changed_image view x d (λ a b. IsChanged o (shown_length commit m) (shown_change w bytes m) a b) c) (k.done keeps))
           (λ keeps. err_more result _ _ (λ c. changed_image view x d (λ a b. IsChanged o n (partly (filled w bytes)) a b) c) (k.torn keeps))
@@ -184,7 +185,7 @@ image_mapped view x d o n w bytes commit result l e writable fits h =
 pub failed_mapped : {D St : Type 0} (view : D → View St) (x : FormatAccess D) (o n : ℕ) (w : Bool) (bytes : List ℕ) (commit : Bool) (e : Error) → FailsTest (view (driver x)) Operation.Write o n e → (view (driver x)).pending ≡ None
     → IsMappedWrite view x x o n w bytes commit (Err e)
 failed_mapped view x o n w bytes commit e f p = record {
-  mapping = tt;
+  told = tt;
   call = failed_call view x Operation.Write o n _ _ _ _ _ _ e f (record { inside = λ k h. inl refl; before = λ q h. refl; behind = λ q h. refl }) p;
 }
 

@@ -1,4 +1,4 @@
-use Rattle.std.proofs.Common.{◌≡◌, ℕ, ◌+◌, ◌-◌, ◌<◌, ◌≤◌, ◌⊎◌, ◌&&◌, inl, inr, ⊎_elim, Bool, true, false, List, length, take, Option, Some, None, refl, sym, ap, ◌∙◌, arith, Ok, Err, subst, min}
+use Rattle.std.proofs.Common.{◌≡◌, ℕ, ◌+◌, ◌-◌, ◌<◌, ◌≤◌, ◌&&◌, inl, inr, ⊎_elim, Bool, true, false, List, length, take, Option, Some, None, refl, sym, ap, ◌∙◌, arith, Ok, Err, subst, min}
 use Rattle.std.specs.Prelude.{IsTrue, IsErrOf, is_none, not}
 use Rattle.imago_storage.specs.declared.error.Error.{Error}
 use Rattle.imago_storage.specs.declared.error.Error.TheVariants as E
@@ -12,14 +12,14 @@ use Rattle.imago_drivers.specs.Causes.{Causes, Copies, IsSettled, IsOnRange}
 use Rattle.imago_drivers.specs.Pending.{Pending, IsOwn, ShowsRound}
 use Rattle.imago_drivers.specs.View.{View}
 use Rattle.imago_drivers.specs.Laws.{IsLawful}
-use Rattle.imago_drivers.specs.Changes.{IsChanged, or_torn, into, partly}
-use Rattle.imago_drivers.specs.Frame.{IsKind, IsFramed, IsUnchanged, ReachesNoMore}
+use Rattle.imago_drivers.specs.Changes.{IsChanged, or_torn, partly}
+use Rattle.imago_drivers.specs.Frame.{IsFramed, IsUnchanged, ReachesNoMore}
 use Rattle.imago_drivers.specs.Done.{lending_reasons, mapping_write_reasons}
 use Rattle.imago_drivers.specs.Prepared.{IsPrepared, IsWritten, IsForeignWrite, is_for, is_foreign}
 use Rattle.imago_drivers.specs.Commit.{IsCommit, IsCancel, commit_reasons, is_committed, prepared_bytes}
 use Rattle.imago_access.specs.Writing.{CommitMayTakeMemory, StandsAlone, HasWritten, HasFilled, HasMapped, IsWaiting, is_filled, filled, shown_length, shown_change, settles_by, first_reasons, filling_reasons, mapping_reasons}
 use Rattle.imago_access.proofs.Weaker.{IsWeaker, allowed_more}
-use Rattle.imago_access.proofs.Written.{settled_twice, kind_twice, framed_twice, changed_wider, changed_whole, written_length, is_at_start, is_at_start_after, never_foreign_write, is_spent, write_refused, cancelled, filled_so, filling_weaker}
+use Rattle.imago_access.proofs.Written.{settled_twice, framed_twice, changed_wider, changed_whole, written_length, is_at_start, is_at_start_after, never_foreign_write, is_spent, write_refused, cancelled, filled_so, filling_weaker}
 use Rattle.imago_access.proofs.Writes.{GoesOn, goes_on, goes_on_twice, goes_on_with, reaches_twice, rose_more, counted, refused_first, wrote_first, unchanged_values}
 
 -- settled by a part, so by what holds it

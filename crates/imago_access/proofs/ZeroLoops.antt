@@ -1,24 +1,23 @@
-use Rattle.std.proofs.Common.{◌≡◌, ℕ, ◌+◌, ◌-◌, ◌<◌, ◌≤◌, ◌⊎◌, ◌&&◌, ⊎_elim, inl, inr, Bool, true, false, Option, Some, None, refl, sym, ap, ◌∙◌, subst, arith, Result, Ok, Err, Box, Global, max}
+use Rattle.std.proofs.Common.{◌≡◌, ℕ, ◌+◌, ◌-◌, ◌<◌, ◌≤◌, ◌⊎◌, ◌&&◌, ⊎_elim, inl, inr, false, Option, Some, None, refl, sym, ap, ◌∙◌, subst, arith, Result, Ok, Err, Box, Global, max}
 use Rattle.std.proofs.lemmas.Bool.{cases_lt}
-use Rattle.std.specs.Prelude.{IsTrue, IfOk, IfErr, OnErr, IsErrOf, List, length}
+use Rattle.std.specs.Prelude.{IsTrue, IsErrOf}
 use Rattle.imago_storage.specs.declared.error.Error.{Error}
-use Rattle.imago_storage.specs.Faults.{CountsFaults, RoseOrSaturated}
 use Rattle.imago_drivers.specs.Operation.{Operation, Map, Write}
-use Rattle.imago_drivers.specs.Place.{Value, Byte, IsIn, values, Lower}
+use Rattle.imago_drivers.specs.Place.{Value, Byte}
 use Rattle.imago_drivers.specs.Reasons.{Reasons, allowed}
-use Rattle.imago_drivers.specs.Causes.{Causes, Copies, CauseOver, IsSettled, IsOnRange}
+use Rattle.imago_drivers.specs.Causes.{CauseOver, IsOnRange}
 use Rattle.imago_drivers.specs.LayerBelow.{LayerBelow}
 use Rattle.imago_drivers.specs.View.{View}
 use Rattle.imago_drivers.specs.Laws.{AreCauses}
 use Rattle.imago_drivers.specs.Changes.{IsChanged, zeroes, partly}
-use Rattle.imago_drivers.specs.Frame.{IsFramed, ReachesNoMore}
+use Rattle.imago_drivers.specs.Frame.{IsFramed}
 use Rattle.imago_drivers.specs.Done.{range_reasons}
 use Rattle.imago_access.specs.declared.access.FormatAccess.{FormatAccess, is-FormatAccess', out-FormatAccess, back-FormatAccess-backing}
 use Rattle.imago_access.specs.Chain.{driver, backing, unboxed, disk_value, is_reliable, lent_image, IsReached, chain_cause, cause_below}
 use Rattle.imago_access.specs.ChainLaws.{reached_wider}
 use Rattle.imago_access.specs.Calls.{devices_reliable}
 use Rattle.imago_access.specs.Resolved.{chain_map_reasons}
-use Rattle.imago_access.specs.Zeroing.{AreZero, IsLaterCount, IsPartlyZeroed, Carries, HasZeroed, HasZeroedPart, IsZeroedByDriver, IsFree, data_reasons, zero_reasons}
+use Rattle.imago_access.specs.Zeroing.{AreZero, IsPartlyZeroed, Carries, HasZeroed, HasZeroedPart, IsZeroedByDriver, IsFree, data_reasons, zero_reasons}
 use Rattle.imago_access.specs.Writing.{StandsAlone}
 use Rattle.imago_access.proofs.ZeroSteps.{alone_later, alone_more}
 use Rattle.imago_access.proofs.Chains.{reliable_out, cause_here, cause_lower}

@@ -1,12 +1,12 @@
 use Rattle.std.proofs.Common.{◌≡◌, ℕ, ◌+◌, ◌-◌, ◌<◌, ◌≤◌, ◌⊎◌, ◌&&◌, ⊎_elim, inl, inr, Bool, true, false, None, refl, sym, ap, ◌∙◌, subst, arith, Result, Ok, Err}
 use Rattle.std.proofs.lemmas.Bool.{cases_lt}
-use Rattle.std.specs.Prelude.{List, length, slice_index, EachIndex, IsTrue, IfOk, IfErr, OnErr, IsErrOf}
+use Rattle.std.specs.Prelude.{List, length, slice_index, EachIndex, IsTrue, IfOk, IfErr, OnErr}
 use Rattle.imago_storage.specs.declared.error.Error.{Error}
 use Rattle.imago_storage.specs.Faults.{CountsFaults, RoseOrSaturated}
 use Rattle.imago_drivers.specs.Operation.{Operation}
-use Rattle.imago_drivers.specs.Place.{Value, Byte, Place, IsIn, values, shown}
-use Rattle.imago_drivers.specs.Reasons.{Reasons, allowed}
-use Rattle.imago_drivers.specs.Causes.{Causes, Copies, IsSettled, IsOnRange, AddsNone}
+use Rattle.imago_drivers.specs.Place.{Value, Byte, Place, values, shown}
+use Rattle.imago_drivers.specs.Reasons.{allowed}
+use Rattle.imago_drivers.specs.Causes.{IsSettled, IsOnRange, AddsNone}
 use Rattle.imago_drivers.specs.View.{View}
 use Rattle.imago_drivers.specs.Laws.{AreCauses}
 use Rattle.imago_drivers.specs.Changes.{IsChanged, zeroes, partly, into}
@@ -16,10 +16,10 @@ use Rattle.imago_drivers.specs.Done.{HasDone, range_reasons}
 use Rattle.imago_access.specs.declared.access.FormatAccess.{FormatAccess}
 use Rattle.imago_access.specs.Chain.{driver, backing, disk_value, lent_image}
 use Rattle.imago_access.specs.Lending.{with_driver}
-use Rattle.imago_access.specs.Calls.{devices_reliable, FailsTest, Overflows, IsLoose, settles, ShowsFaults, IsRangeCall}
-use Rattle.imago_access.specs.Zeroing.{operation_of, AreZero, IsLaterCount, IsPartlyZeroed, Carries, HasZeroed, HasZeroedPart, data_reasons, zero_reasons, IsZeroWrite}
+use Rattle.imago_access.specs.Calls.{devices_reliable, FailsTest, Overflows, settles}
+use Rattle.imago_access.specs.Zeroing.{operation_of, AreZero, IsLaterCount, Carries, HasZeroed, HasZeroedPart, data_reasons, zero_reasons, IsZeroWrite}
 use Rattle.imago_access.specs.Writing.{StandsAlone, HasWritten, first_reasons}
-use Rattle.imago_access.proofs.Weaker.{IsWeaker, refused_more}
+use Rattle.imago_access.proofs.Weaker.{refused_more}
 use Rattle.imago_access.specs.declared.mapping.Mapping.TheVariants as M
 use Rattle.imago_access.specs.declared.zero.ZeroCall.{ZeroCall}
 use Rattle.imago_access.specs.declared.zero.ZeroCall.TheVariants as Z

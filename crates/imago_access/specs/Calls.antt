@@ -11,7 +11,7 @@ use Rattle.imago_drivers.specs.Changes.{IsChanged, into, partly, overwritten}
 use Rattle.imago_drivers.specs.Frame.{IsKind, ReachesNoMore}
 use Rattle.imago_drivers.specs.Done.{lending_reasons}
 use Rattle.imago_access.specs.declared.access.FormatAccess.{FormatAccess}
-use Rattle.imago_access.specs.Writing.{CommitMayTakeMemory, IsMappedLength, filled, shown_length, shown_change, settles_by, mapping_reasons, write_reasons}
+use Rattle.imago_access.specs.Writing.{CommitMayTakeMemory, WasPrepared, filled, shown_length, shown_change, settles_by, mapping_reasons, write_reasons}
 use Rattle.imago_access.specs.Chain.{driver, backing, disk_value, lent_image}
 
 -- The range's end passes the greatest number of 64 bits, in a call that tests this by itself: a zero write or a discard. A write
@@ -115,7 +115,7 @@ mapped_refusals view x o n bytes = mapping_reasons (view (driver x)) (lent_image
 -- A write through one mapping, which is prepared for at most n bytes from o on, filled with what fits of the bytes, and committed or
 -- cancelled. It answers how long the mapping was, and whether it had no state.
 pub record IsMappedWrite {D St : Type 0} (view : D → View St) (old new : FormatAccess D) (o n : ℕ) (overwrite : Bool) (bytes : List ℕ) (commit : Bool) (result : Result (ℕ × Bool) Error) : Type 0 where
-  pub mapping : IfOk result (λ m. IsMappedLength (view (driver old)) o n m.0)
+  pub told : IfOk result (WasPrepared view (disk_value view old) (driver old) o n overwrite)
   pub call : IsRangeCall view Write o n (settles_by commit) (mapped_refusals view old o n bytes) ⊥ (λ m. m.0)
       (λ m. IsChanged o (shown_length commit m) (shown_change overwrite bytes m) (disk_value view old) (disk_value view new))
       (IsChanged o n (partly (filled overwrite bytes)) (disk_value view old) (disk_value view new))

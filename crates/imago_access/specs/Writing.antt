@@ -1,14 +1,14 @@
-use Rattle.std.specs.Prelude.{◌≡◌, ℕ, ◌+◌, ◌<◌, ◌≤◌, ◌⊎◌, ◌&&◌, ◌||◌, not, if◌then◌else◌, Bool, true, false, Option, Some, None, List, length, slice_index, IsTrue, Result, IfOk, IfErr, OnOk, OnErr}
+use Rattle.std.specs.Prelude.{◌≡◌, ℕ, ◌+◌, ◌<◌, ◌≤◌, ◌⊎◌, ◌&&◌, ◌||◌, not, if◌then◌else◌, Bool, true, false, Option, Some, None, is_none, List, length, slice_index, IsTrue, Result, IfOk, IfErr, OnOk, OnErr}
 use Rattle.imago_storage.specs.declared.error.Error.{Error}
 use Rattle.imago_storage.specs.Faults.{CountsFaults}
 use Rattle.imago_drivers.specs.Operation.{Operation, Write}
 use Rattle.imago_drivers.specs.declared.mapping.PreparedDataMapping.{PreparedDataMapping}
-use Rattle.imago_drivers.specs.Place.{Byte, Place, Lower, IsIn, values}
+use Rattle.imago_drivers.specs.Place.{Value, Byte, Place, Lower, IsIn, values}
 use Rattle.imago_drivers.specs.Reasons.{Reasons, allowed}
 use Rattle.imago_drivers.specs.LayerBelow.{LayerBelow}
 use Rattle.imago_drivers.specs.Causes.{IsSettled, IsOnRange}
 use Rattle.imago_drivers.specs.Pending.{Pending, IsOwn, ShowsRound}
-use Rattle.imago_drivers.specs.Prepared.{IsFor}
+use Rattle.imago_drivers.specs.Prepared.{IsFor, IsPrepared}
 use Rattle.imago_drivers.specs.View.{View}
 use Rattle.imago_drivers.specs.Changes.{Change, IsChanged, into, partly, overwritten}
 use Rattle.imago_drivers.specs.Frame.{IsKind, IsFramed, ReachesNoMore}
@@ -41,6 +41,10 @@ pub record IsMappedLength {St : Type 0} (v : View St) (o n c : ℕ) : Type 0 whe
   pub some : 0 < n → 0 < c
   pub part : v.limits.answers Write o n o c
   pub whole : v.limits.whole Write o n → c ≡ n
+
+-- the answer tells the length of a mapping that was prepared for these places, and whether it had no state
+abbrev pub WasPrepared : {D St : Type 0} → (D → View St) → (ℕ → Value) → D → ℕ → ℕ → Bool → ℕ × Bool → Type 0
+WasPrepared {D} {St} view disk old o n overwrite answer = (mid : D) × (m : PreparedDataMapping St) × IsPrepared o n overwrite disk (view old) (view mid) m × (answer.0 ≡ m.length) × (answer.1 ≡ is_none m.state)
 
 -- What waits for the commit of that mapping: the disk shows what it did, and the bytes that fit are in the mapping's list.
 pub record IsWaiting {St : Type 0} (l : LayerBelow) (old new : View St) (o : ℕ) (overwrite : Bool) (bytes : List ℕ) (m : PreparedDataMapping St) (q : Pending St) : Type 0 where

@@ -1,4 +1,4 @@
-use Rattle.std.specs.Prelude.{◌≡◌, ℕ, ◌+◌, ◌<◌, ◌≤◌, ◌⊎◌, Bool, false, None, IsTrue, Result, IfOk, IfErr, OnErr, IsErrOf}
+use Rattle.std.specs.Prelude.{◌≡◌, ℕ, ◌+◌, ◌≤◌, ◌⊎◌, Bool, false, None, IsTrue, Result, IfOk, IfErr, IsErrOf}
 use Rattle.imago_storage.specs.declared.error.Error.{Error}
 use Rattle.imago_storage.specs.Faults.{CountsFaults, RoseOrSaturated}
 use Rattle.imago_drivers.specs.Operation.{Operation, Map, Write, Zero, DiscardToZero}

@@ -1,10 +1,12 @@
 //! Writing to an image.
-ghost use Rattle.std.specs.Prelude.{◌≡◌, ◌+◌, ◌^◌, ◌<◌, ◌≤◌, None, true, length};
+ghost use Rattle.std.specs.Prelude.{◌≡◌, ◌+◌, ◌^◌, ◌<◌, ◌≤◌, None, true, is_none, length, IfOk};
 ghost use Rattle.imago_drivers.specs.Operation.{Write};
 ghost use Rattle.imago_drivers.specs.LayerBelow.{lent};
+ghost use Rattle.imago_drivers.specs.Place.{values};
+ghost use Rattle.imago_drivers.specs.Parts.{length_of, state_of};
 ghost use Rattle.imago_access.specs.Chain.{driver};
 ghost use Rattle.imago_access.specs.Calls.{IsTested, IsWrite, IsMappedWrite};
-ghost use Rattle.imago_access.specs.Writing.{CommitMayTakeMemory, HasFilled, HasMapped, HasWritten, HasWrittenAll};
+ghost use Rattle.imago_access.specs.Writing.{CommitMayTakeMemory, WasPrepared, HasFilled, HasMapped, HasWritten, HasWrittenAll};
 
 use crate::access::{FormatAccess, below};
 use imago_drivers::drivers::{FormatDriverInstance, PreparedDataMapping};
@@ -26,7 +28,10 @@ fn fill_mapping<D: FormatDriverInstance, B: LowerLayer>(
     requires writable { (D.view inner.old).abilities.is_writable ≡ true }
     requires spent { (D.view inner.old).pending ≡ None }
     requires inside { offset + count ≤ (D.view inner.old).size }
-    ensures { HasFilled (lent B.as_layer_below below.entry) (D.view inner.old) (D.view inner.new) offset count overwrite source.now result }
+    ensures prepared { IfOk result
+        (λ m. WasPrepared D.view (values (lent B.as_layer_below below.entry).at (D.view inner.old).place)
+        inner.old offset count overwrite (length_of m, is_none (state_of m))) }
+    ensures filled { HasFilled (lent B.as_layer_below below.entry) (D.view inner.old) (D.view inner.new) offset count overwrite source.now result }
 {
     let mapping = inner.prepare_data_mapping(alloc, below, offset, count, overwrite)?;
     let fitting = source.len().min(mapping.length() as usize);
@@ -52,7 +57,10 @@ fn write_through<D: FormatDriverInstance, B: LowerLayer>(
     requires writable { (D.view inner.old).abilities.is_writable ≡ true }
     requires spent { (D.view inner.old).pending ≡ None }
     requires inside { offset + count ≤ (D.view inner.old).size }
-    ensures { HasMapped (lent B.as_layer_below below.entry) (CommitMayTakeMemory D.view inner.old) (D.view inner.old) (D.view inner.new) offset count overwrite source.now commit result }
+    ensures told { IfOk result
+        (WasPrepared D.view (values (lent B.as_layer_below below.entry).at (D.view inner.old).place)
+        inner.old offset count overwrite) }
+    ensures mapped { HasMapped (lent B.as_layer_below below.entry) (CommitMayTakeMemory D.view inner.old) (D.view inner.old) (D.view inner.new) offset count overwrite source.now commit result }
 {
     let mapping = fill_mapping(inner, alloc, below, offset, count, overwrite, source)?;
     let answer = (mapping.length(), mapping.is_nonblocking());

@@ -8,7 +8,7 @@ returns g c =
     let v = g.D.FormatDriverInstance.view in
     let x = c.args.self.now in
     let t = c.in_ok-test_range.ensures.passed in
-    image_mapped v x c.write_through.new.inner c.args.offset c.args.count c.args.overwrite c.args.source.now c.args.commit c.write_through.result _ (lent_is v c.below-lower.result (backing x) c.below-lower.ensures) t.0 t.1 c.write_through.ensures
+    image_mapped v x c.write_through.new.inner c.args.offset c.args.count c.args.overwrite c.args.source.now c.args.commit c.write_through.result _ (lent_is v c.below-lower.result (backing x) c.below-lower.ensures) t.0 t.1 c.write_through.ensures.told c.write_through.ensures.mapped
 
 pub returns-in_err-test_range : goal.returns-in_err-test_range
 returns-in_err-test_range g c =
