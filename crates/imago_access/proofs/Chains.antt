@@ -1,4 +1,4 @@
-use Rattle.std.proofs.Common.{◌<◌, ◌≡◌, ℕ, inl, inr, Bool, true, false, ◌&&◌, Option, Some, None, refl, sym, ap, ◌∙◌, subst, Box, Global}
+use Rattle.std.proofs.Common.{◌+◌, arith, ◌<◌, ◌≡◌, ℕ, inl, inr, Bool, true, false, ◌&&◌, Option, Some, None, refl, sym, ap, ◌∙◌, subst, Box, Global}
 use Rattle.imago_storage.specs.declared.error.Error.{Error}
 use Rattle.imago_drivers.specs.Operation.{Operation, Read}
 use Rattle.imago_drivers.specs.Place.{Value, Place, Lower, End, shown, values}
@@ -55,6 +55,13 @@ module _ {D St : Type 0} (view : D → View St) where
 
   pub target_nothing : (x : FormatAccess D) (p q : ℕ) (w : Bool) → backing x ≡ None → (view (driver x)).place p ≡ Lower q w → target view x p ≡ deeper 1 w (target_here End)
   target_nothing x p q w h k = target_out x p ∙ ap (followed (target_of (backing x))) k ∙ ap (λ (b : Option (FormatAccess D)). deeper 1 w (target_of b q)) h
+
+  -- a place that is left to the layer below leads down
+  pub lower_deep : (x : FormatAccess D) (p q : ℕ) (w : Bool) → (view (driver x)).place p ≡ Lower q w → 0 < (target view x p).depth
+  lower_deep x p q w h =
+      let e : target view x p ≡ deeper 1 w (target_of (backing x) q) = target_out x p ∙ ap (followed (target_of (backing x))) h in
+      let d : (target view x p).depth ≡ 1 + (target_of (backing x) q).depth = ap (λ (t : Target). t.depth) e in
+      omega (arith, d)
 
   -- a place that isn't a reference is where it leads
   pub target_at : (x : FormatAccess D) (p : ℕ) (pl : Place) → (view (driver x)).place p ≡ pl → ((b : ℕ → Target) → followed b pl ≡ target_here pl) → target view x p ≡ target_here pl

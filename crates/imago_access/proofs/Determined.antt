@@ -1,15 +1,17 @@
-use Rattle.std.proofs.Common.{◌≡◌, ℕ, List, [], ◌∷◌, take, refl, sym, ap, ◌∙◌, subst, Result, Ok, Err}
-use Rattle.std.specs.Prelude.{IfOk, IfErr}
+use Rattle.std.proofs.Common.{◌≡◌, ℕ, ◌+◌, ◌-◌, ◌≤◌, ◌⊎◌, ◌&&◌, ⊎_elim, Bool, true, false, List, [], ◌∷◌, length, take, refl, sym, ap, ◌∙◌, arith, subst, Result, Ok, Err}
+use Rattle.std.specs.Prelude.{IfOk, IfErr, not}
 use Rattle.imago_storage.specs.declared.error.Error.{Error}
 use Rattle.imago_drivers.specs.Place.{Value}
 use Rattle.imago_access.specs.declared.run.Call.{Call}
 use Rattle.imago_access.specs.declared.run.Call.TheVariants as C
 use Rattle.imago_access.specs.declared.run.Reply.{Reply}
 use Rattle.imago_access.specs.declared.run.Reply.TheVariants as R
-use Rattle.imago_access.specs.Runs.{reply_of, told_done}
-use Rattle.imago_access.specs.Histories.{DoneOrRefused, IsSame, IsFlatStep, IsFlatHistory}
-use Rattle.imago_access.specs.Determined.{IsDetermined, if_done, after, AreDetermined, after_all, FitsList, AllFit, IsFlatRun}
-use Rattle.imago_access.proofs.DiskLists.{extended_known, filled_cut}
+use Rattle.imago_access.specs.Writing.{shown_length}
+use Rattle.imago_access.specs.Disk.{filled_in, IsTestRefusal, IsOverwritten, IsFilledIn, IsPartlyFilled}
+use Rattle.imago_access.specs.Runs.{reply_of, told_done, told_data, told_prepared}
+use Rattle.imago_access.specs.Histories.{DoneOrRefused, IsPart, IsDataStep, IsPreparedStep, IsSame, IsFlatStep, IsFlatHistory}
+use Rattle.imago_access.specs.Determined.{IsDetermined, if_done, if_prepared, after, AreDetermined, after_all, FitsList, AllFit, IsFlatRun}
+use Rattle.imago_access.proofs.DiskLists.{extended_known, filled_cut, nothing_overwritten}
 
 -- what a call that answers nothing may be told as
 done_so : (result : Result Unit Error) (done : Type 0) (refused : Error → Type 0) → R.Done ≡ reply_of told_done result → IfOk result (λ u. done) × IfErr result refused → done
@@ -32,6 +34,14 @@ not_mapped : (m : _) (n : ℕ) (result : Result Unit Error) → R.Mapped m n ≡
 not_mapped m n (Ok u) e = cc
 not_mapped m n (Err y) e = cc
 
+not_data_mapped : (s f c : ℕ) (result : Result Unit Error) → R.DataMapped s f c ≡ reply_of told_done result → ⊥
+not_data_mapped s f c (Ok u) e = cc
+not_data_mapped s f c (Err y) e = cc
+
+not_prepared : (c : ℕ) (b : Bool) (result : Result Unit Error) → R.Prepared c b ≡ reply_of told_done result → ⊥
+not_prepared c b (Ok u) e = cc
+not_prepared c b (Err y) e = cc
+
 -- a call that answers nothing leaves the one list where it is done, and the other where it is refused
 left : (r : Reply) (done : Type 0) (refused : Error → Type 0) (xs ys zs : List Value) → DoneOrRefused told_done r (λ u. done) refused → (r ≡ R.Done → done → zs ≡ ys) → ((e : Error) → r ≡ R.Refused e → refused e → zs ≡ xs) → zs ≡ if_done r ys xs
 left R.Done done refused xs ys zs h f g = f refl (done_so h.0 done refused h.1 h.2)
@@ -39,6 +49,8 @@ left (R.Refused e) done refused xs ys zs h f g = g e refl (refused_so e h.0 done
 left (R.Data b) done refused xs ys zs h f g = absurd (not_data b h.0 h.1)
 left (R.Size n) done refused xs ys zs h f g = absurd (not_size n h.0 h.1)
 left (R.Mapped m n) done refused xs ys zs h f g = absurd (not_mapped m n h.0 h.1)
+left (R.DataMapped s o n) done refused xs ys zs h f g = absurd (not_data_mapped s o n h.0 h.1)
+left (R.Prepared n b) done refused xs ys zs h f g = absurd (not_prepared n b h.0 h.1)
 
 -- a call that its tests refuse leaves what a refusal leaves
 discard_so : {same : Type 0} {test : Error → Type 0} (r : Reply) (done left : Type 0) (e : Error) → r ≡ R.Refused e → DoneOrRefused told_done r (λ u. done) (λ x. left × (test x → same)) → test e → same
@@ -54,10 +66,53 @@ same_so xs r ys h = by h.0 h.2
     by (Ok u) x = x.0
     by (Err e) x = x.1
 
+-- a data mapping that is determined leaves the list
+data_refused : (x : Error) (xs ys : List Value) (o n : ℕ) (overwrite : Bool) (result : Result (ℕ × ℕ × ℕ) Error) → R.Refused x ≡ reply_of told_data result → IsTestRefusal xs o n x
+    → IfErr result (λ e. IsOverwritten overwrite xs o n ys × (IsTestRefusal xs o n e → ys ≡ xs)) → ys ≡ xs
+data_refused x xs ys o n overwrite (Ok m) e t h = let z : ⊥ = cc in absurd z
+data_refused x xs ys o n overwrite (Err y) e t h = let same : x ≡ y = cc in h.1 (subst (λ (w : Error). IsTestRefusal xs o n w) same t)
+
+data_after : (xs ys : List Value) (o n : ℕ) (overwrite : Bool) (r : Reply) → (overwrite ≡ true → (e : Error) × (r ≡ R.Refused e) × IsTestRefusal xs o n e) → IsDataStep xs o n overwrite r ys → ys ≡ xs
+data_after xs ys o n true r d h = let t = d refl in data_refused t.0 xs ys o n true h.0 (sym t.1 ∙ h.1) t.2 h.2.1
+data_after xs ys o n false r d h = by h.0 h.2
+  where
+    by : (result : Result (ℕ × ℕ × ℕ) Error) → IfOk result (λ m. (o + n ≤ length xs) × IsPart n m.2 × (ys ≡ xs)) × IfErr result (λ e. (ys ≡ xs) × (IsTestRefusal xs o n e → ys ≡ xs)) → ys ≡ xs
+    by (Ok m) x = x.0.2
+    by (Err e) x = x.1.0
+
+-- a write through a mapping that is determined leaves the bytes that fit
+filled_after : (overwrite : Bool) (xs ys : List Value) (o c : ℕ) (bytes : List ℕ) → (overwrite ≡ false) ⊎ (c ≤ length bytes) → IsFilledIn overwrite xs o c bytes ys → ys ≡ filled_in xs o c bytes
+filled_after false xs ys o c bytes d h = h
+filled_after true xs ys o c bytes d h = ⊎_elim
+    (λ e. let z : ⊥ = cc in absurd z)
+    (λ (le : c ≤ length bytes). let z : c - length bytes ≡ 0 = omega arith in nothing_overwritten (filled_in xs o c bytes) ys (o + length bytes) (rw z at h))
+    d
+
+prepared_after : (xs ys : List Value) (o n : ℕ) (overwrite : Bool) (bytes : List ℕ) (commit : Bool) (r : Reply)
+    → ((m : ℕ × Bool) → r ≡ told_prepared m → ((overwrite && not m.1) ≡ false) ⊎ (shown_length commit m ≤ length bytes)) → ((e : Error) → r ≡ R.Refused e → IsTestRefusal xs o n e)
+    → IsPreparedStep xs o n overwrite bytes commit r ys → ys ≡ if_prepared r commit o bytes xs
+prepared_after xs ys o n overwrite bytes commit r d t h = by h.0 h.1 h.2
+  where
+    by : (result : Result (ℕ × Bool) Error) → r ≡ reply_of told_prepared result
+        → IfOk result (λ m. (o + n ≤ length xs) × IsPart n m.0 × IsFilledIn (overwrite && not m.1) xs o (shown_length commit m) bytes ys) × IfErr result (λ e. IsPartlyFilled overwrite xs o n bytes e ys)
+        → ys ≡ if_prepared r commit o bytes xs
+    by (Ok m) e x = subst (λ (q : Reply). ys ≡ if_prepared q commit o bytes xs) (sym e) (filled_after (overwrite && not m.1) xs ys o (shown_length commit m) bytes (d m e) x.0.2)
+    by (Err z) e x = subst (λ (q : Reply). ys ≡ if_prepared q commit o bytes xs) (sym e) (x.1.untouched (t z e))
+
+-- how long a mapping is, by its reply
+part_so : {T : Type 0} (told : T → Reply) (r : Reply) (done kept : T → Type 0) (refused : Error → Type 0) → ((m : T) → done m → kept m) → DoneOrRefused told r done refused → DoneOrRefused told r kept (λ e. Unit {0})
+part_so told r done kept refused f h = (h.0, h.1, by h.0 h.2)
+  where
+    by : (result : Result _ Error) → IfOk result done × IfErr result refused → IfOk result kept × IfErr result (λ e. Unit {0})
+    by (Ok m) x = (f m x.0, tt)
+    by (Err e) x = (tt, tt)
+
 module _ (below : ℕ → Value) where
   -- a step that is determined leaves the one list
   step_after : (xs ys : List Value) (call : Call) (r : Reply) → IsDetermined xs call r → IsFlatStep below xs call r ys → ys ≡ after below call r xs
   step_after xs ys (C.Write o bytes) r d h = left r _ _ xs _ ys h (λ e s. s.1) (λ e w t. t.untouched (d e w))
+  step_after xs ys (C.EnsureData o n overwrite) r d h = data_after xs ys o n overwrite r d h
+  step_after xs ys (C.Prepared o n overwrite bytes commit) r d h = prepared_after xs ys o n overwrite bytes.items commit r d.0 d.1 h
   step_after xs ys (C.WriteZeroes o n) r d h = left r _ _ xs _ ys h (λ e s. s.1) (λ e w t. t.untouched (d e w))
   step_after xs ys (C.DiscardToZero o n) r d h = left r _ _ xs _ ys h (λ e s. s.1) (λ e w t. t.untouched (d e w))
   step_after xs ys (C.DiscardToAny o n) r d h = discard_so r _ _ d.0 d.1 h d.2
@@ -76,6 +131,8 @@ module _ (below : ℕ → Value) where
   step_fits xs ys (C.Read o n) r h = h.1
   step_fits xs ys C.Size r h = h.1
   step_fits xs ys (C.Write o bytes) r h = tt
+  step_fits xs ys (C.EnsureData o n overwrite) r h = part_so told_data r _ _ _ (λ m x. x.1) h
+  step_fits xs ys (C.Prepared o n overwrite bytes commit) r h = part_so told_prepared r _ _ _ (λ m x. x.1) h
   step_fits xs ys (C.WriteZeroes o n) r h = tt
   step_fits xs ys (C.DiscardToZero o n) r h = tt
   step_fits xs ys (C.DiscardToAny o n) r h = tt

@@ -2,14 +2,13 @@ use Rattle.std.proofs.Common.{◌≡◌, ℕ, ◌+◌, ◌-◌, ◌<◌, ◌≤�
 use Rattle.std.proofs.lemmas.Bool.{cases_lt}
 use Rattle.std.specs.Prelude.{IsTrue, IfOk, IfErr, OnErr, IsErrOf}
 use Rattle.imago_storage.specs.declared.error.Error.{Error}
-use Rattle.imago_storage.specs.Faults.{CountsFaults, RoseOrSaturated}
-use Rattle.imago_drivers.specs.Operation.{Operation, DiscardToAny, DiscardToBacking}
+use Rattle.imago_storage.specs.Faults.{CountsFaults}
 use Rattle.imago_drivers.specs.Place.{Value, values}
-use Rattle.imago_drivers.specs.Reasons.{Reasons, allowed}
+use Rattle.imago_drivers.specs.Reasons.{allowed}
 use Rattle.imago_drivers.specs.Causes.{IsSettled}
 use Rattle.imago_drivers.specs.View.{View}
 use Rattle.imago_drivers.specs.Laws.{AreCauses}
-use Rattle.imago_drivers.specs.Changes.{Change, IsChanged, partly, given_back}
+use Rattle.imago_drivers.specs.Changes.{IsChanged, partly}
 use Rattle.imago_drivers.specs.Frame.{IsFramed}
 use Rattle.imago_drivers.specs.Done.{range_reasons}
 use Rattle.imago_access.specs.declared.access.FormatAccess.{FormatAccess}
@@ -17,11 +16,11 @@ use Rattle.imago_access.specs.declared.discard.DiscardCall.{DiscardCall}
 use Rattle.imago_access.specs.declared.discard.DiscardCall.TheVariants as C
 use Rattle.imago_access.specs.Chain.{driver, backing, disk_value, lent_image}
 use Rattle.imago_access.specs.Lending.{with_driver}
-use Rattle.imago_access.specs.Calls.{devices_reliable, FailsTest, Overflows, IsLoose, IsRangeCall, settles}
+use Rattle.imago_access.specs.Calls.{devices_reliable, FailsTest, Overflows, IsLoose, settles}
 use Rattle.imago_access.specs.Discarding.{discard_of, loosened, IsLoosened, HasLoosened, HasLoosenedPart, IsImageDiscard, discard_reasons}
 use Rattle.imago_access.specs.Zeroing.{IsFree}
 use Rattle.imago_access.proofs.Images.{driver_with, backing_with, changed_image, not_failed}
-use Rattle.imago_access.proofs.Weaker.{IsWeaker, allowed_more, refused_more}
+use Rattle.imago_access.proofs.Weaker.{allowed_more, refused_more}
 use Rattle.imago_access.proofs.Written.{framed_twice}
 use Rattle.imago_access.proofs.Writes.{rose_more}
 use Rattle.imago_access.proofs.ZeroLoops.{same_devices}

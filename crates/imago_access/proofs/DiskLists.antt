@@ -1,14 +1,15 @@
-use Rattle.std.proofs.Common.{◌≡◌, ℕ, ◌+◌, ◌-◌, ◌<◌, ◌≤◌, ◌⊎◌, ⊎_elim, inl, inr, Bool, List, [], ◌++◌, length, take, map, replicate, min, max, get_or, refl, sym, ap, ◌∙◌, arith, length-take, length-drop, length-append}
+use Rattle.std.proofs.Common.{◌≡◌, ℕ, ◌+◌, ◌-◌, ◌<◌, ◌≤◌, ◌⊎◌, ⊎_elim, inl, inr, Bool, true, false, List, [], ◌++◌, length, take, map, replicate, min, max, get_or, refl, sym, ap, ◌∙◌, arith, length-take, length-drop, length-append, slice_index}
 use Rattle.std.proofs.lemmas.Bool.{cases_lt}
 use Rattle.std.proofs.lemmas.List.{places, same_lists, length-map, get_or-map, get_or_default, get_or-take, get_or-replicate, length-replicate, get_or_append_left, append-nil, nil_from_length}
 use Rattle.std.proofs.lemmas.List.FromFn.{get_or-map-range_with_len, length-map-range_with_len}
 use Rattle.std.proofs.Math.Seq.{get_or-append_right}
 use Rattle.imago_drivers.specs.declared.format.PreallocateMode.{PreallocateMode}
 use Rattle.imago_drivers.specs.declared.format.PreallocateMode.TheVariants as Mode
-use Rattle.imago_drivers.specs.Place.{Value, Byte}
-use Rattle.imago_drivers.specs.Changes.{IsChanged, into, partly, given_back}
+use Rattle.imago_drivers.specs.Place.{Value, Byte, IsIn}
+use Rattle.imago_drivers.specs.Changes.{IsChanged, into, partly, overwritten, given_back}
 use Rattle.imago_drivers.specs.Resized.{grown_into}
-use Rattle.imago_access.specs.Disk.{values_from, value_at, splice, OldOrNewValues, extended, IsExtended}
+use Rattle.imago_access.specs.Writing.{filled}
+use Rattle.imago_access.specs.Disk.{values_from, value_at, splice, OldOrNewValues, extended, IsExtended, filled_in, IsFilledIn, IsUnspecifiedIn, IsOverwritten}
 use Rattle.imago_access.specs.Determined.{IsFilled}
 
 pub from_at : (f : ℕ → Value) (o n k : ℕ) (d : Value) → k < n → get_or (values_from f o n) k d ≡ f (o + k)
@@ -55,7 +56,7 @@ module _ (xs : List Value) (o : ℕ) (bytes : List ℕ) where
         behind = λ p le. splice_behind xs (map Byte bytes) o p (Byte 0) inside (omega arith);
       }
 
-  spliced_length : o + length bytes ≤ length xs → length (splice xs o (map Byte bytes)) ≡ length xs
+  pub spliced_length : o + length bytes ≤ length xs → length (splice xs o (map Byte bytes)) ≡ length xs
   spliced_length h =
       let len : length (map Byte bytes) ≡ length bytes = length-map bytes Byte in
       splice_length xs (map Byte bytes) o (omega arith)
@@ -109,6 +110,110 @@ module _ (xs : List Value) (o : ℕ) (bytes : List ℕ) where
         before = λ p lt. ⊎_elim (λ e. e) (λ e. e ∙ s.before p lt) (t.each p);
         behind = λ p le. ⊎_elim (λ e. e) (λ e. e ∙ s.behind p le) (t.each p);
       }
+
+-- lists that show the same values are one
+pub same_by_values : (xs ys : List Value) → length ys ≡ length xs → ((p : ℕ) → value_at ys p ≡ value_at xs p) → ys ≡ xs
+same_by_values xs ys same at = same_lists ys xs same (λ k d lt. get_or_default ys k d (Byte 0) lt ∙ at k ∙ sym (get_or_default xs k d (Byte 0) (omega arith)))
+
+-- a write through a mapping, on lists
+module _ (xs : List Value) (o n : ℕ) (bytes : List ℕ) (fits : o + n ≤ length xs) where
+  fitting : length (take n bytes) ≡ min n (length bytes)
+  fitting = length-take n bytes
+
+  fitting_inside : o + length (take n bytes) ≤ length xs
+  fitting_inside = omega (arith, fitting)
+
+  -- what is written there
+  filled_at : (k : ℕ) → k < n → k < length bytes → value_at (filled_in xs o n bytes) (o + k) ≡ Byte (slice_index bytes k)
+  filled_at k lt i = (spliced xs o (take n bytes) fitting_inside).inside k (omega (arith, fitting)) ∙ ap Byte (get_or-take n bytes k 0 lt)
+
+  filled_before : (p : ℕ) → p < o → value_at (filled_in xs o n bytes) p ≡ value_at xs p
+  filled_before p lt = (spliced xs o (take n bytes) fitting_inside).before p lt
+
+  filled_behind : (p : ℕ) → (o + n ≤ p) ⊎ (o + length bytes ≤ p) → value_at (filled_in xs o n bytes) p ≡ value_at xs p
+  filled_behind p out = (spliced xs o (take n bytes) fitting_inside).behind p (⊎_elim (λ (h : o + n ≤ p). omega (arith, fitting)) (λ (h : o + length bytes ≤ p). omega (arith, fitting)) out)
+
+  filled_length : length (filled_in xs o n bytes) ≡ length xs
+  filled_length = spliced_length xs o (take n bytes) fitting_inside
+
+  module _ (overwrite : Bool) (ys : List Value) (same : length ys ≡ length xs) where
+    -- all but what may be overwritten
+    agrees : IsChanged o n (filled overwrite bytes) (value_at xs) (value_at ys) → (p : ℕ) → (p < o + length bytes) ⊎ (o + n ≤ p) → value_at ys p ≡ value_at (filled_in xs o n bytes) p
+    agrees c p out = ⊎_elim
+        (λ (before : p < o). c.before p before ∙ sym (filled_before p before))
+        (λ (above : o ≤ p). ⊎_elim
+        (λ (under : p < o + n).
+        let t : o + (p - o) ≡ p = omega arith in
+        let i : p - o < length bytes = ⊎_elim (λ (h : p < o + length bytes). omega arith) (λ (h : o + n ≤ p). omega arith) out in
+        let e : value_at ys (o + (p - o)) ≡ value_at (filled_in xs o n bytes) (o + (p - o)) = (c.inside (p - o) (omega arith)).0 i ∙ sym (filled_at (p - o) (omega arith) i) in
+        rw t at e)
+        (λ (behind : o + n ≤ p). c.behind p behind ∙ sym (filled_behind p (inl behind)))
+        (cases_lt p (o + n)))
+        (cases_lt p o)
+
+    unspecified_rest : IsChanged o n (filled overwrite bytes) (value_at xs) (value_at ys) → IsUnspecifiedIn (filled_in xs o n bytes) (o + length bytes) (n - length bytes) ys
+    unspecified_rest c = record {
+      same_length = same ∙ sym filled_length;
+      outside = λ p out. agrees c p (⊎_elim (λ (h : p < o + length bytes). inl h) (λ (h : o + length bytes + (n - length bytes) ≤ p). inr (omega arith)) out);
+    }
+
+    -- refused: each value by itself
+    pub partly_filled : IsChanged o n (partly (filled overwrite bytes)) (value_at xs) (value_at ys)
+        → (p : ℕ) → (value_at ys p ≡ value_at xs p) ⊎ ((value_at ys p ≡ value_at (filled_in xs o n bytes) p) ⊎ ((overwrite ≡ true) × IsIn (o + length bytes) (n - length bytes) p))
+    partly_filled c p = ⊎_elim
+        (λ (before : p < o). inl (c.before p before))
+        (λ (above : o ≤ p). ⊎_elim
+        (λ (under : p < o + n).
+        let k : p - o < n = omega arith in
+        let t : o + (p - o) ≡ p = omega arith in
+        let x = rw t at (c.inside (p - o) k) in
+        ⊎_elim
+        (λ s. inl s)
+        (λ f. ⊎_elim
+        (λ (i : p - o < length bytes).
+        let w = rw t at (filled_at (p - o) k i) in
+        inr (inl (f.0 i ∙ sym w)))
+        (λ (i : length bytes ≤ p - o). ⊎_elim (λ e. inr (inr (e, (omega arith, omega arith)))) (λ s. inl s) (f.1 i))
+        (cases_lt (p - o) (length bytes)))
+        x)
+        (λ (behind : o + n ≤ p). inl (c.behind p behind))
+        (cases_lt p (o + n)))
+        (cases_lt p o)
+
+  -- a write through a mapping that nothing but the bytes shows of
+  filled_exactly : (ys : List Value) → length ys ≡ length xs → IsChanged o n (filled false bytes) (value_at xs) (value_at ys) → ys ≡ filled_in xs o n bytes
+  filled_exactly ys same c = same_by_values (filled_in xs o n bytes) ys (same ∙ sym filled_length) (λ p. ⊎_elim
+      (λ (h : p < o + length bytes). agrees false ys same c p (inl h))
+      (λ (h : o + length bytes ≤ p). ⊎_elim
+      (λ (under : p < o + n).
+      let t : o + (p - o) ≡ p = omega arith in
+      let x = rw t at ((c.inside (p - o) (omega arith)).1 (omega arith)) in
+      ⊎_elim (λ e. let z : ⊥ = cc in absurd z) (λ s. s ∙ sym (filled_behind p (inr h))) x)
+      (λ (behind : o + n ≤ p). agrees false ys same c p (inr behind))
+      (cases_lt p (o + n)))
+      (cases_lt p (o + length bytes)))
+
+  pub filled_list : (overwrite : Bool) (ys : List Value) → length ys ≡ length xs → IsChanged o n (filled overwrite bytes) (value_at xs) (value_at ys) → IsFilledIn overwrite xs o n bytes ys
+  filled_list true ys same c = unspecified_rest true ys same c
+  filled_list false ys same c = filled_exactly ys same c
+
+-- values that may be overwritten where none is
+pub nothing_overwritten : (xs ys : List Value) (o : ℕ) → IsUnspecifiedIn xs o 0 ys → ys ≡ xs
+nothing_overwritten xs ys o u = same_by_values xs ys u.same_length (λ p. u.outside p (⊎_elim (λ (h : p < o). inl h) (λ (h : o ≤ p). inr (omega arith)) (cases_lt p o)))
+
+-- a data mapping, on lists
+pub overwritten_list : (overwrite : Bool) (xs ys : List Value) (o n : ℕ) → length ys ≡ length xs → IsChanged o n (overwritten overwrite) (value_at xs) (value_at ys) → IsOverwritten overwrite xs o n ys
+overwritten_list true xs ys o n same c = record { same_length = same; outside = λ p out. ⊎_elim (λ lt. c.before p lt) (λ ge. c.behind p ge) out }
+overwritten_list false xs ys o n same c = same_by_values xs ys same (λ p. ⊎_elim
+    (λ (before : p < o). c.before p before)
+    (λ (above : o ≤ p). ⊎_elim
+    (λ (under : p < o + n).
+    let t : o + (p - o) ≡ p = omega arith in
+    let x = rw t at (c.inside (p - o) (omega arith)) in
+    ⊎_elim (λ e. let z : ⊥ = cc in absurd z) (λ s. s) x)
+    (λ (behind : o + n ≤ p). c.behind p behind)
+    (cases_lt p (o + n)))
+    (cases_lt p o))
 
 -- a cut, as lists
 pub cut_list : (f g : ℕ → Value) (s t n : ℕ) → t ≡ min s n → ((p : ℕ) → p < t → g p ≡ f p) → values_from g 0 t ≡ take n (values_from f 0 s)

@@ -1,8 +1,8 @@
-use Rattle.std.proofs.Common.{◌≡◌, ℕ, ◌+◌, ◌-◌, ◌<◌, ◌≤◌, ◌⊎◌, ⊎_elim, inl, inr, Bool, true, false, List, [], ◌∷◌, ◌++◌, length, take, map, refl, sym, ap, ◌∙◌, arith, subst, Result, Ok, Err, length-take, replicate, ◌^◌}
+use Rattle.std.proofs.Common.{◌≡◌, ℕ, ◌+◌, ◌-◌, ◌<◌, ◌≤◌, ◌⊎◌, ◌&&◌, ⊎_elim, inl, inr, Bool, true, false, List, [], ◌∷◌, ◌++◌, length, take, map, refl, sym, ap, ◌∙◌, arith, subst, Result, Ok, Err, length-take, replicate, ◌^◌}
 use Rattle.std.proofs.Math.Path.{fun_ext}
 use Rattle.std.proofs.lemmas.Bool.{cases_lt}
 use Rattle.std.proofs.lemmas.List.{get_or_past, take_all, get_or-replicate, length-replicate}
-use Rattle.std.specs.Prelude.{IsTrue, IfOk, IfErr}
+use Rattle.std.specs.Prelude.{IsTrue, IfOk, IfErr, not}
 use Rattle.imago_storage.specs.declared.error.Error.{Error}
 use Rattle.imago_drivers.specs.declared.format.PreallocateMode.{PreallocateMode}
 use Rattle.imago_drivers.specs.Operation.{Operation, Write, Zero, DiscardToZero, DiscardToAny, DiscardToBacking}
@@ -12,7 +12,7 @@ use Rattle.imago_drivers.specs.Reasons.{Reasons, allowed}
 use Rattle.imago_drivers.specs.View.{View, Abilities}
 use Rattle.imago_drivers.specs.Flushes.{Flushes}
 use Rattle.imago_drivers.specs.Laws.{IsLawful, AreCauses}
-use Rattle.imago_drivers.specs.Changes.{IsChanged, into, partly, given_back, zeroes}
+use Rattle.imago_drivers.specs.Changes.{IsChanged, into, partly, overwritten, given_back, zeroes}
 use Rattle.imago_access.specs.declared.access.FormatAccess.{FormatAccess}
 use Rattle.imago_access.specs.declared.run.Call.{Call}
 use Rattle.imago_access.specs.declared.run.Call.TheVariants as C
@@ -24,17 +24,24 @@ use Rattle.imago_access.specs.Discarding.{IsLoosened, IsImageDiscard}
 use Rattle.imago_access.specs.Chain.{driver, backing, disk_value, lent_image, read_cause, read_reasons}
 use Rattle.imago_access.specs.ChainLaws.{image_is_layer}
 use Rattle.imago_access.specs.Target.{target}
-use Rattle.imago_access.specs.Calls.{IsKept, IsWrite, FailsTest, write_refusals, Overflows, IsRangeCall}
+use Rattle.imago_access.specs.Calls.{IsKept, IsWrite, IsMappedWrite, FailsTest, write_refusals, Overflows, IsRangeCall}
 use Rattle.imago_access.specs.Sizes.{IsSameImage, IsResize, IsResizeTo, IsFlushed, HasGrown, HasShrunk}
-use Rattle.imago_access.specs.Runs.{Answers, told_done, told_mapping, IsReadRefusal, IsBufferRead, IsMapped, IsStep, IsRun}
-use Rattle.imago_access.specs.Disk.{values_from, disk, backed_value, value_at, splice, OldOrNewValues, IsTestRefusal, IsSpliced, IsTorn, IsExtended, IsSameWrite, IsEndRefusal, IsZeroed, IsPartlyZeroed, IsUnspecifiedIn, IsGivenBack}
-use Rattle.imago_access.specs.Histories.{DoneOrRefused, IsDataOf, IsMappingOf, IsSame, IsFlatStep, IsFlatHistory}
+use Rattle.imago_access.specs.Writing.{filled, shown_length}
+use Rattle.imago_access.specs.Runs.{Answers, told_done, told_mapping, told_data, told_prepared, IsReadRefusal, IsBufferRead, IsMapped, IsDataMapped, IsStep, IsRun}
+use Rattle.imago_access.specs.Disk.{values_from, disk, backed_value, value_at, splice, OldOrNewValues, IsTestRefusal, IsSpliced, IsTorn, IsExtended, IsSameWrite, IsEndRefusal, IsZeroed, IsPartlyZeroed, IsUnspecifiedIn, IsGivenBack, IsFilledIn, IsPartlyFilled}
+use Rattle.imago_access.specs.Histories.{DoneOrRefused, IsDataOf, IsMappingOf, IsPart, IsDataStep, IsSame, IsFlatStep, IsFlatHistory}
 use Rattle.imago_access.proofs.Targets.{target_shows, mapped_value}
-use Rattle.imago_access.proofs.DiskLists.{listed_at, from_length, same_listed, spliced, written_list, torn_list, torn_values, cut_list, grown_list, extended_by, is_extended_none}
+use Rattle.imago_access.proofs.DiskLists.{filled_list, partly_filled, overwritten_list, listed_at, from_length, same_listed, spliced, written_list, torn_list, torn_values, cut_list, grown_list, extended_by, is_extended_none}
 
 bool_cases : (b : Bool) → (b ≡ true) ⊎ (b ≡ false)
 bool_cases true = inl refl
 bool_cases false = inr refl
+
+-- no more of a mapping shows than it holds
+shown_within : (commit : Bool) (m : ℕ × Bool) (n : ℕ) → m.0 ≤ n → shown_length commit m ≤ n
+shown_within true m n h = h
+shown_within false (c, true) n h = h
+shown_within false (c, false) n h = omega arith
 
 -- what holds of a call by its result holds by its reply
 done_or_refused : {T : Type 0} (told : T → Reply) (r : Reply) (outcome : Result T Error → Type 0) (done : T → Type 0) (refused : Error → Type 0) → ((t : T) → outcome (Ok t) → done t) → ((e : Error) → outcome (Err e) → refused e)
@@ -60,6 +67,8 @@ module _ {D St : Type 0} (view : D → View St) where
   step_kept flushes old new C.Flush r h = h.2.kept
   step_kept flushes old new C.Sync r h = h.2.kept
   step_kept flushes old new C.InvalidateCache r h = h.2.kept
+  step_kept flushes old new (C.EnsureData o n overwrite) r h = h.2.call.kept
+  step_kept flushes old new (C.Prepared o n overwrite bytes commit) r h = h.2.call.kept
   step_kept flushes old new (C.WriteZeroes o n) r h = h.2.kept
   step_kept flushes old new (C.DiscardToZero o n) r h = h.2.kept
   step_kept flushes old new (C.DiscardToAny o n) r h = h.2.kept
@@ -183,8 +192,8 @@ module _ {D St : Type 0} (view : D → View St) where
       (bool_cases (view (driver x)).abilities.is_writable)
 
   -- a call that succeeded lies in the disk
-  call_fits : {T : Type 0} {reasons : Reasons} {hidden : Type 0} {part : T → ℕ} {effect : T → Type 0} {remains : Type 0} {t : T} (old new : FormatAccess D) (op : Operation) (o n : ℕ) → Overflows op o n ⊎ (Overflows op o n → ⊥)
-      → IsRangeCall view op o n reasons hidden part effect remains old new (Ok t) → o + n ≤ (view (driver old)).size
+  call_fits : {T : Type 0} {of : Operation → Type 0} {reasons : Reasons} {hidden : Type 0} {part : T → ℕ} {effect : T → Type 0} {remains : Type 0} {t : T} (old new : FormatAccess D) (op : Operation) (o n : ℕ) → Overflows op o n ⊎ (Overflows op o n → ⊥)
+      → IsRangeCall view op o n of reasons hidden part effect remains old new (Ok t) → o + n ≤ (view (driver old)).size
   call_fits old new op o n over h = ⊎_elim
       (λ (past : (view (driver old)).size < o + n).
       let f = call_fails old op o n over past in
@@ -195,8 +204,8 @@ module _ {D St : Type 0} (view : D → View St) where
       (cases_lt (view (driver old)).size (o + n))
 
   -- a call that a test refused changed nothing
-  call_untouched : {T : Type 0} {reasons : Reasons} {hidden : Type 0} {part : T → ℕ} {effect : T → Type 0} {remains : Type 0} (old new : FormatAccess D) (op : Operation) (o n : ℕ) → Overflows op o n ⊎ (Overflows op o n → ⊥) → (e : Error)
-      → (reasons.read_only → ⊥) → (reasons.range_overflow → ⊥) → IsRangeCall {T = T} view op o n reasons hidden part effect remains old new (Err e) → IsEndRefusal (disk view old) o n e → disk view new ≡ disk view old
+  call_untouched : {T : Type 0} {of : Operation → Type 0} {reasons : Reasons} {hidden : Type 0} {part : T → ℕ} {effect : T → Type 0} {remains : Type 0} (old new : FormatAccess D) (op : Operation) (o n : ℕ) → Overflows op o n ⊎ (Overflows op o n → ⊥) → (e : Error)
+      → (reasons.read_only → ⊥) → (reasons.range_overflow → ⊥) → IsRangeCall {T = T} view op o n of reasons hidden part effect remains old new (Err e) → IsEndRefusal (disk view old) o n e → disk view new ≡ disk view old
   call_untouched {reasons = reasons} old new op o n over e no_read_only no_overflow h t = ap (disk view) (⊎_elim
       (λ overflow. ⊎_elim (λ f. (h.tested e f).1) (λ a. let none : reasons.range_overflow = subst (allowed reasons) overflow a in absurd (no_overflow none)) h.refusals)
       (λ test. ⊎_elim
@@ -269,7 +278,7 @@ module _ {D St : Type 0} (view : D → View St) (lawful : (d : D) → IsLawful (
   zero_done old new op o n over k h =
       let fits : o + n ≤ (view (driver old)).size = call_fits view old new op o n over h in
       let len : length (replicate {A = ℕ} n 0) ≡ n = length-replicate n 0 in
-      (omega (arith, fits, disk_length view old), written old new o (replicate n 0) h.same_size (omega arith) (zeroes_into o n _ _ (h.done k)))
+      (omega (arith, fits, disk_length view old), written old new o (replicate n 0) h.same_size (omega arith) (zeroes_into o n _ _ (h.done k).0))
 
   zero_refused : (old new : FormatAccess D) (op : Operation) (o n : ℕ) → Overflows op o n ⊎ (Overflows op o n → ⊥) → (e : Error) → IsTrue (view (driver old)).abilities.keeps_data → IsZeroWrite view op old new o n (Err e) → IsPartlyZeroed (disk view old) o n e (disk view new)
   zero_refused old new op o n over e k h = record {
@@ -313,6 +322,54 @@ module _ {D St : Type 0} (view : D → View St) (lawful : (d : D) → IsLawful (
         (cases_lt p o);
   }
 
+  -- an image's values, as those of its list
+  listed : (P : (ℕ → Value) → (ℕ → Value) → Type 0) (old new : FormatAccess D) → P (disk_value view old) (disk_value view new) → P (value_at (disk view old)) (value_at (disk view new))
+  listed P old new h = subst (λ (f : ℕ → Value). P f (value_at (disk view new))) (values_in_list old) (subst (λ (f : ℕ → Value). P (disk_value view old) f) (values_in_list new) h)
+
+  -- a test refuses a write or a mapping
+  test_untouched : {T : Type 0} {of : Operation → Type 0} {reasons : Reasons} {hidden : Type 0} {part : T → ℕ} {effect : T → Type 0} {remains : Type 0} (old new : FormatAccess D) (o n : ℕ) (e : Error)
+      → (reasons.read_only → ⊥) → (reasons.range_overflow → ⊥) → IsRangeCall {T = T} view Write o n of reasons hidden part effect remains old new (Err e) → IsTestRefusal (disk view old) o n e → disk view new ≡ disk view old
+  test_untouched old new o n e a b h t = call_untouched view old new Write o n (inr (λ z. z)) e a b h (inr t)
+
+  data_step : (old new : FormatAccess D) (o n : ℕ) (overwrite : Bool) (r : Reply) → IsTrue (view (driver old)).abilities.keeps_data → Answers told_data r (IsDataMapped view old new o n overwrite) → IsDataStep (disk view old) o n overwrite r (disk view new)
+  data_step old new o n overwrite r k h = done_or_refused told_data r (IsDataMapped view old new o n overwrite) _ _
+      (λ m x.
+      let fits = call_fits view old new Write o n (inr (λ z. z)) x.call in
+      (omega (arith, fits, disk_length view old), (x.mapped.within, x.mapped.some), overwritten_list overwrite (disk view old) (disk view new) o m.2 (list_length old new x.call.same_size) (listed (λ f g. IsChanged o m.2 (overwritten overwrite) f g) old new (x.call.done k))))
+      (λ e x. (overwritten_list overwrite (disk view old) (disk view new) o n (list_length old new x.call.same_size) (listed (λ f g. IsChanged o n (overwritten overwrite) f g) old new (x.call.torn k)), test_untouched old new o n e (λ a. a) (λ a. a) x.call))
+      h
+
+  prepared_done : (old new : FormatAccess D) (o n : ℕ) (overwrite : Bool) (bytes : List ℕ) (commit : Bool) (m : ℕ × Bool) → IsTrue (view (driver old)).abilities.keeps_data → IsMappedWrite view old new o n overwrite bytes commit (Ok m)
+      → (o + n ≤ length (disk view old)) × IsPart n m.0 × IsFilledIn (overwrite && not m.1) (disk view old) o (shown_length commit m) bytes (disk view new)
+  prepared_done old new o n overwrite bytes commit m k x =
+      let fits = call_fits view old new Write o n (inr (λ z. z)) x.call in
+      let p = x.told.2 in
+      let len : m.0 ≡ x.told.1.length = x.told.3 in
+      let within : m.0 ≤ n = omega (arith, len, p.within) in
+      let inside : o + n ≤ length (disk view old) = omega (arith, fits, disk_length view old) in
+      let part : o + shown_length commit m ≤ length (disk view old) = omega (arith, shown_within commit m n within) in (
+        inside,
+        (within, λ some. omega (arith, len, p.some some)),
+        filled_list (disk view old) o (shown_length commit m) bytes part (overwrite && not m.1) (disk view new) (list_length old new x.call.same_size)
+            (listed (λ f g. IsChanged o (shown_length commit m) (filled (overwrite && not m.1) bytes) f g) old new (x.call.done k)),
+      )
+
+  prepared_refused : (old new : FormatAccess D) (o n : ℕ) (overwrite : Bool) (bytes : List ℕ) (commit : Bool) (e : Error) → IsTrue (view (driver old)).abilities.keeps_data → IsMappedWrite view old new o n overwrite bytes commit (Err e)
+      → IsPartlyFilled overwrite (disk view old) o n bytes e (disk view new)
+  prepared_refused old new o n overwrite bytes commit e k x = record {
+    same_length = list_length old new x.call.same_size;
+    each = ⊎_elim
+        (λ (past : (view (driver old)).size < o + n).
+        let f = call_fails view old Write o n (inr (λ z. z)) past in
+        let same : disk view new ≡ disk view old = ap (disk view) (x.call.tested f.0 f.1).1 in
+        λ p. inl (ap (λ (xs : List Value). value_at xs p) same))
+        (λ (fits : o + n ≤ (view (driver old)).size).
+        let inside : o + n ≤ length (disk view old) = omega (arith, fits, disk_length view old) in
+        partly_filled (disk view old) o n bytes inside overwrite (disk view new) (list_length old new x.call.same_size) (listed (λ f g. IsChanged o n (partly (filled overwrite bytes)) f g) old new (x.call.torn k)))
+        (cases_lt (view (driver old)).size (o + n));
+    untouched = test_untouched old new o n e (λ a. a) (λ a. a) x.call;
+  }
+
   unreadable_in_list : (x : FormatAccess D) (o n : ℕ) (e why : Error) → e ≡ why → IsUnreadableIn (disk_value view x) o n why → IsUnreadableIn (value_at (disk view x)) o n e
   unreadable_in_list x o n e why same u = subst (λ (z : Error). IsUnreadableIn (value_at (disk view x)) o n z) (sym same) (u.0, u.1, sym (value_in_list x u.0) ∙ u.2)
 
@@ -346,6 +403,10 @@ module _ {D St : Type 0} (view : D → View St) (lawful : (d : D) → IsLawful (
   flat_step flushes old new C.Size r k h = (ap (disk view) h.0, h.1 ∙ ap R.Size (sym (disk_length view old)))
   flat_step flushes old new (C.GetMapping o n) r k h = (ap (disk view) h.0, mapped_part old o n r h.1)
   flat_step flushes old new (C.Write o bytes) r k h = done_or_refused told_done r (IsWrite view old new o bytes.items) _ _ (λ u. write_done old new o bytes.items k) (λ e x. write_refused old new o bytes.items e k x) h
+  flat_step flushes old new (C.EnsureData o n overwrite) r k h = data_step old new o n overwrite r k h
+  flat_step flushes old new (C.Prepared o n overwrite bytes commit) r k h = done_or_refused told_prepared r (IsMappedWrite view old new o n overwrite bytes.items commit) _ _
+      (λ m x. prepared_done old new o n overwrite bytes.items commit m k x)
+      (λ e x. prepared_refused old new o n overwrite bytes.items commit e k x) h
   flat_step flushes old new C.Flush r k h = flushed view flushes.flushed old new r k h
   flat_step flushes old new C.Sync r k h = flushed view flushes.synced old new r k h
   flat_step flushes old new C.InvalidateCache r k h = flushed view flushes.invalidated old new r k h

@@ -18,8 +18,8 @@ use Rattle.imago_drivers.specs.Changes.{IsChanged, into, partly, overwritten}
 use Rattle.imago_access.specs.declared.access.FormatAccess.{FormatAccess, FormatAccess', out-FormatAccess, out-roll-FormatAccess, rolls-FormatAccess', FormatAccess-F, back-FormatAccess-backing}
 use Rattle.imago_access.specs.Chain.{driver, backing, unboxed, disk_value, as_layer_below, lent_image}
 use Rattle.imago_access.specs.Lending.{with_driver}
-use Rattle.imago_access.specs.Calls.{Overflows, FailsTest, IsLoose, settles, ShowsFaults, IsRangeCall, IsWrite, devices_reliable, IsEnsured, IsPreparing}
-use Rattle.imago_access.specs.Writing.{CommitMayTakeMemory, HasWrittenAll}
+use Rattle.imago_access.specs.Calls.{Overflows, FailsTest, IsLoose, settles, ShowsFaults, IsRangeCall, IsWrite, devices_reliable, IsMappedWrite, IsEnsured, IsPreparing}
+use Rattle.imago_access.specs.Writing.{CommitMayTakeMemory, WasPrepared, HasWrittenAll, HasMapped, filled, shown_length, shown_change}
 use Rattle.imago_access.proofs.Chains.{value_out}
 
 -- what a driver is lent, as the image below
@@ -111,9 +111,9 @@ settles_for op old new c d o n s = record {
 shows_faults : {T : Type 0} (r : Bool) (a b : ℕ) (result : Result T Error) → CountsFaults r a b result → ShowsFaults ⊥ r a b result
 shows_faults r a b result h = record { later = h.later; reliable = h.reliable; device = λ e. inl (h.device e) }
 
-module _ {D St T : Type 0} (view : D → View St) (x : FormatAccess D) (op : Operation) (o n : ℕ) (reasons : Reasons) (hidden : Type 0) (part : T → ℕ) (effect : T → Type 0) (remains : Type 0) where
+module _ {D St T : Type 0} (view : D → View St) (x : FormatAccess D) (op : Operation) (o n : ℕ) (of : Operation → Type 0) (reasons : Reasons) (hidden : Type 0) (part : T → ℕ) (effect : T → Type 0) (remains : Type 0) where
   -- a call that a test refuses
-  pub failed_call : (e : Error) → FailsTest (view (driver x)) op o n e → remains → (view (driver x)).pending ≡ None → IsRangeCall view op o n reasons hidden part effect remains x x (Err e)
+  pub failed_call : (e : Error) → FailsTest (view (driver x)) op o n e → remains → (view (driver x)).pending ≡ None → IsRangeCall view op o n of reasons hidden part effect remains x x (Err e)
   failed_call e f r p = record {
     tested = λ z g. (ap (λ y. Err y) (same_test (view (driver x)) op o n e z f g), refl);
     done = λ k. tt;
@@ -132,10 +132,10 @@ module _ {D St T : Type 0} (view : D → View St) (x : FormatAccess D) (op : Ope
   pub passed_call : (d : D) (result : Result T Error) → (view (driver x)).abilities.is_writable ≡ true → o + n ≤ (view (driver x)).size → (Overflows op o n → ⊥)
       → (IsTrue (view (driver x)).abilities.keeps_data → IfOk result effect) → (IsTrue (view (driver x)).abilities.keeps_data → OnErr result remains)
       → ((IsLoose op → ⊥) → ReachesNoMore (view (driver x)) (view d))
-      → IfOk result (λ r. IsSettled (settles op) (view (driver x)).limits.cause (view d).limits.cause (view (driver x)).limits.copies (view d).limits.copies o (part r))
+      → IfOk result (λ r. IsSettled of (view (driver x)).limits.cause (view d).limits.cause (view (driver x)).limits.copies (view d).limits.copies o (part r))
       → IsFramed (view (driver x)) (view d) → (view d).pending ≡ None
       → ShowsFaults hidden (devices_reliable view x) (view (driver x)).fault_count (view d).fault_count result
-      → IfErr result (allowed reasons) → IsRangeCall view op o n reasons hidden part effect remains x (with_driver x d) result
+      → IfErr result (allowed reasons) → IsRangeCall view op o n of reasons hidden part effect remains x (with_driver x d) result
   passed_call d result w fits small done torn reaches settled framed spent faults refusals =
       let e : driver (with_driver x d) ≡ d = driver_with x d in
       record {
@@ -143,7 +143,7 @@ module _ {D St T : Type 0} (view : D → View St) (x : FormatAccess D) (op : Ope
         done = done;
         torn = torn;
         reaches = λ l. subst (λ (y : D). ReachesNoMore (view (driver x)) (view y)) (sym e) (reaches l);
-        settled = subst (λ (y : D). IfOk result (λ r. IsSettled (settles op) (view (driver x)).limits.cause (view y).limits.cause (view (driver x)).limits.copies (view y).limits.copies o (part r))) (sym e) settled;
+        settled = subst (λ (y : D). IfOk result (λ r. IsSettled of (view (driver x)).limits.cause (view y).limits.cause (view (driver x)).limits.copies (view y).limits.copies o (part r))) (sym e) settled;
         same_size = ap (λ (y : D). (view y).size) e ∙ framed.size;
         ends = subst (λ (y : D). (p : ℕ) → (view y).place p ≡ End → (view (driver x)).place p ≡ End) (sym e) framed.ends;
         kept = record { below = backing_with x d; kind = subst (λ (y : D). IsKind (view (driver x)) (view y)) (sym e) framed.kind };
@@ -156,7 +156,7 @@ pub image_write : {D St : Type 0} (view : D → View St) (x : FormatAccess D) (d
     → (view (driver x)).abilities.is_writable ≡ true → o + length bytes ≤ (view (driver x)).size → HasWrittenAll l (CommitMayTakeMemory view (driver x)) (view (driver x)) (view d) o bytes result → IsWrite view x (with_driver x d) o bytes result
 image_write view x d o bytes result l e w fits h =
     let k = subst (λ (m : LayerBelow). HasWrittenAll m (CommitMayTakeMemory view (driver x)) (view (driver x)) (view d) o bytes result) e h in
-    passed_call view x Operation.Write o (length bytes) _ _ _ _ _ d result w fits (λ z. z)
+    passed_call view x Operation.Write o (length bytes) _ _ _ _ _ _ d result w fits (λ z. z)
     (λ keeps. on_ok result _ (ok_then result (λ c. changed_image view x d (λ a b. IsChanged o (length bytes) (into bytes) a b) c) (k.done keeps)))
     (λ keeps. err_more result _ _ (λ c. changed_image view x d (λ a b. IsChanged o (length bytes) (partly (into bytes)) a b) c) (k.torn keeps))
     (λ z. k.reaches)
@@ -166,6 +166,28 @@ image_write view x d o bytes result l e w fits h =
     ok_then : {P Q : Type 0} (r : Result Unit Error) → (P → Q) → OnOk r P → OnOk r Q
     ok_then (Ok t) f h = f h
     ok_then (Err e) f h = tt
+
+-- a write through a mapping by the driver, over what it is lent
+pub image_mapped : {D St : Type 0} (view : D → View St) (x : FormatAccess D) (d : D) (o n : ℕ) (w : Bool) (bytes : List ℕ) (commit : Bool) (result : Result (ℕ × Bool) Error) (l : LayerBelow) → l ≡ lent_image view (backing x)
+    → (view (driver x)).abilities.is_writable ≡ true → o + n ≤ (view (driver x)).size
+    → IfOk result (WasPrepared view (values l.at (view (driver x)).place) (driver x) o n w)
+    → HasMapped l (CommitMayTakeMemory view (driver x)) (view (driver x)) (view d) o n w bytes commit result → IsMappedWrite view x (with_driver x d) o n w bytes commit result
+image_mapped view x d o n w bytes commit result l e writable fits told h =
+    let k = subst (λ (m : LayerBelow). HasMapped m (CommitMayTakeMemory view (driver x)) (view (driver x)) (view d) o n w bytes commit result) e h in
+    record {
+      told = subst (λ (f : ℕ → Value). IfOk result (WasPrepared view f (driver x) o n w)) (sym (value_out view x)) (subst (λ (m : LayerBelow). IfOk result (WasPrepared view (values m.at (view (driver x)).place) (driver x) o n w)) e told);
+      call = passed_call view x Operation.Write o n _ _ _ _ _ _ d result writable fits (λ z. z)
+          (λ keeps. ok_more result _ _ (λ m c. changed_image view x d (λ a b. IsChanged o (shown_length commit m) (shown_change w bytes m) a b) c) (k.done keeps))
+          (λ keeps. err_more result _ _ (λ c. changed_image view x d (λ a b. IsChanged o n (partly (filled w bytes)) a b) c) (k.torn keeps))
+          (λ z. k.reaches) k.settled k.framed k.spent (shows_faults _ _ _ result k.faults) k.refusals;
+    }
+
+pub failed_mapped : {D St : Type 0} (view : D → View St) (x : FormatAccess D) (o n : ℕ) (w : Bool) (bytes : List ℕ) (commit : Bool) (e : Error) → FailsTest (view (driver x)) Operation.Write o n e → (view (driver x)).pending ≡ None
+    → IsMappedWrite view x x o n w bytes commit (Err e)
+failed_mapped view x o n w bytes commit e f p = record {
+  told = tt;
+  call = failed_call view x Operation.Write o n _ _ _ _ _ _ e f (record { inside = λ k h. inl refl; before = λ q h. refl; behind = λ q h. refl }) p;
+}
 
 -- a data mapping by the driver, over what it is lent
 pub image_ensured : {D St : Type 0} (view : D → View St) (x : FormatAccess D) (d : D) (o n : ℕ) (w : Bool) (result : Result (ℕ × ℕ × ℕ) Error) (l : LayerBelow) → l ≡ lent_image view (backing x)
@@ -178,7 +200,7 @@ pub image_ensured : {D St : Type 0} (view : D → View St) (x : FormatAccess D) 
     → CountsFaults ((view (driver x)).abilities.is_reliable && l.is_reliable) (view (driver x)).fault_count (view d).fault_count result
     → IfErr result (allowed (lending_reasons (view (driver x)) l Operation.Write o n)) → IsEnsured view x (with_driver x d) o n w result
 image_ensured view x d o n w result l h writable fits done torn reaches settled framed spent faults refusals =
-    passed_call view x Operation.Write o n _ _ _ _ _ d result writable fits (λ z. z)
+    passed_call view x Operation.Write o n _ _ _ _ _ _ d result writable fits (λ z. z)
     (λ k. ok_more result _ _ (λ r c. changed_image view x d (λ a b. IsChanged o r.2 (overwritten w) a b) c) (subst (λ (m : LayerBelow). IfOk result (λ r. IsChanged o r.2 (overwritten w) (values m.at (view (driver x)).place) (values m.at (view d).place))) h (done k)))
     (λ k. err_more result _ _ (λ c. changed_image view x d (λ a b. IsChanged o n (overwritten w) a b) c) (subst (λ (m : LayerBelow). OnErr result (IsChanged o n (overwritten w) (values m.at (view (driver x)).place) (values m.at (view d).place))) h (torn k)))
     (λ z. reaches)

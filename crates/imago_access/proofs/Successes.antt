@@ -14,10 +14,12 @@ use Rattle.imago_access.specs.declared.access.FormatAccess.{FormatAccess}
 use Rattle.imago_access.specs.Chain.{driver, disk_value, is_reliable, chain_cause, read_cause, read_reasons, no_memory_to_read}
 use Rattle.imago_access.specs.Resolved.{chain_map_reasons}
 use Rattle.imago_access.specs.ChainLaws.{image_is_layer}
-use Rattle.imago_access.specs.Calls.{FailsTest, ShowsFaults, range_refusals, write_refusals, devices_reliable, IsWrite}
+use Rattle.imago_access.specs.Calls.{FailsTest, ShowsFaults, range_refusals, write_refusals, devices_reliable, IsRangeCall, IsWrite}
+use Rattle.imago_access.specs.Zeroing.{zero_reasons}
+use Rattle.imago_access.specs.Discarding.{discard_of, discard_reasons}
 use Rattle.imago_drivers.specs.Done.{driver_reasons}
 use Rattle.imago_access.specs.Sizes.{IsResize, HasGrown, HasShrunk, FailsWritable}
-use Rattle.imago_access.specs.Success.{Succeeds, IsReadable, IsMildRefusal, IsReadyToWrite, IsReadyToResize, HasSoundDevice, TakesNoneToWrite, SucceedsIfOffered, FlushesSucceed, change_cause}
+use Rattle.imago_access.specs.Success.{Succeeds, IsReadable, IsMildRefusal, IsReadyToWrite, IsReadyToResize, HasSoundDevice, TakesNoneToWrite, SucceedsIfOffered, IsReadyToZero, ZeroWritesSucceed, DiscardsSucceed, FlushesSucceed, change_cause}
 use Rattle.imago_access.proofs.Images.{both_ways, not_failed}
 
 -- a refusal that is for nothing else is for want of memory, or has a cause
@@ -111,6 +113,26 @@ module _ {D St : Type 0} (view : D → View St) where
       (λ a. ⊎_elim (λ w. (w.0, m w.1)) (λ k. absurd (g.no_cause e (over e k)))
       (cause_or_memory r e ro (λ z. g.no_end (bd z)) ov (λ d z. no_fault {T = T} (devices_reliable view old) (view (driver old)).fault_count (view (driver new)).fault_count e g.sound.reliable g.sound.counts f d) (λ d z. fo z) a))
       h)
+
+  -- a call on a range that the driver may not offer
+  offered_succeeds : {T takes_none : Type 0} {of : Operation → Type 0} {hidden : Type 0} {part : T → ℕ} {effect : T → Type 0} {remains : Type 0} (old new : FormatAccess D) (op : Operation) (o n : ℕ) (r : Reasons) (result : Result T Error)
+      → IsReadyToZero view old op o n r.cause → (hidden → ⊥) → (r.read_only → ⊥) → (r.beyond_disk → EndsIn (view (driver old)).place o n) → (r.range_overflow → ⊥) → (r.foreign_mapping → ⊥) → (r.memory → takes_none → ⊥)
+      → IsRangeCall view op o n of r hidden part effect remains old new result → SucceedsIfOffered ((view (driver old)).abilities.offers op) takes_none result
+  offered_succeeds old new op o n r (Ok t) g shown ro bd ov fo m h = succeeds_if_offered _ (Ok t) tt
+  offered_succeeds {T} {hidden = hidden} old new op o n r (Err e) g shown ro bd ov fo m h = succeeds_if_offered _ (Err e) (⊎_elim
+      (λ k. absurd (not_failed (view (driver old)) op o n g.sound.writable g.inside g.fits e k))
+      (λ a. ⊎_elim (λ w. inl (w.0, m w.1)) (λ k. inr (g.no_cause e k))
+      (cause_or_memory r e ro (λ z. g.no_end (bd z)) ov (λ d z. no_fault {T = T} (devices_reliable view old) (view (driver old)).fault_count (view (driver new)).fault_count e g.sound.reliable g.sound.counts counts d) (λ d z. fo z) a))
+      h.refusals)
+    where
+      counts : CountsFaults {T = T} (devices_reliable view old) (view (driver old)).fault_count (view (driver new)).fault_count (Err e)
+      counts = record { later = h.faults.later; reliable = h.faults.reliable; device = λ x. ⊎_elim (λ y. y) (λ (z : hidden). absurd (shown z)) (h.faults.device x) }
+
+  pub zero_write_succeeds : ZeroWritesSucceed view
+  zero_write_succeeds = λ old new op o n result g h. offered_succeeds old new op o n (zero_reasons view old op o n) result g (λ z. both_ways (is_reliable view old) g.reliable z) (λ z. z) (λ z. z) (λ z. z) (λ z. z) (λ k free. k free) h
+
+  pub discard_succeeds : DiscardsSucceed view
+  discard_succeeds = λ old new call o n result g h. offered_succeeds old new (discard_of call) o n (discard_reasons (view (driver old)) (discard_of call) o n) result g (λ z. z) (λ z. z) (λ z. z) (λ z. z) (λ z. z) (λ k free. k free) h
 
   -- a data mapping, or the preparing of one
   pub mapped_succeeds : {T : Type 0} (old new : FormatAccess D) (o n : ℕ) (result : Result T Error) → IsReadyToWrite view old o n

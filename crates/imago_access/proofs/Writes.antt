@@ -12,7 +12,7 @@ use Rattle.imago_drivers.specs.View.{View}
 use Rattle.imago_drivers.specs.Laws.{AreCauses}
 use Rattle.imago_drivers.specs.Changes.{Change, IsChanged, into, partly}
 use Rattle.imago_drivers.specs.Frame.{IsFramed, IsUnchanged, ReachesNoMore}
-use Rattle.imago_access.specs.Writing.{CommitMayTakeMemory, first_reasons, write_reasons, HasWritten, HasWrittenAll}
+use Rattle.imago_access.specs.Writing.{CommitMayTakeMemory, StandsAlone, first_reasons, write_reasons, HasWritten, HasWrittenAll}
 use Rattle.imago_access.proofs.Weaker.{IsWeaker, allowed_more}
 use Rattle.imago_access.proofs.Written.{kind_twice, framed_twice}
 
@@ -62,6 +62,7 @@ module _ {St : Type 0} (l : LayerBelow) (commit_memory : Type 0) (old new : View
     done = λ k. tt;
     torn = torn;
     whole = λ k. tt;
+    alone = tt;
     settled = tt;
     reaches = reaches;
     framed = framed;
@@ -71,13 +72,14 @@ module _ {St : Type 0} (l : LayerBelow) (commit_memory : Type 0) (old new : View
   }
 
   pub wrote_first : (n : ℕ) → 0 < n → n ≤ length bytes → (IsTrue old.abilities.keeps_data → IsChanged o n (into bytes) (values l.at old.place) (values l.at new.place))
-      → (old.limits.whole Operation.Write o (length bytes) → n ≡ length bytes) → IsSettled IsOnRange old.limits.cause new.limits.cause old.limits.copies new.limits.copies o n
+      → (old.limits.whole Operation.Write o (length bytes) → n ≡ length bytes) → StandsAlone new.place o n → IsSettled IsOnRange old.limits.cause new.limits.cause old.limits.copies new.limits.copies o n
       → ReachesNoMore old new → IsFramed old new → new.pending ≡ None → GoesOn (old.abilities.is_reliable && l.is_reliable) old.fault_count new.fault_count → HasWritten l commit_memory old new o bytes (Ok n)
-  wrote_first n some within done whole settled reaches framed spent goes = record {
+  wrote_first n some within done whole alone settled reaches framed spent goes = record {
     some = (some, within);
     done = done;
     torn = λ k. tt;
     whole = whole;
+    alone = alone;
     settled = settled;
     reaches = reaches;
     framed = framed;

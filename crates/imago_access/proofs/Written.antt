@@ -1,11 +1,11 @@
-use Rattle.std.proofs.Common.{◌≡◌, ℕ, ◌+◌, ◌<◌, ◌≤◌, ◌⊎◌, ⊎_elim, inl, inr, Bool, true, false, List, length, take, Option, Some, None, refl, sym, ap, ◌∙◌, arith, length-take, get_or-take, subst}
+use Rattle.std.proofs.Common.{◌≡◌, ℕ, ◌+◌, ◌<◌, ◌≤◌, ◌⊎◌, ⊎_elim, inl, inr, Bool, true, false, List, length, take, Option, Some, None, refl, sym, ap, ◌∙◌, arith, length-take, get_or-take, subst, min}
 use Rattle.std.proofs.lemmas.Bool.{cases_lt}
 use Rattle.std.specs.Prelude.{IsTrue, slice_index}
 use Rattle.imago_storage.specs.declared.error.Error.{Error}
 use Rattle.imago_storage.specs.declared.error.Error.TheVariants as E
 use Rattle.imago_drivers.specs.Operation.{Operation}
 use Rattle.imago_drivers.specs.declared.mapping.PreparedDataMapping.{PreparedDataMapping}
-use Rattle.imago_drivers.specs.Place.{Value, Byte, Stored, values, shown, PlacesAreWritableAt, SamePlaces}
+use Rattle.imago_drivers.specs.Place.{Value, Byte, Stored, IsIn, values, shown, PlacesAreWritableAt, SamePlaces}
 use Rattle.imago_drivers.specs.Reasons.{allowed}
 use Rattle.imago_drivers.specs.LayerBelow.{LayerBelow}
 use Rattle.imago_drivers.specs.Causes.{Causes, Copies, IsSettled, IsOnRange}
@@ -14,10 +14,10 @@ use Rattle.imago_drivers.specs.View.{View}
 use Rattle.imago_drivers.specs.Laws.{IsLawful}
 use Rattle.imago_drivers.specs.Changes.{Change, IsChanged, or_torn, into, partly}
 use Rattle.imago_drivers.specs.Frame.{IsKind, IsFramed, IsUnchanged}
-use Rattle.imago_drivers.specs.Done.{mapping_write_reasons}
-use Rattle.imago_drivers.specs.Prepared.{IsPrepared, IsPut, is_written, is_foreign, is_foreign_write, is_for}
-use Rattle.imago_drivers.specs.Commit.{is_committed, commit_reasons, prepared_bytes}
-use Rattle.imago_access.specs.Writing.{first_reasons}
+use Rattle.imago_drivers.specs.Done.{lending_reasons, mapping_write_reasons}
+use Rattle.imago_drivers.specs.Prepared.{IsPrepared, IsPut, is_written, is_foreign_write, is_for}
+use Rattle.imago_access.specs.Writing.{filled, is_filled, filling_reasons}
+use Rattle.imago_access.proofs.Weaker.{IsWeaker}
 
 pub settled_twice : (old mid new : Causes) (c d f : Copies) (o n : ℕ) → IsSettled IsOnRange old mid c d o n → IsSettled IsOnRange mid new d f o n → IsSettled IsOnRange old new c f o n
 settled_twice old mid new c d f o n s t = record {
@@ -46,7 +46,7 @@ changed_wider o c n how old new le h = record {
   behind = λ p lt. h.behind p (omega arith);
 }
 
-not_torn : (v w : Value) (P : Type 0) → P ⊎ ((false ≡ true) × (w ≡ v)) → P
+pub not_torn : (v w : Value) (P : Type 0) → P ⊎ ((false ≡ true) × (w ≡ v)) → P
 not_torn v w P h = ⊎_elim (λ p. p) (λ x. let e = x.0 in let z : ⊥ = cc in absurd z) h
 
 pub changed_whole : (o n : ℕ) (how : Change) (old new : ℕ → Value) → IsChanged o n (or_torn false how) old new → IsChanged o n how old new
@@ -56,26 +56,40 @@ changed_whole o n how old new h = record {
   behind = h.behind;
 }
 
--- a mapping that is prepared for overwriting, and written
-module _ {St : Type 0} (old mid wrote : View St) (below : ℕ → Value) (o : ℕ) (bytes : List ℕ) (m : PreparedDataMapping St)
-    (P : IsPrepared o (length bytes) true (values below old.place) old mid m) (U : IsUnchanged old mid) (law : IsLawful mid) where
-  abbrev written : List ℕ
-  written = take m.length bytes
+-- what a driver's own reasons are to a lender's, with what is written counted in
+pub filling_weaker : {St : Type 0} (v : View St) (l : LayerBelow) (o n : ℕ) (bytes : List ℕ) → IsWeaker (lending_reasons v l Operation.Write o n) (filling_reasons v l o n bytes)
+filling_weaker v l o n bytes = record {
+  read_only = λ h. h;
+  beyond_disk = λ h. h;
+  range_overflow = λ h. h;
+  cause = λ e h. h;
+  device = λ h. h;
+  memory = λ h free. h free.0;
+  foreign_mapping = λ h. h;
+}
 
-  written_length : length written ≡ m.length
-  written_length = simp length-take (omega (arith, P.within))
+-- a mapping that is prepared, and the first k bytes written to it, as many as fit
+module _ {St : Type 0} (old mid wrote : View St) (l : LayerBelow) (o n : ℕ) (overwrite : Bool) (bytes : List ℕ) (k : ℕ) (m : PreparedDataMapping St)
+    (P : IsPrepared o n overwrite (values l.at old.place) old mid m) (U : IsUnchanged old mid) (law : IsLawful mid) (fit : k ≡ min (length bytes) m.length) where
+  pub written_length : length (take k bytes) ≡ k
+  written_length = simp length-take (omega (arith, fit))
 
-  written_at : (k : ℕ) → k < m.length → slice_index written k ≡ slice_index bytes k
-  written_at k h = get_or-take m.length bytes k 0 h
+  written_at : (i : ℕ) → i < k → slice_index (take k bytes) i ≡ slice_index bytes i
+  written_at i h = get_or-take k bytes i 0 h
 
   at_start : (st : Option St) → m.state ≡ st → is_for mid m st 0 m.length o
   at_start None e = λ i h. let x = (P.direct e).1 i h in let z : m.offset + 0 ≡ m.offset = omega arith in (x.0, true, rw z (x.1))
   at_start (Some s) e = let a = P.apart s e in (a.0, a.1, omega (arith, a.3))
 
-  pub is_at_start : is_for mid m m.state 0 m.length o
-  is_at_start = at_start m.state refl
+  fewer : (st : Option St) → is_for mid m st 0 m.length o → is_for mid m st 0 k o
+  fewer None h = λ i lt. h i (omega arith)
+  fewer (Some s) h = h
 
-  at_start_after : (torn : Bool) (st : Option St) → m.state ≡ st → is_written st torn mid wrote m 0 written → is_for wrote m st 0 m.length o
+  -- the bytes that are written are for the places from o on
+  pub is_at_start : is_for mid m m.state 0 k o
+  is_at_start = fewer m.state (at_start m.state refl)
+
+  at_start_after : (torn : Bool) (st : Option St) → m.state ≡ st → is_written st torn mid wrote m 0 (take k bytes) → is_for wrote m st 0 m.length o
   at_start_after torn None e W = λ i h.
       let x = (P.direct e).1 i h in
       let z : m.offset + 0 ≡ m.offset = omega arith in
@@ -87,7 +101,7 @@ module _ {St : Type 0} (old mid wrote : View St) (below : ℕ → Value) (o : �
       let start : r.0.start ≡ a.0.start = ap (λ (q : Pending St). q.start) r.2 in
       (r.0, r.1, omega (arith, a.3, start))
 
-  pub is_at_start_after : (torn : Bool) → is_written m.state torn mid wrote m 0 written → is_for wrote m m.state 0 m.length o
+  pub is_at_start_after : (torn : Bool) → is_written m.state torn mid wrote m 0 (take k bytes) → is_for wrote m m.state 0 m.length o
   is_at_start_after torn W = at_start_after torn m.state refl W
 
   own_write : (st : Option St) → m.state ≡ st → mid.abilities.is_writable ≡ true → is_foreign_write mid m st → ⊥
@@ -100,7 +114,7 @@ module _ {St : Type 0} (old mid wrote : View St) (below : ℕ → Value) (o : �
   pub never_foreign_write : mid.abilities.is_writable ≡ true → is_foreign_write mid m m.state → ⊥
   never_foreign_write w f = own_write m.state refl w f
 
-  own_after : (torn : Bool) (st : Option St) → m.state ≡ st → is_written st torn mid wrote m 0 written → (s : St) → st ≡ Some s → IsOwn wrote.pending m
+  own_after : (torn : Bool) (st : Option St) → m.state ≡ st → is_written st torn mid wrote m 0 (take k bytes) → (s : St) → st ≡ Some s → IsOwn wrote.pending m
   own_after torn None e W s h = let z : ⊥ = cc in absurd z
   own_after torn (Some t) e W s h =
       let a = P.apart t e in
@@ -114,184 +128,171 @@ module _ {St : Type 0} (old mid wrote : View St) (below : ℕ → Value) (o : �
       ) in
       subst (λ (p : Option (Pending St)). IsOwn p m) (sym r.1) k
 
-  pub still_own : (torn : Bool) → is_written m.state torn mid wrote m 0 written → (s : St) → m.state ≡ Some s → IsOwn wrote.pending m
+  still_own : (torn : Bool) → is_written m.state torn mid wrote m 0 (take k bytes) → (s : St) → m.state ≡ Some s → IsOwn wrote.pending m
   still_own torn W s h = own_after torn m.state refl W s h
 
-  not_foreign_at : (torn : Bool) (st : Option St) → m.state ≡ st → is_written m.state torn mid wrote m 0 written → is_foreign wrote.pending m st → ⊥
-  not_foreign_at torn None e W f = f
-  not_foreign_at torn (Some s) e W f = f (still_own torn W s e)
-
-  pub never_foreign_commit : (torn : Bool) → is_written m.state torn mid wrote m 0 written → is_foreign wrote.pending m m.state → ⊥
-  never_foreign_commit torn W f = not_foreign_at torn m.state refl W f
-
-  none_pending : (torn : Bool) (st : Option St) → m.state ≡ st → is_written st torn mid wrote m 0 written → st ≡ None → wrote.pending ≡ None
+  none_pending : (torn : Bool) (st : Option St) → m.state ≡ st → is_written st torn mid wrote m 0 (take k bytes) → st ≡ None → wrote.pending ≡ None
   none_pending torn None e W h = subst (λ (p : Option (Pending St)). StaysPending mid.abilities.keeps_data p wrote.pending) (P.direct e).0 W.1
   none_pending torn (Some s) e W h = let z : ⊥ = cc in absurd z
 
-  spent_at : (torn : Bool) (new : Option (Pending St)) (st : Option St) → m.state ≡ st → is_written m.state torn mid wrote m 0 written → (IsOwn wrote.pending m → new ≡ None) → (m.state ≡ None → new ≡ wrote.pending) → new ≡ None
+  spent_at : (torn : Bool) (new : Option (Pending St)) (st : Option St) → m.state ≡ st → is_written m.state torn mid wrote m 0 (take k bytes) → (IsOwn wrote.pending m → new ≡ None) → (m.state ≡ None → new ≡ wrote.pending) → new ≡ None
   spent_at torn new None e W own other = other e ∙ none_pending torn m.state refl W e
   spent_at torn new (Some s) e W own other = own (still_own torn W s e)
 
   -- once the mapping is spent, nothing is prepared
-  pub is_spent : (torn : Bool) (new : Option (Pending St)) → is_written m.state torn mid wrote m 0 written → (IsOwn wrote.pending m → new ≡ None) → (m.state ≡ None → new ≡ wrote.pending) → new ≡ None
+  pub is_spent : (torn : Bool) (new : Option (Pending St)) → is_written m.state torn mid wrote m 0 (take k bytes) → (IsOwn wrote.pending m → new ≡ None) → (m.state ≡ None → new ≡ wrote.pending) → new ≡ None
   is_spent torn new W own other = spent_at torn new m.state refl W own other
 
   -- what the write may be refused for, the whole may
-  module _ (l : LayerBelow) (commit_memory : Type 0) (S : IsSettled IsOnRange old.limits.cause mid.limits.cause old.limits.copies mid.limits.copies o m.length) where
-    pub write_refused : (n : ℕ) → n ≡ m.length → (e : Error) → (e ≡ Error.ForeignMapping → ⊥) → allowed (mapping_write_reasons mid m 0 n) e → allowed (first_reasons old l commit_memory o (length bytes)) e
-    write_refused n len = reasons
-      where
-        for : is_for mid m m.state 0 n o
-        for = subst (λ (c : ℕ). is_for mid m m.state 0 c o) (sym len) is_at_start
+  pub write_refused : IsSettled IsOnRange old.limits.cause mid.limits.cause old.limits.copies mid.limits.copies o m.length
+      → (e : Error) → (e ≡ Error.ForeignMapping → ⊥) → allowed (mapping_write_reasons mid m 0 (length (take k bytes))) e → allowed (filling_reasons old l o n bytes) e
+  write_refused S e own a = reasons e own (rw written_length at a)
+    where
+      earlier : (x : Error) → ((p : ℕ) → is_for mid m m.state 0 k p → mid.limits.cause Operation.Write p k x) → old.limits.cause Operation.Write o n x
+      earlier x c = S.causes Operation.Write o n o k x tt (omega arith) (omega (arith, P.within)) (omega arith) (omega (arith, P.within, fit)) (c o is_at_start)
 
-        earlier : (x : Error) → ((p : ℕ) → is_for mid m m.state 0 n p → mid.limits.cause Operation.Write p n x) → old.limits.cause Operation.Write o (length bytes) x
-        earlier x c = S.causes Operation.Write o (length bytes) o n x tt (omega arith) (omega (arith, P.within)) (omega arith) (omega (arith, P.within)) (c o for)
+      whole : n ≤ length bytes → m.length ≡ k
+      whole h = omega (arith, P.within, fit)
 
-        reasons : (x : Error) → (x ≡ Error.ForeignMapping → ⊥) → allowed (mapping_write_reasons mid m 0 n) x → allowed (first_reasons old l commit_memory o (length bytes)) x
-        reasons E.WrapAround own a = inl (earlier Error.WrapAround a.1)
-        reasons E.InvalidData own a = inl (earlier Error.InvalidData a.1)
-        reasons E.Unsupported own a = inl (earlier Error.Unsupported a.1)
-        reasons E.NoAccess own a = inl (earlier Error.NoAccess a.1)
-        reasons E.Device own a = tt
-        reasons E.Memory own a = inl (λ free. a o for (subst (λ (c : ℕ). mid.limits.no_memory Operation.Write o c) (sym len) (P.no_memory free).1))
-        reasons E.ForeignMapping own a = own refl
-        reasons E.ReadOnly own a = a
-        reasons E.BeyondDisk own a = absurd a
-        reasons E.RangeOverflow own a = a
-        reasons E.Denied own a = a
-        reasons E.NotFound own a = a
+      reasons : (x : Error) → (x ≡ Error.ForeignMapping → ⊥) → allowed (mapping_write_reasons mid m 0 k) x → allowed (filling_reasons old l o n bytes) x
+      reasons E.WrapAround own a = inl (earlier Error.WrapAround a.1)
+      reasons E.InvalidData own a = inl (earlier Error.InvalidData a.1)
+      reasons E.Unsupported own a = inl (earlier Error.Unsupported a.1)
+      reasons E.NoAccess own a = inl (earlier Error.NoAccess a.1)
+      reasons E.Device own a = tt
+      reasons E.Memory own a = λ free. a o is_at_start (subst (λ (c : ℕ). mid.limits.no_memory Operation.Write o c) (whole free.1) (P.no_memory free.0).1)
+      reasons E.ForeignMapping own a = own refl
+      reasons E.ReadOnly own a = a
+      reasons E.BeyondDisk own a = absurd a
+      reasons E.RangeOverflow own a = a
+      reasons E.Denied own a = a
+      reasons E.NotFound own a = a
 
-    -- what the commit may be refused for, the whole may
-    pub commit_refused : (torn : Bool) → is_written m.state torn mid wrote m 0 written → IsSettled IsOnRange mid.limits.cause wrote.limits.cause mid.limits.copies wrote.limits.copies o m.length
-        → (wrote.limits.commit_memory → commit_memory)
-        → (e : Error) → (e ≡ Error.ForeignMapping → ⊥) → allowed (commit_reasons wrote m) e → allowed (first_reasons old l commit_memory o (length bytes)) e
-    commit_refused torn W T may = reasons
-      where
-        both : IsSettled IsOnRange old.limits.cause wrote.limits.cause old.limits.copies wrote.limits.copies o m.length
-        both = settled_twice old.limits.cause mid.limits.cause wrote.limits.cause old.limits.copies mid.limits.copies wrote.limits.copies o m.length S T
-
-        earlier : (x : Error) → ((p : ℕ) → is_for wrote m m.state 0 m.length p → wrote.limits.cause Operation.Write p m.length x) → old.limits.cause Operation.Write o (length bytes) x
-        earlier x c = both.causes Operation.Write o (length bytes) o m.length x tt (omega arith) (omega (arith, P.within)) (omega arith) (omega (arith, P.within)) (c o (is_at_start_after torn W))
-
-        reasons : (x : Error) → (x ≡ Error.ForeignMapping → ⊥) → allowed (commit_reasons wrote m) x → allowed (first_reasons old l commit_memory o (length bytes)) x
-        reasons E.WrapAround own a = inl (earlier Error.WrapAround a.1)
-        reasons E.InvalidData own a = inl (earlier Error.InvalidData a.1)
-        reasons E.Unsupported own a = inl (earlier Error.Unsupported a.1)
-        reasons E.NoAccess own a = inl (earlier Error.NoAccess a.1)
-        reasons E.Device own a = tt
-        reasons E.Memory own a = inr (may a.1)
-        reasons E.ForeignMapping own a = own refl
-        reasons E.ReadOnly own a = a
-        reasons E.BeyondDisk own a = absurd a
-        reasons E.RangeOverflow own a = a
-        reasons E.Denied own a = a
-        reasons E.NotFound own a = a
+  same_value : IsTrue old.abilities.keeps_data → (p : ℕ) → values l.at mid.place p ≡ values l.at old.place p
+  same_value keeps p = ap (shown l.at) (U.places.same keeps p)
 
   -- what the disk shows afterwards
-  module _ (keeps : IsTrue old.abilities.keeps_data) (wrote_framed : IsFramed mid wrote) where
+  module _ (wrote_framed : IsFramed mid wrote) (keeps : IsTrue old.abilities.keeps_data) where
     mid_keeps : IsTrue mid.abilities.keeps_data
     mid_keeps = rw U.framed.kind.abilities keeps
 
     wrote_keeps : IsTrue wrote.abilities.keeps_data
     wrote_keeps = rw wrote_framed.kind.abilities mid_keeps
 
-    same_value : (p : ℕ) → values below mid.place p ≡ values below old.place p
-    same_value p = ap (shown below) (U.places.same keeps p)
-
-    -- a place outside of the range is none that is written
-    outside : (named : PlacesAreWritableAt mid.place m.storage m.offset m.length o) (p : ℕ) → (p < o) ⊎ (o + m.length ≤ p) → (b k : ℕ) (w : Bool) → k < length written → mid.place p ≡ Stored b m.storage (m.offset + 0 + k) w → ⊥
-    outside named p out b k w lt e =
-        let j : k < m.length = omega (arith, written_length) in
-        let z : m.offset + 0 + k ≡ m.offset + k = omega arith in
-        let x = named k j in
-        let same : o + k ≡ p = law.own (o + k) p (x.0) b m.storage (m.offset + k) w (x.1) (rw z at e) in
+    -- a place that no written byte is for isn't written
+    outside : (named : PlacesAreWritableAt mid.place m.storage m.offset m.length o) (p : ℕ) → (p < o) ⊎ (o + k ≤ p) → (b j : ℕ) (w : Bool) → j < length (take k bytes) → mid.place p ≡ Stored b m.storage (m.offset + 0 + j) w → ⊥
+    outside named p out b j w lt e =
+        let i : j < k = omega (arith, written_length) in
+        let z : m.offset + 0 + j ≡ m.offset + j = omega arith in
+        let x = named j (omega (arith, fit)) in
+        let same : o + j ≡ p = law.own (o + j) p (x.0) b m.storage (m.offset + j) w (x.1) (rw z at e) in
         ⊎_elim (λ a. omega arith) (λ a. omega arith) out
 
-    put : (torn : Bool) (named : PlacesAreWritableAt mid.place m.storage m.offset m.length o) → IsPut m.storage (m.offset + 0) written torn mid.abilities.keeps_data mid.place wrote.place
-        → IsChanged o m.length (or_torn torn (into bytes)) (values below old.place) (values below wrote.place)
-    put torn named W = record {
-      inside = λ k h.
-          let x = named k h in
-          let z : m.offset + k ≡ m.offset + 0 + k = omega arith in
-          let lt : k < length written = omega (arith, written_length) in
-          ⊎_elim
-          (λ a. inl (ap (shown below) a ∙ ap Byte (written_at k h)))
-          (λ a. inr (a.0, ap (shown below) a.1 ∙ same_value (o + k)))
-          (W.hit mid_keeps (o + k) (x.0) k true lt (rw z at (x.1)));
-      before = λ p h. ap (shown below) (W.miss mid_keeps p (outside named p (inl h))) ∙ same_value p;
-      behind = λ p h. ap (shown below) (W.miss mid_keeps p (outside named p (inr h))) ∙ same_value p;
+    missed : (torn : Bool) (named : PlacesAreWritableAt mid.place m.storage m.offset m.length o) → IsPut m.storage (m.offset + 0) (take k bytes) torn mid.abilities.keeps_data mid.place wrote.place
+        → (p : ℕ) → (p < o) ⊎ (o + k ≤ p) → values l.at wrote.place p ≡ values l.at old.place p
+    missed torn named W p out = ap (shown l.at) (W.miss mid_keeps p (outside named p out)) ∙ same_value keeps p
+
+    hit : (torn : Bool) (named : PlacesAreWritableAt mid.place m.storage m.offset m.length o) → IsPut m.storage (m.offset + 0) (take k bytes) torn mid.abilities.keeps_data mid.place wrote.place
+        → (i : ℕ) → i < k → or_torn torn (into bytes) i (values l.at old.place (o + i)) (values l.at wrote.place (o + i))
+    hit torn named W i h =
+        let x = named i (omega (arith, fit)) in
+        let z : m.offset + i ≡ m.offset + 0 + i = omega arith in
+        let lt : i < length (take k bytes) = omega (arith, written_length) in
+        ⊎_elim
+        (λ a. inl (ap (shown l.at) a ∙ ap Byte (written_at i h)))
+        (λ a. inr (a.0, ap (shown l.at) a.1 ∙ same_value keeps (o + i)))
+        (W.hit mid_keeps (o + i) (x.0) i true lt (rw z at (x.1)))
+
+    put : (named : PlacesAreWritableAt mid.place m.storage m.offset m.length o) → IsPut m.storage (m.offset + 0) (take k bytes) false mid.abilities.keeps_data mid.place wrote.place
+        → IsChanged o m.length (filled false bytes) (values l.at old.place) (values l.at wrote.place)
+    put named W = record {
+      inside = λ i h. ⊎_elim
+          (λ (under : i < k). (λ lt. not_torn _ _ _ (hit false named W i under), λ ge. absurd (omega (arith, fit))))
+          (λ (above : k ≤ i). (λ lt. absurd (omega (arith, fit)), λ ge. inr (missed false named W (o + i) (inr (omega arith)))))
+          (cases_lt i k);
+      before = λ p h. missed false named W p (inl h);
+      behind = λ p h. missed false named W p (inr (omega (arith, fit)));
     }
 
-    still : (torn : Bool) (how : Change) (new : ℕ → Value) → ((p : ℕ) → new p ≡ values below old.place p) → torn ≡ true → IsChanged o m.length (or_torn torn how) (values below old.place) new
-    still torn how new h t = record { inside = λ k lt. inr (t, h (o + k)); before = λ p lt. h p; behind = λ p le. h p }
+    -- a write that was torn, or waits in vain, cancelled
+    torn_by : (new : ℕ → Value) → ((p : ℕ) → (p < o) ⊎ (o + k ≤ p) → new p ≡ values l.at old.place p) → ((i : ℕ) → i < k → or_torn true (into bytes) i (values l.at old.place (o + i)) (new (o + i)))
+        → IsChanged o n (partly (filled false bytes)) (values l.at old.place) new
+    torn_by new miss hits = record {
+      inside = λ i h. ⊎_elim
+          (λ (under : i < k). ⊎_elim
+          (λ a. inr ((λ lt. a), λ ge. absurd (omega (arith, fit))))
+          (λ a. inl a.1)
+          (hits i under))
+          (λ (above : k ≤ i). inl (miss (o + i) (inr (omega arith))))
+          (cases_lt i k);
+      before = λ p h. miss p (inl h);
+      behind = λ p h. miss p (inr (omega (arith, fit, P.within)));
+    }
 
-    same_after : (torn : Bool) (how : Change) (new : View St) → SamePlaces wrote.abilities.keeps_data wrote.place new.place → IsChanged o m.length (or_torn torn how) (values below old.place) (values below wrote.place) → IsChanged o m.length (or_torn torn how) (values below old.place) (values below new.place)
-    same_after torn how new s h =
-        let e : (p : ℕ) → values below new.place p ≡ values below wrote.place p = λ p. ap (shown below) (s.same wrote_keeps p) in
-        record {
-          inside = λ k lt. subst (λ (v : Value). or_torn torn how k (values below old.place (o + k)) v) (sym (e (o + k))) (h.inside k lt);
-          before = λ p lt. e p ∙ h.before p lt;
-          behind = λ p le. e p ∙ h.behind p le;
-        }
+    cancelled_at : (st : Option St) → m.state ≡ st → is_written st true mid wrote m 0 (take k bytes) → (new : View St) → SamePlaces wrote.abilities.keeps_data wrote.place new.place
+        → IsChanged o n (partly (filled false bytes)) (values l.at old.place) (values l.at new.place)
+    cancelled_at None e W new s =
+        let same : (p : ℕ) → values l.at new.place p ≡ values l.at wrote.place p = λ p. ap (shown l.at) (s.same wrote_keeps p) in
+        torn_by (values l.at new.place)
+        (λ p out. same p ∙ missed true (P.direct e).1 W.0 p out)
+        (λ i h. subst (λ (v : Value). or_torn true (into bytes) i (values l.at old.place (o + i)) v) (sym (same (o + i))) (hit true (P.direct e).1 W.0 i h))
+    cancelled_at (Some t) e W new s =
+        let same : (p : ℕ) → values l.at new.place p ≡ values l.at old.place p = λ p. ap (shown l.at) (s.same wrote_keeps p ∙ W.0.same mid_keeps p) ∙ same_value keeps p in
+        torn_by (values l.at new.place) (λ p out. same p) (λ i h. inr (refl, same (o + i)))
 
-    cancelled_at : (st : Option St) → m.state ≡ st → is_written st true mid wrote m 0 written → (new : View St) → SamePlaces wrote.abilities.keeps_data wrote.place new.place
-        → IsChanged o m.length (or_torn true (into bytes)) (values below old.place) (values below new.place)
-    cancelled_at None e W new s = same_after true (into bytes) new s (put true (P.direct e).1 W.0)
-    cancelled_at (Some t) e W new s = same_after true (into bytes) new s (still true (into bytes) (values below wrote.place) (λ p. ap (shown below) (W.0.same mid_keeps p) ∙ same_value p) refl)
+    pub cancelled : is_written m.state true mid wrote m 0 (take k bytes) → (new : View St) → SamePlaces wrote.abilities.keeps_data wrote.place new.place
+        → IsChanged o n (partly (filled false bytes)) (values l.at old.place) (values l.at new.place)
+    cancelled W new s = cancelled_at m.state refl W new s
 
-    -- a refused write, cancelled
-    pub cancelled : is_written m.state true mid wrote m 0 written → (new : View St) → SamePlaces wrote.abilities.keeps_data wrote.place new.place
-        → IsChanged o (length bytes) (partly (into bytes)) (values below old.place) (values below new.place)
-    cancelled W new s = changed_wider o m.length (length bytes) (into bytes) (values below old.place) (values below new.place) P.within (cancelled_at m.state refl W new s)
-
-    shows_same : (pending : Option (Pending St)) → ShowsRound (values below old.place) pending → ShowsRound (values below mid.place) pending
+    shows_same : (pending : Option (Pending St)) → ShowsRound (values l.at old.place) pending → ShowsRound (values l.at mid.place) pending
     shows_same None h = tt
-    shows_same (Some q) h = λ p i j k. same_value p ∙ h p i j k
+    shows_same (Some q) h = λ p i j x. same_value keeps p ∙ h p i j x
 
-    -- the list apart that was written shows
-    apart_change : (torn : Bool) (q r : Pending St) → q.start ≡ o → r.start ≡ o → r.length ≡ m.length
-        → IsChanged (q.start + 0) (length written) (or_torn false (into written)) (λ p. Byte (q.bytes p)) (λ p. Byte (r.bytes p))
-        → ((p : ℕ) → values below wrote.place p ≡ values below old.place p)
-        → (new : ℕ → Value) → IsChanged r.start r.length (or_torn torn (prepared_bytes r)) (values below wrote.place) new → IsChanged o m.length (or_torn torn (into bytes)) (values below old.place) new
-    apart_change torn q r begin start len list same new F = record {
-      inside = λ k h.
-          let j : k < r.length = omega arith in
-          let i : k < length written = omega (arith, written_length) in
-          let z : q.start + 0 + k ≡ r.start + k = omega arith in
-          let byte : Byte (r.bytes (r.start + k)) ≡ Byte (slice_index written k) = rw z at (not_torn (Byte (q.bytes (q.start + 0 + k))) (Byte (r.bytes (q.start + 0 + k))) (Byte (r.bytes (q.start + 0 + k)) ≡ Byte (slice_index written k)) (list.inside k i)) in
-          let y : o + k ≡ r.start + k = omega arith in
-          rw y (⊎_elim
-          (λ (a : new (r.start + k) ≡ Byte (r.bytes (r.start + k))). inl (a ∙ byte ∙ ap Byte (written_at k h)))
-          (λ (a : (torn ≡ true) × (new (r.start + k) ≡ values below wrote.place (r.start + k))). inr (a.0, a.1 ∙ same (r.start + k)))
-          (F.inside k j));
-      before = λ p h. F.before p (omega arith) ∙ same p;
-      behind = λ p h. F.behind p (omega arith) ∙ same p;
-    }
-
-    committed_at : (torn : Bool) (st : Option St) → m.state ≡ st → is_written st false mid wrote m 0 written
-        → (ShowsRound (values below mid.place) mid.pending → ShowsRound (values below wrote.place) wrote.pending)
-        → (new : View St) → is_committed wrote.pending st torn wrote new → IsChanged o m.length (or_torn torn (into bytes)) (values below old.place) (values below new.place)
-    committed_at torn None e W round new C = same_after torn (into bytes) new C (looser torn (put false (P.direct e).1 W.0))
+    -- the list apart, once it is written
+    listed : (q r : Pending St) → q.start ≡ o → IsChanged (q.start + 0) (length (take k bytes)) (or_torn false (into (take k bytes))) (λ p. Byte (q.bytes p)) (λ p. Byte (r.bytes p))
+        → (overwrite ≡ false → (p : ℕ) → IsIn o m.length p → values l.at old.place p ≡ Byte (q.bytes p))
+        → (i : ℕ) → i < m.length → filled overwrite bytes i (values l.at old.place (o + i)) (Byte (r.bytes (o + i)))
+    listed q r start list begun i h = ⊎_elim
+        (λ (under : i < k).
+        let lt : i < length (take k bytes) = omega (arith, written_length) in
+        let z : q.start + 0 + i ≡ o + i = omega arith in
+        let byte = rw z at (not_torn _ _ _ (list.inside i lt)) in
+        ((λ a. byte ∙ ap Byte (written_at i under)), λ ge. absurd (omega (arith, fit))))
+        (λ (above : k ≤ i).
+        let same : Byte (r.bytes (o + i)) ≡ Byte (q.bytes (o + i)) = list.behind (o + i) (omega (arith, written_length)) in
+        ((λ lt. absurd (omega (arith, fit))), λ ge. kept overwrite (λ f. same ∙ sym (begun f (o + i) (omega arith, omega arith)))))
+        (cases_lt i k)
       where
-        looser : (torn : Bool) → IsChanged o m.length (or_torn false (into bytes)) (values below old.place) (values below wrote.place) → IsChanged o m.length (or_torn torn (into bytes)) (values below old.place) (values below wrote.place)
-        looser torn h = let k = changed_whole o m.length (into bytes) (values below old.place) (values below wrote.place) h in record { inside = λ i lt. inl (k.inside i lt); before = k.before; behind = k.behind }
-    committed_at torn (Some s) e W round new C =
-        let a = P.apart s e in
-        let q = a.0 in
-        let x = W.1 q a.1 in
-        let r = x.0 in
-        let D : is_committed (Some r) (Some s) torn wrote new = subst (λ (p : Option (Pending St)). is_committed p (Some s) torn wrote new) x.1 C in
-        let own = a.2 in
-        let start : r.start ≡ o = ap (λ (p : Pending St). p.start) x.2 ∙ a.3 in
-        let len : r.length ≡ m.length = ap (λ (p : Pending St). p.length) x.2 ∙ sym own.2 in
-        let begun : ShowsRound (values below old.place) mid.pending = P.round keeps in
-        let round_mid : ShowsRound (values below mid.place) mid.pending = shows_same mid.pending begun in
-        let round_wrote : ShowsRound (values below wrote.place) (Some r) = subst (λ (p : Option (Pending St)). ShowsRound (values below wrote.place) p) x.1 (round round_mid) in
-        let F : IsChanged r.start r.length (or_torn torn (prepared_bytes r)) (values below wrote.place) (values below new.place) = D.1 wrote_keeps below round_wrote in
-        let put_apart = x.3 mid_keeps in
-        apart_change torn q r (a.3) start len put_apart.changed (λ p. ap (shown below) (W.0.same mid_keeps p) ∙ same_value p) (values below new.place) F
+        kept : {A : Type 0} (b : Bool) → (b ≡ false → A) → (b ≡ true) ⊎ A
+        kept true f = inl refl
+        kept false f = inr (f refl)
 
-    pub committed : (torn : Bool) → is_written m.state false mid wrote m 0 written
-        → (ShowsRound (values below mid.place) mid.pending → ShowsRound (values below wrote.place) wrote.pending)
-        → (new : View St) → is_committed wrote.pending m.state torn wrote new → IsChanged o m.length (or_torn torn (into bytes)) (values below old.place) (values below new.place)
-    committed torn W round new C = committed_at torn m.state refl W round new C
+  waits : (wrote_framed : IsFramed mid wrote) (s : St) → m.state ≡ Some s → is_written (Some s) false mid wrote m 0 (take k bytes)
+      → (IsTrue mid.abilities.keeps_data → ShowsRound (values l.at mid.place) mid.pending → ShowsRound (values l.at wrote.place) wrote.pending) → is_filled (Some s) l old wrote o overwrite bytes m
+  waits F s e W round =
+      let a = P.apart s e in
+      let q = a.0 in
+      let x = W.1 q a.1 in
+      let r = x.0 in
+      let own : IsOwn (Some r) m = subst (λ (p : Option (Pending St)). IsOwn p m) x.1 (own_after false (Some s) e W s refl) in
+      let start : r.start ≡ o = ap (λ (p : Pending St). p.start) x.2 ∙ a.3 in (
+        r,
+        x.1,
+        record {
+          own = own;
+          start = start;
+          same = λ keeps p. ap (shown l.at) (W.0.same (mid_keeps F keeps) p) ∙ same_value keeps p;
+          round = λ keeps. subst (λ (p : Option (Pending St)). ShowsRound (values l.at wrote.place) p) x.1 (round (mid_keeps F keeps) (shows_same F keeps mid.pending (P.round keeps)));
+          listed = λ keeps. listed F keeps q r a.3 (x.3 (mid_keeps F keeps)).changed (a.4 keeps);
+        },
+      )
+
+  filled_at : (wrote_framed : IsFramed mid wrote) (st : Option St) → m.state ≡ st → is_written st false mid wrote m 0 (take k bytes)
+      → (IsTrue mid.abilities.keeps_data → ShowsRound (values l.at mid.place) mid.pending → ShowsRound (values l.at wrote.place) wrote.pending) → is_filled st l old wrote o overwrite bytes m
+  filled_at F None e W round = (none_pending false None e W refl, λ keeps. put F keeps (P.direct e).1 W.0)
+  filled_at F (Some s) e W round = waits F s e W round
+
+  -- the mapping, once it is written
+  pub filled_so : (wrote_framed : IsFramed mid wrote) → is_written m.state false mid wrote m 0 (take k bytes)
+      → (IsTrue mid.abilities.keeps_data → ShowsRound (values l.at mid.place) mid.pending → ShowsRound (values l.at wrote.place) wrote.pending) → is_filled m.state l old wrote o overwrite bytes m
+  filled_so F W round = filled_at F m.state refl W round

@@ -1,24 +1,25 @@
-use Rattle.std.proofs.Common.{◌≡◌, ℕ, ◌+◌, ◌-◌, ◌<◌, ◌≤◌, ◌⊎◌, ◌&&◌, ⊎_elim, inl, inr, Bool, true, false, Option, Some, None, refl, sym, ap, ◌∙◌, subst, arith, Result, Ok, Err, Box, Global, max}
+use Rattle.std.proofs.Common.{◌≡◌, ℕ, ◌+◌, ◌-◌, ◌<◌, ◌≤◌, ◌⊎◌, ◌&&◌, ⊎_elim, inl, inr, false, Option, Some, None, refl, sym, ap, ◌∙◌, subst, arith, Result, Ok, Err, Box, Global, max}
 use Rattle.std.proofs.lemmas.Bool.{cases_lt}
-use Rattle.std.specs.Prelude.{IsTrue, IfOk, IfErr, OnErr, IsErrOf, List, length}
+use Rattle.std.specs.Prelude.{IsTrue, IsErrOf}
 use Rattle.imago_storage.specs.declared.error.Error.{Error}
-use Rattle.imago_storage.specs.Faults.{CountsFaults, RoseOrSaturated}
 use Rattle.imago_drivers.specs.Operation.{Operation, Map, Write}
-use Rattle.imago_drivers.specs.Place.{Value, Byte, IsIn, values, Lower}
+use Rattle.imago_drivers.specs.Place.{Value, Byte}
 use Rattle.imago_drivers.specs.Reasons.{Reasons, allowed}
-use Rattle.imago_drivers.specs.Causes.{Causes, Copies, CauseOver, IsSettled, IsOnRange}
+use Rattle.imago_drivers.specs.Causes.{CauseOver, IsOnRange}
 use Rattle.imago_drivers.specs.LayerBelow.{LayerBelow}
 use Rattle.imago_drivers.specs.View.{View}
 use Rattle.imago_drivers.specs.Laws.{AreCauses}
 use Rattle.imago_drivers.specs.Changes.{IsChanged, zeroes, partly}
-use Rattle.imago_drivers.specs.Frame.{IsFramed, ReachesNoMore}
+use Rattle.imago_drivers.specs.Frame.{IsFramed}
 use Rattle.imago_drivers.specs.Done.{range_reasons}
 use Rattle.imago_access.specs.declared.access.FormatAccess.{FormatAccess, is-FormatAccess', out-FormatAccess, back-FormatAccess-backing}
 use Rattle.imago_access.specs.Chain.{driver, backing, unboxed, disk_value, is_reliable, lent_image, IsReached, chain_cause, cause_below}
 use Rattle.imago_access.specs.ChainLaws.{reached_wider}
 use Rattle.imago_access.specs.Calls.{devices_reliable}
 use Rattle.imago_access.specs.Resolved.{chain_map_reasons}
-use Rattle.imago_access.specs.Zeroing.{AreZero, IsLaterCount, IsPartlyZeroed, Carries, HasZeroed, HasZeroedPart, IsZeroedByDriver, IsFree, data_reasons, zero_reasons}
+use Rattle.imago_access.specs.Zeroing.{AreZero, IsPartlyZeroed, Carries, HasZeroed, HasZeroedPart, IsZeroedByDriver, IsFree, data_reasons, zero_reasons}
+use Rattle.imago_access.specs.Writing.{StandsAlone}
+use Rattle.imago_access.proofs.ZeroSteps.{alone_later, alone_more}
 use Rattle.imago_access.proofs.Chains.{reliable_out, cause_here, cause_lower}
 use Rattle.imago_access.proofs.Weaker.{IsWeaker, allowed_more}
 use Rattle.imago_access.proofs.Written.{framed_twice, settled_twice}
@@ -182,6 +183,7 @@ module _ {D St : Type 0} (view : D → View St) where
   refused_after f g old mid new o n q m r s e le fits x weaker h = record {
     left = partly_twice old mid new o n q m le fits x h.left;
     done = λ k. tt;
+    alone = λ k. tt;
     carries = tt;
     device = λ d. ⊎_elim (λ rose. inl (rose_more _ _ _ _ x.count.later (omega arith) rose)) (λ bad. inr (unreliable_before old mid x.below x.framed bad)) (h.device (ap (λ z. Err z) (of_err e Error.Device d)));
     refusals = allowed_more r s weaker e h.refusals;
@@ -194,6 +196,7 @@ module _ {D St : Type 0} (view : D → View St) where
 pub record IsZeroingOn {D St : Type 0} (view : D → View St) (o n : ℕ) (old mid : FormatAccess D) (count : ℕ) : Type 0 where
   pub within : count ≤ n
   pub done : IsTrue (view (driver old)).abilities.keeps_data → IsChanged o count zeroes (disk_value view old) (disk_value view mid)
+  pub alone : IsTrue (view (driver old)).abilities.keeps_data → StandsAlone (view (driver mid)).place o count
   pub left : IsPartlyZeroed view o n old mid
   pub carries : Carries o n (view (driver old)) (view (driver mid))
 
@@ -202,6 +205,7 @@ module _ {D St : Type 0} (view : D → View St) (old : FormatAccess D) (o n : �
   nothing_zeroed law spent = record {
     within = omega arith;
     done = λ k. record { inside = λ i lt. absurd (omega arith); before = λ p lt. refl; behind = λ p ge. refl };
+    alone = λ k p i q w e. omega (arith, i.0, i.1);
     left = partly_none view old o n spent;
     carries = carries_none (view (driver old)) law o n;
   }
@@ -214,6 +218,7 @@ module _ {D St : Type 0} (view : D → View St) (old : FormatAccess D) (o n : �
         record {
           within = omega (arith, sofar.within);
           done = λ keeps. changed_next o c k zeroes _ _ _ (λ i v u w e. e) (sofar.done keeps) (h.done (rw sofar.left.framed.kind.abilities keeps));
+          alone = λ keeps. alone_more (view (driver new)).place o c k (alone_later (view (driver mid)) (view (driver new)) o c (sofar.alone keeps) h.left.reaches) (h.alone (rw sofar.left.framed.kind.abilities keeps));
           left = partly_twice view old mid new o n (o + c) (n - c) a b sofar.left h.left;
           carries = carries_twice _ _ _ o n sofar.carries (carries_wider _ _ o n (o + c) (n - c) a b h.carries);
         }
@@ -228,6 +233,7 @@ module _ {D St : Type 0} (view : D → View St) (old : FormatAccess D) (o n : �
   all_zeroed u new c r e h = record {
     left = h.left;
     done = λ k. subst (λ (i : ℕ). IsChanged o i zeroes (disk_value view old) (disk_value view new)) e (h.done k);
+    alone = λ k. subst (λ (i : ℕ). StandsAlone (view (driver new)).place o i) e (h.alone k);
     carries = h.carries;
     device = λ x. let z : ⊥ = cc in absurd z;
     refusals = tt;
@@ -268,10 +274,11 @@ module _ {D St : Type 0} (view : D → View St) where
 
   module _ (x : FormatAccess D) (o n : ℕ) (law : AreCauses (view (driver x))) (spent : (view (driver x)).pending ≡ None) where
     -- what is zero already
-    pub zero_already : (r : Reasons) (k : ℕ) → AreZero (disk_value view x) o k → HasZeroed view o n (λ (i : ℕ). i) r x x (Ok k)
-    zero_already r k z = record {
+    pub zero_already : (r : Reasons) (k : ℕ) → AreZero (disk_value view x) o k → StandsAlone (view (driver x)).place o k → HasZeroed view o n (λ (i : ℕ). i) r x x (Ok k)
+    zero_already r k z a = record {
       left = partly_none view x o n spent;
       done = λ keeps. record { inside = λ i lt. z (o + i) (omega arith, omega arith); before = λ p lt. refl; behind = λ p ge. refl };
+      alone = λ keeps. a;
       carries = carries_none (view (driver x)) law o n;
       device = λ d. let z : ⊥ = cc in absurd z;
       refusals = tt;
@@ -282,6 +289,7 @@ module _ {D St : Type 0} (view : D → View St) where
     untouched f r e device why = record {
       left = partly_none view x o n spent;
       done = λ k. tt;
+      alone = λ k. tt;
       carries = tt;
       device = λ d. inr (device (err_is d));
       refusals = why;
@@ -310,6 +318,7 @@ module _ {D St : Type 0} (view : D → View St) where
     piece_done r s new m k le h = record {
       left = wider_partly view x new o n o m (omega arith) (omega arith) spent h.left;
       done = h.done;
+      alone = h.alone;
       carries = carries_wider _ _ o n o m (omega arith) (omega arith) h.carries;
       device = λ d. let z : ⊥ = cc in absurd z;
       refusals = tt;
@@ -326,6 +335,7 @@ module _ {D St : Type 0} (view : D → View St) where
   filled (Ok u) old mid new o n x h = record {
     left = partly_twice view old mid new o n o n (omega arith) (omega arith) x.left h.left;
     done = λ k. zeroed_then o n _ _ _ (x.left.torn k) (h.done (rw x.left.framed.kind.abilities k));
+    alone = λ k. h.alone (rw x.left.framed.kind.abilities k);
     carries = carries_twice _ _ _ o n (x.carries o n) h.carries;
     device = λ d. let z : ⊥ = cc in absurd z;
     refusals = tt;
@@ -341,6 +351,10 @@ module _ {D St : Type 0} (view : D → View St) where
     part_filled r t h = record {
       left = partly_twice view old mid new o n o (s - o) (omega arith) (omega arith) part.left h.left;
       done = λ k. zeroed_before o s l _ _ _ le (part.done k) (h.done (rw part.left.framed.kind.abilities k));
+      alone = λ k.
+          let e : o + (s - o) ≡ s = omega arith in
+          let behind : StandsAlone (view (driver new)).place (o + (s - o)) l = rw e (alone_later (view (driver mid)) (view (driver new)) s l (part.alone k) h.left.reaches) in
+          alone_more (view (driver new)).place o (s - o) l (h.alone (rw part.left.framed.kind.abilities k)) behind;
       carries = carries_twice _ _ _ o n (part.carries o n) (carries_wider _ _ o n o (s - o) (omega arith) (omega arith) h.carries);
       device = λ d. let z : ⊥ = cc in absurd z;
       refusals = tt;
@@ -366,6 +380,7 @@ module _ {D St : Type 0} (view : D → View St) where
   all_filled op old mid new o n r t part x h = record {
     left = partly_twice view old mid new o n o n (omega arith) (omega arith) x.left h.left;
     done = λ k. zeroed_then o n _ _ _ (x.left.torn k) (h.done (rw x.left.framed.kind.abilities k));
+    alone = λ k. h.alone (rw x.left.framed.kind.abilities k);
     carries = carries_twice _ _ _ o n (x.carries o n) h.carries;
     device = λ d. let z : ⊥ = cc in absurd z;
     refusals = tt;
@@ -376,6 +391,7 @@ module _ {D St : Type 0} (view : D → View St) where
   part_refused {U} g op old new o n e x = record {
     left = x.left;
     done = λ k. tt;
+    alone = λ k. tt;
     carries = tt;
     device = λ d. inl (x.faults.device (again d));
     refusals = allowed_more (range_reasons (view (driver old)) op o n) (zero_reasons view old op o n) (record {

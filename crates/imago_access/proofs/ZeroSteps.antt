@@ -1,12 +1,12 @@
 use Rattle.std.proofs.Common.{◌≡◌, ℕ, ◌+◌, ◌-◌, ◌<◌, ◌≤◌, ◌⊎◌, ◌&&◌, ⊎_elim, inl, inr, Bool, true, false, None, refl, sym, ap, ◌∙◌, subst, arith, Result, Ok, Err}
 use Rattle.std.proofs.lemmas.Bool.{cases_lt}
-use Rattle.std.specs.Prelude.{List, length, slice_index, EachIndex, IsTrue, IfOk, IfErr, OnErr, IsErrOf}
+use Rattle.std.specs.Prelude.{List, length, slice_index, EachIndex, IsTrue, IfOk, IfErr, OnErr}
 use Rattle.imago_storage.specs.declared.error.Error.{Error}
 use Rattle.imago_storage.specs.Faults.{CountsFaults, RoseOrSaturated}
 use Rattle.imago_drivers.specs.Operation.{Operation}
-use Rattle.imago_drivers.specs.Place.{Value, Byte, IsIn, values}
-use Rattle.imago_drivers.specs.Reasons.{Reasons, allowed}
-use Rattle.imago_drivers.specs.Causes.{Causes, Copies, IsSettled, IsOnRange, AddsNone}
+use Rattle.imago_drivers.specs.Place.{Value, Byte, Place, values, shown}
+use Rattle.imago_drivers.specs.Reasons.{allowed}
+use Rattle.imago_drivers.specs.Causes.{IsSettled, IsOnRange, AddsNone}
 use Rattle.imago_drivers.specs.View.{View}
 use Rattle.imago_drivers.specs.Laws.{AreCauses}
 use Rattle.imago_drivers.specs.Changes.{IsChanged, zeroes, partly, into}
@@ -16,15 +16,16 @@ use Rattle.imago_drivers.specs.Done.{HasDone, range_reasons}
 use Rattle.imago_access.specs.declared.access.FormatAccess.{FormatAccess}
 use Rattle.imago_access.specs.Chain.{driver, backing, disk_value, lent_image}
 use Rattle.imago_access.specs.Lending.{with_driver}
-use Rattle.imago_access.specs.Calls.{devices_reliable, FailsTest, Overflows, IsLoose, settles, ShowsFaults, IsRangeCall}
-use Rattle.imago_access.specs.Zeroing.{operation_of, AreZero, IsLaterCount, IsPartlyZeroed, Carries, HasZeroed, HasZeroedPart, data_reasons, zero_reasons, IsZeroWrite}
-use Rattle.imago_access.specs.Writing.{HasWritten, first_reasons}
-use Rattle.imago_access.proofs.Weaker.{IsWeaker, refused_more}
+use Rattle.imago_access.specs.Calls.{devices_reliable, FailsTest, Overflows, settles}
+use Rattle.imago_access.specs.Zeroing.{operation_of, AreZero, IsLaterCount, Carries, HasZeroed, HasZeroedPart, data_reasons, zero_reasons, IsZeroWrite}
+use Rattle.imago_access.specs.Writing.{StandsAlone, HasWritten, first_reasons}
+use Rattle.imago_access.proofs.Weaker.{refused_more}
 use Rattle.imago_access.specs.declared.mapping.Mapping.TheVariants as M
 use Rattle.imago_access.specs.declared.zero.ZeroCall.{ZeroCall}
 use Rattle.imago_access.specs.declared.zero.ZeroCall.TheVariants as Z
 use Rattle.imago_access.specs.Target.{target}
-use Rattle.imago_access.specs.Resolved.{IsResolved}
+use Rattle.imago_access.specs.Resolved.{LeadsToZero, IsResolved}
+use Rattle.imago_access.proofs.Chains.{lower_deep}
 use Rattle.imago_access.proofs.Targets.{target_shows, mapped_value}
 use Rattle.imago_access.proofs.Images.{driver_with, backing_with, changed_image, not_failed}
 
@@ -51,6 +52,21 @@ zeroed_part o n q m old new within h = record {
   where
     outside : (p : ℕ) → (p < q) ⊎ (q + m ≤ p) → new p ≡ old p
     outside p s = ⊎_elim (λ a. h.before p a) (λ b. h.behind p b) s
+
+-- a place that shows 0 over whatever is below isn't left to it
+zero_alone : (place : ℕ → Place) (o n : ℕ) → ((k : ℕ) → k < n → values (λ (p : ℕ). Byte 1) place (o + k) ≡ Byte 0) → StandsAlone place o n
+zero_alone place o n h p i q w e =
+    let t : o + (p - o) ≡ p = omega (arith, i.0) in
+    let z : values (λ (p : ℕ). Byte 1) place p ≡ Byte 0 = rw t at (h (p - o) (omega (arith, i.0, i.1))) in
+    let y : Byte 1 ≡ Byte 0 = sym (ap (shown (λ (p : ℕ). Byte 1)) e) ∙ z in
+    cc
+
+-- what stands alone still does, where no place leads below that didn't
+pub alone_later : {St : Type 0} (a b : View St) (o n : ℕ) → StandsAlone a.place o n → ReachesNoMore a b → StandsAlone b.place o n
+alone_later a b o n h r p i q w e = let x = r p q w e in h p i q x.0 x.1
+
+pub alone_more : (place : ℕ → Place) (o n m : ℕ) → StandsAlone place o n → StandsAlone place (o + n) m → StandsAlone place o (n + m)
+alone_more place o n m a b p i = ⊎_elim (λ below. a p (i.0, below)) (λ above. b p (above, omega (arith, i.1))) (cases_lt p (o + n))
 
 -- what adds no cause carries each range
 pub none_carried : {St : Type 0} (old new : View St) → AreCauses old → AddsNone old.limits.cause new.limits.cause old.limits.copies new.limits.copies → ReachesNoMore old new → (a m : ℕ) → Carries a m old new
@@ -82,6 +98,7 @@ module _ {D St : Type 0} (view : D → View St) (x : FormatAccess D) (d : D) whe
         inside = done.inside;
         whole = done.whole;
         done = λ k. shown_zero result (done.done k (lent_image view (backing x)).at);
+        alone = λ k. own_zero result (done.done k (λ (p : ℕ). Byte 1));
         carries = λ a m. subst (λ (y : D). Carries a m (view (driver x)) (view y)) e (none_carried (view (driver x)) (view d) law none reaches a m);
         faults = subst (λ (y : D). CountsFaults (devices_reliable view x) (view (driver x)).fault_count (view y).fault_count result) e (record { later = faults.later; reliable = λ t. faults.reliable (both_left _ _ t); device = faults.device });
         refusals = refusals;
@@ -91,6 +108,10 @@ module _ {D St : Type 0} (view : D → View St) (x : FormatAccess D) (d : D) whe
           → IsChanged o n (partly zeroes) (disk_value view x) (disk_value view (with_driver x d))
       torn (Ok s) i c f = changed_image view x d (λ a b. IsChanged o n (partly zeroes) a b) (zeroed_part o n s.0 s.1 _ _ i c)
       torn (Err z) i c f = changed_image view x d (λ a b. IsChanged o n (partly zeroes) a b) f
+
+      own_zero : (r : Result (ℕ × ℕ) Error) → IfOk r (λ s. IsChanged s.0 s.1 zeroes (values (λ (p : ℕ). Byte 1) (view (driver x)).place) (values (λ (p : ℕ). Byte 1) (view d).place)) → IfOk r (λ s. StandsAlone (view (driver (with_driver x d))).place s.0 s.1)
+      own_zero (Ok s) c = subst (λ (y : D). StandsAlone (view y).place s.0 s.1) (sym (driver_with x d)) (zero_alone (view d).place s.0 s.1 (λ k lt. c.inside k lt))
+      own_zero (Err z) c = tt
 
       shown_zero : (r : Result (ℕ × ℕ) Error) → IfOk r (λ s. IsChanged s.0 s.1 zeroes (values (lent_image view (backing x)).at (view (driver x)).place) (values (lent_image view (backing x)).at (view d).place)) → IfOk r (λ s. IsChanged s.0 s.1 zeroes (disk_value view x) (disk_value view (with_driver x d)))
       shown_zero (Ok s) c = changed_image view x d (λ a b. IsChanged s.0 s.1 zeroes a b) c
@@ -102,6 +123,17 @@ zero_mapped view x o most n explicit h p i =
     let e : o + (p - o) ≡ p = omega (arith, i.0) in
     let z : disk_value view x (o + (p - o)) ≡ Byte 0 = mapped_value (M.Zero explicit) (p - o) (target view x (o + (p - o))) _ (target_shows view x (o + (p - o))) (h.leads (p - o) (omega (arith, i.0, i.1))) in
     rw e at z
+
+-- what is mapped as explicit zeroes isn't left to the layer below
+pub explicit_alone : {D St : Type 0} (view : D → View St) (x : FormatAccess D) (o most n : ℕ) → IsResolved view x o most (M.Zero true) n → StandsAlone (view (driver x)).place o n
+explicit_alone view x o most n h p i q w e =
+    let t : o + (p - o) ≡ p = omega (arith, i.0) in
+    let l : LeadsToZero true (target view x p) = rw t at (h.leads (p - o) (omega (arith, i.0, i.1))) in
+    let deep : 0 < (target view x p).depth = lower_deep view x p q w e in
+    ⊎_elim
+    (λ top. omega (arith, top.1, deep))
+    (λ r. ⊎_elim (λ below. let z = below.3 in cc) (λ past. let z = past.2 in cc) r)
+    l
 
 pub zero_more : (at : ℕ → Value) (o n m : ℕ) → AreZero at o n → AreZero at (o + n) m → AreZero at o (n + m)
 zero_more at o n m a b p i = ⊎_elim (λ below. a p (i.0, below)) (λ above. b p (above, omega (arith, i.1))) (cases_lt p (o + n))
@@ -129,6 +161,7 @@ piece_written {D} view x d o bytes result commit_memory l same z h =
         count = subst (λ (y : D). IsLaterCount (devices_reliable view x) (view (driver x)).fault_count (view y).fault_count) e (record { later = w.faults.later; reliable = w.faults.reliable });
       };
       done = λ k. done result w.some (w.done k);
+      alone = λ k. subst (λ (y : D). IfOk result (λ n. StandsAlone (view y).place o n)) e w.alone;
       carries = carried result w.some w.settled (subst (λ (y : D). ReachesNoMore (view (driver x)) (view y)) e w.reaches);
       device = λ f. inl (subst (λ (y : D). RoseOrSaturated (view (driver x)).fault_count (view y).fault_count) e (w.faults.device f));
       refusals = refused_more (first_reasons (view (driver x)) (lent_image view (backing x)) commit_memory o (length bytes)) (data_reasons view x o (length bytes)) result (record {
@@ -167,7 +200,7 @@ pub zero_call : {D St : Type 0} (view : D → View St) (op : Operation) (x new :
     → HasZeroed view o n (λ (u : Unit {0}). n) (zero_reasons view x op o n) x new result → IsZeroWrite view op x new o n result
 zero_call view op x new o n result w fits small h = record {
   tested = λ z g. absurd (not_failed (view (driver x)) op o n w fits small z g);
-  done = h.done;
+  done = λ k. done result (h.done k) (h.alone k);
   torn = λ k. torn result (h.left.torn k);
   reaches = λ l. h.left.reaches;
   settled = settled result h.carries;
@@ -179,6 +212,11 @@ zero_call view op x new o n result w fits small h = record {
   refusals = refused result h.refusals;
 }
   where
+    done : (r : Result (Unit {0}) Error) → IfOk r (λ u. IsChanged o n zeroes (disk_value view x) (disk_value view new)) → IfOk r (λ u. StandsAlone (view (driver new)).place o n)
+        → IfOk r (λ u. IsChanged o n zeroes (disk_value view x) (disk_value view new) × StandsAlone (view (driver new)).place o n)
+    done (Ok u) c a = (c, a)
+    done (Err e) c a = tt
+
     torn : (r : Result (Unit {0}) Error) → IsChanged o n (partly zeroes) (disk_value view x) (disk_value view new) → OnErr r (IsChanged o n (partly zeroes) (disk_value view x) (disk_value view new))
     torn (Ok u) c = tt
     torn (Err e) c = c

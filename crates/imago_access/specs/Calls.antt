@@ -11,7 +11,7 @@ use Rattle.imago_drivers.specs.Changes.{IsChanged, into, partly, overwritten}
 use Rattle.imago_drivers.specs.Frame.{IsKind, ReachesNoMore}
 use Rattle.imago_drivers.specs.Done.{lending_reasons}
 use Rattle.imago_access.specs.declared.access.FormatAccess.{FormatAccess}
-use Rattle.imago_access.specs.Writing.{CommitMayTakeMemory, write_reasons}
+use Rattle.imago_access.specs.Writing.{CommitMayTakeMemory, WasPrepared, filled, shown_length, shown_change, settles_by, mapping_reasons, write_reasons}
 use Rattle.imago_access.specs.Chain.{driver, backing, disk_value, lent_image}
 
 -- The range's end passes the greatest number of 64 bits, in a call that tests this by itself: a zero write or a discard. A write
@@ -83,15 +83,16 @@ abbrev pub write_refusals : {D St : Type 0} → (D → View St) → FormatAccess
 write_refusals view x o n = write_reasons (view (driver x)) (lent_image view (backing x)) (CommitMayTakeMemory view (driver x)) o n
 
 -- A changing call on a range of an image: `reasons` is why it may be refused after its tests, `hidden` when a device may fail that
--- no count of faults shows. A success has the effect, for the part that its answer tells; a refusal past the tests leaves what remains.
-pub record IsRangeCall {D St T : Type 0} (view : D → View St) (op : Operation) (o n : ℕ) (reasons : Reasons) (hidden : Type 0) (part : T → ℕ) (effect : T → Type 0) (remains : Type 0) (old new : FormatAccess D) (result : Result T Error) : Type 0 where
+-- no count of faults shows. A success has the effect, for the part that its answer tells, and leaves no new cause for the operations
+-- `of`; a refusal past the tests leaves what remains.
+pub record IsRangeCall {D St T : Type 0} (view : D → View St) (op : Operation) (o n : ℕ) (of : Operation → Type 0) (reasons : Reasons) (hidden : Type 0) (part : T → ℕ) (effect : T → Type 0) (remains : Type 0) (old new : FormatAccess D) (result : Result T Error) : Type 0 where
   -- the first test that fails is answered, and nothing is changed
   pub tested : (e : Error) → FailsTest (view (driver old)) op o n e → IsErrOf result e × (new ≡ old)
   pub done : IsTrue (view (driver old)).abilities.keeps_data → IfOk result effect
   pub torn : IsTrue (view (driver old)).abilities.keeps_data → OnErr result remains
   -- no place leads below that didn't before, and a cause for a piece of the part that is done was one for the whole
   pub reaches : (IsLoose op → ⊥) → ReachesNoMore (view (driver old)) (view (driver new))
-  pub settled : IfOk result (λ r. IsSettled (settles op) (view (driver old)).limits.cause (view (driver new)).limits.cause (view (driver old)).limits.copies (view (driver new)).limits.copies o (part r))
+  pub settled : IfOk result (λ r. IsSettled of (view (driver old)).limits.cause (view (driver new)).limits.cause (view (driver old)).limits.copies (view (driver new)).limits.copies o (part r))
   pub same_size : (view (driver new)).size ≡ (view (driver old)).size
   -- no place becomes an end
   pub ends : (p : ℕ) → (view (driver new)).place p ≡ End → (view (driver old)).place p ≡ End
@@ -102,14 +103,27 @@ pub record IsRangeCall {D St T : Type 0} (view : D → View St) (op : Operation)
 
 -- a write: the bytes stand in their range, or, where it is refused, each of them may
 abbrev pub IsWrite : {D St : Type 0} → (D → View St) → FormatAccess D → FormatAccess D → ℕ → List ℕ → Result Unit Error → Type 0
-IsWrite view old new o bytes result = IsRangeCall view Write o (length bytes) (write_refusals view old o (length bytes)) ⊥ (λ u. length bytes)
+IsWrite view old new o bytes result = IsRangeCall view Write o (length bytes) (settles Write) (write_refusals view old o (length bytes)) ⊥ (λ u. length bytes)
     (λ u. IsChanged o (length bytes) (into bytes) (disk_value view old) (disk_value view new))
     (IsChanged o (length bytes) (partly (into bytes)) (disk_value view old) (disk_value view new))
     old new result
 
+-- why a write through a mapping may be refused, once its tests passed
+abbrev pub mapped_refusals : {D St : Type 0} → (D → View St) → FormatAccess D → ℕ → ℕ → List ℕ → Reasons
+mapped_refusals view x o n bytes = mapping_reasons (view (driver x)) (lent_image view (backing x)) (CommitMayTakeMemory view (driver x)) o n bytes
+
+-- A write through one mapping, which is prepared for at most n bytes from o on, filled with what fits of the bytes, and committed or
+-- cancelled. It answers how long the mapping was, and whether it had no state.
+pub record IsMappedWrite {D St : Type 0} (view : D → View St) (old new : FormatAccess D) (o n : ℕ) (overwrite : Bool) (bytes : List ℕ) (commit : Bool) (result : Result (ℕ × Bool) Error) : Type 0 where
+  pub told : IfOk result (WasPrepared view (disk_value view old) (driver old) o n overwrite)
+  pub call : IsRangeCall view Write o n (settles_by commit) (mapped_refusals view old o n bytes) ⊥ (λ m. m.0)
+      (λ m. IsChanged o (shown_length commit m) (shown_change overwrite bytes m) (disk_value view old) (disk_value view new))
+      (IsChanged o n (partly (filled overwrite bytes)) (disk_value view old) (disk_value view new))
+      old new result
+
 -- a data mapping: the disk stays, but for overwriting the part that is answered, or, refused, the range may show anything
 abbrev pub IsEnsured : {D St : Type 0} → (D → View St) → FormatAccess D → FormatAccess D → ℕ → ℕ → Bool → Result (ℕ × ℕ × ℕ) Error → Type 0
-IsEnsured view old new o n overwrite result = IsRangeCall view Write o n (range_refusals view old Write o n) ⊥ (λ r. r.2)
+IsEnsured view old new o n overwrite result = IsRangeCall view Write o n (settles Write) (range_refusals view old Write o n) ⊥ (λ r. r.2)
     (λ r. IsChanged o r.2 (overwritten overwrite) (disk_value view old) (disk_value view new))
     (IsChanged o n (overwritten overwrite) (disk_value view old) (disk_value view new))
     old new result

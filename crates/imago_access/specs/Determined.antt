@@ -1,4 +1,4 @@
-use Rattle.std.specs.Prelude.{◌≡◌, ◌≢◌, ℕ, ◌≤◌, ◌⊎◌, List, ◌∷◌, length, take, map}
+use Rattle.std.specs.Prelude.{◌≡◌, ◌≢◌, ℕ, ◌≤◌, ◌⊎◌, ◌&&◌, not, Bool, true, false, List, ◌∷◌, length, take, map}
 use Rattle.imago_storage.specs.declared.error.Error.{Error}
 use Rattle.imago_drivers.specs.declared.format.PreallocateMode.{PreallocateMode}
 use Rattle.imago_drivers.specs.declared.format.PreallocateMode.TheVariants as Mode
@@ -7,8 +7,10 @@ use Rattle.imago_access.specs.declared.run.Call.{Call}
 use Rattle.imago_access.specs.declared.run.Call.TheVariants as C
 use Rattle.imago_access.specs.declared.run.Reply.{Reply}
 use Rattle.imago_access.specs.declared.run.Reply.TheVariants as R
-use Rattle.imago_access.specs.Disk.{splice, zeroed, IsTestRefusal, IsEndRefusal, extended}
-use Rattle.imago_access.specs.Histories.{IsDataOf, IsMappingOf}
+use Rattle.imago_access.specs.Disk.{splice, zeroed, filled_in, IsTestRefusal, IsEndRefusal, extended}
+use Rattle.imago_access.specs.Writing.{shown_length}
+use Rattle.imago_access.specs.Runs.{told_data, told_prepared}
+use Rattle.imago_access.specs.Histories.{DoneOrRefused, IsDataOf, IsMappingOf, IsPart}
 
 -- new values of a growth to n are known: there are none, or the mode says what they are
 abbrev pub IsFilled : PreallocateMode → ℕ → List Value → Type 0
@@ -18,10 +20,17 @@ IsFilled mode n xs = (n ≤ length xs) ⊎ (mode ≢ Mode.None)
 abbrev pub IsRefusedByTest : List Value → ℕ → ℕ → Reply → Type 0
 IsRefusedByTest xs o n r = (e : Error) × (r ≡ R.Refused e) × IsEndRefusal xs o n e
 
+-- a refusal, if it is one, is by the tests of a write or a mapping
+abbrev pub IsTestRefusalIfRefused : List Value → ℕ → ℕ → Reply → Type 0
+IsTestRefusalIfRefused xs o n r = (e : Error) → r ≡ R.Refused e → IsTestRefusal xs o n e
+
 -- The reply says what the list is afterwards: all but a write or zero write that is refused past its tests, a growth without preallocation,
--- and a discard to any or to backing that isn't refused by its tests.
+-- a mapping that may be overwritten and isn't filled, and a discard to any or to backing that isn't refused by its tests.
 abbrev pub IsDetermined : List Value → Call → Reply → Type 0
-IsDetermined xs (C.Write o bytes) r = (e : Error) → r ≡ R.Refused e → IsTestRefusal xs o (length bytes.items) e
+IsDetermined xs (C.Write o bytes) r = IsTestRefusalIfRefused xs o (length bytes.items) r
+IsDetermined xs (C.EnsureData o n overwrite) r = overwrite ≡ true → (e : Error) × (r ≡ R.Refused e) × IsTestRefusal xs o n e
+IsDetermined xs (C.Prepared o n overwrite bytes commit) r =
+    ((m : ℕ × Bool) → r ≡ told_prepared m → ((overwrite && not m.1) ≡ false) ⊎ (shown_length commit m ≤ length bytes.items)) × IsTestRefusalIfRefused xs o n r
 IsDetermined xs (C.WriteZeroes o n) r = (e : Error) → r ≡ R.Refused e → IsEndRefusal xs o n e
 IsDetermined xs (C.DiscardToZero o n) r = (e : Error) → r ≡ R.Refused e → IsEndRefusal xs o n e
 IsDetermined xs (C.DiscardToAny o n) r = IsRefusedByTest xs o n r
@@ -43,10 +52,24 @@ if_done (R.Refused e) ys xs = xs
 if_done (R.Data bytes) ys xs = xs
 if_done (R.Size size) ys xs = xs
 if_done (R.Mapped mapping count) ys xs = xs
+if_done (R.DataMapped storage offset count) ys xs = xs
+if_done (R.Prepared count nonblocking) ys xs = xs
+
+-- the list after a write through a prepared mapping
+abbrev pub if_prepared : Reply → Bool → ℕ → List ℕ → List Value → List Value
+if_prepared (R.Prepared c nonblocking) commit o bytes xs = filled_in xs o (shown_length commit (c, nonblocking)) bytes
+if_prepared R.Done commit o bytes xs = xs
+if_prepared (R.Refused e) commit o bytes xs = xs
+if_prepared (R.Data read) commit o bytes xs = xs
+if_prepared (R.Size size) commit o bytes xs = xs
+if_prepared (R.Mapped mapping count) commit o bytes xs = xs
+if_prepared (R.DataMapped storage offset count) commit o bytes xs = xs
 
 -- the list after a call that is determined
 abbrev pub after : (ℕ → Value) → Call → Reply → List Value → List Value
 after below (C.Write o bytes) r xs = if_done r (splice xs o (map Byte bytes.items)) xs
+after below (C.EnsureData o n overwrite) r xs = xs
+after below (C.Prepared o n overwrite bytes commit) r xs = if_prepared r commit o bytes.items xs
 after below (C.WriteZeroes o n) r xs = if_done r (zeroed xs o n) xs
 after below (C.DiscardToZero o n) r xs = if_done r (zeroed xs o n) xs
 after below (C.DiscardToAny o n) r xs = xs
@@ -71,11 +94,13 @@ abbrev pub after_all : (ℕ → Value) → List Call → List Reply → List Val
 after_all below (call ∷ calls) (reply ∷ replies) xs = after_all below calls replies (after below call reply xs)
 after_all below calls replies xs = xs
 
--- the data of a read are the part of the list, a size is its length, and a mapping names what it has
+-- the data of a read are the part of the list, a size is its length, a mapping names what it has, and one to write to is in bounds
 abbrev pub FitsList : List Value → Call → Reply → Type 0
 FitsList xs (C.Read o n) r = IsDataOf xs o n r
 FitsList xs (C.GetMapping o n) r = IsMappingOf xs o n r
 FitsList xs C.Size r = r ≡ R.Size (length xs)
+FitsList xs (C.EnsureData o n overwrite) r = DoneOrRefused told_data r (λ m. IsPart n m.2) (λ e. Unit {0})
+FitsList xs (C.Prepared o n overwrite bytes commit) r = DoneOrRefused told_prepared r (λ m. IsPart n m.0) (λ e. Unit {0})
 FitsList xs (C.Write o bytes) r = Unit {0}
 FitsList xs (C.WriteZeroes o n) r = Unit {0}
 FitsList xs (C.DiscardToZero o n) r = Unit {0}

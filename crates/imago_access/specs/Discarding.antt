@@ -13,7 +13,7 @@ use Rattle.imago_access.specs.declared.access.FormatAccess.{FormatAccess}
 use Rattle.imago_access.specs.declared.discard.DiscardCall.{DiscardCall}
 use Rattle.imago_access.specs.declared.discard.DiscardCall.TheVariants as C
 use Rattle.imago_access.specs.Chain.{driver, backing, disk_value, lent_image}
-use Rattle.imago_access.specs.Calls.{devices_reliable, IsRangeCall}
+use Rattle.imago_access.specs.Calls.{devices_reliable, settles, IsRangeCall}
 use Rattle.imago_access.specs.Zeroing.{IsFree}
 
 -- what a discard is, for its causes
@@ -53,7 +53,7 @@ pub record HasLoosenedPart {D St : Type 0} (view : D → View St) (call : Discar
 
 -- a discard of an image, whose success and refusal leave the same
 abbrev pub IsImageDiscard : {D St : Type 0} → (D → View St) → DiscardCall → FormatAccess D → FormatAccess D → ℕ → ℕ → Result (Unit {0}) Error → Type 0
-IsImageDiscard view call old new o n result = IsRangeCall view (discard_of call) o n (discard_reasons (view (driver old)) (discard_of call) o n) ⊥ (λ u. 0)
+IsImageDiscard view call old new o n result = IsRangeCall view (discard_of call) o n (settles (discard_of call)) (discard_reasons (view (driver old)) (discard_of call) o n) ⊥ (λ u. 0)
     (λ u. IsLoosened view call o n old new)
     (IsLoosened view call o n old new)
     old new result

@@ -1,4 +1,4 @@
-use Rattle.std.specs.Prelude.{◌≡◌, ℕ, ◌+◌, ◌-◌, ◌<◌, ◌≤◌, ◌⊎◌, ◌↔◌, List, ◌++◌, length, take, drop, map, replicate, slice_index, get_or}
+use Rattle.std.specs.Prelude.{◌≡◌, ℕ, ◌+◌, ◌-◌, ◌<◌, ◌≤◌, ◌⊎◌, ◌↔◌, Bool, true, false, List, ◌++◌, length, take, drop, map, replicate, slice_index, get_or}
 use Rattle.std.specs.List.{range_with_len}
 use Rattle.imago_storage.specs.declared.error.Error.{Error}
 use Rattle.imago_drivers.specs.declared.format.PreallocateMode.{PreallocateMode}
@@ -66,6 +66,26 @@ pub record IsUnspecifiedIn (xs : List Value) (o n : ℕ) (ys : List Value) : Typ
 pub record IsGivenBack (below : ℕ → Value) (xs : List Value) (o n : ℕ) (ys : List Value) : Type 0 where
   pub same_length : length ys ≡ length xs
   pub each : (p : ℕ) → (value_at ys p ≡ value_at xs p) ⊎ (IsIn o n p × (value_at ys p ≡ below p))
+
+-- what may be overwritten: values of the range may be anything, or none changes
+abbrev pub IsOverwritten : Bool → List Value → ℕ → ℕ → List Value → Type 0
+IsOverwritten true xs o n ys = IsUnspecifiedIn xs o n ys
+IsOverwritten false xs o n ys = ys ≡ xs
+
+-- the list with the first c of these bytes from the offset on
+abbrev pub filled_in : List Value → ℕ → ℕ → List ℕ → List Value
+filled_in xs o c bytes = splice xs o (map Byte (take c bytes))
+
+-- A write through a mapping of which c values show: the bytes that fit are spliced in, and the rest may be overwritten.
+abbrev pub IsFilledIn : Bool → List Value → ℕ → ℕ → List ℕ → List Value → Type 0
+IsFilledIn overwrite xs o c bytes ys = IsOverwritten overwrite (filled_in xs o c bytes) (o + length bytes) (c - length bytes) ys
+
+-- The same, refused: each value that would be written is the old one or the new one, the others of the range are the old ones or may be
+-- overwritten, and all others are the old ones.
+pub record IsPartlyFilled (overwrite : Bool) (xs : List Value) (o n : ℕ) (bytes : List ℕ) (e : Error) (ys : List Value) : Type 0 where
+  pub same_length : length ys ≡ length xs
+  pub each : (p : ℕ) → (value_at ys p ≡ value_at xs p) ⊎ ((value_at ys p ≡ value_at (filled_in xs o n bytes) p) ⊎ ((overwrite ≡ true) × IsIn (o + length bytes) (n - length bytes) p))
+  pub untouched : IsTestRefusal xs o n e → ys ≡ xs
 
 -- a write that succeeded: the range lies in the list, and the bytes are spliced in
 abbrev pub IsSpliced : List Value → ℕ → List ℕ → List Value → Type 0

@@ -1,4 +1,4 @@
-use Rattle.std.specs.Prelude.{◌≡◌, ℕ, ◌+◌, ◌<◌, ◌≤◌, ◌⊎◌, List, [], ◌∷◌, length, take, IfOk, IfErr}
+use Rattle.std.specs.Prelude.{◌≡◌, ℕ, ◌+◌, ◌<◌, ◌≤◌, ◌⊎◌, ◌&&◌, not, Bool, List, [], ◌∷◌, length, take, IfOk, IfErr}
 use Rattle.imago_storage.specs.declared.error.Error.{Error}
 use Rattle.imago_drivers.specs.Place.{Value, Byte, Unreadable}
 use Rattle.imago_drivers.specs.LayerBelow.{IsUnreadableIn}
@@ -8,8 +8,9 @@ use Rattle.imago_access.specs.declared.run.Call.{Call}
 use Rattle.imago_access.specs.declared.run.Call.TheVariants as C
 use Rattle.imago_access.specs.declared.run.Reply.{Reply}
 use Rattle.imago_access.specs.declared.run.Reply.TheVariants as R
-use Rattle.imago_access.specs.Runs.{Answers, told_done, told_mapping}
-use Rattle.imago_access.specs.Disk.{value_at, IsSpliced, IsTorn, IsExtended, IsPartOf, IsEndRefusal, IsZeroed, IsPartlyZeroed, IsUnspecifiedIn, IsGivenBack}
+use Rattle.imago_access.specs.Writing.{shown_length}
+use Rattle.imago_access.specs.Runs.{Answers, told_done, told_mapping, told_data, told_prepared}
+use Rattle.imago_access.specs.Disk.{value_at, IsSpliced, IsTorn, IsExtended, IsPartOf, IsEndRefusal, IsZeroed, IsPartlyZeroed, IsUnspecifiedIn, IsGivenBack, IsTestRefusal, IsOverwritten, IsFilledIn, IsPartlyFilled}
 
 -- the call is done, and what it answers is so, or it is refused, and the refusal is so
 abbrev pub DoneOrRefused : {T : Type 0} → (T → Reply) → Reply → (T → Type 0) → (Error → Type 0) → Type 0
@@ -44,6 +45,22 @@ IsZeroStep xs o n r ys = DoneOrRefused told_done r (λ u. IsZeroed xs o n ys) (�
 abbrev pub IsDiscardStep : List Value → ℕ → ℕ → Type 0 → Reply → List Value → Type 0
 IsDiscardStep xs o n left r ys = DoneOrRefused told_done r (λ u. (o + n ≤ length xs) × left) (λ e. left × (IsEndRefusal xs o n e → ys ≡ xs))
 
+-- a mapping of at most n values is as long: at least one, none for none
+abbrev pub IsPart : ℕ → ℕ → Type 0
+IsPart n c = (c ≤ n) × (0 < n → 0 < c)
+
+-- a data mapping: the part that it answers, or, refused, the range may be overwritten
+abbrev pub IsDataStep : List Value → ℕ → ℕ → Bool → Reply → List Value → Type 0
+IsDataStep xs o n overwrite r ys = DoneOrRefused told_data r
+    (λ m. (o + n ≤ length xs) × IsPart n m.2 × IsOverwritten overwrite xs o m.2 ys)
+    (λ e. IsOverwritten overwrite xs o n ys × (IsTestRefusal xs o n e → ys ≡ xs))
+
+-- a write through a prepared mapping: of one that is cancelled and has a state nothing shows
+abbrev pub IsPreparedStep : List Value → ℕ → ℕ → Bool → List ℕ → Bool → Reply → List Value → Type 0
+IsPreparedStep xs o n overwrite bytes commit r ys = DoneOrRefused told_prepared r
+    (λ m. (o + n ≤ length xs) × IsPart n m.0 × IsFilledIn (overwrite && not m.1) xs o (shown_length commit m) bytes ys)
+    (λ e. IsPartlyFilled overwrite xs o n bytes e ys)
+
 -- A call on the list xs, with that reply, may leave the list ys. `below` is what offsets show that are left to the layers below.
 abbrev pub IsFlatStep : (ℕ → Value) → List Value → Call → Reply → List Value → Type 0
 IsFlatStep below xs (C.Read o n) r ys = (ys ≡ xs) × IsDataOf xs o n r
@@ -52,6 +69,8 @@ IsFlatStep below xs (C.WriteZeroes o n) r ys = IsZeroStep xs o n r ys
 IsFlatStep below xs (C.DiscardToZero o n) r ys = IsZeroStep xs o n r ys
 IsFlatStep below xs (C.DiscardToAny o n) r ys = IsDiscardStep xs o n (IsUnspecifiedIn xs o n ys) r ys
 IsFlatStep below xs (C.DiscardToBacking o n) r ys = IsDiscardStep xs o n (IsGivenBack below xs o n ys) r ys
+IsFlatStep below xs (C.EnsureData o n overwrite) r ys = IsDataStep xs o n overwrite r ys
+IsFlatStep below xs (C.Prepared o n overwrite bytes commit) r ys = IsPreparedStep xs o n overwrite bytes.items commit r ys
 IsFlatStep below xs (C.Resize n mode) r ys = DoneOrRefused told_done r (λ u. IsExtended mode below n (take n xs) ys) (λ e. ys ≡ xs)
 IsFlatStep below xs (C.ResizeGrow n mode) r ys = DoneOrRefused told_done r (λ u. IsExtended mode below n xs ys) (λ e. ys ≡ xs)
 IsFlatStep below xs (C.ResizeShrink n) r ys = DoneOrRefused told_done r (λ u. ys ≡ take n xs) (λ e. ys ≡ xs)

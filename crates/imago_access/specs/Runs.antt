@@ -1,10 +1,11 @@
-use Rattle.std.specs.Prelude.{◌≡◌, ℕ, ◌<◌, ◌⊎◌, List, [], ◌∷◌, length, Result, Ok, Err, IfOk, IfErr}
+use Rattle.std.specs.Prelude.{◌≡◌, ℕ, ◌<◌, ◌⊎◌, Bool, List, [], ◌∷◌, length, Result, Ok, Err, IfOk, IfErr}
 use Rattle.std.specs.declared.vec.Vec.{Vec}
 use Rattle.std.specs.declared.alloc.Global.{Global}
 use Rattle.imago_storage.specs.declared.error.Error.{Error}
 use Rattle.imago_drivers.specs.Operation.{Grow, Shrink, Zero, DiscardToZero}
 use Rattle.imago_drivers.specs.Place.{Unreadable, HasValues}
 use Rattle.imago_drivers.specs.Reasons.{allowed}
+use Rattle.imago_drivers.specs.Prepared.{IsDataMapping}
 use Rattle.imago_drivers.specs.View.{View}
 use Rattle.imago_drivers.specs.Flushes.{Flushes}
 use Rattle.imago_access.specs.declared.access.FormatAccess.{FormatAccess}
@@ -19,7 +20,7 @@ use Rattle.imago_access.specs.Discarding.{IsImageDiscard}
 use Rattle.imago_access.specs.Chain.{driver, disk_value, read_reasons, chain_no_memory}
 use Rattle.imago_access.specs.Resolved.{IsResolved, IsEndOfImage, chain_map_reasons}
 use Rattle.imago_access.specs.Lengths.{IsFullLength}
-use Rattle.imago_access.specs.Calls.{IsWrite}
+use Rattle.imago_access.specs.Calls.{IsWrite, IsEnsured, IsMappedWrite}
 use Rattle.imago_access.specs.Sizes.{IsResize, IsResizeTo, HasGrown, HasShrunk, IsFlushed}
 
 -- the reply to a call with that result: `told` is the reply to what a success answers
@@ -34,6 +35,14 @@ told_done u = R.Done
 -- how a mapping and its length are told
 abbrev pub told_mapping : Mapping × ℕ → Reply
 told_mapping m = R.Mapped m.0 m.1
+
+-- how a data mapping is told: its storage, the offset there, and its length
+abbrev pub told_data : ℕ × ℕ × ℕ → Reply
+told_data m = R.DataMapped m.0 m.1 m.2
+
+-- how a prepared mapping is told: its length, and whether it had no state
+abbrev pub told_prepared : ℕ × Bool → Reply
+told_prepared m = R.Prepared m.0 m.1
 
 -- the reply is that to a call with such a result
 abbrev pub Answers : {T : Type 0} → (T → Reply) → Reply → (Result T Error → Type 0) → Type 0
@@ -56,6 +65,11 @@ pub record IsMapped {D St : Type 0} (view : D → View St) (x : FormatAccess D) 
   pub refused_place : IfErr result (λ e. (e ≡ Error.InvalidData) ⊎ (e ≡ Error.NoAccess) → disk_value view x o ≡ Unreadable e)
   pub refusals : IfErr result (allowed (chain_map_reasons view x o n))
 
+-- A data mapping: each of its places is writable, and stands where it says.
+pub record IsDataMapped {D St : Type 0} (view : D → View St) (old new : FormatAccess D) (o n : ℕ) (overwrite : Bool) (result : Result (ℕ × ℕ × ℕ) Error) : Type 0 where
+  pub mapped : IfOk result (λ m. IsDataMapping o n m.0 m.1 m.2 (view (driver old)) (view (driver new)))
+  pub call : IsEnsured view old new o n overwrite result
+
 -- From one image to the next, a call may have this reply: it did what it promises, or left what its refusal does.
 abbrev pub IsStep : {D St : Type 0} → (D → View St) → Flushes D → FormatAccess D → Call → Reply → FormatAccess D → Type 0
 IsStep view flushes old (C.Read o n) r new = (new ≡ old) × Answers R.Data r (IsBufferRead view old o n)
@@ -66,6 +80,8 @@ IsStep view flushes old (C.WriteZeroes o n) r new = Answers told_done r (IsZeroW
 IsStep view flushes old (C.DiscardToZero o n) r new = Answers told_done r (IsZeroWrite view DiscardToZero old new o n)
 IsStep view flushes old (C.DiscardToAny o n) r new = Answers told_done r (IsImageDiscard view D.ToAny old new o n)
 IsStep view flushes old (C.DiscardToBacking o n) r new = Answers told_done r (IsImageDiscard view D.ToBacking old new o n)
+IsStep view flushes old (C.EnsureData o n overwrite) r new = Answers told_data r (IsDataMapped view old new o n overwrite)
+IsStep view flushes old (C.Prepared o n overwrite bytes commit) r new = Answers told_prepared r (IsMappedWrite view old new o n overwrite bytes.items commit)
 IsStep view flushes old (C.ResizeGrow n mode) r new = Answers told_done r (IsResize view (Grow mode) n (HasGrown view mode n old new) old new)
 IsStep view flushes old (C.ResizeShrink n) r new = Answers told_done r (IsResize view Shrink n (HasShrunk view n old new) old new)
 IsStep view flushes old (C.Resize n mode) r new = Answers told_done r (IsResizeTo view n mode old new)

@@ -16,7 +16,10 @@ use Rattle.imago_access.specs.Writing.{CommitMayTakeMemory}
 use Rattle.imago_drivers.specs.declared.mapping.PreparedDataMapping.{PreparedDataMapping}
 use Rattle.imago_access.specs.Chain.{driver, backing, disk_value, lent_image, is_reliable, chain_cause, read_cause, read_reasons, no_memory_to_read}
 use Rattle.imago_access.specs.Resolved.{chain_map_reasons}
-use Rattle.imago_access.specs.Calls.{devices_reliable, IsWrite, IsEnsured, IsPreparing}
+use Rattle.imago_access.specs.declared.discard.DiscardCall.{DiscardCall}
+use Rattle.imago_access.specs.Calls.{devices_reliable, Overflows, IsWrite, IsEnsured, IsPreparing}
+use Rattle.imago_access.specs.Zeroing.{IsFree, IsZeroWrite, zero_reasons}
+use Rattle.imago_access.specs.Discarding.{discard_of, IsImageDiscard}
 use Rattle.imago_access.specs.Sizes.{IsResize, IsFlushed, HasGrown, HasShrunk}
 
 -- The call is refused for want of memory alone, and succeeds where it takes none.
@@ -124,6 +127,26 @@ pub record IsReadyToResize {D St : Type 0} (view : D → View St) (x : FormatAcc
 pub record SucceedsIfOffered {T : Type 0} (is_offered : Bool) (takes_none : Type 0) (result : Result T Error) : Type 0 where
   pub refusals : IfErr result (λ e. (e ≡ Error.Memory) ⊎ ((e ≡ Error.Unsupported) × (is_offered ≡ false)))
   pub sure : is_offered ≡ true → takes_none → IsOk result
+
+-- The tests of a zero write or a discard pass, every device of the chain is reliable, no place of the range is an end, and each cause of
+-- a refusal is that the driver doesn't offer the call.
+pub record IsReadyToZero {D St : Type 0} (view : D → View St) (x : FormatAccess D) (op : Operation) (o n : ℕ) (cause : Error → Type 0) : Type 0 where
+  pub sound : IsSound view x
+  pub reliable : is_reliable view x ≡ true
+  pub inside : o + n ≤ (view (driver x)).size
+  pub fits : Overflows op o n → ⊥
+  pub no_end : EndsIn (view (driver x)).place o n → ⊥
+  pub no_cause : (e : Error) → cause e → (e ≡ Error.Unsupported) × ((view (driver x)).abilities.offers op ≡ false)
+
+-- a zero write, or a discard to zero: it takes no memory where the driver does the range at once and takes none for it
+abbrev pub ZeroWritesSucceed : {D St : Type 0} → (D → View St) → Type 0
+ZeroWritesSucceed {D} view = (old new : FormatAccess D) (op : Operation) (o n : ℕ) (result : Result Unit Error) → IsReadyToZero view old op o n (zero_reasons view old op o n).cause
+    → IsZeroWrite view op old new o n result → SucceedsIfOffered ((view (driver old)).abilities.offers op) (IsFree (view (driver old)) op o n) result
+
+-- a discard to any or to backing
+abbrev pub DiscardsSucceed : {D St : Type 0} → (D → View St) → Type 0
+DiscardsSucceed {D} view = (old new : FormatAccess D) (call : DiscardCall) (o n : ℕ) (result : Result Unit Error) → IsReadyToZero view old (discard_of call) o n ((view (driver old)).limits.cause (discard_of call) o n)
+    → IsImageDiscard view call old new o n result → SucceedsIfOffered ((view (driver old)).abilities.offers (discard_of call)) (IsFree (view (driver old)) (discard_of call) o n) result
 
 abbrev pub GrowthsSucceed : {D St : Type 0} → (D → View St) → Type 0
 GrowthsSucceed {D} view = (old new : FormatAccess D) (mode : PreallocateMode) (n : ℕ) (result : Result Unit Error) → IsReadyToResize view old (Grow mode) n

@@ -1,4 +1,4 @@
-use Rattle.std.specs.Prelude.{◌≡◌, ℕ, ◌+◌, ◌<◌, ◌≤◌, ◌⊎◌, Bool, false, None, IsTrue, Result, IfOk, IfErr, OnErr, IsErrOf}
+use Rattle.std.specs.Prelude.{◌≡◌, ℕ, ◌+◌, ◌≤◌, ◌⊎◌, Bool, false, None, IsTrue, Result, IfOk, IfErr, IsErrOf}
 use Rattle.imago_storage.specs.declared.error.Error.{Error}
 use Rattle.imago_storage.specs.Faults.{CountsFaults, RoseOrSaturated}
 use Rattle.imago_drivers.specs.Operation.{Operation, Map, Write, Zero, DiscardToZero}
@@ -13,7 +13,8 @@ use Rattle.imago_access.specs.declared.access.FormatAccess.{FormatAccess}
 use Rattle.imago_access.specs.declared.zero.ZeroCall.{ZeroCall}
 use Rattle.imago_access.specs.declared.zero.ZeroCall.TheVariants as Z
 use Rattle.imago_access.specs.Chain.{driver, backing, disk_value, is_reliable, lent_image, chain_cause}
-use Rattle.imago_access.specs.Calls.{devices_reliable, IsRangeCall}
+use Rattle.imago_access.specs.Writing.{StandsAlone}
+use Rattle.imago_access.specs.Calls.{devices_reliable, settles, IsRangeCall}
 
 -- what a zeroing call of the driver is, for its causes
 abbrev pub operation_of : ZeroCall → Operation
@@ -68,6 +69,8 @@ zero_reasons view x op o n = record (data_reasons view x o n) {
 pub record HasZeroed {D St T : Type 0} (view : D → View St) (o n : ℕ) (count : T → ℕ) (reasons : Reasons) (old new : FormatAccess D) (result : Result T Error) : Type 0 where
   pub left : IsPartlyZeroed view o n old new
   pub done : IsTrue (view (driver old)).abilities.keeps_data → IfOk result (λ r. IsChanged o (count r) zeroes (disk_value view old) (disk_value view new))
+  -- they are the image's own, whatever is below
+  pub alone : IsTrue (view (driver old)).abilities.keeps_data → IfOk result (λ r. StandsAlone (view (driver new)).place o (count r))
   pub carries : IfOk result (λ r. Carries o n (view (driver old)) (view (driver new)))
   -- a device that fails shows in the count of faults, or is one that is only read
   pub device : IsErrOf result Error.Device → RoseOrSaturated (view (driver old)).fault_count (view (driver new)).fault_count ⊎ (is_reliable view old ≡ false)
@@ -79,6 +82,7 @@ pub record HasZeroedPart {D St : Type 0} (view : D → View St) (op : Operation)
   pub inside : IfOk result (λ r. (r.1 ≡ 0) ⊎ ((o ≤ r.0) × (r.0 + r.1 ≤ o + n)))
   pub whole : (view (driver old)).limits.whole op o n → IfOk result (λ r. (r.0 ≡ o) × (r.1 ≡ n))
   pub done : IsTrue (view (driver old)).abilities.keeps_data → IfOk result (λ r. IsChanged r.0 r.1 zeroes (disk_value view old) (disk_value view new))
+  pub alone : IsTrue (view (driver old)).abilities.keeps_data → IfOk result (λ r. StandsAlone (view (driver new)).place r.0 r.1)
   -- at any result, for any range
   pub carries : (a m : ℕ) → Carries a m (view (driver old)) (view (driver new))
   pub faults : CountsFaults (devices_reliable view old) (view (driver old)).fault_count (view (driver new)).fault_count result
@@ -89,9 +93,9 @@ pub record IsZeroedByDriver {D St : Type 0} (view : D → View St) (o n : ℕ) (
   pub left : IsPartlyZeroed view o n old new
   pub carries : (a m : ℕ) → Carries a m (view (driver old)) (view (driver new))
 
--- a zero write: zeroes stand in the range, or, where it is refused, each of its bytes may be zero
+-- A zero write: zeroes stand in the range, and stay there whatever is below, or, where it is refused, each of its bytes may be zero.
 abbrev pub IsZeroWrite : {D St : Type 0} → (D → View St) → Operation → FormatAccess D → FormatAccess D → ℕ → ℕ → Result (Unit {0}) Error → Type 0
-IsZeroWrite view op old new o n result = IsRangeCall view op o n (zero_reasons view old op o n) (is_reliable view old ≡ false) (λ u. n)
-    (λ u. IsChanged o n zeroes (disk_value view old) (disk_value view new))
+IsZeroWrite view op old new o n result = IsRangeCall view op o n (settles op) (zero_reasons view old op o n) (is_reliable view old ≡ false) (λ u. n)
+    (λ u. IsChanged o n zeroes (disk_value view old) (disk_value view new) × StandsAlone (view (driver new)).place o n)
     (IsChanged o n (partly zeroes) (disk_value view old) (disk_value view new))
     old new result

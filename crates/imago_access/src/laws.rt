@@ -12,7 +12,7 @@ ghost use Rattle.imago_access.specs.Runs.{IsRun};
 ghost use Rattle.imago_access.specs.Disk.{disk, backed_value, IsSameWrite, IsSameResize};
 ghost use Rattle.imago_access.specs.Histories.{IsFlatHistory};
 ghost use Rattle.imago_access.specs.Determined.{AreDetermined, IsFlatRun};
-ghost use Rattle.imago_access.specs.Success.{ReadsSucceed, ReadableRangesAreRead, MappingsSucceed, WritesSucceed, DataMappingsSucceed, PreparesSucceed, PreparedWritesSucceed, CommitsSucceed, GrowthsSucceed, CutsSucceed, FlushesSucceed};
+ghost use Rattle.imago_access.specs.Success.{ReadsSucceed, ReadableRangesAreRead, MappingsSucceed, WritesSucceed, DataMappingsSucceed, PreparesSucceed, ZeroWritesSucceed, DiscardsSucceed, PreparedWritesSucceed, CommitsSucceed, GrowthsSucceed, CutsSucceed, FlushesSucceed};
 
 use imago_drivers::drivers::FormatDriverInstance;
 
@@ -95,6 +95,18 @@ pub fn data_mappings_succeed<D: FormatDriverInstance>()
 /// The same of the preparing of a data mapping.
 pub fn prepares_succeed<D: FormatDriverInstance>()
     ensures { PreparesSucceed D.view }
+{}
+
+/// A zero write or a discard to zero of an image whose devices are reliable and whose count of faults is below its greatest value,
+/// with no cause of a refusal but that the driver doesn't offer it, is refused for that or for want of memory alone, and succeeds where it
+/// is offered, and the driver does the range at once and takes no memory for it.
+pub fn zero_writes_succeed<D: FormatDriverInstance>()
+    ensures { ZeroWritesSucceed D.view }
+{}
+
+/// The same of the two other discards.
+pub fn discards_succeed<D: FormatDriverInstance>()
+    ensures { DiscardsSucceed D.view }
 {}
 
 /// The same of a growth to a size, which may also be refused as unsupported, where the driver doesn't offer it. A resize is

@@ -3,7 +3,7 @@ ghost use Rattle.std.specs.Prelude.{◌≡◌, ◌<◌, ◌++◌, List, length, 
 ghost use Rattle.imago_access.specs.declared.run.Reply.{Reply};
 ghost use Rattle.imago_access.specs.Chain.{driver};
 ghost use Rattle.imago_access.specs.Disk.{disk, backed_value};
-ghost use Rattle.imago_access.specs.Runs.{reply_of, told_done, IsBufferRead, IsStep, IsRun};
+ghost use Rattle.imago_access.specs.Runs.{reply_of, told_done, told_data, told_prepared, IsBufferRead, IsStep, IsRun};
 ghost use Rattle.imago_access.specs.Histories.{IsFlatHistory};
 
 use crate::access::FormatAccess;
@@ -57,6 +57,29 @@ pub enum Call {
         /// How long it is.
         length: u64,
     },
+    /// [`FormatAccess::ensure_data_mapping`].
+    EnsureData {
+        /// Where the range begins.
+        offset: u64,
+        /// How long it is at most.
+        length: u64,
+        /// Whether what is mapped may show anything.
+        overwrite: bool,
+    },
+    /// [`FormatAccess::prepare_data_mapping`], then one [`FormatAccess::write_prepared`] of as many bytes as fit, and
+    /// [`FormatAccess::commit_data_mapping`] or [`FormatAccess::cancel_data_mapping`]. A refused write cancels.
+    Prepared {
+        /// Where the range begins.
+        offset: u64,
+        /// How long it is at most.
+        length: u64,
+        /// Whether what is mapped and not written may show anything.
+        overwrite: bool,
+        /// What to write from the range's beginning on.
+        bytes: Vec<u8>,
+        /// Whether to commit.
+        commit: bool,
+    },
     /// [`FormatAccess::resize`].
     Resize {
         /// The new size.
@@ -109,6 +132,22 @@ pub enum Reply {
         /// How long it is.
         length: u64,
     },
+    /// Where the data of a range stand: the storage's index in the top driver, and the offset there.
+    DataMapped {
+        /// The storage's index.
+        storage: usize,
+        /// Where they begin in the storage.
+        offset: u64,
+        /// How long the range is: at least 1 and at most what was asked for, 0 for 0.
+        length: u64,
+    },
+    /// What a prepared mapping was, which is spent.
+    Prepared {
+        /// How long it was: at least 1 and at most what was asked for, 0 for 0.
+        length: u64,
+        /// Whether there was nothing to commit, so that what was written shows, also where it was cancelled.
+        nonblocking: bool,
+    },
     /// It was refused.
     Refused(Error),
 }
@@ -119,6 +158,33 @@ fn done_or_refused(outcome: Result<(), Error>) -> Reply
 {
     match outcome {
         Ok(()) => Reply::Done,
+        Err(error) => Reply::Refused(error),
+    }
+}
+
+/// The reply to a data mapping.
+fn data_or_refused(outcome: Result<(usize, u64, u64), Error>) -> Reply
+    ensures { result ≡ reply_of told_data outcome }
+{
+    match outcome {
+        Ok((storage, offset, count)) => Reply::DataMapped {
+            storage,
+            offset,
+            length: count,
+        },
+        Err(error) => Reply::Refused(error),
+    }
+}
+
+/// The reply to a write through a prepared mapping.
+fn prepared_or_refused(outcome: Result<(u64, bool), Error>) -> Reply
+    ensures { result ≡ reply_of told_prepared outcome }
+{
+    match outcome {
+        Ok((count, nonblocking)) => Reply::Prepared {
+            length: count,
+            nonblocking,
+        },
         Err(error) => Reply::Refused(error),
     }
 }
@@ -178,6 +244,20 @@ fn step<D: FormatDriverInstance>(alloc: Global, image: &mut FormatAccess<D>, cal
         Call::DiscardToBacking { offset, length } => {
             done_or_refused(image.discard_to_backing(alloc, *offset, *length))
         }
+        Call::EnsureData {
+            offset,
+            length,
+            overwrite,
+        } => data_or_refused(image.ensure_data_mapping(alloc, *offset, *length, *overwrite)),
+        Call::Prepared {
+            offset,
+            length,
+            overwrite,
+            bytes,
+            commit,
+        } => prepared_or_refused(image.write_mapping(
+            alloc, *offset, *length, *overwrite, bytes, *commit,
+        )),
         Call::Resize { size, mode } => done_or_refused(image.resize(alloc, *size, *mode)),
         Call::ResizeGrow { size, mode } => done_or_refused(image.resize_grow(alloc, *size, *mode)),
         Call::ResizeShrink { size } => done_or_refused(image.resize_shrink(*size)),

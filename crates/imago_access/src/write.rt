@@ -1,16 +1,76 @@
 //! Writing to an image.
-ghost use Rattle.std.specs.Prelude.{◌≡◌, ◌+◌, ◌^◌, ◌<◌, ◌≤◌, None, true, length};
+ghost use Rattle.std.specs.Prelude.{◌≡◌, ◌+◌, ◌^◌, ◌<◌, ◌≤◌, None, true, is_none, length, IfOk};
 ghost use Rattle.imago_drivers.specs.Operation.{Write};
 ghost use Rattle.imago_drivers.specs.LayerBelow.{lent};
+ghost use Rattle.imago_drivers.specs.Place.{values};
+ghost use Rattle.imago_drivers.specs.Parts.{length_of, state_of};
 ghost use Rattle.imago_access.specs.Chain.{driver};
-ghost use Rattle.imago_access.specs.Calls.{IsTested, IsWrite};
-ghost use Rattle.imago_access.specs.Writing.{CommitMayTakeMemory, HasWritten, HasWrittenAll};
+ghost use Rattle.imago_access.specs.Calls.{IsTested, IsWrite, IsMappedWrite};
+ghost use Rattle.imago_access.specs.Writing.{CommitMayTakeMemory, WasPrepared, HasFilled, HasMapped, HasWritten, HasWrittenAll};
 
 use crate::access::{FormatAccess, below};
-use imago_drivers::drivers::FormatDriverInstance;
+use imago_drivers::drivers::{FormatDriverInstance, PreparedDataMapping};
 use imago_drivers::layer::LowerLayer;
 use imago_storage::error::Error;
 use std::alloc::Global;
+
+/// Prepares a mapping of the range's first bytes, at most `count`, and writes what fits of the source to it. Where that is refused,
+/// the mapping is cancelled.
+fn fill_mapping<D: FormatDriverInstance, B: LowerLayer>(
+    inner: &mut D,
+    alloc: Global,
+    below: Option<&B>,
+    offset: u64,
+    count: u64,
+    overwrite: bool,
+    source: &[u8],
+) -> Result<PreparedDataMapping<D::State>, Error>
+    requires writable { (D.view inner.old).abilities.is_writable ≡ true }
+    requires spent { (D.view inner.old).pending ≡ None }
+    requires inside { offset + count ≤ (D.view inner.old).size }
+    ensures prepared { IfOk result
+        (λ m. WasPrepared D.view (values (lent B.as_layer_below below.entry).at (D.view inner.old).place)
+        inner.old offset count overwrite (length_of m, is_none (state_of m))) }
+    ensures filled { HasFilled (lent B.as_layer_below below.entry) (D.view inner.old) (D.view inner.new) offset count overwrite source.now result }
+{
+    let mapping = inner.prepare_data_mapping(alloc, below, offset, count, overwrite)?;
+    let fitting = source.len().min(mapping.length() as usize);
+    if let Err(error) = inner.write_prepared(alloc, &mapping, &source[..fitting], 0) {
+        inner.cancel_data_mapping(mapping);
+        return Err(error);
+    }
+    Ok(mapping)
+}
+
+/// Writes what fits of the source through one mapping, which is committed or cancelled then, and answers how long it was, and whether
+/// it had no state.
+fn write_through<D: FormatDriverInstance, B: LowerLayer>(
+    inner: &mut D,
+    alloc: Global,
+    below: Option<&B>,
+    offset: u64,
+    count: u64,
+    overwrite: bool,
+    source: &[u8],
+    commit: bool,
+) -> Result<(u64, bool), Error>
+    requires writable { (D.view inner.old).abilities.is_writable ≡ true }
+    requires spent { (D.view inner.old).pending ≡ None }
+    requires inside { offset + count ≤ (D.view inner.old).size }
+    ensures told { IfOk result
+        (WasPrepared D.view (values (lent B.as_layer_below below.entry).at (D.view inner.old).place)
+        inner.old offset count overwrite) }
+    ensures mapped { HasMapped (lent B.as_layer_below below.entry) (CommitMayTakeMemory D.view inner.old) (D.view inner.old) (D.view inner.new) offset count overwrite source.now commit result }
+{
+    let mapping = fill_mapping(inner, alloc, below, offset, count, overwrite, source)?;
+    let answer = (mapping.length(), mapping.is_nonblocking());
+    if !commit {
+        inner.cancel_data_mapping(mapping);
+        return Ok(answer);
+    }
+    inner.commit_data_mapping(mapping)?;
+    Ok(answer)
+}
 
 /// Writes the first bytes of a range, as many as one mapping holds, and answers how many these are.
 pub(crate) fn write_first<D: FormatDriverInstance, B: LowerLayer>(
@@ -27,14 +87,17 @@ pub(crate) fn write_first<D: FormatDriverInstance, B: LowerLayer>(
     ensures { HasWritten (lent B.as_layer_below below.entry) (CommitMayTakeMemory D.view inner.old) (D.view inner.old) (D.view inner.new) offset
         source.now result }
 {
-    let mapping = inner.prepare_data_mapping(alloc, below, offset, source.len() as u64, true)?;
-    let count = mapping.length() as usize;
-    if let Err(error) = inner.write_prepared(alloc, &mapping, &source[..count], 0) {
-        inner.cancel_data_mapping(mapping);
-        return Err(error);
-    }
-    inner.commit_data_mapping(mapping)?;
-    Ok(count)
+    let (count, _) = write_through(
+        inner,
+        alloc,
+        below,
+        offset,
+        source.len() as u64,
+        true,
+        source,
+        true,
+    )?;
+    Ok(count as usize)
 }
 
 /// Writes a range, mapping after mapping.
@@ -72,6 +135,34 @@ impl<D: FormatDriverInstance> FormatAccess<D> {
             return Err(Error::BeyondDisk);
         }
         Ok(())
+    }
+
+    /// Prepares a mapping of the range's first bytes, writes what fits of the source to it, and commits or cancels it. It answers how
+    /// long the mapping was, and whether it had no state. The tests are those of [`write`](Self::write).
+    pub(crate) fn write_mapping(
+        &mut self,
+        alloc: Global,
+        offset: u64,
+        count: u64,
+        overwrite: bool,
+        source: &[u8],
+        commit: bool,
+    ) -> Result<(u64, bool), Error>
+        requires { (D.view (driver self.old)).pending ≡ None }
+        ensures { IsMappedWrite D.view self.old self.new offset count overwrite source.now commit result }
+    {
+        self.test_range(offset, count)?;
+        let lower = below(&self.backing);
+        write_through(
+            &mut self.inner,
+            alloc,
+            lower,
+            offset,
+            count,
+            overwrite,
+            source,
+            commit,
+        )
     }
 
     /// Writes the bytes at the offset. Nothing below the top layer changes.

@@ -47,6 +47,12 @@ fn print_reply<W: Write>(reply: &Reply, output: &mut W) -> io::Result<()> {
         Reply::Data(bytes) => print_bytes(bytes, output),
         Reply::Size(size) => writeln!(output, "ok {size}"),
         Reply::Mapped { mapping, length } => writeln!(output, "ok {length} {mapping}"),
+        Reply::DataMapped {
+            storage,
+            offset,
+            length,
+        } => writeln!(output, "ok {length} {storage}:{offset:#x}"),
+        Reply::Prepared { length, .. } => writeln!(output, "ok {length}"),
         Reply::Refused(error) => {
             let kind = error.kind();
             writeln!(output, "err {kind:?}")

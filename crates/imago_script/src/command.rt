@@ -1,7 +1,7 @@
 //! What a line of a script says.
 ghost use Rattle.std.specs.Prelude.{◌≤◌, ◌↔◌, IsSome};
 
-use crate::words::{Alignment, Hex, byte, mode, number, words_of, writability};
+use crate::words::{Alignment, Hex, byte, mode, number, overwriting, words_of, writability};
 use imago::run::Call;
 
 /// The longest read, in bytes.
@@ -101,6 +101,11 @@ fn call_of(words: &[&str]) -> Option<Call> {
         &["map", offset, most] => Some(Call::GetMapping {
             offset: number(offset)?,
             max_length: number(most)?,
+        }),
+        &["data", offset, length, overwrite] => Some(Call::EnsureData {
+            offset: number(offset)?,
+            length: number(length)?,
+            overwrite: overwriting(overwrite)?,
         }),
         &["resize", size, growth] => Some(Call::Resize {
             size: number(size)?,

@@ -133,3 +133,12 @@ pub fn writability(word: &str) -> Option<bool> {
         _ => None,
     }
 }
+
+/// Whether what is mapped may be overwritten: `keep` or `over`.
+pub fn overwriting(word: &str) -> Option<bool> {
+    match word {
+        "keep" => Some(false),
+        "over" => Some(true),
+        _ => None,
+    }
+}

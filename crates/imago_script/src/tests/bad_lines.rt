@@ -3,7 +3,7 @@
 use super::check;
 
 /// Texts that are no command, each by one fault.
-const BAD_LINES: [&[u8]; 72] = [
+const BAD_LINES: [&[u8]; 74] = [
     // The words: nothing but bytes that print, and one space between two.
     b" ",
     b" size",
@@ -32,7 +32,9 @@ const BAD_LINES: [&[u8]; 72] = [
     b"discard 0 1",
     b"discard none 0 1",
     b"discard any 0",
-    b"data 0 1 keep",
+    b"data 0 1",
+    b"data 0 1 kept",
+    b"data 0 -1 over",
     b"open vmdk a",
     b"open qcow2 a ro",
     b"open cow a 3",

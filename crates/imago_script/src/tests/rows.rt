@@ -3,7 +3,7 @@
 use super::check;
 
 /// Scripts whose every line is a command, and what they print.
-const ROWS: [(&str, &str); 22] = [
+const ROWS: [(&str, &str); 23] = [
     (
         "mem a 16 00 1 1\nopen raw a rw\nwrite 3 0102\nread 0 6\n",
         "ok\nok\nok\nok 000000010200\n",
@@ -23,8 +23,8 @@ const ROWS: [(&str, &str); 22] = [
     // A disk that ends inside a block, a write there, and a growth over its padding.
     (
         "mem a 10000 a5 4096 4096\nopen raw a rw\nshow\nwrite 9999 01\nread 9998 4\ngrow 11000 zero\nsize\nread 9999 3\n\
-         write 11000 ff\nread 0 0\n",
-        "ok\nok\nok raw[mem:a]\nok\nok a5010000\nok\nok 11000\nok 010000\nerr UnexpectedEof\nok -\n",
+         map 10999 8\ndata 0 16 keep\nwrite 11000 ff\nread 0 0\n",
+        "ok\nok\nok raw[mem:a]\nok\nok a5010000\nok\nok 11000\nok 010000\nok 1 0/0:0x2af7/rw\nok 16 0:0x0\nerr UnexpectedEof\nok -\n",
     ),
     // A read that is shorter than a block.
     (
@@ -54,6 +54,13 @@ const ROWS: [(&str, &str); 22] = [
         "hex a 01020304\nopen raw a rw\nshrink 2\ngrow 4 zero\nread 0 4\ngrow 1 zero\nshrink 9\nsize\nresize 2 data\n\
          resize 3 full\ngrow 5 format\ngrow 6 none\nsize\nread 0 5\nread 0 2\n",
         "ok\nok\nok\nok\nok 01020000\nok\nok\nok 4\nok\nok\nok\nok\nok 6\nok 0102000000\nok 0102\n",
+    ),
+    // Where data stand: the tests are those of a write, and nothing changes.
+    (
+        "mem a 8 ff 1 1\nopen raw a rw\ndata 2 3 keep\ndata 2 3 over\ndata 8 0 keep\ndata 7 2 keep\ndata 9 0 over\nread 0 8\n\
+         mem b 4 00 1 1\nopen raw b ro\ndata 0 0 keep\n",
+        "ok\nok\nok 3 0:0x2\nok 3 0:0x2\nok 0 0:0x8\nerr UnexpectedEof\nerr UnexpectedEof\nok ffffffffffffffff\n\
+         ok\nok\nerr Other\n",
     ),
     // Zeroes and discards, of any range of a disk.
     (

@@ -19,3 +19,6 @@ returns-in-DiscardToAny-clause-step g c = rw c.in-DiscardToAny.is (c.discard_to_
 
 pub returns-in-DiscardToBacking-clause-step : goal.returns-in-DiscardToBacking-clause-step
 returns-in-DiscardToBacking-clause-step g c = rw c.in-DiscardToBacking.is (c.discard_to_backing.result, c.done_or_refused-in-DiscardToBacking.ensures, c.discard_to_backing.ensures)
+
+pub returns-in-EnsureData-clause-step : goal.returns-in-EnsureData-clause-step
+returns-in-EnsureData-clause-step g c = rw c.in-EnsureData.is (c.ensure_data_mapping.result, c.data_or_refused.ensures, record { mapped = c.ensure_data_mapping.ensures.mapped; call = c.ensure_data_mapping.ensures.call })

@@ -1,6 +1,7 @@
 //! Images over a driver whose writes wait for a commit, each layer copying the one below it at its first write.
 use super::answer::Answer;
 use super::image::{Call, script};
+use super::runs::by_run;
 use super::set_up::stored;
 use imago_access::access::FormatAccess;
 use imago_storage::mem::MemStorage;
@@ -86,6 +87,49 @@ const SPENT: [(Call, Answer); 6] = [
 fn a_commit_shows_and_a_cancel_does_not(rt: HostRuntime) {
     let alloc = rt.alloc();
     on(&rt, alloc, &mut above_counted(&rt, alloc), &SPENT);
+}
+
+/// Prepares 3 bytes at 2, for overwriting or not, and writes 8 and 9 from the first of them on.
+macro_rules! two_of_three {
+    ($overwrite:expr, $commits:expr) => {
+        Call::Prepare {
+            offset: 2,
+            count: 3,
+            overwrite: $overwrite,
+            at: 0,
+            bytes: &[8, 9],
+            commits: $commits,
+        }
+    };
+}
+
+/// Above the same, as a list.
+const LISTED: [(Call, Answer); 6] = [
+    (two_of_three!(true, false), Answer::Prepared(3, true)),
+    (Call::Read(0, &[1, 2, 3, 4, 5, 6, 7, 8]), DONE),
+    (two_of_three!(false, true), Answer::Prepared(3, true)),
+    (Call::Read(0, &[1, 2, 8, 9, 5, 6, 7, 8]), DONE),
+    (two_of_three!(false, false), Answer::Prepared(3, false)),
+    (Call::MapData(1, 7, false), Answer::Data(0, 1, 7)),
+];
+
+/// Runs the calls as a list on such an image. Answers whether there was memory for it.
+fn run_on(
+    rt: &impl Abort,
+    alloc: Global,
+    image: &mut CopyingImage,
+    calls: &[(Call, Answer)],
+) -> bool {
+    by_run(rt, alloc, image, calls, &mut Vec::new(alloc))
+}
+
+#[test]
+fn a_list_commits_and_cancels(rt: HostRuntime) {
+    let alloc = rt.alloc();
+    if !run_on(&rt, alloc, &mut above_counted(&rt, alloc), &LISTED) {
+        let done = run_on(&rt, alloc, &mut above_counted(&rt, alloc), &LISTED);
+        assert!(rt; done, "memory was refused twice");
+    }
 }
 
 /// The call, and whether the driver is asked to prepare a mapping for overwriting.

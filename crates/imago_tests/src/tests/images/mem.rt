@@ -108,16 +108,18 @@ const KEPT: [(Call, Answer); 10] = [
 ];
 
 /// On the same.
-const KEPT_MAPPINGS: [(Call, Answer); 4] = [
-    (
-        Call::WriteStranger {
-            offset: 0,
-            count: 4,
-            bytes: &[1],
-            commits: false,
-        },
-        FOREIGN,
-    ),
+const KEPT_STRANGER: [(Call, Answer); 1] = [(
+    Call::WriteStranger {
+        offset: 0,
+        count: 4,
+        bytes: &[1],
+        commits: false,
+    },
+    FOREIGN,
+)];
+
+/// On the same, also as a list.
+const KEPT_MAPPINGS: [(Call, Answer); 3] = [
     (
         Call::Prepare {
             offset: 2,
@@ -137,7 +139,9 @@ const KEPT_MAPPINGS: [(Call, Answer); 4] = [
 fn a_read_only_image_is_kept(rt: HostRuntime) {
     let alloc = rt.alloc();
     on_read_only(&rt, alloc, &[1, 2, 3, 4], &KEPT);
+    on_read_only(&rt, alloc, &[1, 2, 3, 4], &KEPT_STRANGER);
     on_read_only(&rt, alloc, &[1, 2, 3, 4], &KEPT_MAPPINGS);
+    run_on_bytes(&rt, alloc, (&[1, 2, 3, 4], false), &KEPT_MAPPINGS);
     run_on_bytes(&rt, alloc, (&[1, 2, 3, 4], false), &KEPT);
 }
 
@@ -157,8 +161,8 @@ fn a_write_past_the_end_changes_nothing(rt: HostRuntime) {
     run_on_bytes(&rt, alloc, (&[1, 2, 3, 4], true), &PAST_THE_END);
 }
 
-/// On 8 zeroes.
-const MAPPINGS: [(Call, Answer); 8] = [
+/// On 8 zeroes, also as a list.
+const PREPARED: [(Call, Answer); 9] = [
     (
         Call::Prepare {
             offset: 2,
@@ -184,7 +188,25 @@ const MAPPINGS: [(Call, Answer); 8] = [
         Answer::Prepared(4, false),
     ),
     (Call::Read(0, &[0, 0, 1, 2, 3, 4, 0, 0]), Answer::Done),
+    (
+        Call::Prepare {
+            offset: 6,
+            count: 3,
+            overwrite: true,
+            at: 0,
+            bytes: &[9],
+            commits: true,
+        },
+        BEYOND,
+    ),
     (Call::MapData(5, 2, true), Answer::Data(0, 5, 2)),
+    (Call::MapData(7, 2, false), BEYOND),
+    (Call::MapData(8, 0, false), Answer::Length(0)),
+    (Call::Read(2, &[1, 2, 3, 4]), Answer::Done),
+];
+
+/// On 8 zeroes.
+const STRANGERS: [(Call, Answer); 3] = [
     (
         Call::WriteStranger {
             offset: 100,
@@ -217,7 +239,9 @@ fn commit_stranger(image: &mut MemImage) -> Result<(), Error> {
 #[test]
 fn data_mappings(rt: HostRuntime) {
     let alloc = rt.alloc();
-    on_bytes(&rt, alloc, &[0; 8], &MAPPINGS);
+    on_bytes(&rt, alloc, &[0; 8], &PREPARED);
+    run_on_bytes(&rt, alloc, (&[0; 8], true), &PREPARED);
+    on_bytes(&rt, alloc, &[0; 8], &STRANGERS);
     let mut image = image_of(&rt, alloc, &[0; 8], true);
     assert_eq!(rt; commit_stranger(&mut image), Err(Error::ForeignMapping));
     on(

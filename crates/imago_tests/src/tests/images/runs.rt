@@ -1,5 +1,5 @@
 //! The same calls as a list for `run`, and the replies.
-use super::answer::Answer;
+use super::answer::{Answer, data, prepared};
 use super::image::{Call, is_spent};
 use super::set_up::{copied, printed, runs};
 use imago_access::access::FormatAccess;
@@ -27,6 +27,25 @@ fn listed(rt: &impl Abort, alloc: Global, call: Call) -> run::Call {
             bytes: runs(rt, alloc, &[(count, byte)]),
         },
         Call::Map(offset, max_length, _) => run::Call::GetMapping { offset, max_length },
+        Call::MapData(offset, length, overwrite) => run::Call::EnsureData {
+            offset,
+            length,
+            overwrite,
+        },
+        Call::Prepare {
+            offset,
+            count,
+            overwrite,
+            at: 0,
+            bytes,
+            commits,
+        } => run::Call::Prepared {
+            offset,
+            length: count,
+            overwrite,
+            bytes: copied(rt, alloc, bytes),
+            commit: commits,
+        },
         Call::Resize(size, mode) => run::Call::Resize { size, mode },
         Call::Grow(size, mode) => run::Call::ResizeGrow { size, mode },
         Call::Shrink(size) => run::Call::ResizeShrink { size },
@@ -63,6 +82,15 @@ fn told(rt: &impl Abort, alloc: Global, call: Call, reply: &Reply) -> Answer {
             }
             _ => Answer::Missing,
         },
+        Reply::DataMapped {
+            storage,
+            offset,
+            length,
+        } => data(Ok((*storage, *offset, *length))),
+        Reply::Prepared {
+            length,
+            nonblocking,
+        } => prepared(Ok((*length, !*nonblocking))),
         Reply::Mapped { mapping, length } => match call {
             Call::Map(_, _, text) => {
                 assert_eq!(rt; printed(rt, alloc, mapping).as_str(), text);

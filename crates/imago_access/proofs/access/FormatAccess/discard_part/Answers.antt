@@ -1,6 +1,6 @@
 use Rattle.std.proofs.Common.{sym, subst}
 use Rattle.imago_access.specs.Lending.{with_driver}
-use Rattle.imago_access.specs.Chain.{driver, backing, lent_image}
+use Rattle.imago_access.specs.Chain.{backing, lent_image}
 use Rattle.imago_access.specs.declared.discard.DiscardCall.{DiscardCall}
 use Rattle.imago_access.specs.declared.discard.DiscardCall.TheVariants as C
 use Rattle.imago_access.specs.Discarding.{HasLoosenedPart}

@@ -14,4 +14,4 @@ returns g c =
 pub returns-in_err-test_end : goal.returns-in_err-test_end
 returns-in_err-test_end g c =
     let p = err_from_is_err_and c.from_residual.result c.from_residual.ensures.1 in
-    rw (p.1, p.2) (failed_call g.D.FormatDriverInstance.view c.args.self.now DiscardToAny c.args.offset c.args.count _ _ _ _ _ c.in_err-test_end.field-0.0 c.in_err-test_end.ensures.failed (not_loosened g.D.FormatDriverInstance.view C.ToAny c.args.self.now c.args.offset c.args.count) c.requires)
+    rw (p.1, p.2) (failed_call g.D.FormatDriverInstance.view c.args.self.now DiscardToAny c.args.offset c.args.count _ _ _ _ _ _ c.in_err-test_end.field-0.0 c.in_err-test_end.ensures.failed (not_loosened g.D.FormatDriverInstance.view C.ToAny c.args.self.now c.args.offset c.args.count) c.requires)

@@ -16,4 +16,4 @@ returns-clause-call g c =
 pub returns-in_err-test_range-clause-call : goal.returns-in_err-test_range-clause-call
 returns-in_err-test_range-clause-call g c =
     let p = err_from_is_err_and c.from_residual.result c.from_residual.ensures.1 in
-    rw (p.1, p.2) (failed_call g.D.FormatDriverInstance.view c.args.self.now Write c.args.offset c.args.count _ _ _ _ _ c.in_err-test_range.field-0.0 c.in_err-test_range.ensures.failed (record { inside = λ k h. inr refl; before = λ p h. refl; behind = λ p h. refl }) c.requires)
+    rw (p.1, p.2) (failed_call g.D.FormatDriverInstance.view c.args.self.now Write c.args.offset c.args.count _ _ _ _ _ _ c.in_err-test_range.field-0.0 c.in_err-test_range.ensures.failed (record { inside = λ k h. inr refl; before = λ p h. refl; behind = λ p h. refl }) c.requires)

@@ -1,4 +1,4 @@
-use Rattle.std.proofs.Common.{arith, ◌+◌, ◌-◌, ◌≤◌, subst}
+use Rattle.std.proofs.Common.{arith, ◌+◌, ◌-◌, subst}
 use Rattle.imago_access.specs.declared.mapping.Mapping.{Mapping}
 use Rattle.imago_access.specs.Resolved.{IsResolved}
 use Rattle.imago_access.specs.Chain.{disk_value}

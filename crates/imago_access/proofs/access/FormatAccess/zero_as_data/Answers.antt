@@ -1,4 +1,3 @@
-use Rattle.std.proofs.Common.{arith}
 use Rattle.std.proofs.lemmas.Result.{err_from_is_err_and}
 use Rattle.imago_access.proofs.ZeroLoops.{zeroed_next, refused_next}
 use Rattle.imago_access.proofs.access.FormatAccess.zero_as_data.Goals as goal

@@ -1,7 +1,7 @@
-use Rattle.std.proofs.Common.{arith, subst, length-take}
+use Rattle.std.proofs.Common.{Bool, arith, subst, length-take}
 use Rattle.imago_access.specs.declared.mapping.Mapping.{Mapping}
 use Rattle.imago_access.specs.Resolved.{IsResolved}
-use Rattle.imago_access.proofs.ZeroSteps.{zero_mapped}
+use Rattle.imago_access.proofs.ZeroSteps.{zero_mapped, explicit_alone}
 use Rattle.imago_access.proofs.ZeroLoops.{zero_already, piece_refused}
 use Rattle.imago_access.proofs.access.FormatAccess.zero_first.Goals as goal
 
@@ -11,6 +11,7 @@ returns-in-Zero-true-clause-zeroed g c =
     let m = c.in_ok-mapping in
     zero_already v c.args.self.now c.args.offset c.args.count (g.met.D.FormatDriverInstance.causes_lawful _) c.requires.spent _ m.length
     (zero_mapped v c.args.self.now c.args.offset c.args.count m.length c.in-Zero-true.explicit (subst (λ (k : Mapping). IsResolved v c.args.self.now c.args.offset c.args.count k m.length) c.in-Zero-true.is m.ensures.right))
+    (explicit_alone v c.args.self.now c.args.offset c.args.count m.length (subst (λ (b : Bool). IsResolved v c.args.self.now c.args.offset c.args.count (Mapping.Zero b) m.length) c.in-Zero-true.explicit-test (subst (λ (k : Mapping). IsResolved v c.args.self.now c.args.offset c.args.count k m.length) c.in-Zero-true.is m.ensures.right)))
 
 pub returns-in-Err-clause-zeroed : goal.returns-in-Err-clause-zeroed
 returns-in-Err-clause-zeroed g c =

@@ -1,4 +1,4 @@
-use Rattle.std.proofs.Common.{arith, ◌-◌, inl, inr, ⊎_elim}
+use Rattle.std.proofs.Common.{arith, ◌-◌, ⊎_elim}
 use Rattle.imago_drivers.specs.Operation.{Zero}
 use Rattle.imago_access.proofs.ZeroLoops.{driver_next}
 use Rattle.imago_access.proofs.access.FormatAccess.zero_granules.Goals as goal
