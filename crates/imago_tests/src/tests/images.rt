@@ -13,5 +13,6 @@ mod raw;
 mod reached;
 mod runs;
 mod set_up;
+mod sparse;
 mod sweep;
 mod zeroes;

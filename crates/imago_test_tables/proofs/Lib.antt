@@ -1,0 +1,6 @@
+pub mod TableSteps
+pub mod PairSteps
+pub mod SparseSteps
+pub mod CommitSteps
+pub mod PrepareSteps
+pub mod DiscardSteps

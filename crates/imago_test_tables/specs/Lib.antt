@@ -1,0 +1,5 @@
+pub mod Table
+pub mod Pair
+pub mod Sparse
+pub mod SparseLaws
+pub mod SparseImage
