@@ -1,2 +1,3 @@
 pub mod Variants
 pub mod CopySteps
+pub mod ChoppySteps

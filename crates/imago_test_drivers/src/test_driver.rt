@@ -2,6 +2,7 @@
 ghost use Rattle.imago_drivers.specs.Commit.{IsCommit, IsCancel};
 ghost use Rattle.imago_test_drivers.specs.TestDriver.{test_view, test_lawful, test_causes, by_driver};
 
+use crate::choppy::Choppy;
 use crate::pattern::Pattern;
 use imago_drivers::drivers::{
     Format, FormatDriverInstance, PreallocateMode, PreparedDataMapping, ShallowMapping,
@@ -18,6 +19,8 @@ use std::fmt::{self, Display, Formatter, Write};
 pub enum TestDriver<S: Storage> {
     /// A raw image.
     Raw(Raw<S>),
+    /// A raw image in blocks.
+    Choppy(Choppy<S>),
     /// A read-only disk of one kind of place, which has no storage.
     Pattern(Pattern),
 }
@@ -27,6 +30,7 @@ macro_rules! dispatch {
     ($self:expr, $driver:ident => $call:expr) => {
         match $self {
             TestDriver::Raw($driver) => $call,
+            TestDriver::Choppy($driver) => $call,
             TestDriver::Pattern($driver) => $call,
         }
     };
@@ -50,9 +54,9 @@ impl<S: Storage> FormatDriverInstance for TestDriver<S> {
     ghost probe_reasons = { ⟦<Raw<S> as FormatDriverInstance>⟧.probe_reasons };
 
     ghost flushes = { record {
-      flushed = by_driver ⟦<Raw<S> as FormatDriverInstance>⟧.flushes.flushed ⟦<Pattern as FormatDriverInstance>⟧.flushes.flushed;
-      synced = by_driver ⟦<Raw<S> as FormatDriverInstance>⟧.flushes.synced ⟦<Pattern as FormatDriverInstance>⟧.flushes.synced;
-      invalidated = by_driver ⟦<Raw<S> as FormatDriverInstance>⟧.flushes.invalidated ⟦<Pattern as FormatDriverInstance>⟧.flushes.invalidated;
+      flushed = by_driver ⟦<Raw<S> as FormatDriverInstance>⟧.flushes.flushed ⟦<Choppy<S> as FormatDriverInstance>⟧.flushes.flushed ⟦<Pattern as FormatDriverInstance>⟧.flushes.flushed;
+      synced = by_driver ⟦<Raw<S> as FormatDriverInstance>⟧.flushes.synced ⟦<Choppy<S> as FormatDriverInstance>⟧.flushes.synced ⟦<Pattern as FormatDriverInstance>⟧.flushes.synced;
+      invalidated = by_driver ⟦<Raw<S> as FormatDriverInstance>⟧.flushes.invalidated ⟦<Choppy<S> as FormatDriverInstance>⟧.flushes.invalidated ⟦<Pattern as FormatDriverInstance>⟧.flushes.invalidated;
     } };
 
     ghost lawful = { λ d. test_lawful S.features S.fault_count S.bytes d };
@@ -90,6 +94,7 @@ impl<S: Storage> FormatDriverInstance for TestDriver<S> {
     fn collect_storage_dependencies(&self, alloc: Global) -> Result<Vec<&S>, Error> {
         match self {
             TestDriver::Raw(raw) => raw.collect_storage_dependencies(alloc),
+            TestDriver::Choppy(choppy) => choppy.collect_storage_dependencies(alloc),
             TestDriver::Pattern(_) => Ok(Vec::new(alloc)),
         }
     }
@@ -101,6 +106,7 @@ impl<S: Storage> FormatDriverInstance for TestDriver<S> {
     fn storage(&self, index: usize) -> Option<&S> {
         match self {
             TestDriver::Raw(raw) => raw.storage(index),
+            TestDriver::Choppy(choppy) => choppy.storage(index),
             TestDriver::Pattern(_) => None,
         }
     }

@@ -2,3 +2,4 @@ pub mod Counting
 pub mod Faulty
 pub mod FaultyPlan
 pub mod Recording
+pub mod WideNull

@@ -1,4 +1,5 @@
-//! Storages for tests: one that fails where a test says so, one that counts what reaches it, and one that records it.
+//! Storages for tests: one that fails where a test says so, one that counts what reaches it, one that records it, one that can be
+//! created, and zeroes in blocks.
 //!
 //! They keep the laws of a storage by proof, so that a test of what stands above them tests that alone.
 #![tactic(auto)]
@@ -7,3 +8,4 @@ pub mod counting;
 pub mod created;
 pub mod faulty;
 pub mod recording;
+pub mod wide_null;

@@ -7,3 +7,6 @@ returns-in-Raw g c = rw c.in-Raw.is (cancel_of (λ r. T.Raw r) _ _ _ _ c.cancel_
 
 pub returns-in-Pattern : goal.returns-in-Pattern
 returns-in-Pattern g c = rw c.in-Pattern.is (cancel_of (λ p. T.Pattern p) _ _ _ _ c.cancel_data_mapping-in-Pattern.ensures)
+
+pub returns-in-Choppy : goal.returns-in-Choppy
+returns-in-Choppy g c = rw c.in-Choppy.is (cancel_of (λ d. T.Choppy d) _ _ _ _ c.cancel_data_mapping-in-Choppy.ensures)

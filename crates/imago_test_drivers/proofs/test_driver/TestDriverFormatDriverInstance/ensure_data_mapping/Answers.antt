@@ -5,3 +5,9 @@ returns-in-Raw-clause-framed g c = rw c.in-Raw.is c.ensure_data_mapping.ensures.
 
 pub returns-in-Raw-clause-refusals : goal.returns-in-Raw-clause-refusals
 returns-in-Raw-clause-refusals g c = rw c.in-Raw.is c.ensure_data_mapping.ensures.refusals
+
+pub returns-in-Choppy-clause-framed : goal.returns-in-Choppy-clause-framed
+returns-in-Choppy-clause-framed g c = rw c.in-Choppy.is c.ensure_data_mapping-in-Choppy.ensures.framed
+
+pub returns-in-Choppy-clause-refusals : goal.returns-in-Choppy-clause-refusals
+returns-in-Choppy-clause-refusals g c = rw c.in-Choppy.is c.ensure_data_mapping-in-Choppy.ensures.refusals

@@ -7,3 +7,6 @@ returns-in-Raw g c = rw c.in-Raw.is (flush_of (λ r. T.Raw r) _ _ _ _ _ _ (λ p.
 
 pub returns-in-Pattern : goal.returns-in-Pattern
 returns-in-Pattern g c = rw c.in-Pattern.is (flush_of (λ p. T.Pattern p) _ _ _ _ _ _ (λ p. p) c.flush-in-Pattern.ensures)
+
+pub returns-in-Choppy : goal.returns-in-Choppy
+returns-in-Choppy g c = rw c.in-Choppy.is (flush_of (λ d. T.Choppy d) _ _ _ _ _ _ (λ p. p) c.flush-in-Choppy.ensures)

@@ -5,3 +5,6 @@ returns-in-Raw-clause-refusals g c = rw c.in-Raw.is c.readv_special.ensures.refu
 
 pub returns-in-Pattern-clause-refusals : goal.returns-in-Pattern-clause-refusals
 returns-in-Pattern-clause-refusals g c = rw c.in-Pattern.is c.readv_special-in-Pattern.ensures.refusals
+
+pub returns-in-Choppy-clause-refusals : goal.returns-in-Choppy-clause-refusals
+returns-in-Choppy-clause-refusals g c = rw c.in-Choppy.is c.readv_special-in-Choppy.ensures.refusals

@@ -22,3 +22,24 @@ pub returns-in-Raw-clause-refusals : goal.returns-in-Raw-clause-refusals
 returns-in-Raw-clause-refusals g c =
     let s = g.S.Storage in
     refusals_at (test_view s.features s.fault_count s.bytes) c.in-Raw.is c.args.mapping.now c.args.at (length c.args.source.now) c.write_prepared.result c.write_prepared.ensures.refusals
+
+pub returns-in-Choppy-clause-foreign : goal.returns-in-Choppy-clause-foreign
+returns-in-Choppy-clause-foreign g c =
+    let s = g.S.Storage in
+    foreign_at (test_view s.features s.fault_count s.bytes) c.in-Choppy.is c.args.mapping.now _ c.write_prepared-in-Choppy.ensures.foreign
+
+pub returns-in-Choppy-clause-causes : goal.returns-in-Choppy-clause-causes
+returns-in-Choppy-clause-causes g c =
+    let s = g.S.Storage in
+    let v = test_view s.features s.fault_count s.bytes in
+    let x = c.write_prepared-in-Choppy in
+    causes_at v c.in-Choppy.is c.args.mapping.now (v (T.Choppy x.new.self)) c.args.at (length c.args.source.now) x.result x.ensures.causes
+
+pub returns-in-Choppy-clause-framed : goal.returns-in-Choppy-clause-framed
+returns-in-Choppy-clause-framed g c = rw c.in-Choppy.is c.write_prepared-in-Choppy.ensures.framed
+
+pub returns-in-Choppy-clause-refusals : goal.returns-in-Choppy-clause-refusals
+returns-in-Choppy-clause-refusals g c =
+    let s = g.S.Storage in
+    let x = c.write_prepared-in-Choppy in
+    refusals_at (test_view s.features s.fault_count s.bytes) c.in-Choppy.is c.args.mapping.now c.args.at (length c.args.source.now) x.result x.ensures.refusals
