@@ -16,8 +16,9 @@ ghost use Rattle.imago_access.specs.Success.{ReadsSucceed, ReadableRangesAreRead
 
 use imago_drivers::drivers::FormatDriverInstance;
 
-/// Every run is a history of one flat list, from the first disk to the last: a write that succeeds is spliced in, a
-/// refused one leaves each byte of its range old or new and all others old, a resize cuts the list or extends it, and
+/// Every run is a history of one flat list, from the first disk to the last: a write or zero write that succeeds is spliced
+/// in, a refused one leaves each byte of its range old or new and all others old, a discard changes its range alone, what
+/// fits of a prepared write is spliced in where it is committed or has no state, a resize cuts the list or extends it, and
 /// nothing else changes it; each read, each size and each mapping answers the list as it stands then.
 pub fn flat_histories<D: FormatDriverInstance>()
     ensures { (old new : FormatAccess D) (calls : List Call) (replies : List Reply)
@@ -35,7 +36,8 @@ pub fn runs_keep_layers_below<D: FormatDriverInstance>()
 
 /// A history of one list whose replies say what the list is afterwards: at its end it is the first one with each
 /// successful write, cut and growth applied, in order, and each read, each size and each mapping answers the list at its
-/// point of the history. A write that is refused past its tests doesn't say it, nor does a growth without preallocation.
+/// point of the history. A write or zero write that is refused past its tests doesn't say it, nor does a growth without
+/// preallocation, a discard to any or to backing, or a mapping that may be overwritten and isn't filled.
 pub fn flat_runs()
     ensures { (below : ℕ → Value) (xs zs : List Value) (calls : List Call) (replies : List Reply)
         → AreDetermined below xs calls replies

@@ -1,7 +1,7 @@
 //! The scripts of examples/, and what they print. tools/examples-in-tests writes this file.
 
 /// The name of each example, its script, and what that prints.
-pub(super) const EXAMPLES: [(&str, &str, &str); 3] = [
+pub(super) const EXAMPLES: [(&str, &str, &str); 4] = [
     (
         "alignment",
         "# A storage that takes requests of whole blocks of 4 bytes alone, and a disk of 10 bytes on it.
@@ -54,6 +54,37 @@ ok raw[mem:a]
 ok 16
 ok
 ok 000000010200
+",
+    ),
+    (
+        "ranges",
+        "# A disk of 16 bytes on a storage that takes requests of whole blocks of 8 bytes alone.
+mem a 16 ff 8 8
+open raw a rw
+# What a range is: bytes of storage 0 of the top layer, from the same offset on, which may be written.
+map 3 100
+# Zeroes at any range: the blocks at its ends keep their other bytes.
+zero 3 4
+read 0 8
+# A discard to backing gives up whole blocks alone. There is no layer below, so what is given up is zero.
+discard backing 3 13
+read 0 16
+# Where the data of a range are to be written. Nothing changes.
+data 9 4 keep
+# Past the end of the disk nothing is zeroed, and nothing is mapped.
+zero 15 2
+map 16 1
+",
+        "ok
+ok
+ok 13 0/0:0x3/rw
+ok
+ok ffffff00000000ff
+ok
+ok ffffff00000000ff0000000000000000
+ok 4 0:0x9
+err UnexpectedEof
+ok 0 <eof>
 ",
     ),
     (
