@@ -23,4 +23,6 @@ pub mod RawLaws
 pub mod RawImage
 pub mod Opening
 pub mod NamedGate
+pub mod Builder
+pub mod BuilderBase
 pub mod Worked

@@ -5,6 +5,7 @@
 //! refused one leaves. [`raw::Raw`] is the driver whose disk is its storage.
 #![tactic(auto)]
 
+pub mod builder;
 pub mod drivers;
 pub mod format;
 pub mod gate;
