@@ -25,4 +25,6 @@ pub mod Opening
 pub mod NamedGate
 pub mod Builder
 pub mod BuilderBase
+pub mod RawBuilder
+pub mod RawBuilderParts
 pub mod Worked

@@ -13,4 +13,5 @@ pub mod laws;
 pub mod layer;
 pub mod mapping;
 pub mod raw;
+mod raw_builder;
 pub mod stored;

@@ -3,3 +3,4 @@ pub mod PatternLaws
 pub mod TestDriver
 pub mod CopyOnce
 pub mod CopyOnceLaws
+pub mod Gates

@@ -1,8 +1,9 @@
-//! Drivers for tests: patterns of places that no storage holds, a copy on the first write, and an enum of drivers.
+//! Drivers for tests: patterns of places that no storage holds, a copy on the first write, and an enum of drivers; and gates.
 //!
 //! They keep the laws of the driver interface by proof, so that a test of what stands above them tests that alone.
 #![tactic(auto)]
 
 pub mod copy_once;
+pub mod gates;
 pub mod pattern;
 pub mod test_driver;
