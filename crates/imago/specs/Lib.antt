@@ -32,6 +32,12 @@ pub use Rattle.imago_drivers.specs.Laws
 pub use Rattle.imago_drivers.specs.Raw
 pub use Rattle.imago_drivers.specs.RawLaws
 pub use Rattle.imago_drivers.specs.RawImage
+pub use Rattle.imago_drivers.specs.Opening
+pub use Rattle.imago_drivers.specs.NamedGate
+pub use Rattle.imago_drivers.specs.Builder
+pub use Rattle.imago_drivers.specs.BuilderBase
+pub use Rattle.imago_drivers.specs.RawBuilder
+pub use Rattle.imago_drivers.specs.RawBuilderParts
 pub use Rattle.imago_access.specs.Chain
 pub use Rattle.imago_access.specs.Text
 pub use Rattle.imago_access.specs.Target

@@ -1,5 +1,5 @@
 //! Image formats, under the paths of the Rust crate.
 
 pub use crate::access;
-pub use imago_drivers::drivers;
 pub use imago_drivers::drivers::{Format, PreallocateMode};
+pub use imago_drivers::{builder, drivers, gate};

@@ -14,8 +14,12 @@ mod tests;
 
 pub use access::{FormatAccess, Mapping};
 pub use imago_access::run;
+pub use imago_drivers::builder::{
+    FormatCreateBuilder, FormatCreateBuilderBase, FormatDriverBuilder, FormatDriverBuilderBase,
+};
 pub use imago_drivers::drivers::{FormatDriverInstance, PreparedDataMapping, ShallowMapping};
-pub use imago_drivers::{drivers, layer, raw};
+pub use imago_drivers::gate::{DenyImplicitOpenGate, ImplicitOpenGate, PermissiveImplicitOpenGate};
+pub use imago_drivers::{builder, drivers, gate, layer, raw};
 pub use imago_storage::ext::StorageExt;
 pub use imago_storage::{error, ext, mem, null};
 pub use storage::{Storage, StorageCreateOptions, StorageOpenOptions};

@@ -1,15 +1,16 @@
 //! The first taste that the README gives.
-use crate::FormatAccess;
 use crate::format::PreallocateMode;
 use crate::mem::MemStorage;
 use crate::raw::Raw;
+use crate::{DenyImplicitOpenGate, FormatAccess, FormatDriverBuilder};
 use std::test::Fail;
 
 #[test]
 fn first_taste(rt: HostRuntime) -> Result<(), Fail> {
     let alloc = rt.alloc();
     let storage = MemStorage::new(vec![in alloc; 0xa5u8; 10000]?).with_align(4096);
-    let mut image = FormatAccess::new(Raw::open_image(storage, true)?);
+    let builder = Raw::builder(storage).write(true);
+    let mut image = FormatAccess::new(builder.open(alloc, DenyImplicitOpenGate::default())?);
     image.write(alloc, &[1], 9999)?;
     image.resize(alloc, 11000, PreallocateMode::Zero)?;
     let mut bytes = [0xff; 3];

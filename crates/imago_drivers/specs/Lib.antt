@@ -23,4 +23,8 @@ pub mod RawLaws
 pub mod RawImage
 pub mod Opening
 pub mod NamedGate
+pub mod Builder
+pub mod BuilderBase
+pub mod RawBuilder
+pub mod RawBuilderParts
 pub mod Worked

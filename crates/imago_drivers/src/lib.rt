@@ -5,6 +5,7 @@
 //! refused one leaves. [`raw::Raw`] is the driver whose disk is its storage.
 #![tactic(auto)]
 
+pub mod builder;
 pub mod drivers;
 pub mod format;
 pub mod gate;
@@ -12,4 +13,5 @@ pub mod laws;
 pub mod layer;
 pub mod mapping;
 pub mod raw;
+mod raw_builder;
 pub mod stored;

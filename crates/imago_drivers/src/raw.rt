@@ -23,6 +23,7 @@ use crate::drivers::{
     Format, FormatDriverInstance, PreallocateMode, PreparedDataMapping, ShallowMapping,
 };
 use crate::layer::LowerLayer;
+pub use crate::raw_builder::{RawCreateBuilder, RawOpenBuilder, create_in};
 use crate::stored::write_bytes;
 use imago_storage::align::{aligned_part, discard_align, zero_align};
 use imago_storage::error::Error;
@@ -96,7 +97,7 @@ impl<S: Storage> Display for Raw<S> {
 }
 
 /// How the storage of a raw image grows.
-fn storage_mode(mode: PreallocateMode) -> storage::PreallocateMode
+pub(crate) fn storage_mode(mode: PreallocateMode) -> storage::PreallocateMode
     ensures { result ≡ storage_mode_of mode }
 {
     match mode {

@@ -7,7 +7,6 @@ mod script;
 mod script_storage;
 mod session;
 mod stop;
-mod storages;
 #[cfg(test)]
 mod tests;
 mod words;

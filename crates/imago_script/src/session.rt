@@ -4,13 +4,13 @@ use crate::answer::Answer;
 use crate::command::Command;
 use crate::script_storage::ScriptStorage;
 use crate::stop::Stop;
-use crate::storages::Storages;
-use imago::FormatAccess;
 use imago::error::{Error, ErrorKind};
+use imago::gate::NamedGate;
 use imago::mem::MemStorage;
 use imago::null::Null;
 use imago::raw::Raw;
 use imago::run::{Call, Reply, run};
+use imago::{FormatAccess, FormatDriverBuilder};
 use std::alloc::Global;
 
 /// An open image.
@@ -20,7 +20,7 @@ pub type Image = FormatAccess<Raw<ScriptStorage>>;
 #[derive(Drop)]
 pub struct Session {
     alloc: Global,
-    storages: Storages,
+    storages: NamedGate<ScriptStorage>,
     image: Option<Image>,
 }
 
@@ -29,7 +29,7 @@ impl Session {
     pub fn new(alloc: Global) -> Self {
         Session {
             alloc,
-            storages: Storages::new(alloc),
+            storages: NamedGate::new(alloc),
             image: None,
         }
     }
@@ -71,14 +71,20 @@ impl Session {
 
     /// Adds a storage.
     fn add(&mut self, name: &str, storage: ScriptStorage) -> Result<Answer<'_>, Stop> {
-        self.storages.add(self.alloc, name, storage)?;
-        Ok(Answer::Done)
+        let name = String::from_str(self.alloc, name)?;
+        match self.storages.add(name, storage) {
+            Ok(()) => Ok(Answer::Done),
+            Err(_) => Err(Stop::Memory),
+        }
     }
 
     /// Takes a storage and opens it. Only where that succeeds the image that was open is let go.
     fn open_raw(&mut self, name: &str, writable: bool) -> Result<Answer<'_>, Error> {
-        let storage = self.storages.take(name).ok_or(Error::NotFound)?;
-        let driver = Raw::open_image(storage, writable)?;
+        let Ok(path) = String::from_str(self.alloc, name) else {
+            return Err(Error::Memory);
+        };
+        let builder = Raw::builder_path(path).write(writable);
+        let driver = builder.open(self.alloc, &mut self.storages)?;
         self.image = Some(FormatAccess::new(driver));
         Ok(Answer::Done)
     }

@@ -6,3 +6,4 @@ pub mod ChoppyImage
 pub mod TestDriver
 pub mod CopyOnce
 pub mod CopyOnceLaws
+pub mod Gates

@@ -2,4 +2,5 @@
 //!
 //! Each test passes as well where one of its requests for memory is refused.
 mod images;
+mod opening;
 mod storages;

@@ -1,0 +1,100 @@
+//! New images, and what a refused creation leaves of a storage that was lent.
+use super::set_up::{size_of, stored};
+use imago_drivers::builder::{FormatCreateBuilder, FormatDriverBuilder};
+use imago_drivers::drivers::FormatDriverInstance;
+use imago_drivers::format::PreallocateMode;
+use imago_drivers::gate::DenyImplicitOpenGate;
+use imago_drivers::raw::{Raw, create_in};
+use imago_storage::error::Error;
+use imago_storage::mem::MemStorage;
+use imago_test_storages::faulty::Faulty;
+use std::alloc::Global;
+use std::process::Abort;
+
+const MODES: [PreallocateMode; 5] = [
+    PreallocateMode::None,
+    PreallocateMode::Zero,
+    PreallocateMode::FormatAllocate,
+    PreallocateMode::FullAllocate,
+    PreallocateMode::WriteData,
+];
+
+/// A new image in a storage of 3 bytes ff.
+fn created(rt: &impl Abort, alloc: Global, size: u64, mode: PreallocateMode) -> MemStorage {
+    let builder = Raw::create_builder(stored(rt, alloc, "a", 3));
+    match builder.size(size).preallocate(mode).create(alloc) {
+        Ok(storage) => storage,
+        Err(_) => {
+            let builder = Raw::create_builder(stored(rt, alloc, "a", 3));
+            let again = builder.size(size).preallocate(mode).create(alloc);
+            again.expect(rt, "a new image")
+        }
+    }
+}
+
+#[test]
+fn a_new_image_is_zero(rt: HostRuntime) {
+    let alloc = rt.alloc();
+    for mode in MODES {
+        for size in [0, 2, 3, 5] {
+            let storage = created(&rt, alloc, size, mode);
+            let zeroes = [0; 5];
+            assert_eq!(rt; Some(storage.as_bytes()), zeroes.get(..size as usize));
+        }
+    }
+}
+
+/// A storage of so many bytes ff whose next resizes fail, so many.
+fn failing(rt: &impl Abort, alloc: Global, count: usize, resizes: u64) -> Faulty {
+    let mut storage = Faulty::new(stored(rt, alloc, "a", count));
+    storage.refuse_resizes(resizes);
+    storage
+}
+
+#[test]
+fn a_storage_that_is_not_emptied_is_as_it_was(rt: HostRuntime) {
+    let alloc = rt.alloc();
+    let mut storage = failing(&rt, alloc, 3, 1);
+    let created = Raw::create_builder(&mut storage).size(5).create(alloc);
+    assert!(rt; created.is_err_and(|e| e == Error::Device));
+    assert_eq!(rt; storage.as_bytes(), [0xff; 3].as_slice());
+    assert_eq!(rt; storage.faults(), 1);
+}
+
+#[test]
+fn a_storage_that_does_not_grow_is_empty(rt: HostRuntime) {
+    let alloc = rt.alloc();
+    let mut storage = failing(&rt, alloc, 0, 1);
+    let created = create_in(&mut storage, 5, PreallocateMode::Zero);
+    assert_eq!(rt; created, Err(Error::Device));
+    assert_eq!(rt; storage.as_bytes(), [].as_slice());
+}
+
+/// The size of a new image of 5 bytes that is opened, by a builder that is told to be read-only, and whether it is writable.
+fn opened(alloc: Global, storage: MemStorage) -> Result<(u64, bool), Error> {
+    let builder = Raw::create_builder(storage).size(5);
+    let gate = DenyImplicitOpenGate::default();
+    let image = builder.create_open(alloc, gate, |s| Ok(Raw::builder(s).write(false)))?;
+    Ok((image.size(), image.writable()))
+}
+
+#[test]
+fn a_new_image_is_opened_as_writable(rt: HostRuntime) {
+    let alloc = rt.alloc();
+    let answer = match opened(alloc, stored(&rt, alloc, "a", 3)) {
+        Err(Error::Memory) => opened(alloc, stored(&rt, alloc, "a", 3)),
+        answer => answer,
+    };
+    assert_eq!(rt; answer, Ok((5, true)));
+}
+
+#[test]
+fn a_new_image_without_a_builder_is_not_opened(rt: HostRuntime) {
+    let alloc = rt.alloc();
+    let mut storage = stored(&rt, alloc, "a", 3);
+    let builder = Raw::create_builder(&mut storage).size(5);
+    let gate = DenyImplicitOpenGate::default();
+    let refused = builder.create_open(alloc, gate, |_| Err(Error::NoAccess));
+    assert_eq!(rt; size_of(refused), Err(Error::NoAccess));
+    assert_eq!(rt; storage.as_bytes(), [].as_slice());
+}
