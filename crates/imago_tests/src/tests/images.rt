@@ -3,6 +3,7 @@
 //! A table is made on a driver or an image by one generic function, which is named once for each type: so the proofs of
 //! the tests stay short.
 mod answer;
+mod blocks;
 mod chains;
 mod copies;
 mod driver;
@@ -15,4 +16,6 @@ mod runs;
 mod set_up;
 mod sparse;
 mod sweep;
+mod zero_sweep;
 mod zeroes;
+mod zeroing;

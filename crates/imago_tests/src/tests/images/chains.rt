@@ -12,13 +12,13 @@ use std::alloc::Global;
 use std::process::Abort;
 
 /// An image of any driver over storages in memory.
-type Image = FormatAccess<TestDriver<MemStorage>>;
+pub(super) type Image = FormatAccess<TestDriver<MemStorage>>;
 
 /// What shows the layer below at the same offset.
 const BELOW: Kind = Kind::Below { writable: true };
 
 /// The calls on such an image.
-fn on(rt: &impl Abort, alloc: Global, image: &mut Image, calls: &[(Call, Answer)]) {
+pub(super) fn on(rt: &impl Abort, alloc: Global, image: &mut Image, calls: &[(Call, Answer)]) {
     script(rt, alloc, image, calls);
 }
 

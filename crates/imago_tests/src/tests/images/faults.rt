@@ -1,6 +1,7 @@
 //! Images over a storage that fails at one call.
 use super::answer::Answer;
 use super::driver;
+use super::driver::Give;
 use super::image::{Call, script};
 use super::runs::by_run;
 use super::set_up::{in_blocks, runs, stored};
@@ -136,6 +137,25 @@ fn a_write_stops_at_each_call(rt: HostRuntime) {
     }
 }
 
+/// The zero write of 3 MiB ff that is made as data, in pieces of 1 MiB.
+const LONG: [(Call, Answer); 1] = [(Call::Give(Give::EnsureZero, 0, 3145728), DEVICE)];
+
+#[test]
+fn a_zero_write_stops_in_its_second_piece(rt: HostRuntime) {
+    let alloc = rt.alloc();
+    let mut storage = faulty(&rt, alloc, &[(3145728, 0xff)]).without_zero_writes();
+    storage.arm(1, Tear::Odd);
+    let mut image = opened(&rt, storage);
+    on(&rt, alloc, &mut image, &LONG);
+    let mut left = runs(&rt, alloc, &[(1048576, 0), (2097152, 0xff)]);
+    for (i, byte) in left.iter_mut().enumerate() {
+        if i < 2097152 && i % 2 == 1 {
+            *byte = 0;
+        }
+    }
+    is_left(&rt, &image, &left, 1);
+}
+
 /// Where reads fail.
 const UNREAD: [(Call, Answer); 3] = [
     (Call::Read(0, &[0; 4]), DEVICE),
@@ -144,7 +164,12 @@ const UNREAD: [(Call, Answer); 3] = [
 ];
 
 /// Where they don't any more.
-const READ: [(Call, Answer); 1] = [(Call::Read(0, &[0xff, 1, 2, 0xff]), DONE)];
+const READ: [(Call, Answer); 4] = [
+    (Call::Read(0, &[0xff, 1, 2, 0xff]), DONE),
+    (Call::Give(Give::EnsureZero, 0, 2), DONE),
+    (Call::Give(Give::DiscardToZero, 3, 1), DONE),
+    (Call::Read(0, &[0, 0, 2, 0]), DONE),
+];
 
 /// The storage of an image, in whose place another driver is put.
 fn taken_out(rt: &impl Abort, alloc: Global, image: &mut Image) -> Faulty {

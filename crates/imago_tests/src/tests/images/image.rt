@@ -4,6 +4,7 @@ ghost use Rattle.imago_access.specs.Chain.{driver};
 
 use super::answer::{Answer, data, done, place, prepared};
 use super::driver;
+use super::driver::Give;
 use super::set_up::{buffer, numbers, printed, runs};
 use imago_access::access::FormatAccess;
 use imago_drivers::drivers::{FormatDriverInstance, PreallocateMode, PreparedDataMapping};
@@ -47,6 +48,8 @@ pub(super) enum Call {
     Resize(u64, PreallocateMode),
     Grow(u64, PreallocateMode),
     Shrink(u64),
+    /// Zeroes a range, or gives up its data.
+    Give(Give, u64, u64),
     /// Maps a range to bytes that may be written, for overwriting or not.
     MapData(u64, u64, bool),
     /// Prepares the range, writes the bytes from the `at`-th of the mapping on, as many as fit, and commits or cancels it.
@@ -171,6 +174,24 @@ fn write<D: FormatDriverInstance>(
     done(image.write(alloc, source, offset))
 }
 
+/// Zeroes a range, or gives up its data.
+fn give_up<D: FormatDriverInstance>(
+    rt: &impl Abort,
+    alloc: Global,
+    image: &mut FormatAccess<D>,
+    give: Give,
+    offset: u64,
+    count: u64,
+) -> Answer {
+    assert!(rt; is_spent(&*image));
+    done(match give {
+        Give::EnsureZero => image.write_zeroes(alloc, offset, count),
+        Give::DiscardToZero => image.discard_to_zero(alloc, offset, count),
+        Give::DiscardToAny => image.discard_to_any(alloc, offset, count),
+        Give::DiscardToBacking => image.discard_to_backing(alloc, offset, count),
+    })
+}
+
 /// Writes into a mapping as many bytes as fit.
 fn write_inside<D: FormatDriverInstance>(
     alloc: Global,
@@ -289,7 +310,7 @@ fn handle<D: FormatDriverInstance>(
 }
 
 /// Makes a call.
-fn make<D: FormatDriverInstance>(
+pub(super) fn make<D: FormatDriverInstance>(
     rt: &impl Abort,
     alloc: Global,
     image: &mut FormatAccess<D>,
@@ -311,6 +332,7 @@ fn make<D: FormatDriverInstance>(
             assert!(rt; is_spent(&*image));
             done(image.writev(alloc, bytes, offset))
         }
+        Call::Give(give, offset, count) => give_up(rt, alloc, image, give, offset, count),
         Call::Resize(_, _) | Call::Grow(_, _) | Call::Shrink(_) => resize(rt, alloc, image, call),
         Call::MapData(_, _, _) | Call::Prepare { .. } | Call::WriteStranger { .. } => {
             handle(rt, alloc, image, call)

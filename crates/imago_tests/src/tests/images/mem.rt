@@ -1,6 +1,7 @@
 //! Images of raw drivers in memory, and of zeroes.
 use super::answer::Answer;
 use super::driver;
+use super::driver::Give;
 use super::image::{Call, script};
 use super::runs::by_run;
 use super::set_up::{printed, raw, stored, storing};
@@ -43,13 +44,23 @@ fn image_of(rt: &impl Abort, alloc: Global, bytes: &[u8], writable: bool) -> Mem
     image_on(rt, storing(rt, alloc, bytes), writable)
 }
 
+/// The calls on a writable raw image in that storage.
+pub(super) fn on_storage(
+    rt: &impl Abort,
+    alloc: Global,
+    storage: MemStorage,
+    calls: &[(Call, Answer)],
+) {
+    on(rt, alloc, &mut image_on(rt, storage, true), calls);
+}
+
 /// The calls on a writable raw image of these bytes.
-fn on_bytes(rt: &impl Abort, alloc: Global, bytes: &[u8], calls: &[(Call, Answer)]) {
+pub(super) fn on_bytes(rt: &impl Abort, alloc: Global, bytes: &[u8], calls: &[(Call, Answer)]) {
     on(rt, alloc, &mut image_of(rt, alloc, bytes, true), calls);
 }
 
 /// The calls on a raw image of these bytes that may not be written.
-fn on_read_only(rt: &impl Abort, alloc: Global, bytes: &[u8], calls: &[(Call, Answer)]) {
+pub(super) fn on_read_only(rt: &impl Abort, alloc: Global, bytes: &[u8], calls: &[(Call, Answer)]) {
     on(rt, alloc, &mut image_of(rt, alloc, bytes, false), calls);
 }
 
@@ -435,10 +446,13 @@ fn four_above_eight(rt: &impl Abort, alloc: Global) -> MemImage {
 }
 
 /// On 4 bytes ff above 8 bytes 11.
-const HIDES: [(Call, Answer); 6] = [
+const HIDES: [(Call, Answer); 8] = [
     (Call::Read(2, &[0xff, 0xff, 0, 0, 0, 0]), Answer::Done),
     (Call::Grow(6, PreallocateMode::FullAllocate), Answer::Done),
     (Call::Read(2, &[0xff, 0xff, 0, 0]), Answer::Done),
+    // what is given up is zero, as if nothing stood below
+    (Call::Give(Give::DiscardToBacking, 0, 4), Answer::Done),
+    (Call::Read(0, &[0; 4]), Answer::Done),
     (Call::ReadBelow(0, &[0x11; 8]), Answer::Done),
     (Call::ReadBelow(7, &[0x11, 0]), Answer::Done),
     (Call::Depth, Answer::Length(1)),

@@ -21,7 +21,7 @@ fn recording(rt: &impl Abort, alloc: Global) -> Recording {
 }
 
 /// The driver of a raw image over such a storage.
-fn opened(rt: &impl Abort, alloc: Global) -> Raw<Recording> {
+pub(super) fn opened(rt: &impl Abort, alloc: Global) -> Raw<Recording> {
     Raw::open_image(recording(rt, alloc), true).expect(rt, "a raw image")
 }
 
@@ -31,7 +31,7 @@ fn is_repeated(call: Recorded, last: Option<Recorded>) -> bool {
 }
 
 /// These calls reached the storage. A resize that is refused for memory is made again, and reaches it twice.
-fn was_reached(rt: &impl Abort, raw: &Raw<Recording>, expected: &[Recorded]) {
+pub(super) fn was_reached(rt: &impl Abort, raw: &Raw<Recording>, expected: &[Recorded]) {
     let storage = raw.storage(0).expect(rt, "a raw image's storage");
     let mut repeats: usize = 0;
     let mut made: usize = 0;
@@ -118,7 +118,7 @@ fn calls_of_a_driver_reach_its_storage(rt: HostRuntime) {
 type Image = FormatAccess<Raw<Recording>>;
 
 /// The calls on an image.
-fn on(rt: &impl Abort, alloc: Global, image: &mut Image, calls: &[(Call, Answer)]) {
+pub(super) fn on(rt: &impl Abort, alloc: Global, image: &mut Image, calls: &[(Call, Answer)]) {
     script(rt, alloc, image, calls);
 }
 
@@ -204,7 +204,7 @@ const LEFT: [[(usize, u8); 3]; 5] = [
 ];
 
 /// The bytes of the storage are these runs.
-fn holds(rt: &impl Abort, alloc: Global, raw: &Raw<Recording>, left: &[(usize, u8)]) {
+pub(super) fn holds(rt: &impl Abort, alloc: Global, raw: &Raw<Recording>, left: &[(usize, u8)]) {
     let storage = raw.storage(0).expect(rt, "a raw image's storage");
     assert_eq!(rt;
         storage.as_bytes(),

@@ -25,7 +25,7 @@ fn zeroes(rt: &impl Abort, size: u64, writable: bool) -> Raw<Null> {
 }
 
 /// The calls on a writable image of that many zeroes.
-fn on_zeroes(rt: &impl Abort, alloc: Global, size: u64, calls: &[(Call, Answer)]) {
+pub(super) fn on_zeroes(rt: &impl Abort, alloc: Global, size: u64, calls: &[(Call, Answer)]) {
     let mut image = FormatAccess::new(zeroes(rt, size, true));
     on(rt, alloc, &mut image, calls);
 }
