@@ -13,7 +13,7 @@ use Rattle.imago_test_tables.specs.declared.table.Origin.TheVariants as O
 use Rattle.imago_drivers.specs.declared.mapping.PreparedDataMapping.{PreparedDataMapping}
 use Rattle.imago_drivers.specs.Operation.{Write}
 use Rattle.imago_drivers.specs.Place.{Value, Byte, IsIn, shown}
-use Rattle.imago_drivers.specs.LayerBelow.{LayerBelow, below_reasons}
+use Rattle.imago_drivers.specs.LayerBelow.{LayerBelow}
 use Rattle.imago_drivers.specs.Reasons.{allowed}
 use Rattle.imago_drivers.specs.Done.{lending_reasons}
 use Rattle.imago_drivers.specs.Causes.{CauseOver}
@@ -111,31 +111,11 @@ copied_bytes at first now items o n origin len old put p i =
     let y : slice_index now p ≡ slice_index items (p - o) = rw q at (⊎_elim (λ u. u) (λ u. let v = u.0 in let z : ⊥ = cc in absurd z) (put.inside (p - o) l)) in
     rw y (rw q at (old (p - o) l))
 
-pub bytes_outside : (first now items : List ℕ) (o n : ℕ) (torn : Bool) → length items ≡ n → HasBytes torn o (length items) (λ k. slice_index items k) first now
-    → (p : ℕ) → (p < o) ⊎ (o + n ≤ p) → slice_index now p ≡ slice_index first p
-bytes_outside first now items o n torn len put p out = ⊎_elim (λ under. put.before p under) (λ over. put.behind p (omega (arith, len, over))) out
-
 -- the byte that a copy left in the storage is what the disk shows
 pub shown_copy : (at : ℕ → Value) (bytes : ℕ → List ℕ) (table : List Origin) (now : List ℕ) (o run : ℕ) (origin : Origin) → IsFree (Some origin) → ((k : ℕ) → k < run → slice_get table (o + k) ≡ Some origin)
     → ((p : ℕ) → IsIn o run p → HasOldByte at p origin (slice_index now p)) → (p : ℕ) → IsIn o run p → shown at (entry_place bytes p (slice_get table p)) ≡ Byte (slice_index now p)
 shown_copy at bytes table now o run origin free equal copied p i =
     rw (run_at table o run origin equal p i) (copied_shows at bytes p origin (slice_index now p) free (copied p i))
-
--- what a read of the layer below is refused for, a copy may be
-pub below_refused : (l : LayerBelow) (origin : Origin) (o n : ℕ) (r : Result Unit Error) → origin ≡ Origin.Lower → IfErr r (allowed (below_reasons l o n)) → IfErr r (allowed (copy_reasons l origin o n))
-below_refused l origin o n (Ok x) lower h = tt
-below_refused l origin o n (Err E.Memory) lower h = tt
-below_refused l origin o n (Err E.Device) lower h = tt
-below_refused l origin o n (Err E.WrapAround) lower h = inl refl
-below_refused l origin o n (Err E.InvalidData) lower h = inr (lower, h)
-below_refused l origin o n (Err E.Unsupported) lower h = inr (lower, h)
-below_refused l origin o n (Err E.NoAccess) lower h = inr (lower, h)
-below_refused l origin o n (Err E.ReadOnly) lower h = h
-below_refused l origin o n (Err E.BeyondDisk) lower h = h
-below_refused l origin o n (Err E.RangeOverflow) lower h = h
-below_refused l origin o n (Err E.ForeignMapping) lower h = h
-below_refused l origin o n (Err E.Denied) lower h = h
-below_refused l origin o n (Err E.NotFound) lower h = h
 
 -- a refusal of the storage is one of the copy
 pub ext_refused : (l : LayerBelow) (origin : Origin) (o n : ℕ) (r : Result Unit Error) → IfErr r IsExtRefusal → IfErr r (allowed (copy_reasons l origin o n))

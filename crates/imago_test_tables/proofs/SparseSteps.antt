@@ -282,14 +282,6 @@ growth_refused v l mode new_size more spent cause = record {
   refusals = inl cause;
 }
 
--- entries of an origin that is none of a storage, nor barred, are free
-pub free_run : (table : List Origin) (o n : ℕ) (origin : Origin) → index_of origin ≡ None → (origin ≡ Origin.Barred → ⊥) → ((k : ℕ) → k < n → slice_get table (o + k) ≡ Some origin) → (p : ℕ) → IsIn o n p → IsFree (slice_get table p)
-free_run table o n O.First i b equal p inside = let z : ⊥ = cc in absurd z
-free_run table o n O.Second i b equal p inside = let z : ⊥ = cc in absurd z
-free_run table o n O.Zero i b equal p inside = let x : o ≤ p = inside.0 in let y : p < o + n = inside.1 in let k : p - o < n = omega arith in let q : o + (p - o) ≡ p = omega arith in rw (rw q at (equal (p - o) k)) refl
-free_run table o n O.Lower i b equal p inside = let x : o ≤ p = inside.0 in let y : p < o + n = inside.1 in let k : p - o < n = omega arith in let q : o + (p - o) ≡ p = omega arith in rw (rw q at (equal (p - o) k)) refl
-free_run table o n O.Barred i b equal p inside = absurd (b refl)
-
 -- what stands at one entry's origin isn't where a write waits
 pub still_waits : (keeps : Bool) (bytes now : ℕ → List ℕ) (table : List Origin) (waiting : Option Waiting) (s o : ℕ) (xs : List ℕ) (torn : Bool) (origin : Origin) → s < 2 → index_of origin ≡ Some s
     → ((w : Waiting) → waiting ≡ Some w → WaitsApart table w) → ((k : ℕ) → k < length xs → slice_get table (o + k) ≡ Some origin)
@@ -385,19 +377,6 @@ unchanged_apart f g f' g' count now_count first second now then table table' siz
       let y = lower_entry (at_index now then) p (slice_get table p) q v x in
       (false, ap (entry_place (at_index first second) p) (y.0) ∙ ap (λ i. Lower i false) (sym (y.1)));
 })
-
--- bytes that a refused or a done write puts where entries are free show nowhere
-pub hidden_write : (first second now then : List ℕ) (table : List Origin) (o : ℕ) (xs : List ℕ) (torn : Bool) → ((p : ℕ) → IsIn o (length xs) p → IsFree (slice_get table p)) → then ≡ second
-    → HasBytes torn o (length xs) (λ k. slice_index xs k) first now → (p : ℕ) → sparse_place (at_index now then) table p ≡ sparse_place (at_index first second) table p
-hidden_write first second now then table o xs torn free same change p = same_place (at_index first second) (at_index now then) p (slice_get table p)
-    (λ e. ⊎_elim
-    (λ under. change.before p under)
-    (λ from. ⊎_elim
-    (λ inside. let y = rw e at (free p (from, inside)) in let z : ⊥ = cc in absurd z)
-    (λ over. change.behind p over)
-    (cases_lt p (o + length xs)))
-    (cases_lt p o))
-    (λ e. ap (λ x. slice_index x p) same)
 
 -- the bytes that are copied are what the disk shows
 pub copied_shows : (at : ℕ → Value) (bytes : ℕ → List ℕ) (p : ℕ) (origin : Origin) (byte : ℕ) → IsFree (Some origin) → HasOldByte at p origin byte → shown at (entry_place bytes p (Some origin)) ≡ Byte byte

@@ -338,8 +338,7 @@ impl<S: Storage> FormatDriverInstance for Sparse<S> {
         offset: u64,
         count: u64,
     ) -> Result<(u64, u64), Error> {
-        let given_up = Origin::Lower;
-        put_part(&mut self.table, offset, count, given_up)
+        put_part(&mut self.table, offset, count, Origin::Lower)
     }
 
     fn discard_to_backing(

@@ -1,7 +1,7 @@
 //! Disks held as tables, alone and one above another. The first storage has ones, the second twos.
-use super::answer::Answer;
+use super::answer::{Answer, done};
 use super::driver::Give;
-use super::image::Call;
+use super::image::{Call, is_spent};
 use super::runs::by_run;
 use super::set_up::stored;
 use super::{driver, image};
@@ -327,6 +327,60 @@ fn runs_listed(rt: &impl Abort, alloc: Global) -> bool {
 fn a_run_over_a_place_that_may_not_be_read(rt: HostRuntime) {
     let alloc = rt.alloc();
     assert!(rt; runs_listed(&rt, alloc) || runs_listed(&rt, alloc));
+}
+
+/// Gives up the data of a range of an image.
+fn give_up(
+    rt: &impl Abort,
+    alloc: Global,
+    image: &mut Image,
+    give: Give,
+    (offset, count): (u64, u64),
+) -> Answer {
+    assert!(rt; is_spent(&*image));
+    match give {
+        Give::EnsureZero => done(image.write_zeroes(alloc, offset, count)),
+        Give::DiscardToZero => done(image.discard_to_zero(alloc, offset, count)),
+        Give::DiscardToAny => done(image.discard_to_any(alloc, offset, count)),
+        Give::DiscardToBacking => done(image.discard_to_backing(alloc, offset, count)),
+    }
+}
+
+/// A range that is given up, what that answers, and the bytes that the image begins with afterwards.
+type GivenUp = (Give, (u64, u64), Answer, &'static [u8]);
+
+/// Gives up these ranges of an image of that table.
+fn gives_up(rt: &impl Abort, alloc: Global, table: &[Origin], given: &[GivenUp]) {
+    let mut image = image_of(rt, alloc, table, None);
+    for (i, &(give, range, expected, bytes)) in given.iter().enumerate() {
+        let answer = give_up(rt, alloc, &mut image, give, range);
+        assert_eq!(rt; answer, expected, "call {i}");
+        on(rt, alloc, &mut image, &[(Call::Read(0, bytes), DONE)]);
+    }
+}
+
+/// On four bytes of the first storage.
+const GIVEN: [GivenUp; 5] = [
+    (Give::EnsureZero, (0, 1), DONE, &[0, 1, 1, 1]),
+    (Give::DiscardToZero, (1, 1), DONE, &[0, 0, 1, 1]),
+    (Give::DiscardToAny, (2, 1), DONE, &[0, 0, 2, 1]),
+    (Give::DiscardToBacking, (3, 1), DONE, &[0, 0, 2, 2]),
+    (Give::EnsureZero, (3, 2), BEYOND, &[0, 0, 2, 2]),
+];
+
+/// On two bytes of the first storage, a barred one, and one more of that storage. Those before the barred one are given up.
+const GIVEN_IN_PART: [GivenUp; 4] = [
+    (Give::EnsureZero, (1, 2), BARRED, &[1, 0]),
+    (Give::DiscardToBacking, (0, 4), BARRED, &[2, 2]),
+    (Give::DiscardToZero, (0, 3), BARRED, &[0, 0]),
+    (Give::DiscardToAny, (1, 3), BARRED, &[0, 2]),
+];
+
+#[test]
+fn each_way_to_give_up_bytes_reaches_the_driver(rt: HostRuntime) {
+    let alloc = rt.alloc();
+    gives_up(&rt, alloc, &[FIRST; 4], &GIVEN);
+    gives_up(&rt, alloc, &[FIRST, FIRST, BAR, FIRST], &GIVEN_IN_PART);
 }
 
 /// On four bytes of the layer below.
