@@ -1,0 +1,15 @@
+use Rattle.std.proofs.Common.{◌≡◌, map, length, true, false, refl, rules, ◌∙◌}
+use Rattle.std.specs.String.{string_bytes}
+use Rattle.imago_vmdk.specs.Text.{lines_of}
+use Rattle.imago_vmdk.specs.Line.{extent_with}
+use Rattle.imago_vmdk.specs.Reading.{lines_say, reading_of, is_length, is_sparse}
+use Rattle.imago_vmdk.proofs.Lines.{disk_by_parts, no_fault, disk_fault}
+use Rattle.imago_vmdk.proofs.descriptor.read.Goals as goal
+
+pub returns : goal.returns
+unfolding reading_of
+returns c =
+    let whole = disk_by_parts (lines_say c.args.accept_unknown_keys (lines_of c.args.text.now)) c.in_ok-size.size (map (extent_with string_bytes) c.in_ok-extents.extents.items) c.in_ok-size.ensures c.in_ok-extents.ensures in
+    let long : is_length (length c.args.text.now) ≡ true = search rules in
+    let text : is_sparse c.args.text.now ≡ false = search rules in
+    rw (long, text) whole

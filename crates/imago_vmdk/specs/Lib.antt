@@ -1,0 +1,6 @@
+pub mod Text
+pub mod Line
+pub mod Reading
+pub mod Probe
+pub mod Vmdk
+pub mod VmdkLaws

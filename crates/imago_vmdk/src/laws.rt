@@ -1,0 +1,1 @@
+//! Laws of what descriptors say. The functions do nothing; their contracts are proved.
