@@ -21,4 +21,6 @@ pub mod Laws
 pub mod Raw
 pub mod RawLaws
 pub mod RawImage
+pub mod Opening
+pub mod NamedGate
 pub mod Worked

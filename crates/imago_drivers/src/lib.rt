@@ -7,6 +7,7 @@
 
 pub mod drivers;
 pub mod format;
+pub mod gate;
 pub mod laws;
 pub mod layer;
 pub mod mapping;
