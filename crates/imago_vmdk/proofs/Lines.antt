@@ -1,5 +1,5 @@
 -- Going over the lines, one after the other.
-use Rattle.std.proofs.Common.{◌≡◌, ℕ, Bool, true, false, cond, suc, ◌+◌, ◌*◌, ◌<◌, ◌≤◌, ◌^◌, List, [], ◌∷◌, ◌++◌, map, length, drop, get_or, Option, Some, None, Result, Ok, Err, refl, sym, ap, ◌∙◌, append_assoc, arith, nat_lt, lt-ltb}
+use Rattle.std.proofs.Common.{◌≡◌, ℕ, Bool, true, false, cond, suc, ◌+◌, ◌*◌, ◌<◌, ◌≤◌, ◌^◌, List, [], ◌∷◌, ◌++◌, map, length, drop, get_or, Option, Some, None, Result, Ok, Err, refl, ⊎_elim, sym, ap, ◌∙◌, append_assoc, arith, nat_lt, lt-ltb}
 use Rattle.std.proofs.lemmas.Bool.{cases_lt}
 use Rattle.std.proofs.lemmas.Bool.Decides.{nat_tests}
 use Rattle.std.proofs.lemmas.List.{append-nil, at_drop_more, at_drop_all}
@@ -124,3 +124,25 @@ never_fault accept f lines e h k = ok_is_no_fault (lines_say accept lines) f e h
 pub gives_size : (size : Option ℕ) (wanted : Result ℕ Error) → wanted ≡ or_invalid size → Gives (λ n. n) (ok_or size InvalidData) wanted
 gives_size None wanted h = h
 gives_size (Some n) wanted h = h
+
+sum_by_version : (known : Bool) (extents : List (Extent (List ℕ))) (sum n : ℕ) → ((cond known (disk_of extents (fitting sum)) (Err Unsupported)) >>= λ disk. Ok disk.1) ≡ Ok n → (n ≡ sum) × (n < 2 ^ 64)
+sum_by_version false extents sum n h = let z : ⊥ = cc in absurd z
+sum_by_version true extents sum n h = ⊎_elim
+    (λ below. let t : nat_lt sum (2 ^ 64) ≡ true = grind (arith, nat_tests) in let f : fitting sum ≡ Some sum = rw t refl in let g = rw f at h in let e : sum ≡ n = cc in (sym e, omega (arith, below, e)))
+    (λ above. let t : nat_lt sum (2 ^ 64) ≡ false = grind (arith, nat_tests) in let f : fitting sum ≡ None = rw t refl in let g = rw f at h in let z : ⊥ = cc in absurd z)
+    (cases_lt sum (2 ^ 64))
+
+-- the size is the sum of the extents' sizes
+pub disk_sum : (r : Result (List (Line (List ℕ))) Error) (n : ℕ) (es : List (Extent (List ℕ))) → ((r >>= disk_in) >>= λ disk. Ok disk.1) ≡ Ok n → (r >>= λ ls. Ok (extents_in ls)) ≡ Ok es → (n ≡ sum_by size_of es) × (n < 2 ^ 64)
+unfolding disk_in
+disk_sum (Err e) n es h k = let z : ⊥ = cc in absurd z
+disk_sum (Ok ls) n es h k =
+    let same_extents : extents_in ls ≡ es = cc in
+    let s = sum_by_version (is_version (last_version 0 ls)) (extents_in ls) (sum_by size_of (extents_in ls)) n h in
+    (s.0 ∙ ap (sum_by size_of) same_extents, s.1)
+
+-- names don't count in the sum
+pub sum_of_views : {N M : Type 0} (f : N → M) (es : List (Extent N)) → sum_by size_of (map (extent_with f) es) ≡ sum_by size_of es
+sum_of_views f [] = refl
+sum_of_views f (e ∷ es) = sum_by-cons size_of (extent_with f e) (map (extent_with f) es) ∙ ap (λ k. k * 512 + sum_by size_of (map (extent_with f) es)) (sectors_same f e)
+    ∙ ap (λ k. sectors_of e * 512 + k) (sum_of_views f es) ∙ sym (sum_by-cons size_of e es)

@@ -1,4 +1,4 @@
-use Rattle.std.specs.Prelude.{◌≡◌, ℕ, ◌+◌, ◌-◌, ◌*◌, ◌^◌, ◌<◌, ◌≤◌, Bool, true, false, ◌&&◌, List, [], ◌∷◌, length, slice_index, slice_index_or, if◌then◌else◌, nat_lt, min, None}
+use Rattle.std.specs.Prelude.{◌≡◌, ℕ, ◌+◌, ◌-◌, ◌*◌, ◌^◌, ◌<◌, ◌≤◌, ◌⊎◌, Bool, true, false, ◌&&◌, List, [], ◌∷◌, length, slice_index, slice_index_or, if◌then◌else◌, nat_lt, min, None}
 use Rattle.std.specs.List.{sum_by}
 use Rattle.imago_storage.specs.declared.error.Error.{Error}
 use Rattle.imago_storage.specs.declared.error.Error.TheVariants as E
@@ -11,9 +11,10 @@ use Rattle.imago_drivers.specs.Place.{Place, Stored, Zeroed, Refused, End, Place
 use Rattle.imago_drivers.specs.Causes.{Causes}
 use Rattle.imago_drivers.specs.Laws.{IsRefusedIn}
 use Rattle.imago_drivers.specs.Ranges.{HasWrappingPart}
+use Rattle.imago_drivers.specs.Reasons.{Reasons, none}
 use Rattle.imago_drivers.specs.View.{View}
 use Rattle.imago_vmdk.specs.declared.line.Extent.{Extent}
-use Rattle.imago_vmdk.specs.Reading.{size_of}
+use Rattle.imago_vmdk.specs.Reading.{size_of, is_length}
 
 -- the byte at that offset of a storage, unless no mapping can end behind it
 abbrev pub flat_place : (ℕ → List ℕ) → ℕ → Bool → ℕ → Place
@@ -141,4 +142,13 @@ vmdk_view features bytes opened extents = record {
     longest = λ op o n index. 0;
   };
   pending = None;
+}
+
+-- why it may be refused to look at the text of a storage of that length: memory, where the length may be a descriptor's or the
+-- storage takes some to tell it
+abbrev pub probe_refusals : Features → ℕ → Reasons
+probe_refusals f n = record none {
+  cause = λ e. (e ≡ Error.WrapAround) × Wraps f 0 n;
+  device = f.is_reliable ≡ false;
+  memory = (is_length n ≡ true) ⊎ MayRunOut f.other_memory 0 0;
 }

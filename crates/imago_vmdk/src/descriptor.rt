@@ -1,9 +1,10 @@
 //! What the text of a descriptor says, and whether bytes look like one.
-ghost use Rattle.std.specs.Prelude.{◌≡◌, ◌+◌, ◌*◌, ◌++◌, ◌∷◌, [], map, Ok, MatchResult, OnOk, IfErr, IsOk};
+ghost use Rattle.std.specs.Prelude.{◌≡◌, ◌+◌, ◌*◌, ◌++◌, ◌∷◌, [], map, Ok, MatchResult, OnOk, IfOk, IfErr, IsOk, ◌<◌, ◌^◌};
+ghost use Rattle.std.specs.List.{sum_by};
 ghost use Rattle.std.specs.String.{string_bytes};
 ghost use Rattle.imago_vmdk.specs.Text.{lines_of, number_of};
 ghost use Rattle.imago_vmdk.specs.Line.{Gives, extent_with};
-ghost use Rattle.imago_vmdk.specs.Reading.{lines_say, survey_of, disk_size_of, extents_of, is_version, is_length as may_be_long, fitting, reading_of, GivesOrMemory};
+ghost use Rattle.imago_vmdk.specs.Reading.{lines_say, survey_of, disk_size_of, extents_of, size_of, is_version, is_length as may_be_long, fitting, reading_of, GivesOrMemory};
 ghost use Rattle.imago_vmdk.specs.Probe.{line_decides, names_version, probe_lines, probe_of};
 
 use crate::line::{Extent, Line, cut_at_equals, utf8, verdict, version_number};
@@ -142,7 +143,9 @@ fn collect(alloc: Global, accept: bool, text: &[u8]) -> Result<Vec<Extent<String
 /// these is.
 #[tactic(auto, unfolding(crate::specs::Reading::reading_of))]
 pub fn read(alloc: Global, accept_unknown_keys: bool, text: &[u8]) -> Result<Descriptor, Error>
-    ensures { GivesOrMemory (λ d. (map (extent_with string_bytes) d.extents.items, d.size)) result (reading_of accept_unknown_keys text.now) }
+    ensures reading { GivesOrMemory (λ d. (map (extent_with string_bytes) d.extents.items, d.size)) result
+        (reading_of accept_unknown_keys text.now) }
+    ensures size { IfOk result (λ d. (d.size ≡ sum_by size_of d.extents.items) × (d.size < 2 ^ 64)) }
 {
     if !is_length(text.len() as u64) {
         return Err(Error::InvalidData);
