@@ -1,0 +1,7 @@
+pub mod Words
+pub mod Numbers
+pub mod Quotes
+pub mod Lines
+pub mod Extents
+pub mod Storages
+pub mod Faults

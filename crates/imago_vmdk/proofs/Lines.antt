@@ -1,0 +1,148 @@
+-- Going over the lines, one after the other.
+use Rattle.std.proofs.Common.{◌≡◌, ℕ, Bool, true, false, cond, suc, ◌+◌, ◌*◌, ◌<◌, ◌≤◌, ◌^◌, List, [], ◌∷◌, ◌++◌, map, length, drop, get_or, Option, Some, None, Result, Ok, Err, refl, ⊎_elim, sym, ap, ◌∙◌, append_assoc, arith, nat_lt, lt-ltb}
+use Rattle.std.proofs.lemmas.Bool.{cases_lt}
+use Rattle.std.proofs.lemmas.Bool.Decides.{nat_tests}
+use Rattle.std.proofs.lemmas.List.{append-nil, at_drop_more, at_drop_all}
+use Rattle.std.specs.List.{sum_by}
+use Rattle.std.specs.Result.{IsOk}
+use Rattle.std.specs.Option.{ok_or}
+use Rattle.imago_storage.specs.declared.error.Error.{Error}
+use Rattle.imago_vmdk.specs.declared.line.Line.{Line}
+use Rattle.imago_storage.specs.declared.error.Error.TheVariants.{InvalidData, Unsupported, Memory}
+use Rattle.std.proofs.lemmas.List.Sums.{sum_by-cons}
+use Rattle.imago_vmdk.specs.declared.line.Extent.{Extent}
+use Rattle.imago_vmdk.specs.Line.{◌>>=◌, verdict_of, extent_with, or_invalid, Gives}
+use Rattle.imago_vmdk.specs.Reading.{all_ok, lines_say, last_version, extents_in, sectors_of, size_of, is_version, fitting, disk_of, disk_in, found_in, survey_of}
+
+-- what is made of the lines that are left, where none of them is a fault
+abbrev pub onward : {B : Type 0} → Bool → (List (Line (List ℕ)) → B) → List (List ℕ) → Result B Error
+onward accept f lines = lines_say accept lines >>= λ ls. Ok (f ls)
+
+past : {B : Type 0} (l : Line (List ℕ)) (r : Result (List (Line (List ℕ))) Error) (f : List (Line (List ℕ)) → B) → ((r >>= λ ls. Ok (l ∷ ls)) >>= λ ls. Ok (f ls)) ≡ (r >>= λ ls. Ok (f (l ∷ ls)))
+past l (Ok ls) f = refl
+past l (Err e) f = refl
+
+-- a line is past
+pub step : {B : Type 0} (accept : Bool) (f : List (Line (List ℕ)) → B) (x : List ℕ) (l : Line (List ℕ)) (lines : List (List ℕ)) → verdict_of accept x ≡ Ok l → onward accept f (x ∷ lines) ≡ onward accept (λ ls. f (l ∷ ls)) lines
+step accept f x l lines h = rw h (past l (lines_say accept lines) f)
+
+-- a line is a fault
+pub fault : {B : Type 0} (accept : Bool) (f : List (Line (List ℕ)) → B) (x : List ℕ) (lines : List (List ℕ)) (e : Error) → verdict_of accept x ≡ Err e → onward accept f (x ∷ lines) ≡ Err e
+fault accept f x lines e h = rw h refl
+
+made_same : {B : Type 0} (f g : List (Line (List ℕ)) → B) (r : Result (List (Line (List ℕ))) Error) → ((ls : List (Line (List ℕ))) → f ls ≡ g ls) → (r >>= λ ls. Ok (f ls)) ≡ (r >>= λ ls. Ok (g ls))
+made_same f g (Ok ls) h = ap Ok (h ls)
+made_same f g (Err e) h = refl
+
+pub same : {B : Type 0} (accept : Bool) (f g : List (Line (List ℕ)) → B) (lines : List (List ℕ)) → ((ls : List (Line (List ℕ))) → f ls ≡ g ls) → onward accept f lines ≡ onward accept g lines
+same accept f g lines h = made_same f g (lines_say accept lines) h
+
+-- the line at n comes next
+pub turn : {B : Type 0} (accept : Bool) (f : List (Line (List ℕ)) → B) (n : ℕ) (lines : List (List ℕ)) (x : List ℕ) → (n < length lines) × (x ≡ get_or lines n x) → onward accept f (drop n lines) ≡ onward accept f (x ∷ drop (n + 1) lines)
+turn accept f n lines x h = at_drop_more (onward accept f) lines n x h.0 ∙ ap (λ (y : List ℕ). onward accept f (y ∷ drop (n + 1) lines)) (sym h.1)
+
+-- the last version and the size, from such a version and size on
+abbrev pub surveyed : ℕ → ℕ → List (Line (List ℕ)) → ℕ × Option ℕ
+surveyed version size ls = (last_version version ls, fitting (size + sum_by size_of (extents_in ls)))
+
+sectors_same : {N M : Type 0} (f : N → M) (e : Extent N) → sectors_of (extent_with f e) ≡ sectors_of e
+sectors_same f (Extent.Zero s) = refl
+sectors_same f (Extent.NoAccess s) = refl
+sectors_same f (Extent.Flat s name offset writable) = refl
+
+-- an extent adds its size
+pub counted : {N : Type 0} (accept : Bool) (version size sectors : ℕ) (f : N → List ℕ) (e : Extent N) (x : List ℕ) (lines : List (List ℕ)) → verdict_of accept x ≡ Ok (Line.Extent (extent_with f e)) → sectors ≡ sectors_of e
+    → onward accept (surveyed version size) (x ∷ lines) ≡ onward accept (surveyed version (size + sectors * 512)) lines
+counted accept version size sectors f e x lines h k =
+    let one : sectors_of (extent_with f e) ≡ sectors = sectors_same f e ∙ sym k in
+    step accept (surveyed version size) x (Line.Extent (extent_with f e)) lines h
+    ∙ same accept _ _ lines (λ ls.
+    let sum = sum_by-cons size_of (extent_with f e) (extents_in ls) in
+    let total : size + sum_by size_of (extent_with f e ∷ extents_in ls) ≡ size + sectors * 512 + sum_by size_of (extents_in ls) = omega (arith, sum, ap (λ k. k * 512) one) in
+    ap (λ n. (last_version version ls, fitting n)) total)
+
+pub starts : (accept : Bool) (lines : List (List ℕ)) → onward accept (surveyed 0 0) lines ≡ survey_of accept lines
+starts accept lines = same accept (surveyed 0 0) found_in lines (λ ls. let e : 0 + sum_by size_of (extents_in ls) ≡ sum_by size_of (extents_in ls) = omega arith in ap (λ n. (last_version 0 ls, fitting n)) e)
+
+pub done : (accept : Bool) (version n : ℕ) → onward accept (surveyed version n) [] ≡ Ok (version, fitting n)
+done accept version n = let e : n + 0 ≡ n = omega arith in let found : ℕ → Result (ℕ × Option ℕ) Error = λ m. Ok (version, fitting m) in ap found e
+
+-- an extent comes behind those so far
+pub appended : (accept : Bool) (es : List (Extent (List ℕ))) (e : Extent (List ℕ)) (x : List ℕ) (lines : List (List ℕ)) → verdict_of accept x ≡ Ok (Line.Extent e)
+    → onward accept (λ ls. es ++ extents_in ls) (x ∷ lines) ≡ onward accept (λ ls. (es ++ e ∷ []) ++ extents_in ls) lines
+appended accept es e x lines h = step accept (λ ls. es ++ extents_in ls) x (Line.Extent e) lines h ∙ same accept _ _ lines (λ ls. simp append_assoc)
+
+by_version : (known : Bool) (extents : List (Extent (List ℕ))) (size : Option ℕ) → ((cond known (disk_of extents size) (Err Unsupported)) >>= λ disk. Ok disk.1) ≡ cond known (or_invalid size) (Err Unsupported)
+by_version false extents size = refl
+by_version true extents None = refl
+by_version true extents (Some n) = refl
+
+-- what all lines say together, by what the survey found
+pub size_by_survey : (r : Result (List (Line (List ℕ))) Error) (found : ℕ × Option ℕ) → (r >>= λ ls. Ok (found_in ls)) ≡ Ok found
+    → ((r >>= disk_in) >>= λ disk. Ok disk.1) ≡ cond (is_version found.0) (or_invalid found.1) (Err Unsupported)
+unfolding disk_in
+size_by_survey (Err e) found h = let z : ⊥ = cc in absurd z
+size_by_survey (Ok ls) found h =
+    let same_found : found_in ls ≡ found = cc in
+    by_version (is_version (last_version 0 ls)) (extents_in ls) (fitting (sum_by size_of (extents_in ls))) ∙ ap (λ (x : ℕ × Option ℕ). cond (is_version x.0) (or_invalid x.1) (Err Unsupported)) same_found
+
+size_by_version : (known : Bool) (extents : List (Extent (List ℕ))) (size : Option ℕ) (n : ℕ) (es : List (Extent (List ℕ))) → ((cond known (disk_of extents size) (Err Unsupported)) >>= λ disk. Ok disk.1) ≡ Ok n → extents ≡ es → cond known (disk_of extents size) (Err Unsupported) ≡ Ok (es, n)
+size_by_version false extents size n es h k = let z : ⊥ = cc in absurd z
+size_by_version true extents None n es h k = let z : ⊥ = cc in absurd z
+size_by_version true extents (Some m) n es h k = let e : m ≡ n = cc in rw (e, k) refl
+
+-- the size and the extents together are what the lines say
+pub disk_by_parts : (r : Result (List (Line (List ℕ))) Error) (n : ℕ) (es : List (Extent (List ℕ))) → ((r >>= disk_in) >>= λ disk. Ok disk.1) ≡ Ok n → (r >>= λ ls. Ok (extents_in ls)) ≡ Ok es → (r >>= disk_in) ≡ Ok (es, n)
+unfolding disk_in
+disk_by_parts (Err e) n es h k = let z : ⊥ = cc in absurd z
+disk_by_parts (Ok ls) n es h k = let same_extents : extents_in ls ≡ es = cc in size_by_version (is_version (last_version 0 ls)) (extents_in ls) (fitting (sum_by size_of (extents_in ls))) n es h same_extents
+
+-- where there is a size, no line is a fault, and all lines together are none
+pub no_fault : {A B : Type 0} (r : Result A Error) (g : A → Result B Error) (n : B) → (r >>= g) ≡ Ok n → IsOk r
+no_fault (Ok x) g n h = refl
+no_fault (Err e) g n h = let z : ⊥ = cc in absurd z
+
+-- the fault of a part is the fault of the whole
+pub size_fault : (r : Result (List (Line (List ℕ))) Error) (e : Error) → (r >>= λ ls. Ok (found_in ls)) ≡ Err e → ((r >>= disk_in) >>= λ disk. Ok disk.1) ≡ Err e
+size_fault (Ok ls) e h = let z : ⊥ = cc in absurd z
+size_fault (Err d) e h = let k : d ≡ e = cc in rw k refl
+
+pub disk_fault : (r : Result (List (Extent (List ℕ)) × ℕ) Error) (e : Error) → (r >>= λ disk. Ok disk.1) ≡ Err e → r ≡ Err e
+disk_fault (Ok x) e h = let z : ⊥ = cc in absurd z
+disk_fault (Err d) e h = let k : d ≡ e = cc in rw k refl
+
+pub behind_none : (accept : Bool) (es : List (Extent (List ℕ))) → onward accept (λ ls. es ++ extents_in ls) [] ≡ Ok es
+behind_none accept es = ap Ok (append-nil es)
+
+ok_is_no_fault : {A B : Type 0} (r : Result A Error) (f : A → B) (e : Error) → IsOk r → (r >>= λ x. Ok (f x)) ≡ Err e → ⊥
+ok_is_no_fault (Ok x) f e h k = let z : ⊥ = cc in z
+ok_is_no_fault (Err d) f e h k = let z : ⊥ = cc in z
+
+pub never_fault : {B : Type 0} (accept : Bool) (f : List (Line (List ℕ)) → B) (lines : List (List ℕ)) (e : Error) → IsOk (lines_say accept lines) → onward accept f lines ≡ Err e → ⊥
+never_fault accept f lines e h k = ok_is_no_fault (lines_say accept lines) f e h k
+
+pub gives_size : (size : Option ℕ) (wanted : Result ℕ Error) → wanted ≡ or_invalid size → Gives (λ n. n) (ok_or size InvalidData) wanted
+gives_size None wanted h = h
+gives_size (Some n) wanted h = h
+
+sum_by_version : (known : Bool) (extents : List (Extent (List ℕ))) (sum n : ℕ) → ((cond known (disk_of extents (fitting sum)) (Err Unsupported)) >>= λ disk. Ok disk.1) ≡ Ok n → (n ≡ sum) × (n < 2 ^ 64)
+sum_by_version false extents sum n h = let z : ⊥ = cc in absurd z
+sum_by_version true extents sum n h = ⊎_elim
+    (λ below. let t : nat_lt sum (2 ^ 64) ≡ true = grind (arith, nat_tests) in let f : fitting sum ≡ Some sum = rw t refl in let g = rw f at h in let e : sum ≡ n = cc in (sym e, omega (arith, below, e)))
+    (λ above. let t : nat_lt sum (2 ^ 64) ≡ false = grind (arith, nat_tests) in let f : fitting sum ≡ None = rw t refl in let g = rw f at h in let z : ⊥ = cc in absurd z)
+    (cases_lt sum (2 ^ 64))
+
+-- the size is the sum of the extents' sizes
+pub disk_sum : (r : Result (List (Line (List ℕ))) Error) (n : ℕ) (es : List (Extent (List ℕ))) → ((r >>= disk_in) >>= λ disk. Ok disk.1) ≡ Ok n → (r >>= λ ls. Ok (extents_in ls)) ≡ Ok es → (n ≡ sum_by size_of es) × (n < 2 ^ 64)
+unfolding disk_in
+disk_sum (Err e) n es h k = let z : ⊥ = cc in absurd z
+disk_sum (Ok ls) n es h k =
+    let same_extents : extents_in ls ≡ es = cc in
+    let s = sum_by_version (is_version (last_version 0 ls)) (extents_in ls) (sum_by size_of (extents_in ls)) n h in
+    (s.0 ∙ ap (sum_by size_of) same_extents, s.1)
+
+-- names don't count in the sum
+pub sum_of_views : {N M : Type 0} (f : N → M) (es : List (Extent N)) → sum_by size_of (map (extent_with f) es) ≡ sum_by size_of es
+sum_of_views f [] = refl
+sum_of_views f (e ∷ es) = sum_by-cons size_of (extent_with f e) (map (extent_with f) es) ∙ ap (λ k. k * 512 + sum_by size_of (map (extent_with f) es)) (sectors_same f e)
+    ∙ ap (λ k. sectors_of e * 512 + k) (sum_of_views f es) ∙ sym (sum_by-cons size_of e es)

@@ -1,0 +1,17 @@
+use Rattle.std.specs.Prelude.{ℕ, Bool, List, map}
+use Rattle.std.specs.String.{string_bytes}
+use Rattle.imago_vmdk.specs.declared.line.Extent.{Extent}
+use Rattle.imago_vmdk.specs.declared.vmdk.Vmdk.{Vmdk}
+use Rattle.imago_vmdk.specs.Line.{extent_with}
+
+-- the storage of an image's descriptor
+abbrev pub descriptor_in : {S : Type 0} {g : _} {h : _} → Vmdk S g h → S
+descriptor_in v = v.descriptor
+
+-- its extents, with their names as bytes
+abbrev pub extents_in : {S : Type 0} {g : _} {h : _} → Vmdk S g h → List (Extent (List ℕ))
+extents_in v = map (extent_with string_bytes) v.extents.items
+
+-- whether these are opened
+abbrev pub is_opened : {S : Type 0} {g : _} {h : _} → Vmdk S g h → Bool
+is_opened v = v.opened

@@ -1,0 +1,93 @@
+use Rattle.std.specs.Prelude.{◌≡◌, ℕ, ◌*◌, ◌^◌, ◌⊎◌, Bool, ◌&&◌, List, [], ◌∷◌, map, length, take, Option, Some, None, Result, Ok, Err, IsOk, nat_lt, if◌then◌else◌, codes}
+use Rattle.std.specs.List.{sum_by}
+use Rattle.imago_storage.specs.declared.error.Error.{Error}
+use Rattle.imago_storage.specs.declared.error.Error.TheVariants.{InvalidData, Unsupported, Memory}
+use Rattle.imago_vmdk.specs.Text.{lines_of, is_text}
+use Rattle.imago_vmdk.specs.Line.{◌>>=◌, verdict_of}
+use Rattle.imago_vmdk.specs.declared.line.Extent.{Extent}
+use Rattle.imago_vmdk.specs.declared.line.Line.{Line}
+
+-- what all lines say, or the first fault among them
+abbrev pub all_ok : List (Result (Line (List ℕ)) Error) → Result (List (Line (List ℕ))) Error
+all_ok [] = Ok []
+all_ok (verdict ∷ verdicts) = do
+  line ← verdict
+  lines ← all_ok verdicts
+  Ok (line ∷ lines)
+
+-- what the lines of a descriptor say, each by itself
+abbrev pub lines_say : Bool → List (List ℕ) → Result (List (Line (List ℕ))) Error
+lines_say accept lines = all_ok (map (verdict_of accept) lines)
+
+-- the last version, or that one where there is none
+abbrev pub last_version : ℕ → List (Line (List ℕ)) → ℕ
+last_version n [] = n
+last_version n (Line.Nothing ∷ lines) = last_version n lines
+last_version n (Line.Extent e ∷ lines) = last_version n lines
+last_version n (Line.Version m ∷ lines) = last_version m lines
+last_version n (Line.Setting ∷ lines) = last_version n lines
+
+abbrev pub extents_in : List (Line (List ℕ)) → List (Extent (List ℕ))
+extents_in [] = []
+extents_in (Line.Nothing ∷ lines) = extents_in lines
+extents_in (Line.Extent e ∷ lines) = e ∷ extents_in lines
+extents_in (Line.Version m ∷ lines) = extents_in lines
+extents_in (Line.Setting ∷ lines) = extents_in lines
+
+-- an extent's length, in sectors of 512 bytes and in bytes
+abbrev pub sectors_of : {N : Type 0} → Extent N → ℕ
+sectors_of (Extent.Zero sectors) = sectors
+sectors_of (Extent.NoAccess sectors) = sectors
+sectors_of (Extent.Flat sectors name offset writable) = sectors
+
+abbrev pub size_of : {N : Type 0} → Extent N → ℕ
+size_of extent = sectors_of extent * 512
+
+abbrev pub is_version : ℕ → Bool
+is_version n = nat_lt 0 n && nat_lt n 4
+
+-- the number, where it fits 64 bits
+abbrev pub fitting : ℕ → Option ℕ
+fitting n = if nat_lt n (2 ^ 64) then Some n else None
+
+-- the extents one after the other, and the size of their disk, if that fits
+abbrev pub disk_of : List (Extent (List ℕ)) → Option ℕ → Result (List (Extent (List ℕ)) × ℕ) Error
+disk_of extents None = Err InvalidData
+disk_of extents (Some size) = Ok (extents, size)
+
+-- what lines say together of which none is a fault: the last version is known, and the size fits
+unfoldable pub disk_in : List (Line (List ℕ)) → Result (List (Extent (List ℕ)) × ℕ) Error
+disk_in lines = if is_version (last_version 0 lines) then disk_of (extents_in lines) (fitting (sum_by size_of (extents_in lines))) else Err Unsupported
+
+-- the parts of that which a function finds by itself: the last version and the size, the size alone, and the extents
+abbrev pub found_in : List (Line (List ℕ)) → ℕ × Option ℕ
+found_in lines = (last_version 0 lines, fitting (sum_by size_of (extents_in lines)))
+
+abbrev pub survey_of : Bool → List (List ℕ) → Result (ℕ × Option ℕ) Error
+survey_of accept lines = lines_say accept lines >>= λ ls. Ok (found_in ls)
+
+abbrev pub disk_size_of : Bool → List (List ℕ) → Result ℕ Error
+disk_size_of accept lines = (lines_say accept lines >>= disk_in) >>= λ disk. Ok disk.1
+
+abbrev pub extents_of : Bool → List (List ℕ) → Result (List (Extent (List ℕ))) Error
+extents_of accept lines = lines_say accept lines >>= λ ls. Ok (extents_in ls)
+
+-- a descriptor may be that long, in bytes
+abbrev pub is_length : ℕ → Bool
+is_length n = nat_lt 3 n && nat_lt n 2097153
+
+-- the first bytes of another kind of VMDK file
+abbrev pub is_sparse : List ℕ → Bool
+is_sparse bytes = is_text (take 4 bytes) (codes "KDMV")
+
+-- what a descriptor's bytes say: the extents, and the size of the disk in bytes
+unfoldable pub reading_of : Bool → List ℕ → Result (List (Extent (List ℕ)) × ℕ) Error
+reading_of accept bytes =
+    if is_length (length bytes) then
+    (if is_sparse bytes then Err Unsupported else (lines_say accept (lines_of bytes) >>= disk_in))
+    else Err InvalidData
+
+-- What a function that takes memory answers, seen so, is what the definition gives, or want of memory where that is no refusal.
+abbrev pub GivesOrMemory : {X Y : Type 0} → (X → Y) → Result X Error → Result Y Error → Type 0
+GivesOrMemory view (Ok x) wanted = wanted ≡ Ok (view x)
+GivesOrMemory view (Err e) wanted = (wanted ≡ Err e) ⊎ ((e ≡ Memory) × IsOk wanted)

@@ -1,0 +1,84 @@
+//! Laws of what descriptors say, and what the definitions give for lines that are written out. The functions do nothing; their
+//! contracts are proved.
+ghost use Rattle.std.specs.Prelude.{◌≡◌, Bool, true, false, ℕ, List, ◌++◌, ◌∷◌, [], Ok, Err, IsOk, codes};
+ghost use Rattle.imago_storage.specs.declared.error.Error.{Error};
+ghost use Rattle.imago_storage.specs.declared.error.Error.TheVariants.{InvalidData, Unsupported};
+ghost use Rattle.imago_vmdk.specs.declared.line.Extent.{Extent};
+ghost use Rattle.imago_vmdk.specs.declared.line.Line.{Line};
+ghost use Rattle.imago_vmdk.specs.Line.{verdict_of};
+ghost use Rattle.imago_vmdk.specs.Reading.{lines_say, reading_of};
+
+/// The first fault is the answer, whatever stands behind it.
+pub fn first_fault()
+    ensures { (accept : Bool) (before after : List (List ℕ)) (x : List ℕ) (e : Error) → IsOk (lines_say accept before) → verdict_of accept x ≡ Err e → lines_say accept (before ++ x ∷ after) ≡ Err e }
+{}
+
+/// Extents, with their sector counts, types, names and offsets.
+pub fn extent_lines()
+    ensures zero { verdict_of false (codes "RW 3 ZERO") ≡ Ok (Line.Extent (Extent.Zero 3)) }
+    ensures plus_sign { verdict_of false (codes "RW +3 ZERO rest") ≡ Ok (Line.Extent (Extent.Zero 3)) }
+    ensures no_access { verdict_of false (codes "NOACCESS 5 anything") ≡ Ok (Line.Extent (Extent.NoAccess 5)) }
+    ensures read_only { verdict_of false (codes "RDONLY 1 FLAT \"a.img\"") ≡ Ok (Line.Extent (Extent.Flat 1 (codes "a.img") 0 false)) }
+    ensures trimmed_name { verdict_of false (codes "RW 1 FLAT \"  my disk.img \" 7 x") ≡ Ok (Line.Extent (Extent.Flat 1 (codes "my disk.img") 7 true)) }
+    ensures offset_at_the_quote { verdict_of false (codes "RW 1 FLAT \"a.img\"5") ≡ Ok (Line.Extent (Extent.Flat 1 (codes "a.img") 5 true)) }
+    ensures empty_name { verdict_of false (codes "RW 1 FLAT \"\" 0") ≡ Ok (Line.Extent (Extent.Flat 1 [] 0 true)) }
+    ensures no_sectors { verdict_of false (codes "RW 0 ZERO") ≡ Ok (Line.Extent (Extent.Zero 0)) }
+    ensures wide_space { verdict_of false (194 ∷ 160 ∷ codes "RW 3 ZERO" ++ 194 ∷ 160 ∷ []) ≡ Ok (Line.Extent (Extent.Zero 3)) }
+{}
+
+/// Extents that can't be meant, or whose type isn't offered: the first field that fails decides.
+pub fn faulty_extent_lines()
+    ensures no_quotes { verdict_of false (codes "RW 1 FLAT a.img 0") ≡ Err InvalidData }
+    ensures open_quotes { verdict_of false (codes "RW 1 FLAT \"a.img") ≡ Err InvalidData }
+    ensures four_fields { verdict_of false (codes "RW 1 FLAT x \"a.img\"") ≡ Err InvalidData }
+    ensures bad_offset { verdict_of false (codes "RW 1 FLAT \"a\" \"b\"") ≡ Err InvalidData }
+    ensures glued_type { verdict_of false (codes "RW 1 FLAT\"a.img\"") ≡ Err Unsupported }
+    ensures sparse { verdict_of false (codes "RW 1 SPARSE \"a.vmdk\"") ≡ Err Unsupported }
+    ensures no_type { verdict_of false (codes "RW 1") ≡ Err InvalidData }
+    ensures bad_count { verdict_of false (codes "RW x ZERO") ≡ Err InvalidData }
+    ensures count_before_type { verdict_of false (codes "RW x SPARSE") ≡ Err InvalidData }
+    ensures minus_sign { verdict_of false (codes "RW -1 ZERO") ≡ Err InvalidData }
+    ensures large_count { verdict_of false (codes "RW 18446744073709551616 ZERO") ≡ Err InvalidData }
+{}
+
+/// Lines that say nothing, settings, and keys that can't be meant.
+pub fn other_lines()
+    ensures word_alone { verdict_of false (codes "RW") ≡ Ok Line.Nothing }
+    ensures small_letters { verdict_of false (codes "rw 1 ZERO") ≡ Ok Line.Nothing }
+    ensures key_like_a_word { verdict_of false (codes "RW=1") ≡ Err InvalidData }
+    ensures comment { verdict_of false (codes "# RW 1 SPARSE") ≡ Ok Line.Nothing }
+    ensures no_key { verdict_of false (codes "hello") ≡ Ok Line.Nothing }
+    ensures unknown_key { verdict_of false (codes "foo=1") ≡ Err InvalidData }
+    ensures other_ddb_key { verdict_of false (codes "ddb.uuid = \"x\"") ≡ Ok Line.Nothing }
+    ensures geometry { verdict_of false (codes "ddb.geometry.heads = \"16\"") ≡ Ok Line.Setting }
+    ensures bad_geometry { verdict_of false (codes "ddb.geometry.heads = \"x\"") ≡ Err InvalidData }
+    ensures create_type { verdict_of false (codes "createType=\"monolithicFlat\"") ≡ Ok Line.Setting }
+    ensures content_id { verdict_of false (codes "CID=fffffffe") ≡ Ok Line.Setting }
+    ensures parent { verdict_of false (codes "parentFileNameHint=\"p.vmdk\"") ≡ Err Unsupported }
+    ensures version { verdict_of false (codes "version = 3") ≡ Ok (Line.Version 3) }
+    ensures quoted_version { verdict_of false (codes "version=\"1\"") ≡ Err InvalidData }
+    ensures version_zero { verdict_of false (codes "version=0") ≡ Ok (Line.Version 0) }
+{}
+
+/// Lines where keys that aren't known are accepted: they say nothing, and nothing else changes.
+pub fn lines_with_unknown_keys()
+    ensures encoding { verdict_of true (codes "encoding=\"UTF-8\"") ≡ Ok Line.Nothing }
+    ensures key_like_a_word { verdict_of true (codes "RW=1") ≡ Ok Line.Nothing }
+    ensures unknown_key { verdict_of true (codes "foo=1") ≡ Ok Line.Nothing }
+    ensures bad_count { verdict_of true (codes "RW x ZERO") ≡ Err InvalidData }
+    ensures bad_geometry { verdict_of true (codes "ddb.geometry.heads = \"x\"") ≡ Err InvalidData }
+    ensures parent { verdict_of true (codes "parentFileNameHint=\"p.vmdk\"") ≡ Err Unsupported }
+{}
+
+/// Whole descriptors: what lines say together.
+pub fn whole_descriptors()
+    ensures extents { reading_of false (codes "version=1" ++ 10 ∷ codes "RW 2 ZERO" ++ 10 ∷ codes "RDONLY 1 FLAT \"a.img\" 3" ++ 10 ∷ []) ≡ Ok (Extent.Zero 2 ∷ Extent.Flat 1 (codes "a.img") 3 false ∷ [], 1536) }
+    ensures no_version { reading_of false (codes "RW 2 ZERO") ≡ Err Unsupported }
+    ensures last_version { reading_of false (codes "version=4" ++ 10 ∷ codes "version=2") ≡ Ok ([], 0) }
+    ensures fault_before_version { reading_of false (codes "version=4" ++ 10 ∷ codes "foo=1") ≡ Err InvalidData }
+    ensures other_kind { reading_of false (codes "KDMV") ≡ Err Unsupported }
+    ensures three_bytes { reading_of false (codes "abc") ≡ Err InvalidData }
+    ensures size_past_64_bits { reading_of false (codes "version=1" ++ 10 ∷ codes "RW 18446744073709551615 ZERO") ≡ Err InvalidData }
+    ensures version_before_size { reading_of false (codes "RW 18446744073709551615 ZERO") ≡ Err Unsupported }
+    ensures sum_past_64_bits { reading_of false (codes "version=1" ++ 10 ∷ codes "RW 18014398509481984 ZERO" ++ 10 ∷ codes "RW 18014398509481984 ZERO" ++ 10 ∷ codes "RW 18014398509481984 ZERO" ++ 10 ∷ codes "RW 18014398509481984 ZERO") ≡ Err InvalidData }
+{}

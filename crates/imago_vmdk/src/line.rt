@@ -1,0 +1,285 @@
+//! What one line of a descriptor says.
+ghost use Rattle.std.specs.Prelude.{◌≡◌, option_map, MatchOption, [], ◌∷◌, length, ◌==◌};
+ghost use Rattle.std.specs.Str.{IsUtf8};
+ghost use Rattle.std.specs.Str.Iter.{split_whitespace_rest};
+ghost use Rattle.imago_vmdk.specs.Text.{utf8_of, words_of, cut_at, number_of};
+ghost use Rattle.imago_vmdk.specs.Line.{Gives, extent_with, line_with, access_of as access_named, unquoted, offset_of, flat_of, typed_of, sized_of, extent_of, setting_of, pair_of, text_of, verdict_of};
+ghost use Rattle.imago_vmdk.specs.Reading.{sectors_of};
+
+use imago_storage::error::Error;
+use std::str::SplitWhitespace;
+
+/// What may be done with an extent, by the word that it begins with.
+#[derive(Clone, Copy, Debug, PartialEq, Eq)]
+pub enum Access {
+    /// `RW`.
+    ReadWrite,
+    /// `RDONLY`.
+    ReadOnly,
+    /// `NOACCESS`.
+    NoAccess,
+}
+
+/// A part of the disk, whose file name is an `N`. A sector has 512 bytes.
+#[derive(Debug, Drop)]
+pub enum Extent<N> {
+    /// Explicit zeroes.
+    Zero {
+        /// The length in sectors.
+        sectors: u64,
+    },
+    /// A part that may not be read.
+    NoAccess {
+        /// The length in sectors.
+        sectors: u64,
+    },
+    /// Bytes of a storage.
+    Flat {
+        /// The length in sectors.
+        sectors: u64,
+        /// The storage's name, relative to the descriptor's.
+        name: N,
+        /// Where the bytes begin in the storage, in sectors.
+        offset: u64,
+        /// Whether a mapping says that they may be written there.
+        writable: bool,
+    },
+}
+
+impl<N> Extent<N> {
+    /// The length in sectors.
+    pub fn sectors(&self) -> u64
+        ensures { result ≡ sectors_of self.now }
+    {
+        match self {
+            Extent::Zero { sectors } | Extent::NoAccess { sectors } => *sectors,
+            Extent::Flat { sectors, .. } => *sectors,
+        }
+    }
+}
+
+/// What a line says.
+#[derive(Debug, Drop)]
+pub enum Line<N> {
+    /// Nothing that counts.
+    Nothing,
+    /// An extent: the next part of the disk.
+    Extent(Extent<N>),
+    /// The descriptor's version. The last such line counts.
+    Version(u32),
+    /// A setting that is known, and changes nothing here.
+    Setting,
+}
+
+/// The word that makes a line an extent.
+#[tactic(auto, unfolding(crate::specs::Line::access_of))]
+fn access_of(word: &str) -> Option<Access>
+    ensures { result ≡ access_named word.now }
+{
+    match word {
+        "RW" => Some(Access::ReadWrite),
+        "RDONLY" => Some(Access::ReadOnly),
+        "NOACCESS" => Some(Access::NoAccess),
+        _ => None,
+    }
+}
+
+/// What stands before and after the first equals sign.
+pub(crate) fn cut_at_equals(text: &str) -> Option<(&str, &str)>
+    ensures { option_map (λ x. (x.0.now, x.1.now)) result ≡ cut_at 61 text.now }
+{
+    text.split_once('=')
+}
+
+/// What stands before and after the first double quote.
+fn cut_at_quote(text: &str) -> Option<(&str, &str)>
+    ensures { option_map (λ x. (x.0.now, x.1.now)) result ≡ cut_at 34 text.now }
+{
+    text.split_once('"')
+}
+
+/// The number that the text is: a plus sign or none, then one digit or more.
+fn number(text: &str) -> Option<u64>
+    ensures { result ≡ number_of 64 text.now }
+{
+    text.parse::<u64>().ok()
+}
+
+/// The number that the text is, if it is one of 32 bits.
+pub(crate) fn version_number(text: &str) -> Option<u32>
+    ensures { result ≡ number_of 32 text.now }
+{
+    text.parse::<u32>().ok()
+}
+
+/// The text without the pair of double quotes round it, if it has one.
+#[tactic(auto, unfolding(crate::specs::Line::unquoted))]
+fn inside_quotes(text: &str) -> &str
+    ensures { result.now ≡ unquoted text.now }
+{
+    let Some(rest) = text.strip_prefix('"') else {
+        return text;
+    };
+    let Some(inner) = rest.strip_suffix('"') else {
+        return text;
+    };
+    inner
+}
+
+fn next_word<'a>(words: &mut SplitWhitespace<'a>) -> Option<&'a str>
+    requires { IsUtf8 (split_whitespace_rest words.old) }
+    ensures utf8 { IsUtf8 (split_whitespace_rest words.new) }
+    ensures words { MatchOption result (words_of (split_whitespace_rest words.old) ≡ [])
+        (λ word. words_of (split_whitespace_rest words.old) ≡ word.now ∷ words_of (split_whitespace_rest words.new)) }
+{
+    words.next()
+}
+
+fn is_three_words(text: &str) -> bool
+    ensures { result ≡ (length (words_of text.now) == 3) }
+{
+    text.split_whitespace().count() == 3
+}
+
+/// The offset behind a file name, in sectors: the first word, or 0.
+fn offset(text: &str) -> Result<u64, Error>
+    ensures { Gives (λ x. x) result (offset_of (words_of text.now)) }
+{
+    let mut words = text.split_whitespace();
+    match next_word(&mut words) {
+        None => Ok(0),
+        Some(word) => number(word).ok_or(Error::InvalidData),
+    }
+}
+
+/// The FLAT extent that a whole line is.
+#[tactic(auto, unfolding(crate::specs::Line::flat_of))]
+fn flat(writable: bool, sectors: u64, text: &str) -> Result<Extent<&str>, Error>
+    ensures { Gives (extent_with (λ s. s.now)) result (flat_of writable sectors text.now) }
+{
+    let (before, rest) = cut_at_quote(text).ok_or(Error::InvalidData)?;
+    let (name, after) = cut_at_quote(rest).ok_or(Error::InvalidData)?;
+    let offset = offset(after)?;
+    if !is_three_words(before) {
+        return Err(Error::InvalidData);
+    }
+    let name = name.trim();
+    Ok(Extent::Flat {
+        sectors,
+        name,
+        offset,
+        writable,
+    })
+}
+
+/// The extent that a line is, by its type, which is the next word.
+#[tactic(auto, unfolding(crate::specs::Line::typed_of))]
+fn typed<'a>(
+    writable: bool,
+    sectors: u64,
+    words: &mut SplitWhitespace<'_>,
+    text: &'a str,
+) -> Result<Extent<&'a str>, Error>
+    requires { IsUtf8 (split_whitespace_rest words.old) }
+    ensures { Gives (extent_with (λ s. s.now)) result
+        (typed_of writable sectors (words_of (split_whitespace_rest words.old)) text.now) }
+{
+    match next_word(words) {
+        Some("ZERO") => Ok(Extent::Zero { sectors }),
+        Some("FLAT") => flat(writable, sectors, text),
+        Some(_) => Err(Error::Unsupported),
+        None => Err(Error::InvalidData),
+    }
+}
+
+/// What a line says that begins with such a word: an extent, unless nothing follows.
+#[tactic(auto, unfolding(crate::specs::Line::sized_of, crate::specs::Line::extent_of))]
+fn extent_line<'a>(
+    access: Access,
+    words: &mut SplitWhitespace<'_>,
+    text: &'a str,
+) -> Result<Line<&'a str>, Error>
+    requires { IsUtf8 (split_whitespace_rest words.old) }
+    ensures { Gives (line_with (λ s. s.now)) result
+        (extent_of access (words_of (split_whitespace_rest words.old)) text.now) }
+{
+    let Some(sectors) = next_word(words) else {
+        return Ok(Line::Nothing);
+    };
+    let sectors = number(sectors).ok_or(Error::InvalidData)?;
+    let extent = match access {
+        Access::NoAccess => Extent::NoAccess { sectors },
+        Access::ReadOnly => typed(false, sectors, words, text)?,
+        Access::ReadWrite => typed(true, sectors, words, text)?,
+    };
+    Ok(Line::Extent(extent))
+}
+
+/// What a key and its value say.
+#[tactic(auto, unfolding(crate::specs::Line::setting_of))]
+fn setting<'a>(accept: bool, key: &str, value: &str) -> Result<Line<&'a str>, Error>
+    ensures { Gives (line_with (λ s. s.now)) result (setting_of accept key.now value.now) }
+{
+    match key {
+        "version" => {
+            let version = version_number(value).ok_or(Error::InvalidData)?;
+            Ok(Line::Version(version))
+        }
+        "CID" | "parentCID" | "createType" => Ok(Line::Setting),
+        "parentFileNameHint" => Err(Error::Unsupported),
+        "ddb.geometry.sectors" | "ddb.geometry.heads" | "ddb.geometry.cylinders" => {
+            number(inside_quotes(value)).ok_or(Error::InvalidData)?;
+            Ok(Line::Setting)
+        }
+        _ if accept || key.starts_with("ddb.") => Ok(Line::Nothing),
+        _ => Err(Error::InvalidData),
+    }
+}
+
+/// What a line says that is no extent.
+fn pair(accept: bool, text: &str) -> Result<Line<&str>, Error>
+    ensures { Gives (line_with (λ s. s.now)) result (pair_of accept (cut_at 61 text.now)) }
+{
+    match cut_at_equals(text) {
+        None => Ok(Line::Nothing),
+        Some((key, value)) => setting(accept, key.trim(), value.trim()),
+    }
+}
+
+/// What a trimmed line says.
+#[tactic(auto, unfolding(crate::specs::Line::text_of))]
+fn trimmed(accept: bool, text: &str) -> Result<Line<&str>, Error>
+    ensures { Gives (line_with (λ s. s.now)) result (text_of accept (words_of text.now) text.now) }
+{
+    let mut words = text.split_whitespace();
+    let Some(first) = next_word(&mut words) else {
+        return Ok(Line::Nothing);
+    };
+    if text.starts_with('#') {
+        return Ok(Line::Nothing);
+    }
+    match access_of(first) {
+        None => pair(accept, text),
+        Some(access) => extent_line(access, &mut words, text),
+    }
+}
+
+/// The bytes as text, if they are UTF-8.
+pub(crate) fn utf8(bytes: &[u8]) -> Option<&str>
+    ensures { option_map (λ s. s.now) result ≡ utf8_of bytes.now }
+{
+    str::from_utf8(bytes).ok()
+}
+
+/// What a line of a descriptor says, by itself. Keys that aren't known are [`Error::InvalidData`], or say nothing where
+/// `accept_unknown_keys` holds.
+///
+/// [`Error::InvalidData`] is a line that can't be meant, and [`Error::Unsupported`] an extent of another type, or an image
+/// that stands over another one.
+#[tactic(auto, unfolding(crate::specs::Line::verdict_of))]
+pub fn verdict(accept_unknown_keys: bool, line: &[u8]) -> Result<Line<&str>, Error>
+    ensures { Gives (line_with (λ s. s.now)) result (verdict_of accept_unknown_keys line.now) }
+{
+    let text = utf8(line).ok_or(Error::InvalidData)?;
+    trimmed(accept_unknown_keys, text.trim())
+}

@@ -1,0 +1,571 @@
+//! The driver of VMDK images.
+ghost use Rattle.std.specs.Prelude.{◌≡◌, ℕ, ◌+◌, ◌*◌, ◌^◌, ◌-◌, ◌<◌, ◌≤◌, ◌⊎◌, length, map, slice_index_or, IfOk, IfErr, OnOk, OnErr, IsOk, IsErrOf, Ok, Err, min, false, true, [], ◌∷◌, List, MatchOption};
+ghost use Rattle.std.specs.List.{sum_by};
+ghost use Rattle.imago_storage.specs.Error.{IsExtRefusal};
+ghost use Rattle.imago_storage.specs.Features.{MayRunOut};
+ghost use Rattle.imago_storage.specs.Padding.{Wraps};
+ghost use Rattle.imago_storage.specs.Maintenance.{IsNothing};
+ghost use Rattle.imago_drivers.specs.declared.mapping.ShallowMapping.TheVariants as ShallowMapping;
+ghost use Rattle.imago_drivers.specs.Mapping.{Names};
+ghost use Rattle.imago_drivers.specs.Place.{Refused};
+ghost use Rattle.imago_drivers.specs.Commit.{IsCommit, IsCancel};
+ghost use Rattle.imago_vmdk.specs.Reading.{size_of as extent_size, is_length as may_be_long, reading_of};
+ghost use Rattle.imago_vmdk.specs.Probe.{probe_of};
+ghost use Rattle.imago_vmdk.specs.Vmdk.{extent_place, extent_rest, places_from, rest_from, storages_in, vmdk_count, vmdk_view, probe_refusals};
+ghost use Rattle.imago_vmdk.specs.Starts.{starts_from};
+ghost use Rattle.imago_vmdk.specs.VmdkLaws.{vmdk_lawful, vmdk_causes};
+
+use crate::descriptor::{self, Descriptor, is_length};
+use crate::line::Extent;
+use imago_drivers::drivers::{
+    Format, FormatDriverInstance, PreallocateMode, PreparedDataMapping, ShallowMapping,
+};
+use imago_drivers::gate::ImplicitOpenGate;
+use imago_drivers::layer::LowerLayer;
+use imago_storage::error::Error;
+use imago_storage::ext::StorageExt;
+use imago_storage::storage::{Storage, StorageOpenOptions};
+use std::alloc::Global;
+use std::fmt::{self, Display, Formatter, Write};
+
+/// Where an extent begins.
+#[derive(Clone, Copy)]
+pub(crate) struct Start {
+    /// On the disk, in bytes.
+    offset: u64,
+    /// The index of its storage, if it stands in one: that of the next extent that does, else.
+    storage: usize,
+}
+
+/// A disk of extents, one after the other, that a text descriptor describes. It can't be written to.
+///
+/// The descriptor is the storage of index 0, and those of the FLAT extents follow in order. Until they are opened the disk
+/// has its size, and no place.
+#[derive(Drop)]
+pub struct Vmdk<S: Storage> {
+    descriptor: S,
+    size: u64,
+    extents: Vec<Extent<String>>,
+    starts: Vec<Start>,
+    /// Whether the extents are opened.
+    opened: bool,
+    /// The storages of the FLAT extents, once they are opened.
+    storages: Vec<S>,
+    ghost sized: { size ≡ sum_by extent_size extents.items },
+    ghost fits: { size < 2 ^ 64 },
+    ghost started: { starts.items ≡ starts_from 0 1 extents.items },
+    ghost installed: { 1 + length storages.items ≡ vmdk_count opened extents.items },
+}
+
+/// The descriptor's text, if it may be one by its length.
+fn text<S: Storage>(alloc: Global, storage: &S) -> Result<Option<Vec<u8>>, Error>
+    ensures text { IfOk result
+        (λ r. MatchOption r (may_be_long (length (S.bytes storage.now)) ≡ false)
+        (λ v. (may_be_long (length (S.bytes storage.now)) ≡ true) × (v.items ≡ S.bytes storage.now))) }
+    ensures only { IfErr result IsExtRefusal }
+    ensures device { IsErrOf result Error.Device → (S.features storage.now).is_reliable ≡ false }
+    ensures wraps { IsErrOf result Error.WrapAround → Wraps (S.features storage.now) 0 (length (S.bytes storage.now)) }
+    ensures memory { IsErrOf result Error.Memory
+        → (may_be_long (length (S.bytes storage.now)) ≡ true) ⊎ MayRunOut (S.features storage.now).other_memory 0 0 }
+{
+    let size = storage.size()?;
+    if !is_length(size) {
+        return Ok(None);
+    }
+    let Ok(mut text) = vec![in alloc; 0u8; size as usize] else {
+        return Err(Error::Memory);
+    };
+    storage.read(alloc, &mut text, 0)?;
+    Ok(Some(text))
+}
+
+/// Where each extent begins. Refused, it is [`Error::Memory`].
+fn starts_of(alloc: Global, extents: &[Extent<String>]) -> Result<Vec<Start>, Error>
+    requires { sum_by extent_size extents.now < 2 ^ 64 }
+    ensures starts { IfOk result (λ v. v.items ≡ starts_from 0 1 extents.now) }
+    ensures memory { IfErr result (λ e. e ≡ Error.Memory) }
+{
+    let mut starts = Vec::new(alloc);
+    let mut offset = 0;
+    let mut storage = 1;
+    for extent in extents {
+        if starts.push(Start { offset, storage }).is_err() {
+            return Err(Error::Memory);
+        }
+        offset += extent.sectors() * 512;
+        if let Extent::Flat { .. } = extent {
+            storage += 1;
+        }
+    }
+    Ok(starts)
+}
+
+/// The index of the last extent that begins at the offset or before it.
+fn find(starts: &[Start], offset: u64) -> usize
+    requires some { 0 < length starts.now }
+    requires first { (d : _) → (slice_index_or starts.now 0 d).offset ≤ offset }
+    ensures inside { result < length starts.now }
+    ensures begins { (d : _) → (slice_index_or starts.now result d).offset ≤ offset }
+    ensures last { (d : _) → result + 1 < length starts.now → offset < (slice_index_or starts.now (result + 1) d).offset }
+{
+    let mut low = 0;
+    let mut high = starts.len();
+    while 1 < high - low {
+        let middle = low + (high - low) / 2;
+        if starts[middle].offset <= offset {
+            low = middle;
+        } else {
+            high = middle;
+        }
+    }
+    low
+}
+
+/// The mapping of bytes of a FLAT extent from the `at`-th one on, of which `rest` are left. The extent begins at that
+/// offset of its storage, in sectors. [`Error::InvalidData`] is a byte that no mapping can end behind.
+fn flat(
+    storage: usize,
+    offset: u64,
+    at: u64,
+    rest: u64,
+    writable: bool,
+) -> Result<(ShallowMapping, u64), Error>
+    requires { 0 < rest }
+    ensures mapping { IfOk result (λ r. r.0 ≡ ShallowMapping.Raw storage (offset * 512 + at) writable) }
+    ensures rest { IfOk result (λ r. (r.1 ≡ min rest (2 ^ 64 - 1 - (offset * 512 + at))) × (0 < r.1)) }
+    ensures refused { IfErr result (λ e. (e ≡ Error.InvalidData) × (2 ^ 64 - 1 ≤ offset * 512 + at)) }
+{
+    let Some(start) = offset.checked_mul(512) else {
+        return Err(Error::InvalidData);
+    };
+    let Some(start) = start.checked_add(at) else {
+        return Err(Error::InvalidData);
+    };
+    if start == u64::MAX {
+        return Err(Error::InvalidData);
+    }
+    let mapping = ShallowMapping::Raw {
+        storage,
+        offset: start,
+        writable,
+    };
+    Ok((mapping, rest.min(u64::MAX - start)))
+}
+
+/// The mapping of the bytes of an extent from the `at`-th one on, whose storage has that index.
+fn named(extent: &Extent<String>, storage: usize, at: u64) -> Result<(ShallowMapping, u64), Error>
+    requires inside { at < extent_size extent.now }
+    requires fits { extent_size extent.now < 2 ^ 64 }
+    ensures names { (bytes : ℕ → List ℕ) → IfOk result (λ r. (i : ℕ) → i < r.1 → Names r.0 i (extent_place bytes storage extent.now (at + i))) }
+    ensures rest { IfOk result (λ r. (r.1 ≡ extent_rest extent.now at) × (0 < r.1)) }
+    ensures refused { (bytes : ℕ → List ℕ) → IfErr result (λ e. extent_place bytes storage extent.now at ≡ Refused e) }
+{
+    match extent {
+        Extent::Zero { sectors } => {
+            let rest = *sectors * 512 - at;
+            Ok((ShallowMapping::Zero { explicit: true }, rest))
+        }
+        Extent::NoAccess { .. } => Err(Error::NoAccess),
+        Extent::Flat {
+            sectors,
+            offset,
+            writable,
+            ..
+        } => flat(storage, *offset, at, *sectors * 512 - at, *writable),
+    }
+}
+
+/// The mapping of the bytes of a disk of these extents from the offset on.
+fn mapped(
+    extents: &[Extent<String>],
+    starts: &[Start],
+    offset: u64,
+) -> Result<(ShallowMapping, u64), Error>
+    requires started { starts.now ≡ starts_from 0 1 extents.now }
+    requires paired { length starts.now ≡ length extents.now }
+    requires inside { offset < sum_by extent_size extents.now }
+    requires fits { sum_by extent_size extents.now < 2 ^ 64 }
+    ensures names { (bytes : ℕ → List ℕ)
+        → IfOk result (λ r. (i : ℕ) → i < r.1 → Names r.0 i (places_from bytes 1 extents.now (offset + i))) }
+    ensures rest { IfOk result (λ r. (r.1 ≡ rest_from extents.now offset) × (0 < r.1)) }
+    ensures refused { (bytes : ℕ → List ℕ) → IfErr result (λ e. places_from bytes 1 extents.now offset ≡ Refused e) }
+{
+    let index = find(starts, offset);
+    let start = starts[index];
+    named(&extents[index], start.storage, offset - start.offset)
+}
+
+/// Opens the storage of an extent that begins at that offset of it, in sectors.
+fn open_extent<S: Storage, G: ImplicitOpenGate<S>>(
+    alloc: Global,
+    descriptor: &S,
+    name: &str,
+    offset: u64,
+    gate: &mut G,
+) -> Result<S, Error> {
+    if offset.checked_mul(512).is_none() {
+        return Err(Error::InvalidData);
+    }
+    let name = descriptor.resolve_relative_path(alloc, name)?;
+    gate.open_storage(alloc, StorageOpenOptions::new().filename(name))
+}
+
+/// Opens the storages of extents, in order.
+fn open_extents<S: Storage, G: ImplicitOpenGate<S>>(
+    alloc: Global,
+    descriptor: &S,
+    extents: &[Extent<String>],
+    gate: &mut G,
+) -> Result<Vec<S>, Error>
+    ensures { IfOk result (λ v. length v.items ≡ storages_in extents.now) }
+{
+    let mut storages = Vec::new(alloc);
+    for extent in extents {
+        if let Extent::Flat { name, offset, .. } = extent {
+            let storage = open_extent(alloc, descriptor, name, *offset, gate)?;
+            if storages.push(storage).is_err() {
+                return Err(Error::Memory);
+            }
+        }
+    }
+    Ok(storages)
+}
+
+impl<S: Storage> Vmdk<S> {
+    ghost use Rattle.imago_vmdk.specs.Image.{descriptor_in, extents_in, is_opened};
+
+    /// Opens the image whose descriptor the storage has. The extents aren't opened yet: until then the disk has its size,
+    /// and no place.
+    ///
+    /// [`Error::Unsupported`] is an image that is to be written, before anything else. What the descriptor is refused for
+    /// is told by [`descriptor::read`]; keys that aren't known are refused. [`Error::Device`], [`Error::Memory`] and
+    /// [`Error::WrapAround`] are passed on from the storage, and want of memory is answered only where the text has no fault.
+    pub fn open_image(alloc: Global, storage: S, writable: bool) -> Result<Self, Error>
+        ensures read_only { writable ≡ true → result ≡ Err Error.Unsupported }
+        ensures opened { IfOk result
+            (λ v. (descriptor_in v ≡ «storage») × (is_opened v ≡ false) ×
+            (reading_of false (S.bytes storage) ≡ Ok (extents_in v, sum_by extent_size (extents_in v)))) }
+        ensures refused { writable ≡ false
+            → IfErr result
+            (λ e. (reading_of false (S.bytes storage) ≡ Err e) ⊎ IsExtRefusal e) }
+        ensures device { IsErrOf result Error.Device → (S.features storage).is_reliable ≡ false }
+    {
+        if writable {
+            return Err(Error::Unsupported);
+        }
+        Vmdk::open_read_only(alloc, storage, false)
+    }
+
+    /// Opens the extents: each by the gate, in order, under its name as the descriptor's storage resolves it, and read-only.
+    /// Where they are opened already, it does nothing.
+    ///
+    /// [`Error::InvalidData`] is an extent whose offset in bytes doesn't fit 64 bits, and [`Error::Memory`] refused memory. What
+    /// the descriptor's storage or the gate refuses for is passed on. Refused, nothing changed, and the storages that were
+    /// opened are let go.
+    pub fn open_implicit_dependencies_gated<G: ImplicitOpenGate<S>>(
+        &mut self,
+        alloc: Global,
+        gate: &mut G,
+    ) -> Result<(), Error>
+        ensures opened { OnOk result (is_opened self.new ≡ true) }
+        ensures descriptor { descriptor_in self.new ≡ descriptor_in self.old }
+        ensures extents { extents_in self.new ≡ extents_in self.old }
+        ensures again { is_opened self.old ≡ true → IsOk result × (self.new ≡ self.old) }
+        ensures refused { OnErr result (self.new ≡ self.old) }
+    {
+        if self.opened {
+            return Ok(());
+        }
+        let storages = self.opened_storages(alloc, gate)?;
+        self.storages = storages;
+        self.opened = true;
+        Ok(())
+    }
+
+    /// Opens the storages of the extents.
+    fn opened_storages<G: ImplicitOpenGate<S>>(
+        &self,
+        alloc: Global,
+        gate: &mut G,
+    ) -> Result<Vec<S>, Error>
+        ensures { IfOk result (λ v. length v.items ≡ storages_in self.now.extents.items) }
+    {
+        open_extents(alloc, &self.descriptor, &self.extents, gate)
+    }
+
+    /// Opens the image, whose keys that aren't known are accepted or not.
+    #[tactic(auto, unfolding(crate::specs::Reading::reading_of))]
+    fn open_read_only(
+        alloc: Global,
+        descriptor: S,
+        accept_unknown_keys: bool,
+    ) -> Result<Self, Error>
+        ensures opened { IfOk result
+            (λ v. (descriptor_in v ≡ «descriptor») × (is_opened v ≡ false) ×
+            (reading_of accept_unknown_keys (S.bytes descriptor) ≡ Ok (extents_in v, sum_by extent_size (extents_in v)))) }
+        ensures refused { IfErr result
+            (λ e. (reading_of accept_unknown_keys (S.bytes descriptor) ≡ Err e) ⊎ IsExtRefusal e) }
+        ensures device { IsErrOf result Error.Device → (S.features descriptor).is_reliable ≡ false }
+    {
+        let Some(text) = text(alloc, &descriptor)? else {
+            return Err(Error::InvalidData);
+        };
+        let Descriptor { extents, size } = descriptor::read(alloc, accept_unknown_keys, &text)?;
+        let starts = starts_of(alloc, &extents)?;
+        Ok(Vmdk {
+            descriptor,
+            size,
+            extents,
+            starts,
+            opened: false,
+            storages: Vec::new(alloc),
+        })
+    }
+}
+
+impl<S: Storage> Display for Vmdk<S> {
+    fn fmt<W: Write>(&self, f: &mut Formatter<W>) -> fmt::Result {
+        write!(f, "vmdk[{}]", self.descriptor)
+    }
+}
+
+impl<S: Storage> FormatDriverInstance for Vmdk<S> {
+    type Storage = S;
+
+    type State = ();
+
+    ghost view = { λ v. vmdk_view (S.features v.descriptor ∷ map S.features v.storages.items) (S.bytes v.descriptor ∷ map S.bytes v.storages.items) v.opened v.extents.items };
+
+    ghost recognizes = { probe_of };
+
+    ghost probe_reasons = { λ s. probe_refusals (S.features s) (length (S.bytes s)) };
+
+    ghost flushes = { record { flushed = IsNothing; synced = IsNothing; invalidated = IsNothing } };
+
+    ghost lawful = { λ v. vmdk_lawful (S.features v.descriptor ∷ map S.features v.storages.items) (S.bytes v.descriptor ∷ map S.bytes v.storages.items) v.opened v.extents.items };
+
+    ghost causes_lawful = { λ v. vmdk_causes (S.features v.descriptor ∷ map S.features v.storages.items) (S.bytes v.descriptor ∷ map S.bytes v.storages.items) v.opened v.extents.items };
+
+    fn format(&self) -> Format {
+        Format::Vmdk
+    }
+
+    fn size(&self) -> u64 {
+        self.size
+    }
+
+    fn zero_granularity(&self) -> Option<u64> {
+        None
+    }
+
+    fn writable(&self) -> bool {
+        false
+    }
+
+    fn takes_backing(&self) -> bool {
+        false
+    }
+
+    fn has_prepared(&self) -> bool {
+        false
+    }
+
+    #[tactic(auto, unfolding(crate::specs::Probe::probe_of))]
+    fn probe(alloc: Global, storage: &S) -> Result<bool, Error> {
+        match text(alloc, storage)? {
+            Some(text) => Ok(descriptor::probe(&text)),
+            None => Ok(false),
+        }
+    }
+
+    fn collect_storage_dependencies(&self, alloc: Global) -> Result<Vec<&S>, Error> {
+        let mut storages = Vec::new(alloc);
+        if storages.push(&self.descriptor).is_err() {
+            return Err(Error::Memory);
+        }
+        for storage in &self.storages {
+            if storages.push(storage).is_err() {
+                return Err(Error::Memory);
+            }
+        }
+        Ok(storages)
+    }
+
+    fn storage_count(&self) -> usize {
+        1 + self.storages.len()
+    }
+
+    fn storage(&self, index: usize) -> Option<&S> {
+        if index == 0 {
+            return Some(&self.descriptor);
+        }
+        self.storages.get(index - 1)
+    }
+
+    fn get_mapping(&self, offset: u64, _max_length: u64) -> Result<(ShallowMapping, u64), Error> {
+        if !self.opened {
+            return Ok((ShallowMapping::Eof, 0));
+        }
+        if offset >= self.size {
+            return Ok((ShallowMapping::Eof, 0));
+        }
+        mapped(&self.extents, &self.starts, offset)
+    }
+
+    fn read_mapped(
+        &self,
+        alloc: Global,
+        storage: usize,
+        buf: &mut [u8],
+        offset: u64,
+    ) -> Result<(), Error> {
+        if storage == 0 {
+            return self.descriptor.read(alloc, buf, offset);
+        }
+        self.storages[storage - 1].read(alloc, buf, offset)
+    }
+
+    fn readv_special(&self, _alloc: Global, buf: &mut [u8], _offset: u64) -> Result<(), Error> {
+        if buf.is_empty() {
+            return Ok(());
+        }
+        Err(Error::Unsupported)
+    }
+
+    fn write_mapped(
+        &mut self,
+        _alloc: Global,
+        _storage: usize,
+        _source: &[u8],
+        _offset: u64,
+    ) -> Result<(), Error>
+        ensures { IsErrOf result Error.Unsupported }
+    {
+        Err(Error::Unsupported)
+    }
+
+    fn ensure_zero_mapping(
+        &mut self,
+        _alloc: Global,
+        _offset: u64,
+        _count: u64,
+    ) -> Result<(u64, u64), Error>
+        ensures { IsErrOf result Error.Unsupported }
+    {
+        Err(Error::Unsupported)
+    }
+
+    fn discard_to_zero(
+        &mut self,
+        _alloc: Global,
+        _offset: u64,
+        _count: u64,
+    ) -> Result<(u64, u64), Error>
+        ensures { IsErrOf result Error.Unsupported }
+    {
+        Err(Error::Unsupported)
+    }
+
+    fn discard_to_any(
+        &mut self,
+        _alloc: Global,
+        _offset: u64,
+        _count: u64,
+    ) -> Result<(u64, u64), Error>
+        ensures { IsErrOf result Error.Unsupported }
+    {
+        Err(Error::Unsupported)
+    }
+
+    fn discard_to_backing(
+        &mut self,
+        _alloc: Global,
+        _offset: u64,
+        _count: u64,
+    ) -> Result<(u64, u64), Error>
+        ensures { IsErrOf result Error.Unsupported }
+    {
+        Err(Error::Unsupported)
+    }
+
+    fn prepare_data_mapping<B: LowerLayer>(
+        &mut self,
+        _alloc: Global,
+        _below: Option<&B>,
+        _offset: u64,
+        _count: u64,
+        _overwrite: bool,
+    ) -> Result<PreparedDataMapping<()>, Error>
+        ensures { IsErrOf result Error.Unsupported }
+    {
+        Err(Error::Unsupported)
+    }
+
+    fn write_prepared(
+        &mut self,
+        _alloc: Global,
+        _mapping: &PreparedDataMapping<()>,
+        _source: &[u8],
+        _at: u64,
+    ) -> Result<(), Error> {
+        Err(Error::ForeignMapping)
+    }
+
+    fn commit_data_mapping(&mut self, mapping: PreparedDataMapping<()>) -> Result<(), Error>
+        ensures { IsCommit ⟦<Vmdk<S> as FormatDriverInstance>⟧.view self.old self.new mapping result }
+    {
+        match mapping.into_state() {
+            None => Ok(()),
+            Some(()) => Err(Error::ForeignMapping),
+        }
+    }
+
+    fn cancel_data_mapping(&mut self, mapping: PreparedDataMapping<()>)
+        ensures { IsCancel ⟦<Vmdk<S> as FormatDriverInstance>⟧.view self.old self.new mapping }
+    {
+        let _ = mapping.into_state();
+    }
+
+    fn ensure_data_mapping<B: LowerLayer>(
+        &mut self,
+        _alloc: Global,
+        _below: Option<&B>,
+        _offset: u64,
+        _count: u64,
+        _overwrite: bool,
+    ) -> Result<(usize, u64, u64), Error>
+        ensures { IsErrOf result Error.Unsupported }
+    {
+        Err(Error::Unsupported)
+    }
+
+    fn resize_grow<B: LowerLayer>(
+        &mut self,
+        _alloc: Global,
+        _below: Option<&B>,
+        _new_size: u64,
+        _mode: PreallocateMode,
+    ) -> Result<(), Error>
+        ensures { IsErrOf result Error.Unsupported }
+    {
+        Err(Error::Unsupported)
+    }
+
+    fn resize_shrink(&mut self, _new_size: u64) -> Result<(), Error>
+        ensures { IsErrOf result Error.Unsupported }
+    {
+        Err(Error::Unsupported)
+    }
+
+    fn flush(&mut self) -> Result<(), Error> {
+        Ok(())
+    }
+
+    fn sync(&mut self) -> Result<(), Error> {
+        Ok(())
+    }
+
+    fn invalidate_cache(&mut self) -> Result<(), Error> {
+        Ok(())
+    }
+}
