@@ -3,3 +3,4 @@
 //! Each test passes as well where one of its requests for memory is refused.
 mod images;
 mod storages;
+mod vmdk;
