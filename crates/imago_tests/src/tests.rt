@@ -4,3 +4,4 @@
 mod images;
 mod opening;
 mod storages;
+mod vmdk;

@@ -1,0 +1,3 @@
+//! What VMDK descriptors are opened as, and what their images answer.
+mod descriptors;
+mod extents;
