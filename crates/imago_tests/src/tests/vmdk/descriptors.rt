@@ -6,7 +6,7 @@ use imago_vmdk::vmdk::Vmdk;
 use std::alloc::Global;
 use std::process::Abort;
 
-/// What QEMU 8 writes for `qemu-img create -f vmdk -o subformat=monolithicFlat disk.vmdk 1M`.
+/// A descriptor in the layout of `qemu-img`'s `monolithicFlat`, but for the key `encoding`, which is unknown here.
 const MONOLITHIC_FLAT: &[u8] = b"# Disk DescriptorFile\nversion=1\nCID=7ab3a6c1\nparentCID=ffffffff\ncreateType=\"monolithicFlat\"\n\n# Extent description\nRW 2048 FLAT \"disk-flat.vmdk\" 0\n\n# The Disk Data Base\n#DDB\n\nddb.virtualHWVersion = \"4\"\nddb.geometry.cylinders = \"2\"\nddb.geometry.heads = \"16\"\nddb.geometry.sectors = \"63\"\nddb.adapterType = \"ide\"\nddb.toolsVersion = \"2147483647\"\n";
 
 /// A descriptor, its disk's size or the refusal, and whether it is told to be one.
