@@ -38,7 +38,11 @@ const fn zeroes(count: u64) -> Result<(ShallowMapping, u64), Error> {
 
 /// The image of a descriptor whose extents are these storages, under the names `a`, `b` and `c`, and whether it was opened.
 /// Memory may be refused.
-fn image(alloc: Global, text: &[u8], storages: &[&[u8]]) -> Option<(Vmdk<MemStorage>, Result<(), Error>)> {
+fn image(
+    alloc: Global,
+    text: &[u8],
+    storages: &[&[u8]],
+) -> Option<(Vmdk<MemStorage>, Result<(), Error>)> {
     let mut gate = NamedGate::new(alloc);
     for (name, bytes) in ["a", "b", "c"].iter().zip(storages.iter()) {
         let name = String::from_str(alloc, name).ok()?;
@@ -61,7 +65,8 @@ fn are_mapped(rt: &impl Abort, text: &[u8], storages: &[&[u8]], alloc: Global, r
 
 #[test]
 fn extents_stand_one_after_the_other(rt: HostRuntime) {
-    let text = b"version=1\nRW 2 ZERO\nRDONLY 1 FLAT \"a\" 3\nRW 0 ZERO\nNOACCESS 1\nRW 1 FLAT \"b\"\n";
+    let text =
+        b"version=1\nRW 2 ZERO\nRDONLY 1 FLAT \"a\" 3\nRW 0 ZERO\nNOACCESS 1\nRW 1 FLAT \"b\"\n";
     let rows = [
         (0, 4096, zeroes(1024)),
         (1023, 0, zeroes(1)),
