@@ -139,11 +139,12 @@ fn reached(
     call: Call,
     tear: Tear,
 ) -> u64 {
-    let mut pass: u64 = 0;
-    while pass < 100 && is_refused(rt, alloc, form, call, pass, tear) {
-        pass += 1;
+    for pass in 0..100 {
+        if !is_refused(rt, alloc, form, call, pass, tear) {
+            return pass;
+        }
     }
-    pass
+    100
 }
 
 #[test]
