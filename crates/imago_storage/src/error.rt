@@ -13,7 +13,7 @@ pub enum Error {
     /// The range passes the disk's size, or the driver's mapping ends before the range does.
     #[error("the range passes the end of the disk")]
     BeyondDisk,
-    /// The end of a guest range passes the greatest offset, `u64::MAX`. No call answers it yet.
+    /// The end of a guest range passes the greatest offset, `u64::MAX`, in a zero write or discard.
     #[error("the end of the range passes the greatest possible offset")]
     RangeOverflow,
     /// A range at a storage, also once it is padded or rounded up to an alignment, passes `u64::MAX`.
@@ -37,7 +37,7 @@ pub enum Error {
     /// A prepared mapping that isn't this image's.
     #[error("the prepared mapping does not belong to this image")]
     ForeignMapping,
-    /// A gate that opens nothing was asked to open a storage. No call answers it yet.
+    /// A gate that opens nothing was asked to open a storage.
     #[error("opening further storages is denied")]
     Denied,
     /// No storage of that name is left.
