@@ -16,13 +16,13 @@ use Rattle.imago_access.specs.declared.discard.DiscardCall.{DiscardCall}
 use Rattle.imago_access.specs.declared.discard.DiscardCall.TheVariants as C
 use Rattle.imago_access.specs.Chain.{driver, backing, disk_value, lent_image}
 use Rattle.imago_access.specs.Lending.{with_driver}
-use Rattle.imago_access.specs.Calls.{devices_reliable, FailsTest, Overflows, IsLoose, settles}
-use Rattle.imago_access.specs.Discarding.{discard_of, loosened, IsLoosened, HasLoosened, HasLoosenedPart, IsImageDiscard, discard_reasons}
+use Rattle.imago_access.specs.Calls.{devices_reliable, FailsTest, Overflows, IsLoose, IsRangeCall, settles}
+use Rattle.imago_access.specs.Discarding.{discard_of, loosened, IsLoosened, HasLoosened, HasLoosenedPart, discard_reasons}
 use Rattle.imago_access.specs.Zeroing.{IsFree}
 use Rattle.imago_access.proofs.Images.{driver_with, backing_with, changed_image, not_failed}
 use Rattle.imago_access.proofs.Weaker.{allowed_more, refused_more}
 use Rattle.imago_access.proofs.Written.{framed_twice}
-use Rattle.imago_access.proofs.Writes.{rose_more}
+use Rattle.imago_access.proofs.Writes.{and_left, rose_more}
 use Rattle.imago_access.proofs.ZeroLoops.{same_devices}
 
 -- A way for a value to change, by its offset, that may be no change, and that may follow another one.
@@ -69,10 +69,6 @@ module _ (how : ℕ → Value → Value → Type 0) (law : IsRepeatable how) whe
   pub unchanged : (o n : ℕ) (f : ℕ → Value) → IsChanged o n (λ k. how (o + k)) f f
   unchanged o n f = record { inside = λ k lt. law.same (o + k) (f (o + k)) (f (o + k)) refl; before = λ p lt. refl; behind = λ p ge. refl }
 
-both_left : (a b : Bool) → IsTrue (a && b) → IsTrue a
-both_left true b h = refl
-both_left false b h = h
-
 -- a part of the driver's discard, as the image sees it
 pub part_loosened : {D St : Type 0} (view : D → View St) (x : FormatAccess D) (d : D) (call : DiscardCall) (o n : ℕ) (result : Result (ℕ × ℕ) Error)
     → IfOk result (λ r. (r.1 ≡ 0) ⊎ ((o ≤ r.0) × (r.0 + r.1 ≤ o + n)))
@@ -90,7 +86,7 @@ part_loosened {D} view x d call o n result inside whole done refused settled spe
         below = backing_with x d;
         framed = subst (λ (y : D). IsFramed (view (driver x)) (view y)) e framed;
         spent = subst (λ (y : D). (view y).pending ≡ None) e spent;
-        faults = subst (λ (y : D). CountsFaults (devices_reliable view x) (view (driver x)).fault_count (view y).fault_count result) e (record { later = faults.later; reliable = λ t. faults.reliable (both_left _ _ t); device = faults.device });
+        faults = subst (λ (y : D). CountsFaults (devices_reliable view x) (view (driver x)).fault_count (view y).fault_count result) e (record { later = faults.later; reliable = λ t. faults.reliable (and_left _ _ t); device = faults.device });
         refusals = weaker result refusals;
       };
       inside = inside;
@@ -237,10 +233,15 @@ module _ {D St : Type 0} (view : D → View St) (call : DiscardCall) (o n : ℕ)
 pub not_loosened : {D St : Type 0} (view : D → View St) (call : DiscardCall) (x : FormatAccess D) (o n : ℕ) → IsLoosened view call o n x x
 not_loosened view call x o n = unchanged _ (repeatable call (view (driver x)).abilities.takes_backing (lent_image view (backing x)).at) o n (disk_value view x)
 
+-- what is promised of a discard but for the driver's own calls
+abbrev pub IsLoosenedRange : {D St : Type 0} (view : D → View St) (call : DiscardCall) (x new : FormatAccess D) (o n : ℕ) (result : Result (Unit {0}) Error) → Type 0
+IsLoosenedRange view call x new o n result = IsRangeCall view (discard_of call) o n (settles (discard_of call)) (discard_reasons (view (driver x)) (discard_of call) o n) ⊥ (λ u. 0)
+    (λ u. IsLoosened view call o n x new) (IsLoosened view call o n x new) x new result
+
 -- a discard that passed its tests
-pub discard_call : {D St : Type 0} (view : D → View St) (call : DiscardCall) (x new : FormatAccess D) (o n : ℕ) (result : Result (Unit {0}) Error) → (view (driver x)).abilities.is_writable ≡ true → o + n ≤ (view (driver x)).size
-    → (Overflows (discard_of call) o n → ⊥) → (IsLoose (discard_of call)) → HasLoosened view call o n x new result → IsImageDiscard view call x new o n result
-discard_call view call x new o n result w fits small loose h = record {
+pub range_call : {D St : Type 0} (view : D → View St) (call : DiscardCall) (x new : FormatAccess D) (o n : ℕ) (result : Result (Unit {0}) Error) → (view (driver x)).abilities.is_writable ≡ true → o + n ≤ (view (driver x)).size
+    → (Overflows (discard_of call) o n → ⊥) → (IsLoose (discard_of call)) → HasLoosened view call o n x new result → IsLoosenedRange view call x new o n result
+range_call view call x new o n result w fits small loose h = record {
   tested = λ z g. absurd (not_failed (view (driver x)) (discard_of call) o n w fits small z g);
   done = λ k. done result (h.left k);
   torn = λ k. torn result (h.left k);

@@ -11,6 +11,7 @@ use Rattle.imago_drivers.specs.LayerBelow.{IsUnreadableIn, ReadBound}
 use Rattle.imago_drivers.specs.Reasons.{Reasons, allowed}
 use Rattle.imago_drivers.specs.View.{View, Abilities}
 use Rattle.imago_drivers.specs.Flushes.{Flushes}
+use Rattle.imago_drivers.specs.Discards.{Discards}
 use Rattle.imago_drivers.specs.Laws.{IsLawful, AreCauses}
 use Rattle.imago_drivers.specs.Changes.{IsChanged, into, partly, overwritten, given_back, zeroes}
 use Rattle.imago_access.specs.declared.access.FormatAccess.{FormatAccess}
@@ -59,23 +60,23 @@ module _ {D St : Type 0} (view : D → View St) where
   resize_kept : (old new : FormatAccess D) (n : ℕ) (mode : PreallocateMode) (result : Result Unit Error) → IsResizeTo view n mode old new result → IsKept view old new
   resize_kept old new n mode result h = ⊎_elim (λ lt. (h.cut lt).kept) (λ le. (h.grown le).kept) (cases_lt n (view (driver old)).size)
 
-  step_kept : (flushes : Flushes D) (old new : FormatAccess D) (call : Call) (r : Reply) → IsStep view flushes old call r new → IsKept view old new
-  step_kept flushes old new (C.Write o bytes) r h = h.2.kept
-  step_kept flushes old new (C.Read o n) r h = same_kept old new h.0
-  step_kept flushes old new (C.GetMapping o n) r h = same_kept old new h.0
-  step_kept flushes old new C.Size r h = same_kept old new h.0
-  step_kept flushes old new C.Flush r h = h.2.kept
-  step_kept flushes old new C.Sync r h = h.2.kept
-  step_kept flushes old new C.InvalidateCache r h = h.2.kept
-  step_kept flushes old new (C.EnsureData o n overwrite) r h = h.2.call.kept
-  step_kept flushes old new (C.Prepared o n overwrite bytes commit) r h = h.2.call.kept
-  step_kept flushes old new (C.WriteZeroes o n) r h = h.2.kept
-  step_kept flushes old new (C.DiscardToZero o n) r h = h.2.kept
-  step_kept flushes old new (C.DiscardToAny o n) r h = h.2.kept
-  step_kept flushes old new (C.DiscardToBacking o n) r h = h.2.kept
-  step_kept flushes old new (C.Resize n mode) r h = resize_kept old new n mode h.0 h.2
-  step_kept flushes old new (C.ResizeGrow n mode) r h = h.2.kept
-  step_kept flushes old new (C.ResizeShrink n) r h = h.2.kept
+  step_kept : (flushes : Flushes D) (discards : Discards D) (old new : FormatAccess D) (call : Call) (r : Reply) → IsStep view flushes discards old call r new → IsKept view old new
+  step_kept flushes discards old new (C.Write o bytes) r h = h.2.kept
+  step_kept flushes discards old new (C.Read o n) r h = same_kept old new h.0
+  step_kept flushes discards old new (C.GetMapping o n) r h = same_kept old new h.0
+  step_kept flushes discards old new C.Size r h = same_kept old new h.0
+  step_kept flushes discards old new C.Flush r h = h.2.kept
+  step_kept flushes discards old new C.Sync r h = h.2.kept
+  step_kept flushes discards old new C.InvalidateCache r h = h.2.kept
+  step_kept flushes discards old new (C.EnsureData o n overwrite) r h = h.2.call.kept
+  step_kept flushes discards old new (C.Prepared o n overwrite bytes commit) r h = h.2.call.kept
+  step_kept flushes discards old new (C.WriteZeroes o n) r h = h.2.kept
+  step_kept flushes discards old new (C.DiscardToZero o n) r h = h.2.kept
+  step_kept flushes discards old new (C.DiscardToAny o n) r h = h.2.range.kept
+  step_kept flushes discards old new (C.DiscardToBacking o n) r h = h.2.range.kept
+  step_kept flushes discards old new (C.Resize n mode) r h = resize_kept old new n mode h.0 h.2
+  step_kept flushes discards old new (C.ResizeGrow n mode) r h = h.2.kept
+  step_kept flushes discards old new (C.ResizeShrink n) r h = h.2.kept
 
   kept_twice : (old mid new : FormatAccess D) → IsKept view old mid → IsKept view mid new → IsKept view old new
   kept_twice old mid new a b = record {
@@ -84,11 +85,11 @@ module _ {D St : Type 0} (view : D → View St) where
   }
 
   -- a run changes no layer below
-  pub run_kept : (flushes : Flushes D) (old new : FormatAccess D) (calls : List Call) (replies : List Reply) → IsRun view flushes old calls replies new → IsKept view old new
-  run_kept flushes old new [] [] h = same_kept old new h
-  run_kept flushes old new [] (r ∷ rs) h = absurd h
-  run_kept flushes old new (c ∷ cs) [] h = absurd h
-  run_kept flushes old new (c ∷ cs) (r ∷ rs) h = kept_twice old h.0 new (step_kept flushes old h.0 c r h.1) (run_kept flushes h.0 new cs rs h.2)
+  pub run_kept : (flushes : Flushes D) (discards : Discards D) (old new : FormatAccess D) (calls : List Call) (replies : List Reply) → IsRun view flushes discards old calls replies new → IsKept view old new
+  run_kept flushes discards old new [] [] h = same_kept old new h
+  run_kept flushes discards old new [] (r ∷ rs) h = absurd h
+  run_kept flushes discards old new (c ∷ cs) [] h = absurd h
+  run_kept flushes discards old new (c ∷ cs) (r ∷ rs) h = kept_twice old h.0 new (step_kept flushes discards old h.0 c r h.1) (run_kept flushes discards h.0 new cs rs h.2)
 
   -- so what its layers below show stays
   same_backed : (old new : FormatAccess D) → IsKept view old new → backed_value view new ≡ backed_value view old
@@ -398,37 +399,37 @@ module _ {D St : Type 0} (view : D → View St) (lawful : (d : D) → IsLawful (
       (λ e y unreadable. sym (value_in_list x o) ∙ y.refused_place unreadable) h
 
   -- one step, on lists
-  flat_step : (flushes : Flushes D) (old new : FormatAccess D) (call : Call) (r : Reply) → IsTrue (view (driver old)).abilities.keeps_data → IsStep view flushes old call r new → IsFlatStep (backed_value view old) (disk view old) call r (disk view new)
-  flat_step flushes old new (C.Read o n) r k h = (ap (disk view) h.0, read_part old o n r h.1)
-  flat_step flushes old new C.Size r k h = (ap (disk view) h.0, h.1 ∙ ap R.Size (sym (disk_length view old)))
-  flat_step flushes old new (C.GetMapping o n) r k h = (ap (disk view) h.0, mapped_part old o n r h.1)
-  flat_step flushes old new (C.Write o bytes) r k h = done_or_refused told_done r (IsWrite view old new o bytes.items) _ _ (λ u. write_done old new o bytes.items k) (λ e x. write_refused old new o bytes.items e k x) h
-  flat_step flushes old new (C.EnsureData o n overwrite) r k h = data_step old new o n overwrite r k h
-  flat_step flushes old new (C.Prepared o n overwrite bytes commit) r k h = done_or_refused told_prepared r (IsMappedWrite view old new o n overwrite bytes.items commit) _ _
+  flat_step : (flushes : Flushes D) (discards : Discards D) (old new : FormatAccess D) (call : Call) (r : Reply) → IsTrue (view (driver old)).abilities.keeps_data → IsStep view flushes discards old call r new → IsFlatStep (backed_value view old) (disk view old) call r (disk view new)
+  flat_step flushes discards old new (C.Read o n) r k h = (ap (disk view) h.0, read_part old o n r h.1)
+  flat_step flushes discards old new C.Size r k h = (ap (disk view) h.0, h.1 ∙ ap R.Size (sym (disk_length view old)))
+  flat_step flushes discards old new (C.GetMapping o n) r k h = (ap (disk view) h.0, mapped_part old o n r h.1)
+  flat_step flushes discards old new (C.Write o bytes) r k h = done_or_refused told_done r (IsWrite view old new o bytes.items) _ _ (λ u. write_done old new o bytes.items k) (λ e x. write_refused old new o bytes.items e k x) h
+  flat_step flushes discards old new (C.EnsureData o n overwrite) r k h = data_step old new o n overwrite r k h
+  flat_step flushes discards old new (C.Prepared o n overwrite bytes commit) r k h = done_or_refused told_prepared r (IsMappedWrite view old new o n overwrite bytes.items commit) _ _
       (λ m x. prepared_done old new o n overwrite bytes.items commit m k x)
       (λ e x. prepared_refused old new o n overwrite bytes.items commit e k x) h
-  flat_step flushes old new C.Flush r k h = flushed view flushes.flushed old new r k h
-  flat_step flushes old new C.Sync r k h = flushed view flushes.synced old new r k h
-  flat_step flushes old new C.InvalidateCache r k h = flushed view flushes.invalidated old new r k h
-  flat_step flushes old new (C.WriteZeroes o n) r k h = done_or_refused told_done r (IsZeroWrite view Zero old new o n) _ _ (λ u x. zero_done old new Zero o n (zero_cases o n) k x) (λ e x. zero_refused old new Zero o n (zero_cases o n) e k x) h
-  flat_step flushes old new (C.DiscardToZero o n) r k h = done_or_refused told_done r (IsZeroWrite view DiscardToZero old new o n) _ _ (λ u x. zero_done old new DiscardToZero o n (zero_cases o n) k x) (λ e x. zero_refused old new DiscardToZero o n (zero_cases o n) e k x) h
-  flat_step flushes old new (C.DiscardToAny o n) r k h = done_or_refused told_done r (IsImageDiscard view X.ToAny old new o n) _ _
-      (λ u x. let fits = call_fits view old new DiscardToAny o n (zero_cases o n) x in (omega (arith, fits, disk_length view old), unspecified_list old new o n x.same_size (x.done k)))
-      (λ e x. (unspecified_list old new o n x.same_size (x.torn k), call_untouched view old new DiscardToAny o n (zero_cases o n) e (λ a. a) (λ a. a) x)) h
-  flat_step flushes old new (C.DiscardToBacking o n) r k h = done_or_refused told_done r (IsImageDiscard view X.ToBacking old new o n) _ _
-      (λ u x. let fits = call_fits view old new DiscardToBacking o n (zero_cases o n) x in (omega (arith, fits, disk_length view old), given_back_list old new o n x.same_size (x.done k)))
-      (λ e x. (given_back_list old new o n x.same_size (x.torn k), call_untouched view old new DiscardToBacking o n (zero_cases o n) e (λ a. a) (λ a. a) x)) h
-  flat_step flushes old new (C.Resize n mode) r k h = done_or_refused told_done r (IsResizeTo view n mode old new) _ _ (λ u. resized_to view old new mode n k) (λ e x. resize_refused view old new n mode e k x) h
-  flat_step flushes old new (C.ResizeGrow n mode) r k h = resized view old new _ n (HasGrown view mode n old new) _ r k (grown view old new mode n k) h
-  flat_step flushes old new (C.ResizeShrink n) r k h = resized view old new _ n (HasShrunk view n old new) _ r k (shrunk view old new n k) h
+  flat_step flushes discards old new C.Flush r k h = flushed view flushes.flushed old new r k h
+  flat_step flushes discards old new C.Sync r k h = flushed view flushes.synced old new r k h
+  flat_step flushes discards old new C.InvalidateCache r k h = flushed view flushes.invalidated old new r k h
+  flat_step flushes discards old new (C.WriteZeroes o n) r k h = done_or_refused told_done r (IsZeroWrite view Zero old new o n) _ _ (λ u x. zero_done old new Zero o n (zero_cases o n) k x) (λ e x. zero_refused old new Zero o n (zero_cases o n) e k x) h
+  flat_step flushes discards old new (C.DiscardToZero o n) r k h = done_or_refused told_done r (IsZeroWrite view DiscardToZero old new o n) _ _ (λ u x. zero_done old new DiscardToZero o n (zero_cases o n) k x) (λ e x. zero_refused old new DiscardToZero o n (zero_cases o n) e k x) h
+  flat_step flushes discards old new (C.DiscardToAny o n) r k h = done_or_refused told_done r (IsImageDiscard view discards X.ToAny old new o n) _ _
+      (λ u x. let fits = call_fits view old new DiscardToAny o n (zero_cases o n) x.range in (omega (arith, fits, disk_length view old), unspecified_list old new o n x.range.same_size (x.range.done k)))
+      (λ e x. (unspecified_list old new o n x.range.same_size (x.range.torn k), call_untouched view old new DiscardToAny o n (zero_cases o n) e (λ a. a) (λ a. a) x.range)) h
+  flat_step flushes discards old new (C.DiscardToBacking o n) r k h = done_or_refused told_done r (IsImageDiscard view discards X.ToBacking old new o n) _ _
+      (λ u x. let fits = call_fits view old new DiscardToBacking o n (zero_cases o n) x.range in (omega (arith, fits, disk_length view old), given_back_list old new o n x.range.same_size (x.range.done k)))
+      (λ e x. (given_back_list old new o n x.range.same_size (x.range.torn k), call_untouched view old new DiscardToBacking o n (zero_cases o n) e (λ a. a) (λ a. a) x.range)) h
+  flat_step flushes discards old new (C.Resize n mode) r k h = done_or_refused told_done r (IsResizeTo view n mode old new) _ _ (λ u. resized_to view old new mode n k) (λ e x. resize_refused view old new n mode e k x) h
+  flat_step flushes discards old new (C.ResizeGrow n mode) r k h = resized view old new _ n (HasGrown view mode n old new) _ r k (grown view old new mode n k) h
+  flat_step flushes discards old new (C.ResizeShrink n) r k h = resized view old new _ n (HasShrunk view n old new) _ r k (shrunk view old new n k) h
 
   -- a run, on lists
-  pub flat_history : (flushes : Flushes D) (old new : FormatAccess D) (calls : List Call) (replies : List Reply) → IsTrue (view (driver old)).abilities.keeps_data → IsRun view flushes old calls replies new → IsFlatHistory (backed_value view old) (disk view old) calls replies (disk view new)
-  flat_history flushes old new [] [] k h = ap (disk view) h
-  flat_history flushes old new [] (r ∷ rs) k h = absurd h
-  flat_history flushes old new (c ∷ cs) [] k h = absurd h
-  flat_history flushes old new (c ∷ cs) (r ∷ rs) k h =
-      let s = step_kept view flushes old h.0 c r h.1 in
+  pub flat_history : (flushes : Flushes D) (discards : Discards D) (old new : FormatAccess D) (calls : List Call) (replies : List Reply) → IsTrue (view (driver old)).abilities.keeps_data → IsRun view flushes discards old calls replies new → IsFlatHistory (backed_value view old) (disk view old) calls replies (disk view new)
+  flat_history flushes discards old new [] [] k h = ap (disk view) h
+  flat_history flushes discards old new [] (r ∷ rs) k h = absurd h
+  flat_history flushes discards old new (c ∷ cs) [] k h = absurd h
+  flat_history flushes discards old new (c ∷ cs) (r ∷ rs) k h =
+      let s = step_kept view flushes discards old h.0 c r h.1 in
       let keeps : IsTrue (view (driver h.0)).abilities.keeps_data = rw s.kind.abilities k in
-      let rest = flat_history flushes h.0 new cs rs keeps h.2 in
-      (disk view h.0, flat_step flushes old h.0 c r k h.1, subst (λ (below : ℕ → Value). IsFlatHistory below (disk view h.0) cs rs (disk view new)) (same_backed view old h.0 s) rest)
+      let rest = flat_history flushes discards h.0 new cs rs keeps h.2 in
+      (disk view h.0, flat_step flushes discards old h.0 c r k h.1, subst (λ (below : ℕ → Value). IsFlatHistory below (disk view h.0) cs rs (disk view new)) (same_backed view old h.0 s) rest)

@@ -22,3 +22,4 @@ pub mod Successes
 pub mod ZeroSteps
 pub mod ZeroLoops
 pub mod DiscardSteps
+pub mod PartSteps

@@ -20,7 +20,7 @@ use Rattle.imago_drivers.specs.Commit.{IsCommit, IsCancel, commit_reasons, is_co
 use Rattle.imago_access.specs.Writing.{CommitMayTakeMemory, StandsAlone, HasWritten, HasFilled, HasMapped, IsWaiting, is_filled, filled, shown_length, shown_change, settles_by, first_reasons, filling_reasons, mapping_reasons}
 use Rattle.imago_access.proofs.Weaker.{IsWeaker, allowed_more}
 use Rattle.imago_access.proofs.Written.{settled_twice, framed_twice, changed_wider, changed_whole, written_length, is_at_start, is_at_start_after, never_foreign_write, is_spent, write_refused, cancelled, filled_so, filling_weaker}
-use Rattle.imago_access.proofs.Writes.{GoesOn, goes_on, goes_on_twice, goes_on_with, reaches_twice, rose_more, counted, refused_first, wrote_first, unchanged_values}
+use Rattle.imago_access.proofs.Writes.{and_left, of_err, GoesOn, goes_on, goes_on_twice, goes_on_with, reaches_twice, rose_more, counted, refused_first, wrote_first, unchanged_values}
 
 -- settled by a part, so by what holds it
 settled_wider : (of : Operation → Type 0) (old new : Causes) (c d : Copies) (o a b : ℕ) → a ≤ b → IsSettled of old new c d o a → IsSettled of old new c d o b
@@ -28,13 +28,6 @@ settled_wider of old new c d o a b le s = record {
   causes = λ op x n q m e r h i j k y. s.causes op x n q m e r h (omega arith) j k y;
   copied = λ op x n q m p r h i j k y. s.copied op x n q m p r h (omega arith) j k y;
 }
-
-and_first : (a b : Bool) → (a && b) ≡ true → a ≡ true
-and_first true b h = refl
-and_first false b h = h
-
-of_err : {T : Type 0} (e x : Error) → IsErrOf {T = T} (Err e) x → e ≡ x
-of_err e x h = cc
 
 -- a mapping that is prepared (old to mid), and written (mid to wrote)
 module _ {D St : Type 0} (view : D → View St) (l : LayerBelow) (old mid wrote : D) (o n : ℕ) (overwrite : Bool) (bytes : List ℕ) (k : ℕ) (m : PreparedDataMapping St)
@@ -251,7 +244,7 @@ module _ {D St : Type 0} (view : D → View St) (l : LayerBelow) (old wrote new 
 
   looser_part : (b : Bool) → IsChanged o n (partly (filled (overwrite && b) bytes)) (values l.at (view old).place) (values l.at (view new).place) → IsChanged o n (partly (filled overwrite bytes)) (values l.at (view old).place) (values l.at (view new).place)
   looser_part b c = record {
-    inside = λ k lt. ⊎_elim (λ a. inl a) (λ a. inr (a.0, λ ge. ⊎_elim (λ f. inl (and_first overwrite b f)) (λ s. inr s) (a.1 ge))) (c.inside k lt);
+    inside = λ k lt. ⊎_elim (λ a. inl a) (λ a. inr (a.0, λ ge. ⊎_elim (λ f. inl (and_left overwrite b f)) (λ s. inr s) (a.1 ge))) (c.inside k lt);
     before = c.before;
     behind = c.behind;
   }

@@ -7,6 +7,7 @@ use Rattle.imago_drivers.specs.declared.format.PreallocateMode.{PreallocateMode}
 use Rattle.imago_drivers.specs.Place.{Value}
 use Rattle.imago_drivers.specs.LayerBelow.{ReadBound}
 use Rattle.imago_drivers.specs.Operation.{Operation, Map, Write, Grow, Shrink, Flush}
+use Rattle.imago_drivers.specs.Discards.{Discards}
 use Rattle.imago_drivers.specs.View.{View, EndsIn}
 use Rattle.imago_drivers.specs.Laws.{IsLawful, AreCauses}
 use Rattle.imago_drivers.specs.Reasons.{Reasons, allowed}
@@ -21,6 +22,7 @@ use Rattle.imago_drivers.specs.Done.{driver_reasons}
 use Rattle.imago_access.specs.Sizes.{IsResize, HasGrown, HasShrunk, FailsWritable}
 use Rattle.imago_access.specs.Success.{Succeeds, IsReadable, IsMildRefusal, IsReadyToWrite, IsReadyToResize, HasSoundDevice, TakesNoneToWrite, SucceedsIfOffered, IsReadyToZero, ZeroWritesSucceed, DiscardsSucceed, FlushesSucceed, change_cause}
 use Rattle.imago_access.proofs.Images.{both_ways, not_failed}
+use Rattle.imago_access.proofs.Writes.{and_left}
 
 -- a refusal that is for nothing else is for want of memory, or has a cause
 cause_or_memory : (r : Reasons) (e : Error) → (r.read_only → ⊥) → (r.beyond_disk → ⊥) → (r.range_overflow → ⊥) → (e ≡ Error.Device → r.device → ⊥) → (e ≡ Error.ForeignMapping → r.foreign_mapping → ⊥) → allowed r e → ((e ≡ Error.Memory) × r.memory) ⊎ r.cause e
@@ -131,8 +133,8 @@ module _ {D St : Type 0} (view : D → View St) where
   pub zero_write_succeeds : ZeroWritesSucceed view
   zero_write_succeeds = λ old new op o n result g h. offered_succeeds old new op o n (zero_reasons view old op o n) result g (λ z. both_ways (is_reliable view old) g.reliable z) (λ z. z) (λ z. z) (λ z. z) (λ z. z) (λ k free. k free) h
 
-  pub discard_succeeds : DiscardsSucceed view
-  discard_succeeds = λ old new call o n result g h. offered_succeeds old new (discard_of call) o n (discard_reasons (view (driver old)) (discard_of call) o n) result g (λ z. z) (λ z. z) (λ z. z) (λ z. z) (λ z. z) (λ k free. k free) h
+  pub discard_succeeds : (discards : Discards D) → DiscardsSucceed view discards
+  discard_succeeds discards = λ old new call o n result g h. offered_succeeds old new (discard_of call) o n (discard_reasons (view (driver old)) (discard_of call) o n) result g (λ z. z) (λ z. z) (λ z. z) (λ z. z) (λ z. z) (λ k free. k free) h.range
 
   -- a data mapping, or the preparing of one
   pub mapped_succeeds : {T : Type 0} (old new : FormatAccess D) (o n : ℕ) (result : Result T Error) → IsReadyToWrite view old o n
@@ -167,10 +169,6 @@ module _ {D St : Type 0} (view : D → View St) where
   growth_succeeds old new mode n (Ok t) g h = succeeds_if_offered _ (Ok t) tt
   growth_succeeds old new mode n (Err e) g h = succeeds_if_offered _ (Err e)
       (resize_left old new (Grow mode) n (record (range_refusals view old (Grow mode) n 0) { beyond_disk = ⊥ }) (devices_reliable view old) e g g.sound.reliable (λ z. z) (λ z. z) (λ z. z) (λ z. z) (λ z c. c) h.faults h.refusals)
-
-  and_left : (a b : Bool) → (a && b) ≡ true → a ≡ true
-  and_left true b h = refl
-  and_left false b h = h
 
   pub cut_succeeds : (old new : FormatAccess D) (n : ℕ) (result : Result Unit Error) → IsReadyToResize view old Shrink n
       → IsResize view Shrink n (HasShrunk view n old new) old new result → SucceedsIfOffered ((view (driver old)).abilities.offers Shrink) ((view (driver old)).limits.no_memory Shrink n 0) result

@@ -16,7 +16,7 @@ use Rattle.imago_access.specs.Writing.{CommitMayTakeMemory, StandsAlone, first_r
 use Rattle.imago_access.proofs.Weaker.{IsWeaker, allowed_more}
 use Rattle.imago_access.proofs.Written.{kind_twice, framed_twice}
 
-and_left : (a b : Bool) → IsTrue (a && b) → IsTrue a
+pub and_left : (a b : Bool) → IsTrue (a && b) → IsTrue a
 and_left true b h = refl
 and_left false b h = h
 
@@ -49,7 +49,7 @@ failed_device r a b result e h was k = h.device (was ∙ ap (λ x. Err x) k)
 pub reaches_twice : {St : Type 0} (a b c : View St) → ReachesNoMore a b → ReachesNoMore b c → ReachesNoMore a c
 reaches_twice a b c f g = λ p q w h. let x = g p q w h in f p q x.0 x.1
 
-of_err : {T : Type 0} (e x : Error) → IsErrOf {T = T} (Err e) x → e ≡ x
+pub of_err : {T : Type 0} (e x : Error) → IsErrOf {T = T} (Err e) x → e ≡ x
 of_err e x h = cc
 
 module _ {St : Type 0} (l : LayerBelow) (commit_memory : Type 0) (old new : View St) (o : ℕ) (bytes : List ℕ) where

@@ -23,7 +23,7 @@ use Rattle.imago_access.proofs.ZeroSteps.{alone_later, alone_more}
 use Rattle.imago_access.proofs.Chains.{reliable_out, cause_here, cause_lower}
 use Rattle.imago_access.proofs.Weaker.{IsWeaker, allowed_more}
 use Rattle.imago_access.proofs.Written.{framed_twice, settled_twice}
-use Rattle.imago_access.proofs.Writes.{changed_next, rose_more}
+use Rattle.imago_access.proofs.Writes.{of_err, changed_next, rose_more}
 
 -- zeroes over a range, and then over a part of it
 torn_twice : (o n q m : ℕ) (f g h : ℕ → Value) → o ≤ q → q + m ≤ o + n → IsChanged o n (partly zeroes) f g → IsChanged q m (partly zeroes) g h → IsChanged o n (partly zeroes) f h
@@ -188,9 +188,6 @@ module _ {D St : Type 0} (view : D → View St) where
     device = λ d. ⊎_elim (λ rose. inl (rose_more _ _ _ _ x.count.later (omega arith) rose)) (λ bad. inr (unreliable_before old mid x.below x.framed bad)) (h.device (ap (λ z. Err z) (of_err e Error.Device d)));
     refusals = allowed_more r s weaker e h.refusals;
   }
-    where
-      of_err : {T : Type 0} (e x : Error) → IsErrOf {T = T} (Err e) x → e ≡ x
-      of_err e x h = cc
 
 -- The first bytes of a range are zero, so many of them.
 pub record IsZeroingOn {D St : Type 0} (view : D → View St) (o n : ℕ) (old mid : FormatAccess D) (count : ℕ) : Type 0 where

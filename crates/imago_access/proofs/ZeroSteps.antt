@@ -28,10 +28,7 @@ use Rattle.imago_access.specs.Resolved.{LeadsToZero, IsResolved}
 use Rattle.imago_access.proofs.Chains.{lower_deep}
 use Rattle.imago_access.proofs.Targets.{target_shows, mapped_value}
 use Rattle.imago_access.proofs.Images.{driver_with, backing_with, changed_image, not_failed}
-
-both_left : (a b : Bool) → IsTrue (a && b) → IsTrue a
-both_left true b h = refl
-both_left false b h = h
+use Rattle.imago_access.proofs.Writes.{and_left}
 
 -- a part of a range that is zeroed is a range that is partly zeroed
 pub zeroed_part : (o n q m : ℕ) (old new : ℕ → Value) → (m ≡ 0) ⊎ ((o ≤ q) × (q + m ≤ o + n)) → IsChanged q m zeroes old new → IsChanged o n (partly zeroes) old new
@@ -93,14 +90,14 @@ module _ {D St : Type 0} (view : D → View St) (x : FormatAccess D) (d : D) whe
           framed = subst (λ (y : D). IsFramed (view (driver x)) (view y)) e framed;
           reaches = subst (λ (y : D). ReachesNoMore (view (driver x)) (view y)) e reaches;
           spent = subst (λ (y : D). (view y).pending ≡ None) e spent;
-          count = subst (λ (y : D). IsLaterCount (devices_reliable view x) (view (driver x)).fault_count (view y).fault_count) e (record { later = faults.later; reliable = λ t. faults.reliable (both_left _ _ t) });
+          count = subst (λ (y : D). IsLaterCount (devices_reliable view x) (view (driver x)).fault_count (view y).fault_count) e (record { later = faults.later; reliable = λ t. faults.reliable (and_left _ _ t) });
         };
         inside = done.inside;
         whole = done.whole;
         done = λ k. shown_zero result (done.done k (lent_image view (backing x)).at);
         alone = λ k. own_zero result (done.done k (λ (p : ℕ). Byte 1));
         carries = λ a m. subst (λ (y : D). Carries a m (view (driver x)) (view y)) e (none_carried (view (driver x)) (view d) law none reaches a m);
-        faults = subst (λ (y : D). CountsFaults (devices_reliable view x) (view (driver x)).fault_count (view y).fault_count result) e (record { later = faults.later; reliable = λ t. faults.reliable (both_left _ _ t); device = faults.device });
+        faults = subst (λ (y : D). CountsFaults (devices_reliable view x) (view (driver x)).fault_count (view y).fault_count result) e (record { later = faults.later; reliable = λ t. faults.reliable (and_left _ _ t); device = faults.device });
         refusals = refusals;
       }
     where

@@ -1,4 +1,4 @@
-use Rattle.std.specs.Prelude.{◌≡◌, ℕ, ◌+◌, ◌≤◌, ◌⊎◌, Bool, None, IsTrue, Result, IfOk, IfErr}
+use Rattle.std.specs.Prelude.{◌≡◌, ℕ, ◌+◌, ◌≤◌, ◌⊎◌, Bool, List, None, IsTrue, Result, IfOk, IfErr}
 use Rattle.imago_storage.specs.declared.error.Error.{Error}
 use Rattle.imago_storage.specs.Faults.{CountsFaults}
 use Rattle.imago_drivers.specs.Operation.{Operation, DiscardToAny, DiscardToBacking}
@@ -9,11 +9,13 @@ use Rattle.imago_drivers.specs.View.{View}
 use Rattle.imago_drivers.specs.Changes.{IsChanged, given_back}
 use Rattle.imago_drivers.specs.Frame.{IsFramed}
 use Rattle.imago_drivers.specs.Done.{range_reasons}
+use Rattle.imago_drivers.specs.Discards.{Discards}
 use Rattle.imago_access.specs.declared.access.FormatAccess.{FormatAccess}
 use Rattle.imago_access.specs.declared.discard.DiscardCall.{DiscardCall}
 use Rattle.imago_access.specs.declared.discard.DiscardCall.TheVariants as C
 use Rattle.imago_access.specs.Chain.{driver, backing, disk_value, lent_image}
-use Rattle.imago_access.specs.Calls.{devices_reliable, settles, IsRangeCall}
+use Rattle.imago_access.specs.Calls.{devices_reliable, settles, FailsTest, IsRangeCall}
+use Rattle.imago_access.specs.DiscardParts.{discard_by, IsDiscardedInParts}
 use Rattle.imago_access.specs.Zeroing.{IsFree}
 
 -- what a discard is, for its causes
@@ -51,9 +53,11 @@ pub record HasLoosenedPart {D St : Type 0} (view : D → View St) (call : Discar
   pub whole : (view (driver old)).limits.whole (discard_of call) o n → IfOk result (λ r. (r.0 ≡ o) × (r.1 ≡ n))
   pub settled : IfOk result (λ r. IsSettled (λ op. op ≡ discard_of call) (view (driver old)).limits.cause (view (driver new)).limits.cause (view (driver old)).limits.copies (view (driver new)).limits.copies r.0 r.1)
 
--- a discard of an image, whose success and refusal leave the same
-abbrev pub IsImageDiscard : {D St : Type 0} → (D → View St) → DiscardCall → FormatAccess D → FormatAccess D → ℕ → ℕ → Result (Unit {0}) Error → Type 0
-IsImageDiscard view call old new o n result = IsRangeCall view (discard_of call) o n (settles (discard_of call)) (discard_reasons (view (driver old)) (discard_of call) o n) ⊥ (λ u. 0)
-    (λ u. IsLoosened view call o n old new)
-    (IsLoosened view call o n old new)
-    old new result
+-- A discard of an image, whose success and refusal leave the same.
+pub record IsImageDiscard {D St : Type 0} (view : D → View St) (discards : Discards D) (call : DiscardCall) (old new : FormatAccess D) (o n : ℕ) (result : Result (Unit {0}) Error) : Type 0 where
+  pub range : IsRangeCall view (discard_of call) o n (settles (discard_of call)) (discard_reasons (view (driver old)) (discard_of call) o n) ⊥ (λ u. 0)
+      (λ u. IsLoosened view call o n old new)
+      (IsLoosened view call o n old new)
+      old new result
+  -- once its tests passed, it is the driver's own, made until nothing is left or the driver does nothing more
+  pub performed : ((e : Error) → FailsTest (view (driver old)) (discard_of call) o n e → ⊥) → (parts : List (ℕ × ℕ)) × IsDiscardedInParts (discard_by discards call) o n parts (driver old) (driver new) result

@@ -18,4 +18,5 @@ pub mod Success
 pub mod Lending
 pub mod ChainLaws
 pub mod Zeroing
+pub mod DiscardParts
 pub mod Discarding

@@ -8,6 +8,7 @@ use Rattle.imago_drivers.specs.Reasons.{allowed}
 use Rattle.imago_drivers.specs.Prepared.{IsDataMapping}
 use Rattle.imago_drivers.specs.View.{View}
 use Rattle.imago_drivers.specs.Flushes.{Flushes}
+use Rattle.imago_drivers.specs.Discards.{Discards}
 use Rattle.imago_access.specs.declared.access.FormatAccess.{FormatAccess}
 use Rattle.imago_access.specs.declared.mapping.Mapping.{Mapping}
 use Rattle.imago_access.specs.declared.run.Call.{Call}
@@ -71,28 +72,28 @@ pub record IsDataMapped {D St : Type 0} (view : D → View St) (old new : Format
   pub call : IsEnsured view old new o n overwrite result
 
 -- From one image to the next, a call may have this reply: it did what it promises, or left what its refusal does.
-abbrev pub IsStep : {D St : Type 0} → (D → View St) → Flushes D → FormatAccess D → Call → Reply → FormatAccess D → Type 0
-IsStep view flushes old (C.Read o n) r new = (new ≡ old) × Answers R.Data r (IsBufferRead view old o n)
-IsStep view flushes old (C.GetMapping o n) r new = (new ≡ old) × Answers told_mapping r (IsMapped view old o n)
-IsStep view flushes old C.Size r new = (new ≡ old) × (r ≡ R.Size (view (driver old)).size)
-IsStep view flushes old (C.Write o bytes) r new = Answers told_done r (IsWrite view old new o bytes.items)
-IsStep view flushes old (C.WriteZeroes o n) r new = Answers told_done r (IsZeroWrite view Zero old new o n)
-IsStep view flushes old (C.DiscardToZero o n) r new = Answers told_done r (IsZeroWrite view DiscardToZero old new o n)
-IsStep view flushes old (C.DiscardToAny o n) r new = Answers told_done r (IsImageDiscard view D.ToAny old new o n)
-IsStep view flushes old (C.DiscardToBacking o n) r new = Answers told_done r (IsImageDiscard view D.ToBacking old new o n)
-IsStep view flushes old (C.EnsureData o n overwrite) r new = Answers told_data r (IsDataMapped view old new o n overwrite)
-IsStep view flushes old (C.Prepared o n overwrite bytes commit) r new = Answers told_prepared r (IsMappedWrite view old new o n overwrite bytes.items commit)
-IsStep view flushes old (C.ResizeGrow n mode) r new = Answers told_done r (IsResize view (Grow mode) n (HasGrown view mode n old new) old new)
-IsStep view flushes old (C.ResizeShrink n) r new = Answers told_done r (IsResize view Shrink n (HasShrunk view n old new) old new)
-IsStep view flushes old (C.Resize n mode) r new = Answers told_done r (IsResizeTo view n mode old new)
-IsStep view flushes old C.Flush r new = Answers told_done r (IsFlushed view flushes.flushed old new)
-IsStep view flushes old C.Sync r new = Answers told_done r (IsFlushed view flushes.synced old new)
-IsStep view flushes old C.InvalidateCache r new = Answers told_done r (IsFlushed view flushes.invalidated old new)
+abbrev pub IsStep : {D St : Type 0} → (D → View St) → Flushes D → Discards D → FormatAccess D → Call → Reply → FormatAccess D → Type 0
+IsStep view flushes discards old (C.Read o n) r new = (new ≡ old) × Answers R.Data r (IsBufferRead view old o n)
+IsStep view flushes discards old (C.GetMapping o n) r new = (new ≡ old) × Answers told_mapping r (IsMapped view old o n)
+IsStep view flushes discards old C.Size r new = (new ≡ old) × (r ≡ R.Size (view (driver old)).size)
+IsStep view flushes discards old (C.Write o bytes) r new = Answers told_done r (IsWrite view old new o bytes.items)
+IsStep view flushes discards old (C.WriteZeroes o n) r new = Answers told_done r (IsZeroWrite view Zero old new o n)
+IsStep view flushes discards old (C.DiscardToZero o n) r new = Answers told_done r (IsZeroWrite view DiscardToZero old new o n)
+IsStep view flushes discards old (C.DiscardToAny o n) r new = Answers told_done r (IsImageDiscard view discards D.ToAny old new o n)
+IsStep view flushes discards old (C.DiscardToBacking o n) r new = Answers told_done r (IsImageDiscard view discards D.ToBacking old new o n)
+IsStep view flushes discards old (C.EnsureData o n overwrite) r new = Answers told_data r (IsDataMapped view old new o n overwrite)
+IsStep view flushes discards old (C.Prepared o n overwrite bytes commit) r new = Answers told_prepared r (IsMappedWrite view old new o n overwrite bytes.items commit)
+IsStep view flushes discards old (C.ResizeGrow n mode) r new = Answers told_done r (IsResize view (Grow mode) n (HasGrown view mode n old new) old new)
+IsStep view flushes discards old (C.ResizeShrink n) r new = Answers told_done r (IsResize view Shrink n (HasShrunk view n old new) old new)
+IsStep view flushes discards old (C.Resize n mode) r new = Answers told_done r (IsResizeTo view n mode old new)
+IsStep view flushes discards old C.Flush r new = Answers told_done r (IsFlushed view flushes.flushed old new)
+IsStep view flushes discards old C.Sync r new = Answers told_done r (IsFlushed view flushes.synced old new)
+IsStep view flushes discards old C.InvalidateCache r new = Answers told_done r (IsFlushed view flushes.invalidated old new)
 
 -- The calls may have these replies, one each: there are images, one more than calls, from the first to the last, with a step
 -- between each and the next.
-abbrev pub IsRun : {D St : Type 0} → (D → View St) → Flushes D → FormatAccess D → List Call → List Reply → FormatAccess D → Type 0
-IsRun view flushes old [] [] new = new ≡ old
-IsRun {D} view flushes old (call ∷ calls) (reply ∷ replies) new = (mid : FormatAccess D) × IsStep view flushes old call reply mid × IsRun view flushes mid calls replies new
-IsRun view flushes old [] (reply ∷ replies) new = ⊥
-IsRun view flushes old (call ∷ calls) [] new = ⊥
+abbrev pub IsRun : {D St : Type 0} → (D → View St) → Flushes D → Discards D → FormatAccess D → List Call → List Reply → FormatAccess D → Type 0
+IsRun view flushes discards old [] [] new = new ≡ old
+IsRun {D} view flushes discards old (call ∷ calls) (reply ∷ replies) new = (mid : FormatAccess D) × IsStep view flushes discards old call reply mid × IsRun view flushes discards mid calls replies new
+IsRun view flushes discards old [] (reply ∷ replies) new = ⊥
+IsRun view flushes discards old (call ∷ calls) [] new = ⊥

@@ -1,6 +1,7 @@
 //! Discarding ranges of an image.
-ghost use Rattle.std.specs.Prelude.{◌≡◌, ◌+◌, ◌≤◌, ◌<◌, ◌^◌, None, true};
+ghost use Rattle.std.specs.Prelude.{◌≡◌, ℕ, ◌+◌, ◌≤◌, ◌<◌, ◌^◌, List, None, true};
 ghost use Rattle.imago_access.specs.Chain.{driver};
+ghost use Rattle.imago_access.specs.DiscardParts.{discard_by, IsDiscardedInParts};
 ghost use Rattle.imago_access.specs.Discarding.{HasLoosened, HasLoosenedPart, IsImageDiscard};
 ghost use Rattle.imago_access.specs.declared.discard.DiscardCall.TheVariants as Call;
 
@@ -30,7 +31,8 @@ impl<D: FormatDriverInstance> FormatAccess<D> {
         requires writable { (D.view (driver self.old)).abilities.is_writable ≡ true }
         requires spent { (D.view (driver self.old)).pending ≡ None }
         requires inside { offset + count ≤ (D.view (driver self.old)).size }
-        ensures { HasLoosenedPart D.view call offset count self.old self.new result }
+        ensures loosened { HasLoosenedPart D.view call offset count self.old self.new result }
+        ensures performed { discard_by D.discards call offset count (driver self.old) (driver self.new) result }
     {
         match call {
             DiscardCall::ToAny => self.inner.discard_to_any(alloc, offset, count),
@@ -50,7 +52,8 @@ impl<D: FormatDriverInstance> FormatAccess<D> {
         requires spent { (D.view (driver self.old)).pending ≡ None }
         requires inside { offset + count ≤ (D.view (driver self.old)).size }
         requires fits { offset + count < 2 ^ 64 }
-        ensures { HasLoosened D.view call offset count self.old self.new result }
+        ensures loosened { HasLoosened D.view call offset count self.old self.new result }
+        ensures performed { (parts : List (ℕ × ℕ)) × IsDiscardedInParts (discard_by D.discards call) offset count parts (driver self.old) (driver self.new) result }
     {
         let mut done: u64 = 0;
         while done < count {
@@ -71,7 +74,7 @@ impl<D: FormatDriverInstance> FormatAccess<D> {
     /// [`Error::Unsupported`] where the driver offers no such discards.
     pub fn discard_to_any(&mut self, alloc: Global, offset: u64, count: u64) -> Result<(), Error>
         requires { (D.view (driver self.old)).pending ≡ None }
-        ensures { IsImageDiscard D.view Call.ToAny self.old self.new offset count result }
+        ensures { IsImageDiscard D.view D.discards Call.ToAny self.old self.new offset count result }
     {
         self.test_end(offset, count)?;
         self.discard_range(alloc, DiscardCall::ToAny, offset, count)
@@ -88,7 +91,7 @@ impl<D: FormatDriverInstance> FormatAccess<D> {
         count: u64,
     ) -> Result<(), Error>
         requires { (D.view (driver self.old)).pending ≡ None }
-        ensures { IsImageDiscard D.view Call.ToBacking self.old self.new offset count result }
+        ensures { IsImageDiscard D.view D.discards Call.ToBacking self.old self.new offset count result }
     {
         self.test_end(offset, count)?;
         self.discard_range(alloc, DiscardCall::ToBacking, offset, count)

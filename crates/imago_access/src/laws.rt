@@ -23,14 +23,14 @@ use imago_drivers::drivers::FormatDriverInstance;
 pub fn flat_histories<D: FormatDriverInstance>()
     ensures { (old new : FormatAccess D) (calls : List Call) (replies : List Reply)
         → IsTrue (D.view (driver old)).abilities.keeps_data
-        → IsRun D.view D.flushes old calls replies new
+        → IsRun D.view D.flushes D.discards old calls replies new
         → IsFlatHistory (backed_value D.view old) (disk D.view old) calls replies (disk D.view new) }
 {}
 
 /// No run changes a layer below, or what the driver is good for, whatever its storages keep.
 pub fn runs_keep_layers_below<D: FormatDriverInstance>()
     ensures { (old new : FormatAccess D) (calls : List Call) (replies : List Reply)
-        → IsRun D.view D.flushes old calls replies new
+        → IsRun D.view D.flushes D.discards old calls replies new
         → IsKept D.view old new }
 {}
 
@@ -108,7 +108,7 @@ pub fn zero_writes_succeed<D: FormatDriverInstance>()
 
 /// The same of the two other discards.
 pub fn discards_succeed<D: FormatDriverInstance>()
-    ensures { DiscardsSucceed D.view }
+    ensures { DiscardsSucceed D.view D.discards }
 {}
 
 /// The same of a growth to a size, which may also be refused as unsupported, where the driver doesn't offer it. A resize is

@@ -218,7 +218,7 @@ fn read_bytes<D: FormatDriverInstance>(
 /// Makes one call, and answers its reply.
 fn step<D: FormatDriverInstance>(alloc: Global, image: &mut FormatAccess<D>, call: &Call) -> Reply
     requires { (D.view (driver image.old)).pending ≡ None }
-    ensures step { IsStep D.view D.flushes image.old call.now result image.new }
+    ensures step { IsStep D.view D.flushes D.discards image.old call.now result image.new }
     ensures spent { (D.view (driver image.new)).pending ≡ None }
 {
     match call {
@@ -279,7 +279,7 @@ pub fn run<D: FormatDriverInstance>(
     requires { (D.view (driver image.old)).pending ≡ None }
     ensures run { OnOk result
         ((rs : List Reply) × (replies.new.items ≡ replies.old.items ++ rs) × IsRun D.view
-        D.flushes image.old calls.now rs image.new) }
+        D.flushes D.discards image.old calls.now rs image.new) }
     ensures history { IsTrue (D.view (driver image.old)).abilities.keeps_data
         → OnOk result
         ((rs : List Reply) × (replies.new.items ≡ replies.old.items ++ rs) × IsFlatHistory
