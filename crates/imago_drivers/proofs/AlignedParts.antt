@@ -1,10 +1,13 @@
-use Rattle.std.proofs.Common.{◌≡◌, ℕ, ◌+◌, ◌-◌, ◌%◌, ◌^◌, ◌<◌, ⊎_elim, arith, ◌∙◌}
+use Rattle.std.proofs.Common.{◌≡◌, ℕ, ◌+◌, ◌-◌, ◌%◌, ◌^◌, ◌<◌, ⊎_elim, arith, subst, ◌∙◌}
 use Rattle.std.proofs.Math.Nat.{mod_self, dvd-add, dvd_of_mod-eq-zero, mod-eq-zero_of_dvd}
-use Rattle.std.specs.Prelude.{List}
+use Rattle.std.specs.Prelude.{List, Result}
+use Rattle.imago_storage.specs.declared.error.Error.{Error}
+use Rattle.imago_storage.specs.Maintenance.{Maintenance, IsDiscarded}
 use Rattle.imago_storage.specs.Features.{IsAlignedTo}
 use Rattle.imago_storage.specs.Bytes.{SameOutside}
 use Rattle.imago_storage.specs.Padding.{aligned_start, aligned_end, RangeWraps, IsAlignedPart}
 use Rattle.imago_drivers.specs.Ranges.{IsPartAlignedTo}
+use Rattle.imago_drivers.specs.RawDiscards.{told_part, HasDiscarded, IsPartDiscarded}
 
 start_whole : (align at : ℕ) → at % align ≡ 0 → aligned_start align at ≡ at
 start_whole align at e = let s : align - at % align ≡ align = omega (arith, e) in let z : (align - at % align) % align ≡ 0 = rw s (mod_self align) in omega arith
@@ -41,3 +44,22 @@ outside_part align mine at n start end old now e p l x =
     let s : aligned_start align start ≡ start = start_whole align start a.start in
     let w : aligned_end align start (end - start) ≡ start + (end - start) = end_whole align start (end - start) a.start a.whole in
     record { before = λ q h. x.before q (rw s h); behind = λ q h. x.behind q (rw (s, w) (omega arith)); same_length = x.same_length }
+
+-- a discard of the aligned part of a range is that of the range
+pub part_discarded : {S : Type 0} (calls : Maintenance S) (align mine at n start end : ℕ) (old new : S) (answer : Result Unit Error) (result : Result (ℕ × ℕ) Error) → mine ≡ align → IsAlignedPart mine at n start end → start < end
+    → ((RangeWraps align start (end - start) → ⊥) → aligned_start align start < aligned_end align start (end - start) → IsDiscarded calls (aligned_start align start) (aligned_end align start (end - start) - aligned_start align start) old new answer)
+    → result ≡ told_part start (end - start) answer → IsPartDiscarded calls align at n old new result
+part_discarded calls align mine at n start end old new answer result e part l made told =
+    let p : IsAlignedPart align at n start end = rw e at part in
+    let a = p.aligned (omega (arith, l)) in
+    let s : aligned_start align start ≡ start = start_whole align start a.start in
+    let w : aligned_end align start (end - start) ≡ start + (end - start) = end_whole align start (end - start) a.start a.whole in
+    let m : aligned_end align start (end - start) - aligned_start align start ≡ end - start = omega (arith, s, w) in
+    let x = made (part_fits align at n start end p l) (omega (arith, s, w, l)) in
+    let y : IsDiscarded calls (aligned_start align start) (end - start) old new answer = subst (λ (k : ℕ). IsDiscarded calls (aligned_start align start) k old new answer) m x in
+    let z : IsDiscarded calls start (end - start) old new answer = subst (λ (k : ℕ). IsDiscarded calls k (end - start) old new answer) s y in
+    let whole : HasDiscarded calls start (end - start) old new result = record { answer = answer; made = z; passed_on = told } in
+    record {
+      some = λ h. subst (λ (q : ℕ). HasDiscarded calls q (aligned_end align at n - q) old new result) p.is_start (subst (λ (q : ℕ). HasDiscarded calls start (q - start) old new result) p.is_end whole);
+      none = λ h. absurd (omega (arith, h, l, p.is_start, p.is_end));
+    }

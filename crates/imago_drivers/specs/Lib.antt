@@ -9,6 +9,7 @@ pub mod Pending
 pub mod View
 pub mod Lengths
 pub mod Flushes
+pub mod Discards
 pub mod Changes
 pub mod Frame
 pub mod Mapping
@@ -21,6 +22,7 @@ pub mod Laws
 pub mod Raw
 pub mod RawLaws
 pub mod RawImage
+pub mod RawDiscards
 pub mod Opening
 pub mod NamedGate
 pub mod Builder

@@ -19,6 +19,7 @@ ghost use Rattle.imago_drivers.specs.Prepared.{IsPrepared, IsForeignWrite, IsFor
 ghost use Rattle.imago_drivers.specs.Commit.{IsCommit, IsCancel};
 ghost use Rattle.imago_drivers.specs.Lengths.{GrowTo, GrowAt};
 ghost use Rattle.imago_drivers.specs.Flushes.{Flushes};
+ghost use Rattle.imago_drivers.specs.Discards.{Discards};
 ghost use Rattle.imago_drivers.specs.Calls.{IsZeroCall, IsDiscard, IsPreparation, IsGrowth, IsShrink, IsFlush};
 ghost use Rattle.imago_drivers.specs.Laws.{IsLawful, AreCauses};
 
@@ -59,6 +60,10 @@ pub trait FormatDriverInstance: Display + Drop {
     /// What a flush, a sync and an invalidation are. Over a driver that isn't known nothing but the call itself gives
     /// its relation.
     ghost flushes: { Flushes Self };
+
+    /// What a discard to any and one to backing are, which may do nothing that shows. Over a driver that isn't known
+    /// nothing but the call itself gives its relation.
+    ghost discards: { Discards Self };
 
     /// The image's format.
     fn format(&self) -> Format
@@ -217,7 +222,8 @@ pub trait FormatDriverInstance: Display + Drop {
         requires writable { (view self.old).abilities.is_writable ≡ true }
         requires spent { (view self.old).pending ≡ None }
         requires inside { offset + count ≤ (view self.old).size }
-        ensures { IsDiscard (λ _ _. unspecified) DiscardToAny offset count (view self.old) (view self.new) result };
+        ensures call { IsDiscard (λ _ _. unspecified) DiscardToAny offset count (view self.old) (view self.new) result }
+        ensures performed { discards.to_any offset count self.old self.new result };
 
     /// Gives up the data of a part of the range, whose bytes are as they were or those of the layer below afterwards,
     /// and answers its offset and length. So are those of the range where it is refused.
@@ -230,7 +236,8 @@ pub trait FormatDriverInstance: Display + Drop {
         requires writable { (view self.old).abilities.is_writable ≡ true }
         requires spent { (view self.old).pending ≡ None }
         requires inside { offset + count ≤ (view self.old).size }
-        ensures { IsDiscard (to_backing (view self.old).abilities.takes_backing) DiscardToBacking offset count (view self.old) (view self.new) result };
+        ensures call { IsDiscard (to_backing (view self.old).abilities.takes_backing) DiscardToBacking offset count (view self.old) (view self.new) result }
+        ensures performed { discards.to_backing offset count self.old self.new result };
 
     /// Prepares the writing of data at the offset: the mapping holds at least 1 byte and at most `count`, none for 0.
     /// No place changes. The mapping is written by [`write_prepared`](Self::write_prepared), and spent by commit or

@@ -15,6 +15,7 @@ ghost use Rattle.imago_drivers.specs.Done.{HasDone};
 ghost use Rattle.imago_drivers.specs.Calls.{IsDiscard, IsPreparation, IsGrowth, IsShrink};
 ghost use Rattle.imago_drivers.specs.Reasons.{none};
 ghost use Rattle.imago_drivers.specs.RawLaws.{raw_lawful, raw_causes};
+ghost use Rattle.imago_drivers.specs.RawDiscards.{IsPartDiscarded};
 ghost use Rattle.imago_drivers.specs.Place.{values};
 ghost use Rattle.imago_drivers.specs.Prepared.{IsPrepared};
 ghost use Rattle.imago_drivers.specs.Commit.{IsCommit, IsCancel};
@@ -123,6 +124,13 @@ impl<S: Storage> FormatDriverInstance for Raw<S> {
       flushed = λ a b r. S.maintenance.flushed a.storage b.storage r × (b.size ≡ a.size) × (b.writable ≡ a.writable);
       synced = λ a b r. S.maintenance.synced a.storage b.storage r × (b.size ≡ a.size) × (b.writable ≡ a.writable);
       invalidated = λ a b r. S.maintenance.invalidated a.storage b.storage r × (b.size ≡ a.size) × (b.writable ≡ a.writable);
+    } };
+
+    ghost discards = { record {
+      to_any = λ o n a b r. IsPartDiscarded S.maintenance (S.features a.storage).discard_align o n a.storage b.storage r × (b.size ≡ a.size) × (b.writable ≡ a.writable);
+      to_backing = λ o n a b r. HasDone (λ _ _. zeroes) DiscardToBacking o n
+          (raw_view (S.features a.storage) (S.fault_count a.storage) (S.bytes a.storage) a.size a.writable)
+          (raw_view (S.features b.storage) (S.fault_count b.storage) (S.bytes b.storage) b.size b.writable) r;
     } };
 
     ghost lawful = { λ d. raw_lawful (S.features d.storage) (S.fault_count d.storage) (S.bytes d.storage) d.size d.writable };
@@ -256,6 +264,8 @@ impl<S: Storage> FormatDriverInstance for Raw<S> {
         ensures zeroed { HasDone (λ _ _. zeroes) DiscardToBacking offset count
             (⟦<Raw<S> as FormatDriverInstance>⟧.view self.old)
             (⟦<Raw<S> as FormatDriverInstance>⟧.view self.new) result }
+        ensures performed { ⟦<Raw<S> as FormatDriverInstance>⟧.discards.to_backing offset count self.old
+            self.new result }
     {
         // No layer stands below: what is given back to it is zero.
         zero_part(&mut self.storage, alloc, offset, count)
@@ -429,6 +439,7 @@ fn discard_part<S: Storage>(storage: &mut S, offset: u64, count: u64) -> Result<
     ensures cause { CountsFaults (S.features storage.old).is_reliable (S.fault_count storage.old)
         (S.fault_count storage.new) result }
     ensures memory { IsErrOf result Error.Memory → MayRunOut (S.features storage.old).other_memory 0 0 }
+    ensures performed { IsPartDiscarded S.maintenance (S.features storage.old).discard_align offset count storage.old storage.new result }
 {
     let align = discard_align(&*storage);
     let Some((start, end)) = aligned_part(align, offset, count) else {

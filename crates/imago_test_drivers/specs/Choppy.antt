@@ -1,9 +1,10 @@
-use Rattle.std.specs.Prelude.{ℕ, max, Bool, true, false, List, Option, Some, None}
+use Rattle.std.specs.Prelude.{ℕ, ◌+◌, ◌≤◌, max, Bool, true, false, List, Option, Some, None}
 use Rattle.imago_storage.specs.Features.{Features}
 use Rattle.imago_drivers.specs.declared.raw.Raw.{Raw}
 use Rattle.imago_drivers.specs.Operation.{Operation, Map, Read, Write, Zero, DiscardToZero, DiscardToAny, DiscardToBacking, Grow, Shrink, Flush}
 use Rattle.imago_drivers.specs.Raw.{raw_view}
 use Rattle.imago_drivers.specs.RawImage.{storage_in, size_of, writability_of}
+use Rattle.imago_drivers.specs.Discards.{Discard}
 use Rattle.imago_drivers.specs.View.{View}
 
 -- the granularity that is told: 1 for 0
@@ -34,6 +35,10 @@ chopped granularity v = record v {
     answers = λ op o n q m. Unit {0};
   };
 }
+
+-- a discard of a part of the range
+abbrev pub of_part : {Self : Type 0} → Discard Self → Discard Self
+of_part discard o n old new result = (q : ℕ) × (m : ℕ) × (o ≤ q) × (q + m ≤ o + n) × discard q m old new result
 
 -- a raw image over storages that show these features, counts of faults and bytes
 abbrev pub raw_over : {S : Type 0} {g : _} {h : _} → (S → Features) → (S → ℕ) → (S → List ℕ) → Raw S g h → View Unit

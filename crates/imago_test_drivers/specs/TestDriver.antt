@@ -1,5 +1,4 @@
-use Rattle.std.specs.Prelude.{ℕ, List, Result}
-use Rattle.imago_storage.specs.declared.error.Error.{Error}
+use Rattle.std.specs.Prelude.{ℕ, List}
 use Rattle.imago_storage.specs.Features.{Features}
 use Rattle.imago_drivers.specs.Laws.{IsLawful, AreCauses}
 use Rattle.imago_drivers.specs.declared.raw.Raw.{Raw}
@@ -24,8 +23,8 @@ test_view features fault_count bytes (T.Choppy c) = choppy_view features fault_c
 test_view features fault_count bytes (T.Pattern p) = pattern_view (kind_of p) (size_of p)
 
 -- a call on a driver is one on the driver that it is, which stays that one
-abbrev pub by_driver : {S : Type 0} {g : _} {h : _} → (Raw S g h → Raw S g h → Result Unit Error → Type 0) → (Choppy S g h → Choppy S g h → Result Unit Error → Type 0) → (Pattern → Pattern → Result Unit Error → Type 0)
-    → TestDriver S g h → TestDriver S g h → Result Unit Error → Type 0
+abbrev pub by_driver : {S : Type 0} {g : _} {h : _} {R : Type 0} → (Raw S g h → Raw S g h → R → Type 0) → (Choppy S g h → Choppy S g h → R → Type 0) → (Pattern → Pattern → R → Type 0)
+    → TestDriver S g h → TestDriver S g h → R → Type 0
 by_driver raw choppy pattern (T.Raw a) (T.Raw b) r = raw a b r
 by_driver raw choppy pattern (T.Choppy a) (T.Choppy b) r = choppy a b r
 by_driver raw choppy pattern (T.Pattern a) (T.Pattern b) r = pattern a b r

@@ -2,7 +2,7 @@
 ghost use Rattle.std.specs.Prelude.{◌≡◌, ◌+◌, ◌^◌, ◌<◌, ◌≤◌, max, None, Some};
 ghost use Rattle.imago_drivers.specs.Commit.{IsCommit, IsCancel};
 ghost use Rattle.imago_drivers.specs.RawImage.{size_of};
-ghost use Rattle.imago_test_drivers.specs.Choppy.{told, choppy_view};
+ghost use Rattle.imago_test_drivers.specs.Choppy.{told, choppy_view, of_part};
 ghost use Rattle.imago_test_drivers.specs.ChoppyImage.{raw_of, granularity_of};
 ghost use Rattle.imago_test_drivers.specs.ChoppyLaws.{choppy_lawful, choppy_causes};
 
@@ -103,6 +103,11 @@ impl<S: Storage> FormatDriverInstance for Choppy<S> {
       flushed = λ a b r. ⟦<Raw<S> as FormatDriverInstance>⟧.flushes.flushed a.raw b.raw r × (b.cut ≡ a.cut) × (b.is_granular ≡ a.is_granular);
       synced = λ a b r. ⟦<Raw<S> as FormatDriverInstance>⟧.flushes.synced a.raw b.raw r × (b.cut ≡ a.cut) × (b.is_granular ≡ a.is_granular);
       invalidated = λ a b r. ⟦<Raw<S> as FormatDriverInstance>⟧.flushes.invalidated a.raw b.raw r × (b.cut ≡ a.cut) × (b.is_granular ≡ a.is_granular);
+    } };
+
+    ghost discards = { record {
+      to_any = λ o n a b r. of_part ⟦<Raw<S> as FormatDriverInstance>⟧.discards.to_any o n a.raw b.raw r × (b.cut ≡ a.cut) × (b.is_granular ≡ a.is_granular);
+      to_backing = λ o n a b r. of_part ⟦<Raw<S> as FormatDriverInstance>⟧.discards.to_backing o n a.raw b.raw r × (b.cut ≡ a.cut) × (b.is_granular ≡ a.is_granular);
     } };
 
     ghost lawful = { λ d. choppy_lawful S.features S.fault_count S.bytes d.is_granular d.cut d.raw };

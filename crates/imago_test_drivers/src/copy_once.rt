@@ -7,6 +7,7 @@ ghost use Rattle.imago_drivers.specs.Reasons.{allowed, none};
 ghost use Rattle.imago_drivers.specs.Pending.{IsOwn};
 ghost use Rattle.imago_test_drivers.specs.CopyOnce.{copy_view, copy_pending, WaitsInside};
 ghost use Rattle.imago_test_drivers.specs.CopyOnceLaws.{copy_lawful, copy_causes};
+ghost use Rattle.imago_drivers.specs.Discards.{no_discards};
 ghost use Rattle.imago_drivers.specs.Commit.{IsCommit, IsCancel};
 
 use imago_drivers::drivers::{
@@ -120,6 +121,8 @@ impl<S: Storage> FormatDriverInstance for CopyOnce<S> {
       synced = λ a b r. S.maintenance.synced a.storage b.storage r × (b.size ≡ a.size) × (b.copied ≡ a.copied) × (b.waiting ≡ a.waiting) × (b.tickets ≡ a.tickets) × (b.faults ≡ a.faults) × (b.overwrites ≡ a.overwrites);
       invalidated = λ a b r. S.maintenance.invalidated a.storage b.storage r × (b.size ≡ a.size) × (b.copied ≡ a.copied) × (b.waiting ≡ a.waiting) × (b.tickets ≡ a.tickets) × (b.faults ≡ a.faults) × (b.overwrites ≡ a.overwrites);
     } };
+
+    ghost discards = { no_discards };
 
     ghost lawful = { λ d. copy_lawful (S.features d.storage) (S.fault_count d.storage + d.faults) (S.bytes d.storage) d.size d.copied d.waiting };
 

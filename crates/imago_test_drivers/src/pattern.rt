@@ -4,6 +4,7 @@ ghost use Rattle.imago_storage.specs.Maintenance.{IsNothing};
 ghost use Rattle.imago_test_drivers.specs.Pattern.{pattern_view, kind_of, size_of};
 ghost use Rattle.imago_test_drivers.specs.PatternLaws.{pattern_lawful, pattern_causes};
 ghost use Rattle.imago_drivers.specs.Commit.{IsCommit, IsCancel};
+ghost use Rattle.imago_drivers.specs.Discards.{no_discards};
 ghost use Rattle.imago_drivers.specs.Reasons.{none};
 
 use imago_drivers::drivers::{
@@ -70,6 +71,8 @@ impl FormatDriverInstance for Pattern {
     ghost probe_reasons = { λ _. none };
 
     ghost flushes = { record { flushed = IsNothing; synced = IsNothing; invalidated = IsNothing } };
+
+    ghost discards = { no_discards };
 
     ghost lawful = { λ d. pattern_lawful d.kind d.size };
 

@@ -59,6 +59,11 @@ impl<S: Storage> FormatDriverInstance for TestDriver<S> {
       invalidated = by_driver ⟦<Raw<S> as FormatDriverInstance>⟧.flushes.invalidated ⟦<Choppy<S> as FormatDriverInstance>⟧.flushes.invalidated ⟦<Pattern as FormatDriverInstance>⟧.flushes.invalidated;
     } };
 
+    ghost discards = { record {
+      to_any = λ o n. by_driver (⟦<Raw<S> as FormatDriverInstance>⟧.discards.to_any o n) (⟦<Choppy<S> as FormatDriverInstance>⟧.discards.to_any o n) (⟦<Pattern as FormatDriverInstance>⟧.discards.to_any o n);
+      to_backing = λ o n. by_driver (⟦<Raw<S> as FormatDriverInstance>⟧.discards.to_backing o n) (⟦<Choppy<S> as FormatDriverInstance>⟧.discards.to_backing o n) (⟦<Pattern as FormatDriverInstance>⟧.discards.to_backing o n);
+    } };
+
     ghost lawful = { λ d. test_lawful S.features S.fault_count S.bytes d };
 
     ghost causes_lawful = { λ d. test_causes S.features S.fault_count S.bytes d };

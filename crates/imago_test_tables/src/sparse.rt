@@ -9,7 +9,7 @@ ghost use Rattle.imago_drivers.specs.Reasons.{allowed, none};
 ghost use Rattle.imago_drivers.specs.Pending.{IsOwn};
 ghost use Rattle.imago_drivers.specs.Commit.{IsCommit, IsCancel};
 ghost use Rattle.imago_test_tables.specs.Pair.{at_index, in_turn};
-ghost use Rattle.imago_test_tables.specs.Table.{IsFree};
+ghost use Rattle.imago_test_tables.specs.Table.{IsFree, IsLeftBelow};
 ghost use Rattle.imago_test_tables.specs.Sparse.{sparse_view, sparse_pending, WaitsApart, HasOldByte, HasOldBytes, copy_reasons, mapping_of, origin_for};
 ghost use Rattle.imago_test_tables.specs.SparseLaws.{sparse_lawful, sparse_causes};
 
@@ -230,6 +230,11 @@ impl<S: Storage> FormatDriverInstance for Sparse<S> {
       flushed = λ a b r. in_turn S.maintenance.flushed a.storages.first a.storages.second b.storages.first b.storages.second r × (b.table.items ≡ a.table.items);
       synced = λ a b r. in_turn S.maintenance.synced a.storages.first a.storages.second b.storages.first b.storages.second r × (b.table.items ≡ a.table.items);
       invalidated = λ a b r. in_turn S.maintenance.invalidated a.storages.first a.storages.second b.storages.first b.storages.second r × (b.table.items ≡ a.table.items);
+    } };
+
+    ghost discards = { record {
+      to_any = λ o n a b r. IsLeftBelow o n a.table.items b.table.items r × (b.storages ≡ a.storages) × (b.waiting ≡ a.waiting);
+      to_backing = λ o n a b r. IsLeftBelow o n a.table.items b.table.items r × (b.storages ≡ a.storages) × (b.waiting ≡ a.waiting);
     } };
 
     ghost lawful = { λ d. sparse_lawful (S.features d.storages.first) (S.features d.storages.second) (S.fault_count d.storages.first + S.fault_count d.storages.second + d.storages.faults) (S.bytes d.storages.first) (S.bytes d.storages.second) d.table.items d.size d.settings d.short d.waiting d.bounded d.granular };

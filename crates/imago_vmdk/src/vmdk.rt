@@ -8,6 +8,7 @@ ghost use Rattle.imago_storage.specs.Maintenance.{IsNothing};
 ghost use Rattle.imago_drivers.specs.declared.mapping.ShallowMapping.TheVariants as ShallowMapping;
 ghost use Rattle.imago_drivers.specs.Mapping.{Names};
 ghost use Rattle.imago_drivers.specs.Place.{Refused};
+ghost use Rattle.imago_drivers.specs.Discards.{no_discards};
 ghost use Rattle.imago_drivers.specs.Commit.{IsCommit, IsCancel};
 ghost use Rattle.imago_vmdk.specs.Reading.{size_of as extent_size, is_length as may_be_long, reading_of};
 ghost use Rattle.imago_vmdk.specs.Probe.{probe_of};
@@ -341,6 +342,8 @@ impl<S: Storage> FormatDriverInstance for Vmdk<S> {
     ghost probe_reasons = { λ s. probe_refusals (S.features s) (length (S.bytes s)) };
 
     ghost flushes = { record { flushed = IsNothing; synced = IsNothing; invalidated = IsNothing } };
+
+    ghost discards = { no_discards };
 
     ghost lawful = { λ v. vmdk_lawful (S.features v.descriptor ∷ map S.features v.storages.items) (S.bytes v.descriptor ∷ map S.bytes v.storages.items) v.opened v.extents.items };
 

@@ -1,9 +1,10 @@
-use Rattle.std.proofs.Common.{rules, ◌-◌, arith}
+use Rattle.std.proofs.Common.{rules, ◌-◌, arith, refl}
+use Rattle.std.proofs.lemmas.Result.{err_from_is_err_and}
 use Rattle.std.specs.Prelude.{IsErrOf}
 use Rattle.imago_storage.specs.declared.error.Error.{Error}
 use Rattle.imago_storage.specs.Padding.{RangeWraps}
 use Rattle.imago_drivers.proofs.StorageBytes.{no_wrap}
-use Rattle.imago_drivers.proofs.AlignedParts.{whole_start, whole_length, part_fits, outside_part}
+use Rattle.imago_drivers.proofs.AlignedParts.{whole_start, whole_length, part_fits, outside_part, part_discarded}
 use Rattle.imago_drivers.proofs.raw.discard_part.Goals as goal
 
 pub returns-clause-whole : goal.returns-clause-whole
@@ -20,3 +21,14 @@ pub returns-clause-discarded : goal.returns-clause-discarded
 returns-clause-discarded g c =
     outside_part (g.S.Storage.features c.args.storage.now).discard_align c.discard_align-align.result c.args.offset c.args.count c.in-Some.start c.in-Some.end _ _ c.discard_align-align.ensures.value c.in-Some.ensures
     (omega (arith, c.if-end-start.false)) c.discard.ensures.bytes
+
+pub returns-clause-performed : goal.returns-clause-performed
+returns-clause-performed g c =
+    part_discarded g.S.Storage.maintenance (g.S.Storage.features c.args.storage.now).discard_align c.discard_align-align.result c.args.offset c.args.count c.in-Some.start c.in-Some.end _ _ c.discard.result _ c.discard_align-align.ensures.value c.in-Some.ensures
+    (omega (arith, c.if-end-start.false)) c.discard.ensures.performed (rw c.in_ok-discard.was refl)
+
+pub returns-in_err-discard-clause-performed : goal.returns-in_err-discard-clause-performed
+returns-in_err-discard-clause-performed g c =
+    let p = err_from_is_err_and c.from_residual.result c.from_residual.ensures.1 in
+    part_discarded g.S.Storage.maintenance (g.S.Storage.features c.args.storage.now).discard_align c.discard_align-align.result c.args.offset c.args.count c.in-Some.start c.in-Some.end _ _ c.discard.result _ c.discard_align-align.ensures.value c.in-Some.ensures
+    (omega (arith, c.if-end-start.false)) c.discard.ensures.performed (rw (c.in_err-discard.was, p.1, p.2) refl)

@@ -6,8 +6,8 @@ use Rattle.imago_test_drivers.specs.Choppy.{told, raw_over}
 use Rattle.imago_test_drivers.proofs.ChoppySteps.{discarded}
 use Rattle.imago_test_drivers.proofs.choppy.ChoppyFormatDriverInstance.discard_to_any.Goals as goal
 
-pub returns : goal.returns
-returns g c =
+pub returns-clause-call : goal.returns-clause-call
+returns-clause-call g c =
     let s = c.args.self.now in
     let st = g.S.Storage in
     let f = st.features (storage_in s.raw) in
@@ -16,4 +16,10 @@ returns g c =
     let p = c.first_block-start.ensures in
     let x = c.discard_to_any in
     discarded (told s.is_granular s.cut) (v s.raw) (v x.new.self) DiscardToAny c.args.offset c.args.count part.0 part.1 (p.0) (p.1) (λ i. omega arith) (λ free. free)
-    (raw_causes f (st.fault_count (storage_in s.raw)) (st.bytes (storage_in s.raw)) (size_of s.raw) (writability_of s.raw)) (λ a b. Unit {0}) x.result x.ensures
+    (raw_causes f (st.fault_count (storage_in s.raw)) (st.bytes (storage_in s.raw)) (size_of s.raw) (writability_of s.raw)) (λ a b. Unit {0}) x.result x.ensures.call
+
+pub returns-clause-performed : goal.returns-clause-performed
+returns-clause-performed g c =
+    let part = c.first_block-start.result in
+    let p = c.first_block-start.ensures in
+    ((part.0, part.1, p.0, p.1, c.discard_to_any.ensures.performed), refl, refl)

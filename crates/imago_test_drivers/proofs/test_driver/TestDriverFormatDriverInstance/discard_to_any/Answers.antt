@@ -1,7 +1,13 @@
 use Rattle.imago_test_drivers.proofs.test_driver.TestDriverFormatDriverInstance.discard_to_any.Goals as goal
 
-pub returns-in-Raw : goal.returns-in-Raw
-returns-in-Raw g c = rw c.in-Raw.is c.discard_to_any.ensures
+pub returns-in-Raw-clause-call : goal.returns-in-Raw-clause-call
+returns-in-Raw-clause-call g c = rw c.in-Raw.is c.discard_to_any.ensures.call
 
-pub returns-in-Choppy : goal.returns-in-Choppy
-returns-in-Choppy g c = rw c.in-Choppy.is c.discard_to_any-in-Choppy.ensures
+pub returns-in-Raw-clause-performed : goal.returns-in-Raw-clause-performed
+returns-in-Raw-clause-performed g c = rw c.in-Raw.is c.discard_to_any.ensures.performed
+
+pub returns-in-Choppy-clause-call : goal.returns-in-Choppy-clause-call
+returns-in-Choppy-clause-call g c = rw c.in-Choppy.is c.discard_to_any-in-Choppy.ensures.call
+
+pub returns-in-Choppy-clause-performed : goal.returns-in-Choppy-clause-performed
+returns-in-Choppy-clause-performed g c = rw c.in-Choppy.is c.discard_to_any-in-Choppy.ensures.performed

@@ -4,10 +4,13 @@ use Rattle.imago_drivers.specs.Changes.{unspecified}
 use Rattle.imago_test_tables.proofs.DiscardSteps.{discarded}
 use Rattle.imago_test_tables.proofs.sparse.SparseFormatDriverInstance.discard_to_any.Goals as goal
 
-pub returns : goal.returns
-returns g c =
+pub returns-clause-call : goal.returns-clause-call
+returns-clause-call g c =
     let s = c.args.self.now in
     let e = c.put_part.ensures in
     discarded (g.S.Storage.features s.storages.first) (g.S.Storage.features s.storages.second) (g.S.Storage.fault_count s.storages.first + g.S.Storage.fault_count s.storages.second + s.storages.faults)
     (g.S.Storage.bytes s.storages.first) (g.S.Storage.bytes s.storages.second) s.table.items c.put_part.new.table.items s.size s.settings s.short s.waiting c.args.offset c.args.count DiscardToAny (λ _ _. unspecified)
     c.requires.spent (λ e. let z : ⊥ = cc in z) (refl, refl) (λ below k v. tt) c.put_part.result e.answered e.filled e.torn e.only e.barred e.beyond
+
+pub returns-clause-performed : goal.returns-clause-performed
+returns-clause-performed g c = let e = c.put_part.ensures in (record { answered = e.answered; filled = e.filled; torn = e.torn }, refl, refl)
