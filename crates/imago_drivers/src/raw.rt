@@ -26,7 +26,7 @@ use crate::drivers::{
 use crate::layer::LowerLayer;
 pub use crate::raw_builder::{RawCreateBuilder, RawOpenBuilder, create_in};
 use crate::stored::write_bytes;
-use imago_storage::align::{aligned_part, discard_align, zero_align};
+use imago_storage::align::{aligned_blocks, discard_align, zero_align};
 use imago_storage::error::Error;
 use imago_storage::ext::StorageExt;
 use imago_storage::storage::{self, Storage, StorageOpenOptions};
@@ -414,7 +414,7 @@ fn zero_part<S: Storage>(
         (offset + count) }
 {
     let align = zero_align(&*storage);
-    let Some((start, end)) = aligned_part(align, offset, count) else {
+    let Some((start, end)) = aligned_blocks(align, offset, count) else {
         return Ok((offset, 0));
     };
     if end <= start {
@@ -442,7 +442,7 @@ fn discard_part<S: Storage>(storage: &mut S, offset: u64, count: u64) -> Result<
     ensures performed { IsPartDiscarded S.maintenance (S.features storage.old).discard_align offset count storage.old storage.new result }
 {
     let align = discard_align(&*storage);
-    let Some((start, end)) = aligned_part(align, offset, count) else {
+    let Some((start, end)) = aligned_blocks(align, offset, count) else {
         return Ok((offset, 0));
     };
     if end <= start {

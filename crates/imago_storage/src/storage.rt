@@ -10,6 +10,7 @@ ghost use Rattle.imago_storage.specs.Powers.{IsAlignment};
 ghost use Rattle.imago_storage.specs.IoCount.{IoCount, AddsAtMost};
 ghost use Rattle.imago_storage.specs.Maintenance.{Maintenance};
 
+use crate::align::remainder;
 use crate::error::Error;
 pub use crate::options::{PreallocateMode, StorageCreateOptions, StorageOpenOptions, ZeroKind};
 use std::alloc::Global;
@@ -196,7 +197,7 @@ pub trait Storage: Display + Drop + Sized {
     {
         let mem_align = (*self).mem_align() as u64;
         let req_align = (*self).req_align() as u64;
-        if count % mem_align != 0 {
+        if remainder(count, mem_align) != 0 {
             return Err(Error::Unsupported);
         }
         let piece = req_align.max(mem_align).max(ZERO_PIECE);
