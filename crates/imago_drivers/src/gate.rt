@@ -52,7 +52,7 @@ impl<S: Storage> ImplicitOpenGate<S> for DenyImplicitOpenGate {
 pub struct PermissiveImplicitOpenGate(());
 
 impl<S: Storage> ImplicitOpenGate<S> for PermissiveImplicitOpenGate {
-    ghost opened = { IsPassedOn };
+    ghost opened = { IsPassedOn S.openings };
 
     fn open_storage(&mut self, _alloc: Global, opts: StorageOpenOptions) -> Result<S, Error> {
         S::open(opts)
