@@ -19,7 +19,6 @@ ghost use Rattle.imago_drivers.specs.RawLaws.{raw_lawful, raw_causes};
 ghost use Rattle.imago_drivers.specs.Place.{values};
 ghost use Rattle.imago_drivers.specs.Prepared.{IsPrepared};
 ghost use Rattle.imago_drivers.specs.Commit.{IsCommit, IsCancel};
-ghost use Rattle.imago_drivers.specs.RawBuilder.{IsRawOpeningByPath};
 
 use crate::drivers::{
     Format, FormatDriverInstance, PreallocateMode, PreparedDataMapping, ShallowMapping,
@@ -49,6 +48,7 @@ pub struct Raw<S: Storage> {
 }
 
 impl<S: Storage> Raw<S> {
+    ghost use Rattle.imago_drivers.specs.RawBuilder.{IsRawOpeningByPath};
     ghost use Rattle.imago_drivers.specs.RawImage.{storage_in, size_of, writability_of};
 
     /// Opens the image that the storage is: a disk of the storage's length. It answers [`Error::Device`] and
