@@ -1,5 +1,6 @@
 //! The driver of raw images.
 ghost use Rattle.std.specs.Prelude.{◌≡◌, ℕ, ◌+◌, ◌^◌, ◌<◌, ◌≤◌, ◌⊎◌, max, length, slice_index, IsTrue, IfOk, IfErr, OnOk, OnErr, IsErrOf, true, false};
+ghost use Rattle.std.specs.String.{string_bytes};
 ghost use Rattle.imago_storage.specs.Bytes.{SameOutside};
 ghost use Rattle.imago_storage.specs.Error.{IsDeviceOrMemory, IsExtRefusal};
 ghost use Rattle.imago_storage.specs.Faults.{CountsFaults};
@@ -48,6 +49,7 @@ pub struct Raw<S: Storage> {
 }
 
 impl<S: Storage> Raw<S> {
+    ghost use Rattle.imago_drivers.specs.RawBuilder.{IsRawOpeningByPath};
     ghost use Rattle.imago_drivers.specs.RawImage.{storage_in, size_of, writability_of};
 
     /// Opens the image that the storage is: a disk of the storage's length. It answers [`Error::Device`] and
@@ -71,8 +73,7 @@ impl<S: Storage> Raw<S> {
     /// Opens the image in the storage of that name, by [`Storage::open`]. What that, or the storage's size, is refused
     /// for is passed on.
     pub fn open_path(path: String, writable: bool) -> Result<Self, Error>
-        ensures { IfOk result
-            (λ r. (size_of r ≡ length (S.bytes (storage_in r))) × (writability_of r ≡ «writable»)) }
+        ensures { IsRawOpeningByPath S.openings S.bytes S.features (string_bytes path) writable result }
     {
         let options = StorageOpenOptions::new().filename(path).write(writable);
         Raw::open_image(S::open(options)?, writable)
