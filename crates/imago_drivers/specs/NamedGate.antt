@@ -1,6 +1,7 @@
-use Rattle.std.specs.Prelude.{◌≡◌, ◌≢◌, ℕ, List, [], ◌∷◌, Option, Some, None, Result, Ok, Err}
+use Rattle.std.specs.Prelude.{◌≡◌, ◌≢◌, ◌<◌, ℕ, List, [], ◌∷◌, Option, Some, None, MatchOption, Result, Ok, Err}
 use Rattle.std.specs.Option.{option_map_or}
 use Rattle.std.specs.BTreeMap.{get_by_text}
+use Rattle.std.specs.VecDeque.{deque_len, deque_capacity}
 use Rattle.imago_storage.specs.declared.error.Error.{Error}
 use Rattle.imago_storage.specs.declared.error.Error.TheVariants.{NotFound}
 use Rattle.imago_drivers.specs.declared.gate.NamedGate.{NamedGate}
@@ -8,6 +9,10 @@ use Rattle.imago_drivers.specs.declared.gate.NamedGate.{NamedGate}
 -- the storages of that name, the first added first
 abbrev pub storages_named : {S : Type 0} → NamedGate S → List ℕ → List S
 storages_named g name = option_map_or (λ queue. queue.items) (get_by_text g.queues name) []
+
+-- There is room for one more storage of that name, so that none has to be asked for.
+abbrev pub HasRoomFor : {S : Type 0} → NamedGate S → List ℕ → Type 0
+HasRoomFor g name = MatchOption (get_by_text g.queues name) ⊥ (λ queue. deque_len queue < deque_capacity queue)
 
 -- every other name has the storages that it had
 abbrev pub KeepsOtherNames : {S : Type 0} → NamedGate S → NamedGate S → List ℕ → Type 0

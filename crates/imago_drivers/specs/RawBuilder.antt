@@ -1,7 +1,9 @@
-use Rattle.std.specs.Prelude.{◌≡◌, ◌≢◌, ℕ, ◌+◌, ◌^◌, ◌<◌, ◌≤◌, ◌⊎◌, Bool, true, false, List, [], length, slice_index, Result, Ok, Err}
+use Rattle.std.specs.Prelude.{◌≡◌, ◌≢◌, ℕ, ◌+◌, ◌^◌, ◌<◌, ◌≤◌, ◌⊎◌, Bool, true, false, List, [], length, slice_index, Some, Result, Ok, Err}
 use Rattle.imago_storage.specs.declared.error.Error.{Error}
 use Rattle.imago_storage.specs.declared.error.Error.TheVariants as E
 use Rattle.imago_storage.specs.Features.{Features, MayRunOut}
+use Rattle.imago_storage.specs.Openings.{Openings}
+use Rattle.imago_storage.specs.Options.{no_open_options}
 use Rattle.imago_drivers.specs.declared.format.PreallocateMode.{PreallocateMode}
 use Rattle.imago_drivers.specs.declared.format.PreallocateMode.TheVariants as Mode
 use Rattle.imago_drivers.specs.declared.raw.Raw.{Raw}
@@ -33,6 +35,12 @@ abbrev pub IsRawOpening : {Gate S : Type 0} {g : _} {h : _} → (S → List ℕ)
 IsRawOpening {Gate} {S} bytes features opened gate settings result =
     (after : Gate) × (storage : Result S Error) × IsImageStorage opened settings gate after storage
     × Then storage result (λ s. IsRawImage bytes features settings.writable s result)
+
+-- The opening of a raw image by a path: of the storage that was opened by that name, to be written to where the image is.
+abbrev pub IsRawOpeningByPath : {S : Type 0} {g : _} {h : _} → Openings S → (S → List ℕ) → (S → Features) → List ℕ → Bool → Result (Raw S g h) Error → Type 0
+IsRawOpeningByPath {S} openings bytes features path w result =
+    (storage : Result S Error) × openings.opened (record no_open_options { filename = Some path; writable = w }) storage
+    × Then storage result (λ s. IsRawImage bytes features w s result)
 
 -- a device failed: it isn't reliable, or its count of faults says nothing any more
 abbrev pub MayFail : Features → ℕ → Type 0

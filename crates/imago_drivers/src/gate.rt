@@ -1,5 +1,5 @@
 //! What may be opened for an image.
-ghost use Rattle.std.specs.Prelude.{◌≡◌, ◌++◌, ◌∷◌, [], ℕ, List, OnOk, OnErr, IfErr, MatchOption};
+ghost use Rattle.std.specs.Prelude.{◌≡◌, ◌++◌, ◌∷◌, [], ℕ, List, OnOk, OnErr, IfErr, IsOk, MatchOption};
 ghost use Rattle.std.specs.Option.{option_copied};
 ghost use Rattle.std.specs.String.{string_bytes};
 ghost use Rattle.imago_storage.specs.Options.{open_options};
@@ -52,7 +52,7 @@ impl<S: Storage> ImplicitOpenGate<S> for DenyImplicitOpenGate {
 pub struct PermissiveImplicitOpenGate(());
 
 impl<S: Storage> ImplicitOpenGate<S> for PermissiveImplicitOpenGate {
-    ghost opened = { IsPassedOn };
+    ghost opened = { IsPassedOn S.openings };
 
     fn open_storage(&mut self, _alloc: Global, opts: StorageOpenOptions) -> Result<S, Error> {
         S::open(opts)
@@ -70,7 +70,7 @@ pub struct NamedGate<S> {
 }
 
 impl<S: Storage> NamedGate<S> {
-    ghost use Rattle.imago_drivers.specs.NamedGate.{storages_named, KeepsOtherNames, first_of};
+    ghost use Rattle.imago_drivers.specs.NamedGate.{storages_named, KeepsOtherNames, HasRoomFor, first_of};
 
     /// No storages. It takes no memory.
     pub fn new(alloc: Global) -> Self
@@ -83,11 +83,12 @@ impl<S: Storage> NamedGate<S> {
     }
 
     /// Adds a storage, behind those of the same name. Where memory is refused, the storage is given back, and the gate
-    /// has what it had.
+    /// has what it had. Where the name has room for one more, none is asked for.
     pub fn add(&mut self, name: String, storage: S) -> Result<(), S>
         ensures added { OnOk result
             (storages_named self.new (string_bytes name) ≡ storages_named self.old (string_bytes name) ++ storage ∷ []) }
         ensures refused { OnErr result (storages_named self.new (string_bytes name) ≡ storages_named self.old (string_bytes name)) }
+        ensures room { HasRoomFor self.old (string_bytes name) → IsOk result }
         ensures given_back { IfErr result (λ s. s ≡ storage) }
         ensures others { KeepsOtherNames self.old self.new (string_bytes name) }
     {

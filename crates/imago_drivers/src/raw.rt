@@ -1,5 +1,6 @@
 //! The driver of raw images.
 ghost use Rattle.std.specs.Prelude.{◌≡◌, ℕ, ◌+◌, ◌^◌, ◌<◌, ◌≤◌, ◌⊎◌, max, length, slice_index, IsTrue, IfOk, IfErr, OnOk, OnErr, IsErrOf, true, false};
+ghost use Rattle.std.specs.String.{string_bytes};
 ghost use Rattle.imago_storage.specs.Bytes.{SameOutside};
 ghost use Rattle.imago_storage.specs.Error.{IsDeviceOrMemory, IsExtRefusal};
 ghost use Rattle.imago_storage.specs.Faults.{CountsFaults};
@@ -26,7 +27,7 @@ use crate::drivers::{
 use crate::layer::LowerLayer;
 pub use crate::raw_builder::{RawCreateBuilder, RawOpenBuilder, create_in};
 use crate::stored::write_bytes;
-use imago_storage::align::{aligned_part, discard_align, zero_align};
+use imago_storage::align::{aligned_blocks, discard_align, zero_align};
 use imago_storage::error::Error;
 use imago_storage::ext::StorageExt;
 use imago_storage::storage::{self, Storage, StorageOpenOptions};
@@ -48,6 +49,7 @@ pub struct Raw<S: Storage> {
 }
 
 impl<S: Storage> Raw<S> {
+    ghost use Rattle.imago_drivers.specs.RawBuilder.{IsRawOpeningByPath};
     ghost use Rattle.imago_drivers.specs.RawImage.{storage_in, size_of, writability_of};
 
     /// Opens the image that the storage is: a disk of the storage's length. It answers [`Error::Device`] and
@@ -71,8 +73,7 @@ impl<S: Storage> Raw<S> {
     /// Opens the image in the storage of that name, by [`Storage::open`]. What that, or the storage's size, is refused
     /// for is passed on.
     pub fn open_path(path: String, writable: bool) -> Result<Self, Error>
-        ensures { IfOk result
-            (λ r. (size_of r ≡ length (S.bytes (storage_in r))) × (writability_of r ≡ «writable»)) }
+        ensures { IsRawOpeningByPath S.openings S.bytes S.features (string_bytes path) writable result }
     {
         let options = StorageOpenOptions::new().filename(path).write(writable);
         Raw::open_image(S::open(options)?, writable)
@@ -414,7 +415,7 @@ fn zero_part<S: Storage>(
         (offset + count) }
 {
     let align = zero_align(&*storage);
-    let Some((start, end)) = aligned_part(align, offset, count) else {
+    let Some((start, end)) = aligned_blocks(align, offset, count) else {
         return Ok((offset, 0));
     };
     if end <= start {
@@ -442,7 +443,7 @@ fn discard_part<S: Storage>(storage: &mut S, offset: u64, count: u64) -> Result<
     ensures performed { IsPartDiscarded S.maintenance (S.features storage.old).discard_align offset count storage.old storage.new result }
 {
     let align = discard_align(&*storage);
-    let Some((start, end)) = aligned_part(align, offset, count) else {
+    let Some((start, end)) = aligned_blocks(align, offset, count) else {
         return Ok((offset, 0));
     };
     if end <= start {

@@ -1,10 +1,13 @@
 //! The storages of a script.
+ghost use Rattle.imago_storage.specs.Openings.{no_openings};
 ghost use Rattle.imago_script.specs.ScriptStorage.{by_kind, kinds_lawful, maintenance_by_kind};
 
 use imago::error::Error;
 use imago::mem::MemStorage;
 use imago::null::Null;
-use imago::storage::{PreallocateMode, Storage, ZeroKind};
+use imago::storage::{
+    PreallocateMode, Storage, StorageCreateOptions, StorageOpenOptions, ZeroKind,
+};
 use std::alloc::Global;
 use std::fmt::{self, Display, Formatter, Write};
 
@@ -37,7 +40,19 @@ impl Storage for ScriptStorage {
 
     ghost maintenance = { maintenance_by_kind ⟦<MemStorage as Storage>⟧.maintenance ⟦<Null as Storage>⟧.maintenance };
 
+    ghost openings = { no_openings };
+
     ghost lawful = { kinds_lawful };
+
+    fn open(opts: StorageOpenOptions) -> Result<Self, Error> {
+        let _ = opts;
+        Err(Error::Unsupported)
+    }
+
+    fn create_open(opts: StorageCreateOptions) -> Result<Self, Error> {
+        let _ = opts;
+        Err(Error::Unsupported)
+    }
 
     fn mem_align(&self) -> usize {
         match self {

@@ -5,6 +5,7 @@ pub mod Maintenance
 pub mod Faults
 pub mod IoCount
 pub mod Options
+pub mod Openings
 pub mod Powers
 pub mod Mem
 pub mod MemParts

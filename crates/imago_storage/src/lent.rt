@@ -1,5 +1,6 @@
 //! A storage that is lent: every call goes to the storage behind the borrow.
-ghost use Rattle.std.specs.Prelude.{◌≡◌, ℕ, IsErrOf};
+ghost use Rattle.std.specs.Prelude.{◌≡◌, ℕ};
+ghost use Rattle.imago_storage.specs.Openings.{no_openings, IsMade};
 
 use crate::error::Error;
 use crate::storage::{
@@ -24,18 +25,16 @@ impl<S: Storage> Storage for &mut S {
       discarded = λ at n a b r. S.maintenance.discarded at n a.now b.now r;
     } };
 
+    ghost openings = { record no_openings { made = IsMade S.openings } };
+
     ghost lawful = { λ s. S.lawful s.now };
 
-    fn open(opts: StorageOpenOptions) -> Result<Self, Error>
-        ensures { IsErrOf result Error.Unsupported }
-    {
+    fn open(opts: StorageOpenOptions) -> Result<Self, Error> {
         let _ = opts;
         Err(Error::Unsupported)
     }
 
-    fn create_open(opts: StorageCreateOptions) -> Result<Self, Error>
-        ensures { IsErrOf result Error.Unsupported }
-    {
+    fn create_open(opts: StorageCreateOptions) -> Result<Self, Error> {
         let _ = opts;
         Err(Error::Unsupported)
     }

@@ -1,5 +1,5 @@
 //! A storage in memory.
-ghost use Rattle.std.specs.Prelude.{◌≡◌, ◌≢◌, ℕ, ◌≤◌, ◌<◌, ◌+◌, ◌-◌, ◌%◌, ◌^◌, Bool, true, false, IsTrue, replicate, length, List, ◌++◌, Option, None, Some, OnOk, OnErr, IfOk, IfErr, IsErrOf, IsOk, option_map};
+ghost use Rattle.std.specs.Prelude.{◌≡◌, ◌≢◌, ℕ, ◌≤◌, ◌<◌, ◌+◌, ◌-◌, ◌%◌, ◌^◌, Bool, true, false, IsTrue, replicate, length, List, ◌++◌, Option, None, Some, OnOk, OnErr, IfOk, IfErr, IsOk, option_map};
 ghost use Rattle.imago_storage.specs.Powers.{IsAlignment};
 ghost use Rattle.std.specs.Option.{option_copied};
 ghost use Rattle.std.specs.String.{string_bytes};
@@ -7,6 +7,7 @@ ghost use Rattle.imago_storage.specs.Bytes.{splice, IsReadAt};
 ghost use Rattle.imago_storage.specs.Features.{Features};
 ghost use Rattle.imago_storage.specs.IoCount.{no_work};
 ghost use Rattle.imago_storage.specs.Maintenance.{no_maintenance};
+ghost use Rattle.imago_storage.specs.Openings.{no_openings};
 ghost use Rattle.imago_storage.specs.Mem.{mem_features, mem_lawful};
 
 use crate::bytes::overwrite;
@@ -222,18 +223,16 @@ impl Storage for MemStorage {
 
     ghost maintenance = { no_maintenance };
 
+    ghost openings = { no_openings };
+
     ghost lawful = { λ s. mem_lawful (option_map string_bytes s.name) s.mem_align s.req_align s.zero_align s.mem_power s.req_power s.zero_power s.zero_whole };
 
-    fn open(opts: StorageOpenOptions) -> Result<Self, Error>
-        ensures { IsErrOf result Error.Unsupported }
-    {
+    fn open(opts: StorageOpenOptions) -> Result<Self, Error> {
         let _ = opts;
         Err(Error::Unsupported)
     }
 
-    fn create_open(opts: StorageCreateOptions) -> Result<Self, Error>
-        ensures { IsErrOf result Error.Unsupported }
-    {
+    fn create_open(opts: StorageCreateOptions) -> Result<Self, Error> {
         let _ = opts;
         Err(Error::Unsupported)
     }

@@ -1,8 +1,9 @@
 //! A storage of zeroes.
-ghost use Rattle.std.specs.Prelude.{◌≡◌, ℕ, Bool, true, false, replicate, length, IsErrOf};
+ghost use Rattle.std.specs.Prelude.{◌≡◌, ℕ, Bool, true, false, replicate, length};
 ghost use Rattle.imago_storage.specs.Mem.{null_features, null_lawful};
 ghost use Rattle.imago_storage.specs.IoCount.{no_work};
 ghost use Rattle.imago_storage.specs.Maintenance.{no_maintenance};
+ghost use Rattle.imago_storage.specs.Openings.{no_openings};
 
 use crate::error::Error;
 use crate::storage::{
@@ -46,18 +47,16 @@ impl Storage for Null {
 
     ghost maintenance = { no_maintenance };
 
+    ghost openings = { no_openings };
+
     ghost lawful = { λ _. null_lawful };
 
-    fn open(opts: StorageOpenOptions) -> Result<Self, Error>
-        ensures { IsErrOf result Error.Unsupported }
-    {
+    fn open(opts: StorageOpenOptions) -> Result<Self, Error> {
         let _ = opts;
         Err(Error::Unsupported)
     }
 
-    fn create_open(opts: StorageCreateOptions) -> Result<Self, Error>
-        ensures { IsErrOf result Error.Unsupported }
-    {
+    fn create_open(opts: StorageCreateOptions) -> Result<Self, Error> {
         let _ = opts;
         Err(Error::Unsupported)
     }

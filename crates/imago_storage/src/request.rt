@@ -9,7 +9,7 @@ ghost use Rattle.imago_storage.specs.Faults.{CountsFaults};
 ghost use Rattle.imago_storage.specs.Features.{IsAlignedRequest, RequestMayRunOut};
 ghost use Rattle.imago_storage.specs.IoCount.{AddsAtMost};
 
-use crate::align::{aligned_part, discard_align, length_align, padded_request, whole_blocks};
+use crate::align::{aligned_blocks, discard_align, length_align, padded_request, whole_blocks};
 use crate::bytes::overwrite;
 use crate::error::Error;
 use crate::storage::{Storage, zero_buffer};
@@ -167,7 +167,7 @@ pub(crate) fn discard_any<S: Storage>(storage: &mut S, offset: u64, count: u64) 
     ensures { IsRangeDiscard S.features S.bytes S.fault_count S.maintenance offset count storage.old storage.new result }
 {
     let align = discard_align(&*storage);
-    let Some((start, end)) = aligned_part(align, offset, count) else {
+    let Some((start, end)) = aligned_blocks(align, offset, count) else {
         return Err(Error::WrapAround);
     };
     if end <= start {

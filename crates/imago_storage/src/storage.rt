@@ -9,7 +9,10 @@ ghost use Rattle.imago_storage.specs.Features.{Features, InPlace, MayRunOut, zer
 ghost use Rattle.imago_storage.specs.Powers.{IsAlignment};
 ghost use Rattle.imago_storage.specs.IoCount.{IoCount, AddsAtMost};
 ghost use Rattle.imago_storage.specs.Maintenance.{Maintenance};
+ghost use Rattle.imago_storage.specs.Openings.{Openings, IsMade};
+ghost use Rattle.imago_storage.specs.Options.{open_options, create_options};
 
+use crate::align::remainder;
 use crate::error::Error;
 pub use crate::options::{PreallocateMode, StorageCreateOptions, StorageOpenOptions, ZeroKind};
 use std::alloc::Global;
@@ -60,21 +63,22 @@ pub trait Storage: Display + Drop + Sized {
     /// What a flush, a sync, an invalidation, a wait for writes and a discard are: only the call itself gives its relation.
     ghost maintenance: { Maintenance Self };
 
-    /// Opens a storage. Which options are needed depends on the storage; by default it is
-    /// [`Error::Unsupported`].
-    fn open(opts: StorageOpenOptions) -> Result<Self, Error> {
-        let _ = opts;
-        Err(Error::Unsupported)
-    }
+    /// What is opened and created by which options: only the call itself gives its relation.
+    ghost openings: { Openings Self };
 
-    /// Creates a storage and opens it, always as writable. By default it is [`Error::Unsupported`].
-    fn create_open(opts: StorageCreateOptions) -> Result<Self, Error> {
-        let _ = opts;
-        Err(Error::Unsupported)
-    }
+    /// Opens a storage. Which options are needed depends on the storage. One that isn't opened by options is
+    /// [`Error::Unsupported`].
+    fn open(opts: StorageOpenOptions) -> Result<Self, Error>
+        ensures { openings.opened (open_options opts) result };
+
+    /// Creates a storage and opens it, always as writable. One that isn't created by options is [`Error::Unsupported`].
+    fn create_open(opts: StorageCreateOptions) -> Result<Self, Error>
+        ensures { openings.created (create_options opts) result };
 
     /// Creates a storage. By default it is created and opened, and let go.
-    fn create(opts: StorageCreateOptions) -> Result<(), Error> {
+    fn create(opts: StorageCreateOptions) -> Result<(), Error>
+        ensures { IsMade openings (create_options opts) result }
+    {
         let _ = Self::create_open(opts)?;
         Ok(())
     }
@@ -196,7 +200,7 @@ pub trait Storage: Display + Drop + Sized {
     {
         let mem_align = (*self).mem_align() as u64;
         let req_align = (*self).req_align() as u64;
-        if count % mem_align != 0 {
+        if remainder(count, mem_align) != 0 {
             return Err(Error::Unsupported);
         }
         let piece = req_align.max(mem_align).max(ZERO_PIECE);

@@ -8,7 +8,7 @@ ghost use Rattle.imago_storage.specs.Features.{InPlace, AsData, MayRunOut, MayBe
 ghost use Rattle.imago_storage.specs.Padding.{padded_end, Wraps, IsAlignedPart};
 ghost use Rattle.imago_storage.specs.Zeroes.{HasZeroed, ZeroedPart, EdgeWraps, DataWraps};
 
-use crate::align::{aligned_part, head_length, length_align, padded_request, zero_align};
+use crate::align::{aligned_blocks, head_length, length_align, padded_request, zero_align};
 use crate::error::Error;
 use crate::request::write_parts;
 use crate::storage::{Storage, ZERO_PIECE, ZeroKind, zero_buffer};
@@ -30,7 +30,7 @@ pub(crate) fn zero_any<S: Storage>(
         return Ok(());
     }
     let align = zero_align(&*storage);
-    let Some((start, end)) = aligned_part(align, offset, count) else {
+    let Some((start, end)) = aligned_blocks(align, offset, count) else {
         return Err(Error::WrapAround);
     };
     zero_range(storage, alloc, offset, count, start, end, kind)

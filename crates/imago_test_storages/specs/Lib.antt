@@ -1,3 +1,4 @@
+pub mod Created
 pub mod Counting
 pub mod Faulty
 pub mod FaultyPlan

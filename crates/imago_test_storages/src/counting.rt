@@ -6,11 +6,14 @@ ghost use Rattle.imago_storage.specs.Faults.{CountsFaults};
 ghost use Rattle.imago_storage.specs.Features.{IsAlignedRequest, MayRunOut};
 ghost use Rattle.imago_storage.specs.IoCount.{no_work};
 ghost use Rattle.imago_storage.specs.MemParts.{alignments_of};
+ghost use Rattle.imago_storage.specs.Openings.{no_openings};
 ghost use Rattle.imago_test_storages.specs.Counting.{io_count, after_read, after_write};
 
 use imago_storage::error::Error;
 use imago_storage::mem::MemStorage;
-use imago_storage::storage::{PreallocateMode, Storage, ZeroKind};
+use imago_storage::storage::{
+    PreallocateMode, Storage, StorageCreateOptions, StorageOpenOptions, ZeroKind,
+};
 use std::alloc::Global;
 use std::fmt;
 
@@ -112,7 +115,19 @@ impl Storage for Counting {
       discarded = λ at n a b r. ⟦<MemStorage as Storage>⟧.maintenance.discarded at n a.inner b.inner r;
     } };
 
+    ghost openings = { no_openings };
+
     ghost lawful = { λ s. alignments_of s.inner };
+
+    fn open(opts: StorageOpenOptions) -> Result<Self, Error> {
+        let _ = opts;
+        Err(Error::Unsupported)
+    }
+
+    fn create_open(opts: StorageCreateOptions) -> Result<Self, Error> {
+        let _ = opts;
+        Err(Error::Unsupported)
+    }
 
     fn mem_align(&self) -> usize {
         self.inner.mem_align()

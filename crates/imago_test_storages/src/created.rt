@@ -1,16 +1,20 @@
-//! A storage that can be created.
+//! A storage that is created and opened by its name.
 ghost use Rattle.std.specs.Prelude.{◌≡◌};
 ghost use Rattle.imago_storage.specs.Maintenance.{no_maintenance};
 ghost use Rattle.imago_storage.specs.Mem.{null_features, null_lawful};
 ghost use Rattle.imago_storage.specs.IoCount.{no_work};
+ghost use Rattle.imago_test_storages.specs.Created.{by_name};
 
 use imago_storage::error::Error;
 use imago_storage::null::Null;
-use imago_storage::storage::{PreallocateMode, Storage, StorageCreateOptions, ZeroKind};
+use imago_storage::storage::{
+    PreallocateMode, Storage, StorageCreateOptions, StorageOpenOptions, ZeroKind,
+};
 use std::alloc::Global;
 use std::fmt;
 
-/// Zeroes that are created by a name and a size. Without a name it is [`Error::NotFound`].
+/// Zeroes that are created by a name and a size, or opened by a name: as many as the name has bytes. Without a name it is
+/// [`Error::NotFound`].
 #[derive(Drop)]
 pub struct Created {
     inner: Null,
@@ -33,7 +37,18 @@ impl Storage for Created {
 
     ghost maintenance = { no_maintenance };
 
+    ghost openings = { by_name (λ s. ⟦<Null as Storage>⟧.bytes s.inner) };
+
     ghost lawful = { λ _. null_lawful };
+
+    fn open(opts: StorageOpenOptions) -> Result<Self, Error> {
+        let Some(name) = opts.get_filename() else {
+            return Err(Error::NotFound);
+        };
+        Ok(Created {
+            inner: Null::new(name.len() as u64),
+        })
+    }
 
     fn create_open(opts: StorageCreateOptions) -> Result<Self, Error> {
         if opts.get_filename().is_none() {

@@ -5,12 +5,15 @@ ghost use Rattle.imago_storage.specs.Faults.{RoseOrSaturated};
 ghost use Rattle.imago_storage.specs.Features.{Features};
 ghost use Rattle.imago_storage.specs.IoCount.{no_work};
 ghost use Rattle.imago_storage.specs.Mem.{mem_lawful};
+ghost use Rattle.imago_storage.specs.Openings.{no_openings};
 ghost use Rattle.imago_storage.specs.Powers.{IsAlignment};
 ghost use Rattle.imago_test_storages.specs.Faulty.{faulty_features, features_inside, features_outside, IsPlain, faulty_lawful, is_new, has_grown, IsTornRequest, no_faults, refused_next, after_call};
 
 use imago_storage::error::Error;
 use imago_storage::mem::MemStorage;
-use imago_storage::storage::{PreallocateMode, Storage, ZeroKind};
+use imago_storage::storage::{
+    PreallocateMode, Storage, StorageCreateOptions, StorageOpenOptions, ZeroKind,
+};
 use std::alloc::Global;
 use std::fmt;
 
@@ -329,7 +332,19 @@ impl Storage for Faulty {
       discarded = λ _ _ a b _. b.inner ≡ a.inner;
     } };
 
+    ghost openings = { no_openings };
+
     ghost lawful = { λ s. faulty_lawful s.zero_writes (features_outside (⟦<MemStorage as Storage>⟧.features s.inner) s.mem_align s.req_align s.zero_align) (mem_lawful (⟦<MemStorage as Storage>⟧.features s.inner).filename s.mem_align s.req_align s.zero_align s.mem_power s.req_power s.zero_power s.zero_whole) };
+
+    fn open(opts: StorageOpenOptions) -> Result<Self, Error> {
+        let _ = opts;
+        Err(Error::Unsupported)
+    }
+
+    fn create_open(opts: StorageCreateOptions) -> Result<Self, Error> {
+        let _ = opts;
+        Err(Error::Unsupported)
+    }
 
     fn mem_align(&self) -> usize {
         self.mem_align

@@ -2,11 +2,14 @@
 ghost use Rattle.std.specs.Prelude.{◌≡◌, false};
 ghost use Rattle.imago_storage.specs.IoCount.{no_work};
 ghost use Rattle.imago_storage.specs.MemParts.{alignments_of};
+ghost use Rattle.imago_storage.specs.Openings.{no_openings};
 ghost use Rattle.imago_test_storages.specs.Recording.{zeroing, discarding, recording_features, recording_lawful};
 
 use imago_storage::error::Error;
 use imago_storage::mem::MemStorage;
-use imago_storage::storage::{PreallocateMode, Storage, ZeroKind};
+use imago_storage::storage::{
+    PreallocateMode, Storage, StorageCreateOptions, StorageOpenOptions, ZeroKind,
+};
 use std::alloc::Global;
 use std::fmt;
 
@@ -143,7 +146,19 @@ impl Storage for Recording {
       discarded = λ _ _ a b _. b.inner ≡ a.inner;
     } };
 
+    ghost openings = { no_openings };
+
     ghost lawful = { λ s. recording_lawful s.zeroes_as_data s.no_discards (⟦<MemStorage as Storage>⟧.features s.inner) (alignments_of s.inner) };
+
+    fn open(opts: StorageOpenOptions) -> Result<Self, Error> {
+        let _ = opts;
+        Err(Error::Unsupported)
+    }
+
+    fn create_open(opts: StorageCreateOptions) -> Result<Self, Error> {
+        let _ = opts;
+        Err(Error::Unsupported)
+    }
 
     fn mem_align(&self) -> usize {
         self.inner.mem_align()

@@ -2,11 +2,14 @@
 ghost use Rattle.std.specs.Prelude.{◌≡◌, ℕ, replicate};
 ghost use Rattle.imago_storage.specs.IoCount.{no_work};
 ghost use Rattle.imago_storage.specs.Maintenance.{no_maintenance};
+ghost use Rattle.imago_storage.specs.Openings.{no_openings};
 ghost use Rattle.imago_test_storages.specs.WideNull.{wide_features, wide_lawful};
 
 use imago_storage::error::Error;
 use imago_storage::null::Null;
-use imago_storage::storage::{PreallocateMode, Storage, ZeroKind};
+use imago_storage::storage::{
+    PreallocateMode, Storage, StorageCreateOptions, StorageOpenOptions, ZeroKind,
+};
 use std::alloc::Global;
 use std::fmt;
 
@@ -45,7 +48,19 @@ impl Storage for WideNull {
 
     ghost maintenance = { no_maintenance };
 
+    ghost openings = { no_openings };
+
     ghost lawful = { λ _. wide_lawful };
+
+    fn open(opts: StorageOpenOptions) -> Result<Self, Error> {
+        let _ = opts;
+        Err(Error::Unsupported)
+    }
+
+    fn create_open(opts: StorageCreateOptions) -> Result<Self, Error> {
+        let _ = opts;
+        Err(Error::Unsupported)
+    }
 
     fn mem_align(&self) -> usize {
         4096

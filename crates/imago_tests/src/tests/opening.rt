@@ -4,4 +4,5 @@
 mod builders;
 mod creation;
 mod gates;
+mod permissive;
 mod set_up;

@@ -1,10 +1,14 @@
 use Rattle.std.proofs.Common.{arith, ◌≡◌, ◌+◌, ◌≤◌, length, take}
 use Rattle.std.specs.Int.{next_multiple_of}
 use Rattle.std.proofs.lemmas.List.{length-take-le, take_all, take_rest}
+use Rattle.imago_storage.proofs.Alignment.{max_power}
 use Rattle.imago_storage.proofs.Blocks.{block_facts}
 use Rattle.imago_storage.proofs.Outcomes.{WriteOutcome_ok, RequestMayRunOut_more}
 use Rattle.imago_storage.proofs.Writes.{first_is_part, splice_is_part, first_refused, second_written}
 use Rattle.imago_storage.proofs.request.write_blocks.Goals as goal
+
+pub whole_blocks-whole-requires : goal.whole_blocks-whole-requires
+whole_blocks-whole-requires g c = let a = c.requires.lawful in rw c.requires.is_block (max_power _ _ a.req a.mem)
 
 pub returns-then-whole-eq0-clause-written : goal.returns-then-whole-eq0-clause-written
 returns-then-whole-eq0-clause-written g c =

@@ -17,16 +17,17 @@ fn size_of<S: Storage>(storage: Result<S, Error>) -> Result<u64, Error> {
     storage?.size()
 }
 
-/// No such storage is opened, and it is created as it is expected to be.
+/// Without a name such a storage isn't opened but refused so, and it is created as it is expected to be.
 fn is_created<S: Storage>(
     rt: &impl Abort,
     alloc: Global,
     named: bool,
+    open: Error,
     create_open: Result<u64, Error>,
     create: Result<(), Error>,
 ) {
     let opened = size_of(S::open(StorageOpenOptions::new()));
-    assert_eq!(rt; opened, Err(Error::Unsupported));
+    assert_eq!(rt; opened, Err(open));
     let created = size_of(S::create_open(options(rt, alloc, named)));
     assert_eq!(rt; created, create_open);
     assert_eq!(rt; S::create(options(rt, alloc, named)), create);
@@ -44,36 +45,71 @@ fn options(rt: &impl Abort, alloc: Global, named: bool) -> StorageCreateOptions 
 #[test]
 fn memory_is_not_opened_by_name(rt: HostRuntime) {
     let none = Err(Error::Unsupported);
-    is_created::<MemStorage>(&rt, rt.alloc(), true, none, Err(Error::Unsupported));
+    is_created::<MemStorage>(
+        &rt,
+        rt.alloc(),
+        true,
+        Error::Unsupported,
+        none,
+        Err(Error::Unsupported),
+    );
 }
 
 #[test]
 fn zeroes_are_not_opened_by_name(rt: HostRuntime) {
     let none = Err(Error::Unsupported);
-    is_created::<Null>(&rt, rt.alloc(), true, none, Err(Error::Unsupported));
+    is_created::<Null>(
+        &rt,
+        rt.alloc(),
+        true,
+        Error::Unsupported,
+        none,
+        Err(Error::Unsupported),
+    );
 }
 
 #[test]
 fn lent_memory_is_not_opened_by_name(rt: HostRuntime) {
     let none = Err(Error::Unsupported);
-    is_created::<&mut MemStorage>(&rt, rt.alloc(), true, none, Err(Error::Unsupported));
+    is_created::<&mut MemStorage>(
+        &rt,
+        rt.alloc(),
+        true,
+        Error::Unsupported,
+        none,
+        Err(Error::Unsupported),
+    );
 }
 
 #[test]
 fn a_storage_is_created_and_let_go(rt: HostRuntime) {
     let alloc = rt.alloc();
-    is_created::<Created>(&rt, alloc, true, Ok(700), Ok(()));
+    is_created::<Created>(&rt, alloc, true, Error::NotFound, Ok(700), Ok(()));
     let refused = Err(Error::NotFound);
-    is_created::<Created>(&rt, alloc, false, Err(Error::NotFound), refused);
+    is_created::<Created>(
+        &rt,
+        alloc,
+        false,
+        Error::NotFound,
+        Err(Error::NotFound),
+        refused,
+    );
 }
 
 #[test]
 fn a_lent_storage_creates_as_its_own(rt: HostRuntime) {
     let alloc = rt.alloc();
     let none = Err(Error::Unsupported);
-    is_created::<&mut Created>(&rt, alloc, true, none, Ok(()));
+    is_created::<&mut Created>(&rt, alloc, true, Error::Unsupported, none, Ok(()));
     let refused = Err(Error::NotFound);
-    is_created::<&mut Created>(&rt, alloc, false, Err(Error::Unsupported), refused);
+    is_created::<&mut Created>(
+        &rt,
+        alloc,
+        false,
+        Error::Unsupported,
+        Err(Error::Unsupported),
+        refused,
+    );
 }
 
 /// A name relative to a storage.

@@ -9,8 +9,8 @@ use Rattle.imago_storage.proofs.Splices.{length-splice}
 use Rattle.imago_storage.proofs.ZeroPieces.{next_piece, next_whole, zeroes_then, zero_front, OldOrNew_zeroes}
 use Rattle.imago_storage.proofs.storage.Storage.write_zeroes_as_data.Goals as goal
 
-pub returns-then-count-mem_align-ne0-clause-written : goal.returns-then-count-mem_align-ne0-clause-written
-returns-then-count-mem_align-ne0-clause-written g c = WriteOutcome_unchanged _ _ _ _ _ refl (omega (arith, length-splice (g.Self.Storage.bytes c.args.self.now) c.args.offset (replicate {A = ℕ} c.args.count 0)))
+pub returns-then-remainder-ne0-clause-written : goal.returns-then-remainder-ne0-clause-written
+returns-then-remainder-ne0-clause-written g c = WriteOutcome_unchanged _ _ _ _ _ refl (omega (arith, length-splice (g.Self.Storage.bytes c.args.self.now) c.args.offset (replicate {A = ℕ} c.args.count 0)))
 
 pub returns-in_err-zeroes-clause-written : goal.returns-in_err-zeroes-clause-written
 returns-in_err-zeroes-clause-written g c =

@@ -1,0 +1,47 @@
+//! Images of storages that are opened by their names.
+use super::set_up::text;
+use imago_drivers::builder::FormatDriverBuilder;
+use imago_drivers::drivers::FormatDriverInstance;
+use imago_drivers::gate::{ImplicitOpenGate, PermissiveImplicitOpenGate};
+use imago_drivers::raw::Raw;
+use imago_storage::error::Error;
+use imago_storage::storage::StorageOpenOptions;
+use imago_test_storages::created::Created;
+use std::alloc::Global;
+
+/// The size of an image, and whether it can be written to.
+type Opened = Result<(u64, bool), Error>;
+
+/// The image of that name, opened by [`Raw::open_path`].
+fn by_path(name: String, writable: bool) -> Opened {
+    let image = Raw::<Created>::open_path(name, writable)?;
+    Ok((image.size(), image.writable()))
+}
+
+/// The image of that name, opened by a builder and the permissive gate.
+fn by_gate(alloc: Global, name: String, writable: bool) -> Opened {
+    let gate = PermissiveImplicitOpenGate::default();
+    let builder = Raw::<Created>::builder_path(name).write(writable);
+    let image = builder.open(alloc, gate)?;
+    Ok((image.size(), image.writable()))
+}
+
+#[test]
+fn an_image_is_opened_by_the_name_of_its_storage(rt: HostRuntime) {
+    let alloc = rt.alloc();
+    for (name, writable, expected) in [
+        ("", false, Ok((0, false))),
+        ("a.img", false, Ok((5, false))),
+        ("dir/b.img", true, Ok((9, true))),
+    ] {
+        assert_eq!(rt; by_path(text(&rt, alloc, name), writable), expected);
+        assert_eq!(rt; by_gate(alloc, text(&rt, alloc, name), writable), expected);
+    }
+}
+
+#[test]
+fn the_permissive_gate_passes_refusals_on(rt: HostRuntime) {
+    let mut gate = PermissiveImplicitOpenGate::default();
+    let opened: Result<Created, Error> = gate.open_storage(rt.alloc(), StorageOpenOptions::new());
+    assert!(rt; opened.is_err_and(|e| e == Error::NotFound));
+}
