@@ -1,4 +1,4 @@
-use Rattle.std.proofs.Common.{arith}
+use Rattle.std.proofs.Common.{arith, refl}
 use Rattle.imago_drivers.specs.Operation.{DiscardToAny}
 use Rattle.imago_drivers.specs.RawImage.{storage_in, size_of, writability_of}
 use Rattle.imago_drivers.specs.RawLaws.{raw_causes}

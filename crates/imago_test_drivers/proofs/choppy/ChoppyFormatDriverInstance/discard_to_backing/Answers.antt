@@ -1,3 +1,4 @@
+use Rattle.std.proofs.Common.{refl}
 use Rattle.std.specs.Prelude.{◌≡◌, ◌⊎◌}
 use Rattle.imago_drivers.specs.Operation.{DiscardToBacking}
 use Rattle.imago_drivers.specs.Place.{Byte}
