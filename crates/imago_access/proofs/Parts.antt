@@ -187,19 +187,19 @@ module _ {D St : Type 0} (view : D → View St) (l : LayerBelow) (old wrote new 
   new_goes h = goes_on_twice _ _ _ _ (goes_on _ _ _ _ H.faults) (goes_on_with (view old).abilities.is_reliable (view wrote).abilities.is_reliable l.is_reliable _ _ (ap (λ a. a.is_reliable) H.framed.kind.abilities) h)
 
   -- what the commit may be refused for, the whole may
-  commit_refused : (e : Error) → (e ≡ Error.ForeignMapping → ⊥) → allowed (commit_reasons (view wrote) m) e → allowed (mapping_reasons (view old) l (CommitMayTakeMemory view old) o n bytes) e
+  commit_refused : (e : Error) → (e ≡ Error.ForeignMapping → ⊥) → allowed (commit_reasons (view wrote) m) e → allowed (mapping_reasons (view old) l (CommitMayTakeMemory view old) o n bytes true) e
   commit_refused = reasons
     where
       earlier : (x : Error) → ((p : ℕ) → is_for (view wrote) m m.state 0 m.length p → (view wrote).limits.cause Operation.Write p m.length x) → (view old).limits.cause Operation.Write o n x
       earlier x c = H.settled.causes Operation.Write o n o m.length x tt (omega arith) (omega (arith, H.mapping.within)) (omega arith) (omega (arith, H.mapping.within)) (c o H.for)
 
-      reasons : (x : Error) → (x ≡ Error.ForeignMapping → ⊥) → allowed (commit_reasons (view wrote) m) x → allowed (mapping_reasons (view old) l (CommitMayTakeMemory view old) o n bytes) x
+      reasons : (x : Error) → (x ≡ Error.ForeignMapping → ⊥) → allowed (commit_reasons (view wrote) m) x → allowed (mapping_reasons (view old) l (CommitMayTakeMemory view old) o n bytes true) x
       reasons E.WrapAround own a = inl (earlier Error.WrapAround a.1)
       reasons E.InvalidData own a = inl (earlier Error.InvalidData a.1)
       reasons E.Unsupported own a = inl (earlier Error.Unsupported a.1)
       reasons E.NoAccess own a = inl (earlier Error.NoAccess a.1)
       reasons E.Device own a = tt
-      reasons E.Memory own a = inr (wrote, H.framed.kind, a.1)
+      reasons E.Memory own a = inr (refl, (wrote, H.framed.kind, a.1))
       reasons E.ForeignMapping own a = own refl
       reasons E.ReadOnly own a = a
       reasons E.BeyondDisk own a = absurd a
@@ -294,7 +294,7 @@ mapping_refused l commit_memory old new o n overwrite bytes commit e h = record 
   refusals = allowed_more _ _ weaker e h.refusals;
 }
   where
-    weaker : IsWeaker (filling_reasons old l o n bytes) (mapping_reasons old l commit_memory o n bytes)
+    weaker : IsWeaker (filling_reasons old l o n bytes) (mapping_reasons old l commit_memory o n bytes commit)
     weaker = record { read_only = λ a. a; beyond_disk = λ a. a; range_overflow = λ a. a; cause = λ x a. a; device = λ a. a; memory = λ a. inl a; foreign_mapping = λ a. a }
 
     more : IsChanged o n (partly (filled false bytes)) (values l.at old.place) (values l.at new.place) → IsChanged o n (partly (filled overwrite bytes)) (values l.at old.place) (values l.at new.place)
@@ -306,14 +306,14 @@ mapping_refused l commit_memory old new o n overwrite bytes commit e h = record 
 
 -- all bytes of the source fit: the writing of the first bytes of a range
 module _ {St : Type 0} (l : LayerBelow) (commit_memory : Type 0) (old new : View St) (o : ℕ) (bytes : List ℕ) where
-  first_weaker : IsWeaker (mapping_reasons old l commit_memory o (length bytes) bytes) (first_reasons old l commit_memory o (length bytes))
+  first_weaker : IsWeaker (mapping_reasons old l commit_memory o (length bytes) bytes true) (first_reasons old l commit_memory o (length bytes))
   first_weaker = record {
     read_only = λ a. a;
     beyond_disk = λ a. a;
     range_overflow = λ a. a;
     cause = λ x a. a;
     device = λ a. a;
-    memory = λ a. ⊎_elim (λ f. inl (λ free. f (free, omega arith))) (λ may. inr may) a;
+    memory = λ a. ⊎_elim (λ f. inl (λ free. f (free, omega arith))) (λ may. inr may.1) a;
     foreign_mapping = λ a. a;
   }
 

@@ -109,14 +109,14 @@ IsWrite view old new o bytes result = IsRangeCall view Write o (length bytes) (s
     old new result
 
 -- why a write through a mapping may be refused, once its tests passed
-abbrev pub mapped_refusals : {D St : Type 0} → (D → View St) → FormatAccess D → ℕ → ℕ → List ℕ → Reasons
-mapped_refusals view x o n bytes = mapping_reasons (view (driver x)) (lent_image view (backing x)) (CommitMayTakeMemory view (driver x)) o n bytes
+abbrev pub mapped_refusals : {D St : Type 0} → (D → View St) → FormatAccess D → ℕ → ℕ → List ℕ → Bool → Reasons
+mapped_refusals view x o n bytes commit = mapping_reasons (view (driver x)) (lent_image view (backing x)) (CommitMayTakeMemory view (driver x)) o n bytes commit
 
 -- A write through one mapping, which is prepared for at most n bytes from o on, filled with what fits of the bytes, and committed or
 -- cancelled. It answers how long the mapping was, and whether it had no state.
 pub record IsMappedWrite {D St : Type 0} (view : D → View St) (old new : FormatAccess D) (o n : ℕ) (overwrite : Bool) (bytes : List ℕ) (commit : Bool) (result : Result (ℕ × Bool) Error) : Type 0 where
   pub told : IfOk result (WasPrepared view (disk_value view old) (driver old) o n overwrite)
-  pub call : IsRangeCall view Write o n (settles_by commit) (mapped_refusals view old o n bytes) ⊥ (λ m. m.0)
+  pub call : IsRangeCall view Write o n (settles_by commit) (mapped_refusals view old o n bytes commit) ⊥ (λ m. m.0)
       (λ m. IsChanged o (shown_length commit m) (shown_change overwrite bytes m) (disk_value view old) (disk_value view new))
       (IsChanged o n (partly (filled overwrite bytes)) (disk_value view old) (disk_value view new))
       old new result

@@ -79,9 +79,9 @@ pub record HasFilled {St : Type 0} (l : LayerBelow) (old new : View St) (o n : �
   pub faults : CountsFaults (old.abilities.is_reliable && l.is_reliable) old.fault_count new.fault_count result
   pub refusals : IfErr result (allowed (filling_reasons old l o n bytes))
 
--- the same for the whole of it: also where a commit takes memory
-abbrev pub mapping_reasons : {St : Type 0} → View St → LayerBelow → Type 0 → ℕ → ℕ → List ℕ → Reasons
-mapping_reasons v l commit_memory o n bytes = record (filling_reasons v l o n bytes) { memory = (filling_reasons v l o n bytes).memory ⊎ commit_memory }
+-- the same for the whole of it: also where it is committed, and a commit takes memory
+abbrev pub mapping_reasons : {St : Type 0} → View St → LayerBelow → Type 0 → ℕ → ℕ → List ℕ → Bool → Reasons
+mapping_reasons v l commit_memory o n bytes commit = record (filling_reasons v l o n bytes) { memory = (filling_reasons v l o n bytes).memory ⊎ ((commit ≡ true) × commit_memory) }
 
 -- which operations the writing through a mapping leaves no new cause for: all, once it is committed
 abbrev pub settles_by : Bool → Operation → Type 0
@@ -107,7 +107,7 @@ pub record HasMapped {St : Type 0} (l : LayerBelow) (commit_memory : Type 0) (ol
   pub framed : IsFramed old new
   pub spent : new.pending ≡ None
   pub faults : CountsFaults (old.abilities.is_reliable && l.is_reliable) old.fault_count new.fault_count result
-  pub refusals : IfErr result (allowed (mapping_reasons old l commit_memory o n bytes))
+  pub refusals : IfErr result (allowed (mapping_reasons old l commit_memory o n bytes commit))
 
 -- What a driver does in the writing of the first bytes of a range: as many as it answers are written, or, refused, each place of
 -- the range has its old byte or the new one.
