@@ -1,0 +1,4 @@
+//! A copy-on-write driver: a disk in blocks, each of which leads to the layer below until it is written.
+#![tactic(auto)]
+
+pub mod table;
