@@ -1,10 +1,8 @@
-use Rattle.std.specs.Prelude.{◌≡◌, ℕ, ◌+◌, ◌-◌, ◌^◌, ◌<◌, ◌≤◌, ◌==◌, List, sum_by, Option, Some, None, nat_lt, if◌then◌else◌, Bool, true, false}
+use Rattle.std.specs.Prelude.{◌≡◌, ℕ, ◌+◌, ◌<◌, ◌≤◌, List, sum_by, Option, Some, None, nat_lt, if◌then◌else◌, Bool, true, false}
+use Rattle.imago_cow.specs.declared.free.FreeBlocks.{FreeBlocks}
 use Rattle.imago_cow.specs.declared.table.GuestBlock.{GuestBlock}
 use Rattle.imago_cow.specs.declared.table.GuestBlock.TheVariants as G
-
--- 1 where the two numbers are one, else 0
-abbrev pub one_if_same : ℕ → ℕ → ℕ
-one_if_same k j = if k == j then 1 else 0
+use Rattle.imago_cow.specs.Free.{one_if_same, times_free}
 
 -- 1 where the guest block is in data block j, else 0
 abbrev pub names : ℕ → GuestBlock → ℕ
@@ -40,16 +38,12 @@ held_count (Some k) = 1
 abbrev pub times_used : ℕ → List GuestBlock → Option ℕ → ℕ
 times_used j entries held = times_named j entries + times_held j held
 
--- how often data block j is among the free ones, each of which is kept as its distance from the largest number
-abbrev pub times_free : ℕ → List ℕ → ℕ
-times_free j free = sum_by (λ x. one_if_same (x + j) (2 ^ 64 - 1)) free
-
 -- 1 below the count, else 0
 abbrev pub one_below : ℕ → ℕ → ℕ
 one_below j count = if nat_lt j count then 1 else 0
 
 -- Each data block below the count is exactly one of these: free, named by one entry, held. No other number is any of them.
-abbrev pub IsEachOnce : List ℕ → List GuestBlock → Option ℕ → ℕ → Type 0
+abbrev pub IsEachOnce : FreeBlocks → List GuestBlock → Option ℕ → ℕ → Type 0
 IsEachOnce free entries held count = (j : ℕ) → times_free j free + times_used j entries held ≡ one_below j count
 
 -- The lowest number that is neither named nor held: that of a free data block, or else the count.

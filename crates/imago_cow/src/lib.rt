@@ -1,4 +1,5 @@
 //! A copy-on-write driver: a disk in blocks, each of which leads to the layer below until it is written.
 #![tactic(auto)]
 
+mod free;
 pub mod table;

@@ -1,12 +1,11 @@
 //! The table of a copy-on-write disk: what each guest block is, and which data blocks are free.
 ghost use Rattle.std.specs.Prelude.{◌≡◌, ◌≢◌, ℕ, ◌+◌, ◌-◌, ◌^◌, ◌<◌, ◌≤◌, ◌++◌, ◌∷◌, [], length, take, replicate, max, Some, None, IfOk, IfErr, OnOk, OnErr, IsSome, slice_get, slice_set};
-ghost use Rattle.std.specs.BinaryHeap.{IsHeap, IsHeap-prop, heap_items, heap_len, heap_capacity};
-ghost use Rattle.std.specs.Ordering.{nat_cmp};
+ghost use Rattle.imago_cow.specs.Free.{free_count, free_room};
 ghost use Rattle.imago_cow.specs.Table.{IsEachOnce, IsLowestUnused, named_count, held_count, names_any, without_data};
 
+use crate::free::FreeBlocks;
 use imago_storage::error::Error;
 use std::alloc::Global;
-use std::collections::BinaryHeap;
 
 /// What a guest block is.
 #[derive(Clone, Copy, Debug, PartialEq, Eq)]
@@ -28,16 +27,14 @@ pub enum GuestBlock {
 #[derive(Drop)]
 pub struct Table {
     entries: Vec<GuestBlock>,
-    /// The free ones, each as its distance from `u64::MAX`, so that the lowest comes first.
-    free: BinaryHeap<u64>,
+    free: FreeBlocks,
     count: u64,
     used: u64,
     held: Option<u64>,
-    ghost lowest_first: { IsHeap nat_cmp (heap_items free) } by { IsHeap-prop nat_cmp (heap_items free) },
-    ghost each_once: { IsEachOnce (heap_items free) entries.items held count },
-    ghost all_counted: { heap_len free + used + held_count held ≡ count },
+    ghost each_once: { IsEachOnce free entries.items held count },
+    ghost all_counted: { free_count free + used + held_count held ≡ count },
     ghost used_counted: { used ≡ named_count entries.items },
-    ghost has_room: { count ≤ heap_capacity free },
+    ghost has_room: { count ≤ free_room free },
 }
 
 impl Table {
@@ -55,7 +52,7 @@ impl Table {
         };
         Ok(Table {
             entries,
-            free: BinaryHeap::new(alloc),
+            free: FreeBlocks::new(alloc),
             count: 0,
             used: 0,
             held: None,
@@ -102,8 +99,8 @@ impl Table {
     pub fn next(&self) -> u64
         ensures { IsLowestUnused (entries_of self.now) (held_of self.now) (count_of self.now) result }
     {
-        match self.free.peek() {
-            Some(distance) => u64::MAX - *distance,
+        match self.free.lowest() {
+            Some(block) => block,
             None => self.count,
         }
     }
@@ -116,6 +113,7 @@ impl Table {
             (λ j. IsLowestUnused (entries_of self.old) None (count_of self.old) j) }
         ensures held { IfOk result (λ j. held_of self.new ≡ Some j) }
         ensures count { IfOk result (λ j. count_of self.new ≡ max (count_of self.old) (j + 1)) }
+        ensures added { count_of self.new ≤ max (count_of self.old) (named_count (entries_of self.old) + 1) }
         ensures entries { entries_of self.new ≡ entries_of self.old }
         ensures room { KeepsRoom self.old self.new }
         ensures unchanged { OnErr result (IsUnchanged self.old self.new) }
@@ -123,8 +121,7 @@ impl Table {
             (IsLowestUnused (entries_of self.old) None (count_of self.old) (count_of self.old)) }
         ensures memory { IfErr result (λ e. e ≡ Error.Memory) }
     {
-        if let Some(distance) = self.free.pop() {
-            let block = u64::MAX - distance;
+        if let Some(block) = self.free.take_lowest() {
             self.held = Some(block);
             return Ok(block);
         }
@@ -132,9 +129,7 @@ impl Table {
         let Some(count) = block.checked_add(1) else {
             return Err(Error::Memory);
         };
-        let Ok(()) = self.free.reserve(count as usize) else {
-            return Err(Error::Memory);
-        };
+        self.free.reserve(count as usize)?;
         self.count = count;
         self.held = Some(block);
         Ok(block)
@@ -149,7 +144,7 @@ impl Table {
     {
         if let Some(block) = self.held {
             self.held = None;
-            let _ = self.free.push(u64::MAX - block);
+            self.free.put(block);
         }
     }
 
@@ -184,7 +179,7 @@ impl Table {
         self.entries[index] = empty_block(zero);
         if let GuestBlock::Data(block) = old {
             self.used -= 1;
-            let _ = self.free.push(u64::MAX - block);
+            self.free.put(block);
         }
     }
 
@@ -263,7 +258,7 @@ impl Table {
     {
         if let Some(GuestBlock::Data(block)) = self.entries.pop() {
             self.used -= 1;
-            let _ = self.free.push(u64::MAX - block);
+            self.free.put(block);
         }
     }
 }
