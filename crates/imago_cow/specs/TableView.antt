@@ -1,5 +1,6 @@
 use Rattle.std.specs.Prelude.{◌≡◌, ℕ, ◌≤◌, List, Option}
 use Rattle.std.specs.Vec.{vec_capacity}
+use Rattle.imago_cow.specs.declared.free.FreeBlocks.{FreeBlocks}
 use Rattle.imago_cow.specs.declared.table.GuestBlock.{GuestBlock}
 use Rattle.imago_cow.specs.declared.table.Table.{Table}
 
@@ -14,6 +15,10 @@ held_of t = t.held
 -- how many data blocks there are, free ones too
 abbrev pub count_of : Table → ℕ
 count_of t = t.count
+
+-- the data blocks that are free
+abbrev pub free_of : Table → FreeBlocks
+free_of t = t.free
 
 -- how many entries there is room for
 abbrev pub room_of : Table → ℕ

@@ -2,4 +2,5 @@
 #![tactic(auto)]
 
 mod free;
+pub mod laws;
 pub mod table;
