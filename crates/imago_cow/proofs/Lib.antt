@@ -1,0 +1,2 @@
+pub mod FreeSteps
+pub mod TableSteps

@@ -1,0 +1,4 @@
+pub mod Free
+pub mod Table
+pub mod TableView
+pub mod TableLaws

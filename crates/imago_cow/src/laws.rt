@@ -1,0 +1,31 @@
+//! What holds of every table. The functions do nothing; their contracts are proved.
+ghost use Rattle.std.specs.Prelude.{◌≡◌, ℕ, ◌+◌, ◌<◌, Some, slice_get};
+ghost use Rattle.imago_cow.specs.declared.table.GuestBlock.{GuestBlock};
+ghost use Rattle.imago_cow.specs.Table.{named_count, held_count, times_used, one_below};
+ghost use Rattle.imago_cow.specs.Free.{times_free, free_count};
+ghost use Rattle.imago_cow.specs.TableView.{entries_of, held_of, count_of, free_of};
+
+use crate::table::Table;
+
+/// Each data block is free, or named by exactly one entry, or held; one that is not there is none of these.
+pub fn each_data_block_is_used_once(table: &Table)
+    ensures once { (j : ℕ)
+        → times_free j (free_of table.now) + times_used j (entries_of table.now) (held_of table.now)
+        ≡ one_below j (count_of table.now) }
+    ensures named_once { (i k j : ℕ)
+        → slice_get (entries_of table.now) i ≡ Some (GuestBlock.Data j)
+        → slice_get (entries_of table.now) k ≡ Some (GuestBlock.Data j)
+        → i ≡ k }
+    ensures named_below { (i j : ℕ) → slice_get (entries_of table.now) i ≡ Some (GuestBlock.Data j) → j < count_of table.now }
+    ensures held_below { (j : ℕ) → held_of table.now ≡ Some j → j < count_of table.now }
+    ensures held_apart { (i j : ℕ)
+        → held_of table.now ≡ Some j
+        → slice_get (entries_of table.now) i ≡ Some (GuestBlock.Data j)
+        → ⊥ }
+{}
+
+/// The free ones, the named ones and the held one are all.
+pub fn data_blocks_are_counted(table: &Table)
+    ensures { free_count (free_of table.now) + named_count (entries_of table.now) + held_count (held_of table.now)
+        ≡ count_of table.now }
+{}
