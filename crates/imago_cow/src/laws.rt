@@ -1,7 +1,8 @@
 //! What holds of every table. The functions do nothing; their contracts are proved.
-ghost use Rattle.std.specs.Prelude.{◌≡◌, ℕ, ◌+◌, ◌<◌, Some, slice_get};
+ghost use Rattle.std.specs.Prelude.{◌≡◌, ℕ, ◌+◌, ◌<◌, Some, slice_get, slice_set, None, false};
 ghost use Rattle.imago_cow.specs.declared.table.GuestBlock.{GuestBlock};
-ghost use Rattle.imago_cow.specs.Table.{named_count, held_count, times_used, one_below};
+ghost use Rattle.imago_cow.specs.Worked.{two_named, one_named};
+ghost use Rattle.imago_cow.specs.Table.{IsLowestUnused, without_data, named_count, held_count, times_used, one_below};
 ghost use Rattle.imago_cow.specs.Free.{times_free, free_count};
 ghost use Rattle.imago_cow.specs.TableView.{entries_of, held_of, count_of, free_of};
 
@@ -28,4 +29,14 @@ pub fn each_data_block_is_used_once(table: &Table)
 pub fn data_blocks_are_counted(table: &Table)
     ensures { free_count (free_of table.now) + named_count (entries_of table.now) + held_count (held_of table.now)
         ≡ count_of table.now }
+{}
+
+/// Worked by hand: of three data blocks, two of which are named, the third is the lowest unused one. Where it is held, that
+/// is a fourth, which isn't there yet. Once the guest block in the first one is cleared, it is the first.
+pub fn lowest_unused_ones()
+    ensures free { IsLowestUnused two_named None 3 2 }
+    ensures new { IsLowestUnused two_named (Some 2) 3 3 }
+    ensures cleared { slice_set two_named 3 (without_data false) ≡ one_named }
+    ensures first { IsLowestUnused one_named (Some 2) 3 0 }
+    ensures named { named_count two_named ≡ 2 }
 {}

@@ -1,5 +1,5 @@
 //! The table of a copy-on-write disk: what each guest block is, and which data blocks are free.
-ghost use Rattle.std.specs.Prelude.{◌≡◌, ◌≢◌, ℕ, ◌+◌, ◌-◌, ◌^◌, ◌<◌, ◌≤◌, ◌++◌, ◌∷◌, [], length, take, replicate, max, Some, None, IfOk, IfErr, OnOk, OnErr, IsSome, slice_get, slice_set};
+ghost use Rattle.std.specs.Prelude.{◌≡◌, ◌≢◌, ℕ, ◌+◌, ◌-◌, ◌^◌, ◌<◌, ◌≤◌, ◌++◌, ◌∷◌, [], length, take, replicate, max, Some, None, IfOk, IfErr, OnOk, OnErr, IsOk, IsSome, slice_get, slice_set};
 ghost use Rattle.imago_cow.specs.Free.{free_count, free_room};
 ghost use Rattle.imago_cow.specs.Table.{IsEachOnce, IsLowestUnused, named_count, held_count, names_any, without_data};
 
@@ -97,7 +97,9 @@ impl Table {
 
     /// The data block that [`Table::take`] would give: the lowest free one, or else a new one behind all others.
     pub fn next(&self) -> u64
-        ensures { IsLowestUnused (entries_of self.now) (held_of self.now) (count_of self.now) result }
+        ensures lowest { IsLowestUnused (entries_of self.now) (held_of self.now) (count_of self.now) result }
+        ensures none_free { result ≡ count_of self.now
+            → count_of self.now ≡ named_count (entries_of self.now) + held_count (held_of self.now) }
     {
         match self.free.lowest() {
             Some(block) => block,
@@ -190,6 +192,7 @@ impl Table {
         ensures count { count_of self.new ≡ count_of self.old }
         ensures keeps { KeepsRoom self.old self.new }
         ensures room { OnOk result (length (entries_of self.old) + additional ≤ room_of self.new) }
+        ensures succeeds { length (entries_of self.old) + additional ≤ room_of self.old → IsOk result }
         ensures memory { IfErr result (λ e. e ≡ Error.Memory) }
     {
         match self.entries.reserve(additional) {
