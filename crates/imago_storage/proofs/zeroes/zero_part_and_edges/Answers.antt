@@ -1,4 +1,4 @@
-use Rattle.std.proofs.Common.{◌≡◌, ◌+◌, ◌-◌, ◌≤◌, length, arith, inl, refl}
+use Rattle.std.proofs.Common.{◌+◌, ◌-◌, ◌≤◌, length, arith, inl, refl}
 use Rattle.std.proofs.lemmas.Result.{err_from_is_err_and}
 use Rattle.imago_storage.specs.Features.{len_align}
 use Rattle.imago_storage.proofs.Outcomes.{RequestMayRunOut_more, ZeroesMayRunOut_more, same_refusal}
