@@ -199,10 +199,7 @@ impl<S: Storage> FormatDriverBuilderBase<S> {
         let Some(name) = set.get_filename() else {
             return Ok(opts);
         };
-        match String::from_str(alloc, name) {
-            Ok(name) => Ok(opts.filename(name)),
-            Err(_) => Err(Error::Memory),
-        }
+        Ok(opts.filename(String::from_str(alloc, name)?))
     }
 
     /// The storage of the image: the one that was handed in, or the one that the gate opens for the path. What the gate refuses

@@ -168,10 +168,8 @@ impl<S: Storage> FormatDriverInstance for Raw<S> {
 
     fn collect_storage_dependencies(&self, alloc: Global) -> Result<Vec<&S>, Error> {
         let mut storages = Vec::new(alloc);
-        match storages.push(&self.storage) {
-            Ok(()) => Ok(storages),
-            Err(_) => Err(Error::Memory),
-        }
+        storages.push(&self.storage)?;
+        Ok(storages)
     }
 
     fn storage_count(&self) -> usize {

@@ -6,5 +6,6 @@ pub mod ZeroPieces
 pub mod Padding
 pub mod Writes
 pub mod Blocks
+pub mod ReadParts
 pub mod ZeroRanges
 pub mod ZeroWraps

@@ -1,7 +1,9 @@
 //! What a call is refused for.
 ghost use Rattle.std.specs.Prelude.{◌≡◌};
 ghost use Rattle.imago_storage.specs.Error.{kind_of};
+ghost use Rattle.imago_storage.specs.declared.error.Error.TheVariants.{Memory};
 
+use std::alloc::{AllocError, AllocFailed};
 use thiserror::Error;
 
 /// A refusal. Each call says which of these it may answer, for which cause, and what it leaves.
@@ -43,6 +45,24 @@ pub enum Error {
     /// No storage of that name is left.
     #[error("there is no storage of that name")]
     NotFound,
+}
+
+/// Memory that is refused is [`Error::Memory`].
+impl From<AllocError> for Error {
+    ghost from_gives = { λ _ e. e ≡ Memory };
+
+    fn from(_refused: AllocError) -> Error {
+        Error::Memory
+    }
+}
+
+/// Room that is refused for a value is [`Error::Memory`]. The value is let go.
+impl<T: Drop> From<AllocFailed<T>> for Error {
+    ghost from_gives = { λ _ e. e ≡ Memory };
+
+    fn from(_refused: AllocFailed<T>) -> Error {
+        Error::Memory
+    }
 }
 
 /// The kinds of `std::io::ErrorKind` that the refusals have.

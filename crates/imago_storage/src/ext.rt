@@ -18,6 +18,10 @@ pub trait StorageExt: Storage {
     ///
     /// [`Error::WrapAround`] is a padded request that ends past `u64::MAX`; [`Error::Device`] is passed on;
     /// [`Error::Memory`] is a refused bounce buffer, or passed on. Refused, the buffer is unspecified.
+    ///
+    /// A request that isn't aligned reads its first and last block alone by way of a buffer of one block; whole blocks between are
+    /// read straight into the caller's buffer, in one call. One that is padded to one block or two is read at once, into a buffer of that
+    /// length.
     fn read(&self, alloc: Global, buf: &mut [u8], offset: u64) -> Result<(), Error>
         ensures { IsRangeRead (Self.features self.now) (Self.bytes self.now) offset (length buf.old) buf.new result };
 

@@ -44,10 +44,8 @@ fn grow(bytes: &mut Vec<u8>, len: u64) -> Result<(), Error>
     if len <= bytes.len() as u64 {
         return Ok(());
     }
-    match bytes.resize(len as usize, 0) {
-        Ok(()) => Ok(()),
-        Err(_) => Err(Error::Memory),
-    }
+    bytes.resize(len as usize, 0)?;
+    Ok(())
 }
 
 /// Puts the source at its offset, with zeroes where offsets are skipped.
@@ -262,10 +260,7 @@ impl Storage for MemStorage {
         ensures same { IfOk result (λ path. string_bytes path ≡ relative.now) }
         ensures only { IfErr result (λ e. e ≡ Error.Memory) }
     {
-        match String::from_str(alloc, relative) {
-            Ok(path) => Ok(path),
-            Err(_) => Err(Error::Memory),
-        }
+        Ok(String::from_str(alloc, relative)?)
     }
 
     fn get_filename(&self) -> Option<&str> {

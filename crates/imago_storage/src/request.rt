@@ -1,8 +1,8 @@
 //! Reads, writes and discards of any range.
-ghost use Rattle.std.specs.Prelude.{◌≡◌, ◌+◌, ◌-◌, ◌<◌, ◌≤◌, ◌*◌, length, IfErr, IsErrOf};
+ghost use Rattle.std.specs.Prelude.{◌≡◌, ◌+◌, ◌-◌, ◌<◌, ◌≤◌, ◌*◌, length, false, OnOk, IfErr, IsErrOf};
 ghost use Rattle.std.specs.Int.{next_multiple_of};
 ghost use Rattle.imago_storage.specs.Blocks.{IsInParts, IsInBlocks};
-ghost use Rattle.imago_storage.specs.Bytes.{splice, zero_extended, WriteOutcome};
+ghost use Rattle.imago_storage.specs.Bytes.{splice, zero_extended, WriteOutcome, IsReadAt};
 ghost use Rattle.imago_storage.specs.Calls.{IsRangeRead, IsRangeWrite, IsRangeDiscard};
 ghost use Rattle.imago_storage.specs.Error.{IsDeviceOrMemory};
 ghost use Rattle.imago_storage.specs.Faults.{CountsFaults};
@@ -15,7 +15,11 @@ use crate::error::Error;
 use crate::storage::{Storage, zero_buffer};
 use std::alloc::Global;
 
-/// Reads a range: as it is where it is aligned, and else by way of a buffer of the padded range.
+/// How many blocks the padded range of a read may have to be read by way of one buffer.
+const BOUNCED_BLOCKS: u64 = 2;
+
+/// Reads a range: as it is where it is aligned, by way of a buffer of the padded range where that is one block or two,
+/// and else in up to three parts.
 #[tactic(auto, using(std::proofs::lemmas::List::places))]
 pub(crate) fn read_any<S: Storage>(
     storage: &S,
@@ -34,9 +38,78 @@ pub(crate) fn read_any<S: Storage>(
     if start == offset && len == buf.len() as u64 {
         return storage.pure_readv(buf, offset);
     }
-    let mut bounce = zero_buffer(alloc, len as usize)?;
-    storage.pure_readv(&mut bounce, start)?;
+    let align = length_align(storage);
+    if len <= align.saturating_mul(BOUNCED_BLOCKS) {
+        let mut bounce = zero_buffer(alloc, len as usize)?;
+        return read_within(storage, &mut bounce, buf, start, (offset - start) as usize);
+    }
+    // one block serves the first part and the last one
+    let mut block = zero_buffer(alloc, align as usize)?;
+    read_parts(storage, &mut block, buf, offset, start, len)
+}
+
+/// Reads three blocks or more of which the first or the last one isn't read whole: a part of the first block, and then
+/// from a block's start on.
+fn read_parts<S: Storage>(
+    storage: &S,
+    block: &mut [u8],
+    buf: &mut [u8],
+    offset: u64,
+    start: u64,
+    len: u64,
+) -> Result<(), Error>
+    requires parts { IsInParts (S.features storage.now) (length block.old) offset (length buf.old) start len }
+    requires long { 2 * length block.old < len }
+    ensures bytes { OnOk result (IsReadAt (S.bytes storage.now) offset buf.new) }
+    ensures only { IfErr result IsDeviceOrMemory }
+    ensures device { IsErrOf result Error.Device → (S.features storage.now).is_reliable ≡ false }
+{
+    let align = block.len();
     let head = (offset - start) as usize;
+    if head == 0 {
+        return read_blocks(storage, block, buf, offset);
+    }
+    let (front, rest) = buf.split_at_mut(align - head);
+    read_within(storage, block, front, start, head)?;
+    read_blocks(storage, block, rest, start + align as u64)
+}
+
+/// Reads from a block's start on: whole blocks straight into the buffer, then a part of the last one.
+fn read_blocks<S: Storage>(
+    storage: &S,
+    block: &mut [u8],
+    buf: &mut [u8],
+    start: u64,
+) -> Result<(), Error>
+    requires { IsInBlocks (S.features storage.now) (length block.old) start (length buf.old) }
+    ensures bytes { OnOk result (IsReadAt (S.bytes storage.now) start buf.new) }
+    ensures only { IfErr result IsDeviceOrMemory }
+    ensures device { IsErrOf result Error.Device → (S.features storage.now).is_reliable ≡ false }
+{
+    let whole = whole_blocks(buf.len(), block.len());
+    if whole == buf.len() {
+        return storage.pure_readv(buf, start);
+    }
+    let (blocks, last) = buf.split_at_mut(whole);
+    storage.pure_readv(blocks, start)?;
+    read_within(storage, block, last, start + whole as u64, 0)
+}
+
+/// Reads a part of an aligned range, by way of a buffer of that range.
+fn read_within<S: Storage>(
+    storage: &S,
+    bounce: &mut [u8],
+    buf: &mut [u8],
+    start: u64,
+    head: usize,
+) -> Result<(), Error>
+    requires aligned { IsAlignedRequest (S.features storage.now) start (length bounce.old) }
+    requires fits { head + length buf.old ≤ length bounce.old }
+    ensures bytes { OnOk result (IsReadAt (S.bytes storage.now) (start + head) buf.new) }
+    ensures only { IfErr result IsDeviceOrMemory }
+    ensures device { IsErrOf result Error.Device → (S.features storage.now).is_reliable ≡ false }
+{
+    storage.pure_readv(bounce, start)?;
     buf.copy_from_slice(&bounce[head..head + buf.len()]);
     Ok(())
 }

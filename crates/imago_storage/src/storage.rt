@@ -34,10 +34,7 @@ pub(crate) fn zero_buffer(alloc: Global, count: usize) -> Result<Vec<u8>, Error>
     ensures zeroes { IfOk result (λ v. v.items ≡ replicate count 0) }
     ensures memory { IfErr result (λ e. e ≡ Error.Memory) }
 {
-    match vec![in alloc; 0u8; count] {
-        Ok(zeroes) => Ok(zeroes),
-        Err(_) => Err(Error::Memory),
-    }
+    Ok(vec![in alloc; 0u8; count]?)
 }
 
 /// A storage: bytes at offsets from 0 up to its length, which reads as zeroes past it.
