@@ -23,3 +23,7 @@ storages_of_extents v = v.storages.items
 -- whether these are opened as direct
 abbrev pub opens_direct : {S : Type 0} {g : _} {h : _} → Vmdk S g h → Bool
 opens_direct v = v.direct
+
+-- whether keys of its descriptor that aren't known are accepted
+abbrev pub takes_unknown_keys : {S : Type 0} {g : _} {h : _} → Vmdk S g h → Bool
+takes_unknown_keys v = v.accepts_unknown_keys

@@ -4,6 +4,7 @@ pub mod Reading
 pub mod Probe
 pub mod Vmdk
 pub mod Starts
+pub mod Disk
 pub mod Opened
 pub mod VmdkLaws
 pub mod Image

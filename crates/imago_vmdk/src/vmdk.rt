@@ -1,6 +1,7 @@
 //! The driver of VMDK images.
 ghost use Rattle.std.specs.Prelude.{◌≡◌, ℕ, ◌+◌, ◌*◌, ◌^◌, ◌-◌, ◌<◌, ◌≤◌, ◌⊎◌, ◌++◌, length, map, slice_index_or, IfOk, IfErr, OnOk, OnErr, IsOk, IsErrOf, Ok, Err, min, false, true, [], ◌∷◌, List, MatchOption};
 ghost use Rattle.std.specs.List.{sum_by};
+ghost use Rattle.std.specs.String.{string_bytes};
 ghost use Rattle.imago_storage.specs.Error.{IsExtRefusal};
 ghost use Rattle.imago_storage.specs.Features.{MayRunOut};
 ghost use Rattle.imago_storage.specs.Padding.{Wraps};
@@ -9,6 +10,7 @@ ghost use Rattle.imago_drivers.specs.declared.mapping.ShallowMapping.TheVariants
 ghost use Rattle.imago_drivers.specs.Mapping.{Names};
 ghost use Rattle.imago_drivers.specs.Place.{Refused};
 ghost use Rattle.imago_drivers.specs.Commit.{IsCommit, IsCancel};
+ghost use Rattle.imago_vmdk.specs.Line.{extent_with};
 ghost use Rattle.imago_vmdk.specs.Reading.{size_of as extent_size, is_length as may_be_long, reading_of};
 ghost use Rattle.imago_vmdk.specs.Probe.{probe_of};
 ghost use Rattle.imago_vmdk.specs.Vmdk.{extent_place, extent_rest, places_from, rest_from, storages_in, vmdk_count, vmdk_view, probe_refusals};
@@ -55,6 +57,9 @@ pub struct Vmdk<S: Storage> {
     storages: Vec<S>,
     /// Whether these are opened as direct.
     direct: bool,
+    /// Whether keys of the descriptor that aren't known are accepted.
+    accepts_unknown_keys: bool,
+    ghost read: { reading_of accepts_unknown_keys (S.bytes descriptor) ≡ Ok (map (extent_with string_bytes) extents.items, size) },
     ghost sized: { size ≡ sum_by extent_size extents.items },
     ghost fits: { size < 2 ^ 64 },
     ghost started: { starts.items ≡ starts_from 0 1 extents.items },
@@ -215,6 +220,17 @@ fn open_storage<S: Storage, G: ImplicitOpenGate<S>>(
     gate.open_storage(alloc, opts)
 }
 
+/// Puts a storage behind the others. Refused, it is [`Error::Memory`].
+fn append<S: Storage>(storages: &mut Vec<S>, storage: S) -> Result<(), Error>
+    ensures items { OnOk result (storages.new.items ≡ storages.old.items ++ storage ∷ []) }
+    ensures memory { IfErr result (λ e. e ≡ Error.Memory) }
+{
+    match storages.push(storage) {
+        Ok(()) => Ok(()),
+        Err(_) => Err(Error::Memory),
+    }
+}
+
 /// Opens an extent, and puts its storage behind the others if it stands in one.
 fn open_extent<S: Storage, G: ImplicitOpenGate<S>>(
     alloc: Global,
@@ -224,8 +240,8 @@ fn open_extent<S: Storage, G: ImplicitOpenGate<S>>(
     gate: &mut G,
     storages: &mut Vec<S>,
 ) -> Result<(), Error>
-    ensures opened { IsOk result → (own : List S) × IsExtentOpened G.opened direct extent.now gate.old gate.new own
-        × (storages.new.items ≡ storages.old.items ++ own) }
+    ensures opened { OnOk result ((own : List S) × IsExtentOpened G.opened direct extent.now gate.old gate.new own
+        × (storages.new.items ≡ storages.old.items ++ own)) }
     ensures refused { IfErr result (IsExtentRefused G.opened direct (S.features descriptor.now) extent.now gate.old gate.new) }
 {
     let Extent::Flat { name, offset, .. } = extent else {
@@ -235,10 +251,8 @@ fn open_extent<S: Storage, G: ImplicitOpenGate<S>>(
         return Err(Error::InvalidData);
     }
     let storage = open_storage(alloc, descriptor, name, direct, gate)?;
-    match storages.push(storage) {
-        Ok(()) => Ok(()),
-        Err(_) => Err(Error::Memory),
-    }
+    append(storages, storage)?;
+    Ok(())
 }
 
 /// Opens the storages of extents, in order.
@@ -351,19 +365,19 @@ impl<S: Storage> Vmdk<S> {
         alloc: Global,
         descriptor: S,
         direct: bool,
-        accept_unknown_keys: bool,
+        accepts_unknown_keys: bool,
     ) -> Result<Self, Error>
         ensures opened { IfOk result
             (λ v. (descriptor_in v ≡ «descriptor») × (is_opened v ≡ false) × (opens_direct v ≡ direct) ×
-            (reading_of accept_unknown_keys (S.bytes descriptor) ≡ Ok (extents_in v, sum_by extent_size (extents_in v)))) }
+            (reading_of accepts_unknown_keys (S.bytes descriptor) ≡ Ok (extents_in v, sum_by extent_size (extents_in v)))) }
         ensures refused { IfErr result
-            (λ e. (reading_of accept_unknown_keys (S.bytes descriptor) ≡ Err e) ⊎ IsExtRefusal e) }
+            (λ e. (reading_of accepts_unknown_keys (S.bytes descriptor) ≡ Err e) ⊎ IsExtRefusal e) }
         ensures device { IsErrOf result Error.Device → (S.features descriptor).is_reliable ≡ false }
     {
         let Some(text) = text(alloc, &descriptor)? else {
             return Err(Error::InvalidData);
         };
-        let Descriptor { extents, size } = descriptor::read(alloc, accept_unknown_keys, &text)?;
+        let Descriptor { extents, size } = descriptor::read(alloc, accepts_unknown_keys, &text)?;
         let starts = starts_of(alloc, &extents)?;
         Ok(Vmdk {
             descriptor,
@@ -373,6 +387,7 @@ impl<S: Storage> Vmdk<S> {
             opened: false,
             storages: Vec::new(alloc),
             direct,
+            accepts_unknown_keys,
         })
     }
 }
