@@ -8,18 +8,19 @@ ghost use Rattle.imago_vmdk.specs.declared.line.Line.{Line};
 ghost use Rattle.imago_vmdk.specs.Line.{verdict_of};
 ghost use Rattle.imago_vmdk.specs.Reading.{lines_say, reading_of};
 ghost use Rattle.imago_vmdk.specs.Image.{is_opened, takes_unknown_keys};
-ghost use Rattle.imago_vmdk.specs.Disk.{described_place};
+ghost use Rattle.imago_vmdk.specs.Disk.{described_value};
+ghost use Rattle.imago_drivers.specs.Place.{Value, shown};
 
 use crate::vmdk::Vmdk;
 use imago_drivers::drivers::FormatDriverInstance;
 use imago_storage::storage::Storage;
 
-/// What stands on the disk of an image whose extents are opened follows from the bytes of its storages: those of the descriptor
-/// say which byte of which storage an offset has.
+/// What is read of an image whose extents are opened follows from the bytes of its storages, whatever lies below: those of the
+/// descriptor say which byte of which storage an offset has.
 pub fn disk_of_bytes<S: Storage>(image: &Vmdk<S>)
     requires { is_opened image.now ≡ true }
-    ensures { (p : ℕ) → (⟦<Vmdk<S> as FormatDriverInstance>⟧.view image.now).place p
-        ≡ described_place (takes_unknown_keys image.now) (⟦<Vmdk<S> as FormatDriverInstance>⟧.view image.now).stores.bytes p }
+    ensures { (below : ℕ → Value) (p : ℕ) → shown below ((⟦<Vmdk<S> as FormatDriverInstance>⟧.view image.now).place p)
+        ≡ described_value (takes_unknown_keys image.now) (⟦<Vmdk<S> as FormatDriverInstance>⟧.view image.now).stores.bytes p }
 {
     let _ = image;
 }

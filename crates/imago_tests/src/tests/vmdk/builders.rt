@@ -25,6 +25,7 @@ struct Case {
 }
 
 const TWO: &[u8] = b"version=1\nRW 1 FLAT \"a\"\nRDONLY 1 FLAT \"b\"\n";
+
 const ENCODED: &[u8] = b"version=1\nencoding=\"UTF-8\"\nRW 1 ZERO\n";
 
 /// A case of that text, without any settings.
@@ -91,7 +92,11 @@ const CASES: [Case; 13] = [
         Err(Error::NotFound),
         &["b", "c"],
     ),
-    plain(b"version=1\nRW x FLAT \"b\"\n", Err(Error::InvalidData), &[]),
+    plain(
+        b"version=1\nRW x FLAT \"b\"\n",
+        Err(Error::InvalidData),
+        &[],
+    ),
     plain(ENCODED, Err(Error::InvalidData), &[]),
     accepting(ENCODED, Ok(512)),
     accepting(b"version=1\nRW=1\nfoo=1\n", Ok(0)),
@@ -129,7 +134,7 @@ fn builder(alloc: Global, case: &Case) -> Result<VmdkOpenBuilder<MemStorage>, Er
 }
 
 /// The gate of a case.
-fn gate(alloc: Global, case: &Case) -> Result<Gate, Error> {
+fn make_gate(alloc: Global, case: &Case) -> Result<Gate, Error> {
     let mut gate = NamedGate::new(alloc);
     add(alloc, &mut gate, "d", storage_of(alloc, case.text)?)?;
     add(alloc, &mut gate, "a", storage_of(alloc, b"a")?)?;
@@ -140,8 +145,8 @@ fn gate(alloc: Global, case: &Case) -> Result<Gate, Error> {
 /// The gate was asked for these storages, none of which is to be written.
 fn are_asked(rt: &impl Abort, gate: &Gate, case: &Case) {
     assert!(rt; gate.asked().len() == case.asked.len());
-    for (asked, name) in gate.asked().iter().zip(case.asked.iter()) {
-        assert!(rt; asked.filename.as_deref() == Some(*name));
+    for (asked, path) in gate.asked().iter().zip(case.asked.iter()) {
+        assert!(rt; asked.filename.as_deref() == Some(*path));
         assert!(rt; !asked.writable);
         assert!(rt; asked.direct == case.with_options);
     }
@@ -149,7 +154,7 @@ fn are_asked(rt: &impl Abort, gate: &Gate, case: &Case) {
 
 /// What opening answers, and the gate then.
 fn open(alloc: Global, case: &Case) -> Result<(Result<u64, Error>, Gate), Error> {
-    let mut gate = gate(alloc, case)?;
+    let mut gate = make_gate(alloc, case)?;
     match builder(alloc, case)?.open(alloc, &mut gate) {
         Ok(image) => Ok((Ok(image.size()), gate)),
         Err(Error::Memory) => Err(Error::Memory),

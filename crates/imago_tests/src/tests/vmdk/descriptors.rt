@@ -11,21 +11,28 @@ use std::process::Abort;
 type Answer = Result<u64, Error>;
 
 /// What `qemu-img create -f vmdk -o subformat=monolithicFlat disk.vmdk 1M` writes, by the template in QEMU's `block/vmdk.c`.
-const MONOLITHIC_FLAT: &[u8] = b"# Disk DescriptorFile\nversion=1\nCID=7ab3a6c1\nparentCID=ffffffff\ncreateType=\"monolithicFlat\"\n\n# Extent description\nRW 2048 FLAT \"disk-flat.vmdk\" 0\n\n# The Disk Data Base\n#DDB\n\nddb.virtualHWVersion = \"4\"\nddb.geometry.cylinders = \"2\"\nddb.geometry.heads = \"16\"\nddb.geometry.sectors = \"63\"\nddb.adapterType = \"ide\"\nddb.toolsVersion = \"2147483647\"\n";
+const MONOLITHIC_FLAT: &[u8] =
+    b"# Disk DescriptorFile\nversion=1\nCID=7ab3a6c1\nparentCID=ffffffff\ncreateType=\"monolithicFlat\"\n\n# Extent description\nRW 2048 FLAT \"disk-flat.vmdk\" 0\n\n# The Disk Data Base\n#DDB\n\nddb.virtualHWVersion = \"4\"\nddb.geometry.cylinders = \"2\"\nddb.geometry.heads = \"16\"\nddb.geometry.sectors = \"63\"\nddb.adapterType = \"ide\"\nddb.toolsVersion = \"2147483647\"\n";
 
 /// The same for `subformat=twoGbMaxExtentFlat` and 5 GiB.
-const TWO_GB_MAX_EXTENT_FLAT: &[u8] = b"# Disk DescriptorFile\nversion=1\nCID=1c8a4d02\nparentCID=ffffffff\ncreateType=\"twoGbMaxExtentFlat\"\n\n# Extent description\nRW 4194304 FLAT \"disk-f001.vmdk\" 0\nRW 4194304 FLAT \"disk-f002.vmdk\" 0\nRW 2097152 FLAT \"disk-f003.vmdk\" 0\n\n# The Disk Data Base\n#DDB\n\nddb.virtualHWVersion = \"4\"\nddb.geometry.cylinders = \"10402\"\nddb.geometry.heads = \"16\"\nddb.geometry.sectors = \"63\"\nddb.adapterType = \"ide\"\nddb.toolsVersion = \"2147483647\"\n";
+const TWO_GB_MAX_EXTENT_FLAT: &[u8] =
+    b"# Disk DescriptorFile\nversion=1\nCID=1c8a4d02\nparentCID=ffffffff\ncreateType=\"twoGbMaxExtentFlat\"\n\n# Extent description\nRW 4194304 FLAT \"disk-f001.vmdk\" 0\nRW 4194304 FLAT \"disk-f002.vmdk\" 0\nRW 2097152 FLAT \"disk-f003.vmdk\" 0\n\n# The Disk Data Base\n#DDB\n\nddb.virtualHWVersion = \"4\"\nddb.geometry.cylinders = \"10402\"\nddb.geometry.heads = \"16\"\nddb.geometry.sectors = \"63\"\nddb.adapterType = \"ide\"\nddb.toolsVersion = \"2147483647\"\n";
 
 /// A descriptor, what opening it answers, and whether it is told to be one.
 type Row = (&'static [u8], Answer, bool);
 
 const INVALID: Answer = Err(Error::InvalidData);
+
 const UNSUPPORTED: Answer = Err(Error::Unsupported);
 
 const ROWS: [Row; 22] = [
     (MONOLITHIC_FLAT, Ok(1048576), true),
     (TWO_GB_MAX_EXTENT_FLAT, Ok(5368709120), true),
-    (&TEXT, Ok(1536), true),
+    (
+        b"version=1\nRW 2 ZERO\nRDONLY 1 FLAT \"a.img\" 3\n",
+        Ok(1536),
+        true,
+    ),
     (b"RW 2 ZERO", UNSUPPORTED, false),
     (b"version=4\nversion=2", Ok(0), false),
     (b"version=2\nversion=4", UNSUPPORTED, true),
@@ -46,11 +53,7 @@ const ROWS: [Row; 22] = [
         true,
     ),
     (b"version=1\r\nRW 1 ZERO\r\n", Ok(512), true),
-    (
-        b"version=1\nparentFileNameHint=x\n\xff",
-        UNSUPPORTED,
-        true,
-    ),
+    (b"version=1\nparentFileNameHint=x\n\xff", UNSUPPORTED, true),
     (b"version=1\n\xff\nparentFileNameHint=x", INVALID, true),
     (b"\xff\nversion=1", INVALID, false),
     (b"version=0\nRW x ZERO", INVALID, false),
@@ -196,7 +199,10 @@ fn descriptors_are_opened_and_told(rt: HostRuntime) {
 #[test]
 fn each_beginning_is_read(rt: HostRuntime) {
     for count in 0..45 {
-        assert!(rt; opened(rt.alloc(), &TEXT[..count]) == answer_at(&BEGINNINGS, count), "{count}");
+        assert!(rt;
+            opened(rt.alloc(), &TEXT[..count]) == answer_at(&BEGINNINGS, count),
+            "{count}"
+        );
     }
 }
 
@@ -206,7 +212,10 @@ fn each_byte_is_replaced(rt: HostRuntime) {
         for place in 0..44 {
             let mut text = TEXT;
             text[place] = *byte;
-            assert!(rt; opened(rt.alloc(), &text) == answer_at(runs, place), "{byte} at {place}");
+            assert!(rt;
+                opened(rt.alloc(), &text) == answer_at(runs, place),
+                "{byte} at {place}"
+            );
         }
     }
 }

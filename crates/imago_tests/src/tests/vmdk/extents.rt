@@ -95,10 +95,7 @@ const CASES: [Case; 5] = [
         text: b"version=1\nRW 0 ZERO\nRW 1 ZERO\nRW 0 FLAT \"b.img\"\nRW 1 FLAT \"a.img\"\n",
         a: &[(1, 7)],
         b: &[(1, 8)],
-        mappings: &[
-            (0, 600, zeroes(512)),
-            (512, 600, raw(2, 0, true, 512)),
-        ],
+        mappings: &[(0, 600, zeroes(512)), (512, 600, raw(2, 0, true, 512))],
         reads: &[(510, Ok([0, 0, 7, 0]))],
     },
     Case {
@@ -109,10 +106,7 @@ const CASES: [Case; 5] = [
             (0, 512, raw(1, 0xffff_ffff_ffff_fe00, true, 511)),
             (511, 1, Err(Error::InvalidData)),
         ],
-        reads: &[
-            (507, Ok([0; 4])),
-            (508, Err(Error::InvalidData)),
-        ],
+        reads: &[(507, Ok([0; 4])), (508, Err(Error::InvalidData))],
     },
 ];
 
@@ -121,11 +115,7 @@ fn closed(alloc: Global, text: &[u8]) -> Result<Vmdk<MemStorage>, Error> {
     Vmdk::open_image(alloc, storage_of(alloc, text)?, false)
 }
 
-fn open_extents(
-    alloc: Global,
-    image: &mut Vmdk<MemStorage>,
-    gate: &mut Gate,
-) -> Result<(), Error> {
+fn open_extents(alloc: Global, image: &mut Vmdk<MemStorage>, gate: &mut Gate) -> Result<(), Error> {
     image.open_implicit_dependencies_gated(alloc, gate)
 }
 
@@ -144,24 +134,24 @@ fn opened(alloc: Global, case: &Case) -> Result<Image, Error> {
     }
 }
 
-fn mapped(image: &Image, offset: u64, count: u64) -> Mapped {
+fn mapping_at(image: &Image, offset: u64, count: u64) -> Mapped {
     image.inner().get_mapping(offset, count)
 }
 
 /// The four bytes at that offset.
 fn read(alloc: Global, image: &Image, offset: u64) -> Result<[u8; 4], Error> {
     let mut bytes = [0xff; 4];
-    if image.read(alloc, &mut bytes, offset) == Err(Error::Memory) {
-        image.read(alloc, &mut bytes, offset)?;
-        return Ok(bytes);
+    let mut answer = image.read(alloc, &mut bytes, offset);
+    if answer == Err(Error::Memory) {
+        answer = image.read(alloc, &mut bytes, offset);
     }
-    image.read(alloc, &mut bytes, offset)?;
+    answer?;
     Ok(bytes)
 }
 
 fn answers(rt: &impl Abort, alloc: Global, image: &Image, case: &Case) {
     for (offset, count, answer) in case.mappings {
-        assert!(rt; mapped(image, *offset, *count) == *answer, "{offset}");
+        assert!(rt; mapping_at(image, *offset, *count) == *answer, "{offset}");
     }
     for (offset, answer) in case.reads {
         assert!(rt; read(alloc, image, *offset) == *answer, "{offset}");
@@ -213,8 +203,7 @@ fn open_by(
     image: &mut Vmdk<MemStorage>,
     count: usize,
     nth: u64,
-) -> Result<(), Error>
-{
+) -> Result<(), Error> {
     let mut gate = gate_of(alloc, &STORAGES[..count.min(3)], nth)?;
     open_extents(alloc, image, &mut gate)
 }

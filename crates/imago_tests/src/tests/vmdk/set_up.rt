@@ -45,8 +45,7 @@ pub(super) fn add(
     text: &str,
     storage: MemStorage,
 ) -> Result<(), Error> {
-    gate.add(name(alloc, text)?, storage)
-        .or(Err(Error::Memory))
+    gate.add(name(alloc, text)?, storage).or(Err(Error::Memory))
 }
 
 /// That gate, which keeps what it is asked, and refuses its nth opening, counted from 1, or none for 0.
@@ -55,11 +54,7 @@ pub(super) fn recorded(alloc: Global, gate: NamedGate<MemStorage>, nth: u64) -> 
 }
 
 /// Such a gate of storages under these names.
-pub(super) fn gate_of(
-    alloc: Global,
-    storages: &[(&str, Runs)],
-    nth: u64,
-) -> Result<Gate, Error> {
+pub(super) fn gate_of(alloc: Global, storages: &[(&str, Runs)], nth: u64) -> Result<Gate, Error> {
     let mut gate = NamedGate::new(alloc);
     for (text, runs) in storages {
         let storage = storage_of_runs(alloc, runs)?;
