@@ -11,7 +11,7 @@ use Rattle.imago_vmdk.specs.declared.line.Extent.{Extent}
 use Rattle.imago_vmdk.specs.declared.vmdk.Vmdk.{Vmdk}
 use Rattle.imago_vmdk.specs.Reading.{reading_of, size_of}
 use Rattle.imago_vmdk.specs.Opened.{AreOpened, AreRefused}
-use Rattle.imago_vmdk.specs.Image.{descriptor_in, extents_in, is_opened, storages_of_extents}
+use Rattle.imago_vmdk.specs.Image.{descriptor_in, extents_in, is_opened, storages_of_extents, takes_unknown_keys}
 
 -- why an image isn't opened whose descriptor has that storage: the descriptor is at fault, or couldn't be read, or its extents
 -- aren't opened
@@ -25,7 +25,7 @@ IsVmdkRefusal bytes features opened direct accept before after s e =
 -- The image of the descriptor that the storage has: its extents, all opened; or why it isn't opened.
 abbrev pub IsVmdkImage : {Gate S : Type 0} {g : _} {h : _} → (S → List ℕ) → (S → Features) → Opening Gate S → Bool → Bool → Gate → Gate → S → Result (Vmdk S g h) Error → Type 0
 IsVmdkImage bytes features opened direct accept before after s (Ok v) =
-    (descriptor_in v ≡ s) × (is_opened v ≡ true) × (reading_of accept (bytes s) ≡ Ok (extents_in v, sum_by size_of (extents_in v)))
+    (descriptor_in v ≡ s) × (is_opened v ≡ true) × (takes_unknown_keys v ≡ accept) × (reading_of accept (bytes s) ≡ Ok (extents_in v, sum_by size_of (extents_in v)))
     × AreOpened opened direct (extents_in v) before after (storages_of_extents v)
 IsVmdkImage bytes features opened direct accept before after s (Err e) = IsVmdkRefusal bytes features opened direct accept before after s e
 

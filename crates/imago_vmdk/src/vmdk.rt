@@ -274,7 +274,7 @@ fn open_extents<S: Storage, G: ImplicitOpenGate<S>>(
 }
 
 impl<S: Storage> Vmdk<S> {
-    ghost use Rattle.imago_vmdk.specs.Image.{descriptor_in, extents_in, is_opened, storages_of_extents, opens_direct};
+    ghost use Rattle.imago_vmdk.specs.Image.{descriptor_in, extents_in, is_opened, storages_of_extents, opens_direct, takes_unknown_keys};
     ghost use Rattle.imago_vmdk.specs.VmdkBuilder.{IsVmdkImage};
 
     /// Opens the image whose descriptor the storage has. The extents aren't opened yet: until then the disk has its size,
@@ -286,7 +286,7 @@ impl<S: Storage> Vmdk<S> {
     pub fn open_image(alloc: Global, storage: S, writable: bool) -> Result<Self, Error>
         ensures read_only { writable ≡ true → result ≡ Err Error.Unsupported }
         ensures opened { IfOk result
-            (λ v. (descriptor_in v ≡ «storage») × (is_opened v ≡ false) × (opens_direct v ≡ false) ×
+            (λ v. (descriptor_in v ≡ «storage») × (is_opened v ≡ false) × (opens_direct v ≡ false) × (takes_unknown_keys v ≡ false) ×
             (reading_of false (S.bytes storage) ≡ Ok (extents_in v, sum_by extent_size (extents_in v)))) }
         ensures refused { writable ≡ false
             → IfErr result
@@ -313,7 +313,7 @@ impl<S: Storage> Vmdk<S> {
         ensures opened { OnOk result (is_opened self.new ≡ true) }
         ensures descriptor { descriptor_in self.new ≡ descriptor_in self.old }
         ensures extents { extents_in self.new ≡ extents_in self.old }
-        ensures direct { opens_direct self.new ≡ opens_direct self.old }
+        ensures settings { (opens_direct self.new ≡ opens_direct self.old) × (takes_unknown_keys self.new ≡ takes_unknown_keys self.old) }
         ensures again { is_opened self.old ≡ true → IsOk result × (self.new ≡ self.old) × (gate.new ≡ gate.old) }
         ensures storages { is_opened self.old ≡ false
             → OnOk result (AreOpened G.opened (opens_direct self.old) (extents_in self.old) gate.old gate.new (storages_of_extents self.new)) }
@@ -368,7 +368,7 @@ impl<S: Storage> Vmdk<S> {
         accepts_unknown_keys: bool,
     ) -> Result<Self, Error>
         ensures opened { IfOk result
-            (λ v. (descriptor_in v ≡ «descriptor») × (is_opened v ≡ false) × (opens_direct v ≡ direct) ×
+            (λ v. (descriptor_in v ≡ «descriptor») × (is_opened v ≡ false) × (opens_direct v ≡ direct) × (takes_unknown_keys v ≡ accepts_unknown_keys) ×
             (reading_of accepts_unknown_keys (S.bytes descriptor) ≡ Ok (extents_in v, sum_by extent_size (extents_in v)))) }
         ensures refused { IfErr result
             (λ e. (reading_of accepts_unknown_keys (S.bytes descriptor) ≡ Err e) ⊎ IsExtRefusal e) }

@@ -18,4 +18,4 @@ returns-in_err-open_implicit_dependencies_gated g c =
     let p = err_from_is_err_and c.from_residual-in_err-open_implicit_dependencies_gated.result c.from_residual-in_err-open_implicit_dependencies_gated.ensures.1 in
     let o = c.in_ok-image.ensures.opened in
     let v = c.in_ok-image.image in
-    rw (p.1, p.2) (inr (inr (extents_in v, sum_by size_of (extents_in v), o.3, rw (o.0, o.2) at c.in_err-open_implicit_dependencies_gated.ensures.refusals)))
+    rw (p.1, p.2) (inr (inr (extents_in v, sum_by size_of (extents_in v), o.4, rw (o.0, o.2) at c.in_err-open_implicit_dependencies_gated.ensures.refusals)))
