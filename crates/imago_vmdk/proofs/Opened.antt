@@ -13,7 +13,7 @@ module _ {N Gate S : Type 0} (opened : Opening Gate S) (direct : Bool) where
   -- one extent more is opened
   pub opened_more : (es : List (Extent N)) (e : Extent N) (before between after : Gate) (storages own : List S) → AreOpened opened direct es before between storages
       → IsExtentOpened opened direct e between after own → AreOpened opened direct (es ++ e ∷ []) before after (storages ++ own)
-  opened_more [] e before between after storages own a h = (after, own, [], rw (sym a.1) at h, (refl, refl), rw a.0 (sym (append-nil own)))
+  opened_more [] e before between after storages own a h = (after, own, [], rw a.1 at h, (refl, refl), ap (λ s. s ++ own) a.0 ∙ sym (append-nil own))
   opened_more (x ∷ xs) e before between after storages own a h =
       (a.0, a.1, a.2 ++ own, a.3, opened_more xs e a.0 between after a.2 own a.4 h, ap (λ s. s ++ own) a.5 ∙ append_assoc a.1 a.2 own)
 
@@ -21,7 +21,7 @@ module _ {N Gate S : Type 0} (opened : Opening Gate S) (direct : Bool) where
   pub refused_here : (f : Features) (es : List (Extent N)) (i : ℕ) (e : Extent N) (before between after : Gate) (storages : List S) (r : Error) → i < length es → e ≡ get_or es i e
       → AreOpened opened direct (take i es) before between storages → IsExtentRefused opened direct f e between after r → AreRefused opened direct f es before after r
   refused_here f [] i e before between after storages r some is a h = absurd (omega (arith, some))
-  refused_here f (x ∷ xs) zero e before between after storages r some is a h = inl (rw (sym is, sym a.1) h)
+  refused_here f (x ∷ xs) zero e before between after storages r some is a h = let same : e ≡ x = is in let at : between ≡ before = a.1 in inl (rw (same, at) at h)
   refused_here f (x ∷ xs) (suc i) e before between after storages r some is a h =
       inr (a.0, a.1, a.3, refused_here f xs i e a.0 between after a.2 r (omega (arith, some)) is a.4 h)
 
@@ -62,14 +62,14 @@ module _ {N M Gate S : Type 0} (name : N → M) (opened : Opening Gate S) (direc
       a
 
   -- the same of what a function answers
-  module _ {V : Type 0} (items : V → List S) (es : List (Extent N)) (before after : Gate) where
-    pub answer_opened : (r : Result V Error) → IfOk r (λ v. AreOpened opened direct es before after (items v)) → IfOk r (λ v. AreOpened opened direct (map (extent_with name) es) before after (items v))
-    answer_opened (Ok v) a = all_opened es before after (items v) a
-    answer_opened (Err e) a = tt
+  module _ {V : Type 0} (es : List (Extent N)) (before after : Gate) where
+    pub answer_opened : (r : Result V Error) (items : V → List S) → IfOk r (λ v. AreOpened opened direct es before after (items v)) → IfOk r (λ v. AreOpened opened direct (map (extent_with name) es) before after (items v))
+    answer_opened (Ok v) items a = all_opened es before after (items v) a
+    answer_opened (Err e) items a = tt
 
-    pub answer_counted : (r : Result V Error) → IfOk r (λ v. AreOpened opened direct es before after (items v)) → IfOk r (λ v. length (items v) ≡ storages_in es)
-    answer_counted (Ok v) a = all_counted opened direct es before after (items v) a
-    answer_counted (Err e) a = tt
+    pub answer_counted : (r : Result V Error) (items : V → List S) → IfOk r (λ v. AreOpened opened direct es before after (items v)) → IfOk r (λ v. length (items v) ≡ storages_in es)
+    answer_counted (Ok v) items a = all_counted opened direct es before after (items v) a
+    answer_counted (Err e) items a = tt
 
     pub answer_refused : (f : Features) (r : Result V Error) → IfErr r (AreRefused opened direct f es before after) → IfErr r (AreRefused opened direct f (map (extent_with name) es) before after)
     answer_refused f (Ok v) a = tt
