@@ -4,14 +4,13 @@ ghost use Rattle.imago_access.specs.Chain.{driver, disk_value};
 ghost use Rattle.imago_vmdk.specs.Image.{is_opened, takes_unknown_keys};
 ghost use Rattle.imago_vmdk.specs.Disk.{described_value};
 
+use imago_access::access::FormatAccess;
 pub use imago_access::laws as images;
+use imago_drivers::drivers::FormatDriverInstance;
 pub use imago_drivers::laws as drivers;
 pub use imago_storage::laws as storages;
-pub use imago_vmdk::laws as vmdk;
-
-use imago_access::access::FormatAccess;
-use imago_drivers::drivers::FormatDriverInstance;
 use imago_storage::storage::Storage;
+pub use imago_vmdk::laws as vmdk;
 use imago_vmdk::vmdk::Vmdk;
 
 /// What a read of an image gives whose driver is a VMDK one, with its extents opened, follows from the bytes of the storages that the

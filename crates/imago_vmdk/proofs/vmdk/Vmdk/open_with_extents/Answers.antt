@@ -1,4 +1,4 @@
-use Rattle.std.proofs.Common.{◌≡◌, refl, inl, inr, ⊎_elim, rules}
+use Rattle.std.proofs.Common.{refl, inl, inr, ⊎_elim}
 use Rattle.std.specs.List.{sum_by}
 use Rattle.std.proofs.lemmas.Result.{err_from_is_err_and}
 use Rattle.imago_vmdk.specs.Reading.{size_of}
@@ -10,7 +10,7 @@ returns-in_err-image g c =
     let p = err_from_is_err_and c.from_residual.result c.from_residual.ensures.1 in
     rw (p.1, p.2) (⊎_elim
     (λ reading. inl (refl, reading))
-    (λ only. inr (inl (refl, only, c.in_err-image.ensures.device)))
+    (λ only. inr (inl (refl, only, λ d. c.in_err-image.ensures.device (rw d refl))))
     c.in_err-image.ensures.refused)
 
 pub returns-in_err-open_implicit_dependencies_gated : goal.returns-in_err-open_implicit_dependencies_gated
