@@ -1,5 +1,5 @@
 -- Extents one after the other, found by where each begins, and what a mapping of one names.
-use Rattle.std.proofs.Common.{◌≡◌, ℕ, zero, suc, ◌+◌, ◌-◌, ◌*◌, ◌^◌, ◌<◌, ◌≤◌, ◌⊎◌, Bool, true, false, List, [], ◌∷◌, length, get_or, min, refl, sym, ap, ◌∙◌, arith, inl, inr, ⊎_elim, nat_lt, slice_index, slice_index_or, max, Result, Ok, Err, IfOk, IfErr}
+use Rattle.std.proofs.Common.{◌≡◌, ℕ, zero, suc, ◌+◌, ◌-◌, ◌*◌, ◌^◌, ◌<◌, ◌≤◌, ◌⊎◌, Bool, true, false, List, [], ◌∷◌, length, get_or, min, refl, sym, ap, ◌∙◌, arith, inl, ⊎_elim, nat_lt, slice_index, slice_index_or, Result, Ok, Err, IfOk, IfErr}
 use Rattle.std.specs.List.{sum_by}
 use Rattle.std.proofs.lemmas.Bool.{cases_lt}
 use Rattle.std.proofs.lemmas.Bool.Decides.{nat_tests}
@@ -11,7 +11,7 @@ use Rattle.imago_drivers.specs.Mapping.{Names, IsEof, IsRight}
 use Rattle.imago_storage.specs.Features.{Features}
 use Rattle.imago_drivers.specs.Reasons.{allowed}
 use Rattle.imago_drivers.specs.Done.{map_reasons}
-use Rattle.imago_drivers.specs.Place.{Place, Stored, Zeroed, Special, Lower, Refused, End}
+use Rattle.imago_drivers.specs.Place.{Place, Special, Refused, End}
 use Rattle.imago_vmdk.specs.declared.line.Extent.{Extent}
 use Rattle.imago_vmdk.specs.declared.vmdk.Start.{Start}
 use Rattle.imago_vmdk.specs.Reading.{size_of}

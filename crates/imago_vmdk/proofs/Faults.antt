@@ -1,5 +1,5 @@
 -- What a descriptor's text is refused for.
-use Rattle.std.proofs.Common.{◌≡◌, ℕ, Bool, true, false, ◌||◌, ◌==◌, nat_eq, codes, slice_index, length, cond, List, [], ◌∷◌, map, Option, Some, None, Result, Ok, Err, IfErr, ◌⊎◌, inl, inr, refl, ⊎_elim}
+use Rattle.std.proofs.Common.{◌≡◌, ℕ, Bool, true, false, ◌||◌, ◌==◌, nat_eq, codes, slice_index, length, cond, List, [], ◌∷◌, Option, Some, None, Result, Ok, Err, IfErr, ◌⊎◌, inl, inr, refl, ⊎_elim}
 use Rattle.std.specs.List.{sum_by, starts_with}
 use Rattle.std.specs.Str.{trim}
 use Rattle.imago_vmdk.specs.Text.{utf8_of, lines_of, words_of, cut_at, number_of, is_text}

@@ -5,3 +5,5 @@ pub mod Lines
 pub mod Extents
 pub mod Storages
 pub mod Faults
+pub mod Opened
+pub mod Disk

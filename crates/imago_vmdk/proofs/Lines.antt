@@ -1,18 +1,18 @@
 -- Going over the lines, one after the other.
-use Rattle.std.proofs.Common.{◌≡◌, ℕ, Bool, true, false, cond, suc, ◌+◌, ◌*◌, ◌<◌, ◌≤◌, ◌^◌, List, [], ◌∷◌, ◌++◌, map, length, drop, get_or, Option, Some, None, Result, Ok, Err, refl, ⊎_elim, sym, ap, ◌∙◌, append_assoc, arith, nat_lt, lt-ltb}
+use Rattle.std.proofs.Common.{◌≡◌, ℕ, Bool, true, false, cond, ◌+◌, ◌*◌, ◌<◌, ◌^◌, List, [], ◌∷◌, ◌++◌, map, length, drop, get_or, Option, Some, None, Result, Ok, Err, refl, ⊎_elim, sym, ap, ◌∙◌, append_assoc, arith, nat_lt}
 use Rattle.std.proofs.lemmas.Bool.{cases_lt}
 use Rattle.std.proofs.lemmas.Bool.Decides.{nat_tests}
-use Rattle.std.proofs.lemmas.List.{append-nil, at_drop_more, at_drop_all}
+use Rattle.std.proofs.lemmas.List.{append-nil, at_drop_more}
 use Rattle.std.specs.List.{sum_by}
 use Rattle.std.specs.Result.{IsOk}
 use Rattle.std.specs.Option.{ok_or}
 use Rattle.imago_storage.specs.declared.error.Error.{Error}
 use Rattle.imago_vmdk.specs.declared.line.Line.{Line}
-use Rattle.imago_storage.specs.declared.error.Error.TheVariants.{InvalidData, Unsupported, Memory}
+use Rattle.imago_storage.specs.declared.error.Error.TheVariants.{InvalidData, Unsupported}
 use Rattle.std.proofs.lemmas.List.Sums.{sum_by-cons}
 use Rattle.imago_vmdk.specs.declared.line.Extent.{Extent}
 use Rattle.imago_vmdk.specs.Line.{◌>>=◌, verdict_of, extent_with, or_invalid, Gives}
-use Rattle.imago_vmdk.specs.Reading.{all_ok, lines_say, last_version, extents_in, sectors_of, size_of, is_version, fitting, disk_of, disk_in, found_in, survey_of}
+use Rattle.imago_vmdk.specs.Reading.{lines_say, last_version, extents_in, sectors_of, size_of, is_version, fitting, disk_of, disk_in, found_in, survey_of}
 
 -- what is made of the lines that are left, where none of them is a fault
 abbrev pub onward : {B : Type 0} → Bool → (List (Line (List ℕ)) → B) → List (List ℕ) → Result B Error

@@ -15,3 +15,15 @@ extents_in v = map (extent_with string_bytes) v.extents.items
 -- whether these are opened
 abbrev pub is_opened : {S : Type 0} {g : _} {h : _} → Vmdk S g h → Bool
 is_opened v = v.opened
+
+-- the storages of its FLAT extents, once these are opened
+abbrev pub storages_of_extents : {S : Type 0} {g : _} {h : _} → Vmdk S g h → List S
+storages_of_extents v = v.storages.items
+
+-- whether these are opened as direct
+abbrev pub opens_direct : {S : Type 0} {g : _} {h : _} → Vmdk S g h → Bool
+opens_direct v = v.direct
+
+-- whether keys of its descriptor that aren't known are accepted
+abbrev pub takes_unknown_keys : {S : Type 0} {g : _} {h : _} → Vmdk S g h → Bool
+takes_unknown_keys v = v.accepts_unknown_keys

@@ -4,5 +4,9 @@ pub mod Reading
 pub mod Probe
 pub mod Vmdk
 pub mod Starts
+pub mod Disk
+pub mod Opened
 pub mod VmdkLaws
 pub mod Image
+pub mod VmdkBuilder
+pub mod VmdkBuilderParts

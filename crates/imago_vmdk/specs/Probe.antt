@@ -1,4 +1,4 @@
-use Rattle.std.specs.Prelude.{ℕ, Bool, true, false, ◌&&◌, ◌||◌, List, [], ◌∷◌, map, length, Option, Some, None, if◌then◌else◌, codes}
+use Rattle.std.specs.Prelude.{ℕ, Bool, false, ◌&&◌, ◌||◌, List, [], ◌∷◌, map, length, Option, Some, None, if◌then◌else◌, codes}
 use Rattle.std.specs.Str.{trim}
 use Rattle.imago_vmdk.specs.Text.{utf8_of, lines_of, cut_at, number_of, is_text}
 use Rattle.imago_vmdk.specs.Reading.{is_version, is_length, is_sparse}

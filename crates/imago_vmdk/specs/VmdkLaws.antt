@@ -1,6 +1,6 @@
 use Rattle.std.specs.Prelude.{◌≡◌, ℕ, ◌+◌, ◌-◌, ◌*◌, ◌<◌, ◌≤◌, ◌⊎◌, Bool, true, false, List, [], ◌∷◌, ◌^◌, slice_index, slice_index_or, nat_lt, refl}
 use Rattle.std.specs.List.{sum_by}
-use Rattle.std.proofs.Common.{arith, sym, ◌∙◌, ⊎_elim, inl, inr, ap}
+use Rattle.std.proofs.Common.{arith, sym, ◌∙◌, ⊎_elim, inl, inr}
 use Rattle.std.proofs.lemmas.Bool.{cases_lt}
 use Rattle.std.proofs.lemmas.Bool.Decides.{nat_tests}
 use Rattle.std.proofs.lemmas.List.Sums.{sum_by-cons}
@@ -8,11 +8,11 @@ use Rattle.imago_storage.specs.declared.error.Error.{Error}
 use Rattle.imago_storage.specs.declared.error.Error.TheVariants as E
 use Rattle.imago_storage.specs.Features.{Features}
 use Rattle.imago_drivers.specs.Operation.{Operation, Map, Read, Write, Zero, DiscardToZero, DiscardToAny, DiscardToBacking, Grow, Shrink, Flush}
-use Rattle.imago_drivers.specs.Place.{Place, Stored, Zeroed, Special, Lower, Refused, End, IsIn}
+use Rattle.imago_drivers.specs.Place.{Place, Stored, Zeroed, Special, Lower, Refused, End}
 use Rattle.imago_drivers.specs.Laws.{IsLawful, AreCauses, CauseBound, IsRefusedIn}
 use Rattle.imago_vmdk.specs.declared.line.Extent.{Extent}
 use Rattle.imago_vmdk.specs.Reading.{size_of}
-use Rattle.imago_vmdk.specs.Vmdk.{flat_place, extent_place, storages_of, storages_in, places_from, vmdk_place, vmdk_offers, looks, vmdk_cause, vmdk_count, vmdk_view}
+use Rattle.imago_vmdk.specs.Vmdk.{flat_place, extent_place, storages_of, storages_in, places_from, vmdk_offers, vmdk_cause, vmdk_view}
 
 -- a byte of a FLAT extent is stored or refused
 flat_is : (bytes : ℕ → List ℕ) (index at : ℕ) (w : Bool) → (flat_place bytes index w at ≡ Stored (slice_index (bytes index) at) index at w) ⊎ (flat_place bytes index w at ≡ Refused Error.InvalidData)

@@ -1,5 +1,5 @@
-//! Laws of what descriptors say, and what the definitions give for lines that are written out. The functions do nothing; their
-//! contracts are proved.
+//! Laws of what descriptors say and of the disks that they describe, and what the definitions give for lines that are written
+//! out. The functions do nothing; their contracts are proved.
 ghost use Rattle.std.specs.Prelude.{◌≡◌, Bool, true, false, ℕ, List, ◌++◌, ◌∷◌, [], Ok, Err, IsOk, codes};
 ghost use Rattle.imago_storage.specs.declared.error.Error.{Error};
 ghost use Rattle.imago_storage.specs.declared.error.Error.TheVariants.{InvalidData, Unsupported};
@@ -7,6 +7,23 @@ ghost use Rattle.imago_vmdk.specs.declared.line.Extent.{Extent};
 ghost use Rattle.imago_vmdk.specs.declared.line.Line.{Line};
 ghost use Rattle.imago_vmdk.specs.Line.{verdict_of};
 ghost use Rattle.imago_vmdk.specs.Reading.{lines_say, reading_of};
+ghost use Rattle.imago_vmdk.specs.Image.{is_opened, takes_unknown_keys};
+ghost use Rattle.imago_vmdk.specs.Disk.{described_value};
+ghost use Rattle.imago_drivers.specs.Place.{Value, shown};
+
+use crate::vmdk::Vmdk;
+use imago_drivers::drivers::FormatDriverInstance;
+use imago_storage::storage::Storage;
+
+/// What is read of an image whose extents are opened follows from the bytes of its storages, whatever lies below: those of the
+/// descriptor say which byte of which storage an offset has.
+pub fn disk_of_bytes<S: Storage>(image: &Vmdk<S>)
+    requires { is_opened image.now ≡ true }
+    ensures { (below : ℕ → Value) (p : ℕ) → shown below ((⟦<Vmdk<S> as FormatDriverInstance>⟧.view image.now).place p)
+        ≡ described_value (takes_unknown_keys image.now) (⟦<Vmdk<S> as FormatDriverInstance>⟧.view image.now).stores.bytes p }
+{
+    let _ = image;
+}
 
 /// The first fault is the answer, whatever stands behind it.
 pub fn first_fault()

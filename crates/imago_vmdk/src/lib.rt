@@ -8,3 +8,4 @@ pub mod descriptor;
 pub mod laws;
 pub mod line;
 pub mod vmdk;
+mod vmdk_builder;

@@ -1,6 +1,7 @@
 //! The driver of VMDK images.
-ghost use Rattle.std.specs.Prelude.{◌≡◌, ℕ, ◌+◌, ◌*◌, ◌^◌, ◌-◌, ◌<◌, ◌≤◌, ◌⊎◌, length, map, slice_index_or, IfOk, IfErr, OnOk, OnErr, IsOk, IsErrOf, Ok, Err, min, false, true, [], ◌∷◌, List, MatchOption};
+ghost use Rattle.std.specs.Prelude.{◌≡◌, ℕ, ◌+◌, ◌*◌, ◌^◌, ◌-◌, ◌<◌, ◌≤◌, ◌⊎◌, ◌++◌, length, map, slice_index_or, IfOk, IfErr, OnOk, OnErr, IsOk, IsErrOf, Ok, Err, min, false, true, [], ◌∷◌, List, MatchOption};
 ghost use Rattle.std.specs.List.{sum_by};
+ghost use Rattle.std.specs.String.{string_bytes};
 ghost use Rattle.imago_storage.specs.Error.{IsExtRefusal};
 ghost use Rattle.imago_storage.specs.Features.{MayRunOut};
 ghost use Rattle.imago_storage.specs.Padding.{Wraps};
@@ -10,14 +11,17 @@ ghost use Rattle.imago_drivers.specs.Mapping.{Names};
 ghost use Rattle.imago_drivers.specs.Place.{Refused};
 ghost use Rattle.imago_drivers.specs.Discards.{no_discards};
 ghost use Rattle.imago_drivers.specs.Commit.{IsCommit, IsCancel};
+ghost use Rattle.imago_vmdk.specs.Line.{extent_with};
 ghost use Rattle.imago_vmdk.specs.Reading.{size_of as extent_size, is_length as may_be_long, reading_of};
 ghost use Rattle.imago_vmdk.specs.Probe.{probe_of};
 ghost use Rattle.imago_vmdk.specs.Vmdk.{extent_place, extent_rest, places_from, rest_from, storages_in, vmdk_count, vmdk_view, probe_refusals};
 ghost use Rattle.imago_vmdk.specs.Starts.{starts_from};
+ghost use Rattle.imago_vmdk.specs.Opened.{IsStorageOpened, IsStorageRefused, IsExtentOpened, IsExtentRefused, AreOpened, AreRefused};
 ghost use Rattle.imago_vmdk.specs.VmdkLaws.{vmdk_lawful, vmdk_causes};
 
 use crate::descriptor::{self, Descriptor, is_length};
 use crate::line::Extent;
+pub use crate::vmdk_builder::VmdkOpenBuilder;
 use imago_drivers::drivers::{
     Format, FormatDriverInstance, PreallocateMode, PreparedDataMapping, ShallowMapping,
 };
@@ -52,6 +56,11 @@ pub struct Vmdk<S: Storage> {
     opened: bool,
     /// The storages of the FLAT extents, once they are opened.
     storages: Vec<S>,
+    /// Whether these are opened as direct.
+    direct: bool,
+    /// Whether keys of the descriptor that aren't known are accepted.
+    accepts_unknown_keys: bool,
+    ghost read: { reading_of accepts_unknown_keys (S.bytes descriptor) ≡ Ok (map (extent_with string_bytes) extents.items, size) },
     ghost sized: { size ≡ sum_by extent_size extents.items },
     ghost fits: { size < 2 ^ 64 },
     ghost started: { starts.items ≡ starts_from 0 1 extents.items },
@@ -196,19 +205,55 @@ fn mapped(
     named(&extents[index], start.storage, offset - start.offset)
 }
 
-/// Opens the storage of an extent that begins at that offset of it, in sectors.
-fn open_extent<S: Storage, G: ImplicitOpenGate<S>>(
+/// Opens the storage of an extent, whose name the descriptor's storage resolves.
+fn open_storage<S: Storage, G: ImplicitOpenGate<S>>(
     alloc: Global,
     descriptor: &S,
     name: &str,
-    offset: u64,
+    direct: bool,
     gate: &mut G,
-) -> Result<S, Error> {
+) -> Result<S, Error>
+    ensures opened { IfOk result (λ s. IsStorageOpened G.opened direct gate.old gate.new (s ∷ [])) }
+    ensures refused { IfErr result (IsStorageRefused G.opened direct (S.features descriptor.now) gate.old gate.new) }
+{
+    let name = descriptor.resolve_relative_path(alloc, name)?;
+    let opts = StorageOpenOptions::new().filename(name).direct(direct);
+    gate.open_storage(alloc, opts)
+}
+
+/// Puts a storage behind the others. Refused, it is [`Error::Memory`].
+fn append<S: Storage>(storages: &mut Vec<S>, storage: S) -> Result<(), Error>
+    ensures items { OnOk result (storages.new.items ≡ storages.old.items ++ storage ∷ []) }
+    ensures memory { IfErr result (λ e. e ≡ Error.Memory) }
+{
+    match storages.push(storage) {
+        Ok(()) => Ok(()),
+        Err(_) => Err(Error::Memory),
+    }
+}
+
+/// Opens an extent, and puts its storage behind the others if it stands in one.
+fn open_extent<S: Storage, G: ImplicitOpenGate<S>>(
+    alloc: Global,
+    descriptor: &S,
+    extent: &Extent<String>,
+    direct: bool,
+    gate: &mut G,
+    storages: &mut Vec<S>,
+) -> Result<(), Error>
+    ensures opened { OnOk result ((own : List S) × IsExtentOpened G.opened direct extent.now gate.old gate.new own
+        × (storages.new.items ≡ storages.old.items ++ own)) }
+    ensures refused { IfErr result (IsExtentRefused G.opened direct (S.features descriptor.now) extent.now gate.old gate.new) }
+{
+    let Extent::Flat { name, offset, .. } = extent else {
+        return Ok(());
+    };
     if offset.checked_mul(512).is_none() {
         return Err(Error::InvalidData);
     }
-    let name = descriptor.resolve_relative_path(alloc, name)?;
-    gate.open_storage(alloc, StorageOpenOptions::new().filename(name))
+    let storage = open_storage(alloc, descriptor, name, direct, gate)?;
+    append(storages, storage)?;
+    Ok(())
 }
 
 /// Opens the storages of extents, in order.
@@ -216,24 +261,22 @@ fn open_extents<S: Storage, G: ImplicitOpenGate<S>>(
     alloc: Global,
     descriptor: &S,
     extents: &[Extent<String>],
+    direct: bool,
     gate: &mut G,
 ) -> Result<Vec<S>, Error>
-    ensures { IfOk result (λ v. length v.items ≡ storages_in extents.now) }
+    ensures opened { IfOk result (λ v. AreOpened G.opened direct extents.now gate.old gate.new v.items) }
+    ensures refused { IfErr result (AreRefused G.opened direct (S.features descriptor.now) extents.now gate.old gate.new) }
 {
     let mut storages = Vec::new(alloc);
     for extent in extents {
-        if let Extent::Flat { name, offset, .. } = extent {
-            let storage = open_extent(alloc, descriptor, name, *offset, gate)?;
-            if storages.push(storage).is_err() {
-                return Err(Error::Memory);
-            }
-        }
+        open_extent(alloc, descriptor, extent, direct, gate, &mut storages)?;
     }
     Ok(storages)
 }
 
 impl<S: Storage> Vmdk<S> {
-    ghost use Rattle.imago_vmdk.specs.Image.{descriptor_in, extents_in, is_opened};
+    ghost use Rattle.imago_vmdk.specs.Image.{descriptor_in, extents_in, is_opened, storages_of_extents, opens_direct, takes_unknown_keys};
+    ghost use Rattle.imago_vmdk.specs.VmdkBuilder.{IsVmdkImage};
 
     /// Opens the image whose descriptor the storage has. The extents aren't opened yet: until then the disk has its size,
     /// and no place.
@@ -244,7 +287,7 @@ impl<S: Storage> Vmdk<S> {
     pub fn open_image(alloc: Global, storage: S, writable: bool) -> Result<Self, Error>
         ensures read_only { writable ≡ true → result ≡ Err Error.Unsupported }
         ensures opened { IfOk result
-            (λ v. (descriptor_in v ≡ «storage») × (is_opened v ≡ false) ×
+            (λ v. (descriptor_in v ≡ «storage») × (is_opened v ≡ false) × (opens_direct v ≡ false) × (takes_unknown_keys v ≡ false) ×
             (reading_of false (S.bytes storage) ≡ Ok (extents_in v, sum_by extent_size (extents_in v)))) }
         ensures refused { writable ≡ false
             → IfErr result
@@ -254,7 +297,7 @@ impl<S: Storage> Vmdk<S> {
         if writable {
             return Err(Error::Unsupported);
         }
-        Vmdk::open_read_only(alloc, storage, false)
+        Vmdk::open_read_only(alloc, storage, false, false)
     }
 
     /// Opens the extents: each by the gate, in order, under its name as the descriptor's storage resolves it, and read-only.
@@ -271,8 +314,13 @@ impl<S: Storage> Vmdk<S> {
         ensures opened { OnOk result (is_opened self.new ≡ true) }
         ensures descriptor { descriptor_in self.new ≡ descriptor_in self.old }
         ensures extents { extents_in self.new ≡ extents_in self.old }
-        ensures again { is_opened self.old ≡ true → IsOk result × (self.new ≡ self.old) }
+        ensures settings { (opens_direct self.new ≡ opens_direct self.old) × (takes_unknown_keys self.new ≡ takes_unknown_keys self.old) }
+        ensures again { is_opened self.old ≡ true → IsOk result × (self.new ≡ self.old) × (gate.new ≡ gate.old) }
+        ensures storages { is_opened self.old ≡ false
+            → OnOk result (AreOpened G.opened (opens_direct self.old) (extents_in self.old) gate.old gate.new (storages_of_extents self.new)) }
         ensures refused { OnErr result (self.new ≡ self.old) }
+        ensures refusals { IfErr result
+            (AreRefused G.opened (opens_direct self.old) (S.features (descriptor_in self.old)) (extents_in self.old) gate.old gate.new) }
     {
         if self.opened {
             return Ok(());
@@ -289,29 +337,48 @@ impl<S: Storage> Vmdk<S> {
         alloc: Global,
         gate: &mut G,
     ) -> Result<Vec<S>, Error>
-        ensures { IfOk result (λ v. length v.items ≡ storages_in self.now.extents.items) }
+        ensures count { IfOk result (λ v. length v.items ≡ storages_in self.now.extents.items) }
+        ensures opened { IfOk result (λ v. AreOpened G.opened (opens_direct self.now) (extents_in self.now) gate.old gate.new v.items) }
+        ensures refused { IfErr result
+            (AreRefused G.opened (opens_direct self.now) (S.features (descriptor_in self.now)) (extents_in self.now) gate.old gate.new) }
     {
-        open_extents(alloc, &self.descriptor, &self.extents, gate)
+        open_extents(alloc, &self.descriptor, &self.extents, self.direct, gate)
+    }
+
+    /// Opens the image with its extents, whose storages are opened as direct or not. Keys that aren't known are accepted or not.
+    pub(crate) fn open_with_extents<G: ImplicitOpenGate<S>>(
+        alloc: Global,
+        descriptor: S,
+        direct: bool,
+        accept_unknown_keys: bool,
+        gate: &mut G,
+    ) -> Result<Self, Error>
+        ensures { IsVmdkImage S.bytes S.features G.opened direct accept_unknown_keys gate.old gate.new descriptor result }
+    {
+        let mut image = Vmdk::open_read_only(alloc, descriptor, direct, accept_unknown_keys)?;
+        image.open_implicit_dependencies_gated(alloc, gate)?;
+        Ok(image)
     }
 
     /// Opens the image, whose keys that aren't known are accepted or not.
     #[tactic(auto, unfolding(crate::specs::Reading::reading_of))]
-    fn open_read_only(
+    pub(crate) fn open_read_only(
         alloc: Global,
         descriptor: S,
-        accept_unknown_keys: bool,
+        direct: bool,
+        accepts_unknown_keys: bool,
     ) -> Result<Self, Error>
         ensures opened { IfOk result
-            (λ v. (descriptor_in v ≡ «descriptor») × (is_opened v ≡ false) ×
-            (reading_of accept_unknown_keys (S.bytes descriptor) ≡ Ok (extents_in v, sum_by extent_size (extents_in v)))) }
+            (λ v. (descriptor_in v ≡ «descriptor») × (is_opened v ≡ false) × (opens_direct v ≡ direct) × (takes_unknown_keys v ≡ accepts_unknown_keys) ×
+            (reading_of accepts_unknown_keys (S.bytes descriptor) ≡ Ok (extents_in v, sum_by extent_size (extents_in v)))) }
         ensures refused { IfErr result
-            (λ e. (reading_of accept_unknown_keys (S.bytes descriptor) ≡ Err e) ⊎ IsExtRefusal e) }
+            (λ e. (reading_of accepts_unknown_keys (S.bytes descriptor) ≡ Err e) ⊎ IsExtRefusal e) }
         ensures device { IsErrOf result Error.Device → (S.features descriptor).is_reliable ≡ false }
     {
         let Some(text) = text(alloc, &descriptor)? else {
             return Err(Error::InvalidData);
         };
-        let Descriptor { extents, size } = descriptor::read(alloc, accept_unknown_keys, &text)?;
+        let Descriptor { extents, size } = descriptor::read(alloc, accepts_unknown_keys, &text)?;
         let starts = starts_of(alloc, &extents)?;
         Ok(Vmdk {
             descriptor,
@@ -320,6 +387,8 @@ impl<S: Storage> Vmdk<S> {
             starts,
             opened: false,
             storages: Vec::new(alloc),
+            direct,
+            accepts_unknown_keys,
         })
     }
 }

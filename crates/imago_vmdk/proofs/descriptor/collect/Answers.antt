@@ -1,14 +1,13 @@
-use Rattle.std.proofs.Common.{◌≡◌, ℕ, ◌+◌, map, length, drop, List, [], ◌∷◌, ◌++◌, refl, sym, ap, inl, inr, ◌∙◌, arith, eqb, rules}
+use Rattle.std.proofs.Common.{◌≡◌, ℕ, ◌+◌, map, length, drop, List, [], ◌++◌, sym, ap, inl, inr, ◌∙◌, arith, eqb, rules}
 use Rattle.std.proofs.lemmas.Iterator.Splits.{YieldsList-from_slice_split}
 use Rattle.std.proofs.lemmas.Iterator.Consumers.{YieldsList-turn, YieldsList-end}
-use Rattle.std.proofs.lemmas.Result.{err_from_is_err_and}
 use Rattle.std.proofs.lemmas.List.{length_push, drop_all}
 use Rattle.std.specs.String.{string_bytes}
 use Rattle.imago_vmdk.specs.declared.line.Line.{Line}
 use Rattle.imago_vmdk.specs.declared.line.Extent.{Extent}
 use Rattle.imago_vmdk.specs.Text.{lines_of}
 use Rattle.imago_vmdk.specs.Line.{extent_with}
-use Rattle.imago_vmdk.specs.Reading.{extents_in, extents_of}
+use Rattle.imago_vmdk.specs.Reading.{extents_in}
 use Rattle.imago_vmdk.proofs.Lines.{onward, turn, step, fault, appended, behind_none, never_fault}
 use Rattle.imago_vmdk.proofs.descriptor.collect.Goals as goal
 

@@ -1,5 +1,4 @@
-use Rattle.std.proofs.Common.{◌≡◌, ℕ, false, true, sym, ◌∙◌, refl, rules}
-use Rattle.std.proofs.lemmas.Result.{err_from_is_err_and}
+use Rattle.std.proofs.Common.{◌≡◌, false, true, ◌∙◌, refl, rules}
 use Rattle.imago_vmdk.specs.Text.{lines_of}
 use Rattle.imago_vmdk.specs.Reading.{lines_say, is_version}
 use Rattle.imago_vmdk.proofs.Lines.{size_by_survey, gives_size}

@@ -1,4 +1,4 @@
-use Rattle.std.proofs.Common.{◌≡◌, ℕ, ◌+◌, ◌<◌, Bool, true, false, Option, Some, None, length, drop, get_or, map, List, [], ◌∷◌, ◌++◌, refl, sym, ap, ◌∙◌, arith, eqb, rules}
+use Rattle.std.proofs.Common.{◌≡◌, ℕ, ◌+◌, ◌<◌, Bool, false, Option, Some, None, length, drop, get_or, map, List, [], ◌∷◌, refl, sym, ap, ◌∙◌, arith, eqb, rules}
 use Rattle.std.proofs.lemmas.Iterator.Splits.{YieldsList-from_slice_split}
 use Rattle.std.proofs.lemmas.Iterator.Consumers.{YieldsList-turn, YieldsList-end}
 use Rattle.std.proofs.lemmas.List.{at_drop_more, drop_all, length_push}

@@ -1,9 +1,9 @@
-use Rattle.std.proofs.Common.{◌≡◌, map, length, true, false, refl, rules, ◌∙◌}
+use Rattle.std.proofs.Common.{◌≡◌, map, length, true, false, rules, ◌∙◌}
 use Rattle.std.specs.String.{string_bytes}
 use Rattle.imago_vmdk.specs.Text.{lines_of}
 use Rattle.imago_vmdk.specs.Line.{extent_with}
 use Rattle.imago_vmdk.specs.Reading.{lines_say, reading_of, is_length, is_sparse}
-use Rattle.imago_vmdk.proofs.Lines.{disk_by_parts, no_fault, disk_sum, sum_of_views}
+use Rattle.imago_vmdk.proofs.Lines.{disk_by_parts, disk_sum, sum_of_views}
 use Rattle.imago_vmdk.proofs.descriptor.read.Goals as goal
 
 pub returns-clause-reading : goal.returns-clause-reading

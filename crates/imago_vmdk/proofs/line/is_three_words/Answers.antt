@@ -1,4 +1,4 @@
-use Rattle.std.proofs.Common.{◌≡◌, refl}
+use Rattle.std.proofs.Common.{refl}
 use Rattle.std.proofs.lemmas.Iterator.Consumers.{count_from_yields_List}
 use Rattle.imago_vmdk.proofs.Words.{yields_words}
 use Rattle.imago_vmdk.proofs.line.is_three_words.Goals as goal

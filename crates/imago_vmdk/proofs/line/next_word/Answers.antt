@@ -1,4 +1,3 @@
-use Rattle.std.proofs.Common.{◌≡◌, ◌++◌}
 use Rattle.imago_vmdk.proofs.Words.{word_step}
 use Rattle.imago_vmdk.proofs.line.next_word.Goals as goal
 

@@ -1,5 +1,5 @@
-use Rattle.std.proofs.Common.{◌≡◌, ◌∙◌, List, ℕ, Bool, true, false, refl, sym, Option, Some, None, Result, Ok, Err, Bor}
-use Rattle.std.specs.Str.{is_utf8, IsUtf8, IsValidUpTo}
+use Rattle.std.proofs.Common.{◌≡◌, List, ℕ, Bool, true, false, refl, Result, Ok, Err, Bor}
+use Rattle.std.specs.Str.{is_utf8, IsUtf8}
 use Rattle.std.specs.Option.{option_map}
 use Rattle.std.specs.Result.{result_ok, MatchResult}
 use Rattle.std.proofs.lemmas.Str.{is_utf8-from_IsUtf8, IsUtf8-from_is_utf8}

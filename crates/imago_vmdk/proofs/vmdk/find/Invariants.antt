@@ -1,4 +1,4 @@
-use Rattle.std.proofs.Common.{ℕ, ◌-◌, ◌<◌, ◌≤◌, length, get_or}
+use Rattle.std.proofs.Common.{◌-◌, ◌<◌, ◌≤◌, length, get_or}
 use Rattle.imago_vmdk.specs.declared.vmdk.Start.{Start}
 use Rattle.imago_vmdk.proofs.vmdk.find.Given as goal
 

@@ -1,6 +1,6 @@
-use Rattle.std.proofs.Common.{◌≡◌, ℕ, ◌+◌, ◌<◌, List, [], length, get_or, arith}
+use Rattle.std.proofs.Common.{ℕ, List, [], get_or, arith}
 use Rattle.imago_vmdk.specs.declared.vmdk.Start.{Start}
-use Rattle.imago_vmdk.proofs.Extents.{Found, found_at, some_start, first_start, names_on_disk, rest_on_disk, refusal_on_disk}
+use Rattle.imago_vmdk.proofs.Extents.{found_at, some_start, first_start, names_on_disk, rest_on_disk, refusal_on_disk}
 use Rattle.imago_vmdk.proofs.vmdk.mapped.Goals as goal
 
 pub find-index-requires-clause-some : goal.find-index-requires-clause-some

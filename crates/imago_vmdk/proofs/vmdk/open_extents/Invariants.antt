@@ -1,6 +1,6 @@
-use Rattle.std.proofs.Common.{◌≡◌, ◌+◌, length, drop}
-use Rattle.imago_vmdk.specs.Vmdk.{storages_in}
+use Rattle.std.proofs.Common.{take}
+use Rattle.imago_vmdk.specs.Opened.{AreOpened}
 use Rattle.imago_vmdk.proofs.vmdk.open_extents.Given as goal
 
 abbrev pub invariant-loop-extent : goal.invariant-loop-extent
-invariant-loop-extent g l = length l.storages.items + storages_in (drop l.extent-index l.extents) ≡ storages_in l.extents
+invariant-loop-extent g l = AreOpened g.G.ImplicitOpenGate.opened l.direct (take l.extent-index l.extents) l.fn.gate l.gate l.storages.items

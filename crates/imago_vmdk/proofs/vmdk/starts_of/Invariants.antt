@@ -1,4 +1,4 @@
-use Rattle.std.proofs.Common.{◌≡◌, ℕ, ◌+◌, ◌++◌, ◌<◌, ◌≤◌, ◌^◌, drop, take, length}
+use Rattle.std.proofs.Common.{◌≡◌, ◌+◌, ◌++◌, ◌≤◌, drop}
 use Rattle.std.specs.List.{sum_by}
 use Rattle.imago_vmdk.specs.Reading.{size_of}
 use Rattle.imago_vmdk.specs.Starts.{starts_from}

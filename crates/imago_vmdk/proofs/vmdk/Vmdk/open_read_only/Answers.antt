@@ -7,4 +7,4 @@ use Rattle.imago_vmdk.proofs.vmdk.Vmdk.open_read_only.Goals as goal
 pub returns-in_err-extents-clause-device : goal.returns-in_err-extents-clause-device
 returns-in_err-extents-clause-device g c =
     let p = err_from_is_err_and c.from_residual-in_err-extents.result c.from_residual-in_err-extents.ensures.1 in
-    rw (p.1, p.2) (λ h. let device : c.in_err-extents.field-0.0 ≡ Error.Device = cc in absurd (read_device c.args.accept_unknown_keys _ c.in_err-extents.field-0.0 c.in_err-extents.ensures.reading device))
+    rw (p.1, p.2) (λ h. let device : c.in_err-extents.field-0.0 ≡ Error.Device = cc in absurd (read_device c.args.accepts_unknown_keys _ c.in_err-extents.field-0.0 c.in_err-extents.ensures.reading device))

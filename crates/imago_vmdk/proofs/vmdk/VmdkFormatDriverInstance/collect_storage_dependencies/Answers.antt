@@ -1,4 +1,4 @@
-use Rattle.std.proofs.Common.{◌≡◌, ◌≤◌, ◌∷◌, [], map, take, length, arith}
+use Rattle.std.proofs.Common.{◌≤◌, [], length, arith}
 use Rattle.std.proofs.lemmas.List.{take_all}
 use Rattle.imago_storage.specs.Mem.{null_features}
 use Rattle.imago_vmdk.proofs.Storages.{each_mapped}

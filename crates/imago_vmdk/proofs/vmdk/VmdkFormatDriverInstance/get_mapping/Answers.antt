@@ -1,4 +1,4 @@
-use Rattle.std.proofs.Common.{◌≡◌, ℕ, ◌+◌, ◌≤◌, List, [], ◌∷◌, map, true, slice_index_or, arith, refl, sym, ◌∙◌}
+use Rattle.std.proofs.Common.{◌≡◌, ℕ, ◌≤◌, List, [], ◌∷◌, map, true, slice_index_or, arith, sym}
 use Rattle.std.specs.List.{sum_by}
 use Rattle.imago_vmdk.specs.Reading.{size_of}
 use Rattle.imago_vmdk.specs.Vmdk.{places_from, rest_from}

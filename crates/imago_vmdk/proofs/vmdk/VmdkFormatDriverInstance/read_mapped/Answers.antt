@@ -1,4 +1,4 @@
-use Rattle.std.proofs.Common.{◌≡◌, ℕ, ◌+◌, ◌<◌, ◌≤◌, List, [], ◌∷◌, map, length, slice_index_or, arith, refl, sym, ◌∙◌}
+use Rattle.std.proofs.Common.{◌<◌, ◌≤◌, [], ◌∷◌, map, length, arith, refl}
 use Rattle.imago_storage.specs.Mem.{null_features}
 use Rattle.imago_vmdk.proofs.Storages.{behind_first, length_mapped, read_allowed}
 use Rattle.imago_vmdk.proofs.vmdk.VmdkFormatDriverInstance.read_mapped.Goals as goal

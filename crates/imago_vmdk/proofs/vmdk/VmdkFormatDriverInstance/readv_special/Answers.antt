@@ -1,4 +1,4 @@
-use Rattle.std.proofs.Common.{◌≡◌, ◌<◌, ◌+◌, length, inr, refl, rules}
+use Rattle.std.proofs.Common.{◌<◌, ◌+◌, length, inr, refl, rules}
 use Rattle.imago_vmdk.proofs.Extents.{image_never_special}
 use Rattle.imago_vmdk.proofs.vmdk.VmdkFormatDriverInstance.readv_special.Goals as goal
 

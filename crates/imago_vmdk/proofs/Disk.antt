@@ -1,0 +1,30 @@
+-- The disk of an image, by the bytes of its storages alone.
+use Rattle.std.proofs.Common.{◌≡◌, ℕ, ◌+◌, ◌-◌, ◌*◌, ◌^◌, Bool, true, false, List, [], ◌∷◌, map, nat_lt, if◌then◌else◌, slice_index, refl, ap}
+use Rattle.imago_drivers.specs.Place.{Place, Stored, Zeroed, Refused, Value, Byte, shown}
+use Rattle.imago_storage.specs.declared.error.Error.TheVariants as E
+use Rattle.imago_vmdk.specs.declared.line.Extent.{Extent}
+use Rattle.imago_vmdk.specs.Line.{extent_with}
+use Rattle.imago_vmdk.specs.Vmdk.{flat_place, places_from}
+
+-- names under another form change no place
+pub places_with : {N M : Type 0} (name : N → M) (bytes : ℕ → List ℕ) (index : ℕ) (es : List (Extent N)) (p : ℕ) → places_from bytes index (map (extent_with name) es) p ≡ places_from bytes index es p
+places_with name bytes index [] p = refl
+places_with name bytes index (Extent.Zero n ∷ es) p = ap (λ (x : Place). if nat_lt p (n * 512) then Zeroed true else x) (places_with name bytes (index + 0) es (p - n * 512))
+places_with name bytes index (Extent.NoAccess n ∷ es) p = ap (λ (x : Place). if nat_lt p (n * 512) then Refused E.NoAccess else x) (places_with name bytes (index + 0) es (p - n * 512))
+places_with name bytes index (Extent.Flat n file offset writable ∷ es) p =
+    ap (λ (x : Place). if nat_lt p (n * 512) then flat_place bytes index writable (offset * 512 + p) else x) (places_with name bytes (index + 1) es (p - n * 512))
+
+module _ (below : ℕ → Value) where
+  shown_if : (b : Bool) (x y : Place) → shown below x ≡ shown (λ (q : ℕ). Byte 0) x → shown below y ≡ shown (λ (q : ℕ). Byte 0) y
+      → shown below (if b then x else y) ≡ shown (λ (q : ℕ). Byte 0) (if b then x else y)
+  shown_if true x y h k = h
+  shown_if false x y h k = k
+
+  -- no place is left to what lies below
+  pub shown_alone : {N : Type 0} (bytes : ℕ → List ℕ) (index : ℕ) (es : List (Extent N)) (p : ℕ) → shown below (places_from bytes index es p) ≡ shown (λ (q : ℕ). Byte 0) (places_from bytes index es p)
+  shown_alone bytes index [] p = refl
+  shown_alone bytes index (Extent.Zero n ∷ es) p = shown_if (nat_lt p (n * 512)) (Zeroed true) _ refl (shown_alone bytes (index + 0) es (p - n * 512))
+  shown_alone bytes index (Extent.NoAccess n ∷ es) p = shown_if (nat_lt p (n * 512)) (Refused E.NoAccess) _ refl (shown_alone bytes (index + 0) es (p - n * 512))
+  shown_alone bytes index (Extent.Flat n file offset writable ∷ es) p = shown_if (nat_lt p (n * 512)) (flat_place bytes index writable (offset * 512 + p)) _
+      (shown_if (nat_lt (offset * 512 + p) (2 ^ 64 - 1)) (Stored (slice_index (bytes index) (offset * 512 + p)) index (offset * 512 + p) writable) (Refused E.InvalidData) refl refl)
+      (shown_alone bytes (index + 1) es (p - n * 512))

@@ -1,0 +1,20 @@
+use Rattle.std.specs.Prelude.{ℕ, Bool, List, Result, Ok, Err}
+use Rattle.imago_storage.specs.declared.error.Error.{Error}
+use Rattle.imago_drivers.specs.Place.{Place, End, Value, Byte, shown}
+use Rattle.imago_vmdk.specs.declared.line.Extent.{Extent}
+use Rattle.imago_vmdk.specs.Reading.{reading_of}
+use Rattle.imago_vmdk.specs.Vmdk.{places_from}
+
+-- the places of the extents that were read, in storages that have these bytes
+abbrev pub places_read : (ℕ → List ℕ) → Result (List (Extent (List ℕ)) × ℕ) Error → ℕ → Place
+places_read bytes (Ok disk) p = places_from bytes 1 disk.0 p
+places_read bytes (Err e) p = End
+
+-- What stands at each offset of a disk whose storages have these bytes. The first of them is the descriptor, and the others are
+-- those of its FLAT extents in order.
+abbrev pub described_place : Bool → (ℕ → List ℕ) → ℕ → Place
+described_place accept bytes p = places_read bytes (reading_of accept (bytes 0)) p
+
+-- what a read of each offset gives, whatever lies below
+abbrev pub described_value : Bool → (ℕ → List ℕ) → ℕ → Value
+described_value accept bytes p = shown (λ (q : ℕ). Byte 0) (described_place accept bytes p)

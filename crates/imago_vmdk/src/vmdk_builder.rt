@@ -1,0 +1,129 @@
+//! The builder of VMDK images.
+ghost use Rattle.std.specs.Prelude.{◌≡◌, true, false, Err, OnErr, IsOk};
+ghost use Rattle.std.specs.String.{string_bytes};
+ghost use Rattle.imago_drivers.specs.Builder.{HandedIn, AtPath, unset, storage_options};
+ghost use Rattle.imago_drivers.specs.BuilderBase.{open_settings};
+ghost use Rattle.imago_vmdk.specs.VmdkBuilder.{IsVmdkOpening};
+
+use crate::vmdk::Vmdk;
+use imago_drivers::builder::{FormatDriverBuilder, FormatDriverBuilderBase};
+use imago_drivers::drivers::Format;
+use imago_drivers::gate::ImplicitOpenGate;
+use imago_storage::error::Error;
+use imago_storage::storage::{Storage, StorageOpenOptions};
+use std::alloc::Global;
+
+/// Opens a VMDK image by its options, and its extents with it.
+///
+/// The set options count for the extents too. An image that is to be written is [`Error::Unsupported`], before anything else.
+#[derive(Drop)]
+pub struct VmdkOpenBuilder<S> {
+    base: FormatDriverBuilderBase<S>,
+    /// Whether keys of the descriptor that aren't known are accepted.
+    accepts_unknown_keys: bool,
+}
+
+impl<S: Storage> Vmdk<S> {
+    ghost use Rattle.imago_vmdk.specs.VmdkBuilderParts.{vmdk_settings, accepts_unknown_keys};
+
+    /// Prepares the opening of the image whose descriptor the storage has.
+    pub fn builder(image: S) -> VmdkOpenBuilder<S>
+        ensures settings { vmdk_settings result ≡ unset (HandedIn image) }
+        ensures keys { accepts_unknown_keys result ≡ false }
+    {
+        VmdkOpenBuilder {
+            base: FormatDriverBuilderBase::new(image),
+            accepts_unknown_keys: false,
+        }
+    }
+
+    /// Prepares the opening of the image whose descriptor stands in the storage of that path.
+    pub fn builder_path(path: String) -> VmdkOpenBuilder<S>
+        ensures settings { vmdk_settings result ≡ unset (AtPath (string_bytes path)) }
+        ensures keys { accepts_unknown_keys result ≡ false }
+    {
+        VmdkOpenBuilder {
+            base: FormatDriverBuilderBase::new_path(path),
+            accepts_unknown_keys: false,
+        }
+    }
+}
+
+impl<S: Storage> VmdkOpenBuilder<S> {
+    ghost use Rattle.imago_vmdk.specs.VmdkBuilderParts.{vmdk_settings, accepts_unknown_keys};
+
+    /// Sets whether a line of the descriptor whose key isn't known is accepted, and says nothing then. It is
+    /// [`Error::InvalidData`] where it isn't, as by default.
+    pub fn accept_unknown_keys(mut self, accept: bool) -> Self
+        ensures settings { vmdk_settings result ≡ vmdk_settings self }
+        ensures keys { accepts_unknown_keys result ≡ accept }
+    {
+        self.accepts_unknown_keys = accept;
+        self
+    }
+}
+
+/// Whether storages are to be opened without the host's cache.
+fn is_direct<S: Storage>(base: &FormatDriverBuilderBase<S>) -> bool
+    ensures { result ≡ (storage_options (open_settings base.now)).direct }
+{
+    match base.get_storage_opts() {
+        Some(opts) => opts.get_direct(),
+        None => false,
+    }
+}
+
+impl<S: Storage> FormatDriverBuilder<S> for VmdkOpenBuilder<S> {
+    ghost use Rattle.imago_vmdk.specs.VmdkBuilderParts.{vmdk_settings, accepts_unknown_keys};
+
+    type Format = Vmdk<S>;
+
+    const FORMAT: Format = Format::Vmdk;
+
+    ghost settings = { vmdk_settings };
+
+    ghost opens = { λ Gate opened gate b result. IsVmdkOpening S.bytes S.features opened gate (vmdk_settings b) (accepts_unknown_keys b) result };
+
+    fn new(image: S) -> Self {
+        Vmdk::builder(image)
+    }
+
+    fn new_path(path: String) -> Self {
+        Vmdk::builder_path(path)
+    }
+
+    fn write(mut self, writable: bool) -> Self {
+        self.base.set_write(writable);
+        self
+    }
+
+    fn storage_open_options(mut self, options: StorageOpenOptions) -> Self {
+        self.base.set_storage_open_options(options);
+        self
+    }
+
+    fn open<G: ImplicitOpenGate<S>>(self, alloc: Global, mut gate: G) -> Result<Vmdk<S>, Error> {
+        let VmdkOpenBuilder {
+            base,
+            accepts_unknown_keys,
+        } = self;
+        if base.get_writable() {
+            return Err(Error::Unsupported);
+        }
+        let direct = is_direct(&base);
+        let storage = base.open_image(alloc, &mut gate)?;
+        Vmdk::open_with_extents(alloc, storage, direct, accepts_unknown_keys, &mut gate)
+    }
+
+    fn get_image_path(&self) -> Option<&str> {
+        self.base.get_image_path()
+    }
+
+    fn get_writable(&self) -> bool {
+        self.base.get_writable()
+    }
+
+    fn get_storage_open_options(&self) -> Option<&StorageOpenOptions> {
+        self.base.get_storage_opts()
+    }
+}
