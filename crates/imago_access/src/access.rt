@@ -9,6 +9,9 @@ use imago_drivers::drivers::FormatDriverInstance;
 use std::fmt::{self, Display, Formatter, Write};
 
 /// An image: a driver, and the image below it, if there is one. Offsets, lengths and sizes are in bytes.
+///
+/// Letting it go flushes nothing: what is to last is flushed or synced before. Calls that change the disk, but for those that
+/// write, commit or cancel a prepared mapping, require that none waits.
 pub struct FormatAccess<D> {
     pub(crate) inner: D,
     pub(crate) backing: Option<Box<FormatAccess<D>>>,

@@ -182,8 +182,11 @@ impl<D: FormatDriverInstance> FormatAccess<D> {
     /// and 0 only at the end of the image, or where `max_length` is. Also there the mapping is that of the offset.
     ///
     /// What the top layer leaves to a layer below that ends before, or to none, is an unallocated zero. The
-    /// mapping is as long as the drivers on the way map at once. It takes no memory. [`Error::InvalidData`] and [`Error::NoAccess`] are
-    /// answered for an offset that may not be read.
+    /// mapping is as long as the drivers on the way map at once.
+    ///
+    /// [`Error::InvalidData`] and [`Error::NoAccess`] are answered for an offset that may not be read. [`Error::Unsupported`] and
+    /// [`Error::WrapAround`] are answered only for a cause that a driver on the way tells, and [`Error::Device`] only where a
+    /// device of the chain isn't reliable. It takes no memory.
     pub fn get_mapping(&self, offset: u64, max_length: u64) -> Result<(Mapping, u64), Error>
         ensures right { IfOk result (λ r. IsResolved D.view self.now offset max_length r.0 r.1) }
         ensures length { IfOk result (λ r. IsFullLength D.view self.now offset max_length r.0 r.1) }

@@ -72,6 +72,8 @@ impl<D: FormatDriverInstance> FormatAccess<D> {
     /// [`Error::ReadOnly`] where the driver isn't writable, then [`Error::RangeOverflow`] where the range's end passes `u64::MAX`,
     /// then [`Error::BeyondDisk`] where it passes the disk's size, also for no bytes; nothing changed.
     /// [`Error::Unsupported`] where the driver offers no such discards.
+    ///
+    /// No prepared mapping may wait, which [`has_prepared`](FormatDriverInstance::has_prepared) of the driver tells.
     pub fn discard_to_any(&mut self, alloc: Global, offset: u64, count: u64) -> Result<(), Error>
         requires { (D.view (driver self.old)).pending ≡ None }
         ensures { IsImageDiscard D.view D.discards Call.ToAny self.old self.new offset count result }
@@ -84,6 +86,8 @@ impl<D: FormatDriverInstance> FormatAccess<D> {
     /// offset, zero where there is none; also where it is refused. All others are as they were.
     ///
     /// The refusals are those of [`discard_to_any`](Self::discard_to_any).
+    ///
+    /// No prepared mapping may wait, which [`has_prepared`](FormatDriverInstance::has_prepared) of the driver tells.
     pub fn discard_to_backing(
         &mut self,
         alloc: Global,

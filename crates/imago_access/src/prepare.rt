@@ -23,6 +23,8 @@ impl<D: FormatDriverInstance> FormatAccess<D> {
     ///
     /// [`Error::ReadOnly`] where the driver isn't writable, then [`Error::BeyondDisk`] where the range passes the
     /// disk's size. Refused, the disk is as it was, or, with `overwrite`, the range is unspecified.
+    ///
+    /// No prepared mapping may wait, which [`has_prepared`](FormatDriverInstance::has_prepared) of the driver tells.
     pub fn ensure_data_mapping(
         &mut self,
         alloc: Global,
@@ -48,6 +50,8 @@ impl<D: FormatDriverInstance> FormatAccess<D> {
     ///
     /// [`Error::ReadOnly`] where the driver isn't writable, then [`Error::BeyondDisk`] where the range passes the
     /// disk's size. Refused, nothing is prepared.
+    ///
+    /// No prepared mapping may wait, which [`has_prepared`](FormatDriverInstance::has_prepared) of the driver tells.
     pub fn prepare_data_mapping(
         &mut self,
         alloc: Global,

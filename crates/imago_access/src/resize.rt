@@ -24,7 +24,11 @@ impl<D: FormatDriverInstance> FormatAccess<D> {
     /// Grows the disk to that size in bytes, with new bytes as the mode says. It does nothing where the disk is as large
     /// already.
     ///
-    /// [`Error::ReadOnly`] where the driver isn't writable. Refused, nothing changed.
+    /// [`Error::ReadOnly`] where the driver isn't writable. Where there is something to do it may also be [`Error::Unsupported`],
+    /// [`Error::WrapAround`], [`Error::InvalidData`] or [`Error::NoAccess`], each for a cause that the driver tells,
+    /// [`Error::Device`] where a device failed, and [`Error::Memory`] where the driver takes memory. Refused, nothing changed.
+    ///
+    /// No prepared mapping may wait, which [`has_prepared`](FormatDriverInstance::has_prepared) of the driver tells.
     pub fn resize_grow(
         &mut self,
         alloc: Global,
@@ -43,7 +47,9 @@ impl<D: FormatDriverInstance> FormatAccess<D> {
 
     /// Cuts the disk to that size in bytes. It does nothing where the disk is as small already.
     ///
-    /// [`Error::ReadOnly`] where the driver isn't writable. Refused, nothing changed.
+    /// The refusals are those of [`resize_grow`](Self::resize_grow). Refused, nothing changed.
+    ///
+    /// No prepared mapping may wait, which [`has_prepared`](FormatDriverInstance::has_prepared) of the driver tells.
     pub fn resize_shrink(&mut self, new_size: u64) -> Result<(), Error>
         requires { (D.view (driver self.old)).pending ≡ None }
         ensures resized { IsResize D.view Shrink new_size (HasShrunk D.view new_size self.old self.new) self.old
@@ -56,7 +62,9 @@ impl<D: FormatDriverInstance> FormatAccess<D> {
 
     /// Cuts the disk to that size in bytes, or grows it to that size, with new bytes as the mode says.
     ///
-    /// [`Error::ReadOnly`] where the driver isn't writable. Refused, nothing changed.
+    /// The refusals are those of [`resize_grow`](Self::resize_grow). Refused, nothing changed.
+    ///
+    /// No prepared mapping may wait, which [`has_prepared`](FormatDriverInstance::has_prepared) of the driver tells.
     pub fn resize(
         &mut self,
         alloc: Global,

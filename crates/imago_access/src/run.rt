@@ -195,10 +195,8 @@ fn zeroes(alloc: Global, count: usize) -> Result<Vec<u8>, Error>
     ensures memory { IfErr result (λ e. (e ≡ Error.Memory) × (0 < count)) }
 {
     let mut bytes = Vec::new(alloc);
-    match bytes.resize(count, 0) {
-        Ok(()) => Ok(bytes),
-        Err(_) => Err(Error::Memory),
-    }
+    bytes.resize(count, 0)?;
+    Ok(bytes)
 }
 
 /// Reads into a buffer of its own.
@@ -269,7 +267,8 @@ fn step<D: FormatDriverInstance>(alloc: Global, image: &mut FormatAccess<D>, cal
 
 /// Makes the calls in order, and appends one reply for each. A refused call is a reply too, and the run goes on.
 ///
-/// Room for all replies is taken first: [`Error::Memory`] where there is none, and then nothing changed.
+/// Room for all replies is taken first: [`Error::Memory`] where there is none, and then nothing changed. No prepared mapping may wait
+/// before, which [`has_prepared`](FormatDriverInstance::has_prepared) of the driver tells, and none does afterwards.
 pub fn run<D: FormatDriverInstance>(
     alloc: Global,
     image: &mut FormatAccess<D>,
@@ -288,9 +287,7 @@ pub fn run<D: FormatDriverInstance>(
     ensures memory { IfErr result (λ e. e ≡ Error.Memory) }
     ensures spent { (D.view (driver image.new)).pending ≡ None }
 {
-    if replies.reserve(calls.len()).is_err() {
-        return Err(Error::Memory);
-    }
+    replies.reserve(calls.len())?;
     for call in calls {
         let reply = step(alloc, image, call);
         match replies.push(reply) {

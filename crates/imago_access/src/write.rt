@@ -170,6 +170,8 @@ impl<D: FormatDriverInstance> FormatAccess<D> {
     /// [`Error::ReadOnly`] where the driver isn't writable, then [`Error::BeyondDisk`] where the range passes the
     /// disk's size, also for no bytes; nothing changed. Any other refusal leaves each byte of the range old or new, and
     /// all others as they were.
+    ///
+    /// No prepared mapping may wait, which [`has_prepared`](FormatDriverInstance::has_prepared) of the driver tells.
     pub fn write(&mut self, alloc: Global, source: &[u8], offset: u64) -> Result<(), Error>
         requires { (D.view (driver self.old)).pending ≡ None }
         ensures { IsWrite D.view self.old self.new offset source.now result }
@@ -179,6 +181,8 @@ impl<D: FormatDriverInstance> FormatAccess<D> {
     }
 
     /// The same as [`write`](Self::write).
+    ///
+    /// No prepared mapping may wait, which [`has_prepared`](FormatDriverInstance::has_prepared) of the driver tells.
     pub fn writev(&mut self, alloc: Global, source: &[u8], offset: u64) -> Result<(), Error>
         requires { (D.view (driver self.old)).pending ≡ None }
         ensures { IsWrite D.view self.old self.new offset source.now result }

@@ -293,6 +293,8 @@ impl<D: FormatDriverInstance> FormatAccess<D> {
     /// then [`Error::BeyondDisk`] where it passes the disk's size, also for no bytes; nothing changed.
     /// [`Error::Unsupported`] where the driver offers no zero writes. Any refusal leaves each byte of the range as it was or zero,
     /// and all others as they were.
+    ///
+    /// No prepared mapping may wait, which [`has_prepared`](FormatDriverInstance::has_prepared) of the driver tells.
     pub fn write_zeroes(&mut self, alloc: Global, offset: u64, count: u64) -> Result<(), Error>
         requires { (D.view (driver self.old)).pending ≡ None }
         ensures { IsZeroWrite D.view Zero self.old self.new offset count result }
@@ -303,6 +305,8 @@ impl<D: FormatDriverInstance> FormatAccess<D> {
 
     /// Gives up the data of a range, which reads as zeroes afterwards. What the driver doesn't discard by itself is zeroed as
     /// [`write_zeroes`](Self::write_zeroes) does. The refusals, and what they leave, are the same too.
+    ///
+    /// No prepared mapping may wait, which [`has_prepared`](FormatDriverInstance::has_prepared) of the driver tells.
     pub fn discard_to_zero(&mut self, alloc: Global, offset: u64, count: u64) -> Result<(), Error>
         requires { (D.view (driver self.old)).pending ≡ None }
         ensures { IsZeroWrite D.view DiscardToZero self.old self.new offset count result }
@@ -333,8 +337,5 @@ pub(crate) fn zero_bytes(alloc: Global, count: usize) -> Result<Vec<u8>, Error>
     ensures zeroes { IfOk result (λ v. EachIndex v.items (λ k. slice_index v.items k ≡ 0)) }
     ensures memory { IfErr result (λ e. e ≡ Error.Memory) }
 {
-    match vec![in alloc; 0u8; count] {
-        Ok(zeroes) => Ok(zeroes),
-        Err(_) => Err(Error::Memory),
-    }
+    Ok(vec![in alloc; 0u8; count]?)
 }
