@@ -6,11 +6,14 @@ pub use Rattle.imago_storage.specs.Maintenance
 pub use Rattle.imago_storage.specs.Faults
 pub use Rattle.imago_storage.specs.IoCount
 pub use Rattle.imago_storage.specs.Options
+pub use Rattle.imago_storage.specs.Openings
 pub use Rattle.imago_storage.specs.Powers
 pub use Rattle.imago_storage.specs.Mem
+pub use Rattle.imago_storage.specs.MemParts
 pub use Rattle.imago_storage.specs.Padding
 pub use Rattle.imago_storage.specs.Blocks
 pub use Rattle.imago_storage.specs.Zeroes
+pub use Rattle.imago_storage.specs.Calls as StorageCalls
 pub use Rattle.imago_drivers.specs.Operation
 pub use Rattle.imago_drivers.specs.Place
 pub use Rattle.imago_drivers.specs.Reasons
@@ -19,6 +22,7 @@ pub use Rattle.imago_drivers.specs.Causes
 pub use Rattle.imago_drivers.specs.Parts
 pub use Rattle.imago_drivers.specs.Ranges
 pub use Rattle.imago_drivers.specs.Flushes
+pub use Rattle.imago_drivers.specs.Discards
 pub use Rattle.imago_drivers.specs.Pending
 pub use Rattle.imago_drivers.specs.View
 pub use Rattle.imago_drivers.specs.Changes
@@ -27,17 +31,33 @@ pub use Rattle.imago_drivers.specs.Mapping
 pub use Rattle.imago_drivers.specs.Prepared
 pub use Rattle.imago_drivers.specs.Done
 pub use Rattle.imago_drivers.specs.Commit
+pub use Rattle.imago_drivers.specs.Lengths as StorageLengths
+pub use Rattle.imago_drivers.specs.Calls as DriverCalls
 pub use Rattle.imago_drivers.specs.Resized
 pub use Rattle.imago_drivers.specs.Laws
+pub use Rattle.imago_drivers.specs.Worked as WorkedLayers
 pub use Rattle.imago_drivers.specs.Raw
 pub use Rattle.imago_drivers.specs.RawLaws
 pub use Rattle.imago_drivers.specs.RawImage
+pub use Rattle.imago_drivers.specs.RawDiscards
 pub use Rattle.imago_drivers.specs.Opening
 pub use Rattle.imago_drivers.specs.NamedGate
 pub use Rattle.imago_drivers.specs.Builder
 pub use Rattle.imago_drivers.specs.BuilderBase
 pub use Rattle.imago_drivers.specs.RawBuilder
 pub use Rattle.imago_drivers.specs.RawBuilderParts
+pub use Rattle.imago_vmdk.specs.Text as DescriptorText
+pub use Rattle.imago_vmdk.specs.Line as DescriptorLine
+pub use Rattle.imago_vmdk.specs.Reading as DescriptorReading
+pub use Rattle.imago_vmdk.specs.Probe as DescriptorProbe
+pub use Rattle.imago_vmdk.specs.Vmdk
+pub use Rattle.imago_vmdk.specs.Starts as ExtentStarts
+pub use Rattle.imago_vmdk.specs.VmdkLaws
+pub use Rattle.imago_vmdk.specs.Image as VmdkImage
+pub use Rattle.imago_vmdk.specs.VmdkBuilderParts
+pub use Rattle.imago_vmdk.specs.VmdkBuilder
+pub use Rattle.imago_vmdk.specs.Opened as ExtentsOpened
+pub use Rattle.imago_vmdk.specs.Disk as VmdkDisk
 pub use Rattle.imago_access.specs.Chain
 pub use Rattle.imago_access.specs.Text
 pub use Rattle.imago_access.specs.Target
@@ -47,6 +67,9 @@ pub use Rattle.imago_access.specs.Ways
 pub use Rattle.imago_access.specs.Named
 pub use Rattle.imago_access.specs.Writing
 pub use Rattle.imago_access.specs.Calls
+pub use Rattle.imago_access.specs.Zeroing
+pub use Rattle.imago_access.specs.Discarding
+pub use Rattle.imago_access.specs.DiscardParts
 pub use Rattle.imago_access.specs.PreparedOnDisk
 pub use Rattle.imago_access.specs.Sizes
 pub use Rattle.imago_access.specs.Runs
@@ -57,3 +80,26 @@ pub use Rattle.imago_access.specs.Success
 pub use Rattle.imago_access.specs.Alignments
 pub use Rattle.imago_access.specs.Lending
 pub use Rattle.imago_access.specs.ChainLaws
+-- The types of these items, under their own names; 'Declared' stands before one that a file of definitions above has too.
+pub use Rattle.imago_storage.specs.declared.error.Error as DeclaredError
+pub use Rattle.imago_storage.specs.declared.error.ErrorKind
+pub use Rattle.imago_storage.specs.declared.options.PreallocateMode as StoragePreallocateMode
+pub use Rattle.imago_storage.specs.declared.options.ZeroKind
+pub use Rattle.imago_storage.specs.declared.options.StorageOpenOptions
+pub use Rattle.imago_storage.specs.declared.options.StorageCreateOptions
+pub use Rattle.imago_storage.specs.declared.mem.MemStorage
+pub use Rattle.imago_storage.specs.declared.null.Null
+pub use Rattle.imago_drivers.specs.declared.format.Format
+pub use Rattle.imago_drivers.specs.declared.format.PreallocateMode
+pub use Rattle.imago_drivers.specs.declared.mapping.ShallowMapping
+pub use Rattle.imago_drivers.specs.declared.mapping.PreparedDataMapping
+pub use Rattle.imago_drivers.specs.declared.raw.Raw as DeclaredRaw
+pub use Rattle.imago_drivers.specs.declared.gate.NamedGate as DeclaredNamedGate
+pub use Rattle.imago_drivers.specs.declared.builder.FormatDriverBuilderBase
+pub use Rattle.imago_drivers.specs.declared.builder.FormatCreateBuilderBase
+pub use Rattle.imago_vmdk.specs.declared.line.Extent
+pub use Rattle.imago_vmdk.specs.declared.vmdk.Vmdk as DeclaredVmdk
+pub use Rattle.imago_access.specs.declared.access.FormatAccess
+pub use Rattle.imago_access.specs.declared.mapping.Mapping as DeclaredMapping
+pub use Rattle.imago_access.specs.declared.run.Call
+pub use Rattle.imago_access.specs.declared.run.Reply

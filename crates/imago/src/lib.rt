@@ -2,7 +2,10 @@
 //!
 //! A [`Storage`] holds bytes, a driver shows a disk that stands in storages, and a [`FormatAccess`] reads and writes the
 //! disk of a driver and of the images below it. Names and modules are those of the Rust crate imago; everything here is
-//! defined in `imago_storage`, `imago_drivers` and `imago_access`, and their documentation says what each item does.
+//! defined in `imago_storage`, `imago_drivers`, `imago_vmdk` and `imago_access`, and their documentation says what each item does.
+//!
+//! A contract over these items names what it needs by this crate alone: definitions as `Rattle.imago.specs.Bytes.{splice}`, and
+//! types as `Rattle.imago.specs.MemStorage.{MemStorage}`. `specs/Lib.antt` lists them; [`laws`] has the laws.
 #![tactic(auto)]
 
 pub mod access;
@@ -22,4 +25,5 @@ pub use imago_drivers::gate::{DenyImplicitOpenGate, ImplicitOpenGate, Permissive
 pub use imago_drivers::{builder, drivers, gate, layer, raw};
 pub use imago_storage::ext::StorageExt;
 pub use imago_storage::{error, ext, mem, null};
+pub use imago_vmdk::vmdk;
 pub use storage::{Storage, StorageCreateOptions, StorageOpenOptions};
