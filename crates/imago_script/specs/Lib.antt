@@ -1,2 +1,4 @@
 pub mod Words
 pub mod ScriptStorage
+pub mod Restated
+pub mod ScriptDriver

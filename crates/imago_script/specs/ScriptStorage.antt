@@ -1,13 +1,13 @@
 use Rattle.std.specs.Prelude.{Result}
-use Rattle.imago_storage.specs.declared.error.Error.{Error}
-use Rattle.imago_storage.specs.Maintenance.{Maintenance}
+use Rattle.imago.specs.DeclaredError.{Error}
+use Rattle.imago.specs.Maintenance.{Maintenance}
 use Rattle.imago_script.specs.declared.script_storage.ScriptStorage.{ScriptStorage}
 use Rattle.imago_script.specs.declared.script_storage.ScriptStorage.TheVariants.{Mem, Null}
-use Rattle.imago_storage.specs.declared.mem.MemStorage.{MemStorage}
-use Rattle.imago_storage.specs.declared.null.Null.{Null as NullStorage}
-use Rattle.imago_storage.specs.Features.{AreAlignments}
-use Rattle.imago_storage.specs.Mem.{null_features, null_lawful}
-use Rattle.imago_storage.specs.MemParts.{features_of, alignments_of}
+use Rattle.imago.specs.MemStorage.{MemStorage}
+use Rattle.imago.specs.Null.{Null as NullStorage}
+use Rattle.imago.specs.Features.{AreAlignments}
+use Rattle.imago.specs.Mem.{null_features, null_lawful}
+use Rattle.imago.specs.MemParts.{features_of, alignments_of}
 
 -- a member of a script's storage: that of the storage in memory, or of the null one, that it holds
 abbrev pub by_kind : {T : Type 0} → (MemStorage → T) → (NullStorage → T) → ScriptStorage → T

@@ -11,6 +11,8 @@ use std::io::{self, Write};
 pub enum Answer<'a> {
     /// It is done, and answers nothing.
     Done,
+    /// Whether a storage has an image of a format.
+    Probed(bool),
     /// What an image is.
     Shown(&'a Image),
     /// What a call on an image replied.
@@ -33,6 +35,7 @@ impl<'a> Answer<'a> {
     pub fn print<W: Write>(&self, output: &mut W) -> io::Result<()> {
         match self {
             Answer::Done => writeln!(output, "ok"),
+            Answer::Probed(found) => writeln!(output, "ok {found}"),
             Answer::Shown(image) => writeln!(output, "ok {image}"),
             Answer::Replied(reply) => print_reply(reply, output),
             Answer::Refused(kind) => writeln!(output, "err {kind:?}"),

@@ -1,8 +1,11 @@
 //! What a line of a script says.
 ghost use Rattle.std.specs.Prelude.{◌≤◌, ◌↔◌, IsSome};
 
-use crate::words::{Alignment, Hex, byte, mode, number, overwriting, words_of, writability};
+use crate::words::{
+    Alignment, Fault, byte, bytes, cut_at, mode, number, overwriting, word, words_of, writability,
+};
 use imago::run::Call;
+use std::alloc::Global;
 
 /// The longest read, in bytes.
 const LONGEST_READ: u64 = 16777216;
@@ -27,7 +30,7 @@ pub enum Command<'a> {
         /// Its name.
         name: &'a str,
         /// Its bytes.
-        bytes: Hex<'a>,
+        bytes: Vec<u8>,
     },
     /// Adds a null storage.
     Null {
@@ -36,6 +39,11 @@ pub enum Command<'a> {
         /// Its length in bytes.
         size: u64,
     },
+    /// Asks whether a storage has a VMDK descriptor.
+    Probe {
+        /// The storage's name.
+        name: &'a str,
+    },
     /// Opens a storage as a raw image.
     OpenRaw {
         /// The storage's name.
@@ -43,21 +51,47 @@ pub enum Command<'a> {
         /// Whether the image can be written to.
         writable: bool,
     },
+    /// Opens a storage with a descriptor, and the storages that it names, as a VMDK image.
+    OpenVmdk {
+        /// The storage's name.
+        name: &'a str,
+        /// Whether keys of the descriptor that aren't known are accepted.
+        lax: bool,
+    },
     /// Prints what the open image is.
     Show,
-    /// Writes to the open image.
-    Write {
-        /// Where to, in bytes.
-        offset: u64,
-        /// What to write.
-        bytes: Hex<'a>,
-    },
-    /// Another call on the open image.
+    /// A call on the open image.
     Call(Call),
 }
 
-/// The command that a line is, or `None` where it is malformed.
-pub fn command_of(line: &[u8]) -> Option<Command<'_>> {
+/// The command that a line is.
+///
+/// The bytes of a command that has some are what is left of its line, so that they are looked at only to read them.
+pub fn command_of(alloc: Global, line: &[u8]) -> Result<Command<'_>, Fault> {
+    let (first, rest) = cut_at(b' ', line);
+    let (second, digits) = cut_at(b' ', rest);
+    match first {
+        b"hex" => {
+            let name = word(second).ok_or(Fault::Malformed)?;
+            let bytes = bytes(alloc, digits)?;
+            Ok(Command::Hex { name, bytes })
+        }
+        b"write" => {
+            let offset = offset(second).ok_or(Fault::Malformed)?;
+            let bytes = bytes(alloc, digits)?;
+            Ok(Command::Call(Call::Write { offset, bytes }))
+        }
+        _ => short_command(line).ok_or(Fault::Malformed),
+    }
+}
+
+/// The offset that a word spells.
+fn offset(bytes: &[u8]) -> Option<u64> {
+    number(word(bytes)?)
+}
+
+/// The command that a line is, of those that have no bytes.
+fn short_command(line: &[u8]) -> Option<Command<'_>> {
     let (words, count) = words_of(line)?;
     match words.get(..count)? {
         &["mem", name, length, fill, mem_align, req_align] => Some(Command::Mem {
@@ -67,10 +101,6 @@ pub fn command_of(line: &[u8]) -> Option<Command<'_>> {
             mem_align: Alignment::of(mem_align)?,
             req_align: Alignment::of(req_align)?,
         }),
-        &["hex", name, bytes] => Some(Command::Hex {
-            name,
-            bytes: Hex::of(bytes)?,
-        }),
         &["null", name, size] => Some(Command::Null {
             name,
             size: number(size)?,
@@ -79,16 +109,15 @@ pub fn command_of(line: &[u8]) -> Option<Command<'_>> {
             name,
             writable: writability(access)?,
         }),
+        &["open", "vmdk", name] => Some(Command::OpenVmdk { name, lax: false }),
+        &["open", "vmdk", name, "lax"] => Some(Command::OpenVmdk { name, lax: true }),
+        &["probe", name] => Some(Command::Probe { name }),
         &["show"] => Some(Command::Show),
-        &["write", offset, bytes] => Some(Command::Write {
-            offset: number(offset)?,
-            bytes: Hex::of(bytes)?,
-        }),
         words => Some(Command::Call(call_of(words)?)),
     }
 }
 
-/// The call that words are, of those that take no bytes.
+/// The call that words are, of those that have no bytes.
 fn call_of(words: &[&str]) -> Option<Call> {
     match words {
         &["size"] => Some(Call::Size),

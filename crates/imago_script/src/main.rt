@@ -4,6 +4,7 @@
 mod answer;
 mod command;
 mod script;
+mod script_driver;
 mod script_storage;
 mod session;
 mod stop;

@@ -4,6 +4,7 @@ ghost use Rattle.std.specs.Prelude.{◌≤◌};
 use crate::command::command_of;
 use crate::session::Session;
 use crate::stop::Stop;
+use crate::words::{Fault, cut_at};
 use std::alloc::Global;
 use std::io::{BufWriter, Read, Write};
 
@@ -28,13 +29,19 @@ fn answer_all<R: Read, W: Write>(alloc: Global, input: &mut R, output: &mut W) -
     input.read_to_end(&mut text)?;
     let mut session = Session::new(alloc);
     let mut number = 0u64;
-    for line in text.split(|byte| *byte == b'\n') {
+    let mut rest = text.as_slice();
+    'lines: while !rest.is_empty() {
+        let (line, behind) = cut_at(b'\n', rest);
+        rest = behind;
         number = number.saturating_add(1);
         if line.is_empty() || line.starts_with(b"#") {
             continue;
         }
-        let command = command_of(line).ok_or(Stop::BadLine(number))?;
-        session.answer(command)?.print(output)?;
+        match command_of(alloc, line) {
+            Ok(command) => session.answer(command)?.print(output)?,
+            Err(Fault::Malformed) => return Err(Stop::BadLine(number)),
+            Err(Fault::Memory) => return Err(Stop::Memory),
+        }
     }
     Ok(())
 }

@@ -1,27 +1,34 @@
 //! What a script has made so far, and what its commands do to it.
+ghost use Rattle.std.specs.Prelude.{◌≡◌, None};
+ghost use Rattle.std.specs.Option.{ForSome};
+ghost use Rattle.imago.specs.Chain.{driver};
 
 use crate::answer::Answer;
 use crate::command::Command;
+use crate::script_driver::ScriptDriver;
 use crate::script_storage::ScriptStorage;
 use crate::stop::Stop;
+use imago::drivers::FormatDriverInstance;
 use imago::error::{Error, ErrorKind};
 use imago::gate::NamedGate;
 use imago::mem::MemStorage;
 use imago::null::Null;
 use imago::raw::Raw;
 use imago::run::{Call, Reply, run};
+use imago::vmdk::Vmdk;
 use imago::{FormatAccess, FormatDriverBuilder};
 use std::alloc::Global;
 
 /// An open image.
-pub type Image = FormatAccess<Raw<ScriptStorage>>;
+pub type Image = FormatAccess<ScriptDriver<ScriptStorage>>;
 
-/// The storages that a script has added and not opened, and its open image.
+/// The storages that a script has added and not opened, and its open image, in which no prepared mapping waits.
 #[derive(Drop)]
 pub struct Session {
     alloc: Global,
     storages: NamedGate<ScriptStorage>,
     image: Option<Image>,
+    ghost spent: { ForSome image (λ i. (⟦<ScriptDriver<ScriptStorage> as FormatDriverInstance>⟧.view (driver i)).pending ≡ None) },
 }
 
 impl Session {
@@ -54,17 +61,14 @@ impl Session {
                 )
             }
             Command::Hex { name, bytes } => {
-                let bytes = bytes.bytes(self.alloc)?;
                 let storage = MemStorage::named(String::from_str(self.alloc, name)?, bytes);
                 self.add(name, ScriptStorage::Mem(storage))
             }
             Command::Null { name, size } => self.add(name, ScriptStorage::Null(Null::new(size))),
+            Command::Probe { name } => Ok(Answer::from(self.probe(name))),
             Command::OpenRaw { name, writable } => Ok(Answer::from(self.open_raw(name, writable))),
+            Command::OpenVmdk { name, lax } => Ok(Answer::from(self.open_vmdk(name, lax))),
             Command::Show => Ok(Answer::from(self.show())),
-            Command::Write { offset, bytes } => {
-                let bytes = bytes.bytes(self.alloc)?;
-                Ok(Answer::from(self.call(Call::Write { offset, bytes })))
-            }
             Command::Call(call) => Ok(Answer::from(self.call(call))),
         }
     }
@@ -78,15 +82,34 @@ impl Session {
         }
     }
 
-    /// Takes a storage and opens it. Only where that succeeds the image that was open is let go.
+    /// Whether a storage has a VMDK descriptor, as far as can be told.
+    fn probe(&self, name: &str) -> Result<Answer<'_>, Error> {
+        let storage = self.storages.get(name).ok_or(Error::NotFound)?;
+        Ok(Answer::Probed(Vmdk::probe(self.alloc, storage)?))
+    }
+
+    /// Takes a storage and opens it as a raw image.
     fn open_raw(&mut self, name: &str, writable: bool) -> Result<Answer<'_>, Error> {
-        let Ok(path) = String::from_str(self.alloc, name) else {
-            return Err(Error::Memory);
-        };
+        let path = String::from_str(self.alloc, name)?;
         let builder = Raw::builder_path(path).write(writable);
         let driver = builder.open(self.alloc, &mut self.storages)?;
-        self.image = Some(FormatAccess::new(driver));
-        Ok(Answer::Done)
+        Ok(self.opened(ScriptDriver::Raw(driver)))
+    }
+
+    /// Takes a storage and those that its descriptor names, and opens them as a VMDK image.
+    fn open_vmdk(&mut self, name: &str, lax: bool) -> Result<Answer<'_>, Error> {
+        let path = String::from_str(self.alloc, name)?;
+        let builder = Vmdk::builder_path(path).accept_unknown_keys(lax);
+        let driver = builder.open(self.alloc, &mut self.storages)?;
+        Ok(self.opened(ScriptDriver::Vmdk(driver)))
+    }
+
+    /// Has the image of that driver as the open one, and lets go of the one that was.
+    fn opened(&mut self, top: ScriptDriver<ScriptStorage>) -> Answer<'_>
+        requires { (⟦<ScriptDriver<ScriptStorage> as FormatDriverInstance>⟧.view top).pending ≡ None }
+    {
+        self.image = Some(FormatAccess::new(top));
+        Answer::Done
     }
 
     /// The open image, to be printed.

@@ -1,5 +1,6 @@
 //! Scripts, what they print, and how they end.
 
+mod attacks;
 mod bad_lines;
 mod examples;
 mod faults;

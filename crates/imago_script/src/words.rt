@@ -1,29 +1,55 @@
 //! The words of a line, and what they spell.
-ghost use Rattle.std.specs.Prelude.{◌≡◌, ◌^◌, ◌<◌, ◌↔◌, IsTrue};
+ghost use Rattle.std.specs.Prelude.{◌≡◌, ◌^◌, ◌<◌, ◌↔◌, length, IsTrue, IfOk};
 ghost use Rattle.std.specs.Option.{SomeIff};
 ghost use Rattle.std.specs.Str.Parse.{IsNumeral, digits_value};
-ghost use Rattle.imago_storage.specs.Powers.{IsAlignment};
-ghost use Rattle.imago_script.specs.Words.{IsWord};
+ghost use Rattle.imago.specs.Powers.{IsAlignment};
+ghost use Rattle.imago_script.specs.Words.{IsWord, IsCut, Spells};
 
-use crate::stop::Stop;
-use hex::decode_to_slice;
+use hex::{FromHexError, decode_to_slice};
 use imago::format::PreallocateMode;
 use imago::storage::is_alignment;
+use memchr::memchr;
 use std::alloc::Global;
 
 /// How many words the longest command has.
 const MOST_WORDS: usize = 6;
+
+/// Why a line gives no command.
+#[derive(Drop)]
+pub enum Fault {
+    /// It is malformed.
+    Malformed,
+    /// There is no memory for its bytes.
+    Memory,
+}
+
+/// What stands before the first byte of that value, and what behind it: all and nothing, where there is none.
+pub fn cut_at(separator: u8, text: &[u8]) -> (&[u8], &[u8])
+    ensures cut { IsCut separator text.now result.0.now result.1.now }
+    ensures shorter { 0 < length text.now → length result.1.now < length text.now }
+{
+    match memchr(separator, text) {
+        Some(at) => (&text[..at], &text[at + 1..]),
+        None => (text, &[]),
+    }
+}
+
+/// A word, as text.
+pub fn word(bytes: &[u8]) -> Option<&str> {
+    if is_word(bytes) {
+        str::from_utf8(bytes).ok()
+    } else {
+        None
+    }
+}
 
 /// The words of a line, each two parted by one space, in front of empty texts, and how many they are. `None` where the
 /// line isn't made of words, or has more than any command.
 pub fn words_of(line: &[u8]) -> Option<([&str; MOST_WORDS], usize)> {
     let mut words = [""; MOST_WORDS];
     let mut count = 0;
-    for word in line.split(|byte| *byte == b' ') {
-        if !is_word(word) {
-            return None;
-        }
-        *words.get_mut(count)? = str::from_utf8(word).ok()?;
+    for part in line.split(|byte| *byte == b' ') {
+        *words.get_mut(count)? = word(part)?;
         count += 1;
     }
     Some((words, count))
@@ -79,37 +105,23 @@ pub fn byte(word: &str) -> Option<u8> {
     Some(byte[0])
 }
 
-/// Bytes in hex: two digits for each, in either case. `-` stands for no bytes.
-#[derive(Clone, Copy)]
-pub struct Hex<'a> {
-    digits: &'a str,
-}
-
 /// The word for no bytes.
 pub const NO_BYTES: &str = "-";
 
-impl<'a> Hex<'a> {
-    /// The bytes that a word spells.
-    pub fn of(word: &'a str) -> Option<Self> {
-        if word == NO_BYTES {
-            return Some(Hex { digits: "" });
-        }
-        if word.is_empty() || word.len() % 2 != 0 {
-            return None;
-        }
-        if word.bytes().all(|digit| digit.is_ascii_hexdigit()) {
-            Some(Hex { digits: word })
-        } else {
-            None
-        }
+/// The bytes that digits spell in hex: two for each, in either case, or `-` for none. Each digit is looked at once.
+pub fn bytes(alloc: Global, digits: &[u8]) -> Result<Vec<u8>, Fault>
+    ensures spelt { IfOk result (λ v. Spells digits.now v.items) }
+{
+    if digits == NO_BYTES.as_bytes() {
+        return Ok(Vec::new(alloc));
     }
-
-    /// The bytes. Only memory for them can be refused.
-    pub fn bytes(self, alloc: Global) -> Result<Vec<u8>, Stop> {
-        match hex::decode(alloc, self.digits) {
-            Ok(bytes) => Ok(bytes),
-            Err(_) => Err(Stop::Memory),
-        }
+    if digits.is_empty() {
+        return Err(Fault::Malformed);
+    }
+    match hex::decode(alloc, digits) {
+        Ok(bytes) => Ok(bytes),
+        Err(FromHexError::OutOfMemory) => Err(Fault::Memory),
+        Err(_) => Err(Fault::Malformed),
     }
 }
 

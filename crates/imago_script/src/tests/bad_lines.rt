@@ -3,7 +3,7 @@
 use super::check;
 
 /// Texts that are no command, each by one fault.
-const BAD_LINES: [&[u8]; 74] = [
+const BAD_LINES: [&[u8]; 83] = [
     // The words: nothing but bytes that print, and one space between two.
     b" ",
     b" size",
@@ -23,7 +23,7 @@ const BAD_LINES: [&[u8]; 74] = [
     b"sizes",
     b"siz",
     b"-",
-    b"probe a",
+    b"prob a",
     b"map 0",
     b"map 0 1 2",
     b"map x 1",
@@ -35,7 +35,12 @@ const BAD_LINES: [&[u8]; 74] = [
     b"data 0 1",
     b"data 0 1 kept",
     b"data 0 -1 over",
-    b"open vmdk a",
+    b"open vmdk a strict",
+    b"open vmdk a Lax",
+    b"open vmdk a ro lax",
+    b"open vmdk",
+    b"probe",
+    b"probe a b",
     b"open qcow2 a ro",
     b"open cow a 3",
     // How many words it has.
@@ -47,6 +52,10 @@ const BAD_LINES: [&[u8]; 74] = [
     b"read 0 1 2",
     b"write 0",
     b"write 0 00 00",
+    b"write 0 0000 ",
+    b"hex a 00 ",
+    b"hex  00",
+    b"hex a  00",
     b"resize 1",
     b"grow 1",
     b"shrink",

@@ -1,7 +1,7 @@
 //! The scripts of examples/, and what they print. tools/examples-in-tests writes this file.
 
 /// The name of each example, its script, and what that prints.
-pub(super) const EXAMPLES: [(&str, &str, &str); 4] = [
+pub(super) const EXAMPLES: [(&str, &str, &str); 5] = [
     (
         "alignment",
         "# A storage that takes requests of whole blocks of 4 bytes alone, and a disk of 10 bytes on it.
@@ -142,6 +142,59 @@ ok
 ok 18446744073709551615
 err Other
 ok 0000
+",
+    ),
+    (
+        "vmdk",
+        "# A text descriptor of three extents, each of one sector: of a file, zeroes, and of another file from its second sector on.
+hex disk.vmdk 76657273696f6e3d310a5257203120464c41542022612e696d67220a52572031205a45524f0a52444f4e4c59203120464c41542022622e696d672220310a
+mem a.img 512 aa 1 1
+mem b.img 600 bb 1 1
+# Whether a storage has a descriptor. It stays where it is.
+probe disk.vmdk
+probe a.img
+# The descriptor is opened, and the extents by the names that it gives them.
+open vmdk disk.vmdk
+show
+size
+# The first two extents, and the last two.
+read 510 4
+read 1022 4
+# The second file ends inside its second sector: behind it zeroes are read.
+read 1110 4
+# What ranges are: bytes of the storages 1 and 2, since the descriptor's is storage 0, and explicit zeroes.
+map 0 1536
+map 512 1536
+map 1024 1536
+# The disk can't be written to.
+write 0 00
+# A key of a descriptor that isn't known is refused, unless it is to be accepted.
+hex other.vmdk 76657273696f6e3d310a656e636f64696e673d225554462d38220a52572031205a45524f0a
+open vmdk other.vmdk
+hex other.vmdk 76657273696f6e3d310a656e636f64696e673d225554462d38220a52572031205a45524f0a
+open vmdk other.vmdk lax
+size
+",
+        "ok
+ok
+ok
+ok true
+ok false
+ok
+ok vmdk[mem:disk.vmdk]
+ok 1536
+ok aaaa0000
+ok 0000bbbb
+ok bbbb0000
+ok 512 0/1:0x0/rw
+ok 512 <zero:explicit>
+ok 512 0/2:0x200/ro
+err Other
+ok
+err InvalidData
+ok
+ok
+ok 512
 ",
     ),
 ];

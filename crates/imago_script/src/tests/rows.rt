@@ -3,7 +3,7 @@
 use super::check;
 
 /// Scripts whose every line is a command, and what they print.
-const ROWS: [(&str, &str); 23] = [
+const ROWS: [(&str, &str); 26] = [
     (
         "mem a 16 00 1 1\nopen raw a rw\nwrite 3 0102\nread 0 6\n",
         "ok\nok\nok\nok 000000010200\n",
@@ -128,6 +128,28 @@ const ROWS: [(&str, &str); 23] = [
         "mem a 18446744073709551615 00 1 1\nopen raw a ro\nmem b 1 77 1 1\nopen raw b rw\n\
          grow 18446744073709551615 zero\nresize 9223372036854775808 none\nsize\nread 0 1\n",
         "err OutOfMemory\nerr NotFound\nok\nok\nerr OutOfMemory\nerr OutOfMemory\nok 1\nok 77\n",
+    ),
+    // A VMDK image of two files, the second one from its second sector on. It is read-only; behind its files are zeroes.
+    (
+        "hex d 76657273696f6e3d310a5257203120464c41542022612e696d67220a5257203120464c41542022622e696d672220310a\nmem a.img 512 aa 1 1\n\
+         mem b.img 600 bb 1 1\nopen vmdk d\nsize\nread 510 4\nread 598 4\nmap 512 100\nmap 0 600\nmap 1024 1\nwrite 0 00\nzero 0 0\n\
+         grow 1025 none\nflush\nsync\nshow\n",
+        "ok\nok\nok\nok\nok 1024\nok aaaabbbb\nok bbbb0000\nok 100 0/2:0x200/rw\nok 512 0/1:0x0/rw\nok 0 <eof>\nerr Other\nerr Other\n\
+         err Other\nok\nok\nok vmdk[mem:d]\n",
+    ),
+    // An extent of no sectors. Where a file isn't there, nothing is opened, and what was taken out is gone.
+    (
+        "hex z 76657273696f6e3d310a52572030205a45524f0a52572031205a45524f0a\nopen vmdk z\nmap 0 600\nhex d 76657273696f6e3d310a5257203120464c41542022612e696d67220a5257203120464c41542022622e696d672220310a\n\
+         mem a.img 1 00 1 1\nopen vmdk d\nsize\nopen vmdk d\nopen raw a.img ro\nopen vmdk n\n",
+        "ok\nok\nok 512 <zero:explicit>\nok\nok\nerr NotFound\nok 512\nerr NotFound\nerr NotFound\nerr NotFound\n",
+    ),
+    // What descriptors are refused for, and what a probe tells of them; it takes nothing out.
+    (
+        "hex p 76657273696f6e3d310a706172656e7446696c654e616d6548696e743d780a52572031205a45524f0a\nprobe p\nopen vmdk p lax\n\
+         hex n 52572031205a45524f0a\nprobe n\nopen vmdk n\nhex x 666f6f3d310a76657273696f6e3d310a\nprobe x\nopen vmdk x\n\
+         null s 3\nprobe s\nprobe s\nopen vmdk s\nprobe s\n",
+        "ok\nok true\nerr Unsupported\nok\nok false\nerr Unsupported\nok\nok true\nerr InvalidData\nok\nok false\nok false\nerr InvalidData\n\
+         err NotFound\n",
     ),
 ];
 
