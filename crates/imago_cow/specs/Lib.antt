@@ -2,4 +2,12 @@ pub mod Free
 pub mod Table
 pub mod TableView
 pub mod TableLaws
+pub mod Guest
+pub mod GuestLaws
+pub mod Copies
+pub mod Cow
+pub mod CowLaws
+pub mod CowImage
 pub mod Worked
+pub mod Growth
+pub mod Cut

@@ -4,9 +4,13 @@ ghost use Rattle.imago_cow.specs.declared.table.GuestBlock.{GuestBlock};
 ghost use Rattle.imago_cow.specs.Worked.{two_named, one_named};
 ghost use Rattle.imago_cow.specs.Table.{IsLowestUnused, without_data, named_count, held_count, times_used, one_below};
 ghost use Rattle.imago_cow.specs.Free.{times_free, free_count};
+ghost use Rattle.imago_cow.specs.Cow.{number_of_waiting};
+ghost use Rattle.imago_cow.specs.CowImage.{blocks_of, data_blocks_of, free_in, waiting_in};
 ghost use Rattle.imago_cow.specs.TableView.{entries_of, held_of, count_of, free_of};
 
+use crate::cow::Cow;
 use crate::table::Table;
+use imago_storage::storage::Storage;
 
 /// Each data block is free, or named by exactly one entry, or held; one that is not there is none of these.
 pub fn each_data_block_is_used_once(table: &Table)
@@ -23,6 +27,15 @@ pub fn each_data_block_is_used_once(table: &Table)
         → held_of table.now ≡ Some j
         → slice_get (entries_of table.now) i ≡ Some (GuestBlock.Data j)
         → ⊥ }
+{}
+
+/// Each data block of a disk is free, or named by exactly one entry, or that of the prepared write that waits; one that is
+/// not there is none of these.
+pub fn data_blocks_of_a_disk<S: Storage>(disk: &Cow<S>)
+    ensures { (j : ℕ)
+        → times_free j (free_in disk.now) + times_used j (blocks_of disk.now)
+        (number_of_waiting (waiting_in disk.now))
+        ≡ one_below j (data_blocks_of disk.now) }
 {}
 
 /// The free ones, the named ones and the held one are all.

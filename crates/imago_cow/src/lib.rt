@@ -3,6 +3,17 @@
 //! [`table::Table`] says what each block is, and which data blocks are free.
 #![tactic(auto)]
 
+mod commit;
+mod copy;
+pub mod cow;
+mod cut;
 mod free;
+mod grow;
+mod guest;
 pub mod laws;
+mod map;
+mod named;
+mod prepare;
+mod resize;
+mod stored;
 pub mod table;

@@ -9,6 +9,8 @@ pub enum Format {
     Qcow2,
     /// VMware's virtual disks.
     Vmdk,
+    /// What is written is kept apart from the layer below, with a table in memory.
+    Cow,
 }
 
 /// What the new bytes of an image that grows show, and how they are allocated.

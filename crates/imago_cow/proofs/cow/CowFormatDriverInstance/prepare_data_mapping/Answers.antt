@@ -1,0 +1,121 @@
+use Rattle.std.proofs.Common.{◌≡◌, ◌+◌, ◌<◌, Some, None, Ok, Err, arith, refl, ap, ◌∙◌}
+use Rattle.std.proofs.lemmas.Result.{err_from_is_err_and}
+use Rattle.imago_storage.specs.declared.error.Error.{Error}
+use Rattle.imago_drivers.specs.declared.mapping.PreparedDataMapping.{PreparedDataMapping}
+use Rattle.imago_cow.specs.declared.cow.Waiting.{Waiting}
+use Rattle.imago_cow.specs.declared.cow.CowState.{CowState}
+use Rattle.imago_drivers.specs.LayerBelow.{lent}
+use Rattle.imago_cow.specs.TableView.{entries_of, count_of}
+use Rattle.imago_cow.specs.TableLaws.{named_below}
+use Rattle.imago_cow.specs.GuestLaws.{rest_small}
+use Rattle.imago_cow.specs.Cow.{cow_view}
+use Rattle.imago_cow.specs.CowLaws.{cow_causes}
+use Rattle.imago_cow.proofs.MapSteps.{number_ends}
+use Rattle.imago_cow.proofs.PrepareSteps.{counts_as}
+use Rattle.imago_cow.proofs.DriverSteps.{none_waits}
+use Rattle.imago_cow.proofs.ExistingSteps.{stands_prepared, prepared_existing}
+use Rattle.imago_cow.proofs.cow.CowFormatDriverInstance.prepare_data_mapping.Goals as goal
+
+pub returns-then-count-eq0-clause-call : goal.returns-then-count-eq0-clause-call
+returns-then-count-eq0-clause-call g c =
+    let s = c.args.self.now in
+    let f = g.S.Storage.features s.storage in
+    let A = g.S.Storage.bytes s.storage in
+    let n = g.S.Storage.fault_count s.storage + s.faults in
+    let E = entries_of s.table in
+    let L = lent g.B.LowerLayer.as_layer_below c.args.below in
+    let none : s.waiting ≡ None = none_waits s.block s.size A s.waiting c.requires.spent in
+    stands_prepared (cow_view f n A s.size s.block E (count_of s.table) s.waiting) L c.args.offset c.args.count c.requires.spent (cow_causes f n A s.size s.block E (count_of s.table) s.waiting) c.existing.result
+
+pub overflow_mul-number : goal.overflow_mul-number
+overflow_mul-number g c =
+    let s = c.args.self.now in
+    let k = named_below s.table _ c.in-Data.number (c.get-entry.ensures ∙ ap (λ x. Some x) c.in-Data.is) in
+    omega (arith, number_ends s.block c.in-Data.number (count_of s.table) k, s.addressed)
+
+pub overflow_add-number : goal.overflow_add-number
+overflow_add-number g c =
+    let s = c.args.self.now in
+    let k = named_below s.table _ c.in-Data.number (c.get-entry.ensures ∙ ap (λ x. Some x) c.in-Data.is) in
+    omega (arith, number_ends s.block c.in-Data.number (count_of s.table) k, rest_small s.block s.positive c.args.offset, s.addressed)
+
+pub returns-in-Data-clause-prepared : goal.returns-in-Data-clause-prepared
+returns-in-Data-clause-prepared g c =
+    let s = c.args.self.now in
+    let f = g.S.Storage.features s.storage in
+    let A = g.S.Storage.bytes s.storage in
+    let n = g.S.Storage.fault_count s.storage + s.faults in
+    let E = entries_of s.table in
+    let L = lent g.B.LowerLayer.as_layer_below c.args.below in
+    let none : s.waiting ≡ None = none_waits s.block s.size A s.waiting c.requires.spent in
+    let m = c.existing-in-Data.ensures in
+    rw none (prepared_existing f n A s.size s.block E (count_of s.table) c.args.offset c.args.count s.positive c.requires.inside c.in-Data.number c.min-run.result c.args.overwrite _ c.existing-in-Data.result
+    (c.get-entry.ensures ∙ ap (λ x. Some x) c.in-Data.is) (omega (arith, c.if-count-eq0.false)) c.min-run.ensures m.storage m.offset m.length m.state)
+
+pub returns-in-Data-clause-call : goal.returns-in-Data-clause-call
+returns-in-Data-clause-call g c =
+    let s = c.args.self.now in
+    let f = g.S.Storage.features s.storage in
+    let A = g.S.Storage.bytes s.storage in
+    let n = g.S.Storage.fault_count s.storage + s.faults in
+    let E = entries_of s.table in
+    let L = lent g.B.LowerLayer.as_layer_below c.args.below in
+    let none : s.waiting ≡ None = none_waits s.block s.size A s.waiting c.requires.spent in
+    stands_prepared (cow_view f n A s.size s.block E (count_of s.table) s.waiting) L c.args.offset c.args.count c.requires.spent (cow_causes f n A s.size s.block E (count_of s.table) s.waiting) c.existing-in-Data.result
+
+pub returns-in_err-waiting : goal.returns-in_err-waiting
+returns-in_err-waiting g c =
+    let s = c.args.self.now in
+    let f = g.S.Storage.features s.storage in
+    let A = g.S.Storage.bytes s.storage in
+    let n = g.S.Storage.fault_count s.storage + s.faults in
+    let E = entries_of s.table in
+    let L = lent g.B.LowerLayer.as_layer_below c.args.below in
+    let none : s.waiting ≡ None = none_waits s.block s.size A s.waiting c.requires.spent in
+    let t = c.prepare_part.new in
+    let B = g.S.Storage.bytes t.storage in
+    let n' = g.S.Storage.fault_count t.storage + t.faults in
+    let e = c.prepare_part.ensures in
+    let some : 0 < c.args.count = omega (arith, c.if-count-eq0.false) in
+    let p = err_from_is_err_and c.from_residual.result c.from_residual.ensures.1 in
+    rw (p.1, p.2) (record {
+      prepared = tt;
+      call = rw (none, e.features, e.entries) (record {
+        unchanged = e.unchanged n' n None;
+        refused = refl;
+        causes = tt;
+        lengths = record { no_shorter = λ i. e.no_shorter; no_longer = λ i. e.no_longer c.args.count some };
+        faults = counts_as {T = Waiting} {U = PreparedDataMapping CowState} _ _ _ c.prepare_part.result (Err (c.in_err-waiting.field-0.0)) (λ x. let y : c.in_err-waiting.field-0.0 ≡ Error.Device = cc in c.in_err-waiting.was ∙ ap (λ z. Err z) y) e.faults;
+        refusals = c.in_err-waiting.ensures.refusals n c.args.count some;
+      });
+    })
+
+pub returns : goal.returns
+returns g c =
+    let s = c.args.self.now in
+    let f = g.S.Storage.features s.storage in
+    let A = g.S.Storage.bytes s.storage in
+    let n = g.S.Storage.fault_count s.storage + s.faults in
+    let E = entries_of s.table in
+    let L = lent g.B.LowerLayer.as_layer_below c.args.below in
+    let none : s.waiting ≡ None = none_waits s.block s.size A s.waiting c.requires.spent in
+    let t = c.prepare_part.new in
+    let B = g.S.Storage.bytes t.storage in
+    let n' = g.S.Storage.fault_count t.storage + t.faults in
+    let e = c.prepare_part.ensures in
+    let some : 0 < c.args.count = omega (arith, c.if-count-eq0.false) in
+    let k = c.in_ok-waiting.ensures in
+    let w = c.in_ok-waiting.waiting in
+    let m = c.to_commit.ensures in
+    let S = k.settled in
+    record {
+      prepared = rw (none, e.features, e.entries) (k.prepared c.args.count n' n c.to_commit.result some c.min-run.ensures m.storage m.offset m.length m.state);
+      call = rw (none, e.features, e.entries) (record {
+        unchanged = e.unchanged n' n (Some w);
+        refused = tt;
+        causes = rw (m.length, ← k.same.0) S;
+        lengths = record { no_shorter = λ i. e.no_shorter; no_longer = λ i. e.no_longer c.args.count some };
+        faults = counts_as _ _ _ c.prepare_part.result (Ok c.to_commit.result) (λ x. let z : ⊥ = cc in absurd z) e.faults;
+        refusals = tt;
+      });
+    }

@@ -1,0 +1,16 @@
+use Rattle.std.proofs.Common.{◌≡◌, ◌+◌, arith}
+use Rattle.imago_drivers.specs.declared.format.PreallocateMode.{PreallocateMode}
+use Rattle.imago_drivers.specs.LayerBelow.{lent}
+use Rattle.imago_cow.specs.declared.table.GuestBlock.{GuestBlock}
+use Rattle.imago_cow.specs.TableView.{entries_of, count_of}
+use Rattle.imago_cow.proofs.StoredSteps.{on_ok, ok_holds}
+use Rattle.imago_cow.proofs.ResizeSteps.{grown_absent}
+use Rattle.imago_cow.proofs.grow.grow.Goals as goal
+
+pub returns-then-adds_nothing-clause-grown : goal.returns-then-adds_nothing-clause-grown
+returns-then-adds_nothing-clause-grown g c =
+    let a = c.args in
+    let m : a.mode ≡ PreallocateMode.None = c.adds_nothing.ensures.none c.if-adds_nothing.true in
+    on_ok c.add_blocks.result (λ x is.
+    rw (m, c.add_blocks.ensures.count) (grown_absent (g.S.Storage.features a.storage.now) (g.S.Storage.fault_count a.storage.now + a.faults.now) (g.S.Storage.bytes a.storage.now) a.size a.block (entries_of a.table.now) (entries_of c.add_blocks.new.table) (count_of a.table.now) a.new_size
+    c.requires.positive (lent g.B.LowerLayer.as_layer_below a.below) GuestBlock.Absent (omega (arith, c.requires.grows)) c.requires.exact.covers ((ok_holds x is c.add_blocks.ensures.exact).covers) (ok_holds x is c.add_blocks.ensures.added)))

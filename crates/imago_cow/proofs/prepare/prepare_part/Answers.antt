@@ -1,0 +1,222 @@
+use Rattle.std.proofs.Common.{◌≡◌, ◌+◌, ◌*◌, ◌%◌, ◌<◌, ◌≤◌, ◌⊎◌, ⊎_elim, inl, inr, None, ap, refl, arith}
+use Rattle.std.proofs.lemmas.Bool.{cases_lt}
+use Rattle.imago_drivers.specs.Operation.{Write}
+use Rattle.imago_drivers.specs.LayerBelow.{lent}
+use Rattle.imago_cow.specs.declared.cow.Waiting.{Waiting}
+use Rattle.imago_cow.specs.Cow.{WaitsApart, data_count}
+use Rattle.imago_cow.specs.Table.{named_count}
+use Rattle.imago_cow.specs.TableView.{entries_of, count_of}
+use Rattle.imago_cow.specs.TableLaws.{held_apart}
+use Rattle.imago_cow.specs.GuestLaws.{rest_small}
+use Rattle.imago_cow.proofs.MapSteps.{number_ends}
+use Rattle.imago_cow.proofs.PrepareSteps.{empty_entry, one_more, prepared, prepared_unchanged, prepared_settled, length_within, round_refused, full_refused}
+use Rattle.imago_cow.proofs.prepare.prepare_part.Goals as goal
+
+pub overflow_mul-start : goal.overflow_mul-start
+overflow_mul-start g c =
+    let part = c.args.part in
+    let number = c.in_ok-number.number in
+    let e = c.take.ensures.entries in
+    let fits : number * part.block + part.block < 18446744073709551616 = ⊎_elim
+    (λ less. omega (arith, number_ends part.block number (count_of c.args.table.now) less, c.requires.addressed))
+    (λ more.
+    let same : number ≡ count_of c.args.table.now = omega (arith, more, c.in_ok-number.ensures.lowest.within) in
+    let all : count_of c.args.table.now ≤ named_count (entries_of c.args.table.now) = omega (arith, same, c.in_ok-number.ensures.count, c.take.ensures.added) in
+    let x = c.fits_next.ensures.fits c.if-not-fits_next.false all in
+    let y : number * part.block ≡ count_of c.args.table.now * part.block = ap (λ z. z * part.block) same in
+    omega (arith, x, y))
+    (cases_lt number (count_of c.args.table.now)) in
+    omega (arith, fits)
+
+pub overflow_add-result : goal.overflow_add-result
+overflow_add-result g c =
+    let part = c.args.part in
+    let number = c.in_ok-number.number in
+    let e = c.take.ensures.entries in
+    let fits : number * part.block + part.block < 18446744073709551616 = ⊎_elim
+    (λ less. omega (arith, number_ends part.block number (count_of c.args.table.now) less, c.requires.addressed))
+    (λ more.
+    let same : number ≡ count_of c.args.table.now = omega (arith, more, c.in_ok-number.ensures.lowest.within) in
+    let all : count_of c.args.table.now ≤ named_count (entries_of c.args.table.now) = omega (arith, same, c.in_ok-number.ensures.count, c.take.ensures.added) in
+    let x = c.fits_next.ensures.fits c.if-not-fits_next.false all in
+    let y : number * part.block ≡ count_of c.args.table.now * part.block = ap (λ z. z * part.block) same in
+    omega (arith, x, y))
+    (cases_lt number (count_of c.args.table.now)) in
+    omega (arith, fits, rest_small part.block c.requires.positive part.offset)
+
+pub copy_round-requires-clause-fits : goal.copy_round-requires-clause-fits
+copy_round-requires-clause-fits g c =
+    let part = c.args.part in
+    let number = c.in_ok-number.number in
+    let e = c.take.ensures.entries in
+    let fits : number * part.block + part.block < 18446744073709551616 = ⊎_elim
+    (λ less. omega (arith, number_ends part.block number (count_of c.args.table.now) less, c.requires.addressed))
+    (λ more.
+    let same : number ≡ count_of c.args.table.now = omega (arith, more, c.in_ok-number.ensures.lowest.within) in
+    let all : count_of c.args.table.now ≤ named_count (entries_of c.args.table.now) = omega (arith, same, c.in_ok-number.ensures.count, c.take.ensures.added) in
+    let x = c.fits_next.ensures.fits c.if-not-fits_next.false all in
+    let y : number * part.block ≡ count_of c.args.table.now * part.block = ap (λ z. z * part.block) same in
+    omega (arith, x, y))
+    (cases_lt number (count_of c.args.table.now)) in
+    fits
+
+pub returns-in-Ok-clause-addressed : goal.returns-in-Ok-clause-addressed
+returns-in-Ok-clause-addressed g c =
+    let part = c.args.part in
+    let number = c.in_ok-number.number in
+    let e = c.take.ensures.entries in
+    let fits : number * part.block + part.block < 18446744073709551616 = ⊎_elim
+    (λ less. omega (arith, number_ends part.block number (count_of c.args.table.now) less, c.requires.addressed))
+    (λ more.
+    let same : number ≡ count_of c.args.table.now = omega (arith, more, c.in_ok-number.ensures.lowest.within) in
+    let all : count_of c.args.table.now ≤ named_count (entries_of c.args.table.now) = omega (arith, same, c.in_ok-number.ensures.count, c.take.ensures.added) in
+    let x = c.fits_next.ensures.fits c.if-not-fits_next.false all in
+    let y : number * part.block ≡ count_of c.args.table.now * part.block = ap (λ z. z * part.block) same in
+    omega (arith, x, y))
+    (cases_lt number (count_of c.args.table.now)) in
+    let counts : (count_of c.take.new.self ≡ count_of c.args.table.now) ⊎ (count_of c.take.new.self ≡ number + 1) = ⊎_elim (λ l. inr (omega (arith, l, c.in_ok-number.ensures.count))) (λ h. inl (omega (arith, h, c.in_ok-number.ensures.count))) (cases_lt (count_of c.args.table.now) (number + 1)) in
+    (⊎_elim (λ s. let x : count_of c.take.new.self * part.block ≡ count_of c.args.table.now * part.block = ap (λ y. y * part.block) s in omega (arith, x, c.requires.addressed)) (λ s. let x : count_of c.take.new.self * part.block ≡ (number + 1) * part.block = ap (λ y. y * part.block) s in omega (arith, x, fits)) counts)
+
+pub returns-in-Err-clause-addressed : goal.returns-in-Err-clause-addressed
+returns-in-Err-clause-addressed g c =
+    let part = c.args.part in
+    let number = c.in_ok-number.number in
+    let e = c.take.ensures.entries in
+    let fits : number * part.block + part.block < 18446744073709551616 = ⊎_elim
+    (λ less. omega (arith, number_ends part.block number (count_of c.args.table.now) less, c.requires.addressed))
+    (λ more.
+    let same : number ≡ count_of c.args.table.now = omega (arith, more, c.in_ok-number.ensures.lowest.within) in
+    let all : count_of c.args.table.now ≤ named_count (entries_of c.args.table.now) = omega (arith, same, c.in_ok-number.ensures.count, c.take.ensures.added) in
+    let x = c.fits_next.ensures.fits c.if-not-fits_next.false all in
+    let y : number * part.block ≡ count_of c.args.table.now * part.block = ap (λ z. z * part.block) same in
+    omega (arith, x, y))
+    (cases_lt number (count_of c.args.table.now)) in
+    let counts : (count_of c.take.new.self ≡ count_of c.args.table.now) ⊎ (count_of c.take.new.self ≡ number + 1) = ⊎_elim (λ l. inr (omega (arith, l, c.in_ok-number.ensures.count))) (λ h. inl (omega (arith, h, c.in_ok-number.ensures.count))) (cases_lt (count_of c.args.table.now) (number + 1)) in
+    rw c.release.ensures.count (⊎_elim (λ s. let x : count_of c.take.new.self * part.block ≡ count_of c.args.table.now * part.block = ap (λ y. y * part.block) s in omega (arith, x, c.requires.addressed)) (λ s. let x : count_of c.take.new.self * part.block ≡ (number + 1) * part.block = ap (λ y. y * part.block) s in omega (arith, x, fits)) counts)
+
+pub returns-in-Ok-clause-apart : goal.returns-in-Ok-clause-apart
+returns-in-Ok-clause-apart g c =
+    let part = c.args.part in
+    let number = c.in_ok-number.number in
+    let e = c.take.ensures.entries in
+    let w : Waiting = record { start = part.offset; length = part.run; offset = number * part.block + part.offset % part.block; number = number; state = c.args.state } in
+    let apart : WaitsApart part.block part.size (entries_of c.args.table.now) (count_of c.take.new.self) w = record {
+      some = c.requires.some;
+      inside = c.requires.inside;
+      in_block = c.requires.in_block;
+      offset = refl;
+      known = omega (arith, c.in_ok-number.ensures.count);
+      apart = λ i h. held_apart c.take.new.self i number c.in_ok-number.ensures.held (rw e h);
+      free = empty_entry part.absent _ c.requires.absent c.requires.zero;
+    } in
+    rw e apart
+
+pub returns-in-Ok-clause-prepared : goal.returns-in-Ok-clause-prepared
+returns-in-Ok-clause-prepared g c = λ most now_faults old_faults m some run storage offset long state.
+    let part = c.args.part in
+    let number = c.in_ok-number.number in
+    let e = c.take.ensures.entries in
+    let w : Waiting = record { start = part.offset; length = part.run; offset = number * part.block + part.offset % part.block; number = number; state = c.args.state } in
+    let apart : WaitsApart part.block part.size (entries_of c.args.table.now) (count_of c.take.new.self) w = record {
+      some = c.requires.some;
+      inside = c.requires.inside;
+      in_block = c.requires.in_block;
+      offset = refl;
+      known = omega (arith, c.in_ok-number.ensures.count);
+      apart = λ i h. held_apart c.take.new.self i number c.in_ok-number.ensures.held (rw e h);
+      free = empty_entry part.absent _ c.requires.absent c.requires.zero;
+    } in
+    prepared (g.S.Storage.features c.args.storage.now) old_faults now_faults (g.S.Storage.bytes c.args.storage.now) (g.S.Storage.bytes c.copy_round.new.storage) part.size part.block _ _ _ w c.requires.positive c.requires.exact.covers apart c.take.ensures.added
+    (lent g.B.LowerLayer.as_layer_below c.args.below).at part.absent part.overwrite c.requires.absent c.requires.zero c.in-Ok.ensures.copied
+    part.offset most m refl some run storage offset long state
+
+pub returns-in-Ok-clause-unchanged : goal.returns-in-Ok-clause-unchanged
+returns-in-Ok-clause-unchanged g c = λ now_faults old_faults v.
+    let part = c.args.part in
+    let number = c.in_ok-number.number in
+    let e = c.take.ensures.entries in
+    let w : Waiting = record { start = part.offset; length = part.run; offset = number * part.block + part.offset % part.block; number = number; state = c.args.state } in
+    let apart : WaitsApart part.block part.size (entries_of c.args.table.now) (count_of c.take.new.self) w = record {
+      some = c.requires.some;
+      inside = c.requires.inside;
+      in_block = c.requires.in_block;
+      offset = refl;
+      known = omega (arith, c.in_ok-number.ensures.count);
+      apart = λ i h. held_apart c.take.new.self i number c.in_ok-number.ensures.held (rw e h);
+      free = empty_entry part.absent _ c.requires.absent c.requires.zero;
+    } in
+    prepared_unchanged (g.S.Storage.features c.args.storage.now) old_faults now_faults (g.S.Storage.bytes c.args.storage.now) (g.S.Storage.bytes c.copy_round.new.storage) part.size part.block _ _ _ w c.requires.positive c.requires.exact.covers apart c.take.ensures.added v c.copy_round.ensures.outside
+
+pub returns-in-Err-clause-unchanged : goal.returns-in-Err-clause-unchanged
+returns-in-Err-clause-unchanged g c = λ now_faults old_faults v.
+    let part = c.args.part in
+    let number = c.in_ok-number.number in
+    let e = c.take.ensures.entries in
+    let w : Waiting = record { start = part.offset; length = part.run; offset = number * part.block + part.offset % part.block; number = number; state = c.args.state } in
+    let apart : WaitsApart part.block part.size (entries_of c.args.table.now) (count_of c.take.new.self) w = record {
+      some = c.requires.some;
+      inside = c.requires.inside;
+      in_block = c.requires.in_block;
+      offset = refl;
+      known = omega (arith, c.in_ok-number.ensures.count);
+      apart = λ i h. held_apart c.take.new.self i number c.in_ok-number.ensures.held (rw e h);
+      free = empty_entry part.absent _ c.requires.absent c.requires.zero;
+    } in
+    rw c.release.ensures.count (prepared_unchanged (g.S.Storage.features c.args.storage.now) old_faults now_faults (g.S.Storage.bytes c.args.storage.now) (g.S.Storage.bytes c.copy_round.new.storage) part.size part.block _ _ _ w c.requires.positive c.requires.exact.covers apart c.take.ensures.added v c.copy_round.ensures.outside)
+
+pub returns-in-Ok-clause-settled : goal.returns-in-Ok-clause-settled
+returns-in-Ok-clause-settled g c =
+    let part = c.args.part in
+    let number = c.in_ok-number.number in
+    let e = c.take.ensures.entries in
+    let w : Waiting = record { start = part.offset; length = part.run; offset = number * part.block + part.offset % part.block; number = number; state = c.args.state } in
+    let apart : WaitsApart part.block part.size (entries_of c.args.table.now) (count_of c.take.new.self) w = record {
+      some = c.requires.some;
+      inside = c.requires.inside;
+      in_block = c.requires.in_block;
+      offset = refl;
+      known = omega (arith, c.in_ok-number.ensures.count);
+      apart = λ i h. held_apart c.take.new.self i number c.in_ok-number.ensures.held (rw e h);
+      free = empty_entry part.absent _ c.requires.absent c.requires.zero;
+    } in
+    prepared_settled (g.S.Storage.features c.args.storage.now) part.size part.block _ _ _ w c.requires.positive c.requires.exact.covers apart c.take.ensures.added part.run c.requires.some
+
+pub returns-in-Ok-clause-no_longer : goal.returns-in-Ok-clause-no_longer
+returns-in-Ok-clause-no_longer g c = λ most some.
+    let part = c.args.part in
+    let number = c.in_ok-number.number in
+    let e = c.take.ensures.entries in
+    let under : part.offset < part.size = omega (arith, c.requires.some, c.requires.inside) in
+    let more = one_more part.block part.size (entries_of c.args.table.now) (count_of c.args.table.now) c.requires.positive c.requires.exact.covers part.offset under (empty_entry part.absent _ c.requires.absent c.requires.zero) Write part.offset most tt (omega arith) (omega (arith, some)) in
+    let known : number < data_count part.block part.size (entries_of c.args.table.now) (count_of c.args.table.now) None Write part.offset most = omega (arith, more, c.in_ok-number.ensures.count, c.take.ensures.added) in
+    length_within (g.S.Storage.features c.args.storage.now) part.block number _ _ _ c.requires.positive known c.copy_round.ensures.no_longer
+
+pub returns-in-Err-clause-no_longer : goal.returns-in-Err-clause-no_longer
+returns-in-Err-clause-no_longer g c = λ most some.
+    let part = c.args.part in
+    let number = c.in_ok-number.number in
+    let e = c.take.ensures.entries in
+    let under : part.offset < part.size = omega (arith, c.requires.some, c.requires.inside) in
+    let more = one_more part.block part.size (entries_of c.args.table.now) (count_of c.args.table.now) c.requires.positive c.requires.exact.covers part.offset under (empty_entry part.absent _ c.requires.absent c.requires.zero) Write part.offset most tt (omega arith) (omega (arith, some)) in
+    let known : number < data_count part.block part.size (entries_of c.args.table.now) (count_of c.args.table.now) None Write part.offset most = omega (arith, more, c.in_ok-number.ensures.count, c.take.ensures.added) in
+    length_within (g.S.Storage.features c.args.storage.now) part.block number _ _ _ c.requires.positive known c.copy_round.ensures.no_longer
+
+pub returns-in-Err-clause-refusals : goal.returns-in-Err-clause-refusals
+returns-in-Err-clause-refusals g c = λ old_faults most some.
+    let part = c.args.part in
+    let number = c.in_ok-number.number in
+    let e = c.take.ensures.entries in
+    let under : part.offset < part.size = omega (arith, c.requires.some, c.requires.inside) in
+    let more = one_more part.block part.size (entries_of c.args.table.now) (count_of c.args.table.now) c.requires.positive c.requires.exact.covers part.offset under (empty_entry part.absent _ c.requires.absent c.requires.zero) Write part.offset most tt (omega arith) (omega (arith, some)) in
+    let known : number < data_count part.block part.size (entries_of c.args.table.now) (count_of c.args.table.now) None Write part.offset most = omega (arith, more, c.in_ok-number.ensures.count, c.take.ensures.added) in
+    round_refused (g.S.Storage.features c.args.storage.now) old_faults (g.S.Storage.bytes c.args.storage.now) part.size part.block (entries_of c.args.table.now) (count_of c.args.table.now) (lent g.B.LowerLayer.as_layer_below c.args.below) part.absent part.offset most number (number * part.block)
+    c.requires.positive under some c.requires.absent refl known c.in-Err.e c.in-Err.ensures.refusals
+
+pub returns-then-not-fits_next-clause-refusals : goal.returns-then-not-fits_next-clause-refusals
+returns-then-not-fits_next-clause-refusals g c = λ old_faults most some.
+    let part = c.args.part in
+    let full = c.fits_next.ensures.full c.if-not-fits_next.true in
+    let under : part.offset < part.size = omega (arith, c.requires.some, c.requires.inside) in
+    let more = one_more part.block part.size (entries_of c.args.table.now) (count_of c.args.table.now) c.requires.positive c.requires.exact.covers part.offset under (empty_entry part.absent _ c.requires.absent c.requires.zero) Write part.offset most tt (omega arith) (omega (arith, some)) in
+    full_refused (g.S.Storage.features c.args.storage.now) old_faults (g.S.Storage.bytes c.args.storage.now) part.size part.block (entries_of c.args.table.now) (count_of c.args.table.now) (lent g.B.LowerLayer.as_layer_below c.args.below) part.offset most
+    (g.met.S.Storage.lawful c.args.storage.now) c.requires.positive (omega (arith, more, full.0)) (full.1)

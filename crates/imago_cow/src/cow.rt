@@ -1,0 +1,460 @@
+//! The copy-on-write driver.
+ghost use Rattle.std.specs.Prelude.{◌≡◌, ℕ, ◌+◌, ◌*◌, ◌^◌, ◌<◌, ◌≤◌, ◌↔◌, None, IfOk, IfErr, IsTrue, true, false};
+ghost use Rattle.std.specs.Int.{is_power_of_two};
+ghost use Rattle.std.specs.Option.{ForSome};
+ghost use Rattle.imago_drivers.specs.Place.{Lower, BytesAreWritable, HasStranger};
+ghost use Rattle.imago_drivers.specs.LayerBelow.{lent};
+ghost use Rattle.imago_drivers.specs.Reasons.{none};
+ghost use Rattle.imago_drivers.specs.Pending.{IsOwn};
+ghost use Rattle.imago_drivers.specs.Commit.{IsCommit, IsCancel};
+ghost use Rattle.imago_cow.specs.Table.{named_count};
+ghost use Rattle.imago_cow.specs.TableView.{entries_of, held_of, count_of};
+ghost use Rattle.imago_cow.specs.TableLaws.{named_once};
+ghost use Rattle.imago_cow.specs.declared.table.GuestBlock.{GuestBlock};
+ghost use Rattle.imago_cow.specs.Guest.{IsExact, IsMade, cow_place};
+ghost use Rattle.imago_cow.specs.Cow.{cow_view, cow_pending, number_of_waiting, WaitsApart};
+ghost use Rattle.imago_cow.specs.CowLaws.{cow_lawful, cow_causes};
+
+use crate::commit::enter_waiting;
+use crate::copy::Part;
+use crate::grow::grow;
+use crate::guest::{first_whole, make_absent, make_zero};
+use crate::map::map_place;
+use crate::named::all_shown;
+use crate::prepare::prepare_part;
+use crate::resize::shrink;
+use crate::stored::{read_stored, write_stored};
+use crate::table::{GuestBlock, Table};
+use imago_drivers::drivers::{
+    Format, FormatDriverInstance, PreallocateMode, PreparedDataMapping, ShallowMapping,
+};
+use imago_drivers::layer::LowerLayer;
+use imago_storage::error::Error;
+use imago_storage::storage::Storage;
+use std::alloc::Global;
+use std::fmt::{self, Display, Formatter, Write};
+
+/// What a prepared mapping of a [`Cow`] holds until it is committed. It has no public parts.
+#[derive(Clone, Copy, Debug, PartialEq, Eq)]
+pub struct CowState {
+    pub(crate) ticket: u64,
+}
+
+/// A prepared write whose bytes nothing shows yet.
+#[derive(Clone, Copy)]
+pub struct Waiting {
+    pub(crate) start: u64,
+    pub(crate) length: u64,
+    /// Where it stands in the storage.
+    pub(crate) offset: u64,
+    /// The data block that it stands in.
+    pub(crate) number: u64,
+    pub(crate) state: CowState,
+}
+
+/// A disk that keeps what is written to it apart from the layer below, in blocks of one length.
+///
+/// Each guest block leads to the layer below, is an explicit zero, or is in a data block of the storage: data block `j`
+/// stands at `j` times the block's length. Which it is stands in a table in memory, which is lost with the value. What the
+/// storage held before shows in unspecified bytes alone.
+///
+/// A write into a guest block without data takes the lowest free data block, or a new one behind all others, copies what
+/// stands round the written part, and shows it on commit.
+#[derive(Drop)]
+pub struct Cow<S: Storage> {
+    storage: S,
+    size: u64,
+    block: u64,
+    table: Table,
+    waiting: Option<Waiting>,
+    tickets: u64,
+    /// How often a read of the layer below failed. It saturates.
+    faults: u64,
+    ghost fits: { size < 2 ^ 64 },
+    ghost positive: { 0 < block },
+    ghost exact: { IsExact size block (entries_of table) },
+    ghost addressed: { count_of table * block < 2 ^ 64 },
+    ghost held: { held_of table ≡ number_of_waiting waiting },
+    ghost waits_apart: { ForSome waiting (λ w. WaitsApart block size (entries_of table) (count_of table) w) },
+}
+
+impl<S: Storage> Cow<S> {
+    ghost use Rattle.imago_cow.specs.CowImage.{storage_in, size_of, block_of, blocks_of, data_blocks_of, waiting_in};
+
+    /// A disk of that size over a storage, in blocks of `block` bytes. Each place leads to the layer below, at the same
+    /// offset, and nothing waits to be committed. `block` is a power of two from 1 to 1048576.
+    ///
+    /// [`Error::Memory`] is no room for the table, which has 16 bytes for each block.
+    pub fn create(alloc: Global, storage: S, size: u64, block: u64) -> Result<Self, Error>
+        requires power { IsTrue (is_power_of_two block) }
+        requires most { block ≤ 1048576 }
+        ensures made { IfOk result
+            (λ d. (storage_in d ≡ «storage») × (size_of d ≡ «size») × (block_of d ≡ «block») × (waiting_in d ≡ None) ×
+            (data_blocks_of d ≡ 0)) }
+        ensures leads_below { IfOk result
+            (λ d. (bytes : _) (p : ℕ)
+            → p < size
+            → cow_place bytes (size_of d) (block_of d) (blocks_of d) p ≡ Lower p false) }
+        ensures memory { IfErr result (λ e. e ≡ Error.Memory) }
+    {
+        let guest_blocks = first_whole(block, size);
+        match Table::new(alloc, guest_blocks as usize) {
+            Ok(table) => Ok(Cow {
+                storage,
+                size,
+                block,
+                table,
+                waiting: None,
+                tickets: 0,
+                faults: 0,
+            }),
+            Err(e) => Err(e),
+        }
+    }
+
+    /// A block's length in bytes.
+    pub fn block_size(&self) -> u64
+        ensures { result ≡ block_of self.now }
+    {
+        self.block
+    }
+
+    /// How many data blocks guest blocks are in.
+    pub fn blocks_used(&self) -> u64
+        ensures { result ≡ named_count (blocks_of self.now) }
+    {
+        self.table.used()
+    }
+
+    /// Whether places of the disk stand in each byte of a range of a storage.
+    fn shows_all(&self, index: usize, offset: u64, count: u64) -> bool
+        requires { 0 < count }
+        ensures shown { result ≡ true
+            → (index ≡ 0) × BytesAreWritable
+            (cow_place (S.bytes self.now.storage) self.now.size self.now.block (entries_of self.now.table)) 0 offset
+            count }
+        ensures within { result ≡ true → offset + count ≤ count_of self.now.table * self.now.block }
+        ensures stranger { result ≡ false
+            → HasStranger
+            (cow_place (S.bytes self.now.storage) self.now.size self.now.block (entries_of self.now.table)) index
+            offset count }
+    {
+        all_shown(&self.table, self.block, self.size, index, offset, count)
+    }
+
+    /// Gives the storage back. The table is lost.
+    pub fn into_inner(self) -> S
+        ensures { result ≡ storage_in self }
+    {
+        let Cow {
+            storage,
+            size: _,
+            block: _,
+            table: _,
+            waiting: _,
+            tickets: _,
+            faults: _,
+        } = self;
+        storage
+    }
+}
+
+/// Whether the mapping is the write that waits.
+fn is_waiting(waiting: Option<Waiting>, mapping: &PreparedDataMapping<CowState>) -> bool
+    ensures { (block size : ℕ) (bytes : _) → IsTrue result ↔ IsOwn (cow_pending block size bytes waiting) mapping.now }
+{
+    let Some(waiting) = waiting else {
+        return false;
+    };
+    let Some(state) = mapping.state() else {
+        return false;
+    };
+    mapping.storage() == 0
+        && mapping.offset() == waiting.offset
+        && mapping.length() == waiting.length
+        && state.ticket == waiting.state.ticket
+}
+
+impl<S: Storage> Display for Cow<S> {
+    fn fmt<W: Write>(&self, f: &mut Formatter<W>) -> fmt::Result {
+        write!(f, "cow[{}]", self.storage)
+    }
+}
+
+impl<S: Storage> FormatDriverInstance for Cow<S> {
+    type Storage = S;
+
+    type State = CowState;
+
+    ghost view = { λ d. cow_view (S.features d.storage) (S.fault_count d.storage + d.faults) (S.bytes d.storage) d.size d.block (entries_of d.table) (count_of d.table) d.waiting };
+
+    ghost recognizes = { λ _. false };
+
+    ghost probe_reasons = { λ _. none };
+
+    ghost flushes = { record {
+      flushed = λ a b r. S.maintenance.flushed a.storage b.storage r × (b.size ≡ a.size) × (b.block ≡ a.block) × (b.table ≡ a.table) × (b.waiting ≡ a.waiting) × (b.tickets ≡ a.tickets) × (b.faults ≡ a.faults);
+      synced = λ a b r. S.maintenance.synced a.storage b.storage r × (b.size ≡ a.size) × (b.block ≡ a.block) × (b.table ≡ a.table) × (b.waiting ≡ a.waiting) × (b.tickets ≡ a.tickets) × (b.faults ≡ a.faults);
+      invalidated = λ a b r. S.maintenance.invalidated a.storage b.storage r × (b.size ≡ a.size) × (b.block ≡ a.block) × (b.table ≡ a.table) × (b.waiting ≡ a.waiting) × (b.tickets ≡ a.tickets) × (b.faults ≡ a.faults);
+    } };
+
+    ghost discards = { record {
+      to_any = λ o n a b r. (b.storage ≡ a.storage) × IsMade o n a.size a.block GuestBlock.Zero (entries_of a.table) (entries_of b.table) r;
+      to_backing = λ o n a b r. (b.storage ≡ a.storage) × IsMade o n a.size a.block GuestBlock.Absent (entries_of a.table) (entries_of b.table) r;
+    } };
+
+    ghost lawful = { λ d. cow_lawful (S.features d.storage) (S.fault_count d.storage + d.faults) (S.bytes d.storage) d.size d.block (entries_of d.table) (count_of d.table) d.waiting d.positive d.exact.covers (named_once d.table) };
+
+    ghost causes_lawful = { λ d. cow_causes (S.features d.storage) (S.fault_count d.storage + d.faults) (S.bytes d.storage) d.size d.block (entries_of d.table) (count_of d.table) d.waiting };
+
+    fn format(&self) -> Format {
+        Format::Cow
+    }
+
+    fn size(&self) -> u64 {
+        self.size
+    }
+
+    fn zero_granularity(&self) -> Option<u64> {
+        Some(self.block)
+    }
+
+    fn writable(&self) -> bool {
+        true
+    }
+
+    fn takes_backing(&self) -> bool {
+        true
+    }
+
+    fn has_prepared(&self) -> bool {
+        self.waiting.is_some()
+    }
+
+    fn probe(_alloc: Global, _storage: &S) -> Result<bool, Error> {
+        Ok(false)
+    }
+
+    fn collect_storage_dependencies(&self, alloc: Global) -> Result<Vec<&S>, Error> {
+        let mut storages = Vec::new(alloc);
+        match storages.push(&self.storage) {
+            Ok(()) => Ok(storages),
+            Err(_) => Err(Error::Memory),
+        }
+    }
+
+    fn storage_count(&self) -> usize {
+        1
+    }
+
+    fn storage(&self, index: usize) -> Option<&S> {
+        if index == 0 {
+            Some(&self.storage)
+        } else {
+            None
+        }
+    }
+
+    fn get_mapping(&self, offset: u64, max_length: u64) -> Result<(ShallowMapping, u64), Error> {
+        Ok(map_place(&self.table, self.block, self.size, offset, max_length))
+    }
+
+    fn read_mapped(
+        &self,
+        alloc: Global,
+        _storage: usize,
+        buf: &mut [u8],
+        offset: u64,
+    ) -> Result<(), Error> {
+        read_stored(&self.storage, alloc, buf, offset)
+    }
+
+    fn readv_special(&self, _alloc: Global, buf: &mut [u8], _offset: u64) -> Result<(), Error> {
+        if buf.is_empty() {
+            return Ok(());
+        }
+        Err(Error::Unsupported)
+    }
+
+    fn write_mapped(
+        &mut self,
+        alloc: Global,
+        _storage: usize,
+        source: &[u8],
+        offset: u64,
+    ) -> Result<(), Error> {
+        write_stored(&mut self.storage, alloc, source, offset)
+    }
+
+    fn ensure_zero_mapping(
+        &mut self,
+        _alloc: Global,
+        offset: u64,
+        count: u64,
+    ) -> Result<(u64, u64), Error> {
+        make_zero(&mut self.table, self.block, self.size, offset, count)
+    }
+
+    fn discard_to_zero(
+        &mut self,
+        _alloc: Global,
+        offset: u64,
+        count: u64,
+    ) -> Result<(u64, u64), Error> {
+        make_zero(&mut self.table, self.block, self.size, offset, count)
+    }
+
+    fn discard_to_any(
+        &mut self,
+        _alloc: Global,
+        offset: u64,
+        count: u64,
+    ) -> Result<(u64, u64), Error> {
+        make_zero(&mut self.table, self.block, self.size, offset, count)
+    }
+
+    fn discard_to_backing(
+        &mut self,
+        _alloc: Global,
+        offset: u64,
+        count: u64,
+    ) -> Result<(u64, u64), Error> {
+        make_absent(&mut self.table, self.block, self.size, offset, count)
+    }
+
+    fn prepare_data_mapping<B: LowerLayer>(
+        &mut self,
+        alloc: Global,
+        below: Option<&B>,
+        offset: u64,
+        count: u64,
+        overwrite: bool,
+    ) -> Result<PreparedDataMapping<CowState>, Error> {
+        if count == 0 {
+            return Ok(PreparedDataMapping::existing(0, 0, 0));
+        }
+        let rest = offset % self.block;
+        let run = count.min(self.block - rest);
+        let entry = self.table.get((offset / self.block) as usize);
+        if let GuestBlock::Data(number) = entry {
+            return Ok(PreparedDataMapping::existing(0, number * self.block + rest, run));
+        }
+        let ticket = self.tickets.wrapping_add(1);
+        self.tickets = ticket;
+        let waiting = prepare_part(
+            &mut self.storage,
+            &mut self.faults,
+            &mut self.table,
+            alloc,
+            below,
+            Part {
+                block: self.block,
+                size: self.size,
+                offset,
+                run,
+                absent: entry == GuestBlock::Absent,
+                overwrite,
+            },
+            CowState { ticket },
+        )?;
+        self.waiting = Some(waiting);
+        Ok(PreparedDataMapping::to_commit(0, waiting.offset, waiting.length, waiting.state))
+    }
+
+    fn write_prepared(
+        &mut self,
+        alloc: Global,
+        mapping: &PreparedDataMapping<CowState>,
+        source: &[u8],
+        at: u64,
+    ) -> Result<(), Error> {
+        let (index, start, count) = (mapping.storage(), mapping.offset(), mapping.length());
+        if !mapping.is_nonblocking() {
+            if !is_waiting(self.waiting, mapping) {
+                return Err(Error::ForeignMapping);
+            }
+            let Some(waiting) = self.waiting else {
+                return Err(Error::ForeignMapping);
+            };
+            return write_stored(&mut self.storage, alloc, source, waiting.offset + at);
+        }
+        if count == 0 {
+            return Ok(());
+        }
+        if !self.shows_all(index, start, count) {
+            return Err(Error::ForeignMapping);
+        }
+        write_stored(&mut self.storage, alloc, source, start + at)
+    }
+
+    fn commit_data_mapping(&mut self, mapping: PreparedDataMapping<CowState>) -> Result<(), Error>
+        ensures { IsCommit ⟦<Cow<S> as FormatDriverInstance>⟧.view self.old self.new mapping result }
+    {
+        let own = is_waiting(self.waiting, &mapping);
+        let Some(_) = mapping.into_state() else {
+            return Ok(());
+        };
+        let Some(waiting) = self.waiting else {
+            return Err(Error::ForeignMapping);
+        };
+        if !own {
+            return Err(Error::ForeignMapping);
+        }
+        enter_waiting(&mut self.table, self.block, self.size, waiting);
+        self.waiting = None;
+        Ok(())
+    }
+
+    fn cancel_data_mapping(&mut self, mapping: PreparedDataMapping<CowState>)
+        ensures { IsCancel ⟦<Cow<S> as FormatDriverInstance>⟧.view self.old self.new mapping }
+    {
+        let own = is_waiting(self.waiting, &mapping);
+        let _ = mapping.into_state();
+        if own {
+            self.waiting = None;
+            self.table.release();
+        }
+    }
+
+    fn resize_grow<B: LowerLayer>(
+        &mut self,
+        alloc: Global,
+        below: Option<&B>,
+        new_size: u64,
+        mode: PreallocateMode,
+    ) -> Result<(), Error> {
+        if new_size <= self.size {
+            return Ok(());
+        }
+        grow(
+            &mut self.storage,
+            &mut self.faults,
+            &mut self.table,
+            alloc,
+            below,
+            self.block,
+            self.size,
+            new_size,
+            mode,
+        )?;
+        self.size = new_size;
+        Ok(())
+    }
+
+    fn resize_shrink(&mut self, new_size: u64) -> Result<(), Error> {
+        self.size = shrink(&mut self.table, self.block, self.size, new_size);
+        Ok(())
+    }
+
+    fn flush(&mut self) -> Result<(), Error> {
+        self.storage.flush()
+    }
+
+    fn sync(&mut self) -> Result<(), Error> {
+        self.storage.sync()
+    }
+
+    fn invalidate_cache(&mut self) -> Result<(), Error> {
+        self.storage.invalidate_cache()
+    }
+}

@@ -1,0 +1,279 @@
+//! The guest block that the disk's end cuts, in a growth.
+ghost use Rattle.std.specs.Prelude.{◌≡◌, ◌≢◌, ℕ, ◌+◌, ◌-◌, ◌*◌, ◌/◌, ◌%◌, ◌^◌, ◌<◌, ◌≤◌, ◌⊎◌, ◌&&◌, max, length, slice_index, slice_get, IsTrue, IfOk, IfErr, OnOk, OnErr, Some, None, true, false};
+ghost use Rattle.imago_storage.specs.Faults.{CountsFaults};
+ghost use Rattle.imago_storage.specs.Features.{len_align};
+ghost use Rattle.imago_drivers.specs.declared.format.PreallocateMode.{PreallocateMode};
+ghost use Rattle.imago_drivers.specs.Lengths.{padded_to};
+ghost use Rattle.imago_drivers.specs.Place.{Byte};
+ghost use Rattle.imago_drivers.specs.LayerBelow.{lent};
+ghost use Rattle.imago_drivers.specs.Reasons.{allowed};
+ghost use Rattle.imago_cow.specs.declared.table.GuestBlock.{GuestBlock};
+ghost use Rattle.imago_cow.specs.Table.{named_count};
+ghost use Rattle.imago_cow.specs.TableView.{entries_of, held_of, count_of};
+ghost use Rattle.imago_cow.specs.Guest.{IsExact, entry_place, is_data};
+ghost use Rattle.imago_cow.specs.Copies.{old_value};
+ghost use Rattle.imago_cow.specs.Cut.{IsCutFilled, IsCutRead, IsTaken, fill_reasons, shows_below};
+
+use crate::copy::copy_old;
+use crate::resize::take_block;
+use crate::table::{GuestBlock, Table};
+use imago_drivers::drivers::PreallocateMode;
+use imago_drivers::layer::LowerLayer;
+use imago_storage::error::Error;
+use imago_storage::storage::Storage;
+use std::alloc::Global;
+
+/// What a growth fills the guest block that the disk's end cuts with.
+#[derive(Clone, Copy)]
+struct Cut {
+    /// A guest block's length.
+    block: u64,
+    /// The old size.
+    size: u64,
+    /// How many of its places the growth adds.
+    count: u64,
+    /// The new places show the layer below, else zeroes.
+    lower: bool,
+}
+
+/// Whether new places show the layer below.
+pub(crate) fn is_lower(mode: PreallocateMode) -> bool
+    ensures { result ≡ shows_below mode }
+{
+    match mode {
+        PreallocateMode::None | PreallocateMode::Zero => false,
+        PreallocateMode::FormatAllocate
+        | PreallocateMode::FullAllocate
+        | PreallocateMode::WriteData => true,
+    }
+}
+
+/// Whether new places are unspecified.
+pub(crate) fn adds_nothing(mode: PreallocateMode) -> bool
+    ensures none { result ≡ true → mode ≡ PreallocateMode.None }
+    ensures some { result ≡ false → mode ≢ PreallocateMode.None }
+{
+    match mode {
+        PreallocateMode::None => true,
+        PreallocateMode::Zero
+        | PreallocateMode::FormatAllocate
+        | PreallocateMode::FullAllocate
+        | PreallocateMode::WriteData => false,
+    }
+}
+
+/// Copies what the guest block shows before the disk's old end, and then what its new places are to show, to a data block
+/// that begins at `start`.
+fn fill_both<S: Storage, B: LowerLayer>(
+    storage: &mut S,
+    faults: &mut u64,
+    alloc: Global,
+    below: Option<&B>,
+    cut: Cut,
+    absent: bool,
+    start: u64,
+) -> Result<(), Error>
+    requires positive { 0 < cut.block }
+    requires in_block { cut.size % cut.block + cut.count ≤ cut.block }
+    requires fits { start + cut.block < 2 ^ 64 }
+    requires inside { cut.size + cut.count < 2 ^ 64 }
+    ensures before { IsTrue (S.features storage.old).keeps_data
+        → OnOk result
+        ((k : ℕ)
+        → k < cut.size % cut.block
+        → old_value (lent B.as_layer_below below.entry).at absent (cut.size - cut.size % cut.block + k)
+        ≡ Byte (slice_index (S.bytes storage.new) (start + k))) }
+    ensures behind { IsTrue (S.features storage.old).keeps_data
+        → OnOk result
+        ((k : ℕ)
+        → k < cut.count
+        → old_value (lent B.as_layer_below below.entry).at cut.lower (cut.size + k)
+        ≡ Byte (slice_index (S.bytes storage.new) (start + cut.size % cut.block + k))) }
+    ensures outside { IsTrue (S.features storage.old).keeps_data
+        → (p : ℕ)
+        → (p < start) ⊎ (start + cut.block ≤ p)
+        → slice_index (S.bytes storage.new) p ≡ slice_index (S.bytes storage.old) p }
+    ensures no_shorter { length (S.bytes storage.old) ≤ length (S.bytes storage.new) }
+    ensures no_longer { length (S.bytes storage.new)
+        ≤ max (length (S.bytes storage.old)) (start + cut.block + (len_align (S.features storage.old) - 1)) }
+    ensures features { S.features storage.new ≡ S.features storage.old }
+    ensures faults { CountsFaults
+        ((S.features storage.old).is_reliable && (lent B.as_layer_below below.entry).is_reliable)
+        (S.fault_count storage.old + faults.old) (S.fault_count storage.new + faults.new) result }
+    ensures refusals { (limit : ℕ) (entries : _) (new_size : ℕ)
+        → start + cut.block ≤ limit
+        → cut.size + cut.count ≤ new_size
+        → (absent ≡ true → slice_get entries (cut.size / cut.block) ≡ Some GuestBlock.Absent)
+        → IfErr result
+        (allowed
+        (fill_reasons (S.features storage.old) (lent B.as_layer_below below.entry) limit
+        (IsCutRead cut.block cut.size entries cut.lower new_size))) }
+{
+    let rest = cut.size % cut.block;
+    copy_old(
+        storage,
+        faults,
+        alloc,
+        below,
+        absent,
+        cut.size - rest,
+        rest,
+        start,
+    )?;
+    copy_old(
+        storage,
+        faults,
+        alloc,
+        below,
+        cut.lower,
+        cut.size,
+        cut.count,
+        start + rest,
+    )
+}
+
+/// Takes a data block for the guest block, fills it, and enters it. Refused, the data block is given back.
+fn fill_taken<S: Storage, B: LowerLayer>(
+    storage: &mut S,
+    faults: &mut u64,
+    table: &mut Table,
+    alloc: Global,
+    below: Option<&B>,
+    cut: Cut,
+    absent: bool,
+) -> Result<(), Error>
+    requires positive { 0 < cut.block }
+    requires in_block { cut.size % cut.block + cut.count ≤ cut.block }
+    requires inside { cut.size + cut.count < 2 ^ 64 }
+    requires spent { held_of table.old ≡ None }
+    requires addressed { count_of table.old * cut.block < 2 ^ 64 }
+    requires within { cut.size / cut.block < length (entries_of table.old) }
+    requires absent { absent ≡ true → slice_get (entries_of table.old) (cut.size / cut.block) ≡ Some GuestBlock.Absent }
+    requires zero { absent ≡ false → slice_get (entries_of table.old) (cut.size / cut.block) ≡ Some GuestBlock.Zero }
+    ensures entered { IsTrue (S.features storage.old).keeps_data
+        → OnOk result
+        (IsTaken (lent B.as_layer_below below.entry).at cut.block cut.size cut.count absent cut.lower
+        (entries_of table.old) (entries_of table.new) (S.bytes storage.old) (S.bytes storage.new)) }
+    ensures len { length (entries_of table.new) ≡ length (entries_of table.old) }
+    ensures entries { OnErr result (entries_of table.new ≡ entries_of table.old) }
+    ensures places { OnErr result
+        (IsTrue (S.features storage.old).keeps_data
+        → (p : ℕ)
+        → entry_place (S.bytes storage.new) cut.block p (slice_get (entries_of table.old) (p / cut.block))
+        ≡ entry_place (S.bytes storage.old) cut.block p (slice_get (entries_of table.old) (p / cut.block))) }
+    ensures held { held_of table.new ≡ None }
+    ensures addressed { count_of table.new * cut.block < 2 ^ 64 }
+    ensures added { count_of table.new ≤ max (count_of table.old) (named_count (entries_of table.old) + 1) }
+    ensures no_shorter { length (S.bytes storage.old) ≤ length (S.bytes storage.new) }
+    ensures no_longer { length (S.bytes storage.new)
+        ≤ max (length (S.bytes storage.old))
+        (max (count_of table.old) (named_count (entries_of table.old) + 1) * cut.block
+        + (len_align (S.features storage.old) - 1)) }
+    ensures features { S.features storage.new ≡ S.features storage.old }
+    ensures faults { CountsFaults
+        ((S.features storage.old).is_reliable && (lent B.as_layer_below below.entry).is_reliable)
+        (S.fault_count storage.old + faults.old) (S.fault_count storage.new + faults.new) result }
+    ensures refusals { (new_size : ℕ)
+        → cut.size + cut.count ≤ new_size
+        → IfErr result
+        (allowed
+        (fill_reasons (S.features storage.old) (lent B.as_layer_below below.entry)
+        (max (count_of table.old) (named_count (entries_of table.old) + 1) * cut.block)
+        (IsCutRead cut.block cut.size (entries_of table.old) cut.lower new_size))) }
+{
+    let number = take_block(table, cut.block)?;
+    let start = number * cut.block;
+    match fill_both(storage, faults, alloc, below, cut, absent, start) {
+        Ok(()) => {
+            table.enter((cut.size / cut.block) as usize);
+            Ok(())
+        }
+        Err(e) => {
+            table.release();
+            Err(e)
+        }
+    }
+}
+
+/// Fills the guest block that the disk's old end cuts, up to the new end, as the mode says: `None` leaves it, and so does
+/// `Zero` an explicit zero. The table is that of the new size. Refused, no place before the old end changed.
+pub(crate) fn fill_cut<S: Storage, B: LowerLayer>(
+    storage: &mut S,
+    faults: &mut u64,
+    table: &mut Table,
+    alloc: Global,
+    below: Option<&B>,
+    block: u64,
+    size: u64,
+    new_size: u64,
+    mode: PreallocateMode,
+) -> Result<(), Error>
+    requires positive { 0 < block }
+    requires grows { size < new_size }
+    requires exact { IsExact new_size block (entries_of table.old) }
+    requires spent { held_of table.old ≡ None }
+    requires addressed { count_of table.old * block < 2 ^ 64 }
+    ensures filled { OnOk result
+        (IsCutFilled (lent B.as_layer_below below.entry).at mode (S.features storage.old).keeps_data block size
+        new_size (entries_of table.old) (entries_of table.new) (S.bytes storage.old) (S.bytes storage.new)) }
+    ensures entries { OnErr result (entries_of table.new ≡ entries_of table.old) }
+    ensures places { OnErr result
+        (IsTrue (S.features storage.old).keeps_data
+        → (p : ℕ)
+        → p < size
+        → entry_place (S.bytes storage.new) block p (slice_get (entries_of table.old) (p / block))
+        ≡ entry_place (S.bytes storage.old) block p (slice_get (entries_of table.old) (p / block))) }
+    ensures held { held_of table.new ≡ None }
+    ensures addressed { count_of table.new * block < 2 ^ 64 }
+    ensures added { count_of table.new ≤ max (count_of table.old) (named_count (entries_of table.old) + 1) }
+    ensures no_shorter { length (S.bytes storage.old) ≤ length (S.bytes storage.new) }
+    ensures no_longer { (most : ℕ)
+        → count_of table.old ≤ most
+        → (0 < size % block
+        → is_data (slice_get (entries_of table.old) (size / block)) ≡ false
+        → named_count (entries_of table.old) + 1 ≤ most)
+        → length (S.bytes storage.new)
+        ≤ max (length (S.bytes storage.old)) (padded_to (S.features storage.old) 0 (most * block)) }
+    ensures features { S.features storage.new ≡ S.features storage.old }
+    ensures faults { CountsFaults
+        ((S.features storage.old).is_reliable && (lent B.as_layer_below below.entry).is_reliable)
+        (S.fault_count storage.old + faults.old) (S.fault_count storage.new + faults.new) result }
+    ensures refusals { (most : ℕ)
+        → count_of table.old ≤ most
+        → (0 < size % block
+        → is_data (slice_get (entries_of table.old) (size / block)) ≡ false
+        → named_count (entries_of table.old) + 1 ≤ most)
+        → IfErr result
+        (allowed
+        (fill_reasons (S.features storage.old) (lent B.as_layer_below below.entry) (most * block)
+        (IsCutRead block size (entries_of table.old) (shows_below mode) new_size))) }
+{
+    let rest = size % block;
+    if rest == 0 {
+        return Ok(());
+    }
+    if adds_nothing(mode) {
+        return Ok(());
+    }
+    let lower = is_lower(mode);
+    let count = (block - rest).min(new_size - size);
+    let cut = Cut {
+        block,
+        size,
+        count,
+        lower,
+    };
+    match table.get((size / block) as usize) {
+        GuestBlock::Absent => fill_taken(storage, faults, table, alloc, below, cut, true),
+        GuestBlock::Zero => {
+            if !lower {
+                return Ok(());
+            }
+            fill_taken(storage, faults, table, alloc, below, cut, false)
+        }
+        GuestBlock::Data(number) => {
+            let to = number * block + rest;
+            copy_old(storage, faults, alloc, below, lower, size, count, to)
+        }
+    }
+}

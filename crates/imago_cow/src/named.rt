@@ -1,0 +1,81 @@
+//! Which bytes of the storage places of the disk stand in.
+ghost use Rattle.std.specs.Prelude.{◌≡◌, ◌≢◌, ℕ, ◌+◌, ◌*◌, ◌^◌, ◌<◌, ◌≤◌, MatchOption, Some, slice_get, true, false};
+ghost use Rattle.imago_drivers.specs.Place.{BytesAreWritable, HasStranger};
+ghost use Rattle.imago_cow.specs.declared.table.GuestBlock.{GuestBlock};
+ghost use Rattle.imago_cow.specs.TableView.{entries_of, count_of};
+ghost use Rattle.imago_cow.specs.Guest.{IsExact, cow_place};
+
+use crate::table::{GuestBlock, Table};
+
+/// The guest block that is in that data block. It walks over the entries.
+fn owner(table: &Table, number: u64) -> Option<u64>
+    ensures { MatchOption result
+        ((i : ℕ) → slice_get (entries_of table.now) i ≢ Some (GuestBlock.Data number))
+        (λ i. slice_get (entries_of table.now) i ≡ Some (GuestBlock.Data number)) }
+{
+    for index in 0..table.len() {
+        if table.get(index) == GuestBlock::Data(number) {
+            return Some(index as u64);
+        }
+    }
+    None
+}
+
+/// Whether places of the disk stand in the first `until` bytes of a data block.
+fn shows(table: &Table, block: u64, size: u64, number: u64, until: u64) -> bool
+    requires exact { IsExact size block (entries_of table.now) }
+    requires fits { size < 2 ^ 64 }
+    ensures shown { result ≡ true
+        → (i : ℕ) × (slice_get (entries_of table.now) i ≡ Some (GuestBlock.Data number)) × (i * block + until ≤ size) }
+    ensures stranger { result ≡ false
+        → (i : ℕ)
+        → slice_get (entries_of table.now) i ≡ Some (GuestBlock.Data number)
+        → size < i * block + until }
+{
+    match owner(table, number) {
+        Some(index) => until <= size - index * block,
+        None => false,
+    }
+}
+
+/// Whether places of the disk stand in each byte of a range of the storage.
+pub(crate) fn all_shown(
+    table: &Table,
+    block: u64,
+    size: u64,
+    storage: usize,
+    offset: u64,
+    count: u64,
+) -> bool
+    requires positive { 0 < block }
+    requires exact { IsExact size block (entries_of table.now) }
+    requires fits { size < 2 ^ 64 }
+    requires addressed { count_of table.now * block < 2 ^ 64 }
+    requires some { 0 < count }
+    ensures shown { (bytes : _)
+        → result ≡ true
+        → (storage ≡ 0) × BytesAreWritable (cow_place bytes size block (entries_of table.now)) 0 offset count }
+    ensures within { result ≡ true → offset + count ≤ count_of table.now * block }
+    ensures stranger { (bytes : _)
+        → result ≡ false
+        → HasStranger (cow_place bytes size block (entries_of table.now)) storage offset count }
+{
+    let end = table.block_count() * block;
+    if storage != 0 {
+        return false;
+    }
+    if count > end {
+        return false;
+    }
+    if offset > end - count {
+        return false;
+    }
+    let last = (offset + (count - 1)) / block;
+    for number in offset / block..last + 1 {
+        let until = block.min(offset + count - number * block);
+        if !shows(table, block, size, number, until) {
+            return false;
+        }
+    }
+    true
+}

@@ -1,0 +1,296 @@
+//! How the guest blocks follow the size of the disk.
+ghost use Rattle.std.specs.Prelude.{◌≡◌, ℕ, ◌+◌, ◌-◌, ◌*◌, ◌^◌, ◌<◌, ◌≤◌, ◌⊎◌, ◌&&◌, min, max, length, take, None, Some, Ok, OnOk, OnErr, IfOk, IfErr, IsErrOf, IsTrue, true};
+ghost use Rattle.imago_storage.specs.Faults.{CountsFaults};
+ghost use Rattle.imago_drivers.specs.Calls.{IsShrink};
+ghost use Rattle.imago_drivers.specs.LayerBelow.{lent};
+ghost use Rattle.imago_drivers.specs.Lengths.{padded_to};
+ghost use Rattle.imago_drivers.specs.Reasons.{allowed};
+ghost use Rattle.imago_cow.specs.Guest.{IsExact, AreAdded};
+ghost use Rattle.imago_cow.specs.Growth.{IsPushed, IsExtended, KeepsBytes, fill_reasons};
+ghost use Rattle.imago_cow.specs.Cow.{cow_view};
+ghost use Rattle.imago_cow.specs.Table.{without_data, named_count};
+ghost use Rattle.imago_cow.specs.TableView.{entries_of, held_of, count_of, room_of, KeepsRoom};
+
+use crate::copy::copy_old;
+use crate::guest::first_whole;
+use crate::table::Table;
+use imago_drivers::layer::LowerLayer;
+use imago_storage::error::Error;
+use imago_storage::storage::Storage;
+use std::alloc::Global;
+
+/// Cuts the disk to that size, and answers the size that it has then. The guest blocks behind it are dropped, and their
+/// data blocks are free. It takes no memory, and is never refused.
+pub(crate) fn shrink(table: &mut Table, block: u64, size: u64, new_size: u64) -> u64
+    requires positive { 0 < block }
+    requires exact { IsExact size block (entries_of table.old) }
+    ensures size { result ≡ min size new_size }
+    ensures shrunk { (f : _) (faults : ℕ) (bytes : _)
+        → IsShrink new_size
+        (cow_view f faults bytes size block (entries_of table.old) (count_of table.old) None)
+        (cow_view f faults bytes result block (entries_of table.new) (count_of table.new) None) (Ok tt) }
+    ensures exact { IsExact result block (entries_of table.new) }
+    ensures held { held_of table.new ≡ held_of table.old }
+    ensures count { count_of table.new ≡ count_of table.old }
+{
+    if size <= new_size {
+        return size;
+    }
+    table.truncate(first_whole(block, new_size) as usize);
+    new_size
+}
+
+/// Adds absent guest blocks, or explicit zeroes, up to that size of the disk. [`Error::Memory`] is no room for their
+/// entries; it leaves all as it was.
+pub(crate) fn add_blocks(
+    table: &mut Table,
+    block: u64,
+    size: u64,
+    new_size: u64,
+    zero: bool,
+) -> Result<(), Error>
+    requires positive { 0 < block }
+    requires exact { IsExact size block (entries_of table.old) }
+    requires grows { size ≤ new_size }
+    ensures added { OnOk result (AreAdded (without_data zero) (entries_of table.old) (entries_of table.new)) }
+    ensures prefix { take (length (entries_of table.old)) (entries_of table.new) ≡ entries_of table.old }
+    ensures named { named_count (entries_of table.new) ≡ named_count (entries_of table.old) }
+    ensures exact { OnOk result (IsExact new_size block (entries_of table.new)) }
+    ensures unchanged { OnErr result (entries_of table.new ≡ entries_of table.old) }
+    ensures held { held_of table.new ≡ held_of table.old }
+    ensures count { count_of table.new ≡ count_of table.old }
+    ensures memory { IfErr result (λ e. e ≡ Error.Memory) }
+{
+    let wanted = first_whole(block, new_size) as usize;
+    table.grow(wanted - table.len(), zero)
+}
+
+/// Takes the lowest free data block, or a new one where none is free, and holds it. [`Error::WrapAround`] is a new one that
+/// would end past the greatest offset of a storage, and [`Error::Memory`] no room for its record; either leaves all as it was.
+pub(crate) fn take_block(table: &mut Table, block: u64) -> Result<u64, Error>
+    requires spent { held_of table.old ≡ None }
+    requires addressed { count_of table.old * block < 2 ^ 64 }
+    ensures entries { entries_of table.new ≡ entries_of table.old }
+    ensures held { IfOk result (λ j. held_of table.new ≡ Some j) }
+    ensures fits { IfOk result (λ j. j * block + block < 2 ^ 64) }
+    ensures addressed { count_of table.new * block < 2 ^ 64 }
+    ensures added { count_of table.new ≤ max (count_of table.old) (named_count (entries_of table.old) + 1) }
+    ensures room { KeepsRoom table.old table.new }
+    ensures released { OnErr result (held_of table.new ≡ None) }
+    ensures only { IfErr result (λ e. (e ≡ Error.WrapAround) ⊎ (e ≡ Error.Memory)) }
+    ensures wraps { IsErrOf result Error.WrapAround → 2 ^ 64 ≤ (named_count (entries_of table.old) + 1) * block }
+{
+    let Some(start) = table.next().checked_mul(block) else {
+        return Err(Error::WrapAround);
+    };
+    if block > u64::MAX - start {
+        return Err(Error::WrapAround);
+    }
+    table.take()
+}
+
+/// Adds a guest block in a data block of its own, with the bytes that the layer below has there, as far as the end of the
+/// disk. Refused, the data block is given back.
+fn push_filled<S: Storage, B: LowerLayer>(
+    storage: &mut S,
+    faults: &mut u64,
+    table: &mut Table,
+    alloc: Global,
+    below: Option<&B>,
+    block: u64,
+    end: u64,
+) -> Result<(), Error>
+    requires positive { 0 < block }
+    requires spent { held_of table.old ≡ None }
+    requires addressed { count_of table.old * block < 2 ^ 64 }
+    requires begins { length (entries_of table.old) * block < end }
+    requires reserved { length (entries_of table.old) < room_of table.old }
+    ensures pushed { OnOk result
+        (IsPushed (lent B.as_layer_below below.entry).at (S.features storage.old).keeps_data block end
+        (entries_of table.old) (entries_of table.new) (S.bytes storage.old) (S.bytes storage.new)) }
+    ensures refused { OnErr result (entries_of table.new ≡ entries_of table.old) }
+    ensures bytes { OnErr result
+        (KeepsBytes (S.features storage.old).keeps_data block
+        (length (entries_of table.old) * block)
+        (entries_of table.old) (S.bytes storage.old) (S.bytes storage.new)) }
+    ensures held { held_of table.new ≡ None }
+    ensures addressed { count_of table.new * block < 2 ^ 64 }
+    ensures added { count_of table.new ≤ max (count_of table.old) (named_count (entries_of table.old) + 1) }
+    ensures room { KeepsRoom table.old table.new }
+    ensures no_shorter { length (S.bytes storage.old) ≤ length (S.bytes storage.new) }
+    ensures no_longer { (most : ℕ)
+        → count_of table.old ≤ most
+        → named_count (entries_of table.old) + 1 ≤ most
+        → length (S.bytes storage.new)
+        ≤ max (length (S.bytes storage.old)) (padded_to (S.features storage.old) 0 (most * block)) }
+    ensures features { S.features storage.new ≡ S.features storage.old }
+    ensures faults { CountsFaults
+        ((S.features storage.old).is_reliable && (lent B.as_layer_below below.entry).is_reliable)
+        (S.fault_count storage.old + faults.old) (S.fault_count storage.new + faults.new) result }
+    ensures refusals { (most : ℕ)
+        → count_of table.old ≤ most
+        → named_count (entries_of table.old) + 1 ≤ most
+        → IfErr result
+        (allowed
+        (fill_reasons (S.features storage.old) (lent B.as_layer_below below.entry) block most
+        (λ p. (length (entries_of table.old) * block ≤ p) × (p < end)))) }
+{
+    let start = table.len() as u64 * block;
+    let count = block.min(end - start);
+    let number = take_block(table, block)?;
+    match copy_old(
+        storage,
+        faults,
+        alloc,
+        below,
+        true,
+        start,
+        count,
+        number * block,
+    ) {
+        Ok(()) => {
+            table.push_held();
+            Ok(())
+        }
+        Err(e) => {
+            table.release();
+            Err(e)
+        }
+    }
+}
+
+/// Adds guest blocks in data blocks of their own until there are that many, with the bytes that the layer below has there,
+/// as far as the end of the disk. Refused, those that were added stay.
+pub(crate) fn push_blocks<S: Storage, B: LowerLayer>(
+    storage: &mut S,
+    faults: &mut u64,
+    table: &mut Table,
+    alloc: Global,
+    below: Option<&B>,
+    block: u64,
+    end: u64,
+    missing: usize,
+) -> Result<(), Error>
+    requires positive { 0 < block }
+    requires spent { held_of table.old ≡ None }
+    requires addressed { count_of table.old * block < 2 ^ 64 }
+    requires ends { (length (entries_of table.old) + missing) * block < end + block }
+    requires reserved { length (entries_of table.old) + missing ≤ room_of table.old }
+    ensures length { OnOk result (length (entries_of table.new) ≡ length (entries_of table.old) + missing) }
+    ensures extended { OnOk result
+        (IsExtended (lent B.as_layer_below below.entry).at true (S.features storage.old).keeps_data block
+        (length (entries_of table.old) * block)
+        (min end (length (entries_of table.new) * block))
+        (entries_of table.old) (entries_of table.new) (S.bytes storage.old) (S.bytes storage.new)) }
+    ensures prefix { take (length (entries_of table.old)) (entries_of table.new) ≡ entries_of table.old }
+    ensures bytes { KeepsBytes (S.features storage.old).keeps_data block
+        (length (entries_of table.old) * block)
+        (entries_of table.old) (S.bytes storage.old) (S.bytes storage.new) }
+    ensures named { OnOk result (named_count (entries_of table.new) ≡ named_count (entries_of table.old) + missing) }
+    ensures counted { count_of table.new ≤ max (count_of table.old) (named_count (entries_of table.old) + missing) }
+    ensures held { held_of table.new ≡ None }
+    ensures addressed { count_of table.new * block < 2 ^ 64 }
+    ensures room { KeepsRoom table.old table.new }
+    ensures no_shorter { length (S.bytes storage.old) ≤ length (S.bytes storage.new) }
+    ensures no_longer { (most : ℕ)
+        → count_of table.old ≤ most
+        → named_count (entries_of table.old) + missing ≤ most
+        → length (S.bytes storage.new)
+        ≤ max (length (S.bytes storage.old)) (padded_to (S.features storage.old) 0 (most * block)) }
+    ensures features { S.features storage.new ≡ S.features storage.old }
+    ensures faults { CountsFaults
+        ((S.features storage.old).is_reliable && (lent B.as_layer_below below.entry).is_reliable)
+        (S.fault_count storage.old + faults.old) (S.fault_count storage.new + faults.new) result }
+    ensures refusals { (most : ℕ)
+        → count_of table.old ≤ most
+        → named_count (entries_of table.old) + missing ≤ most
+        → IfErr result
+        (allowed
+        (fill_reasons (S.features storage.old) (lent B.as_layer_below below.entry) block most
+        (λ p. (length (entries_of table.old) * block ≤ p) × (p < end)))) }
+{
+    for _ in 0..missing {
+        push_filled(storage, faults, table, alloc, below, block, end)?;
+    }
+    Ok(())
+}
+
+/// Adds the guest blocks that a disk of that size needs, as explicit zeroes or in data blocks with the bytes that the layer
+/// below has there. Refused, the entries are as they were.
+pub(crate) fn add_new<S: Storage, B: LowerLayer>(
+    storage: &mut S,
+    faults: &mut u64,
+    table: &mut Table,
+    alloc: Global,
+    below: Option<&B>,
+    block: u64,
+    size: u64,
+    new_size: u64,
+    lower: bool,
+) -> Result<(), Error>
+    requires positive { 0 < block }
+    requires spent { held_of table.old ≡ None }
+    requires addressed { count_of table.old * block < 2 ^ 64 }
+    requires exact { IsExact size block (entries_of table.old) }
+    requires grows { size ≤ new_size }
+    ensures exact { OnOk result (IsExact new_size block (entries_of table.new)) }
+    ensures extended { OnOk result
+        (IsExtended (lent B.as_layer_below below.entry).at «lower» (S.features storage.old).keeps_data block
+        (length (entries_of table.old) * block) new_size
+        (entries_of table.old) (entries_of table.new) (S.bytes storage.old) (S.bytes storage.new)) }
+    ensures prefix { take (length (entries_of table.old)) (entries_of table.new) ≡ entries_of table.old }
+    ensures named { (wanted : ℕ)
+        → new_size ≤ wanted * block
+        → wanted * block < new_size + block
+        → OnOk result
+        ((named_count (entries_of table.new) ≡ named_count (entries_of table.old)) ⊎ ((«lower» ≡ true) × (named_count (entries_of table.new) ≡ named_count (entries_of table.old) + (wanted - length (entries_of table.old))))) }
+    ensures counted { (most wanted : ℕ)
+        → new_size ≤ wanted * block
+        → wanted * block < new_size + block
+        → count_of table.old ≤ most
+        → («lower» ≡ true → named_count (entries_of table.old) + (wanted - length (entries_of table.old)) ≤ most)
+        → count_of table.new ≤ most }
+    ensures refused { OnErr result (entries_of table.new ≡ entries_of table.old) }
+    ensures bytes { KeepsBytes (S.features storage.old).keeps_data block
+        (length (entries_of table.old) * block)
+        (entries_of table.old) (S.bytes storage.old) (S.bytes storage.new) }
+    ensures held { held_of table.new ≡ None }
+    ensures addressed { count_of table.new * block < 2 ^ 64 }
+    ensures no_shorter { length (S.bytes storage.old) ≤ length (S.bytes storage.new) }
+    ensures no_longer { (most wanted : ℕ)
+        → new_size ≤ wanted * block
+        → wanted * block < new_size + block
+        → count_of table.old ≤ most
+        → («lower» ≡ true → named_count (entries_of table.old) + (wanted - length (entries_of table.old)) ≤ most)
+        → length (S.bytes storage.new)
+        ≤ max (length (S.bytes storage.old)) (padded_to (S.features storage.old) 0 (most * block)) }
+    ensures features { S.features storage.new ≡ S.features storage.old }
+    ensures faults { CountsFaults
+        ((S.features storage.old).is_reliable && (lent B.as_layer_below below.entry).is_reliable)
+        (S.fault_count storage.old + faults.old) (S.fault_count storage.new + faults.new) result }
+    ensures refusals { (most wanted : ℕ)
+        → new_size ≤ wanted * block
+        → wanted * block < new_size + block
+        → count_of table.old ≤ most
+        → («lower» ≡ true → named_count (entries_of table.old) + (wanted - length (entries_of table.old)) ≤ most)
+        → IfErr result
+        (allowed
+        (fill_reasons (S.features storage.old) (lent B.as_layer_below below.entry) block most
+        (λ p. («lower» ≡ true) × (length (entries_of table.old) * block ≤ p) × (p < new_size)))) }
+{
+    if !lower {
+        return add_blocks(table, block, size, new_size, true);
+    }
+    let old = table.len();
+    let missing = first_whole(block, new_size) as usize - old;
+    if let Err(e) = table.reserve(missing) {
+        return Err(e);
+    }
+    if let Err(e) = push_blocks(
+        storage, faults, table, alloc, below, block, new_size, missing,
+    ) {
+        table.truncate(old);
+        return Err(e);
+    }
+    Ok(())
+}
