@@ -58,6 +58,15 @@ pub use Rattle.imago_vmdk.specs.VmdkBuilderParts
 pub use Rattle.imago_vmdk.specs.VmdkBuilder
 pub use Rattle.imago_vmdk.specs.Opened as ExtentsOpened
 pub use Rattle.imago_vmdk.specs.Disk as VmdkDisk
+pub use Rattle.imago_cow.specs.Free as FreeDataBlocks
+pub use Rattle.imago_cow.specs.Table as DataBlocks
+pub use Rattle.imago_cow.specs.TableView as DataBlocksView
+pub use Rattle.imago_cow.specs.TableLaws as DataBlockLaws
+pub use Rattle.imago_cow.specs.Guest as GuestBlocks
+pub use Rattle.imago_cow.specs.Cow
+pub use Rattle.imago_cow.specs.CowLaws
+pub use Rattle.imago_cow.specs.CowImage
+pub use Rattle.imago_cow.specs.Worked as WorkedDataBlocks
 pub use Rattle.imago_access.specs.Chain
 pub use Rattle.imago_access.specs.Text
 pub use Rattle.imago_access.specs.Target
@@ -99,6 +108,10 @@ pub use Rattle.imago_drivers.specs.declared.builder.FormatDriverBuilderBase
 pub use Rattle.imago_drivers.specs.declared.builder.FormatCreateBuilderBase
 pub use Rattle.imago_vmdk.specs.declared.line.Extent
 pub use Rattle.imago_vmdk.specs.declared.vmdk.Vmdk as DeclaredVmdk
+pub use Rattle.imago_cow.specs.declared.table.GuestBlock
+pub use Rattle.imago_cow.specs.declared.cow.Cow as DeclaredCow
+pub use Rattle.imago_cow.specs.declared.cow.CowState
+pub use Rattle.imago_cow.specs.declared.cow.Waiting as WaitingWrite
 pub use Rattle.imago_access.specs.declared.access.FormatAccess
 pub use Rattle.imago_access.specs.declared.mapping.Mapping as DeclaredMapping
 pub use Rattle.imago_access.specs.declared.run.Call

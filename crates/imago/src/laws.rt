@@ -1,6 +1,51 @@
 //! Laws that follow from the contracts. Their functions do nothing.
+ghost use Rattle.std.specs.Prelude.{◌≡◌, ℕ, List, IsTrue, true};
+ghost use Rattle.imago_access.specs.declared.run.Call.{Call};
+ghost use Rattle.imago_access.specs.declared.run.Reply.{Reply};
+ghost use Rattle.imago_access.specs.Chain.{driver, disk_value};
+ghost use Rattle.imago_access.specs.Calls.{IsKept};
+ghost use Rattle.imago_access.specs.Runs.{IsRun};
+ghost use Rattle.imago_access.specs.Disk.{disk, backed_value};
+ghost use Rattle.imago_access.specs.Histories.{IsFlatHistory};
+ghost use Rattle.imago_vmdk.specs.Image.{is_opened, takes_unknown_keys};
+ghost use Rattle.imago_vmdk.specs.Disk.{described_value};
 
+use crate::cow::Cow;
+use crate::vmdk::Vmdk;
+use crate::{FormatAccess, FormatDriverInstance, Storage};
 pub use imago_access::laws as images;
+pub use imago_cow::laws as data_blocks;
 pub use imago_drivers::laws as drivers;
 pub use imago_storage::laws as storages;
 pub use imago_vmdk::laws as descriptors;
+
+/// What a read of an image gives whose driver is a VMDK one, with its extents opened, follows from the bytes of the storages that the
+/// driver shows: those of the descriptor, which is the first of them, say which byte of which storage an offset has.
+pub fn vmdk_disk<S: Storage>(image: &FormatAccess<Vmdk<S>>)
+    requires { is_opened (driver image.now) ≡ true }
+    ensures { (p : ℕ) → disk_value ⟦<Vmdk<S> as FormatDriverInstance>⟧.view image.now p
+        ≡ described_value (takes_unknown_keys (driver image.now)) (⟦<Vmdk<S> as FormatDriverInstance>⟧.view (driver image.now)).stores.bytes p }
+{
+    imago_vmdk::laws::disk_of_bytes(image.inner());
+}
+
+/// A run of calls on a copy-on-write disk, over any layers below, is a history of one flat list if the storage keeps data,
+/// and no layer below changes. It is what [`images`] says of each driver.
+pub fn runs_of_cow<S: Storage>(before: &FormatAccess<Cow<S>>, after: &FormatAccess<Cow<S>>)
+    ensures flat { (calls : List Call) (replies : List Reply)
+        → IsTrue (⟦<Cow<S> as FormatDriverInstance>⟧.view (driver before.now)).abilities.keeps_data
+        → IsRun ⟦<Cow<S> as FormatDriverInstance>⟧.view ⟦<Cow<S> as FormatDriverInstance>⟧.flushes
+        ⟦<Cow<S> as FormatDriverInstance>⟧.discards before.now calls replies after.now
+        → IsFlatHistory (backed_value ⟦<Cow<S> as FormatDriverInstance>⟧.view before.now)
+        (disk ⟦<Cow<S> as FormatDriverInstance>⟧.view before.now) calls replies
+        (disk ⟦<Cow<S> as FormatDriverInstance>⟧.view after.now) }
+    ensures below { (calls : List Call) (replies : List Reply)
+        → IsRun ⟦<Cow<S> as FormatDriverInstance>⟧.view ⟦<Cow<S> as FormatDriverInstance>⟧.flushes
+        ⟦<Cow<S> as FormatDriverInstance>⟧.discards before.now calls replies after.now
+        → IsKept ⟦<Cow<S> as FormatDriverInstance>⟧.view before.now after.now }
+{
+    images::flat_histories::<Cow<S>>();
+    images::runs_keep_layers_below::<Cow<S>>();
+    let _ = before;
+    let _ = after;
+}
