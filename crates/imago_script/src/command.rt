@@ -2,7 +2,8 @@
 ghost use Rattle.std.specs.Prelude.{◌≤◌, ◌↔◌, IsSome};
 
 use crate::words::{
-    Alignment, Fault, byte, bytes, cut_at, mode, number, overwriting, word, words_of, writability,
+    Alignment, BlockSize, Fault, byte, bytes, cut_at, mode, number, overwriting, word, words_of,
+    writability,
 };
 use imago::run::Call;
 use std::alloc::Global;
@@ -58,6 +59,13 @@ pub enum Command<'a> {
         /// Whether keys of the descriptor that aren't known are accepted.
         lax: bool,
     },
+    /// Lays a copy-on-write disk over the open image.
+    OpenCow {
+        /// The name of the storage that the disk's data are to stand in.
+        name: &'a str,
+        /// How long its blocks are.
+        block: BlockSize,
+    },
     /// Prints what the open image is.
     Show,
     /// A call on the open image.
@@ -111,6 +119,10 @@ fn short_command(line: &[u8]) -> Option<Command<'_>> {
         }),
         &["open", "vmdk", name] => Some(Command::OpenVmdk { name, lax: false }),
         &["open", "vmdk", name, "lax"] => Some(Command::OpenVmdk { name, lax: true }),
+        &["open", "cow", name, block] => Some(Command::OpenCow {
+            name,
+            block: BlockSize::of(block)?,
+        }),
         &["probe", name] => Some(Command::Probe { name }),
         &["show"] => Some(Command::Show),
         words => Some(Command::Call(call_of(words)?)),

@@ -4,8 +4,6 @@
 mod answer;
 mod command;
 mod script;
-mod script_driver;
-mod script_storage;
 mod session;
 mod stop;
 #[cfg(test)]

@@ -5,18 +5,20 @@ ghost use Rattle.imago.specs.Chain.{driver};
 
 use crate::answer::Answer;
 use crate::command::Command;
-use crate::script_driver::ScriptDriver;
-use crate::script_storage::ScriptStorage;
 use crate::stop::Stop;
+use crate::words::BlockSize;
+use imago::cow::Cow;
 use imago::drivers::FormatDriverInstance;
 use imago::error::{Error, ErrorKind};
-use imago::gate::NamedGate;
+use imago::gate::{ImplicitOpenGate, NamedGate};
 use imago::mem::MemStorage;
 use imago::null::Null;
 use imago::raw::Raw;
 use imago::run::{Call, Reply, run};
 use imago::vmdk::Vmdk;
-use imago::{FormatAccess, FormatDriverBuilder};
+use imago::{FormatAccess, FormatDriverBuilder, StorageOpenOptions};
+use imago_script_parts::script_driver::ScriptDriver;
+use imago_script_parts::script_storage::ScriptStorage;
 use std::alloc::Global;
 
 /// An open image.
@@ -68,6 +70,7 @@ impl Session {
             Command::Probe { name } => Ok(Answer::from(self.probe(name))),
             Command::OpenRaw { name, writable } => Ok(Answer::from(self.open_raw(name, writable))),
             Command::OpenVmdk { name, lax } => Ok(Answer::from(self.open_vmdk(name, lax))),
+            Command::OpenCow { name, block } => Ok(Answer::from(self.open_cow(name, block))),
             Command::Show => Ok(Answer::from(self.show())),
             Command::Call(call) => Ok(Answer::from(self.call(call))),
         }
@@ -110,6 +113,33 @@ impl Session {
     {
         self.image = Some(FormatAccess::new(top));
         Answer::Done
+    }
+
+    /// Takes a storage, and lays a copy-on-write disk with its data there over the open image.
+    fn open_cow(&mut self, name: &str, block: BlockSize) -> Result<Answer<'_>, Error> {
+        let size = self.image.as_ref().ok_or(Error::NotFound)?.size();
+        let path = String::from_str(self.alloc, name)?;
+        let opts = StorageOpenOptions::new().write(true).filename(path);
+        let storage = self.storages.open_storage(self.alloc, opts)?;
+        let top = Cow::create(self.alloc, storage, size, block.bytes())?;
+        self.laid(ScriptDriver::Cow(top))
+    }
+
+    /// Has the image of that driver above the open one. Where there is no memory for that, the open image stays.
+    fn laid(&mut self, top: ScriptDriver<ScriptStorage>) -> Result<Answer<'_>, Error>
+        requires { (⟦<ScriptDriver<ScriptStorage> as FormatDriverInstance>⟧.view top).pending ≡ None }
+    {
+        let below = self.image.take().ok_or(Error::NotFound)?;
+        match Box::new(self.alloc, below) {
+            Ok(below) => {
+                self.image = Some(FormatAccess::with_backing(top, below));
+                Ok(Answer::Done)
+            }
+            Err(refused) => {
+                self.image = Some(refused.value);
+                Err(Error::Memory)
+            }
+        }
     }
 
     /// The open image, to be printed.

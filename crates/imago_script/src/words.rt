@@ -1,5 +1,6 @@
 //! The words of a line, and what they spell.
-ghost use Rattle.std.specs.Prelude.{◌≡◌, ◌^◌, ◌<◌, ◌↔◌, length, IsTrue, IfOk};
+ghost use Rattle.std.specs.Prelude.{◌≡◌, ◌^◌, ◌<◌, ◌≤◌, ◌↔◌, length, IsTrue, IfOk};
+ghost use Rattle.std.specs.Int.{is_power_of_two};
 ghost use Rattle.std.specs.Option.{SomeIff};
 ghost use Rattle.std.specs.Str.Parse.{IsNumeral, digits_value};
 ghost use Rattle.imago.specs.Powers.{IsAlignment};
@@ -13,6 +14,9 @@ use std::alloc::Global;
 
 /// How many words the longest command has.
 const MOST_WORDS: usize = 6;
+
+/// The longest block of a copy-on-write disk, in bytes.
+const LONGEST_BLOCK: u64 = 1048576;
 
 /// Why a line gives no command.
 #[derive(Drop)]
@@ -93,6 +97,34 @@ impl Alignment {
     /// How many bytes it is.
     pub fn bytes(self) -> usize
         ensures { IsAlignment result }
+    {
+        self.bytes
+    }
+}
+
+/// How long the blocks of a copy-on-write disk are, in bytes: a power of two from 1 to 1048576.
+#[derive(Clone, Copy)]
+pub struct BlockSize {
+    bytes: u64,
+    ghost power: { IsTrue (is_power_of_two bytes) },
+    ghost most: { bytes ≤ 1048576 },
+}
+
+impl BlockSize {
+    /// The length that a word spells.
+    pub fn of(word: &str) -> Option<Self> {
+        let bytes = number(word)?;
+        if bytes.is_power_of_two() && bytes <= LONGEST_BLOCK {
+            Some(BlockSize { bytes })
+        } else {
+            None
+        }
+    }
+
+    /// How many bytes it is.
+    pub fn bytes(self) -> u64
+        ensures power { IsTrue (is_power_of_two result) }
+        ensures most { result ≤ 1048576 }
     {
         self.bytes
     }

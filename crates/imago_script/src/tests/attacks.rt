@@ -7,7 +7,7 @@ use std::io::{self, Read};
 use std::process::Abort;
 
 /// A script with a command of each kind.
-const TEXT: [u8; 324] = *b"# A command of each kind.
+const TEXT: [u8; 373] = *b"# A command of each kind.
 mem a 16 a5 4 4
 hex d 76657273696f6e3d310a52572031205a45524f
 null n 9
@@ -32,6 +32,10 @@ sync
 open vmdk d lax
 map 0 600
 write 0 00
+mem c 0 00 1 1
+open cow c 4
+write 3 ff
+map 0 600
 ";
 
 /// What it prints.
@@ -58,6 +62,10 @@ ok
 ok
 ok 512 <zero:explicit>
 err Other
+ok
+ok
+ok
+ok 4 0/0:0x0/rw
 ";
 
 /// Whether a line answers a command.

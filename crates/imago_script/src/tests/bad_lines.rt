@@ -3,7 +3,7 @@
 use super::check;
 
 /// Texts that are no command, each by one fault.
-const BAD_LINES: [&[u8]; 83] = [
+const BAD_LINES: [&[u8]; 90] = [
     // The words: nothing but bytes that print, and one space between two.
     b" ",
     b" size",
@@ -43,6 +43,13 @@ const BAD_LINES: [&[u8]; 83] = [
     b"probe a b",
     b"open qcow2 a ro",
     b"open cow a 3",
+    b"open cow a",
+    b"open cow a 0",
+    b"open cow a 2097152",
+    b"open cow a 1048577",
+    b"open cow a -4",
+    b"open cow a 4 rw",
+    b"open cow 4",
     // How many words it has.
     b"size 0",
     b"show a",

@@ -1,7 +1,7 @@
 //! The scripts of examples/, and what they print. tools/examples-in-tests writes this file.
 
 /// The name of each example, its script, and what that prints.
-pub(super) const EXAMPLES: [(&str, &str, &str); 5] = [
+pub(super) const EXAMPLES: [(&str, &str, &str); 6] = [
     (
         "alignment",
         "# A storage that takes requests of whole blocks of 4 bytes alone, and a disk of 10 bytes on it.
@@ -35,6 +35,66 @@ ok
 ok 12
 ok a5020000
 ok a50200000000
+",
+    ),
+    (
+        "cow",
+        "# A disk of 16 bytes that isn't to be changed. Above it a copy-on-write disk, in blocks of 4 bytes, whose data go to a storage of their own.
+hex base 101112131415161718191a1b1c1d1e1f
+open raw base ro
+mem top 0 00 1 1
+open cow top 4
+show
+# All of it leads to the layer below, block by block.
+map 0 16
+# A write takes a block of the storage, and copies there what the rest of its block was. The other blocks still lead below.
+write 5 aabb
+read 0 16
+map 4 12
+map 8 8
+# A whole block of zeroes needs no data. A discard to backing makes a block lead below again.
+zero 8 4
+map 8 8
+discard backing 4 4
+read 4 8
+# A second one above the first, in blocks of 8 bytes. Only what is written to goes to its storage.
+mem upper 0 00 1 1
+open cow upper 8
+write 0 cc
+read 0 16
+# Layer 0 is the upper disk, layer 1 the first one, whose block of zeroes isn't the upper disk's own, and layer 2 the disk below.
+map 0 16
+map 8 8
+map 12 4
+# It grows past the end of the disks below, where there are zeroes to copy.
+grow 20 full
+read 12 8
+map 16 8
+",
+        "ok
+ok
+ok
+ok
+ok cow[mem:top]
+ok 4 1/0:0x0/ro
+ok
+ok 1011121314aabb1718191a1b1c1d1e1f
+ok 4 0/0:0x0/rw
+ok 4 1/0:0x8/ro
+ok
+ok 4 <zero:explicit>
+ok
+ok 1415161700000000
+ok
+ok
+ok
+ok cc11121314151617000000001c1d1e1f
+ok 8 0/0:0x0/rw
+ok 4 <zero:unallocated>
+ok 4 2/0:0xc/ro
+ok
+ok 1c1d1e1f00000000
+ok 4 0/0:0x8/rw
 ",
     ),
     (

@@ -1,8 +1,0 @@
-use Rattle.imago_script.proofs.Restated.{discard_restated}
-use Rattle.imago_script.proofs.script_driver.ScriptDriverFormatDriverInstance.discard_to_any.Goals as goal
-
-pub returns-in-Raw-clause-call : goal.returns-in-Raw-clause-call
-returns-in-Raw-clause-call g c = rw c.in-Raw.is (discard_restated _ _ _ _ _ _ _ c.discard_to_any.ensures.call)
-
-pub returns-in-Raw-clause-performed : goal.returns-in-Raw-clause-performed
-returns-in-Raw-clause-performed g c = rw c.in-Raw.is c.discard_to_any.ensures.performed

@@ -1,5 +1,0 @@
-use Rattle.imago_script.proofs.Restated.{zero_call_restated}
-use Rattle.imago_script.proofs.script_driver.ScriptDriverFormatDriverInstance.ensure_zero_mapping.Goals as goal
-
-pub returns-in-Raw : goal.returns-in-Raw
-returns-in-Raw g c = rw c.in-Raw.is (zero_call_restated _ _ _ _ _ _ c.ensure_zero_mapping.ensures)

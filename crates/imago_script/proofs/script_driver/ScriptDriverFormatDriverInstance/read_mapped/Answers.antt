@@ -1,7 +1,0 @@
-use Rattle.imago_script.proofs.script_driver.ScriptDriverFormatDriverInstance.read_mapped.Goals as goal
-
-pub returns-in-Raw-clause-refusals : goal.returns-in-Raw-clause-refusals
-returns-in-Raw-clause-refusals g c = rw c.in-Raw.is c.read_mapped.ensures.refusals
-
-pub returns-in-Vmdk-clause-refusals : goal.returns-in-Vmdk-clause-refusals
-returns-in-Vmdk-clause-refusals g c = rw c.in-Vmdk.is c.read_mapped-in-Vmdk.ensures.refusals

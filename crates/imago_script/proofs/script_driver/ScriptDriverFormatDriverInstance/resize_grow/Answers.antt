@@ -1,5 +1,0 @@
-use Rattle.imago_script.proofs.Restated.{growth_restated}
-use Rattle.imago_script.proofs.script_driver.ScriptDriverFormatDriverInstance.resize_grow.Goals as goal
-
-pub returns-in-Raw : goal.returns-in-Raw
-returns-in-Raw g c = rw c.in-Raw.is (growth_restated _ _ _ _ _ _ c.resize_grow.ensures.call)

@@ -1,5 +1,0 @@
-use Rattle.imago_script.proofs.Restated.{shrink_restated}
-use Rattle.imago_script.proofs.script_driver.ScriptDriverFormatDriverInstance.resize_shrink.Goals as goal
-
-pub returns-in-Raw : goal.returns-in-Raw
-returns-in-Raw g c = rw c.in-Raw.is (shrink_restated _ _ _ _ c.resize_shrink.ensures.call)

@@ -1,0 +1,3 @@
+pub mod ScriptStorage
+pub mod Restated
+pub mod ScriptDriver
