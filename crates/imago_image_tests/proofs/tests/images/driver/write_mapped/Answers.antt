@@ -1,5 +1,5 @@
 use Rattle.std.proofs.Common.{arith, ◌+◌}
-use Rattle.imago_tests.proofs.tests.images.driver.write_mapped.Goals as goal
+use Rattle.imago_image_tests.proofs.tests.images.driver.write_mapped.Goals as goal
 
 -- what a range is mapped to may be written there
 pub write_mapped-requires-clause-mapped : goal.write_mapped-requires-clause-mapped
