@@ -26,7 +26,7 @@ set_same [] i y h = absurd (omega arith)
 set_same (x ∷ xs) zero y h = refl
 set_same (x ∷ xs) (suc i) y h = set_same xs i y (omega arith)
 
-set_other : {X : Type 0} (xs : List X) (i k : ℕ) (y : X) → k ≢ i → slice_get (slice_set xs i y) k ≡ slice_get xs k
+pub set_other : {X : Type 0} (xs : List X) (i k : ℕ) (y : X) → k ≢ i → slice_get (slice_set xs i y) k ≡ slice_get xs k
 set_other [] i k y h = refl
 set_other (x ∷ xs) zero zero y h = absurd (h refl)
 set_other (x ∷ xs) zero (suc k) y h = refl

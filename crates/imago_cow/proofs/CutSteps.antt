@@ -20,8 +20,8 @@ use Rattle.imago_cow.specs.declared.table.GuestBlock.{GuestBlock}
 use Rattle.imago_cow.specs.Guest.{entry_place, origin_in, NamedOnce}
 use Rattle.imago_cow.specs.GuestLaws.{rest_small, lies_in}
 use Rattle.imago_cow.specs.Copies.{old_value, copy_reasons}
-use Rattle.imago_cow.specs.Growth.{SameOutside}
-use Rattle.imago_cow.specs.Cut.{shows_at, shows_below, fill_reasons, IsCutRead, IsCutFilled, IsTaken}
+use Rattle.imago_cow.specs.Growth.{SameOutside, fill_reasons}
+use Rattle.imago_cow.specs.Cut.{shows_at, shows_below, IsCutRead, IsCutFilled, IsTaken}
 use Rattle.imago_cow.proofs.WholeSteps.{times_more}
 use Rattle.imago_cow.proofs.MapSteps.{number_ends}
 use Rattle.imago_cow.proofs.RoundSteps.{padded_within}

@@ -1,4 +1,4 @@
-use Rattle.std.proofs.Common.{◌≡◌, ℕ, ◌+◌, ◌-◌, ◌*◌, ◌/◌, ◌%◌, ◌<◌, ◌≤◌, Bool, true, List, Some, None, refl, sym, ap, ◌∙◌, arith, Ok, min}
+use Rattle.std.proofs.Common.{◌≡◌, ℕ, ◌+◌, ◌-◌, ◌*◌, ◌/◌, ◌%◌, ◌<◌, ◌≤◌, Bool, true, List, Option, Some, None, refl, sym, ap, ◌∙◌, arith, Ok, min}
 use Rattle.std.specs.Prelude.{slice_get, slice_index}
 use Rattle.imago_storage.specs.Features.{Features}
 use Rattle.imago_drivers.specs.Operation.{Write}
@@ -17,6 +17,10 @@ use Rattle.imago_cow.specs.Cow.{cow_view}
 use Rattle.imago_cow.specs.CowLaws.{data_count_more}
 use Rattle.imago_cow.proofs.WholeSteps.{times_more}
 use Rattle.imago_cow.proofs.PrepareSteps.{padded_more}
+
+-- an entry that isn't data names no data block
+pub not_in_data : (e : Option GuestBlock) (x : GuestBlock) (j : ℕ) → e ≡ Some x → ((k : ℕ) → x ≡ GuestBlock.Data k → ⊥) → e ≡ Some (GuestBlock.Data j) → ⊥
+not_in_data e x j is none here = let t : Some x ≡ Some (GuestBlock.Data j) = sym is ∙ here in let s : x ≡ GuestBlock.Data j = cc in none j s
 
 -- a preparing that changes nothing
 pub stands_prepared : {St : Type 0} (v : View St) (l : LayerBelow) (o n : ℕ) → v.pending ≡ None → AreCauses v → (m : PreparedDataMapping St) → IsPreparation l o n v v (Ok m)

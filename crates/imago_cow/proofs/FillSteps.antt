@@ -10,19 +10,15 @@ use Rattle.std.proofs.lemmas.List.Folds.{sum_by-replicate}
 use Rattle.imago_storage.specs.Faults.{CountsFaults}
 use Rattle.imago_cow.specs.Table.{named_count, names_any, without_data}
 use Rattle.imago_storage.specs.declared.error.Error.{Error}
-use Rattle.imago_storage.specs.declared.error.Error.TheVariants as E
 use Rattle.imago_storage.specs.Features.{Features, len_align, AreAlignments}
-use Rattle.imago_storage.specs.Padding.{Wraps}
 use Rattle.imago_storage.proofs.Padding.{wrap_causes}
 use Rattle.imago_drivers.specs.LayerBelow.{LayerBelow}
 use Rattle.imago_drivers.specs.Lengths.{padded_to}
-use Rattle.imago_drivers.specs.Place.{Value, IsIn, shown}
+use Rattle.imago_drivers.specs.Place.{Value, shown}
 use Rattle.imago_drivers.specs.Reasons.{allowed}
 use Rattle.imago_cow.specs.declared.table.GuestBlock.{GuestBlock}
 use Rattle.imago_cow.specs.Guest.{entry_place, IsExact, AreAdded}
 use Rattle.imago_cow.specs.GuestLaws.{lies_in}
-use Rattle.imago_cow.specs.Copies.{copy_reasons}
-use Rattle.imago_cow.specs.Cow.{DataWraps}
 use Rattle.imago_cow.specs.Growth.{SameOutside, KeepsBytes, IsPushed, IsExtended, fill_reasons}
 use Rattle.imago_cow.proofs.WholeSteps.{times_next, times_more}
 use Rattle.imago_cow.proofs.MapSteps.{number_ends}
@@ -42,32 +38,9 @@ filled_length f block number most count to len old positive known inside h = ⊎
     omega (arith, x))
     (cases_lt 0 count)
 
-module _ (f : Features) (l : LayerBelow) (absent : Bool) (o n to block most : ℕ) (copied : ℕ → Type 0) (inside : to + n ≤ most * block) (here : absent ≡ true → (p : ℕ) → IsIn o n p → copied p) where
-  copy_cause : (e : Error) → (0 < n) × (((e ≡ Error.WrapAround) × Wraps f to n) ⊎ ((absent ≡ true) × l.cause o n e))
-      → ((e ≡ Error.WrapAround) × DataWraps f block most) ⊎ ((q : ℕ) × (m : ℕ) × (0 < m) × ((p : ℕ) → IsIn q m p → copied p) × l.cause q m e)
-  copy_cause e (some, c) = ⊎_elim
-      (λ w. inl (w.0, record { from = to; count = n; above = omega arith; below = omega (arith, inside); wraps = w.1 }))
-      (λ d. inr (o, n, some, here (d.0), d.1))
-      c
-
-  -- a copy that is refused, of those into the first data blocks
-  pub copy_refused : (e : Error) → allowed (copy_reasons f l absent o n to) e → allowed (fill_reasons f l block most copied) e
-  copy_refused E.WrapAround c = copy_cause Error.WrapAround c
-  copy_refused E.InvalidData c = copy_cause Error.InvalidData c
-  copy_refused E.Unsupported c = copy_cause Error.Unsupported c
-  copy_refused E.NoAccess c = copy_cause Error.NoAccess c
-  copy_refused E.Device c = tt
-  copy_refused E.Memory c = tt
-  copy_refused E.ReadOnly c = c
-  copy_refused E.BeyondDisk c = c
-  copy_refused E.RangeOverflow c = c
-  copy_refused E.ForeignMapping c = c
-  copy_refused E.Denied c = c
-  copy_refused E.NotFound c = c
-
 -- no data block that may be taken
 pub take_refused : (f : Features) (l : LayerBelow) (block named most : ℕ) (copied : ℕ → Type 0) (e : Error) → AreAlignments f → 0 < block → named + 1 ≤ most → (e ≡ Error.WrapAround → 18446744073709551616 ≤ (named + 1) * block) → (e ≡ Error.WrapAround) ⊎ (e ≡ Error.Memory)
-    → allowed (fill_reasons f l block most copied) e
+    → allowed (fill_reasons f l (most * block) copied) e
 take_refused f l block named most copied e lawful positive more full why = ⊎_elim
     (λ w.
     let far : 18446744073709551616 ≤ named * block + block = let x = full w in omega (arith, x) in
@@ -174,28 +147,6 @@ counts_then r a b c y first second = record {
   reliable = λ e. second.reliable e ∙ first.reliable e;
   device = λ e. ⊎_elim (λ rose. inl (omega (arith, rose, first.later))) (λ full. inr full) (second.device e);
 }
-
--- more places may be read
-pub fill_more : (f : Features) (l : LayerBelow) (block most : ℕ) (some more : ℕ → Type 0) → ((p : ℕ) → some p → more p) → (e : Error) → allowed (fill_reasons f l block most some) e → allowed (fill_reasons f l block most more) e
-fill_more f l block most some more so e c = all e c
-  where
-    cause : (x : Error) → ((x ≡ Error.WrapAround) × DataWraps f block most) ⊎ ((q : ℕ) × (m : ℕ) × (0 < m) × ((p : ℕ) → IsIn q m p → some p) × l.cause q m x)
-        → ((x ≡ Error.WrapAround) × DataWraps f block most) ⊎ ((q : ℕ) × (m : ℕ) × (0 < m) × ((p : ℕ) → IsIn q m p → more p) × l.cause q m x)
-    cause x d = ⊎_elim (λ w. inl w) (λ r. inr (r.0, r.1, r.2, (λ p i. so p (r.3 p i)), r.4)) d
-
-    all : (x : Error) → allowed (fill_reasons f l block most some) x → allowed (fill_reasons f l block most more) x
-    all E.WrapAround d = cause Error.WrapAround d
-    all E.InvalidData d = cause Error.InvalidData d
-    all E.Unsupported d = cause Error.Unsupported d
-    all E.NoAccess d = cause Error.NoAccess d
-    all E.Device d = tt
-    all E.Memory d = tt
-    all E.ReadOnly d = d
-    all E.BeyondDisk d = d
-    all E.RangeOverflow d = d
-    all E.ForeignMapping d = d
-    all E.Denied d = d
-    all E.NotFound d = d
 
 -- what two facts of a success give
 pub on_ok_both : {T E P Q R : Type 0} (r : Result T E) → (P → Q → R) → OnOk r P → OnOk r Q → OnOk r R

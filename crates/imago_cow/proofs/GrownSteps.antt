@@ -61,7 +61,7 @@ module _ (f : Features) (faults : ℕ) (bytes : List ℕ) (size block : ℕ) (ol
   grow_lower e r = inr (r.0, r.1, r.2, (λ p i. so p (r.3 p i)), r.4)
 
   -- why a growth may be refused
-  pub grow_refused : (e : Error) → allowed (fill_reasons f l block (data_count block size old blocks None (Grow mode) new_size 0) copied) e
+  pub grow_refused : (e : Error) → allowed (fill_reasons f l (data_count block size old blocks None (Grow mode) new_size 0 * block) copied) e
       → allowed (record (lending_reasons (cow_view f faults bytes size block old blocks None) l (Grow mode) new_size 0) { beyond_disk = ⊥ }) e
   grow_refused E.WrapAround c = ⊎_elim (λ w. inl (uses, w.1)) (λ r. grow_lower Error.WrapAround r) c
   grow_refused E.InvalidData c = ⊎_elim (λ w. let x : Error.InvalidData ≡ Error.WrapAround = w.0 in let z : ⊥ = cc in absurd z) (λ r. grow_lower Error.InvalidData r) c

@@ -1,5 +1,4 @@
-use Prim.Native.Nat.{zero, suc}
-use Rattle.std.proofs.Common.{◌≡◌, ◌≢◌, ℕ, ◌+◌, ◌-◌, ◌*◌, ◌/◌, ◌%◌, ◌<◌, ◌≤◌, ◌⊎◌, ◌&&◌, ⊎_elim, inl, inr, Bool, true, false, List, [], ◌∷◌, length, take, max, Some, None, Result, Ok, Err, refl, sym, ap, ◌∙◌, arith}
+use Rattle.std.proofs.Common.{◌≡◌, ◌≢◌, ℕ, ◌+◌, ◌-◌, ◌*◌, ◌/◌, ◌%◌, ◌<◌, ◌≤◌, ◌&&◌, ⊎_elim, inl, inr, Bool, true, false, List, length, max, Some, None, Result, Ok, Err, refl, sym, subst, ap, ◌∙◌, arith}
 use Rattle.std.specs.Prelude.{slice_get, IsTrue, IfErr}
 use Rattle.std.proofs.lemmas.Bool.{cases_lt}
 use Rattle.std.proofs.lemmas.Nat.{div-add-mod'}
@@ -18,9 +17,9 @@ use Rattle.imago_drivers.specs.declared.format.PreallocateMode.{PreallocateMode}
 use Rattle.imago_drivers.specs.declared.format.PreallocateMode.TheVariants as Mode
 use Rattle.imago_cow.specs.declared.table.GuestBlock.{GuestBlock}
 use Rattle.imago_cow.specs.Guest.{IsExact, Covers, entry_place, cow_place, is_data}
-use Rattle.imago_cow.specs.GuestLaws.{rest_small, place_in, touched_by, entry_at}
+use Rattle.imago_cow.specs.GuestLaws.{rest_small, place_in, touched_by}
 use Rattle.imago_cow.specs.Growth.{KeepsBytes, IsExtended, fill_reasons}
-use Rattle.imago_cow.specs.Cut.{shows_at, shows_below, IsCutRead, IsCutFilled}
+use Rattle.imago_cow.specs.Cut.{shows_at, shows_below, IsCutRead, IsCutFilled, IsCutEntered}
 use Rattle.imago_cow.specs.Table.{named_count}
 use Rattle.imago_cow.specs.Cow.{cow_view, cow_copies, data_count, uses_data, grown_until, touched_until, IsInAbsent}
 use Rattle.imago_cow.proofs.WholeSteps.{times_more, times_next}
@@ -28,19 +27,10 @@ use Rattle.imago_cow.proofs.CommitSteps.{same_or_not}
 use Rattle.imago_cow.proofs.CutSteps.{grown_as}
 use Rattle.imago_cow.proofs.ResizeSteps.{needs_no_fewer}
 use Rattle.imago_cow.proofs.BoundSteps.{new_ones_fit}
-use Rattle.imago_cow.proofs.GrowBounds.{cut_inside, cut_fits, cut_and_new_fit, zero_reaches}
+use Rattle.imago_cow.proofs.GrowBounds.{cut_inside, cut_fits, zero_reaches}
+use Rattle.imago_cow.proofs.CutEntries.{data_stays, data_was}
 use Rattle.imago_cow.proofs.GrowSteps.{grown_filled, refused_filled}
-use Rattle.imago_cow.proofs.GrownSteps.{kept_place, same_disk, grow_refused}
-
-get_take : (n : ℕ) (xs : List GuestBlock) (i : ℕ) → i < n → slice_get (take n xs) i ≡ slice_get xs i
-get_take zero xs i h = absurd (omega arith)
-get_take (suc n) [] i h = refl
-get_take (suc n) (x ∷ xs) zero h = refl
-get_take (suc n) (x ∷ xs) (suc i) h = get_take n xs i (omega arith)
-
--- an entry of the old ones is what it was
-pub first_entry : (old now : List GuestBlock) (i : ℕ) → take (length old) now ≡ old → i < length old → slice_get now i ≡ slice_get old i
-first_entry old now i prefix h = sym (get_take (length old) now i h) ∙ ap (λ x. slice_get x i) prefix
+use Rattle.imago_cow.proofs.GrownSteps.{kept_place, grow_refused}
 
 -- where the entries of the old disk end
 ends_far : (size block : ℕ) (old : List GuestBlock) → 0 < block → IsExact size block old → 0 < size % block → length old ≤ size / block + 1
@@ -67,41 +57,48 @@ begins_behind size block old p positive exact cutting h other = ⊎_elim
 
 module _ (f : Features) (faults now_faults : ℕ) (x y z : List ℕ) (size block new_size : ℕ) (old mid new : List GuestBlock) (blocks now_blocks : ℕ) (l : LayerBelow) (mode : PreallocateMode) (lower : Bool)
     (positive : 0 < block) (grows : size < new_size) (exact : IsExact size block old) (low : lower ≡ shows_below mode) (some : mode ≡ PreallocateMode.None → ⊥) where
-  -- new guest blocks were added, and then the cut one filled
-  pub grown_whole : IsExtended l.at lower f.keeps_data block (length old * block) new_size old mid x y → IsCutFilled l.at mode f.keeps_data block size new_size mid new y z → Covers new_size block new
+  -- the cut guest block was filled, and then new ones were added
+  pub grown_whole : IsCutFilled l.at mode f.keeps_data block size new_size old mid x y → IsExtended l.at lower f.keeps_data block (length mid * block) new_size mid new y z → Covers new_size block new
       → length z ≤ max (length x) (padded_to f 0 (data_count block size old blocks None (Grow mode) new_size 0 * block)) → CountsFaults {T = Unit {0}} (f.is_reliable && l.is_reliable) faults now_faults (Ok tt)
       → IsGrowth mode l new_size (cow_view f faults x size block old blocks None) (cow_view f now_faults z new_size block new now_blocks None) (Ok tt)
-  grown_whole extended cut covers longer counted =
+  grown_whole cut extended covers longer counted =
+      let ends : length mid * block ≡ length old * block = ap (λ n. n * block) cut.len in
       let shows : (p : ℕ) → p < new_size → shown l.at (cow_place z new_size block new p) ≡ shows_at l.at z block new p = λ p h. ap (shown l.at) (place_in z new_size block new p h) in
       grown_filled f faults now_faults x z size block old new blocks now_blocks new_size positive l mode (omega (arith, grows)) covers
-      (λ k p h. shows p (omega (arith, h, grows)) ∙ cut.kept k p h ∙ extended.kept k p (omega (arith, h, exact.covers)) ∙ ap (shown l.at) (sym (place_in x size block old p h)))
+      (λ k p h. shows p (omega (arith, h, grows)) ∙ extended.kept k p (omega (arith, h, exact.covers, ends)) ∙ cut.kept k p h ∙ ap (shown l.at) (sym (place_in x size block old p h)))
       (λ k p a b.
-      let added : length old * block ≤ p → shows_at l.at z block new p ≡ shows_at l.at y block mid p → grown_into mode true l.at p (shown l.at (cow_place z new_size block new p)) = λ behind same.
-      grown_as mode lower l.at p (shown l.at (cow_place z new_size block new p)) low some (shows p b ∙ same ∙ extended.added k p behind b) in
+      let added : length old * block ≤ p → grown_into mode true l.at p (shown l.at (cow_place z new_size block new p)) = λ behind.
+      grown_as mode lower l.at p (shown l.at (cow_place z new_size block new p)) low some (shows p b ∙ extended.added k p (omega (arith, ends, behind)) b) in
       ⊎_elim
       (λ cutting. ⊎_elim
-      (λ same. rw (shows p b) (cut.cut k p a b same cutting))
-      (λ other. added (begins_behind size block old p positive exact cutting a other) (cut.others k p (inl other)))
+      (λ same.
+      let last = times_more block (size / block + 1) (length old) (omega (arith, cut_inside block size old positive exact cutting)) in
+      let within : p / block * block ≡ size / block * block = ap (λ n. n * block) same in
+      let before : p < length mid * block = omega (arith, last, ends, within, div-add-mod' p block, rest_small block positive p) in
+      subst (λ w. grown_into mode true l.at p w) (sym (shows p b ∙ extended.kept k p before)) (cut.cut k p a b same cutting))
+      (λ other. added (begins_behind size block old p positive exact cutting a other))
       (same_or_not (p / block) (size / block)))
-      (λ whole. let w : size % block ≡ 0 = omega (arith, whole) in added (omega (arith, ends_near size block old positive exact w, a)) (cut.others k p (inr w)))
+      (λ whole. let w : size % block ≡ 0 = omega (arith, whole) in added (omega (arith, ends_near size block old positive exact w, a)))
       (cases_lt 0 (size % block)))
       longer counted
 
-  -- the cut guest block couldn't be filled, and what was added is dropped
-  pub cut_refused : take (length old) mid ≡ old → KeepsBytes f.keeps_data block (length old * block) old x y
-      → (IsTrue f.keeps_data → (p : ℕ) → p < size → entry_place z block p (slice_get mid (p / block)) ≡ entry_place y block p (slice_get mid (p / block))) → length x ≤ length z
+  -- the cut guest block couldn't be filled
+  pub cut_refused : (IsTrue f.keeps_data → (p : ℕ) → p < size → entry_place z block p (slice_get old (p / block)) ≡ entry_place x block p (slice_get old (p / block))) → length x ≤ length z
       → IsSameDisk (cow_view f faults x size block old blocks None) (cow_view f now_faults z size block old now_blocks None)
-  cut_refused prefix bytes places longer = refused_filled f faults now_faults x z size block old blocks now_blocks positive exact.covers
-      (λ k p h.
-      let known : p / block < length old = entry_at block positive size old p exact.covers h in
-      let e = first_entry old mid (p / block) prefix known in
-      place_in z size block old p h ∙ ap (entry_place z block p) (sym e) ∙ places k p h ∙ ap (entry_place y block p) e
-      ∙ kept_place f.keeps_data block (length old * block) old x y positive bytes k p (omega (arith, h, exact.covers)) (slice_get old (p / block)) refl ∙ sym (place_in x size block old p h))
+  cut_refused places longer = refused_filled f faults now_faults x z size block old blocks now_blocks positive exact.covers
+      (λ k p h. place_in z size block old p h ∙ places k p h ∙ sym (place_in x size block old p h))
       longer
 
-  -- new guest blocks couldn't be added
-  pub add_refused : KeepsBytes f.keeps_data block (length old * block) old x z → length x ≤ length z → IsSameDisk (cow_view f faults x size block old blocks None) (cow_view f now_faults z size block old now_blocks None)
-  add_refused bytes longer = same_disk f faults now_faults x z size block old blocks now_blocks positive exact.covers (λ k i j r e s h. bytes k i j r e s (omega (arith, h, exact.covers))) longer
+  -- it was filled, but new guest blocks couldn't be added, and it got its entry back
+  pub add_refused : IsCutEntered block size old mid → length mid ≡ length old → (IsTrue f.keeps_data → (p : ℕ) → p < size → entry_place y block p (slice_get old (p / block)) ≡ entry_place x block p (slice_get old (p / block)))
+      → KeepsBytes f.keeps_data block (length mid * block) mid y z → length x ≤ length z
+      → IsSameDisk (cow_view f faults x size block old blocks None) (cow_view f now_faults z size block old now_blocks None)
+  add_refused entered len places bytes longer =
+      let ends : length mid * block ≡ length old * block = ap (λ n. n * block) len in
+      let same : KeepsBytes f.keeps_data block (length mid * block) old y z = λ k i j r e. bytes k i j r (data_stays block size old mid entered i j e) in
+      cut_refused
+      (λ k p h. kept_place f.keeps_data block (length mid * block) old y z positive same k p (omega (arith, h, exact.covers, ends)) (slice_get old (p / block)) refl ∙ places k p h)
+      longer
 
   -- a refused growth
   pub not_grown : (e : Error) → IsSameDisk (cow_view f faults x size block old blocks None) (cow_view f now_faults z size block old now_blocks None)
@@ -164,9 +161,9 @@ module _ (block size new_size : ℕ) (old : List GuestBlock) (blocks : ℕ) (mod
   fewer : length old ≤ wanted
   fewer = needs_no_fewer block size new_size (length old) wanted (omega (arith, grows)) (blocks_cover block new_size positive) exact.near
 
-  -- new guest blocks fit
-  pub new_fit : lower ≡ true → named_count old + (wanted - length old) ≤ most
-  new_fit t = new_ones_fit block size old old blocks mode new_size wanted positive exact grows (lower_until block size new_size mode (sym low ∙ t)) refl (λ i d. inl d) (blocks_cover block new_size positive) (blocks_near block new_size positive) fewer
+  -- new guest blocks fit, with the cut one in data
+  pub new_fit : (mid : List GuestBlock) → length mid ≡ length old → IsCutEntered block size old mid → lower ≡ true → named_count mid + (wanted - length mid) ≤ most
+  new_fit mid len entered t = new_ones_fit block size old mid blocks mode new_size wanted positive exact grows (lower_until block size new_size mode (sym low ∙ t)) len (data_was block size old mid positive new_size grows entered) (blocks_cover block new_size positive) (blocks_near block new_size positive) fewer
 
   far : (mode : PreallocateMode) → (mode ≡ PreallocateMode.None → ⊥) → 0 < size % block → size < touched_until block size (Grow mode) new_size 0
   far Mode.None some cutting = absurd (some refl)
@@ -176,15 +173,8 @@ module _ (block size new_size : ℕ) (old : List GuestBlock) (blocks : ℕ) (mod
   far Mode.WriteData some cutting = omega (arith, grows)
 
   -- the cut guest block fits too
-  pub cut_fit : (mid : List GuestBlock) → take (length old) mid ≡ old → (named_count mid ≡ named_count old) ⊎ ((lower ≡ true) × (named_count mid ≡ named_count old + (wanted - length old)))
-      → 0 < size % block → is_data (slice_get mid (size / block)) ≡ false → named_count mid + 1 ≤ most
-  cut_fit mid prefix named cutting empty =
-      let inside = cut_inside block size old positive exact cutting in
-      let was : is_data (slice_get old (size / block)) ≡ false = ap is_data (sym (first_entry old mid (size / block) prefix inside)) ∙ empty in
-      ⊎_elim
-      (λ e. omega (arith, e, cut_fits block size old blocks mode new_size positive exact cutting was (far mode some cutting)))
-      (λ e. omega (arith, e.1, cut_and_new_fit block size old blocks mode new_size wanted positive exact grows (lower_until block size new_size mode (sym low ∙ e.0)) cutting was (blocks_cover block new_size positive) (blocks_near block new_size positive) fewer))
-      named
+  pub cut_fit : 0 < size % block → is_data (slice_get old (size / block)) ≡ false → named_count old + 1 ≤ most
+  cut_fit cutting empty = cut_fits block size old blocks mode new_size positive exact cutting empty (far mode some cutting)
 
   absent_there : (p until : ℕ) → size < until → p < size → p / block ≡ size / block → slice_get old (p / block) ≡ Some GuestBlock.Absent → IsInAbsent block size old size until p
   absent_there p until h under same absent =
@@ -204,18 +194,18 @@ module _ (block size new_size : ℕ) (old : List GuestBlock) (blocks : ℕ) (mod
   cut_absent Mode.WriteData some p under same absent = inl (absent_there p (new_size + 0) (omega (arith, grows)) under same absent)
 
   -- what the filling of the cut guest block reads, a growth may
-  pub cut_read : (mid : List GuestBlock) → take (length old) mid ≡ old → (p : ℕ) → IsCutRead block size mid (shows_below mode) new_size p → cow_copies block size old (Grow mode) new_size 0 p
-  cut_read mid prefix p (inl a) =
-      let known : p / block < length old = entry_at block positive size old p exact.covers (a.0) in
-      cut_absent mode some p (a.0) (a.1) (sym (first_entry old mid (p / block) prefix known) ∙ a.2)
-  cut_read mid prefix p (inr b) = new_read block size new_size old mode (shows_below mode) p refl (b.0) (b.1) (b.2)
+  pub cut_read : (p : ℕ) → IsCutRead block size old (shows_below mode) new_size p → cow_copies block size old (Grow mode) new_size 0 p
+  cut_read p (inl a) = cut_absent mode some p (a.0) (a.1) (a.2)
+  cut_read p (inr b) = new_read block size new_size old mode (shows_below mode) p refl (b.0) (b.1) (b.2)
 
-  pub added_read : (p : ℕ) → (lower ≡ true) × (length old * block ≤ p) × (p < new_size) → cow_copies block size old (Grow mode) new_size 0 p
-  added_read p b = new_read block size new_size old mode lower p low (b.0) (omega (arith, b.1, exact.covers)) (b.2)
+  pub added_read : (mid : List GuestBlock) → length mid ≡ length old → (p : ℕ) → (lower ≡ true) × (length mid * block ≤ p) × (p < new_size) → cow_copies block size old (Grow mode) new_size 0 p
+  added_read mid len p b =
+      let ends : length mid * block ≡ length old * block = ap (λ n. n * block) len in
+      new_read block size new_size old mode lower p low (b.0) (omega (arith, b.1, exact.covers, ends)) (b.2)
 
 -- a refusal of a filling is one of the growth
 pub if_grow_refused : (f : Features) (faults : ℕ) (bytes : List ℕ) (size block : ℕ) (old : List GuestBlock) (blocks : ℕ) (l : LayerBelow) (mode : PreallocateMode) (new_size : ℕ) (copied : ℕ → Type 0) → uses_data (Grow mode) ≡ true → ((p : ℕ) → copied p → cow_copies block size old (Grow mode) new_size 0 p)
-    → (e : Error) → allowed (fill_reasons f l block (data_count block size old blocks None (Grow mode) new_size 0) copied) e → allowed (record (lending_reasons (cow_view f faults bytes size block old blocks None) l (Grow mode) new_size 0) { beyond_disk = ⊥ }) e
+    → (e : Error) → allowed (fill_reasons f l (data_count block size old blocks None (Grow mode) new_size 0 * block) copied) e → allowed (record (lending_reasons (cow_view f faults bytes size block old blocks None) l (Grow mode) new_size 0) { beyond_disk = ⊥ }) e
 if_grow_refused f faults bytes size block old blocks l mode new_size copied uses so e c = grow_refused f faults bytes size block old blocks l mode new_size copied uses so e c
 
 pub if_err_of : {T : Type 0} (r : Result T Error) {P : Error → Type 0} → ((e : Error) → r ≡ Err e → P e) → IfErr r P

@@ -21,3 +21,4 @@ pub mod BoundSteps
 pub mod GrownSteps
 pub mod GrowthSteps
 pub mod GrowBounds
+pub mod CutEntries

@@ -1,16 +1,11 @@
-use Rattle.std.specs.Prelude.{◌≡◌, ◌≢◌, ℕ, ◌+◌, ◌-◌, ◌*◌, ◌%◌, ◌/◌, ◌<◌, ◌≤◌, ◌⊎◌, Bool, true, false, IsTrue, List, length, slice_get, slice_index, Some}
-use Rattle.imago_storage.specs.declared.error.Error.{Error}
-use Rattle.imago_storage.specs.Features.{Features}
-use Rattle.imago_storage.specs.Padding.{Wraps}
+use Rattle.std.specs.Prelude.{◌≡◌, ◌≢◌, ℕ, ◌+◌, ◌-◌, ◌*◌, ◌%◌, ◌/◌, ◌<◌, ◌≤◌, ◌⊎◌, Bool, true, false, IsTrue, List, length, slice_get, slice_set, slice_index, Option, Some, None}
 use Rattle.imago_drivers.specs.declared.format.PreallocateMode.{PreallocateMode}
 use Rattle.imago_drivers.specs.declared.format.PreallocateMode.TheVariants as Mode
-use Rattle.imago_drivers.specs.Place.{Value, Byte, IsIn, shown}
-use Rattle.imago_drivers.specs.Reasons.{Reasons, none}
-use Rattle.imago_drivers.specs.LayerBelow.{LayerBelow}
-use Rattle.imago_drivers.specs.Ranges.{HasWrappingPart}
+use Rattle.imago_drivers.specs.Place.{Value, Byte, shown}
 use Rattle.imago_drivers.specs.Resized.{grown_into}
 use Rattle.imago_cow.specs.declared.table.GuestBlock.{GuestBlock}
-use Rattle.imago_cow.specs.Guest.{entry_place, IsEntered}
+use Rattle.imago_cow.specs.Guest.{entry_place, is_data, IsEntered}
+use Rattle.imago_cow.specs.Table.{without_data}
 use Rattle.imago_cow.specs.Copies.{old_value}
 use Rattle.imago_cow.specs.Growth.{SameOutside}
 
@@ -25,14 +20,6 @@ shows_below Mode.Zero = false
 shows_below Mode.FormatAllocate = true
 shows_below Mode.FullAllocate = true
 shows_below Mode.WriteData = true
-
--- Why data blocks that end by that offset may not be filled, from places of the layer below that are read.
-abbrev pub fill_reasons : Features → LayerBelow → ℕ → (ℕ → Type 0) → Reasons
-fill_reasons f l limit reads = record none {
-  cause = λ e. ((e ≡ Error.WrapAround) × HasWrappingPart (Wraps f) 0 limit) ⊎ ((q : ℕ) × (m : ℕ) × (0 < m) × ((p : ℕ) → IsIn q m p → reads p) × l.cause q m e);
-  device = Unit {0};
-  memory = Unit {0};
-}
 
 -- What a growth reads of the layer below for the guest block that the disk's end cuts: that block, where it is absent, and new places.
 abbrev pub IsCutRead : ℕ → ℕ → List GuestBlock → Bool → ℕ → ℕ → Type 0
@@ -56,3 +43,19 @@ pub record IsTaken (at : ℕ → Value) (block size count : ℕ) (absent lower :
   pub before : (k : ℕ) → k < size % block → old_value at absent (size - size % block + k) ≡ Byte (slice_index new_bytes (number * block + k))
   pub behind : (k : ℕ) → k < count → old_value at lower (size + k) ≡ Byte (slice_index new_bytes (number * block + size % block + k))
   pub outside : SameOutside (number * block) block old_bytes new_bytes
+
+-- The guest block that the disk's end cuts became data, where it wasn't, and no other changed.
+pub record IsCutTaken (block size : ℕ) (old new : List GuestBlock) : Type 0 where
+  pub cuts : 0 < size % block
+  pub empty : is_data (slice_get old (size / block)) ≡ false
+  pub number : ℕ
+  pub entries : new ≡ slice_set old (size / block) (GuestBlock.Data number)
+
+-- the entries are the old ones, or that one became data
+abbrev pub IsCutEntered : ℕ → ℕ → List GuestBlock → List GuestBlock → Type 0
+IsCutEntered block size old new = (new ≡ old) ⊎ IsCutTaken block size old new
+
+-- what was told of that guest block: whether it is an explicit zero; none where it is data, or none is cut
+abbrev pub IsCutEmpty : ℕ → ℕ → List GuestBlock → Option Bool → Type 0
+IsCutEmpty block size entries None = 0 < size % block → is_data (slice_get entries (size / block)) ≡ true
+IsCutEmpty block size entries (Some is_zero) = slice_get entries (size / block) ≡ Some (without_data is_zero)

@@ -1,13 +1,14 @@
 use Rattle.std.specs.Prelude.{◌≡◌, ℕ, ◌+◌, ◌*◌, ◌/◌, ◌<◌, ◌≤◌, ◌⊎◌, ◌++◌, ◌∷◌, [], Bool, IsTrue, List, length, slice_index, slice_get, Some}
 use Rattle.imago_storage.specs.declared.error.Error.{Error}
 use Rattle.imago_storage.specs.Features.{Features}
+use Rattle.imago_storage.specs.Padding.{Wraps}
 use Rattle.imago_drivers.specs.Place.{Value, Byte, IsIn, shown}
 use Rattle.imago_drivers.specs.Reasons.{Reasons, none}
 use Rattle.imago_drivers.specs.LayerBelow.{LayerBelow}
+use Rattle.imago_drivers.specs.Ranges.{HasWrappingPart}
 use Rattle.imago_cow.specs.declared.table.GuestBlock.{GuestBlock}
 use Rattle.imago_cow.specs.Guest.{origin_in, entry_place}
 use Rattle.imago_cow.specs.Copies.{old_value}
-use Rattle.imago_cow.specs.Cow.{DataWraps}
 
 -- the bytes outside a range are what they were
 abbrev pub SameOutside : ℕ → ℕ → List ℕ → List ℕ → Type 0
@@ -34,10 +35,10 @@ pub record IsExtended (at : ℕ → Value) (lower keeps : Bool) (block from unti
   pub names : (i j : ℕ) → slice_get old i ≡ Some (GuestBlock.Data j) → slice_get new i ≡ Some (GuestBlock.Data j)
   pub bytes : KeepsBytes keeps block from old old_bytes new_bytes
 
--- Why filling data blocks may be refused, of which so many are there at most, where the layer below is read at these places.
-abbrev pub fill_reasons : Features → LayerBelow → ℕ → ℕ → (ℕ → Type 0) → Reasons
-fill_reasons f l block most copied = record none {
-  cause = λ e. ((e ≡ Error.WrapAround) × DataWraps f block most) ⊎ ((q : ℕ) × (m : ℕ) × (0 < m) × ((p : ℕ) → IsIn q m p → copied p) × l.cause q m e);
+-- Why data blocks that end by that offset may not be filled, from places of the layer below that are read.
+abbrev pub fill_reasons : Features → LayerBelow → ℕ → (ℕ → Type 0) → Reasons
+fill_reasons f l limit reads = record none {
+  cause = λ e. ((e ≡ Error.WrapAround) × HasWrappingPart (Wraps f) 0 limit) ⊎ ((q : ℕ) × (m : ℕ) × (0 < m) × ((p : ℕ) → IsIn q m p → reads p) × l.cause q m e);
   device = Unit {0};
   memory = Unit {0};
 }

@@ -1,11 +1,13 @@
 //! The copy-on-write driver.
-ghost use Rattle.std.specs.Prelude.{◌≡◌, ℕ, ◌+◌, ◌*◌, ◌^◌, ◌<◌, ◌≤◌, ◌↔◌, None, IfOk, IfErr, IsTrue, true, false};
+ghost use Rattle.std.specs.Prelude.{◌≡◌, ℕ, ◌+◌, ◌*◌, ◌/◌, ◌^◌, ◌<◌, ◌≤◌, ◌↔◌, None, Some, IfOk, IfErr, IsTrue, max, slice_get, true, false};
 ghost use Rattle.std.specs.Int.{is_power_of_two};
 ghost use Rattle.std.specs.Option.{ForSome};
-ghost use Rattle.imago_drivers.specs.Place.{Lower, BytesAreWritable, HasStranger};
+ghost use Rattle.imago_drivers.specs.Place.{Lower, BytesAreWritable, HasStranger, values};
 ghost use Rattle.imago_drivers.specs.LayerBelow.{lent};
 ghost use Rattle.imago_drivers.specs.Reasons.{none};
 ghost use Rattle.imago_drivers.specs.Pending.{IsOwn};
+ghost use Rattle.imago_drivers.specs.Prepared.{IsPrepared};
+ghost use Rattle.imago_drivers.specs.Calls.{IsPreparation};
 ghost use Rattle.imago_drivers.specs.Commit.{IsCommit, IsCancel};
 ghost use Rattle.imago_cow.specs.Table.{named_count};
 ghost use Rattle.imago_cow.specs.TableView.{entries_of, held_of, count_of};
@@ -182,6 +184,8 @@ impl<S: Storage> Display for Cow<S> {
 }
 
 impl<S: Storage> FormatDriverInstance for Cow<S> {
+    ghost use Rattle.imago_cow.specs.CowImage.{storage_in, block_of, blocks_of, data_blocks_of, waiting_in};
+
     type Storage = S;
 
     type State = CowState;
@@ -329,7 +333,24 @@ impl<S: Storage> FormatDriverInstance for Cow<S> {
         offset: u64,
         count: u64,
         overwrite: bool,
-    ) -> Result<PreparedDataMapping<CowState>, Error> {
+    ) -> Result<PreparedDataMapping<CowState>, Error>
+        requires spent { (⟦<Cow<S> as FormatDriverInstance>⟧.view self.old).pending ≡ None }
+        requires inside { offset + count ≤ (⟦<Cow<S> as FormatDriverInstance>⟧.view self.old).size }
+        ensures prepared { IfOk result
+            (λ m. IsPrepared offset count overwrite
+            (values (lent B.as_layer_below below.entry).at (⟦<Cow<S> as FormatDriverInstance>⟧.view self.old).place)
+            (⟦<Cow<S> as FormatDriverInstance>⟧.view self.old)
+            (⟦<Cow<S> as FormatDriverInstance>⟧.view self.new) m) }
+        ensures call { IsPreparation (lent B.as_layer_below below.entry) offset count
+            (⟦<Cow<S> as FormatDriverInstance>⟧.view self.old)
+            (⟦<Cow<S> as FormatDriverInstance>⟧.view self.new) result }
+        ensures entries { blocks_of self.new ≡ blocks_of self.old }
+        ensures added { data_blocks_of self.new ≤ max (data_blocks_of self.old) (named_count (blocks_of self.old) + 1) }
+        ensures in_data { (j : ℕ)
+            → slice_get (blocks_of self.old) (offset / block_of self.old) ≡ Some (GuestBlock.Data j)
+            → (storage_in self.new ≡ storage_in self.old) × (data_blocks_of self.new ≡ data_blocks_of self.old) ×
+            (waiting_in self.new ≡ waiting_in self.old) }
+    {
         if count == 0 {
             return Ok(PreparedDataMapping::existing(0, 0, 0));
         }

@@ -1,5 +1,5 @@
 //! The guest block that the disk's end cuts, in a growth.
-ghost use Rattle.std.specs.Prelude.{◌≡◌, ◌≢◌, ℕ, ◌+◌, ◌-◌, ◌*◌, ◌/◌, ◌%◌, ◌^◌, ◌<◌, ◌≤◌, ◌⊎◌, ◌&&◌, max, length, slice_index, slice_get, IsTrue, IfOk, IfErr, OnOk, OnErr, Some, None, true, false};
+ghost use Rattle.std.specs.Prelude.{◌≡◌, ◌≢◌, ℕ, ◌+◌, ◌-◌, ◌*◌, ◌/◌, ◌%◌, ◌^◌, ◌<◌, ◌≤◌, ◌⊎◌, ◌&&◌, max, length, List, slice_index, slice_get, slice_set, IsTrue, IfOk, IfErr, IfSome, OnOk, OnErr, Some, None, true, false};
 ghost use Rattle.imago_storage.specs.Faults.{CountsFaults};
 ghost use Rattle.imago_storage.specs.Features.{len_align};
 ghost use Rattle.imago_drivers.specs.declared.format.PreallocateMode.{PreallocateMode};
@@ -10,9 +10,10 @@ ghost use Rattle.imago_drivers.specs.Reasons.{allowed};
 ghost use Rattle.imago_cow.specs.declared.table.GuestBlock.{GuestBlock};
 ghost use Rattle.imago_cow.specs.Table.{named_count};
 ghost use Rattle.imago_cow.specs.TableView.{entries_of, held_of, count_of};
-ghost use Rattle.imago_cow.specs.Guest.{IsExact, entry_place, is_data};
+ghost use Rattle.imago_cow.specs.Guest.{entry_place, is_data};
 ghost use Rattle.imago_cow.specs.Copies.{old_value};
-ghost use Rattle.imago_cow.specs.Cut.{IsCutFilled, IsCutRead, IsTaken, fill_reasons, shows_below};
+ghost use Rattle.imago_cow.specs.Growth.{fill_reasons};
+ghost use Rattle.imago_cow.specs.Cut.{IsCutEmpty, IsCutEntered, IsCutFilled, IsCutRead, IsTaken, shows_below};
 
 use crate::copy::copy_old;
 use crate::resize::take_block;
@@ -156,11 +157,12 @@ fn fill_taken<S: Storage, B: LowerLayer>(
         (entries_of table.old) (entries_of table.new) (S.bytes storage.old) (S.bytes storage.new)) }
     ensures len { length (entries_of table.new) ≡ length (entries_of table.old) }
     ensures entries { OnErr result (entries_of table.new ≡ entries_of table.old) }
-    ensures places { OnErr result
-        (IsTrue (S.features storage.old).keeps_data
+    ensures entry { OnOk result
+        ((j : ℕ) × (entries_of table.new ≡ slice_set (entries_of table.old) (cut.size / cut.block) (GuestBlock.Data j))) }
+    ensures places { IsTrue (S.features storage.old).keeps_data
         → (p : ℕ)
         → entry_place (S.bytes storage.new) cut.block p (slice_get (entries_of table.old) (p / cut.block))
-        ≡ entry_place (S.bytes storage.old) cut.block p (slice_get (entries_of table.old) (p / cut.block))) }
+        ≡ entry_place (S.bytes storage.old) cut.block p (slice_get (entries_of table.old) (p / cut.block)) }
     ensures held { held_of table.new ≡ None }
     ensures addressed { count_of table.new * cut.block < 2 ^ 64 }
     ensures added { count_of table.new ≤ max (count_of table.old) (named_count (entries_of table.old) + 1) }
@@ -196,7 +198,7 @@ fn fill_taken<S: Storage, B: LowerLayer>(
 }
 
 /// Fills the guest block that the disk's old end cuts, up to the new end, as the mode says: `None` leaves it, and so does
-/// `Zero` an explicit zero. The table is that of the new size. Refused, no place before the old end changed.
+/// `Zero` an explicit zero. Refused, no place before the old end changed.
 pub(crate) fn fill_cut<S: Storage, B: LowerLayer>(
     storage: &mut S,
     faults: &mut u64,
@@ -210,22 +212,27 @@ pub(crate) fn fill_cut<S: Storage, B: LowerLayer>(
 ) -> Result<(), Error>
     requires positive { 0 < block }
     requires grows { size < new_size }
-    requires exact { IsExact new_size block (entries_of table.old) }
+    requires within { 0 < size % block → size / block < length (entries_of table.old) }
     requires spent { held_of table.old ≡ None }
     requires addressed { count_of table.old * block < 2 ^ 64 }
     ensures filled { OnOk result
         (IsCutFilled (lent B.as_layer_below below.entry).at mode (S.features storage.old).keeps_data block size
         new_size (entries_of table.old) (entries_of table.new) (S.bytes storage.old) (S.bytes storage.new)) }
     ensures entries { OnErr result (entries_of table.new ≡ entries_of table.old) }
-    ensures places { OnErr result
-        (IsTrue (S.features storage.old).keeps_data
+    ensures entry { OnOk result (IsCutEntered block size (entries_of table.old) (entries_of table.new)) }
+    ensures places { IsTrue (S.features storage.old).keeps_data
         → (p : ℕ)
         → p < size
         → entry_place (S.bytes storage.new) block p (slice_get (entries_of table.old) (p / block))
-        ≡ entry_place (S.bytes storage.old) block p (slice_get (entries_of table.old) (p / block))) }
+        ≡ entry_place (S.bytes storage.old) block p (slice_get (entries_of table.old) (p / block)) }
     ensures held { held_of table.new ≡ None }
     ensures addressed { count_of table.new * block < 2 ^ 64 }
-    ensures added { count_of table.new ≤ max (count_of table.old) (named_count (entries_of table.old) + 1) }
+    ensures counted { (most : ℕ)
+        → count_of table.old ≤ most
+        → (0 < size % block
+        → is_data (slice_get (entries_of table.old) (size / block)) ≡ false
+        → named_count (entries_of table.old) + 1 ≤ most)
+        → count_of table.new ≤ most }
     ensures no_shorter { length (S.bytes storage.old) ≤ length (S.bytes storage.new) }
     ensures no_longer { (most : ℕ)
         → count_of table.old ≤ most
@@ -276,4 +283,38 @@ pub(crate) fn fill_cut<S: Storage, B: LowerLayer>(
             copy_old(storage, faults, alloc, below, lower, size, count, to)
         }
     }
+}
+
+/// Whether the guest block that the disk's end cuts is an explicit zero, where it isn't data.
+pub(crate) fn empty_cut(table: &Table, block: u64, size: u64) -> Option<bool>
+    requires positive { 0 < block }
+    requires within { 0 < size % block → size / block < length (entries_of table.now) }
+    ensures empty { IsCutEmpty block size (entries_of table.now) result }
+    ensures within { IfSome result (λ z. size / block < length (entries_of table.now)) }
+{
+    if size % block == 0 {
+        return None;
+    }
+    match table.get((size / block) as usize) {
+        GuestBlock::Absent => Some(false),
+        GuestBlock::Zero => Some(true),
+        GuestBlock::Data(_) => None,
+    }
+}
+
+/// Makes the guest block that the disk's end cuts again what it was, and its data block free.
+pub(crate) fn restore_cut(table: &mut Table, block: u64, size: u64, was: Option<bool>)
+    requires positive { 0 < block }
+    requires within { IfSome was (λ z. size / block < length (entries_of table.old)) }
+    ensures restored { (old : List GuestBlock)
+        → IsCutEmpty block size old was
+        → IsCutEntered block size old (entries_of table.old)
+        → entries_of table.new ≡ old }
+    ensures held { held_of table.new ≡ held_of table.old }
+    ensures count { count_of table.new ≡ count_of table.old }
+{
+    let Some(zero) = was else {
+        return;
+    };
+    table.clear((size / block) as usize, zero);
 }

@@ -132,7 +132,7 @@ fn push_filled<S: Storage, B: LowerLayer>(
         → named_count (entries_of table.old) + 1 ≤ most
         → IfErr result
         (allowed
-        (fill_reasons (S.features storage.old) (lent B.as_layer_below below.entry) block most
+        (fill_reasons (S.features storage.old) (lent B.as_layer_below below.entry) (most * block)
         (λ p. (length (entries_of table.old) * block ≤ p) × (p < end)))) }
 {
     let start = table.len() as u64 * block;
@@ -206,7 +206,7 @@ pub(crate) fn push_blocks<S: Storage, B: LowerLayer>(
         → named_count (entries_of table.old) + missing ≤ most
         → IfErr result
         (allowed
-        (fill_reasons (S.features storage.old) (lent B.as_layer_below below.entry) block most
+        (fill_reasons (S.features storage.old) (lent B.as_layer_below below.entry) (most * block)
         (λ p. (length (entries_of table.old) * block ≤ p) × (p < end)))) }
 {
     for _ in 0..missing {
@@ -275,7 +275,7 @@ pub(crate) fn add_new<S: Storage, B: LowerLayer>(
         → («lower» ≡ true → named_count (entries_of table.old) + (wanted - length (entries_of table.old)) ≤ most)
         → IfErr result
         (allowed
-        (fill_reasons (S.features storage.old) (lent B.as_layer_below below.entry) block most
+        (fill_reasons (S.features storage.old) (lent B.as_layer_below below.entry) (most * block)
         (λ p. («lower» ≡ true) × (length (entries_of table.old) * block ≤ p) × (p < new_size)))) }
 {
     if !lower {

@@ -1,4 +1,4 @@
-use Rattle.std.proofs.Common.{◌≡◌, ◌+◌, ◌*◌, ◌%◌, ◌<◌, ◌≤◌, arith, ap, ◌∙◌, Some, max, true, false}
+use Rattle.std.proofs.Common.{◌≡◌, ◌+◌, ◌*◌, ◌%◌, ◌<◌, ◌≤◌, arith, ap, ◌∙◌, refl, inl, inr, Some, max, true, false}
 use Rattle.imago_drivers.specs.declared.format.PreallocateMode.{PreallocateMode}
 use Rattle.imago_drivers.specs.LayerBelow.{lent}
 use Rattle.imago_cow.specs.Table.{named_count}
@@ -9,7 +9,7 @@ use Rattle.imago_cow.specs.GuestLaws.{rest_small}
 use Rattle.imago_cow.proofs.WholeSteps.{times_more}
 use Rattle.imago_cow.specs.Cut.{IsCutRead, shows_below}
 use Rattle.imago_cow.proofs.MapSteps.{number_ends}
-use Rattle.imago_cow.proofs.StoredSteps.{on_ok, on_err, ok_holds}
+use Rattle.imago_cow.proofs.StoredSteps.{on_ok, ok_holds}
 use Rattle.imago_cow.proofs.CutSteps.{limit_padded, part_padded, if_limit_refused, taken_filled, data_filled, data_torn, if_refused, reads_behind}
 use Rattle.imago_cow.proofs.cut.fill_cut.Goals as goal
 
@@ -136,7 +136,7 @@ returns-in-Data-clause-places g c =
     let rest = rest_small c.args.block c.requires.positive c.args.size in
     let fits : c.args.size % c.args.block + c.min-count.result ≤ c.args.block = omega (arith, c.min-count.ensures, rest) in
     let B = g.S.Storage.bytes c.copy_old.new.storage in
-    on_err c.copy_old.result (λ x e k p h. data_torn c.args.block c.args.size c.min-count.result j E A B c.requires.positive (λ i n q a b. named_once t i n q a b) named fits (c.copy_old.ensures.outside k) p h)
+    λ k p h. data_torn c.args.block c.args.size c.min-count.result j E A B c.requires.positive (λ i n q a b. named_once t i n q a b) named fits (c.copy_old.ensures.outside k) p h
 
 pub returns-in-Data-clause-no_longer : goal.returns-in-Data-clause-no_longer
 returns-in-Data-clause-no_longer g c = λ most m1 m2.
@@ -176,3 +176,28 @@ returns-in-Data-clause-refusals g c = λ most m1 m2.
     let less : j < most = omega (arith, known, m1) in
     rw (← low) (if_refused f L c.is_lower-lower.result c.args.size c.min-count.result (j * c.args.block + c.args.size % c.args.block) (most * c.args.block) (IsCutRead c.args.block c.args.size E c.is_lower-lower.result c.args.new_size) c.copy_old.result
     (omega (arith, number_ends c.args.block j most less, fits)) (reads_behind c.args.block c.args.size c.min-count.result c.args.new_size E c.is_lower-lower.result (omega (arith, c.min-count.ensures, c.requires.grows))) c.copy_old.ensures.refusals)
+
+pub returns-in-Absent-clause-entry : goal.returns-in-Absent-clause-entry
+returns-in-Absent-clause-entry g c =
+    on_ok c.fill_taken.result (λ x e.
+    let q = ok_holds x e c.fill_taken.ensures.entry in
+    inr (record { cuts = omega (arith, c.if-rest-eq0.false); empty = ap is_data (c.get.ensures ∙ ap (λ y. Some y) c.in-Absent.is); number = q.0; entries = q.1 }))
+
+pub returns-in-Absent-clause-counted : goal.returns-in-Absent-clause-counted
+returns-in-Absent-clause-counted g c = λ most m1 m2.
+    let cutting : 0 < c.args.size % c.args.block = omega (arith, c.if-rest-eq0.false) in
+    omega (arith, m1, m2 cutting (ap is_data (c.get.ensures ∙ ap (λ y. Some y) c.in-Absent.is)), c.fill_taken.ensures.added)
+
+pub returns-else-not-lower-clause-entry : goal.returns-else-not-lower-clause-entry
+returns-else-not-lower-clause-entry g c =
+    on_ok c.fill_taken-in-Zero.result (λ x e.
+    let q = ok_holds x e c.fill_taken-in-Zero.ensures.entry in
+    inr (record { cuts = omega (arith, c.if-rest-eq0.false); empty = ap is_data (c.get.ensures ∙ ap (λ y. Some y) c.in-Zero.is); number = q.0; entries = q.1 }))
+
+pub returns-else-not-lower-clause-counted : goal.returns-else-not-lower-clause-counted
+returns-else-not-lower-clause-counted g c = λ most m1 m2.
+    let cutting : 0 < c.args.size % c.args.block = omega (arith, c.if-rest-eq0.false) in
+    omega (arith, m1, m2 cutting (ap is_data (c.get.ensures ∙ ap (λ y. Some y) c.in-Zero.is)), c.fill_taken-in-Zero.ensures.added)
+
+pub returns-in-Data-clause-entry : goal.returns-in-Data-clause-entry
+returns-in-Data-clause-entry g c = on_ok c.copy_old.result (λ x e. inl refl)

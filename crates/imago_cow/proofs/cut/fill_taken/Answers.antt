@@ -1,7 +1,9 @@
 use Rattle.std.proofs.Common.{◌+◌, ◌-◌, ◌*◌, ◌/◌, ◌<◌, arith, ap, ◌∙◌, Err, max}
 use Rattle.std.proofs.lemmas.Result.{err_from_is_err_and}
 use Rattle.imago_storage.specs.Features.{len_align}
+use Rattle.std.specs.Prelude.{slice_set}
 use Rattle.imago_drivers.specs.LayerBelow.{lent}
+use Rattle.imago_cow.specs.declared.table.GuestBlock.{GuestBlock}
 use Rattle.imago_cow.specs.Table.{named_count}
 use Rattle.imago_cow.specs.TableView.{entries_of, count_of}
 use Rattle.imago_cow.specs.TableLaws.{held_below, held_apart}
@@ -79,6 +81,18 @@ returns-in-Err-clause-no_longer g c =
     let known : number < max (count_of c.args.table.now) (named_count E + 1) = omega (arith, held_below c.take_block.new.table number held, c.take_block.ensures.added) in
     filled_length cut.block number (max (count_of c.args.table.now) (named_count E + 1)) _ _ (len_align f - 1) known c.fill_both.ensures.no_longer
 
+pub returns-in-Ok-clause-places : goal.returns-in-Ok-clause-places
+returns-in-Ok-clause-places g c = λ keeps p.
+    let cut = c.args.cut in
+    let E = entries_of c.args.table.now in
+    let f = g.S.Storage.features c.args.storage.now in
+    let A = g.S.Storage.bytes c.args.storage.now in
+    let number = c.in_ok-number.number in
+    let B = g.S.Storage.bytes c.fill_both.new.storage in
+    let held = c.in_ok-number.ensures.held in
+    let known : number < max (count_of c.args.table.now) (named_count E + 1) = omega (arith, held_below c.take_block.new.table number held, c.take_block.ensures.added) in
+    other_bytes cut.block c.requires.positive A B number p _ (λ h. held_apart c.take_block.new.table (p / cut.block) number held (rw c.take_block.ensures.entries h)) (c.fill_both.ensures.outside keeps)
+
 pub returns-in-Err-clause-places : goal.returns-in-Err-clause-places
 returns-in-Err-clause-places g c = λ keeps p.
     let cut = c.args.cut in
@@ -102,3 +116,8 @@ returns-in-Err-clause-refusals g c = λ new_size h.
     let held = c.in_ok-number.ensures.held in
     let known : number < max (count_of c.args.table.now) (named_count E + 1) = omega (arith, held_below c.take_block.new.table number held, c.take_block.ensures.added) in
     c.in-Err.ensures.refusals (max (count_of c.args.table.now) (named_count E + 1) * cut.block) E new_size (number_ends cut.block number (max (count_of c.args.table.now) (named_count E + 1)) known) h c.requires.absent
+
+pub returns-in-Ok-clause-entry : goal.returns-in-Ok-clause-entry
+returns-in-Ok-clause-entry g c =
+    let number = c.in_ok-number.number in
+    (number, c.enter.ensures.entries number c.in_ok-number.ensures.held ∙ ap (λ x. slice_set x (c.args.cut.size / c.args.cut.block) (GuestBlock.Data number)) c.take_block.ensures.entries)

@@ -4,7 +4,8 @@ use Rattle.imago_cow.specs.Table.{named_count}
 use Rattle.imago_cow.specs.TableView.{entries_of}
 use Rattle.imago_cow.specs.Growth.{IsExtended}
 use Rattle.imago_cow.proofs.ResizeSteps.{needs_no_fewer}
-use Rattle.imago_cow.proofs.FillSteps.{on_ok_both, zero_extended, one_whole, fill_more}
+use Rattle.imago_cow.proofs.FillSteps.{on_ok_both, zero_extended, one_whole}
+use Rattle.imago_cow.proofs.CutSteps.{limit_refused}
 use Rattle.imago_cow.proofs.resize.add_new.Goals as goal
 
 pub returns-then-not-lower-clause-extended : goal.returns-then-not-lower-clause-extended
@@ -40,9 +41,8 @@ returns-in-Err-push_blocks-clause-refusals g c = λ most wanted covers near coun
     let same : named_count (entries_of c.reserve.new.self) ≡ named_count (entries_of c.args.table.now) = ap named_count c.reserve.ensures.entries in
     let starts : length (entries_of c.reserve.new.self) * c.args.block ≡ length (entries_of c.args.table.now) * c.args.block = ap (λ e. length e * c.args.block) c.reserve.ensures.entries in
     let lower : c.args.lower ≡ true = c.if-not-lower.false in
-    fill_more (g.S.Storage.features c.args.storage.now) (lent g.B.LowerLayer.as_layer_below c.args.below) c.args.block most _ _
+    limit_refused (g.S.Storage.features c.args.storage.now) (lent g.B.LowerLayer.as_layer_below c.args.below) (most * c.args.block) (most * c.args.block) _ _ c.in-Err-push_blocks.e (omega arith)
     (λ p i. let y : length (entries_of c.args.table.now) * c.args.block ≤ p = omega (arith, starts, i.0) in (lower, y, i.1))
-    c.in-Err-push_blocks.e
     (c.in-Err-push_blocks.ensures.refusals most (omega (arith, c.reserve.ensures.count, counted)) (let m = named c.if-not-lower.false in omega (arith, same, m, one, c.len-old.ensures)))
 
 pub returns-clause-extended : goal.returns-clause-extended

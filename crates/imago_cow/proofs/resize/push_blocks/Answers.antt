@@ -8,7 +8,8 @@ use Rattle.imago_drivers.specs.Reasons.{allowed}
 use Rattle.imago_cow.specs.Table.{named_count}
 use Rattle.imago_cow.specs.TableView.{entries_of, count_of}
 use Rattle.imago_cow.specs.Growth.{IsPushed, fill_reasons}
-use Rattle.imago_cow.proofs.FillSteps.{pushing_more, counts_then, fill_more}
+use Rattle.imago_cow.proofs.FillSteps.{pushing_more, counts_then}
+use Rattle.imago_cow.proofs.CutSteps.{limit_refused}
 use Rattle.imago_cow.proofs.WholeSteps.{times_more}
 use Rattle.imago_cow.proofs.resize.push_blocks.Goals as goal
 
@@ -37,9 +38,10 @@ returns-in_err-push_filled-clause-refusals g c = λ most counted named.
     let less : length (entries_of c.args.table.now) ≤ length (entries_of c.loop.table) = omega (arith, was.len) in
     let starts = times_more c.args.block (length (entries_of c.args.table.now)) (length (entries_of c.loop.table)) less in
     let some : ℕ → Type 0 = λ q. (length (entries_of c.loop.table) * c.args.block ≤ q) × (q < c.args.end) in
-    let r : allowed (fill_reasons (g.S.Storage.features c.args.storage.now) l c.args.block most some) c.in_err-push_filled.field-0.0 =
-    subst (λ f. allowed (fill_reasons f l c.args.block most some) c.in_err-push_filled.field-0.0) c.loop.invariant.6 (c.in_err-push_filled.ensures.refusals most a b) in
-    rw (p.1, p.2) (fill_more (g.S.Storage.features c.args.storage.now) l c.args.block most some _ (λ q i. let x : length (entries_of c.args.table.now) * c.args.block ≤ q = omega (arith, starts, i.0) in (x, i.1)) c.in_err-push_filled.field-0.0 r)
+    let r : allowed (fill_reasons (g.S.Storage.features c.args.storage.now) l (most * c.args.block) some) c.in_err-push_filled.field-0.0 =
+    subst (λ f. allowed (fill_reasons f l (most * c.args.block) some) c.in_err-push_filled.field-0.0) c.loop.invariant.6 (c.in_err-push_filled.ensures.refusals most a b) in
+    rw (p.1, p.2) (limit_refused (g.S.Storage.features c.args.storage.now) l (most * c.args.block) (most * c.args.block) some _ c.in_err-push_filled.field-0.0 (omega arith)
+    (λ q i. let x : length (entries_of c.args.table.now) * c.args.block ≤ q = omega (arith, starts, i.0) in (x, i.1)) r)
 
 pub loop-preserved : goal.loop-preserved
 loop-preserved g c =

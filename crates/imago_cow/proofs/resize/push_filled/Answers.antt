@@ -6,7 +6,8 @@ use Rattle.imago_cow.specs.TableView.{entries_of, held_of}
 use Rattle.std.proofs.lemmas.Result.{err_from_is_err_and}
 use Rattle.imago_cow.specs.Table.{named_count}
 use Rattle.imago_cow.specs.TableLaws.{held_apart, held_below}
-use Rattle.imago_cow.proofs.FillSteps.{filled_length, copy_refused, take_refused, block_kept}
+use Rattle.imago_cow.proofs.FillSteps.{filled_length, take_refused, block_kept}
+use Rattle.imago_cow.proofs.CutSteps.{copy_refused}
 use Rattle.imago_cow.proofs.MapSteps.{number_ends}
 use Rattle.imago_cow.proofs.GrowSteps.{copied_place}
 use Rattle.imago_cow.proofs.resize.push_filled.Goals as goal
@@ -64,5 +65,5 @@ returns-in-Err-clause-refusals g c = λ most counted named.
     let k : n < most = omega (arith, known, c.take_block.ensures.added, counted, named) in
     let ends = number_ends c.args.block n most k in
     let t : c.len.result * c.args.block ≡ length (entries_of c.args.table.now) * c.args.block = ap (λ x. x * c.args.block) c.len.ensures in
-    copy_refused (g.S.Storage.features c.args.storage.now) (lent g.B.LowerLayer.as_layer_below c.args.below) _ (c.len.result * c.args.block) c.min-count.result (n * c.args.block) c.args.block most _ (omega (arith, ends, c.min-count.ensures))
-    (λ a p i. let x : length (entries_of c.args.table.now) * c.args.block ≤ p = omega (arith, t, i.0) in let y : p < c.args.end = omega (arith, i.1, c.min-count.ensures) in (x, y)) c.in-Err.e c.in-Err.ensures.refusals
+    copy_refused (g.S.Storage.features c.args.storage.now) (lent g.B.LowerLayer.as_layer_below c.args.below) _ (c.len.result * c.args.block) c.min-count.result (n * c.args.block) (most * c.args.block) _ c.in-Err.e (omega (arith, ends, c.min-count.ensures))
+    (λ a p i. let x : length (entries_of c.args.table.now) * c.args.block ≤ p = omega (arith, t, i.0) in let y : p < c.args.end = omega (arith, i.1, c.min-count.ensures) in (x, y)) c.in-Err.ensures.refusals

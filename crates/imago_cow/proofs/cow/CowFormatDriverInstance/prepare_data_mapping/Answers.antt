@@ -13,7 +13,7 @@ use Rattle.imago_cow.specs.CowLaws.{cow_causes}
 use Rattle.imago_cow.proofs.MapSteps.{number_ends}
 use Rattle.imago_cow.proofs.PrepareSteps.{counts_as}
 use Rattle.imago_cow.proofs.DriverSteps.{none_waits}
-use Rattle.imago_cow.proofs.ExistingSteps.{stands_prepared, prepared_existing}
+use Rattle.imago_cow.proofs.ExistingSteps.{not_in_data, stands_prepared, prepared_existing}
 use Rattle.imago_cow.proofs.cow.CowFormatDriverInstance.prepare_data_mapping.Goals as goal
 
 pub returns-then-count-eq0-clause-call : goal.returns-then-count-eq0-clause-call
@@ -63,6 +63,9 @@ returns-in-Data-clause-call g c =
     let none : s.waiting ≡ None = none_waits s.block s.size A s.waiting c.requires.spent in
     stands_prepared (cow_view f n A s.size s.block E (count_of s.table) s.waiting) L c.args.offset c.args.count c.requires.spent (cow_causes f n A s.size s.block E (count_of s.table) s.waiting) c.existing-in-Data.result
 
+pub returns-in-Data-clause-in_data : goal.returns-in-Data-clause-in_data
+returns-in-Data-clause-in_data g c = λ j h. (refl, refl, refl)
+
 pub returns-in_err-waiting : goal.returns-in_err-waiting
 returns-in_err-waiting g c =
     let s = c.args.self.now in
@@ -88,6 +91,9 @@ returns-in_err-waiting g c =
         faults = counts_as {T = Waiting} {U = PreparedDataMapping CowState} _ _ _ c.prepare_part.result (Err (c.in_err-waiting.field-0.0)) (λ x. let y : c.in_err-waiting.field-0.0 ≡ Error.Device = cc in c.in_err-waiting.was ∙ ap (λ z. Err z) y) e.faults;
         refusals = c.in_err-waiting.ensures.refusals n c.args.count some;
       });
+      entries = e.entries;
+      added = e.added;
+      in_data = λ j h. absurd (not_in_data _ _ j c.get-entry.ensures c.in_default.not-Data h);
     })
 
 pub returns : goal.returns
@@ -118,4 +124,7 @@ returns g c =
         faults = counts_as _ _ _ c.prepare_part.result (Ok c.to_commit.result) (λ x. let z : ⊥ = cc in absurd z) e.faults;
         refusals = tt;
       });
+      entries = e.entries;
+      added = e.added;
+      in_data = λ j h. absurd (not_in_data _ _ j c.get-entry.ensures c.in_default.not-Data h);
     }
