@@ -6,7 +6,7 @@ mod examples;
 mod faults;
 mod rows;
 
-use crate::script::script;
+use imago_script_parts::script::script;
 use std::alloc::Global;
 use std::process::Abort;
 

@@ -1,3 +1,4 @@
 pub mod ScriptStorage
 pub mod Restated
 pub mod ScriptDriver
+pub mod Words

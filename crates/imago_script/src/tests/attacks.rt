@@ -1,7 +1,7 @@
 //! Scripts that end anywhere, have a wrong byte, or are long.
 
 use super::outcome;
-use crate::script::script;
+use imago_script_parts::script::script;
 use std::alloc::Global;
 use std::io::{self, Read};
 use std::process::Abort;

@@ -1,6 +1,6 @@
 //! Inputs and outputs that fail.
 
-use crate::script::script;
+use imago_script_parts::script::script;
 use std::alloc::Global;
 use std::io::{self, ErrorKind, Read, Write};
 

@@ -5,6 +5,8 @@ ghost use Rattle.imago.specs.Chain.{driver};
 
 use crate::answer::Answer;
 use crate::command::Command;
+use crate::script_driver::ScriptDriver;
+use crate::script_storage::ScriptStorage;
 use crate::stop::Stop;
 use crate::words::BlockSize;
 use imago::cow::Cow;
@@ -17,8 +19,6 @@ use imago::raw::Raw;
 use imago::run::{Call, Reply, run};
 use imago::vmdk::Vmdk;
 use imago::{FormatAccess, FormatDriverBuilder, StorageOpenOptions};
-use imago_script_parts::script_driver::ScriptDriver;
-use imago_script_parts::script_storage::ScriptStorage;
 use std::alloc::Global;
 
 /// An open image.

@@ -1,7 +1,7 @@
 use Rattle.std.proofs.Common.{◌≡◌, slice_index, arith}
 use Rattle.std.proofs.lemmas.Bool.Decides.{nat_tests}
-use Rattle.imago_script.proofs.Cut.{cut_there, cut_nowhere}
-use Rattle.imago_script.proofs.words.cut_at.Goals as goal
+use Rattle.imago_script_parts.proofs.Cut.{cut_there, cut_nowhere}
+use Rattle.imago_script_parts.proofs.words.cut_at.Goals as goal
 
 pub returns-in-Some-clause-cut : goal.returns-in-Some-clause-cut
 returns-in-Some-clause-cut c =

@@ -1,5 +1,5 @@
 use Rattle.std.proofs.Common.{length}
-use Rattle.imago_script.proofs.script.answer_all.Given as goal
+use Rattle.imago_script_parts.proofs.script.answer_all.Given as goal
 
 abbrev pub decreases-lines : goal.decreases-lines
 decreases-lines g l = length l.rest

@@ -1,6 +1,6 @@
 use Rattle.std.proofs.Common.{◌≡◌, ℕ, ◌+◌, ◌-◌, ◌<◌, List, [], ◌∷◌, ◌++◌, length, take, drop, get_or, slice_index, refl, sym, ap, ◌∙◌, arith, inl, inr}
 use Rattle.std.proofs.lemmas.List.{places, take_all, take_more, append_assoc, take-append-drop, length-drop}
-use Rattle.imago_script.specs.Words.{IsCut}
+use Rattle.imago_script_parts.specs.Words.{IsCut}
 
 -- what stands behind a place, as a slice to the end
 behind : (at : ℕ) (text : List ℕ) → take (length text - (at + 1)) (drop (at + 1) text) ≡ drop (at + 1) text

@@ -4,7 +4,7 @@ ghost use Rattle.std.specs.Int.{is_power_of_two};
 ghost use Rattle.std.specs.Option.{SomeIff};
 ghost use Rattle.std.specs.Str.Parse.{IsNumeral, digits_value};
 ghost use Rattle.imago.specs.Powers.{IsAlignment};
-ghost use Rattle.imago_script.specs.Words.{IsWord, IsCut, Spells};
+ghost use Rattle.imago_script_parts.specs.Words.{IsWord, IsCut, Spells};
 
 use hex::{FromHexError, decode_to_slice};
 use imago::format::PreallocateMode;
