@@ -1,4 +1,15 @@
-//! The table of a copy-on-write disk, where there is memory enough.
+//! Copy-on-write disks: here their table, where there is memory enough, and in the modules the disks.
+mod call;
+mod growth;
+mod layers;
+mod model;
+mod promises;
+mod random;
+mod run;
+mod set_up;
+mod subject;
+mod sweep;
+
 use imago_cow::table::{GuestBlock, Table};
 use std::alloc::Global;
 use std::process::Abort;

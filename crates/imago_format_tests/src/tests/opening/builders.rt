@@ -21,11 +21,14 @@ fn options(rt: &impl Abort, alloc: Global) -> StorageOpenOptions {
 }
 
 /// A gate is asked once for that path, with these options. No storage in memory is opened by its name.
-fn asks(rt: &impl Abort, alloc: Global, writable: bool, with_options: bool) {
+fn asks<S: Storage>(rt: &impl Abort, alloc: Global, writable: bool, with_options: bool) {
     let mut gate = RecordingGate::new(alloc, PermissiveImplicitOpenGate::default());
-    let opened = opening(rt, alloc, writable, with_options).open(alloc, &mut gate);
-    let opened = match opened {
-        Err(Error::Memory) => opening(rt, alloc, writable, with_options).open(alloc, &mut gate),
+    let builder: RawOpenBuilder<S> = opening(rt, alloc, writable, with_options);
+    let opened = match builder.open(alloc, &mut gate) {
+        Err(Error::Memory) => {
+            let builder: RawOpenBuilder<S> = opening(rt, alloc, writable, with_options);
+            builder.open(alloc, &mut gate)
+        }
         answer => answer,
     };
     assert!(rt; opened.is_err_and(|e| e == Error::Unsupported));
@@ -40,12 +43,12 @@ fn asks(rt: &impl Abort, alloc: Global, writable: bool, with_options: bool) {
 }
 
 /// A builder of that path.
-fn opening(
+fn opening<S: Storage>(
     rt: &impl Abort,
     alloc: Global,
     writable: bool,
     with_options: bool,
-) -> RawOpenBuilder<MemStorage> {
+) -> RawOpenBuilder<S> {
     let builder = Raw::builder_path(text(rt, alloc, "a.img")).write(writable);
     if with_options {
         builder.storage_open_options(options(rt, alloc))
@@ -57,21 +60,21 @@ fn opening(
 #[test]
 fn a_gate_is_asked_with_the_set_options(rt: HostRuntime) {
     let alloc = rt.alloc();
-    asks(&rt, alloc, false, false);
-    asks(&rt, alloc, true, false);
-    asks(&rt, alloc, false, true);
-    asks(&rt, alloc, true, true);
+    for writable in [false, true] {
+        for with_options in [false, true] {
+            asks::<MemStorage>(&rt, alloc, writable, with_options);
+        }
+    }
 }
 
-#[test]
-fn an_opening_builder_keeps_what_is_set(rt: HostRuntime) {
-    let alloc = rt.alloc();
-    assert_eq!(rt; RawOpenBuilder::<MemStorage>::FORMAT, Format::Raw);
-    let builder = opening(&rt, alloc, false, false);
+/// A builder that opens keeps its path and what is set.
+fn keeps_opening<S: Storage>(rt: &impl Abort, alloc: Global) {
+    assert_eq!(rt; RawOpenBuilder::<S>::FORMAT, Format::Raw);
+    let builder: RawOpenBuilder<S> = opening(rt, alloc, false, false);
     assert_eq!(rt; builder.get_image_path(), Some("a.img"));
     assert!(rt; !builder.get_writable());
     assert!(rt; builder.get_storage_open_options().is_none());
-    let builder = opening(&rt, alloc, true, true);
+    let builder: RawOpenBuilder<S> = opening(rt, alloc, true, true);
     assert!(rt; builder.get_writable());
     assert!(rt;
         builder
@@ -81,10 +84,14 @@ fn an_opening_builder_keeps_what_is_set(rt: HostRuntime) {
 }
 
 #[test]
-fn a_creating_builder_keeps_what_is_set(rt: HostRuntime) {
-    let alloc = rt.alloc();
-    assert_eq!(rt; RawCreateBuilder::<MemStorage>::FORMAT, Format::Raw);
-    let builder = Raw::create_builder(stored(&rt, alloc, "a", 1));
+fn an_opening_builder_keeps_what_is_set(rt: HostRuntime) {
+    keeps_opening::<MemStorage>(&rt, rt.alloc());
+}
+
+/// A builder that creates keeps what is set.
+fn keeps_creating<S: Storage>(rt: &impl Abort, storage: S) {
+    assert_eq!(rt; RawCreateBuilder::<S>::FORMAT, Format::Raw);
+    let builder = Raw::create_builder(storage);
     assert_eq!(rt; builder.get_size(), 0);
     assert_eq!(rt; builder.get_preallocate(), PreallocateMode::None);
     let builder = builder.size(700).preallocate(PreallocateMode::FullAllocate);
@@ -92,10 +99,15 @@ fn a_creating_builder_keeps_what_is_set(rt: HostRuntime) {
     assert_eq!(rt; builder.get_preallocate(), PreallocateMode::FullAllocate);
 }
 
+#[test]
+fn a_creating_builder_keeps_what_is_set(rt: HostRuntime) {
+    keeps_creating(&rt, stored(&rt, rt.alloc(), "a", 1));
+}
+
 /// The options that a base makes.
-fn made(
+fn made<S: Storage>(
     alloc: Global,
-    base: &FormatDriverBuilderBase<MemStorage>,
+    base: &FormatDriverBuilderBase<S>,
 ) -> Result<StorageOpenOptions, Error> {
     match base.make_storage_opts(alloc) {
         Err(Error::Memory) => base.make_storage_opts(alloc),
@@ -103,16 +115,15 @@ fn made(
     }
 }
 
-#[test]
-fn a_base_makes_options(rt: HostRuntime) {
-    let alloc = rt.alloc();
-    let mut base = FormatDriverBuilderBase::new(stored(&rt, alloc, "a", 1));
+/// A base of that storage, which has the name `a`, makes options.
+fn makes_options<S: Storage>(rt: &impl Abort, alloc: Global, storage: S) {
+    let mut base = FormatDriverBuilderBase::new(storage);
     assert_eq!(rt; base.get_image_path(), Some("a"));
-    let opts = made(alloc, &base).expect(&rt, "new options");
+    let opts = made(alloc, &base).expect(rt, "new options");
     assert_eq!(rt; opts.get_filename(), None);
     assert!(rt; !opts.get_writable());
-    base.set_storage_open_options(options(&rt, alloc));
-    let opts = made(alloc, &base).expect(&rt, "a copy");
+    base.set_storage_open_options(options(rt, alloc));
+    let opts = made(alloc, &base).expect(rt, "a copy");
     assert_eq!(rt; opts.get_filename(), Some("other"));
     assert!(rt; !opts.get_writable());
     assert!(rt; opts.get_direct());
@@ -125,12 +136,23 @@ fn a_base_makes_options(rt: HostRuntime) {
 }
 
 #[test]
-fn a_base_of_a_creation_keeps_its_storage(rt: HostRuntime) {
-    let mut base = FormatCreateBuilderBase::new(stored(&rt, rt.alloc(), "a", 3));
+fn a_base_makes_options(rt: HostRuntime) {
+    let alloc = rt.alloc();
+    makes_options(&rt, alloc, stored(&rt, alloc, "a", 1));
+}
+
+/// A base of a creation keeps what is set, and that storage of 3 bytes.
+fn keeps_storage<S: Storage>(rt: &impl Abort, storage: S) {
+    let mut base = FormatCreateBuilderBase::new(storage);
     base.set_size(9);
     base.set_preallocate(PreallocateMode::Zero);
     assert_eq!(rt; base.get_size(), 9);
     assert_eq!(rt; base.get_preallocate(), PreallocateMode::Zero);
     assert_eq!(rt; base.get_image_ref().size(), Ok(3));
     assert_eq!(rt; base.get_image().size(), Ok(3));
+}
+
+#[test]
+fn a_base_of_a_creation_keeps_its_storage(rt: HostRuntime) {
+    keeps_storage(&rt, stored(&rt, rt.alloc(), "a", 3));
 }

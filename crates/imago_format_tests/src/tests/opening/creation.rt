@@ -7,6 +7,7 @@ use imago_drivers::gate::DenyImplicitOpenGate;
 use imago_drivers::raw::{Raw, create_in};
 use imago_storage::error::Error;
 use imago_storage::mem::MemStorage;
+use imago_storage::storage::Storage;
 use imago_test_storages::faulty::Faulty;
 use std::alloc::Global;
 use std::process::Abort;
@@ -19,14 +20,23 @@ const MODES: [PreallocateMode; 5] = [
     PreallocateMode::WriteData,
 ];
 
+/// A new image in a storage.
+fn create<S: Storage>(
+    alloc: Global,
+    storage: S,
+    size: u64,
+    mode: PreallocateMode,
+) -> Result<S, Error> {
+    let builder = Raw::create_builder(storage);
+    builder.size(size).preallocate(mode).create(alloc)
+}
+
 /// A new image in a storage of 3 bytes ff.
 fn created(rt: &impl Abort, alloc: Global, size: u64, mode: PreallocateMode) -> MemStorage {
-    let builder = Raw::create_builder(stored(rt, alloc, "a", 3));
-    match builder.size(size).preallocate(mode).create(alloc) {
+    match create(alloc, stored(rt, alloc, "a", 3), size, mode) {
         Ok(storage) => storage,
         Err(_) => {
-            let builder = Raw::create_builder(stored(rt, alloc, "a", 3));
-            let again = builder.size(size).preallocate(mode).create(alloc);
+            let again = create(alloc, stored(rt, alloc, "a", 3), size, mode);
             again.expect(rt, "a new image")
         }
     }
@@ -55,7 +65,7 @@ fn failing(rt: &impl Abort, alloc: Global, count: usize, resizes: u64) -> Faulty
 fn a_storage_that_is_not_emptied_is_as_it_was(rt: HostRuntime) {
     let alloc = rt.alloc();
     let mut storage = failing(&rt, alloc, 3, 1);
-    let created = Raw::create_builder(&mut storage).size(5).create(alloc);
+    let created = create(alloc, &mut storage, 5, PreallocateMode::None);
     assert!(rt; created.is_err_and(|e| e == Error::Device));
     assert_eq!(rt; storage.as_bytes(), [0xff; 3].as_slice());
     assert_eq!(rt; storage.faults(), 1);
@@ -71,7 +81,7 @@ fn a_storage_that_does_not_grow_is_empty(rt: HostRuntime) {
 }
 
 /// The size of a new image of 5 bytes that is opened, by a builder that is told to be read-only, and whether it is writable.
-fn opened(alloc: Global, storage: MemStorage) -> Result<(u64, bool), Error> {
+fn opened<S: Storage>(alloc: Global, storage: S) -> Result<(u64, bool), Error> {
     let builder = Raw::create_builder(storage).size(5);
     let gate = DenyImplicitOpenGate::default();
     let image = builder.create_open(alloc, gate, |s| Ok(Raw::builder(s).write(false)))?;
@@ -88,13 +98,18 @@ fn a_new_image_is_opened_as_writable(rt: HostRuntime) {
     assert_eq!(rt; answer, Ok((5, true)));
 }
 
+/// The size of a new image of 5 bytes that is opened by no builder.
+fn not_opened<S: Storage>(alloc: Global, storage: S) -> Result<u64, Error> {
+    let builder = Raw::create_builder(storage).size(5);
+    let gate = DenyImplicitOpenGate::default();
+    size_of(builder.create_open(alloc, gate, |_| Err(Error::NoAccess)))
+}
+
 #[test]
 fn a_new_image_without_a_builder_is_not_opened(rt: HostRuntime) {
     let alloc = rt.alloc();
     let mut storage = stored(&rt, alloc, "a", 3);
-    let builder = Raw::create_builder(&mut storage).size(5);
-    let gate = DenyImplicitOpenGate::default();
-    let refused = builder.create_open(alloc, gate, |_| Err(Error::NoAccess));
-    assert_eq!(rt; size_of(refused), Err(Error::NoAccess));
+    let refused = not_opened(alloc, &mut storage);
+    assert_eq!(rt; refused, Err(Error::NoAccess));
     assert_eq!(rt; storage.as_bytes(), [].as_slice());
 }

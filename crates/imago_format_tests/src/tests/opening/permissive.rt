@@ -5,7 +5,7 @@ use imago_drivers::drivers::FormatDriverInstance;
 use imago_drivers::gate::{ImplicitOpenGate, PermissiveImplicitOpenGate};
 use imago_drivers::raw::Raw;
 use imago_storage::error::Error;
-use imago_storage::storage::StorageOpenOptions;
+use imago_storage::storage::{Storage, StorageOpenOptions};
 use imago_test_storages::created::Created;
 use std::alloc::Global;
 
@@ -13,15 +13,15 @@ use std::alloc::Global;
 type Opened = Result<(u64, bool), Error>;
 
 /// The image of that name, opened by [`Raw::open_path`].
-fn by_path(name: String, writable: bool) -> Opened {
-    let image = Raw::<Created>::open_path(name, writable)?;
+fn by_path<S: Storage>(name: String, writable: bool) -> Opened {
+    let image = Raw::<S>::open_path(name, writable)?;
     Ok((image.size(), image.writable()))
 }
 
 /// The image of that name, opened by a builder and the permissive gate.
-fn by_gate(alloc: Global, name: String, writable: bool) -> Opened {
+fn by_gate<S: Storage>(alloc: Global, name: String, writable: bool) -> Opened {
     let gate = PermissiveImplicitOpenGate::default();
-    let builder = Raw::<Created>::builder_path(name).write(writable);
+    let builder = Raw::<S>::builder_path(name).write(writable);
     let image = builder.open(alloc, gate)?;
     Ok((image.size(), image.writable()))
 }
@@ -34,8 +34,10 @@ fn an_image_is_opened_by_the_name_of_its_storage(rt: HostRuntime) {
         ("a.img", false, Ok((5, false))),
         ("dir/b.img", true, Ok((9, true))),
     ] {
-        assert_eq!(rt; by_path(text(&rt, alloc, name), writable), expected);
-        assert_eq!(rt; by_gate(alloc, text(&rt, alloc, name), writable), expected);
+        let path = text(&rt, alloc, name);
+        assert_eq!(rt; by_path::<Created>(path, writable), expected);
+        let path = text(&rt, alloc, name);
+        assert_eq!(rt; by_gate::<Created>(alloc, path, writable), expected);
     }
 }
 

@@ -1,4 +1,5 @@
 //! Descriptors, what opening them answers, and what is told of them.
+use super::set_up::storage_of;
 use imago_drivers::drivers::FormatDriverInstance;
 use imago_storage::error::Error;
 use imago_storage::mem::MemStorage;
@@ -6,41 +7,41 @@ use imago_vmdk::vmdk::Vmdk;
 use std::alloc::Global;
 use std::process::Abort;
 
-/// A descriptor in the layout of `qemu-img`'s `monolithicFlat`, but for the key `encoding`, which is unknown here.
+/// What opening a descriptor answers: the size of its disk, or the refusal.
+type Answer = Result<u64, Error>;
+
+/// What `qemu-img create -f vmdk -o subformat=monolithicFlat disk.vmdk 1M` writes, by the template in QEMU's `block/vmdk.c`.
 const MONOLITHIC_FLAT: &[u8] =
     b"# Disk DescriptorFile\nversion=1\nCID=7ab3a6c1\nparentCID=ffffffff\ncreateType=\"monolithicFlat\"\n\n# Extent description\nRW 2048 FLAT \"disk-flat.vmdk\" 0\n\n# The Disk Data Base\n#DDB\n\nddb.virtualHWVersion = \"4\"\nddb.geometry.cylinders = \"2\"\nddb.geometry.heads = \"16\"\nddb.geometry.sectors = \"63\"\nddb.adapterType = \"ide\"\nddb.toolsVersion = \"2147483647\"\n";
 
-/// A descriptor, its disk's size or the refusal, and whether it is told to be one.
-type Row = (&'static [u8], Result<u64, Error>, bool);
+/// The same for `subformat=twoGbMaxExtentFlat` and 5 GiB.
+const TWO_GB_MAX_EXTENT_FLAT: &[u8] =
+    b"# Disk DescriptorFile\nversion=1\nCID=1c8a4d02\nparentCID=ffffffff\ncreateType=\"twoGbMaxExtentFlat\"\n\n# Extent description\nRW 4194304 FLAT \"disk-f001.vmdk\" 0\nRW 4194304 FLAT \"disk-f002.vmdk\" 0\nRW 2097152 FLAT \"disk-f003.vmdk\" 0\n\n# The Disk Data Base\n#DDB\n\nddb.virtualHWVersion = \"4\"\nddb.geometry.cylinders = \"10402\"\nddb.geometry.heads = \"16\"\nddb.geometry.sectors = \"63\"\nddb.adapterType = \"ide\"\nddb.toolsVersion = \"2147483647\"\n";
 
-const ROWS: [Row; 21] = [
+/// A descriptor, what opening it answers, and whether it is told to be one.
+type Row = (&'static [u8], Answer, bool);
+
+const INVALID: Answer = Err(Error::InvalidData);
+
+const UNSUPPORTED: Answer = Err(Error::Unsupported);
+
+const ROWS: [Row; 22] = [
     (MONOLITHIC_FLAT, Ok(1048576), true),
+    (TWO_GB_MAX_EXTENT_FLAT, Ok(5368709120), true),
     (
         b"version=1\nRW 2 ZERO\nRDONLY 1 FLAT \"a.img\" 3\n",
         Ok(1536),
         true,
     ),
-    (b"RW 2 ZERO", Err(Error::Unsupported), false),
+    (b"RW 2 ZERO", UNSUPPORTED, false),
     (b"version=4\nversion=2", Ok(0), false),
-    (b"version=2\nversion=4", Err(Error::Unsupported), true),
-    (b"KDMV", Err(Error::Unsupported), true),
-    (b"KDM", Err(Error::InvalidData), false),
-    (
-        b"version=1\nRW 18446744073709551615 ZERO",
-        Err(Error::InvalidData),
-        true,
-    ),
-    (
-        b"RW 18446744073709551615 ZERO",
-        Err(Error::Unsupported),
-        false,
-    ),
+    (b"version=2\nversion=4", UNSUPPORTED, true),
+    (b"KDMV", UNSUPPORTED, true),
+    (b"KDM", INVALID, false),
+    (b"version=1\nRW 18446744073709551615 ZERO", INVALID, true),
+    (b"RW 18446744073709551615 ZERO", UNSUPPORTED, false),
     (b"version=1\nRW", Ok(0), true),
-    (
-        b"version=1\nencoding=\"UTF-8\"",
-        Err(Error::InvalidData),
-        true,
-    ),
+    (b"version=1\nencoding=\"UTF-8\"", INVALID, true),
     (
         b"version=1\nRW 18014398509481984 ZERO",
         Ok(9223372036854775808),
@@ -48,54 +49,207 @@ const ROWS: [Row; 21] = [
     ),
     (
         b"version=1\nRW 18014398509481984 ZERO\nRW 18014398509481984 ZERO",
-        Err(Error::InvalidData),
+        INVALID,
         true,
     ),
     (b"version=1\r\nRW 1 ZERO\r\n", Ok(512), true),
-    (
-        b"version=1\nparentFileNameHint=x\n\xff",
-        Err(Error::Unsupported),
-        true,
-    ),
-    (
-        b"version=1\n\xff\nparentFileNameHint=x",
-        Err(Error::InvalidData),
-        true,
-    ),
-    (b"\xff\nversion=1", Err(Error::InvalidData), false),
-    (b"version=0\nRW x ZERO", Err(Error::InvalidData), false),
+    (b"version=1\nparentFileNameHint=x\n\xff", UNSUPPORTED, true),
+    (b"version=1\n\xff\nparentFileNameHint=x", INVALID, true),
+    (b"\xff\nversion=1", INVALID, false),
+    (b"version=0\nRW x ZERO", INVALID, false),
     (b"version=+2\nRW 1 ZERO", Ok(512), true),
     (b"# version=1\nversion=3", Ok(0), true),
     (b"version=1\nRW 0 ZERO\nRW 1 ZERO", Ok(512), true),
 ];
 
-/// A storage of these bytes, if there is memory for it.
-pub(super) fn storage_of(alloc: Global, text: &[u8]) -> Option<MemStorage> {
-    let mut bytes = Vec::new(alloc);
-    for byte in text {
-        bytes.push(*byte).ok()?;
+/// A disk of zeroes, and of a sector of a storage.
+const TEXT: [u8; 44] = *b"version=1\nRW 2 ZERO\nRDONLY 1 FLAT \"a.img\" 3\n";
+
+/// The same answer for each place before that one, from the last run's on.
+type Run = (usize, Answer);
+
+/// For each count of bytes, what the beginning of [`TEXT`] is opened as.
+const BEGINNINGS: [Run; 10] = [
+    (4, INVALID),
+    (8, UNSUPPORTED),
+    (9, INVALID),
+    (14, Ok(0)),
+    (16, INVALID),
+    (19, UNSUPPORTED),
+    (28, Ok(1024)),
+    (30, INVALID),
+    (33, UNSUPPORTED),
+    (41, INVALID),
+];
+
+/// For each byte, and each place of [`TEXT`], what it is opened as with that byte there.
+const REPLACED: [(u8, &[Run]); 5] = [
+    (
+        0x00,
+        &[
+            (7, INVALID),
+            (8, UNSUPPORTED),
+            (10, INVALID),
+            (13, Ok(512)),
+            (15, INVALID),
+            (20, UNSUPPORTED),
+            (27, Ok(1024)),
+            (29, INVALID),
+            (34, UNSUPPORTED),
+            (35, INVALID),
+            (40, Ok(1536)),
+            (44, INVALID),
+        ],
+    ),
+    (
+        0x0a,
+        &[
+            (7, INVALID),
+            (8, UNSUPPORTED),
+            (9, INVALID),
+            (10, Ok(1536)),
+            (14, Ok(512)),
+            (16, INVALID),
+            (19, UNSUPPORTED),
+            (20, Ok(1536)),
+            (28, Ok(1024)),
+            (30, INVALID),
+            (33, UNSUPPORTED),
+            (41, INVALID),
+        ],
+    ),
+    (
+        0x22,
+        &[
+            (7, INVALID),
+            (8, UNSUPPORTED),
+            (10, INVALID),
+            (13, Ok(512)),
+            (15, INVALID),
+            (20, UNSUPPORTED),
+            (27, Ok(1024)),
+            (29, INVALID),
+            (34, UNSUPPORTED),
+            (35, Ok(1536)),
+            (40, INVALID),
+            (41, Ok(1536)),
+            (44, INVALID),
+        ],
+    ),
+    (
+        0x3d,
+        &[
+            (7, INVALID),
+            (8, Ok(1536)),
+            (15, INVALID),
+            (20, UNSUPPORTED),
+            (29, INVALID),
+            (34, UNSUPPORTED),
+            (35, INVALID),
+            (40, Ok(1536)),
+            (44, INVALID),
+        ],
+    ),
+    (0xff, &[(44, INVALID)]),
+];
+
+/// The answer of that place, which is the whole disk's size behind all runs.
+fn answer_at(runs: &[Run], place: usize) -> Answer {
+    for (end, answer) in runs {
+        if place < *end {
+            return *answer;
+        }
     }
-    Some(MemStorage::new(bytes))
+    Ok(1536)
 }
 
-/// Whether these are the same, or memory was refused.
-fn is_answer(answer: Result<u64, Error>, wanted: Result<u64, Error>) -> bool {
-    answer == wanted || answer == Err(Error::Memory)
+fn open_storage(alloc: Global, storage: MemStorage) -> Answer {
+    let image = Vmdk::open_image(alloc, storage, false)?;
+    Ok(image.size())
+}
+
+fn open(alloc: Global, text: &[u8]) -> Answer {
+    open_storage(alloc, storage_of(alloc, text)?)
+}
+
+/// What a descriptor of that text is opened as.
+fn opened(alloc: Global, text: &[u8]) -> Answer {
+    match open(alloc, text) {
+        Err(Error::Memory) => open(alloc, text),
+        answer => answer,
+    }
+}
+
+fn probe(alloc: Global, text: &[u8]) -> Result<bool, Error> {
+    <Vmdk<MemStorage> as FormatDriverInstance>::probe(alloc, &storage_of(alloc, text)?)
+}
+
+/// What is told of a storage with that text.
+fn told(alloc: Global, text: &[u8]) -> Result<bool, Error> {
+    match probe(alloc, text) {
+        Err(Error::Memory) => probe(alloc, text),
+        answer => answer,
+    }
 }
 
 #[test]
 fn descriptors_are_opened_and_told(rt: HostRuntime) {
-    for (text, size, told) in &ROWS {
-        let Some(storage) = storage_of(rt.alloc(), text) else {
-            return;
-        };
-        if let Ok(answer) = <Vmdk<MemStorage> as FormatDriverInstance>::probe(
-            rt.alloc(),
-            &storage,
-        ) {
-            assert!(rt; answer == *told);
-        }
-        let answer = Vmdk::open_image(rt.alloc(), storage, false).map(|image| image.size());
-        assert!(rt; is_answer(answer, *size));
+    for (text, answer, is_told) in &ROWS {
+        assert!(rt; opened(rt.alloc(), text) == *answer);
+        assert!(rt; told(rt.alloc(), text) == Ok(*is_told));
     }
+}
+
+#[test]
+fn each_beginning_is_read(rt: HostRuntime) {
+    for count in 0..45 {
+        assert!(rt;
+            opened(rt.alloc(), &TEXT[..count]) == answer_at(&BEGINNINGS, count),
+            "{count}"
+        );
+    }
+}
+
+#[test]
+fn each_byte_is_replaced(rt: HostRuntime) {
+    for (byte, runs) in &REPLACED {
+        for place in 0..44 {
+            let mut text = TEXT;
+            text[place] = *byte;
+            assert!(rt;
+                opened(rt.alloc(), &text) == answer_at(runs, place),
+                "{byte} at {place}"
+            );
+        }
+    }
+}
+
+/// What a descriptor of so many bytes is opened as: the version, and then that line over and over again.
+fn open_long(alloc: Global, line: &[u8; 10], count: usize) -> Answer {
+    let mut bytes = Vec::new(alloc);
+    for byte in b"version=1\n" {
+        if bytes.push(*byte).is_err() {
+            return Err(Error::Memory);
+        }
+    }
+    for place in 10..count {
+        if bytes.push(line[place % 10]).is_err() {
+            return Err(Error::Memory);
+        }
+    }
+    open_storage(alloc, MemStorage::new(bytes))
+}
+
+fn opened_long(alloc: Global, line: &[u8; 10], count: usize) -> Answer {
+    match open_long(alloc, line, count) {
+        Err(Error::Memory) => open_long(alloc, line, count),
+        answer => answer,
+    }
+}
+
+#[test]
+fn the_longest_descriptor_is_read(rt: HostRuntime) {
+    // 209714 extents of 512 bytes, and the word of one more, which says nothing by itself
+    assert!(rt; opened_long(rt.alloc(), b"RW 1 ZERO\n", 2097152) == Ok(107373568));
+    assert!(rt; opened_long(rt.alloc(), b"RW 1 ZERO\n", 2097153) == INVALID);
 }

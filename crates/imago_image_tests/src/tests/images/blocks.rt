@@ -1,12 +1,11 @@
 //! Images over a driver that does one block at a time.
 use super::answer::Answer;
-use super::chains::{Image, on};
 use super::driver;
 use super::driver::Give;
-use super::image::Call;
-use super::set_up::{raw, stored};
-use imago_access::access::FormatAccess;
-use imago_storage::mem::MemStorage;
+use super::image::{Call, on_driver};
+use super::set_up::stored;
+use imago_drivers::raw::Raw;
+use imago_storage::storage::Storage;
 use imago_test_drivers::choppy::Choppy;
 use imago_test_drivers::test_driver::TestDriver;
 use std::alloc::Global;
@@ -22,21 +21,33 @@ const TO_ANY: Give = Give::DiscardToAny;
 
 const TO_BACKING: Give = Give::DiscardToBacking;
 
-/// An image of equal bytes in blocks of that length, which it tells as its granularity or not.
-fn in_blocks(
+/// The calls on an image in blocks of that length, which it tells as its granularity or not.
+fn on_storage<S: Storage>(
     rt: &impl Abort,
     alloc: Global,
-    (count, byte): (usize, u8),
-    cut: u64,
-    granular: bool,
-) -> Image {
-    let raw = raw(rt, stored(rt, alloc, &[(count, byte)]), true);
+    storage: S,
+    (cut, granular): (u64, bool),
+    calls: &[(Call, Answer)],
+) {
+    let raw = Raw::open_image(storage, true).expect(rt, "a raw image");
     let driver = if granular {
         Choppy::granular(raw, cut)
     } else {
         Choppy::new(raw, cut)
     };
-    FormatAccess::new(TestDriver::Choppy(driver))
+    on_driver(rt, alloc, TestDriver::Choppy(driver), calls);
+}
+
+/// The calls on such an image of equal bytes.
+fn on(
+    rt: &impl Abort,
+    alloc: Global,
+    (count, byte): (usize, u8),
+    (cut, granular): (u64, bool),
+    calls: &[(Call, Answer)],
+) {
+    let storage = stored(rt, alloc, &[(count, byte)]);
+    on_storage(rt, alloc, storage, (cut, granular), calls);
 }
 
 /// On 16 bytes ff in blocks of 4.
@@ -73,8 +84,7 @@ const PIECEWISE: [[(Call, Answer); 3]; 5] = [
 fn a_range_is_zeroed_and_discarded_block_by_block(rt: HostRuntime) {
     let alloc = rt.alloc();
     for calls in PIECEWISE {
-        let mut image = in_blocks(&rt, alloc, (16, 0xff), 4, false);
-        on(&rt, alloc, &mut image, &calls);
+        on(&rt, alloc, (16, 0xff), (4, false), &calls);
     }
 }
 
@@ -128,57 +138,64 @@ const GRANULES: [[(Call, Answer); 2]; 6] = [
 #[test]
 fn a_granule_is_not_zeroed_past_the_range(rt: HostRuntime) {
     let alloc = rt.alloc();
-    let mut image = in_blocks(&rt, alloc, (1000, 0x22), 65536, true);
-    on(&rt, alloc, &mut image, &BELOW_ONE);
+    on(&rt, alloc, (1000, 0x22), (65536, true), &BELOW_ONE);
     for calls in GRANULES {
-        let mut image = in_blocks(&rt, alloc, (1000, 0x22), 64, true);
-        on(&rt, alloc, &mut image, &calls);
+        on(&rt, alloc, (1000, 0x22), (64, true), &calls);
     }
 }
 
-/// The calls of a driver in blocks.
-fn on_driver(
-    rt: &impl Abort,
-    alloc: Global,
-    choppy: &mut Choppy<MemStorage>,
-    calls: &[(driver::Call, Answer)],
-) {
-    driver::script(rt, alloc, choppy, calls);
-}
-
 /// On 16 bytes ff in blocks of 4, and on 14 where these are granules.
-const PARTS: [(driver::Call, Answer); 7] = [
-    (driver::Call::Granularity, Answer::Missing),
-    (driver::Call::Map(1, 100), Answer::Raw(0, 1, 4)),
-    (driver::Call::Give(ZERO, 1, 14), Answer::Part(4, 4)),
-    (driver::Call::Give(TO_ZERO, 8, 8), Answer::Part(8, 4)),
-    (driver::Call::Give(TO_ANY, 5, 6), Answer::Part(5, 0)),
-    (driver::Call::Give(TO_BACKING, 12, 4), Answer::Part(12, 4)),
+const PARTS: [(Call, Answer); 7] = [
+    (Call::Drive(driver::Call::Granularity), Answer::Missing),
+    (Call::Drive(driver::Call::Map(1, 100)), Answer::Raw(0, 1, 4)),
     (
-        driver::Call::Prepare {
+        Call::Drive(driver::Call::Give(ZERO, 1, 14)),
+        Answer::Part(4, 4),
+    ),
+    (
+        Call::Drive(driver::Call::Give(TO_ZERO, 8, 8)),
+        Answer::Part(8, 4),
+    ),
+    (
+        Call::Drive(driver::Call::Give(TO_ANY, 5, 6)),
+        Answer::Part(5, 0),
+    ),
+    (
+        Call::Drive(driver::Call::Give(TO_BACKING, 12, 4)),
+        Answer::Part(12, 4),
+    ),
+    (
+        Call::Drive(driver::Call::Prepare {
             offset: 1,
             count: 9,
             overwrite: true,
             at: 0,
             bytes: &[7],
             commits: true,
-        },
+        }),
         Answer::Prepared(4, false),
     ),
 ];
 
-const SHORT_PARTS: [(driver::Call, Answer); 4] = [
-    (driver::Call::Granularity, Answer::Length(4)),
-    (driver::Call::Give(ZERO, 9, 5), Answer::Part(12, 2)),
-    (driver::Call::Give(ZERO, 9, 4), Answer::Part(9, 0)),
-    (driver::Call::Stored(0, 11, &[0xff, 0, 0]), DONE),
+const SHORT_PARTS: [(Call, Answer); 4] = [
+    (Call::Drive(driver::Call::Granularity), Answer::Length(4)),
+    (
+        Call::Drive(driver::Call::Give(ZERO, 9, 5)),
+        Answer::Part(12, 2),
+    ),
+    (
+        Call::Drive(driver::Call::Give(ZERO, 9, 4)),
+        Answer::Part(9, 0),
+    ),
+    (
+        Call::Drive(driver::Call::Stored(0, 11, &[0xff, 0, 0])),
+        DONE,
+    ),
 ];
 
 #[test]
 fn a_driver_in_blocks_does_one_of_them(rt: HostRuntime) {
     let alloc = rt.alloc();
-    let mut choppy = Choppy::new(raw(&rt, stored(&rt, alloc, &[(16, 0xff)]), true), 4);
-    on_driver(&rt, alloc, &mut choppy, &PARTS);
-    let mut choppy = Choppy::granular(raw(&rt, stored(&rt, alloc, &[(14, 0xff)]), true), 4);
-    on_driver(&rt, alloc, &mut choppy, &SHORT_PARTS);
+    on(&rt, alloc, (16, 0xff), (4, false), &PARTS);
+    on(&rt, alloc, (14, 0xff), (4, true), &SHORT_PARTS);
 }

@@ -1,35 +1,27 @@
 //! Images whose layers have different drivers.
 use super::answer::Answer;
-use super::image::{Call, script};
+use super::image::{Call, on_driver, script};
 use super::set_up::stored;
 use imago_access::access::FormatAccess;
 use imago_drivers::raw::Raw;
 use imago_storage::error::Error;
 use imago_storage::mem::MemStorage;
+use imago_storage::storage::Storage;
 use imago_test_drivers::pattern::{Kind, Pattern};
 use imago_test_drivers::test_driver::TestDriver;
 use std::alloc::Global;
 use std::process::Abort;
 
-/// An image of any driver over storages in memory.
-pub(super) type Image = FormatAccess<TestDriver<MemStorage>>;
-
 /// What shows the layer below at the same offset.
 const BELOW: Kind = Kind::Below { writable: true };
 
-/// The calls on such an image.
-pub(super) fn on(rt: &impl Abort, alloc: Global, image: &mut Image, calls: &[(Call, Answer)]) {
-    script(rt, alloc, image, calls);
-}
-
-/// An image of so many bytes of one kind.
-fn raw(rt: &impl Abort, alloc: Global, count: usize, byte: u8) -> Image {
-    let raw = Raw::open_image(stored(rt, alloc, &[(count, byte)]), true).expect(rt, "a raw image");
-    FormatAccess::new(TestDriver::Raw(raw))
-}
-
 /// An image of one kind of place above another image, where there is memory for it.
-fn above(alloc: Global, kind: Kind, size: u64, below: Image) -> Option<Image> {
+fn above<S: Storage>(
+    alloc: Global,
+    kind: Kind,
+    size: u64,
+    below: FormatAccess<TestDriver<S>>,
+) -> Option<FormatAccess<TestDriver<S>>> {
     let driver = TestDriver::Pattern(Pattern::new(kind, size));
     match Box::new(alloc, below) {
         Ok(below) => Some(FormatAccess::with_backing(driver, below)),
@@ -37,24 +29,64 @@ fn above(alloc: Global, kind: Kind, size: u64, below: Image) -> Option<Image> {
     }
 }
 
-/// An image of one kind of place with nothing below it.
-fn alone(kind: Kind, size: u64) -> Image {
-    FormatAccess::new(TestDriver::Pattern(Pattern::new(kind, size)))
-}
-
-/// Layers of these kinds and that size above so many equal bytes, where there is memory for them.
-fn layers(
-    rt: &impl Abort,
+/// A layer of each of these kinds and of that size above an image, where there is memory for them.
+fn above_each<S: Storage>(
     alloc: Global,
-    (count, byte): (usize, u8),
     kinds: &[Kind],
     size: u64,
-) -> Option<Image> {
-    let mut image = raw(rt, alloc, count, byte);
+    below: FormatAccess<TestDriver<S>>,
+) -> Option<FormatAccess<TestDriver<S>>> {
+    let mut image = below;
     for &kind in kinds {
         image = above(alloc, kind, size, image)?;
     }
     Some(image)
+}
+
+/// Such layers, so often, above a raw image, where there is memory for them.
+fn layers<S: Storage>(
+    rt: &impl Abort,
+    alloc: Global,
+    storage: S,
+    (kinds, times): (&[Kind], usize),
+    size: u64,
+) -> Option<FormatAccess<TestDriver<S>>> {
+    let raw = Raw::open_image(storage, true).expect(rt, "a raw image");
+    let mut image = FormatAccess::new(TestDriver::Raw(raw));
+    for _ in 0..times {
+        image = above_each(alloc, kinds, size, image)?;
+    }
+    Some(image)
+}
+
+/// The calls on such layers. Answers whether there was memory for them.
+fn on_storage<S: Storage>(
+    rt: &impl Abort,
+    alloc: Global,
+    storage: S,
+    (kinds, times): (&[Kind], usize),
+    size: u64,
+    calls: &[(Call, Answer)],
+) -> bool {
+    match layers(rt, alloc, storage, (kinds, times), size) {
+        Some(mut image) => {
+            script(rt, alloc, &mut image, calls);
+            true
+        }
+        None => false,
+    }
+}
+
+/// The calls on such layers above so many equal bytes. Answers whether there was memory for them.
+fn on_once(
+    rt: &impl Abort,
+    alloc: Global,
+    (count, byte): (usize, u8),
+    (kinds, times, size): (&[Kind], usize, u64),
+    calls: &[(Call, Answer)],
+) -> bool {
+    let storage = stored(rt, alloc, &[(count, byte)]);
+    on_storage(rt, alloc, storage, (kinds, times), size, calls)
 }
 
 /// The calls on layers of these kinds and that size above so many equal bytes.
@@ -65,11 +97,15 @@ fn on_layers(
     (kinds, size): (&[Kind], u64),
     calls: &[(Call, Answer)],
 ) {
-    let mut image = match layers(rt, alloc, bytes, kinds, size) {
-        Some(image) => image,
-        None => layers(rt, alloc, bytes, kinds, size).expect(rt, "memory for a layer"),
-    };
-    on(rt, alloc, &mut image, calls);
+    let done = on_once(rt, alloc, bytes, (kinds, 1, size), calls)
+        || on_once(rt, alloc, bytes, (kinds, 1, size), calls);
+    assert!(rt; done, "memory was refused twice");
+}
+
+/// The calls on an image of one kind of place with nothing below it.
+fn on_pattern(rt: &impl Abort, alloc: Global, kind: Kind, size: u64, calls: &[(Call, Answer)]) {
+    let driver: TestDriver<MemStorage> = TestDriver::Pattern(Pattern::new(kind, size));
+    on_driver(rt, alloc, driver, calls);
 }
 
 const READ_WRITE: [(Call, Answer); 1] = [(Call::Map(0, 512, "1/0:0x0/rw"), Answer::Length(512))];
@@ -108,7 +144,7 @@ const UNALLOCATED: [(Call, Answer); 1] = [(
 #[test]
 fn zeroes_are_explicit_in_the_top_layer_alone(rt: HostRuntime) {
     let alloc = rt.alloc();
-    on(&rt, alloc, &mut alone(Kind::Zeroes, 512), &EXPLICIT);
+    on_pattern(&rt, alloc, Kind::Zeroes, 512, &EXPLICIT);
     let kinds = [Kind::Zeroes, BELOW];
     on_layers(&rt, alloc, (1, 1), (&kinds, 512), &UNALLOCATED);
 }
@@ -134,12 +170,12 @@ fn special_bytes_are_read_where_they_can_be(rt: HostRuntime) {
         byte,
         readable: true,
     };
-    on(&rt, alloc, &mut alone(readable, 8), &SPECIAL);
+    on_pattern(&rt, alloc, readable, 8, &SPECIAL);
     let unreadable = Kind::Special {
         byte,
         readable: false,
     };
-    on(&rt, alloc, &mut alone(unreadable, 8), &UNREADABLE);
+    on_pattern(&rt, alloc, unreadable, 8, &UNREADABLE);
 }
 
 /// Above 512 bytes 11.
@@ -154,32 +190,19 @@ fn a_pattern_is_not_written_through(rt: HostRuntime) {
     on_layers(&rt, rt.alloc(), (512, 0x11), (&[BELOW], 512), &KEPT);
 }
 
-/// The layers above the one that is read.
-const DEPTH: usize = 100_000;
-
-/// A chain of them above 16 bytes 11, where there is memory for it.
-fn long_chain(rt: &impl Abort, alloc: Global) -> Option<Image> {
-    let mut image = raw(rt, alloc, 16, 0x11);
-    for _ in 0..DEPTH {
-        image = above(alloc, BELOW, 16, image)?;
-    }
-    Some(image)
-}
-
-/// On such a chain.
-const CHAIN: [(Call, Answer); 4] = [
+/// On a chain of that many layers above 16 bytes 11.
+const CHAIN: [(Call, Answer); 5] = [
     (Call::Read(14, &[0x11, 0x11, 0, 0]), Answer::Done),
     (Call::Map(14, 4, "100000/0:0xe/rw"), Answer::Length(2)),
     (Call::Depth, Answer::Length(100_000)),
+    (Call::Aligns, Answer::Aligns(1, 1)),
     (Call::Print("pattern[16B]"), Answer::Is(true)),
 ];
 
 #[test]
-fn a_chain_of_many_layers_is_read(rt: HostRuntime) {
+fn a_long_chain_needs_no_stack(rt: HostRuntime) {
     let alloc = rt.alloc();
-    let mut image = match long_chain(&rt, alloc) {
-        Some(image) => image,
-        None => long_chain(&rt, alloc).expect(&rt, "memory for a chain"),
-    };
-    on(&rt, alloc, &mut image, &CHAIN);
+    let done = on_once(&rt, alloc, (16, 0x11), (&[BELOW], 100_000, 16), &CHAIN)
+        || on_once(&rt, alloc, (16, 0x11), (&[BELOW], 100_000, 16), &CHAIN);
+    assert!(rt; done, "memory was refused twice");
 }

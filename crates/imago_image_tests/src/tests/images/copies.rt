@@ -1,44 +1,35 @@
 //! Images over a driver whose writes wait for a commit, each layer copying the one below it at its first write.
 use super::answer::Answer;
-use super::image::{Call, script};
-use super::runs::by_run;
+use super::image::{Call, on_two, script};
+use super::runs::run_two;
 use super::set_up::stored;
 use imago_access::access::FormatAccess;
 use imago_storage::mem::MemStorage;
+use imago_storage::storage::Storage;
 use imago_test_drivers::copy_once::CopyOnce;
 use std::alloc::Global;
 use std::process::Abort;
 
-/// An image in memory whose first write copies what is below.
-type CopyingImage = FormatAccess<CopyOnce<MemStorage>>;
-
 const DONE: Answer = Answer::Done;
 
-/// The calls on such an image.
-fn on(rt: &impl Abort, alloc: Global, image: &mut CopyingImage, calls: &[(Call, Answer)]) {
-    script(rt, alloc, image, calls);
-}
+/// What makes the bytes 1 to 8 of the layer below.
+const COUNTED: [(Call, Answer); 1] = [(Call::Write(0, &[1, 2, 3, 4, 5, 6, 7, 8]), DONE)];
 
-/// The driver of such an image of 8 bytes, over a storage of other bytes.
+/// The driver of an image of 8 bytes, over a storage of other bytes, whose first write copies what is below.
 fn copying(rt: &impl Abort, alloc: Global) -> CopyOnce<MemStorage> {
     CopyOnce::new(stored(rt, alloc, &[(8, 0x11)]), 8)
 }
 
-/// An image of the bytes 1 to 8.
-fn counted(rt: &impl Abort, alloc: Global) -> CopyingImage {
-    let mut image = FormatAccess::new(copying(rt, alloc));
-    let written = [(Call::Write(0, &[1, 2, 3, 4, 5, 6, 7, 8]), DONE)];
-    on(rt, alloc, &mut image, &written);
-    image
+/// The calls on such an image above one of the bytes 1 to 8. Answers whether there was memory for both.
+fn on_once(rt: &impl Abort, alloc: Global, calls: &[(Call, Answer)]) -> bool {
+    let lower = copying(rt, alloc);
+    on_two(rt, alloc, (lower, &COUNTED), copying(rt, alloc), calls)
 }
 
-/// An image above one of the bytes 1 to 8.
-fn above_counted(rt: &impl Abort, alloc: Global) -> CopyingImage {
-    let below = match Box::new(alloc, counted(rt, alloc)) {
-        Ok(below) => below,
-        Err(_) => Box::new(alloc, counted(rt, alloc)).expect(rt, "memory for a layer"),
-    };
-    FormatAccess::with_backing(copying(rt, alloc), below)
+/// The calls on such an image above one of the bytes 1 to 8.
+fn on(rt: &impl Abort, alloc: Global, calls: &[(Call, Answer)]) {
+    let done = on_once(rt, alloc, calls) || on_once(rt, alloc, calls);
+    assert!(rt; done, "memory was refused twice");
 }
 
 /// Above the bytes 1 to 8.
@@ -56,7 +47,7 @@ const WRITES: [(Call, Answer); 8] = [
 #[test]
 fn a_first_write_copies_what_is_below(rt: HostRuntime) {
     let alloc = rt.alloc();
-    on(&rt, alloc, &mut above_counted(&rt, alloc), &WRITES);
+    on(&rt, alloc, &WRITES);
 }
 
 /// Prepares 3 bytes at 2, and writes 8 and 9 from the second of them on.
@@ -86,7 +77,7 @@ const SPENT: [(Call, Answer); 6] = [
 #[test]
 fn a_commit_shows_and_a_cancel_does_not(rt: HostRuntime) {
     let alloc = rt.alloc();
-    on(&rt, alloc, &mut above_counted(&rt, alloc), &SPENT);
+    on(&rt, alloc, &SPENT);
 }
 
 /// Prepares 3 bytes at 2, for overwriting or not, and writes 8 and 9 from the first of them on.
@@ -113,23 +104,16 @@ const LISTED: [(Call, Answer); 6] = [
     (Call::MapData(1, 7, false), Answer::Data(0, 1, 7)),
 ];
 
-/// Runs the calls as a list on such an image. Answers whether there was memory for it.
-fn run_on(
-    rt: &impl Abort,
-    alloc: Global,
-    image: &mut CopyingImage,
-    calls: &[(Call, Answer)],
-) -> bool {
-    by_run(rt, alloc, image, calls, &mut Vec::new(alloc))
+/// Runs those calls. Answers whether there was memory for it.
+fn is_listed(rt: &impl Abort, alloc: Global) -> bool {
+    let lower = copying(rt, alloc);
+    run_two(rt, alloc, (lower, &COUNTED), copying(rt, alloc), &LISTED)
 }
 
 #[test]
 fn a_list_commits_and_cancels(rt: HostRuntime) {
     let alloc = rt.alloc();
-    if !run_on(&rt, alloc, &mut above_counted(&rt, alloc), &LISTED) {
-        let done = run_on(&rt, alloc, &mut above_counted(&rt, alloc), &LISTED);
-        assert!(rt; done, "memory was refused twice");
-    }
+    assert!(rt; is_listed(&rt, alloc) || is_listed(&rt, alloc));
 }
 
 /// The call, and whether the driver is asked to prepare a mapping for overwriting.
@@ -163,13 +147,42 @@ const ASKED: [(Call, Answer, bool); 5] = [
     ),
 ];
 
+/// Makes those calls, and looks at what the driver is asked.
+fn are_asked<S: Storage>(
+    rt: &impl Abort,
+    alloc: Global,
+    image: &mut FormatAccess<CopyOnce<S>>,
+    asked: &[(Call, Answer, bool)],
+) {
+    assert_eq!(rt; image.inner().overwrites(), None);
+    for &(call, answer, overwrites) in asked {
+        script(rt, alloc, image, &[(call, answer)]);
+        assert_eq!(rt; image.inner().overwrites(), Some(overwrites));
+    }
+}
+
+/// The same of an image above one of the bytes 1 to 8. Answers whether there was memory for both.
+fn is_told<S: Storage>(rt: &impl Abort, alloc: Global, lower: S, upper: S) -> bool {
+    let mut below = FormatAccess::new(CopyOnce::new(lower, 8));
+    script(rt, alloc, &mut below, &COUNTED);
+    match Box::new(alloc, below) {
+        Ok(below) => {
+            let mut image = FormatAccess::with_backing(CopyOnce::new(upper, 8), below);
+            are_asked(rt, alloc, &mut image, &ASKED);
+            true
+        }
+        Err(_) => false,
+    }
+}
+
+/// The same in memory.
+fn is_told_once(rt: &impl Abort, alloc: Global) -> bool {
+    let lower = stored(rt, alloc, &[(8, 0x11)]);
+    is_told(rt, alloc, lower, stored(rt, alloc, &[(8, 0x11)]))
+}
+
 #[test]
 fn a_driver_is_told_whether_bytes_are_overwritten(rt: HostRuntime) {
     let alloc = rt.alloc();
-    let mut image = above_counted(&rt, alloc);
-    assert_eq!(rt; image.inner().overwrites(), None);
-    for (call, answer, overwrites) in ASKED {
-        on(&rt, alloc, &mut image, &[(call, answer)]);
-        assert_eq!(rt; image.inner().overwrites(), Some(overwrites));
-    }
+    assert!(rt; is_told_once(&rt, alloc) || is_told_once(&rt, alloc));
 }

@@ -4,6 +4,7 @@ ghost use Rattle.std.specs.Prelude.{◌≡◌, ◌+◌, ◌≤◌, IsTrue, None,
 use super::answer::{Answer, data, done, part, place, prepared};
 use super::set_up::{buffer, printed};
 use imago_drivers::drivers::{Format, FormatDriverInstance, PreallocateMode, PreparedDataMapping};
+use imago_drivers::raw::Raw;
 use imago_storage::error::Error;
 use imago_storage::ext::StorageExt;
 use imago_storage::storage::Storage;
@@ -343,7 +344,7 @@ fn resize<D: FormatDriverInstance>(
 }
 
 /// Makes a call.
-fn make<D: FormatDriverInstance>(
+pub(super) fn make<D: FormatDriverInstance>(
     rt: &impl Abort,
     alloc: Global,
     driver: &mut D,
@@ -397,4 +398,28 @@ pub(super) fn script<D: FormatDriverInstance>(
         }
         assert_eq!(rt; answer, expected, "call {i}");
     }
+}
+
+/// The calls on the raw image that a storage is. Answers the storage.
+pub(super) fn on_raw<S: Storage>(
+    rt: &impl Abort,
+    alloc: Global,
+    storage: S,
+    writable: bool,
+    calls: &[(Call, Answer)],
+) -> S {
+    let mut raw = Raw::open_image(storage, writable).expect(rt, "a raw image");
+    script(rt, alloc, &mut raw, calls);
+    raw.into_inner()
+}
+
+/// The calls on a driver.
+pub(super) fn on_driver<D: FormatDriverInstance>(
+    rt: &impl Abort,
+    alloc: Global,
+    driver: D,
+    calls: &[(Call, Answer)],
+) {
+    let mut driver = driver;
+    script(rt, alloc, &mut driver, calls);
 }

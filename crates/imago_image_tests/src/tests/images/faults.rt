@@ -2,28 +2,27 @@
 use super::answer::Answer;
 use super::driver;
 use super::driver::Give;
-use super::image::{Call, script};
-use super::runs::by_run;
+use super::image::{Call, on_raw};
+use super::runs::run_raw;
 use super::set_up::{in_blocks, runs, stored};
-use imago_access::access::FormatAccess;
-use imago_drivers::drivers::{FormatDriverInstance, PreallocateMode};
-use imago_drivers::raw::Raw;
+use imago_drivers::drivers::PreallocateMode;
 use imago_storage::error::Error;
 use imago_test_storages::faulty::{Faulty, Tear};
 use std::alloc::Global;
-use std::mem::replace;
 use std::process::Abort;
-
-/// A raw image over a storage that fails.
-pub(super) type Image = FormatAccess<Raw<Faulty>>;
 
 const DONE: Answer = Answer::Done;
 
 const DEVICE: Answer = Answer::Refused(Error::Device);
 
-/// The calls on such an image.
-pub(super) fn on(rt: &impl Abort, alloc: Global, image: &mut Image, calls: &[(Call, Answer)]) {
-    script(rt, alloc, image, calls);
+/// The calls on a writable raw image over a storage that fails, which is lent to it.
+fn on(rt: &impl Abort, alloc: Global, storage: &mut Faulty, calls: &[(Call, Answer)]) {
+    on_raw(rt, alloc, storage, true, calls);
+}
+
+/// Runs the calls as a list on such an image. Answers whether there was memory for it.
+fn run_on(rt: &impl Abort, alloc: Global, storage: &mut Faulty, calls: &[(Call, Answer)]) -> bool {
+    run_raw(rt, alloc, storage, true, calls)
 }
 
 /// A storage of runs of equal bytes, whose device doesn't fail yet.
@@ -31,19 +30,8 @@ fn faulty(rt: &impl Abort, alloc: Global, given: &[(usize, u8)]) -> Faulty {
     Faulty::new(stored(rt, alloc, given))
 }
 
-/// A writable raw image over a storage.
-pub(super) fn opened(rt: &impl Abort, storage: Faulty) -> Image {
-    FormatAccess::new(Raw::open_image(storage, true).expect(rt, "a raw image"))
-}
-
-/// The storage of an image.
-pub(super) fn storage_of<'a>(rt: &impl Abort, image: &'a Image) -> &'a Faulty {
-    image.inner().storage(0).expect(rt, "a raw image's storage")
-}
-
-/// The storage of an image has these bytes, and its device has failed so often.
-fn is_left(rt: &impl Abort, image: &Image, bytes: &[u8], faults: u64) {
-    let storage = storage_of(rt, image);
+/// A storage has these bytes, and its device has failed so often.
+fn is_left(rt: &impl Abort, storage: &Faulty, bytes: &[u8], faults: u64) {
     assert_eq!(rt; storage.as_bytes(), bytes);
     assert_eq!(rt; storage.faults(), faults);
 }
@@ -74,16 +62,15 @@ fn a_refused_resize_changes_neither_size(rt: HostRuntime) {
     let alloc = rt.alloc();
     let mut storage = faulty(&rt, alloc, &[(1024, 0)]);
     storage.refuse_resizes(2);
-    let mut image = opened(&rt, storage);
-    on(&rt, alloc, &mut image, &SIZES);
-    assert_eq!(rt; storage_of(&rt, &image).faults(), 2);
+    on(&rt, alloc, &mut storage, &SIZES);
+    assert_eq!(rt; storage.faults(), 2);
 }
 
-/// An image of 16 bytes ff in blocks of 8, over a storage that is armed.
-fn armed(rt: &impl Abort, alloc: Global, pass: u64, tear: Tear) -> Image {
+/// A storage of 16 bytes ff in blocks of 8 that is armed.
+fn armed(rt: &impl Abort, alloc: Global, pass: u64, tear: Tear) -> Faulty {
     let mut storage = Faulty::new(in_blocks(rt, stored(rt, alloc, &[(16, 0xff)]), 8));
     storage.arm(pass, tear);
-    opened(rt, storage)
+    storage
 }
 
 /// Ten zeroes at 3. The calls are the read and the write of the first block, then those of the last.
@@ -131,9 +118,9 @@ const STOPS: [(u64, Tear, Answer, [u8; 16]); 5] = [
 fn a_write_stops_at_each_call(rt: HostRuntime) {
     let alloc = rt.alloc();
     for (pass, tear, answer, left) in STOPS {
-        let mut image = armed(&rt, alloc, pass, tear);
-        on(&rt, alloc, &mut image, &[(TEN_ZEROES, answer)]);
-        is_left(&rt, &image, &left, u64::from(answer == DEVICE));
+        let mut storage = armed(&rt, alloc, pass, tear);
+        on(&rt, alloc, &mut storage, &[(TEN_ZEROES, answer)]);
+        is_left(&rt, &storage, &left, u64::from(answer == DEVICE));
     }
 }
 
@@ -145,15 +132,14 @@ fn a_zero_write_stops_in_its_second_piece(rt: HostRuntime) {
     let alloc = rt.alloc();
     let mut storage = faulty(&rt, alloc, &[(3145728, 0xff)]).without_zero_writes();
     storage.arm(1, Tear::Odd);
-    let mut image = opened(&rt, storage);
-    on(&rt, alloc, &mut image, &LONG);
+    on(&rt, alloc, &mut storage, &LONG);
     let mut left = runs(&rt, alloc, &[(1048576, 0), (2097152, 0xff)]);
     for (i, byte) in left.iter_mut().enumerate() {
         if i < 2097152 && i % 2 == 1 {
             *byte = 0;
         }
     }
-    is_left(&rt, &image, &left, 1);
+    is_left(&rt, &storage, &left, 1);
 }
 
 /// Where reads fail.
@@ -171,48 +157,32 @@ const READ: [(Call, Answer); 4] = [
     (Call::Read(0, &[0, 0, 2, 0]), DONE),
 ];
 
-/// The storage of an image, in whose place another driver is put.
-fn taken_out(rt: &impl Abort, alloc: Global, image: &mut Image) -> Faulty {
-    let other = Raw::open_image(faulty(rt, alloc, &[(1, 0)]), true).expect(rt, "a driver");
-    replace(image.inner_mut(), other).into_inner()
-}
-
-/// An image of four bytes ff whose reads fail.
-fn unreadable(rt: &impl Abort, alloc: Global) -> Image {
+/// Four bytes ff whose reads fail.
+fn unreadable(rt: &impl Abort, alloc: Global) -> Faulty {
     let mut storage = faulty(rt, alloc, &[(4, 0xff)]);
     storage.fail_reads(true);
-    opened(rt, storage)
+    storage
 }
 
 #[test]
 fn a_read_fails_and_a_write_does_not(rt: HostRuntime) {
     let alloc = rt.alloc();
-    let mut image = unreadable(&rt, alloc);
-    on(&rt, alloc, &mut image, &UNREAD);
-    let mut storage = taken_out(&rt, alloc, &mut image);
+    let mut storage = unreadable(&rt, alloc);
+    on(&rt, alloc, &mut storage, &UNREAD);
     storage.fail_reads(false);
-    let mut image = opened(&rt, storage);
-    on(&rt, alloc, &mut image, &READ);
-    assert_eq!(rt; storage_of(&rt, &image).faults(), 0);
-}
-
-/// Runs the calls as a list on such an image. Answers whether there was memory for it.
-fn run_on(rt: &impl Abort, alloc: Global, image: &mut Image, calls: &[(Call, Answer)]) -> bool {
-    by_run(rt, alloc, image, calls, &mut Vec::new(alloc))
+    on(&rt, alloc, &mut storage, &READ);
+    is_left(&rt, &storage, &[0, 0, 2, 0], 0);
 }
 
 #[test]
 fn a_run_over_failing_reads(rt: HostRuntime) {
     let alloc = rt.alloc();
-    let mut image = unreadable(&rt, alloc);
-    if !run_on(&rt, alloc, &mut image, &UNREAD) {
-        image = unreadable(&rt, alloc);
-        assert!(rt; run_on(&rt, alloc, &mut image, &UNREAD));
+    let mut storage = unreadable(&rt, alloc);
+    if !run_on(&rt, alloc, &mut storage, &UNREAD) {
+        storage = unreadable(&rt, alloc);
+        assert!(rt; run_on(&rt, alloc, &mut storage, &UNREAD));
     }
-    assert_eq!(rt;
-        storage_of(&rt, &image).as_bytes(),
-        [0xff, 1, 2, 0xff].as_slice()
-    );
+    is_left(&rt, &storage, &[0xff, 1, 2, 0xff], 0);
 }
 
 /// On 16 bytes ff in blocks of 8. The first write stops in its first block, and the growth is refused.
@@ -231,68 +201,56 @@ const LISTED: [(Call, Answer); 9] = [
     (Call::Map(1, 100, "0/0:0x1/rw"), Answer::Length(13)),
 ];
 
-/// Runs those calls. Answers the image, where there was memory for it.
-fn listed(rt: &impl Abort, alloc: Global) -> Option<Image> {
-    let mut storage = Faulty::new(in_blocks(rt, stored(rt, alloc, &[(16, 0xff)]), 8));
-    storage.arm(1, Tear::First(4));
+/// Runs those calls. Answers whether there was memory for it.
+fn is_listed(rt: &impl Abort, alloc: Global) -> bool {
+    let mut storage = armed(rt, alloc, 1, Tear::First(4));
     storage.refuse_resizes(1);
-    let mut image = opened(rt, storage);
-    if run_on(rt, alloc, &mut image, &LISTED) {
-        return Some(image);
+    let done = run_on(rt, alloc, &mut storage, &LISTED);
+    if done {
+        let left = runs(rt, alloc, &[(3, 0xff), (10, 0), (1, 0xff)]);
+        is_left(rt, &storage, &left, 2);
     }
-    None
+    done
 }
 
 #[test]
 fn a_run_goes_on_after_refused_calls(rt: HostRuntime) {
     let alloc = rt.alloc();
-    let image = match listed(&rt, alloc) {
-        Some(image) => image,
-        None => listed(&rt, alloc).expect(&rt, "memory for a run"),
-    };
-    let left = runs(&rt, alloc, &[(3, 0xff), (10, 0), (1, 0xff)]);
-    is_left(&rt, &image, &left, 2);
-}
-
-/// The calls of a driver whose storage is lent to it.
-fn on_lent(rt: &impl Abort, alloc: Global, storage: &mut Faulty, calls: &[(driver::Call, Answer)]) {
-    let mut raw = Raw::open_image(storage, true).expect(rt, "a driver");
-    driver::script(rt, alloc, &mut raw, calls);
+    assert!(rt; is_listed(&rt, alloc) || is_listed(&rt, alloc));
 }
 
 /// On four bytes ff whose reads fail.
-const LENT_UNREAD: [(driver::Call, Answer); 1] = [(driver::Call::Read(3, &[0; 2]), DEVICE)];
+const LENT_UNREAD: [(Call, Answer); 1] = [(Call::Drive(driver::Call::Read(3, &[0; 2])), DEVICE)];
 
 /// Where they don't any more.
-const LENT: [(driver::Call, Answer); 6] = [
-    (driver::Call::Read(3, &[0xff, 0]), DONE),
-    (driver::Call::HasPrepared, Answer::Is(false)),
+const LENT: [(Call, Answer); 6] = [
+    (Call::Drive(driver::Call::Read(3, &[0xff, 0])), DONE),
+    (Call::Drive(driver::Call::HasPrepared), Answer::Is(false)),
     (
-        driver::Call::Give(driver::Give::DiscardToZero, 0, 4),
+        Call::Drive(driver::Call::Give(Give::DiscardToZero, 0, 4)),
         Answer::Part(0, 4),
     ),
-    (driver::Call::Stored(0, 0, &[0; 4]), DONE),
+    (Call::Drive(driver::Call::Stored(0, 0, &[0; 4])), DONE),
     (
-        driver::Call::Prepare {
+        Call::Drive(driver::Call::Prepare {
             offset: 3,
             count: 1,
             overwrite: true,
             at: 0,
             bytes: &[1],
             commits: true,
-        },
+        }),
         Answer::Prepared(1, false),
     ),
-    (driver::Call::Size, Answer::Length(4)),
+    (Call::Size, Answer::Length(4)),
 ];
 
 #[test]
 fn a_driver_of_a_storage_that_is_lent(rt: HostRuntime) {
     let alloc = rt.alloc();
-    let mut storage = faulty(&rt, alloc, &[(4, 0xff)]);
-    storage.fail_reads(true);
-    on_lent(&rt, alloc, &mut storage, &LENT_UNREAD);
+    let mut storage = unreadable(&rt, alloc);
+    on(&rt, alloc, &mut storage, &LENT_UNREAD);
     storage.fail_reads(false);
-    on_lent(&rt, alloc, &mut storage, &LENT);
-    assert_eq!(rt; storage.as_bytes(), [0, 0, 0, 1].as_slice());
+    on(&rt, alloc, &mut storage, &LENT);
+    is_left(&rt, &storage, &[0, 0, 0, 1], 0);
 }

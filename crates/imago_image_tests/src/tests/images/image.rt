@@ -8,7 +8,9 @@ use super::driver::Give;
 use super::set_up::{buffer, numbers, printed, runs};
 use imago_access::access::FormatAccess;
 use imago_drivers::drivers::{FormatDriverInstance, PreallocateMode, PreparedDataMapping};
+use imago_drivers::raw::Raw;
 use imago_storage::error::Error;
+use imago_storage::storage::Storage;
 use std::alloc::Global;
 use std::process::Abort;
 
@@ -73,6 +75,8 @@ pub(super) enum Call {
     Invalidate,
     /// Looks at the top layer's driver.
     Look(driver::Call),
+    /// Makes a call of the top layer's driver, which nothing is lent to.
+    Drive(driver::Call),
 }
 
 /// Whether a changing call may be made: no prepared mapping waits to be spent.
@@ -340,6 +344,7 @@ pub(super) fn make<D: FormatDriverInstance>(
         Call::Flush => done(image.flush()),
         Call::Sync => done(image.sync()),
         Call::Invalidate => done(image.invalidate_cache()),
+        Call::Drive(call) => driver::make(rt, alloc, image.inner_mut(), call),
         _ => ask(rt, alloc, &*image, call),
     }
 }
@@ -359,5 +364,52 @@ pub(super) fn script<D: FormatDriverInstance>(
             answer = make(rt, alloc, image, call);
         }
         assert_eq!(rt; answer, expected, "call {i}");
+    }
+}
+
+/// The calls on an image of a driver with nothing below it.
+pub(super) fn on_driver<D: FormatDriverInstance>(
+    rt: &impl Abort,
+    alloc: Global,
+    driver: D,
+    calls: &[(Call, Answer)],
+) {
+    script(rt, alloc, &mut FormatAccess::new(driver), calls);
+}
+
+/// The calls on the raw image that a storage is. A storage that is lent can be looked at afterwards.
+pub(super) fn on_raw<S: Storage>(
+    rt: &impl Abort,
+    alloc: Global,
+    storage: S,
+    writable: bool,
+    calls: &[(Call, Answer)],
+) {
+    let driver = Raw::open_image(storage, writable).expect(rt, "a raw image");
+    on_driver(rt, alloc, driver, calls);
+}
+
+/// The calls on an image of a driver above an image of another one, on which the first calls are made before. Answers
+/// whether there was memory for both.
+pub(super) fn on_two<D: FormatDriverInstance>(
+    rt: &impl Abort,
+    alloc: Global,
+    (lower, first): (D, &[(Call, Answer)]),
+    upper: D,
+    calls: &[(Call, Answer)],
+) -> bool {
+    let mut below = FormatAccess::new(lower);
+    script(rt, alloc, &mut below, first);
+    match Box::new(alloc, below) {
+        Ok(below) => {
+            script(
+                rt,
+                alloc,
+                &mut FormatAccess::with_backing(upper, below),
+                calls,
+            );
+            true
+        }
+        Err(_) => false,
     }
 }

@@ -1,23 +1,20 @@
-//! Images of raw drivers in memory, and of zeroes.
+//! Images of raw drivers in memory.
 use super::answer::Answer;
 use super::driver;
 use super::driver::Give;
-use super::image::{Call, script};
-use super::runs::by_run;
-use super::set_up::{printed, raw, stored, storing};
+use super::image::{Call, on_raw, on_two, script};
+use super::runs::{by_run, run_raw};
+use super::set_up::{in_blocks, printed, stored, storing};
 use imago_access::access::FormatAccess;
 use imago_access::mapping::Mapping;
-use imago_access::run::Reply;
 use imago_drivers::drivers::{FormatDriverInstance, PreallocateMode, PreparedDataMapping};
 use imago_drivers::layer::LowerLayer;
 use imago_drivers::raw::Raw;
 use imago_storage::error::Error;
 use imago_storage::mem::MemStorage;
+use imago_storage::storage::Storage;
 use std::alloc::Global;
 use std::process::Abort;
-
-/// An image in memory.
-pub(super) type MemImage = FormatAccess<Raw<MemStorage>>;
 
 const ZERO: PreallocateMode = PreallocateMode::Zero;
 
@@ -29,19 +26,15 @@ const READ_ONLY: Answer = Answer::Refused(Error::ReadOnly);
 
 const FOREIGN: Answer = Answer::Refused(Error::ForeignMapping);
 
-/// The calls on an image in memory.
-fn on(rt: &impl Abort, alloc: Global, image: &mut MemImage, calls: &[(Call, Answer)]) {
-    script(rt, alloc, image, calls);
-}
-
-/// The raw image that a storage is.
-fn image_on(rt: &impl Abort, storage: MemStorage, writable: bool) -> MemImage {
-    FormatAccess::new(raw(rt, storage, writable))
-}
-
-/// A raw image of these bytes.
-fn image_of(rt: &impl Abort, alloc: Global, bytes: &[u8], writable: bool) -> MemImage {
-    image_on(rt, storing(rt, alloc, bytes), writable)
+/// The calls on the raw image that a storage in memory is.
+fn on(
+    rt: &impl Abort,
+    alloc: Global,
+    storage: MemStorage,
+    writable: bool,
+    calls: &[(Call, Answer)],
+) {
+    on_raw(rt, alloc, storage, writable, calls);
 }
 
 /// The calls on a writable raw image in that storage.
@@ -51,28 +44,27 @@ pub(super) fn on_storage(
     storage: MemStorage,
     calls: &[(Call, Answer)],
 ) {
-    on(rt, alloc, &mut image_on(rt, storage, true), calls);
+    on(rt, alloc, storage, true, calls);
 }
 
 /// The calls on a writable raw image of these bytes.
 pub(super) fn on_bytes(rt: &impl Abort, alloc: Global, bytes: &[u8], calls: &[(Call, Answer)]) {
-    on(rt, alloc, &mut image_of(rt, alloc, bytes, true), calls);
+    on(rt, alloc, storing(rt, alloc, bytes), true, calls);
 }
 
 /// The calls on a raw image of these bytes that may not be written.
 pub(super) fn on_read_only(rt: &impl Abort, alloc: Global, bytes: &[u8], calls: &[(Call, Answer)]) {
-    on(rt, alloc, &mut image_of(rt, alloc, bytes, false), calls);
+    on(rt, alloc, storing(rt, alloc, bytes), false, calls);
 }
 
-/// Runs the calls as a list on an image in memory. Answers whether there was memory for it.
-fn run_on(
+/// Runs the calls as a list on a raw image of these bytes. Answers whether there was memory for it.
+fn run_once(
     rt: &impl Abort,
     alloc: Global,
-    image: &mut MemImage,
+    (bytes, writable): (&[u8], bool),
     calls: &[(Call, Answer)],
-    replies: &mut Vec<Reply>,
 ) -> bool {
-    by_run(rt, alloc, image, calls, replies)
+    run_raw(rt, alloc, storing(rt, alloc, bytes), writable, calls)
 }
 
 /// Runs the calls as a list on a raw image of these bytes.
@@ -82,12 +74,9 @@ fn run_on_bytes(
     (bytes, writable): (&[u8], bool),
     calls: &[(Call, Answer)],
 ) {
-    let mut image = image_of(rt, alloc, bytes, writable);
-    if !run_on(rt, alloc, &mut image, calls, &mut Vec::new(alloc)) {
-        image = image_of(rt, alloc, bytes, writable);
-        let done = run_on(rt, alloc, &mut image, calls, &mut Vec::new(alloc));
-        assert!(rt; done, "memory was refused twice");
-    }
+    let done = run_once(rt, alloc, (bytes, writable), calls)
+        || run_once(rt, alloc, (bytes, writable), calls);
+    assert!(rt; done, "memory was refused twice");
 }
 
 /// On 16 zeroes.
@@ -242,10 +231,22 @@ const STRANGERS: [(Call, Answer); 3] = [
     ),
 ];
 
-/// Commits a mapping with a state that wasn't prepared.
-fn commit_stranger(image: &mut MemImage) -> Result<(), Error> {
-    image.commit_data_mapping(PreparedDataMapping::to_commit(0, 0, 4, ()))
+/// Commits a mapping with a state that wasn't prepared, which is refused. Nothing has changed then.
+fn commit_stranger<S: Storage>(
+    rt: &impl Abort,
+    alloc: Global,
+    storage: S,
+    calls: &[(Call, Answer)],
+) {
+    let driver = Raw::open_image(storage, true).expect(rt, "a raw image");
+    let mut image = FormatAccess::new(driver);
+    let refused = image.commit_data_mapping(PreparedDataMapping::to_commit(0, 0, 4, ()));
+    assert_eq!(rt; refused, Err(Error::ForeignMapping));
+    script(rt, alloc, &mut image, calls);
 }
+
+/// On 8 zeroes, as they were.
+const EIGHT: [(Call, Answer); 1] = [(Call::Read(0, &[0; 8]), Answer::Done)];
 
 #[test]
 fn data_mappings(rt: HostRuntime) {
@@ -253,14 +254,12 @@ fn data_mappings(rt: HostRuntime) {
     on_bytes(&rt, alloc, &[0; 8], &PREPARED);
     run_on_bytes(&rt, alloc, (&[0; 8], true), &PREPARED);
     on_bytes(&rt, alloc, &[0; 8], &STRANGERS);
-    let mut image = image_of(&rt, alloc, &[0; 8], true);
-    assert_eq!(rt; commit_stranger(&mut image), Err(Error::ForeignMapping));
-    on(
-        &rt,
-        alloc,
-        &mut image,
-        &[(Call::Read(0, &[0; 8]), Answer::Done)],
-    );
+}
+
+#[test]
+fn a_mapping_that_was_not_prepared_is_not_committed(rt: HostRuntime) {
+    let alloc = rt.alloc();
+    commit_stranger(&rt, alloc, storing(&rt, alloc, &[0; 8]), &EIGHT);
 }
 
 /// On the bytes 1 to 4.
@@ -342,7 +341,42 @@ const PADDED: [(Call, Answer); 11] = [
 fn growth_cuts_what_a_write_padded(rt: HostRuntime) {
     let alloc = rt.alloc();
     let storage = stored(&rt, alloc, &[(10000, 0xa5)]).with_align(4096);
-    on(&rt, alloc, &mut image_on(&rt, storage, true), &PADDED);
+    on_storage(&rt, alloc, storage, &PADDED);
+}
+
+/// On the bytes 1 to 3 in blocks of any length. The storage is at least one block long once it was written.
+const SHORT: [(Call, Answer); 12] = [
+    (Call::Write(1, &[2]), Answer::Done),
+    (
+        Call::Look(driver::Call::StorageLength(0)),
+        Answer::Length(3),
+    ),
+    (Call::Write(1, &[0xff]), Answer::Done),
+    (Call::Read(0, &[1, 0xff, 3, 0]), Answer::Done),
+    (Call::Size, Answer::Length(3)),
+    (Call::Give(Give::EnsureZero, 2, 1), Answer::Done),
+    (Call::Give(Give::DiscardToZero, 0, 1), Answer::Done),
+    (Call::Give(Give::DiscardToAny, 1, 0), Answer::Done),
+    (Call::Read(0, &[0, 0xff, 0, 0]), Answer::Done),
+    (Call::Grow(5, ZERO), Answer::Done),
+    (Call::Read(0, &[0, 0xff, 0, 0, 0, 0]), Answer::Done),
+    (
+        Call::Look(driver::Call::StorageLength(0)),
+        Answer::Length(5),
+    ),
+];
+
+#[test]
+fn a_disk_below_one_block_of_any_length(rt: HostRuntime) {
+    let alloc = rt.alloc();
+    let mut calls = SHORT;
+    let mut align: usize = 1;
+    for _ in 0..21 {
+        calls[1].1 = Answer::Length((align as u64).max(3));
+        let storage = in_blocks(&rt, storing(&rt, alloc, &[1, 2, 3]), align);
+        on_storage(&rt, alloc, storage, &calls);
+        align = align.saturating_mul(2);
+    }
 }
 
 /// On the bytes 1 to 4.
@@ -396,18 +430,24 @@ const REFUSED: [(Call, Answer); 4] = [
     (Call::Read(0, &[1, 2, 3, 4]), Answer::Done),
 ];
 
-#[test]
-fn a_run_appends_and_goes_on_after_a_refusal(rt: HostRuntime) {
-    let alloc = rt.alloc();
-    let mut image = image_of(&rt, alloc, &[1, 2, 3, 4], false);
+/// Runs the calls three times on one image. At most one of the runs has no memory, and the replies of the others are kept.
+fn run_thrice<S: Storage>(rt: &impl Abort, alloc: Global, storage: S, calls: &[(Call, Answer)]) {
+    let driver = Raw::open_image(storage, false).expect(rt, "a raw image");
+    let mut image = FormatAccess::new(driver);
     let mut replies = Vec::new(alloc);
     let mut done: usize = 0;
     for _ in 0..3 {
-        if run_on(&rt, alloc, &mut image, &REFUSED, &mut replies) {
+        if by_run(rt, alloc, &mut image, calls, &mut replies) {
             done = done.saturating_add(1);
         }
     }
     assert!(rt; done >= 2 && replies.len() >= 8);
+}
+
+#[test]
+fn a_run_appends_and_goes_on_after_a_refusal(rt: HostRuntime) {
+    let alloc = rt.alloc();
+    run_thrice(&rt, alloc, storing(&rt, alloc, &[1, 2, 3, 4]), &REFUSED);
 }
 
 /// The size of what is below a driver, and its bytes from the offset on.
@@ -421,28 +461,45 @@ fn seen_from_above<B: LowerLayer>(
     Ok((below.size(), buf))
 }
 
+/// A driver above an image of that storage sees its size, and its last bytes.
+fn is_seen<S: Storage>(rt: &impl Abort, alloc: Global, storage: S) {
+    let driver = Raw::open_image(storage, false).expect(rt, "a raw image");
+    let image = FormatAccess::new(driver);
+    let seen = match seen_from_above(alloc, &image, 2) {
+        Err(Error::Memory) => seen_from_above(alloc, &image, 2),
+        answer => answer,
+    };
+    assert_eq!(rt; seen, Ok((4, [3, 4, 0])));
+}
+
 #[test]
 fn an_image_is_a_layer_for_a_driver_above_it(rt: HostRuntime) {
     let alloc = rt.alloc();
-    let image = image_of(&rt, alloc, &[1, 2, 3, 4], false);
-    assert_eq!(rt; seen_from_above(alloc, &image, 2), Ok((4, [3, 4, 0])));
+    is_seen(&rt, alloc, storing(&rt, alloc, &[1, 2, 3, 4]));
 }
 
-/// The raw image that a storage is, above another one.
-fn above(rt: &impl Abort, storage: MemStorage, writable: bool, below: Box<MemImage>) -> MemImage {
-    FormatAccess::with_backing(raw(rt, storage, writable), below)
+/// The calls on a raw image above another one that may not be written. Answers whether there was memory for both.
+fn above_raw<S: Storage>(
+    rt: &impl Abort,
+    alloc: Global,
+    lower: S,
+    (upper, writable): (S, bool),
+    calls: &[(Call, Answer)],
+) -> bool {
+    let lower = Raw::open_image(lower, false).expect(rt, "a raw image");
+    let upper = Raw::open_image(upper, writable).expect(rt, "a raw image");
+    on_two(rt, alloc, (lower, &[]), upper, calls)
 }
 
-/// A raw image of 4 bytes above one of 8 bytes.
-fn four_above_eight(rt: &impl Abort, alloc: Global) -> MemImage {
-    let upper = storing(rt, alloc, &[0xff; 4]);
-    match Box::new(alloc, image_of(rt, alloc, &[0x11; 8], false)) {
-        Ok(below) => above(rt, upper, true, below),
-        Err(_) => {
-            let below = Box::new(alloc, image_of(rt, alloc, &[0x11; 8], false));
-            above(rt, upper, true, below.expect(rt, "memory for a layer"))
-        }
-    }
+/// The same of images in memory.
+fn above(
+    rt: &impl Abort,
+    alloc: Global,
+    lower: MemStorage,
+    upper: (MemStorage, bool),
+    calls: &[(Call, Answer)],
+) -> bool {
+    above_raw(rt, alloc, lower, upper, calls)
 }
 
 /// On 4 bytes ff above 8 bytes 11.
@@ -458,16 +515,22 @@ const HIDES: [(Call, Answer); 8] = [
     (Call::Depth, Answer::Length(1)),
 ];
 
+/// The calls on 4 bytes ff above 8 bytes 11. Answers whether there was memory for both.
+fn hides(rt: &impl Abort, alloc: Global) -> bool {
+    let lower = storing(rt, alloc, &[0x11; 8]);
+    above(
+        rt,
+        alloc,
+        lower,
+        (storing(rt, alloc, &[0xff; 4]), true),
+        &HIDES,
+    )
+}
+
 #[test]
 fn a_raw_image_hides_what_is_below(rt: HostRuntime) {
     let alloc = rt.alloc();
-    on(&rt, alloc, &mut four_above_eight(&rt, alloc), &HIDES);
-}
-
-/// Exchanges the driver. Answers whether writes are allowed from then on.
-fn exchange(image: &mut MemImage, inner: Raw<MemStorage>) -> bool {
-    *image.inner_mut() = inner;
-    image.inner().writable()
+    assert!(rt; hides(&rt, alloc) || hides(&rt, alloc));
 }
 
 /// On the bytes 7 and 8 above 8 bytes 11.
@@ -478,34 +541,66 @@ const EXCHANGED: [(Call, Answer); 4] = [
     (Call::Depth, Answer::Length(1)),
 ];
 
+/// Puts another driver in the place of an image's. Answers whether writes are allowed from then on.
+fn put<D: FormatDriverInstance>(image: &mut FormatAccess<D>, inner: D) -> bool {
+    *image.inner_mut() = inner;
+    image.inner().writable()
+}
+
+/// Puts another driver, which may not write, in the place of an image's driver, and makes the calls then. Answers whether
+/// there was memory for the image.
+fn exchange<S: Storage>(
+    rt: &impl Abort,
+    alloc: Global,
+    (lower, upper, other): (S, S, S),
+    calls: &[(Call, Answer)],
+) -> bool {
+    let lower = Raw::open_image(lower, false).expect(rt, "a raw image");
+    let upper = Raw::open_image(upper, true).expect(rt, "a raw image");
+    let other = Raw::open_image(other, false).expect(rt, "a raw image");
+    match Box::new(alloc, FormatAccess::new(lower)) {
+        Ok(below) => {
+            let mut image = FormatAccess::with_backing(upper, below);
+            assert!(rt; !put(&mut image, other));
+            script(rt, alloc, &mut image, calls);
+            true
+        }
+        Err(_) => false,
+    }
+}
+
+/// Puts the bytes 7 and 8 in the place of 4 bytes ff above 8 bytes 11. Answers whether there was memory for the image.
+fn exchanged(rt: &impl Abort, alloc: Global) -> bool {
+    let lower = storing(rt, alloc, &[0x11; 8]);
+    let upper = storing(rt, alloc, &[0xff; 4]);
+    exchange(
+        rt,
+        alloc,
+        (lower, upper, storing(rt, alloc, &[7, 8])),
+        &EXCHANGED,
+    )
+}
+
 #[test]
 fn a_driver_that_is_exchanged_shows_its_own_disk(rt: HostRuntime) {
     let alloc = rt.alloc();
-    let mut image = four_above_eight(&rt, alloc);
-    let inner = raw(&rt, storing(&rt, alloc, &[7, 8]), false);
-    assert!(rt; !exchange(&mut image, inner));
-    on(&rt, alloc, &mut image, &EXCHANGED);
+    assert!(rt; exchanged(&rt, alloc) || exchanged(&rt, alloc));
 }
 
-/// An image of alignments 64 and 4096 above one of 512 and 8, for requests and for memory, where there is memory for it.
-fn aligned_layers(rt: &impl Abort, alloc: Global) -> Option<MemImage> {
+/// On an image of alignments 64 and 4096 above one of 512 and 8, for requests and for memory.
+const ALIGNED: [(Call, Answer); 1] = [(Call::Aligns, Answer::Aligns(512, 4096))];
+
+/// The calls on such an image. Answers whether there was memory for it.
+fn aligned(rt: &impl Abort, alloc: Global) -> bool {
     let lower = storing(rt, alloc, &[1]).with_aligns(8, 512);
     let upper = storing(rt, alloc, &[2]).with_aligns(4096, 64);
-    match Box::new(alloc, image_on(rt, lower, false)) {
-        Ok(below) => Some(above(rt, upper, false, below)),
-        Err(_) => None,
-    }
+    above(rt, alloc, lower, (upper, false), &ALIGNED)
 }
 
 #[test]
 fn alignments_are_the_greatest_of_all_layers(rt: HostRuntime) {
     let alloc = rt.alloc();
-    let mut image = match aligned_layers(&rt, alloc) {
-        Some(image) => image,
-        None => aligned_layers(&rt, alloc).expect(&rt, "memory for a layer"),
-    };
-    let told = [(Call::Aligns, Answer::Aligns(512, 4096))];
-    on(&rt, alloc, &mut image, &told);
+    assert!(rt; aligned(&rt, alloc) || aligned(&rt, alloc));
 }
 
 /// Mappings, and how each is printed.

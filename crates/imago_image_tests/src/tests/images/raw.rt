@@ -1,30 +1,37 @@
 //! Drivers of raw images in memory.
 use super::answer::Answer;
-use super::driver::{Call, Give, script};
-use super::set_up::{raw, runs, stored, storing};
+use super::driver::{Call, Give, on_raw};
+use super::set_up::{runs, stored, storing};
 use imago_drivers::drivers::{FormatDriverInstance, PreallocateMode, PreparedDataMapping};
 use imago_drivers::layer::LowerLayer;
 use imago_drivers::raw::Raw;
 use imago_storage::error::Error;
 use imago_storage::mem::MemStorage;
+use imago_storage::storage::Storage;
 use std::alloc::Global;
 use std::process::Abort;
 
 const ZERO: PreallocateMode = PreallocateMode::Zero;
 
-/// The calls on a raw image in memory.
-fn on(rt: &impl Abort, alloc: Global, raw: &mut Raw<MemStorage>, calls: &[(Call, Answer)]) {
-    script(rt, alloc, raw, calls);
+/// The calls on a raw image in memory. Answers its storage.
+fn on(
+    rt: &impl Abort,
+    alloc: Global,
+    storage: MemStorage,
+    writable: bool,
+    calls: &[(Call, Answer)],
+) -> MemStorage {
+    on_raw(rt, alloc, storage, writable, calls)
 }
 
 /// The calls on a writable raw image in that storage.
 fn on_storage(rt: &impl Abort, alloc: Global, storage: MemStorage, calls: &[(Call, Answer)]) {
-    on(rt, alloc, &mut raw(rt, storage, true), calls);
+    on(rt, alloc, storage, true, calls);
 }
 
 /// The calls on a writable raw image of these bytes.
 fn on_bytes(rt: &impl Abort, alloc: Global, bytes: &[u8], calls: &[(Call, Answer)]) {
-    on_storage(rt, alloc, storing(rt, alloc, bytes), calls);
+    on(rt, alloc, storing(rt, alloc, bytes), true, calls);
 }
 
 /// On the bytes 1 to 4, whether they may be written or not.
@@ -50,10 +57,15 @@ const READS: [(Call, Answer); 11] = [
 fn a_disk_of_four_bytes(rt: HostRuntime) {
     let alloc = rt.alloc();
     for writable in [false, true] {
-        let mut driver = raw(&rt, storing(&rt, alloc, &[1, 2, 3, 4]), writable);
-        on(&rt, alloc, &mut driver, &READS);
+        let storage = on(
+            &rt,
+            alloc,
+            storing(&rt, alloc, &[1, 2, 3, 4]),
+            writable,
+            &READS,
+        );
         let told = [(Call::Writable, Answer::Is(writable))];
-        on(&rt, alloc, &mut driver, &told);
+        on(&rt, alloc, storage, writable, &told);
     }
 }
 
@@ -204,10 +216,9 @@ fn new_bytes_of_a_raw_image_are_zero_in_each_mode(rt: HostRuntime) {
         PreallocateMode::FullAllocate,
         PreallocateMode::WriteData,
     ] {
-        let mut driver = raw(&rt, storing(&rt, alloc, &[0xff; 4]), true);
         let growth = [(Call::Grow(6, mode), Answer::Done)];
-        on(&rt, alloc, &mut driver, &growth);
-        on(&rt, alloc, &mut driver, &GROWN);
+        let storage = on(&rt, alloc, storing(&rt, alloc, &[0xff; 4]), true, &growth);
+        on_storage(&rt, alloc, storage, &GROWN);
     }
 }
 
@@ -361,31 +372,32 @@ const READ_ONLY: [(Call, Answer); 3] = [
     (Call::Stored(0, 0, &[0; 8]), Answer::Done),
 ];
 
-/// Commits a mapping with a state that wasn't prepared.
-fn commit_stranger(raw: &mut Raw<MemStorage>) -> Result<(), Error> {
-    raw.commit_data_mapping(PreparedDataMapping::to_commit(0, 0, 4, ()))
+/// Commits a mapping with a state that wasn't prepared, which is refused. Answers the storage.
+fn commit_stranger<S: Storage>(rt: &impl Abort, storage: S) -> S {
+    let mut raw = Raw::open_image(storage, true).expect(rt, "a raw image");
+    let refused = raw.commit_data_mapping(PreparedDataMapping::to_commit(0, 0, 4, ()));
+    assert_eq!(rt; refused, Err(Error::ForeignMapping));
+    raw.into_inner()
 }
 
 #[test]
 fn foreign_mappings(rt: HostRuntime) {
     let alloc = rt.alloc();
-    let mut driver = raw(&rt, storing(&rt, alloc, &[0; 8]), true);
-    assert_eq!(rt; commit_stranger(&mut driver), Err(Error::ForeignMapping));
-    on(&rt, alloc, &mut driver, &STRANGERS);
-    let mut read_only = raw(&rt, storing(&rt, alloc, &[0; 8]), false);
-    on(&rt, alloc, &mut read_only, &READ_ONLY);
+    let storage = commit_stranger(&rt, storing(&rt, alloc, &[0; 8]));
+    on_storage(&rt, alloc, storage, &STRANGERS);
+    on(&rt, alloc, storing(&rt, alloc, &[0; 8]), false, &READ_ONLY);
 }
+
+/// On four zeroes.
+const MAPPED: [(Call, Answer); 2] = [
+    (Call::WriteMapped(1, &[0xaa, 0xbb]), Answer::Done),
+    (Call::Stored(0, 0, &[0, 0xaa, 0xbb, 0]), Answer::Done),
+];
 
 #[test]
 fn mapped_writes(rt: HostRuntime) {
     let alloc = rt.alloc();
-    let mut driver = raw(&rt, storing(&rt, alloc, &[0; 4]), true);
-    let calls = [
-        (Call::WriteMapped(1, &[0xaa, 0xbb]), Answer::Done),
-        (Call::Stored(0, 0, &[0, 0xaa, 0xbb, 0]), Answer::Done),
-    ];
-    on(&rt, alloc, &mut driver, &calls);
-    let storage = driver.into_inner();
+    let storage = on(&rt, alloc, storing(&rt, alloc, &[0; 4]), true, &MAPPED);
     assert_eq!(rt; storage.as_bytes(), [0, 0xaa, 0xbb, 0].as_slice());
 }
 

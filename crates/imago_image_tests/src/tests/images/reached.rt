@@ -2,12 +2,10 @@
 use super::answer::Answer;
 use super::driver;
 use super::driver::Give;
-use super::image::{Call, script};
-use super::runs::by_run;
-use super::set_up::{in_blocks, stored};
-use imago_access::access::FormatAccess;
-use imago_drivers::drivers::{FormatDriverInstance, PreallocateMode};
-use imago_drivers::raw::Raw;
+use super::image::{Call, on_raw};
+use super::runs::run_raw;
+use super::set_up::{in_blocks, runs, stored};
+use imago_drivers::drivers::PreallocateMode;
 use imago_storage::storage;
 use imago_test_storages::recording::{Recorded, Recording};
 use std::alloc::Global;
@@ -16,13 +14,28 @@ use std::process::Abort;
 const DONE: Answer = Answer::Done;
 
 /// A storage of 20000 bytes in blocks of 4096.
-fn recording(rt: &impl Abort, alloc: Global) -> Recording {
+pub(super) fn recording(rt: &impl Abort, alloc: Global) -> Recording {
     Recording::new(in_blocks(rt, stored(rt, alloc, &[(20000, 0xa5)]), 4096))
 }
 
-/// The driver of a raw image over such a storage.
-pub(super) fn opened(rt: &impl Abort, alloc: Global) -> Raw<Recording> {
-    Raw::open_image(recording(rt, alloc), true).expect(rt, "a raw image")
+/// The calls on a writable raw image over a storage that records, which is lent to it.
+pub(super) fn on(
+    rt: &impl Abort,
+    alloc: Global,
+    storage: &mut Recording,
+    calls: &[(Call, Answer)],
+) {
+    on_raw(rt, alloc, storage, true, calls);
+}
+
+/// Runs the calls as a list. Answers whether there was memory for it.
+fn run_on(
+    rt: &impl Abort,
+    alloc: Global,
+    storage: &mut Recording,
+    calls: &[(Call, Answer)],
+) -> bool {
+    run_raw(rt, alloc, storage, true, calls)
 }
 
 /// Whether a call is a resize that is made again.
@@ -31,8 +44,7 @@ fn is_repeated(call: Recorded, last: Option<Recorded>) -> bool {
 }
 
 /// These calls reached the storage. A resize that is refused for memory is made again, and reaches it twice.
-pub(super) fn was_reached(rt: &impl Abort, raw: &Raw<Recording>, expected: &[Recorded]) {
-    let storage = raw.storage(0).expect(rt, "a raw image's storage");
+pub(super) fn was_reached(rt: &impl Abort, storage: &Recording, expected: &[Recorded]) {
     let mut repeats: usize = 0;
     let mut made: usize = 0;
     let mut last = None;
@@ -49,46 +61,44 @@ pub(super) fn was_reached(rt: &impl Abort, raw: &Raw<Recording>, expected: &[Rec
     assert!(rt; repeats <= 1);
 }
 
-/// The calls on a driver.
-fn on_driver(
-    rt: &impl Abort,
-    alloc: Global,
-    raw: &mut Raw<Recording>,
-    calls: &[(driver::Call, Answer)],
-) {
-    driver::script(rt, alloc, raw, calls);
-}
-
 /// In blocks of 4096: only the aligned part of a range is discarded.
-const CALLS: [(driver::Call, Answer); 9] = [
-    (driver::Call::Flush, DONE),
-    (driver::Call::Sync, DONE),
-    (driver::Call::Invalidate, DONE),
+const CALLS: [(Call, Answer); 12] = [
+    (Call::Drive(driver::Call::Flush), DONE),
+    (Call::Drive(driver::Call::Sync), DONE),
+    (Call::Drive(driver::Call::Invalidate), DONE),
     (
-        driver::Call::Give(Give::DiscardToAny, 1000, 9000),
+        Call::Drive(driver::Call::Give(Give::DiscardToAny, 1000, 9000)),
         Answer::Part(4096, 4096),
     ),
     (
-        driver::Call::Give(Give::DiscardToAny, 1000, 7000),
+        Call::Drive(driver::Call::Give(Give::DiscardToAny, 1000, 7000)),
         Answer::Part(1000, 0),
     ),
-    (driver::Call::Grow(20001, PreallocateMode::None), DONE),
-    (driver::Call::Grow(20002, PreallocateMode::Zero), DONE),
     (
-        driver::Call::Grow(20003, PreallocateMode::FormatAllocate),
+        Call::Drive(driver::Call::Grow(20001, PreallocateMode::None)),
         DONE,
     ),
     (
-        driver::Call::Grow(20004, PreallocateMode::FullAllocate),
+        Call::Drive(driver::Call::Grow(20002, PreallocateMode::Zero)),
         DONE,
     ),
-];
-
-/// The rest of them.
-const MORE_CALLS: [(driver::Call, Answer); 3] = [
-    (driver::Call::Grow(20005, PreallocateMode::WriteData), DONE),
-    (driver::Call::Grow(20005, PreallocateMode::Zero), DONE),
-    (driver::Call::Shrink(5), DONE),
+    (
+        Call::Drive(driver::Call::Grow(20003, PreallocateMode::FormatAllocate)),
+        DONE,
+    ),
+    (
+        Call::Drive(driver::Call::Grow(20004, PreallocateMode::FullAllocate)),
+        DONE,
+    ),
+    (
+        Call::Drive(driver::Call::Grow(20005, PreallocateMode::WriteData)),
+        DONE,
+    ),
+    (
+        Call::Drive(driver::Call::Grow(20005, PreallocateMode::Zero)),
+        DONE,
+    ),
+    (Call::Drive(driver::Call::Shrink(5)), DONE),
 ];
 
 /// What reaches the storage.
@@ -108,23 +118,9 @@ const REACHED: [Recorded; 10] = [
 #[test]
 fn calls_of_a_driver_reach_its_storage(rt: HostRuntime) {
     let alloc = rt.alloc();
-    let mut raw = opened(&rt, alloc);
-    on_driver(&rt, alloc, &mut raw, &CALLS);
-    on_driver(&rt, alloc, &mut raw, &MORE_CALLS);
-    was_reached(&rt, &raw, &REACHED);
-}
-
-/// An image over such a storage.
-type Image = FormatAccess<Raw<Recording>>;
-
-/// The calls on an image.
-pub(super) fn on(rt: &impl Abort, alloc: Global, image: &mut Image, calls: &[(Call, Answer)]) {
-    script(rt, alloc, image, calls);
-}
-
-/// Runs the calls as a list. Answers whether there was memory for it.
-fn run_on(rt: &impl Abort, alloc: Global, image: &mut Image, calls: &[(Call, Answer)]) -> bool {
-    by_run(rt, alloc, image, calls, &mut Vec::new(alloc))
+    let mut storage = recording(&rt, alloc);
+    on(&rt, alloc, &mut storage, &CALLS);
+    was_reached(&rt, &storage, &REACHED);
 }
 
 const FLUSHES: [(Call, Answer); 4] = [
@@ -144,14 +140,14 @@ const FLUSHED: [Recorded; 4] = [
 #[test]
 fn flushes_of_an_image_and_of_a_run_reach_the_storage(rt: HostRuntime) {
     let alloc = rt.alloc();
-    let mut image = FormatAccess::new(opened(&rt, alloc));
-    on(&rt, alloc, &mut image, &FLUSHES);
-    was_reached(&rt, image.inner(), &FLUSHED);
-    let mut image = FormatAccess::new(opened(&rt, alloc));
+    let mut storage = recording(&rt, alloc);
+    on(&rt, alloc, &mut storage, &FLUSHES);
+    was_reached(&rt, &storage, &FLUSHED);
+    let mut storage = recording(&rt, alloc);
     assert!(rt;
-        run_on(&rt, alloc, &mut image, &FLUSHES) || run_on(&rt, alloc, &mut image, &FLUSHES)
+        run_on(&rt, alloc, &mut storage, &FLUSHES) || run_on(&rt, alloc, &mut storage, &FLUSHES)
     );
-    was_reached(&rt, image.inner(), &FLUSHED);
+    was_reached(&rt, &storage, &FLUSHED);
 }
 
 /// A write, and what it makes of its storage: the first and the last block are read where they are written in part, and whole
@@ -204,21 +200,17 @@ const LEFT: [[(usize, u8); 3]; 5] = [
 ];
 
 /// The bytes of the storage are these runs.
-pub(super) fn holds(rt: &impl Abort, alloc: Global, raw: &Raw<Recording>, left: &[(usize, u8)]) {
-    let storage = raw.storage(0).expect(rt, "a raw image's storage");
-    assert_eq!(rt;
-        storage.as_bytes(),
-        super::set_up::runs(rt, alloc, left).as_slice()
-    );
+pub(super) fn holds(rt: &impl Abort, alloc: Global, storage: &Recording, left: &[(usize, u8)]) {
+    assert_eq!(rt; storage.as_bytes(), runs(rt, alloc, left).as_slice());
 }
 
 #[test]
 fn an_image_reads_only_blocks_that_are_partly_written(rt: HostRuntime) {
     let alloc = rt.alloc();
     for ((call, reached), left) in WRITES.iter().zip(LEFT) {
-        let mut image = FormatAccess::new(opened(&rt, alloc));
-        on(&rt, alloc, &mut image, &[(*call, DONE)]);
-        was_reached(&rt, image.inner(), reached);
-        holds(&rt, alloc, image.inner(), &left);
+        let mut storage = recording(&rt, alloc);
+        on(&rt, alloc, &mut storage, &[(*call, DONE)]);
+        was_reached(&rt, &storage, reached);
+        holds(&rt, alloc, &storage, &left);
     }
 }

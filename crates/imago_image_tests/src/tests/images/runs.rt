@@ -1,11 +1,13 @@
 //! The same calls as a list for `run`, and the replies.
 use super::answer::{Answer, data, prepared};
-use super::image::{Call, is_spent};
+use super::image::{Call, is_spent, script};
 use super::set_up::{copied, printed, runs};
 use imago_access::access::FormatAccess;
 use imago_access::run::{self, Reply};
 use imago_drivers::drivers::FormatDriverInstance;
+use imago_drivers::raw::Raw;
 use imago_storage::error::Error;
+use imago_storage::storage::Storage;
 use std::alloc::Global;
 use std::process::Abort;
 
@@ -127,4 +129,37 @@ pub(super) fn by_run<D: FormatDriverInstance>(
         assert_eq!(rt; answer, expected, "call {i}");
     }
     true
+}
+
+/// Runs the calls as one list on the raw image that a storage is. Answers whether there was memory for it.
+pub(super) fn run_raw<S: Storage>(
+    rt: &impl Abort,
+    alloc: Global,
+    storage: S,
+    writable: bool,
+    calls: &[(Call, Answer)],
+) -> bool {
+    let driver = Raw::open_image(storage, writable).expect(rt, "a raw image");
+    let mut image = FormatAccess::new(driver);
+    by_run(rt, alloc, &mut image, calls, &mut Vec::new(alloc))
+}
+
+/// Runs the calls as one list on an image of a driver above an image of another one, on which the first calls are made
+/// before. Answers whether there was memory for it.
+pub(super) fn run_two<D: FormatDriverInstance>(
+    rt: &impl Abort,
+    alloc: Global,
+    (lower, first): (D, &[(Call, Answer)]),
+    upper: D,
+    calls: &[(Call, Answer)],
+) -> bool {
+    let mut below = FormatAccess::new(lower);
+    script(rt, alloc, &mut below, first);
+    match Box::new(alloc, below) {
+        Ok(below) => {
+            let mut image = FormatAccess::with_backing(upper, below);
+            by_run(rt, alloc, &mut image, calls, &mut Vec::new(alloc))
+        }
+        Err(_) => false,
+    }
 }

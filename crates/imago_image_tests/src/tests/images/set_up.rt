@@ -1,7 +1,6 @@
 //! Bytes and storages to start from.
 //!
 //! A test's run refuses one request for memory at most. So what is refused is tried again, and has its memory then.
-use imago_drivers::raw::Raw;
 use imago_storage::mem::MemStorage;
 use imago_storage::storage::is_alignment;
 use std::alloc::Global;
@@ -61,11 +60,6 @@ pub(super) fn copied(rt: &impl Abort, alloc: Global, bytes: &[u8]) -> Vec<u8> {
 /// A storage of these bytes.
 pub(super) fn storing(rt: &impl Abort, alloc: Global, bytes: &[u8]) -> MemStorage {
     MemStorage::new(copied(rt, alloc, bytes))
-}
-
-/// The driver of the raw image that a storage is.
-pub(super) fn raw(rt: &impl Abort, storage: MemStorage, writable: bool) -> Raw<MemStorage> {
-    Raw::open_image(storage, writable).expect(rt, "a raw image")
 }
 
 /// What is printed of a value.

@@ -1,11 +1,10 @@
 //! Disks held as tables, alone and one above another. The first storage has ones, the second twos.
-use super::answer::{Answer, done};
+use super::answer::Answer;
+use super::driver;
 use super::driver::Give;
-use super::image::{Call, is_spent};
-use super::runs::by_run;
+use super::image::{Call, on_two};
+use super::runs::run_two;
 use super::set_up::stored;
-use super::{driver, image};
-use imago_access::access::FormatAccess;
 use imago_drivers::drivers::PreallocateMode;
 use imago_storage::error::Error;
 use imago_storage::mem::MemStorage;
@@ -16,9 +15,6 @@ use std::process::Abort;
 
 /// A disk in memory.
 type Disk = Sparse<MemStorage>;
-
-/// An image of disks in memory.
-type Image = FormatAccess<Disk>;
 
 const DONE: Answer = Answer::Done;
 
@@ -57,9 +53,9 @@ fn disk(rt: &impl Abort, alloc: Global, table: &[Origin], size: u64) -> Disk {
     made(rt, alloc, table, size, (4, None)).expect(rt, "a table that fits")
 }
 
-/// The calls on a disk.
-fn on_disk(rt: &impl Abort, alloc: Global, disk: &mut Disk, calls: &[(driver::Call, Answer)]) {
-    driver::script(rt, alloc, disk, calls);
+/// The calls on a disk with nothing below it.
+fn on_disk(rt: &impl Abort, alloc: Global, disk: Disk, calls: &[(driver::Call, Answer)]) {
+    driver::on_driver(rt, alloc, disk, calls);
 }
 
 /// The calls on a disk of that table and size.
@@ -69,7 +65,7 @@ fn on_table(
     (table, size): (&[Origin], u64),
     calls: &[(driver::Call, Answer)],
 ) {
-    on_disk(rt, alloc, &mut disk(rt, alloc, table, size), calls);
+    on_disk(rt, alloc, disk(rt, alloc, table, size), calls);
 }
 
 const FIRST: Origin = Origin::First;
@@ -244,39 +240,29 @@ const TORN: [(driver::Call, Answer); 5] = [
 fn a_torn_commit_shows_its_first_bytes(rt: HostRuntime) {
     let alloc = rt.alloc();
     let torn = made(&rt, alloc, &[NONE; 3], 3, (4, Some(1)));
-    let mut disk = torn.expect(&rt, "a table that fits");
-    on_disk(&rt, alloc, &mut disk, &TORN);
+    on_disk(&rt, alloc, torn.expect(&rt, "a table that fits"), &TORN);
 }
 
-/// An image of that disk above one of twos, where there is memory for it.
-fn above_twos(rt: &impl Abort, alloc: Global, upper: Disk) -> Option<Image> {
-    let lower = FormatAccess::new(disk(rt, alloc, &[SECOND; 4], 4));
-    match Box::new(alloc, lower) {
-        Ok(below) => Some(FormatAccess::with_backing(upper, below)),
-        Err(_) => None,
-    }
+/// A disk of that table and of 4 bytes. A commit fails once it has made so many bytes show.
+fn upper(rt: &impl Abort, alloc: Global, table: &[Origin], fail: Option<u64>) -> Disk {
+    made(rt, alloc, table, 4, (4, fail)).expect(rt, "a table that fits")
 }
 
-/// An image of a disk of that table and size above one of twos. A commit fails once it has made so many bytes show.
-fn image_of(
+/// The calls on an image of such a disk above one of twos. Answers whether there was memory for both.
+fn on_once(
     rt: &impl Abort,
     alloc: Global,
-    table: &[Origin],
-    fail_commit_after: Option<u64>,
-) -> Image {
-    for _ in 0..2 {
-        let upper = made(rt, alloc, table, 4, (4, fail_commit_after));
-        let image = above_twos(rt, alloc, upper.expect(rt, "a table that fits"));
-        if let Some(image) = image {
-            return image;
-        }
-    }
-    rt.abort()
+    (table, fail): (&[Origin], Option<u64>),
+    calls: &[(Call, Answer)],
+) -> bool {
+    let twos = disk(rt, alloc, &[SECOND; 4], 4);
+    on_two(rt, alloc, (twos, &[]), upper(rt, alloc, table, fail), calls)
 }
 
-/// The calls on an image of such a disk.
-fn on(rt: &impl Abort, alloc: Global, image: &mut Image, calls: &[(Call, Answer)]) {
-    image::script(rt, alloc, image, calls);
+/// The calls on an image of such a disk above one of twos.
+fn on(rt: &impl Abort, alloc: Global, table: (&[Origin], Option<u64>), calls: &[(Call, Answer)]) {
+    let done = on_once(rt, alloc, table, calls) || on_once(rt, alloc, table, calls);
+    assert!(rt; done, "memory was refused twice");
 }
 
 /// On a byte of the first storage, one of the layer below, one of none, and a barred one.
@@ -301,8 +287,7 @@ const LAYERS: [(Call, Answer); 14] = [
 #[test]
 fn an_image_above_another(rt: HostRuntime) {
     let alloc = rt.alloc();
-    let mut image = image_of(&rt, alloc, &[FIRST, LOWER, NONE, BAR], None);
-    on(&rt, alloc, &mut image, &LAYERS);
+    on(&rt, alloc, (&[FIRST, LOWER, NONE, BAR], None), &LAYERS);
 }
 
 /// On the same, as a list.
@@ -319,8 +304,9 @@ const LISTED: [(Call, Answer); 8] = [
 
 /// Runs those calls. Answers whether there was memory for it.
 fn runs_listed(rt: &impl Abort, alloc: Global) -> bool {
-    let mut image = image_of(rt, alloc, &[FIRST, LOWER, NONE, BAR], None);
-    by_run(rt, alloc, &mut image, &LISTED, &mut Vec::new(alloc))
+    let twos = disk(rt, alloc, &[SECOND; 4], 4);
+    let upper = upper(rt, alloc, &[FIRST, LOWER, NONE, BAR], None);
+    run_two(rt, alloc, (twos, &[]), upper, &LISTED)
 }
 
 #[test]
@@ -329,58 +315,42 @@ fn a_run_over_a_place_that_may_not_be_read(rt: HostRuntime) {
     assert!(rt; runs_listed(&rt, alloc) || runs_listed(&rt, alloc));
 }
 
-/// Gives up the data of a range of an image.
-fn give_up(
-    rt: &impl Abort,
-    alloc: Global,
-    image: &mut Image,
-    give: Give,
-    (offset, count): (u64, u64),
-) -> Answer {
-    assert!(rt; is_spent(&*image));
-    match give {
-        Give::EnsureZero => done(image.write_zeroes(alloc, offset, count)),
-        Give::DiscardToZero => done(image.discard_to_zero(alloc, offset, count)),
-        Give::DiscardToAny => done(image.discard_to_any(alloc, offset, count)),
-        Give::DiscardToBacking => done(image.discard_to_backing(alloc, offset, count)),
-    }
-}
-
-/// A range that is given up, what that answers, and the bytes that the image begins with afterwards.
-type GivenUp = (Give, (u64, u64), Answer, &'static [u8]);
-
-/// Gives up these ranges of an image of that table.
-fn gives_up(rt: &impl Abort, alloc: Global, table: &[Origin], given: &[GivenUp]) {
-    let mut image = image_of(rt, alloc, table, None);
-    for (i, &(give, range, expected, bytes)) in given.iter().enumerate() {
-        let answer = give_up(rt, alloc, &mut image, give, range);
-        assert_eq!(rt; answer, expected, "call {i}");
-        on(rt, alloc, &mut image, &[(Call::Read(0, bytes), DONE)]);
-    }
-}
-
 /// On four bytes of the first storage.
-const GIVEN: [GivenUp; 5] = [
-    (Give::EnsureZero, (0, 1), DONE, &[0, 1, 1, 1]),
-    (Give::DiscardToZero, (1, 1), DONE, &[0, 0, 1, 1]),
-    (Give::DiscardToAny, (2, 1), DONE, &[0, 0, 2, 1]),
-    (Give::DiscardToBacking, (3, 1), DONE, &[0, 0, 2, 2]),
-    (Give::EnsureZero, (3, 2), BEYOND, &[0, 0, 2, 2]),
+const GIVEN: [(Call, Answer); 10] = [
+    (Call::Give(Give::EnsureZero, 0, 1), DONE),
+    (Call::Read(0, &[0, 1, 1, 1]), DONE),
+    (Call::Give(Give::DiscardToZero, 1, 1), DONE),
+    (Call::Read(0, &[0, 0, 1, 1]), DONE),
+    (Call::Give(Give::DiscardToAny, 2, 1), DONE),
+    (Call::Read(0, &[0, 0, 2, 1]), DONE),
+    (Call::Give(Give::DiscardToBacking, 3, 1), DONE),
+    (Call::Read(0, &[0, 0, 2, 2]), DONE),
+    (Call::Give(Give::EnsureZero, 3, 2), BEYOND),
+    (Call::Read(0, &[0, 0, 2, 2]), DONE),
 ];
 
 /// On two bytes of the first storage, a barred one, and one more of that storage. Those before the barred one are given up.
-const GIVEN_IN_PART: [GivenUp; 4] = [
-    (Give::EnsureZero, (1, 2), BARRED, &[1, 0]),
-    (Give::DiscardToBacking, (0, 4), BARRED, &[2, 2]),
-    (Give::DiscardToZero, (0, 3), BARRED, &[0, 0]),
-    (Give::DiscardToAny, (1, 3), BARRED, &[0, 2]),
+const GIVEN_IN_PART: [(Call, Answer); 8] = [
+    (Call::Give(Give::EnsureZero, 1, 2), BARRED),
+    (Call::Read(0, &[1, 0]), DONE),
+    (Call::Give(Give::DiscardToBacking, 0, 4), BARRED),
+    (Call::Read(0, &[2, 2]), DONE),
+    (Call::Give(Give::DiscardToZero, 0, 3), BARRED),
+    (Call::Read(0, &[0, 0]), DONE),
+    (Call::Give(Give::DiscardToAny, 1, 3), BARRED),
+    (Call::Read(0, &[0, 2]), DONE),
 ];
 
 #[test]
 fn each_way_to_give_up_bytes_reaches_the_driver(rt: HostRuntime) {
     let alloc = rt.alloc();
-    gives_up(&rt, alloc, &[FIRST; 4], &GIVEN);
-    gives_up(&rt, alloc, &[FIRST, FIRST, BAR, FIRST], &GIVEN_IN_PART);
+    on(&rt, alloc, (&[FIRST; 4], None), &GIVEN);
+    on(
+        &rt,
+        alloc,
+        (&[FIRST, FIRST, BAR, FIRST], None),
+        &GIVEN_IN_PART,
+    );
 }
 
 /// On four bytes of the layer below.
@@ -393,12 +363,7 @@ const COPIED: [(Call, Answer); 3] = [
 #[test]
 fn a_data_mapping_copies_what_is_below(rt: HostRuntime) {
     let alloc = rt.alloc();
-    on(
-        &rt,
-        alloc,
-        &mut image_of(&rt, alloc, &[LOWER; 4], None),
-        &COPIED,
-    );
+    on(&rt, alloc, (&[LOWER; 4], None), &COPIED);
 }
 
 /// On the same, whose commit fails once it has made one byte show.
@@ -411,12 +376,7 @@ const TORN_IMAGE: [(Call, Answer); 3] = [
 #[test]
 fn a_torn_commit_leaves_each_byte_old_or_new(rt: HostRuntime) {
     let alloc = rt.alloc();
-    on(
-        &rt,
-        alloc,
-        &mut image_of(&rt, alloc, &[LOWER; 4], Some(1)),
-        &TORN_IMAGE,
-    );
+    on(&rt, alloc, (&[LOWER; 4], Some(1)), &TORN_IMAGE);
 }
 
 /// On a disk of four bytes, of which the table has two.
@@ -429,10 +389,5 @@ const SHORT_IMAGE: [(Call, Answer); 3] = [
 #[test]
 fn a_disk_whose_places_end_before_its_size(rt: HostRuntime) {
     let alloc = rt.alloc();
-    on(
-        &rt,
-        alloc,
-        &mut image_of(&rt, alloc, &[FIRST; 2], None),
-        &SHORT_IMAGE,
-    );
+    on(&rt, alloc, (&[FIRST; 2], None), &SHORT_IMAGE);
 }

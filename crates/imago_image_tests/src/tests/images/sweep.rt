@@ -1,91 +1,472 @@
-//! A failure at each call of an image's write, with each tear, over several alignments.
+//! A failure at each call that a change makes of its storages, with each tear, over each driver: what it leaves, byte for
+//! byte, and that the image goes on from there.
+//!
+//! A new call is a row of `CALLS` or `DRIVER_CALLS`, a new storage one of the forms.
 use super::answer::Answer;
-use super::faults::{Image, on, opened, storage_of};
+use super::driver;
+use super::driver::Give;
 use super::image::Call;
-use super::set_up::{in_blocks, number, numbers};
+use super::rule::{Disk, Effect, How, New, is_refusal};
+use super::subject::{Fault, Form, Kind, Subject, first_disk};
+use imago_drivers::drivers::PreallocateMode;
 use imago_storage::error::Error;
-use imago_storage::mem::MemStorage;
-use imago_test_storages::faulty::{Faulty, Tear};
+use imago_test_storages::faulty::Tear;
 use std::alloc::Global;
 use std::process::Abort;
 
-/// The length of the storage, and the range that is written. It begins and ends inside a block of 8 and of 512.
-const SIZE: usize = 2048;
+/// A call, and what it does to the disk.
+type Row = (Call, Effect);
 
-const OFFSET: usize = 515;
+const DEVICE: Answer = Answer::Refused(Error::Device);
 
-const COUNT: usize = 1030;
-
-/// The first of the bytes before, and of those that are written. They differ from offset to offset.
-const OLD: u8 = 1;
-
-const NEW: u8 = 101;
+const MEMORY: Answer = Answer::Refused(Error::Memory);
 
 const TEARS: [Tear; 4] = [Tear::Nothing, Tear::All, Tear::First(3), Tear::Odd];
 
-/// The write of the range, and the same where the device fails.
-const WRITTEN: [(Call, Answer); 1] = [(Call::WriteNumbers(515, 1030, NEW), Answer::Done)];
+/// More calls than any change makes of its storages.
+const LIMIT: u64 = 300;
 
-const REFUSED: [(Call, Answer); 1] = [(
-    Call::WriteNumbers(515, 1030, NEW),
-    Answer::Refused(Error::Device),
-)];
+/// The offset and the length of the range that is changed. It begins and ends inside a block of 8 and of 512.
+const AT: u64 = 515;
 
-/// Whether each byte is as it was outside the range, and inside the new one, or, if it may be torn, the old one.
-fn is_written(bytes: &[u8], torn: bool) -> bool {
-    for (i, &byte) in bytes.iter().enumerate() {
-        let inside = i >= OFFSET && i < OFFSET + COUNT;
-        let old = byte == number(i, OLD);
-        let new = inside && byte == number(i.saturating_sub(OFFSET), NEW);
-        if !new && (inside && !torn || !old) {
-            return false;
+const COUNT: u64 = 1030;
+
+const RANGE: (u64, u64) = (AT, COUNT);
+
+/// The first bytes of a range.
+const BEGIN: (u64, u64) = (AT, 70);
+
+const ZEROES: New = New::Equal(0);
+
+const EES: New = New::Equal(0xee);
+
+/// Prepares so many bytes at the range's offset, and writes these into the mapping.
+macro_rules! prepared {
+    ($count:expr, $overwrite:expr, $bytes:expr, $commits:expr) => {
+        Call::Prepare {
+            offset: AT,
+            count: $count,
+            overwrite: $overwrite,
+            at: 0,
+            bytes: $bytes,
+            commits: $commits,
+        }
+    };
+}
+
+/// The same on the driver.
+macro_rules! driver_prepared {
+    ($count:expr, $overwrite:expr, $bytes:expr, $commits:expr) => {
+        Call::Drive(driver::Call::Prepare {
+            offset: AT,
+            count: $count,
+            overwrite: $overwrite,
+            at: 0,
+            bytes: $bytes,
+            commits: $commits,
+        })
+    };
+}
+
+/// The changing calls of an image.
+const CALLS: [Row; 17] = [
+    (
+        Call::WriteNumbers(AT, COUNT as usize, 101),
+        Effect::Changed(How::Done, RANGE, New::Numbers(101)),
+    ),
+    (
+        Call::Give(Give::EnsureZero, AT, COUNT),
+        Effect::Changed(How::Done, RANGE, ZEROES),
+    ),
+    (
+        Call::Give(Give::DiscardToZero, AT, COUNT),
+        Effect::Changed(How::Done, RANGE, ZEROES),
+    ),
+    (
+        Call::Give(Give::DiscardToAny, AT, COUNT),
+        Effect::Changed(How::Done, RANGE, New::Unspecified),
+    ),
+    (
+        Call::Give(Give::DiscardToBacking, AT, COUNT),
+        Effect::Changed(How::Partly, RANGE, New::Below),
+    ),
+    (Call::MapData(AT, COUNT, false), Effect::Kept),
+    (
+        Call::MapData(AT, COUNT, true),
+        Effect::Changed(How::Done, RANGE, New::Unspecified),
+    ),
+    (
+        prepared!(COUNT, false, &[0xee; 70], true),
+        Effect::Changed(How::Done, BEGIN, EES),
+    ),
+    (
+        prepared!(COUNT, false, &[0xee; 70], false),
+        Effect::Changed(How::Cancelled, BEGIN, EES),
+    ),
+    // bytes that aren't written are unspecified then
+    (
+        prepared!(70, true, &[0xee; 70], true),
+        Effect::Changed(How::Overwritten, BEGIN, EES),
+    ),
+    (
+        Call::Grow(2148, PreallocateMode::Zero),
+        Effect::Grown(2148, ZEROES),
+    ),
+    (
+        Call::Grow(2148, PreallocateMode::None),
+        Effect::Grown(2148, New::Unspecified),
+    ),
+    (
+        Call::Grow(2148, PreallocateMode::FormatAllocate),
+        Effect::Grown(2148, New::Below),
+    ),
+    (
+        Call::Resize(2148, PreallocateMode::Zero),
+        Effect::Grown(2148, ZEROES),
+    ),
+    (Call::Resize(1001, PreallocateMode::Zero), Effect::Cut(1001)),
+    (Call::Shrink(1001), Effect::Cut(1001)),
+    (
+        Call::Writev(AT, &[0xee; 70]),
+        Effect::Changed(How::Done, BEGIN, EES),
+    ),
+];
+
+/// The changing calls of a driver.
+const DRIVER_CALLS: [Row; 12] = [
+    (
+        Call::Drive(driver::Call::Give(Give::EnsureZero, AT, COUNT)),
+        Effect::Changed(How::Done, RANGE, ZEROES),
+    ),
+    (
+        Call::Drive(driver::Call::Give(Give::DiscardToZero, AT, COUNT)),
+        Effect::Changed(How::Done, RANGE, ZEROES),
+    ),
+    (
+        Call::Drive(driver::Call::Give(Give::DiscardToAny, AT, COUNT)),
+        Effect::Changed(How::Done, RANGE, New::Unspecified),
+    ),
+    (
+        Call::Drive(driver::Call::Give(Give::DiscardToBacking, AT, COUNT)),
+        Effect::Changed(How::Partly, RANGE, New::Below),
+    ),
+    (
+        Call::Drive(driver::Call::MapData(AT, COUNT)),
+        Effect::Changed(How::Done, RANGE, New::Unspecified),
+    ),
+    (
+        Call::Drive(driver::Call::WriteMapped(AT, &[0xee; 30])),
+        Effect::Changed(How::Done, (AT, 30), EES),
+    ),
+    (
+        driver_prepared!(COUNT, false, &[0xee; 30], true),
+        Effect::Changed(How::Done, (AT, 30), EES),
+    ),
+    (
+        driver_prepared!(COUNT, false, &[0xee; 30], false),
+        Effect::Changed(How::Cancelled, (AT, 30), EES),
+    ),
+    (
+        driver_prepared!(30, true, &[0xee; 30], true),
+        Effect::Changed(How::Overwritten, (AT, 30), EES),
+    ),
+    (
+        Call::Drive(driver::Call::Grow(2148, PreallocateMode::Zero)),
+        Effect::Grown(2148, ZEROES),
+    ),
+    (
+        Call::Drive(driver::Call::Grow(2148, PreallocateMode::FormatAllocate)),
+        Effect::Grown(2148, New::Below),
+    ),
+    (Call::Drive(driver::Call::Shrink(1001)), Effect::Cut(1001)),
+];
+
+/// What the image is used for after each refusal.
+const USES: [Row; 3] = [
+    (
+        Call::WriteNumbers(700, 133, 51),
+        Effect::Changed(How::Done, (700, 133), New::Numbers(51)),
+    ),
+    (
+        Call::Give(Give::EnsureZero, 650, 103),
+        Effect::Changed(How::Done, (650, 103), ZEROES),
+    ),
+    (
+        Call::Resize(2200, PreallocateMode::Zero),
+        Effect::Grown(2200, ZEROES),
+    ),
+];
+
+/// Makes a call once. What it leaves is what it may leave, and what the test goes on from.
+fn step(
+    rt: &impl Abort,
+    alloc: Global,
+    subject: &mut Subject,
+    disk: &mut Disk,
+    (call, effect): Row,
+) -> Answer {
+    let (answer, now) = subject.step(rt, alloc, call);
+    assert!(rt; disk.may_be(effect, answer, &now), "other bytes are left");
+    disk.bytes = now;
+    answer
+}
+
+/// Makes a call that succeeds once it has its memory.
+fn step_on(rt: &impl Abort, alloc: Global, subject: &mut Subject, disk: &mut Disk, row: Row) {
+    let mut answer = step(rt, alloc, subject, disk, row);
+    if answer == MEMORY {
+        answer = step(rt, alloc, subject, disk, row);
+    }
+    assert!(rt; !is_refusal(answer), "refused without a fault");
+}
+
+/// Makes a call that a fault is waiting for, and answers whether it met the fault. The image is used on then.
+fn is_refused(rt: &impl Abort, alloc: Global, form: Form, row: Row, fault: Fault) -> bool {
+    let mut disk = first_disk(rt, alloc, form.kind);
+    let mut subject = Subject::open(rt, alloc, form, fault);
+    let mut answer = step(rt, alloc, &mut subject, &mut disk, row);
+    if answer == MEMORY {
+        disk = first_disk(rt, alloc, form.kind);
+        subject = Subject::open(rt, alloc, form, fault);
+        answer = step(rt, alloc, &mut subject, &mut disk, row);
+    }
+    if !is_refusal(answer) {
+        assert_eq!(rt; subject.end(rt, alloc).0, 0);
+        return false;
+    }
+    assert_eq!(rt; answer, DEVICE);
+    step_on(rt, alloc, &mut subject, &mut disk, row);
+    for next in USES {
+        step_on(rt, alloc, &mut subject, &mut disk, next);
+    }
+    let (faults, below) = subject.end(rt, alloc);
+    assert_eq!(rt; faults, 1);
+    assert!(rt; below == disk.below, "the layer below has changed");
+    true
+}
+
+/// How many calls of the first storage, or of the second, a call makes: it is refused at each of them, and at none behind them.
+fn reached(rt: &impl Abort, alloc: Global, form: Form, row: Row, tear: Tear, second: bool) -> u64 {
+    for pass in 0..LIMIT {
+        let fault = if second {
+            Fault::Second(pass, tear)
+        } else {
+            Fault::First(pass, tear)
+        };
+        if !is_refused(rt, alloc, form, row, fault) {
+            return pass;
         }
     }
-    bytes.len() == SIZE
+    assert!(rt; false, "it fails without an end");
+    LIMIT
 }
 
-/// An image in blocks of that length, whose storage fails at that call.
-fn armed(rt: &impl Abort, alloc: Global, align: usize, pass: u64, tear: Tear) -> Image {
-    let bytes = numbers(rt, alloc, SIZE, OLD);
-    let inner = in_blocks(rt, MemStorage::new(bytes), align);
-    let mut storage = Faulty::new(inner);
-    storage.arm(pass, tear);
-    opened(rt, storage)
-}
-
-/// The bytes of the image are right, and its device has failed so often.
-fn is_left(rt: &impl Abort, image: &Image, torn: bool, faults: u64) {
-    let storage = storage_of(rt, image);
-    assert!(rt; is_written(storage.as_bytes(), torn));
-    assert_eq!(rt; storage.faults(), faults);
-}
-
-/// The write is refused at that call. Once the device has failed, it is made again and succeeds.
-fn is_refused(rt: &impl Abort, alloc: Global, align: usize, pass: u64, tear: Tear) {
-    let mut image = armed(rt, alloc, align, pass, tear);
-    on(rt, alloc, &mut image, &REFUSED);
-    is_left(rt, &image, true, 1);
-    on(rt, alloc, &mut image, &WRITTEN);
-    is_left(rt, &image, false, 1);
-}
-
-/// The write makes so many calls: it is refused at each of them, and at none behind them.
-fn makes(rt: &impl Abort, alloc: Global, align: usize, tear: Tear, calls: u64) {
-    for pass in 0..calls {
-        is_refused(rt, alloc, align, pass, tear);
+/// Sweeps over the rows with each tear, and with a refused resize.
+fn sweep(rt: &impl Abort, alloc: Global, form: Form, rows: &[Row]) {
+    for &row in rows {
+        for tear in TEARS {
+            reached(rt, alloc, form, row, tear, false);
+            if let Kind::Table | Kind::Chain = form.kind {
+                reached(rt, alloc, form, row, tear, true);
+            }
+        }
+        is_refused(rt, alloc, form, row, Fault::Resize);
     }
-    let mut image = armed(rt, alloc, align, calls, tear);
-    on(rt, alloc, &mut image, &WRITTEN);
-    is_left(rt, &image, false, 0);
 }
 
-// in blocks, one is read and written at each end, and those between are written
+/// Sweeps over the rows for storages with that alignment, with and without zero writes.
+fn sweep_both(rt: &impl Abort, alloc: Global, kind: Kind, align: usize, rows: &[Row]) {
+    for zeroes in [true, false] {
+        let form = Form {
+            kind,
+            align,
+            zeroes,
+        };
+        sweep(rt, alloc, form, rows);
+    }
+}
+
+/// Sweeps over the calls of a driver for storages with alignments of 1, 8 and 512, and a driver for each.
+fn sweep_driver(rt: &impl Abort, alloc: Global, kinds: [Kind; 3]) {
+    for (kind, align) in kinds.into_iter().zip([1, 8, 512]) {
+        sweep_both(rt, alloc, kind, align, &DRIVER_CALLS);
+    }
+}
+
 #[test]
-fn an_image_write_fails_at_each_call(rt: HostRuntime) {
+fn a_raw_image_over_bytes_fails_anywhere(rt: HostRuntime) {
+    sweep_both(&rt, rt.alloc(), Kind::Raw, 1, &CALLS);
+}
+
+#[test]
+fn a_raw_image_over_short_blocks_fails_anywhere(rt: HostRuntime) {
+    sweep_both(&rt, rt.alloc(), Kind::Raw, 8, &CALLS);
+}
+
+#[test]
+fn a_raw_image_over_long_blocks_fails_anywhere(rt: HostRuntime) {
+    sweep_both(&rt, rt.alloc(), Kind::Raw, 512, &CALLS);
+}
+
+#[test]
+fn an_image_in_pieces_over_bytes_fails_anywhere(rt: HostRuntime) {
+    sweep_both(&rt, rt.alloc(), Kind::Choppy(256), 1, &CALLS);
+}
+
+#[test]
+fn an_image_in_pieces_over_short_blocks_fails_anywhere(rt: HostRuntime) {
+    sweep_both(&rt, rt.alloc(), Kind::Choppy(256), 8, &CALLS);
+}
+
+#[test]
+fn an_image_in_pieces_over_long_blocks_fails_anywhere(rt: HostRuntime) {
+    sweep_both(&rt, rt.alloc(), Kind::Choppy(512), 512, &CALLS);
+}
+
+#[test]
+fn an_image_in_granules_over_bytes_fails_anywhere(rt: HostRuntime) {
+    sweep_both(&rt, rt.alloc(), Kind::Granular(256), 1, &CALLS);
+}
+
+#[test]
+fn an_image_in_granules_over_short_blocks_fails_anywhere(rt: HostRuntime) {
+    sweep_both(&rt, rt.alloc(), Kind::Granular(256), 8, &CALLS);
+}
+
+#[test]
+fn an_image_in_granules_over_long_blocks_fails_anywhere(rt: HostRuntime) {
+    sweep_both(&rt, rt.alloc(), Kind::Granular(512), 512, &CALLS);
+}
+
+#[test]
+fn a_table_over_bytes_fails_anywhere(rt: HostRuntime) {
+    sweep_both(&rt, rt.alloc(), Kind::Table, 1, &CALLS);
+}
+
+#[test]
+fn a_table_over_short_blocks_fails_anywhere(rt: HostRuntime) {
+    sweep_both(&rt, rt.alloc(), Kind::Table, 8, &CALLS);
+}
+
+#[test]
+fn a_table_over_long_blocks_fails_anywhere(rt: HostRuntime) {
+    sweep_both(&rt, rt.alloc(), Kind::Table, 512, &CALLS);
+}
+
+#[test]
+fn a_chain_over_bytes_fails_anywhere(rt: HostRuntime) {
+    sweep_both(&rt, rt.alloc(), Kind::Chain, 1, &CALLS);
+}
+
+#[test]
+fn a_chain_over_short_blocks_fails_anywhere(rt: HostRuntime) {
+    sweep_both(&rt, rt.alloc(), Kind::Chain, 8, &CALLS);
+}
+
+#[test]
+fn a_chain_over_long_blocks_fails_anywhere(rt: HostRuntime) {
+    sweep_both(&rt, rt.alloc(), Kind::Chain, 512, &CALLS);
+}
+
+#[test]
+fn a_raw_driver_fails_anywhere(rt: HostRuntime) {
+    sweep_driver(&rt, rt.alloc(), [Kind::Raw; 3]);
+}
+
+#[test]
+fn a_driver_in_pieces_fails_anywhere(rt: HostRuntime) {
+    let kinds = [Kind::Choppy(256), Kind::Choppy(256), Kind::Choppy(512)];
+    sweep_driver(&rt, rt.alloc(), kinds);
+}
+
+#[test]
+fn a_driver_in_granules_fails_anywhere(rt: HostRuntime) {
+    let kinds = [
+        Kind::Granular(256),
+        Kind::Granular(256),
+        Kind::Granular(512),
+    ];
+    sweep_driver(&rt, rt.alloc(), kinds);
+}
+
+#[test]
+fn a_driver_of_a_table_fails_anywhere(rt: HostRuntime) {
+    sweep_driver(&rt, rt.alloc(), [Kind::Table; 3]);
+}
+
+/// Makes each call once, and uses the image on. A call that is refused for memory leaves what it may, and succeeds at a second try.
+fn each_once(rt: &impl Abort, alloc: Global, kind: Kind, rows: &[Row]) {
+    let form = Form {
+        kind,
+        align: 8,
+        zeroes: false,
+    };
+    for &row in rows {
+        let mut disk = first_disk(rt, alloc, kind);
+        let mut subject = Subject::open(rt, alloc, form, Fault::Never);
+        step_on(rt, alloc, &mut subject, &mut disk, row);
+        for next in USES {
+            step_on(rt, alloc, &mut subject, &mut disk, next);
+        }
+    }
+}
+
+#[test]
+fn calls_of_a_raw_image_go_on_without_memory(rt: HostRuntime) {
+    each_once(&rt, rt.alloc(), Kind::Raw, &CALLS);
+}
+
+#[test]
+fn calls_of_an_image_in_granules_go_on_without_memory(rt: HostRuntime) {
+    each_once(&rt, rt.alloc(), Kind::Granular(256), &CALLS);
+}
+
+#[test]
+fn calls_of_a_table_go_on_without_memory(rt: HostRuntime) {
+    each_once(&rt, rt.alloc(), Kind::Table, &DRIVER_CALLS);
+}
+
+#[test]
+fn calls_of_a_chain_go_on_without_memory(rt: HostRuntime) {
+    each_once(&rt, rt.alloc(), Kind::Chain, &CALLS);
+}
+
+/// A driver and the alignment of its storage, a row, and how many calls it makes.
+///
+/// In blocks one is read and written at each end, where it is changed in part. The blocks between are written or zeroed at once, or
+/// granule by granule.
+const REACHED: [(Kind, usize, usize, u64); 15] = [
+    (Kind::Raw, 1, 0, 1),
+    (Kind::Raw, 8, 0, 5),
+    (Kind::Raw, 512, 0, 5),
+    (Kind::Raw, 1, 1, 1),
+    (Kind::Raw, 8, 1, 5),
+    (Kind::Raw, 512, 1, 5),
+    // three granules, and a write for each end
+    (Kind::Granular(256), 1, 1, 5),
+    // fifteen, and whole blocks at each end besides
+    (Kind::Granular(64), 8, 1, 21),
+    // one
+    (Kind::Granular(512), 512, 1, 5),
+    (Kind::Raw, 1, 2, 1),
+    (Kind::Raw, 8, 2, 5),
+    (Kind::Raw, 512, 2, 5),
+    (Kind::Granular(256), 1, 2, 5),
+    (Kind::Granular(64), 8, 2, 21),
+    (Kind::Granular(512), 512, 2, 5),
+];
+
+#[test]
+fn a_change_makes_so_many_calls(rt: HostRuntime) {
     let alloc = rt.alloc();
-    for tear in TEARS {
-        makes(&rt, alloc, 1, tear, 1);
-        makes(&rt, alloc, 8, tear, 5);
-        makes(&rt, alloc, 512, tear, 5);
+    for (kind, align, row, calls) in REACHED {
+        let form = Form {
+            kind,
+            align,
+            zeroes: true,
+        };
+        let row = *CALLS.get(row).expect(&rt, "a row");
+        let found = reached(&rt, alloc, form, row, Tear::Odd, false);
+        assert_eq!(rt; found, calls, "{align}");
     }
 }

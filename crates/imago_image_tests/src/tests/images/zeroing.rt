@@ -2,13 +2,11 @@
 use super::answer::Answer;
 use super::driver;
 use super::driver::Give;
-use super::image::{Call, script};
+use super::image::{Call, on_raw};
 use super::mem::{on_bytes, on_read_only, on_storage};
-use super::reached::{holds, on as on_recording, opened, was_reached};
+use super::reached::{holds, on as on_recording, recording, was_reached};
 use super::set_up::runs;
 use super::zeroes::on_zeroes;
-use imago_access::access::FormatAccess;
-use imago_drivers::raw::Raw;
 use imago_storage::error::Error;
 use imago_storage::mem::MemStorage;
 use imago_storage::storage::ZeroKind;
@@ -213,24 +211,16 @@ const LEFT: [[(usize, u8); 3]; 7] = [
 fn zero_writes_and_discards_of_an_image_reach_the_storage(rt: HostRuntime) {
     let alloc = rt.alloc();
     for ((call, reached), left) in REACHED.iter().zip(LEFT) {
-        let mut image = FormatAccess::new(opened(&rt, alloc));
-        on_recording(&rt, alloc, &mut image, &[(*call, DONE)]);
-        was_reached(&rt, image.inner(), reached);
-        holds(&rt, alloc, image.inner(), &left);
+        let mut storage = recording(&rt, alloc);
+        on_recording(&rt, alloc, &mut storage, &[(*call, DONE)]);
+        was_reached(&rt, &storage, reached);
+        holds(&rt, alloc, &storage, &left);
     }
-}
-
-/// An image of zeroes in blocks of 4096.
-type WideImage = FormatAccess<Raw<WideNull>>;
-
-/// The calls on such an image.
-fn on_wide(rt: &impl Abort, alloc: Global, image: &mut WideImage, calls: &[(Call, Answer)]) {
-    script(rt, alloc, image, calls);
 }
 
 const WRAPS: Answer = Answer::Refused(Error::WrapAround);
 
-/// On as many zeroes as there are offsets. Their last block would end past them.
+/// On as many zeroes as there are offsets, in blocks of 4096. Their last block would end past them.
 const LAST_BLOCK: [(Call, Answer); 10] = [
     (Call::Read(u64::MAX - 4096, &[0]), DONE),
     (Call::Read(u64::MAX - 4095, &[0]), WRAPS),
@@ -247,6 +237,5 @@ const LAST_BLOCK: [(Call, Answer); 10] = [
 
 #[test]
 fn the_last_block_of_the_longest_disk_wraps_around(rt: HostRuntime) {
-    let raw = Raw::open_image(WideNull::new(u64::MAX), true).expect(&rt, "a raw image");
-    on_wide(&rt, rt.alloc(), &mut FormatAccess::new(raw), &LAST_BLOCK);
+    on_raw(&rt, rt.alloc(), WideNull::new(u64::MAX), true, &LAST_BLOCK);
 }

@@ -11,8 +11,24 @@ use imago_storage::storage::Storage;
 use std::alloc::Global;
 use std::process::Abort;
 
-/// Makes a call once.
+/// What a call answers, and the length of the storage then.
+pub(super) type Told = (Result<(), Error>, Result<u64, Error>);
+
+/// Makes a call once, on a storage of that name.
 pub(super) fn make<S: Storage>(
+    rt: &impl Abort,
+    alloc: Global,
+    storage: &mut S,
+    name: Option<&str>,
+    call: Call,
+) -> Told {
+    let answer = make_call(rt, alloc, storage, call);
+    assert_eq!(rt; Storage::get_filename(&*storage), name);
+    (answer, Storage::size(&*storage))
+}
+
+/// Makes a call once.
+fn make_call<S: Storage>(
     rt: &impl Abort,
     alloc: Global,
     storage: &mut S,

@@ -120,53 +120,32 @@ fn beside<S: Storage>(alloc: Global, storage: &S) -> Result<String, Error> {
     }
 }
 
-/// A name relative to that storage is this one.
-fn is_beside(rt: &impl Abort, name: Result<String, Error>, expected: &str) {
-    assert_eq!(rt; name.expect(rt, "a name").as_str(), expected);
+/// What a storage tells of itself.
+#[derive(Clone, Copy)]
+struct Told {
+    /// Its alignments of memory, of requests, of zero writes and of discards.
+    aligns: (usize, usize, usize, usize),
+    /// The lengths of the blocks that it zeroes and discards.
+    blocks: (u64, u64),
+    size: u64,
+    name: Option<&'static str>,
+    /// What `b.img` beside it is called, or none where there are no names.
+    beside: Option<&'static str>,
 }
 
-#[test]
-fn names_in_memory_are_kept_as_they_are(rt: HostRuntime) {
-    let alloc = rt.alloc();
-    let mut storage = memory(&rt, alloc, (1, 1, 1));
-    is_beside(&rt, beside(alloc, &storage), "b.img");
-    let lent = &mut storage;
-    is_beside(&rt, beside(alloc, &lent), "b.img");
-    assert_eq!(rt; Storage::get_filename(&lent), Some("a.img"));
-}
-
-#[test]
-fn names_are_relative_to_a_lent_storage(rt: HostRuntime) {
-    let alloc = rt.alloc();
-    let mut storage = Recording::new(memory(&rt, alloc, (1, 1, 1)));
-    let lent = &mut storage;
-    is_beside(&rt, beside(alloc, &lent), "beside/b.img");
-}
-
-#[test]
-fn no_names_are_relative_to_zeroes(rt: HostRuntime) {
-    let refused = Null::new(1).resolve_relative_path(rt.alloc(), "b.img");
-    assert!(rt; refused.is_err_and(|e| e == Error::Unsupported));
-    assert_eq!(rt; Null::new(1).get_filename(), None);
-}
-
-#[test]
-fn memory_has_bytes_and_a_name(rt: HostRuntime) {
-    let alloc = rt.alloc();
-    let storage = MemStorage::new(runs(&rt, alloc, &[(2, 5), (1, 6)]));
-    assert_eq!(rt; storage.as_bytes(), [5, 5, 6].as_slice());
-    assert_eq!(rt; storage.get_filename(), None);
-    assert_eq!(rt; storage.size(), Ok(3));
-    assert_eq!(rt; storage.into_bytes().as_slice(), [5, 5, 6].as_slice());
-    let storage = memory(&rt, alloc, (1, 1, 1));
-    assert_eq!(rt; storage.get_filename(), Some("a.img"));
-    assert_eq!(rt; storage.as_bytes(), [4].as_slice());
-}
-
-/// One byte in memory, with these alignments.
-fn memory(rt: &impl Abort, alloc: Global, aligns: (usize, usize, usize)) -> MemStorage {
-    let bytes = runs(rt, alloc, &[(1, 4)]);
-    stored(rt, owned(rt, alloc, "a.img"), bytes, aligns)
+/// A storage tells that.
+fn tells<S: Storage>(rt: &impl Abort, alloc: Global, storage: &S, told: &Told) {
+    assert_eq!(rt; alignments(storage), told.aligns);
+    assert_eq!(rt; (zero_align(storage), discard_align(storage)), told.blocks);
+    assert_eq!(rt; storage.size(), Ok(told.size));
+    assert_eq!(rt; storage.get_filename(), told.name);
+    match beside(alloc, storage) {
+        Ok(name) => assert_eq!(rt; Some(name.as_str()), told.beside),
+        Err(refusal) => {
+            assert_eq!(rt; refusal, Error::Unsupported);
+            assert_eq!(rt; told.beside, None);
+        }
+    }
 }
 
 /// The alignments of memory, of requests, of zero writes and of discards.
@@ -179,29 +158,114 @@ fn alignments<S: Storage>(storage: &S) -> (usize, usize, usize, usize) {
     )
 }
 
-/// Those of a storage in memory.
-fn memory_alignments(storage: &MemStorage) -> (usize, usize, usize, usize) {
-    alignments(storage)
+fn memory_tells(rt: &impl Abort, alloc: Global, storage: &MemStorage, told: &Told) {
+    tells(rt, alloc, storage, told);
+}
+
+/// One byte in memory, with these alignments.
+fn memory(rt: &impl Abort, alloc: Global, aligns: (usize, usize, usize)) -> MemStorage {
+    let bytes = runs(rt, alloc, &[(1, 4)]);
+    stored(rt, owned(rt, alloc, "a.img"), bytes, aligns)
+}
+
+/// One byte in blocks of one.
+const ONE_BYTE: Told = Told {
+    aligns: (1, 1, 1, 1),
+    blocks: (1, 1),
+    size: 1,
+    name: Some("a.img"),
+    beside: Some("b.img"),
+};
+
+#[test]
+fn names_in_memory_are_kept_as_they_are(rt: HostRuntime) {
+    let alloc = rt.alloc();
+    let mut storage = memory(&rt, alloc, (1, 1, 1));
+    memory_tells(&rt, alloc, &storage, &ONE_BYTE);
+    let lent = &mut storage;
+    tells(&rt, alloc, &lent, &ONE_BYTE);
+}
+
+/// One byte in blocks of one of a storage whose names are in a folder.
+const BESIDE: Told = Told {
+    aligns: (1, 1, 1, 1),
+    blocks: (1, 1),
+    size: 1,
+    name: Some("a.img"),
+    beside: Some("beside/b.img"),
+};
+
+#[test]
+fn names_are_relative_to_a_lent_storage(rt: HostRuntime) {
+    let alloc = rt.alloc();
+    let mut storage = Recording::new(memory(&rt, alloc, (1, 1, 1)));
+    let lent = &mut storage;
+    tells(&rt, alloc, &lent, &BESIDE);
+}
+
+/// Four zeroes.
+const FOUR_ZEROES: Told = Told {
+    aligns: (1, 1, 1, 1),
+    blocks: (1, 1),
+    size: 4,
+    name: None,
+    beside: None,
+};
+
+#[test]
+fn no_names_are_relative_to_zeroes(rt: HostRuntime) {
+    tells(&rt, rt.alloc(), &Null::new(4), &FOUR_ZEROES);
+}
+
+#[test]
+fn memory_has_bytes(rt: HostRuntime) {
+    let alloc = rt.alloc();
+    let storage = MemStorage::new(runs(&rt, alloc, &[(2, 5), (1, 6)]));
+    assert_eq!(rt; storage.as_bytes(), [5, 5, 6].as_slice());
+    assert_eq!(rt; storage.into_bytes().as_slice(), [5, 5, 6].as_slice());
+    let storage = memory(&rt, alloc, (1, 1, 1));
+    assert_eq!(rt; storage.as_bytes(), [4].as_slice());
+}
+
+/// Memory without a name, with these alignments. Its blocks are as long as these are.
+fn unnamed(aligns: (usize, usize, usize, usize), size: u64) -> Told {
+    Told {
+        aligns,
+        blocks: (aligns.2 as u64, aligns.3 as u64),
+        size,
+        name: None,
+        beside: Some("b.img"),
+    }
 }
 
 #[test]
 fn memory_has_alignments(rt: HostRuntime) {
-    let storage = MemStorage::new(Vec::new(rt.alloc()));
-    assert_eq!(rt; memory_alignments(&storage), (1, 1, 1, 1));
+    let alloc = rt.alloc();
+    let storage = MemStorage::new(Vec::new(alloc));
+    memory_tells(&rt, alloc, &storage, &unnamed((1, 1, 1, 1), 0));
     let storage = storage.with_align(512);
-    assert_eq!(rt; memory_alignments(&storage), (512, 512, 512, 512));
+    memory_tells(&rt, alloc, &storage, &unnamed((512, 512, 512, 512), 0));
     let storage = storage.with_zero_align(4096);
-    assert_eq!(rt; memory_alignments(&storage), (512, 512, 4096, 512));
+    memory_tells(&rt, alloc, &storage, &unnamed((512, 512, 4096, 512), 0));
     let storage = storage.with_aligns(8, 2);
-    assert_eq!(rt; memory_alignments(&storage), (8, 2, 2, 2));
-    assert_eq!(rt; alignments(&Null::new(4)), (1, 1, 1, 1));
+    memory_tells(&rt, alloc, &storage, &unnamed((8, 2, 2, 2), 0));
 }
+
+/// One byte whose alignments differ.
+const DIFFERENT: Told = Told {
+    aligns: (2, 1, 16, 1),
+    blocks: (16, 1),
+    size: 1,
+    name: Some("a.img"),
+    beside: Some("b.img"),
+};
 
 #[test]
 fn a_lent_storage_has_its_own_alignments(rt: HostRuntime) {
-    let mut storage = memory(&rt, rt.alloc(), (2, 1, 16));
+    let alloc = rt.alloc();
+    let mut storage = memory(&rt, alloc, (2, 1, 16));
     let lent = &mut storage;
-    assert_eq!(rt; alignments(&lent), (2, 1, 16, 1));
+    tells(&rt, alloc, &lent, &DIFFERENT);
 }
 
 #[test]
@@ -209,10 +273,10 @@ fn what_is_inside_comes_back_as_it_was(rt: HostRuntime) {
     let alloc = rt.alloc();
     let inside = MemStorage::new(runs(&rt, alloc, &[(1, 4)])).with_aligns(8, 2);
     let storage = Faulty::new(inside.with_zero_align(16));
-    assert_eq!(rt; alignments(&storage), (8, 2, 16, 2));
-    assert_eq!(rt; storage.get_filename(), None);
+    let told = unnamed((8, 2, 16, 2), 1);
+    tells(&rt, alloc, &storage, &told);
     let inner = storage.into_inner();
-    assert_eq!(rt; memory_alignments(&inner), (8, 2, 16, 2));
+    memory_tells(&rt, alloc, &inner, &told);
     assert_eq!(rt; inner.as_bytes(), [4].as_slice());
 }
 
@@ -228,9 +292,6 @@ fn alignments_are_powers_of_two(rt: HostRuntime) {
 
 #[test]
 fn a_range_has_an_aligned_part(rt: HostRuntime) {
-    let storage = memory(&rt, rt.alloc(), (4, 4, 8));
-    assert_eq!(rt; zero_align(&storage), 8);
-    assert_eq!(rt; discard_align(&storage), 4);
     assert_eq!(rt; aligned_part(8, 3, 13), Some((8, 16)));
     assert_eq!(rt; aligned_part(4096, u64::MAX - 10, 5), None);
 }

@@ -1,6 +1,7 @@
 //! Scripts: calls on a storage, with what each has to answer and to leave.
 //!
 //! A test's run refuses one request for memory at most. So what is refused is made again, and has its memory then.
+use super::make::Told;
 use super::set_up::{copied, is_old_or_new, owned, runs, total};
 use super::subject::{Kind, Subject};
 use imago_storage::error::Error;
@@ -127,8 +128,8 @@ impl State {
         match step {
             Step::Done(call, left) => self.make(rt, alloc, call, Ok(()), left),
             Step::AtOnce(call, left) => {
-                let answer = self.subject.make(rt, alloc, call);
-                self.is_left(rt, alloc, call, answer, Ok(()), left);
+                let told = self.subject.make(rt, alloc, call);
+                self.is_left(rt, alloc, call, told, Ok(()), left);
             }
             Step::Refused(call, error, left) => self.make(rt, alloc, call, Err(error), left),
             Step::Arm(pass, tear) => {
@@ -153,17 +154,17 @@ impl State {
     ) {
         let before = copied(rt, alloc, self.subject.bytes());
         let after = runs_of(rt, alloc, &self.subject, left);
-        let mut answer = self.subject.make(rt, alloc, call);
-        if answer == Err(Error::Memory) && expected != answer {
+        let mut told = self.subject.make(rt, alloc, call);
+        if told.0 == Err(Error::Memory) && expected != told.0 {
             let now = self.subject.bytes();
             assert!(rt;
                 is_old_or_new(&before, &after, now),
                 "bytes that may not stand there"
             );
             self.arm_again(rt);
-            answer = self.subject.make(rt, alloc, call);
+            told = self.subject.make(rt, alloc, call);
         }
-        self.is_left(rt, alloc, call, answer, expected, left);
+        self.is_left(rt, alloc, call, told, expected, left);
     }
 
     /// A call was answered as it has to be, and left what it has to.
@@ -172,7 +173,7 @@ impl State {
         rt: &impl Abort,
         alloc: Global,
         call: Call,
-        answer: Result<(), Error>,
+        (answer, size): Told,
         expected: Result<(), Error>,
         left: Runs,
     ) {
@@ -180,7 +181,7 @@ impl State {
         self.count(call, answer);
         let bytes = runs_of(rt, alloc, &self.subject, left);
         assert!(rt; self.subject.bytes() == bytes.as_slice(), "other bytes");
-        self.subject.is_named(rt, total(left));
+        assert_eq!(rt; size, Ok(total(left)));
         assert_eq!(rt; self.subject.faults(self.faults), self.faults);
     }
 

@@ -1,10 +1,9 @@
 //! The storages that scripts are made on. Each function names the types of one, so that the proofs of the tests stay short.
-use super::make::make;
+use super::make::{Told, make};
 use super::script::{Call, NAME};
-use imago_storage::error::Error;
 use imago_storage::mem::MemStorage;
 use imago_storage::null::Null;
-use imago_storage::storage::{Storage, is_alignment};
+use imago_storage::storage::is_alignment;
 use imago_test_storages::counting::{Counting, Counts};
 use imago_test_storages::faulty::{Faulty, Tear};
 use imago_test_storages::recording::{Recorded, Recording};
@@ -88,7 +87,7 @@ impl Subject {
     }
 
     /// Makes a call once. A storage that records forgets what was before.
-    pub(super) fn make(&mut self, rt: &impl Abort, alloc: Global, call: Call) -> Result<(), Error> {
+    pub(super) fn make(&mut self, rt: &impl Abort, alloc: Global, call: Call) -> Told {
         match self {
             Subject::Memory(storage) => make_on_memory(rt, alloc, storage, call),
             Subject::Zeroes(storage) => make_on_zeroes(rt, alloc, storage, call),
@@ -117,26 +116,6 @@ impl Subject {
             Subject::Counting(storage) => storage.as_bytes(),
             Subject::Recording(storage) | Subject::Lent(storage) => storage.as_bytes(),
         }
-    }
-
-    /// It has that length, and its name.
-    pub(super) fn is_named(&self, rt: &impl Abort, size: u64) {
-        let (got, name) = match self {
-            Subject::Memory(storage) => (storage.size(), storage.get_filename()),
-            Subject::Zeroes(storage) => (storage.size(), storage.get_filename()),
-            Subject::Faulty(storage) | Subject::LentFaulty(storage) => (
-                storage.size(),
-                storage.get_filename(),
-            ),
-            Subject::Counting(storage) => (storage.size(), storage.get_filename()),
-            Subject::Recording(storage) | Subject::Lent(storage) => (
-                storage.size(),
-                storage.get_filename(),
-            ),
-        };
-        assert_eq!(rt; got, Ok(size));
-        let expected = if self.shows_bytes() { Some(NAME) } else { None };
-        assert_eq!(rt; name, expected);
     }
 
     /// How often the device has failed in an exclusive call, or what is expected where it isn't counted.
@@ -196,69 +175,34 @@ impl Subject {
     }
 }
 
-fn make_on_memory(
-    rt: &impl Abort,
-    alloc: Global,
-    storage: &mut MemStorage,
-    call: Call,
-) -> Result<(), Error> {
-    make(rt, alloc, storage, call)
+fn make_on_memory(rt: &impl Abort, alloc: Global, storage: &mut MemStorage, call: Call) -> Told {
+    make(rt, alloc, storage, Some(NAME), call)
 }
 
-fn make_on_zeroes(
-    rt: &impl Abort,
-    alloc: Global,
-    storage: &mut Null,
-    call: Call,
-) -> Result<(), Error> {
-    make(rt, alloc, storage, call)
+fn make_on_zeroes(rt: &impl Abort, alloc: Global, storage: &mut Null, call: Call) -> Told {
+    make(rt, alloc, storage, None, call)
 }
 
-fn make_on_faulty(
-    rt: &impl Abort,
-    alloc: Global,
-    storage: &mut Faulty,
-    call: Call,
-) -> Result<(), Error> {
-    make(rt, alloc, storage, call)
+fn make_on_faulty(rt: &impl Abort, alloc: Global, storage: &mut Faulty, call: Call) -> Told {
+    make(rt, alloc, storage, Some(NAME), call)
 }
 
-fn make_on_lent_faulty(
-    rt: &impl Abort,
-    alloc: Global,
-    storage: &mut Faulty,
-    call: Call,
-) -> Result<(), Error> {
+fn make_on_lent_faulty(rt: &impl Abort, alloc: Global, storage: &mut Faulty, call: Call) -> Told {
     let mut lent = storage;
-    make(rt, alloc, &mut lent, call)
+    make(rt, alloc, &mut lent, Some(NAME), call)
 }
 
-fn make_on_counting(
-    rt: &impl Abort,
-    alloc: Global,
-    storage: &mut Counting,
-    call: Call,
-) -> Result<(), Error> {
-    make(rt, alloc, storage, call)
+fn make_on_counting(rt: &impl Abort, alloc: Global, storage: &mut Counting, call: Call) -> Told {
+    make(rt, alloc, storage, Some(NAME), call)
 }
 
-fn make_on_recording(
-    rt: &impl Abort,
-    alloc: Global,
-    storage: &mut Recording,
-    call: Call,
-) -> Result<(), Error> {
+fn make_on_recording(rt: &impl Abort, alloc: Global, storage: &mut Recording, call: Call) -> Told {
     storage.clear();
-    make(rt, alloc, storage, call)
+    make(rt, alloc, storage, Some(NAME), call)
 }
 
-fn make_on_lent(
-    rt: &impl Abort,
-    alloc: Global,
-    storage: &mut Recording,
-    call: Call,
-) -> Result<(), Error> {
+fn make_on_lent(rt: &impl Abort, alloc: Global, storage: &mut Recording, call: Call) -> Told {
     storage.clear();
     let mut lent = storage;
-    make(rt, alloc, &mut lent, call)
+    make(rt, alloc, &mut lent, Some(NAME), call)
 }

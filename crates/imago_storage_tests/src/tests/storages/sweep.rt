@@ -48,8 +48,8 @@ fn make_for_sure(
     subject: &mut Subject,
     change: &Change,
 ) -> Result<(), Error> {
-    match subject.make(rt, alloc, change.call) {
-        Err(Error::Memory) => subject.make(rt, alloc, change.call),
+    match subject.make(rt, alloc, change.call).0 {
+        Err(Error::Memory) => subject.make(rt, alloc, change.call).0,
         answer => answer,
     }
 }
@@ -65,14 +65,14 @@ fn is_refused(
     tear: Tear,
 ) -> bool {
     let mut subject = armed(rt, alloc, align, change, pass, tear);
-    let mut answer = subject.make(rt, alloc, change.call);
+    let mut answer = subject.make(rt, alloc, change.call).0;
     if answer == Err(Error::Memory) {
         assert!(rt;
             is_old_or_new(change.before, change.after, subject.bytes()),
             "no memory at {pass}"
         );
         subject = armed(rt, alloc, align, change, pass, tear);
-        answer = subject.make(rt, alloc, change.call);
+        answer = subject.make(rt, alloc, change.call).0;
     }
     if answer == Ok(()) {
         assert!(rt; subject.bytes() == change.after, "done at {pass}");
@@ -102,16 +102,16 @@ fn calls(rt: &impl Abort, alloc: Global, align: usize, change: &Change, tear: Te
 }
 
 /// The bytes before a change, each of which tells its offset, and the bytes behind it.
-fn bytes(rt: &impl Abort, alloc: Global, written: bool) -> (Vec<u8>, Vec<u8>) {
+fn bytes(rt: &impl Abort, alloc: Global, written: Option<bool>) -> (Vec<u8>, Vec<u8>) {
     let mut before = offsets(rt, alloc, 0, SIZE);
     for byte in before.iter_mut() {
         *byte = byte.saturating_sub(100);
     }
     let mut after = copied(rt, alloc, &before);
-    let source = if written {
-        offsets(rt, alloc, OFFSET as u64, COUNT)
-    } else {
-        runs(rt, alloc, &[(COUNT, 0)])
+    let source = match written {
+        Some(true) => offsets(rt, alloc, OFFSET as u64, COUNT),
+        Some(false) => runs(rt, alloc, &[(COUNT, 0)]),
+        None => Vec::new(alloc),
     };
     for (i, byte) in source.iter().enumerate() {
         if let Some(place) = after.get_mut(OFFSET.saturating_add(i)) {
@@ -121,42 +121,72 @@ fn bytes(rt: &impl Abort, alloc: Global, written: bool) -> (Vec<u8>, Vec<u8>) {
     (before, after)
 }
 
-/// Sweeps over the alignments and tears. In blocks of 1 byte the change makes one call. In others a block is read and written at each
-/// end, and the blocks between are written.
-fn sweep(rt: &impl Abort, alloc: Global, kind: Kind, call: Call, written: bool) {
-    let (before, after) = bytes(rt, alloc, written);
-    let change = Change {
-        kind,
-        call,
-        before: &before,
-        after: &after,
-    };
-    for tear in TEARS {
-        for (align, expected) in [(1, 1), (8, 5), (512, 5)] {
-            let made = calls(rt, alloc, align, &change, tear);
-            assert_eq!(rt; made, expected, "{align}");
+/// A change, the storage that it is made on, whether it writes bytes, zeroes or nothing, and how many calls it makes over blocks of
+/// 1, of 8 and of 512 bytes.
+///
+/// In blocks of 1 byte a change makes one call. In others a block is read and written at each end, and the blocks between
+/// are written. Without zero writes what stands before the first block is written as data, and what follows: both
+/// read and write a block, and the second one writes whole blocks too.
+const CHANGES: [(Kind, Call, Option<bool>, [u64; 3]); 8] = [
+    (
+        Kind::Faulty,
+        Call::WriteOffsets(515, 1030),
+        Some(true),
+        [1, 5, 5],
+    ),
+    (
+        Kind::FaultyUnzeroed,
+        Call::WriteOffsets(515, 1030),
+        Some(true),
+        [1, 5, 5],
+    ),
+    (Kind::Faulty, Call::Zero(515, 1030), Some(false), [1, 5, 5]),
+    (
+        Kind::FaultyUnzeroed,
+        Call::Zero(515, 1030),
+        Some(false),
+        [1, 5, 5],
+    ),
+    (
+        Kind::Faulty,
+        Call::ZeroAllocated(515, 1030),
+        Some(false),
+        [1, 5, 5],
+    ),
+    (
+        Kind::FaultyUnzeroed,
+        Call::ZeroAllocated(515, 1030),
+        Some(false),
+        [1, 5, 5],
+    ),
+    // bytes in memory stay where they are discarded
+    (Kind::Faulty, Call::Discard(515, 1030), None, [1, 1, 1]),
+    (
+        Kind::FaultyUnzeroed,
+        Call::Discard(515, 1030),
+        None,
+        [1, 1, 1],
+    ),
+];
+
+#[test]
+fn a_change_fails_at_each_call(rt: HostRuntime) {
+    let alloc = rt.alloc();
+    for (kind, call, written, expected) in CHANGES {
+        let (before, after) = bytes(&rt, alloc, written);
+        let change = Change {
+            kind,
+            call,
+            before: &before,
+            after: &after,
+        };
+        for tear in TEARS {
+            for (align, expected) in [1, 8, 512].into_iter().zip(expected) {
+                let made = calls(&rt, alloc, align, &change, tear);
+                assert_eq!(rt; made, expected, "{align}");
+            }
         }
     }
-}
-
-#[test]
-fn a_write_fails_at_each_call(rt: HostRuntime) {
-    let call = Call::WriteOffsets(OFFSET as u64, COUNT);
-    sweep(&rt, rt.alloc(), Kind::Faulty, call, true);
-}
-
-#[test]
-fn a_zero_write_fails_at_each_call(rt: HostRuntime) {
-    let call = Call::Zero(OFFSET as u64, COUNT as u64);
-    sweep(&rt, rt.alloc(), Kind::Faulty, call, false);
-    // up to the first block as data, and from there on: both read and write a block, and whole blocks are written
-    sweep(&rt, rt.alloc(), Kind::FaultyUnzeroed, call, false);
-}
-
-#[test]
-fn an_allocated_zero_write_fails_at_each_call(rt: HostRuntime) {
-    let call = Call::ZeroAllocated(OFFSET as u64, COUNT as u64);
-    sweep(&rt, rt.alloc(), Kind::Faulty, call, false);
 }
 
 /// What is left at an offset: zero in the first MiB, and at each odd offset of the second one.
@@ -186,10 +216,10 @@ fn a_zero_write_as_data_stops_in_its_second_piece(rt: HostRuntime) {
         after: &[],
     };
     let mut subject = armed(&rt, alloc, 1, &change, 1, Tear::Odd);
-    let mut answer = subject.make(&rt, alloc, change.call);
+    let mut answer = subject.make(&rt, alloc, change.call).0;
     if answer == Err(Error::Memory) {
         subject = armed(&rt, alloc, 1, &change, 1, Tear::Odd);
-        answer = subject.make(&rt, alloc, change.call);
+        answer = subject.make(&rt, alloc, change.call).0;
     }
     assert_eq!(rt; answer, Err(Error::Device));
     assert!(rt; is_zeroed_into_its_second_piece(subject.bytes()));

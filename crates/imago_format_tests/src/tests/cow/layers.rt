@@ -1,0 +1,169 @@
+//! Three copy-on-write disks above one another.
+use super::call::{Answer, Call, Level};
+use super::set_up::printed;
+use super::subject::{Fault, Image, PLAIN, above, contents_of, created, lent, make_on};
+use imago_access::access::FormatAccess;
+use imago_access::mapping::Mapping;
+use imago_storage::error::Error;
+use std::alloc::Global;
+use std::process::Abort;
+
+/// A disk's size, its block's length, and what is done to it.
+type Layer = (u64, u64, &'static [Call]);
+
+/// The bytes 1 to 12, four explicit zeroes, and a guest block that leads nowhere.
+const BOTTOM: Layer = (20, 4, &[Call::Write(0, 12, 1), Call::WriteZeroes(12, 4)]);
+
+/// The bytes 4 and 5 are written, 8 to 12 are explicit zeroes, and the last guest block is given back.
+const MIDDLE: Layer = (
+    24,
+    4,
+    &[
+        Call::Write(20, 4, 31),
+        Call::DiscardToBacking(20, 4),
+        Call::Write(4, 2, 21),
+        Call::WriteZeroes(8, 4),
+    ],
+);
+
+/// The byte 9 is written.
+const TOP: Layer = (32, 8, &[Call::Write(9, 1, 41)]);
+
+/// What the lower layers show.
+const OF_BOTTOM: [u8; 20] = [
+    1, 2, 3, 4, 5, 6, 7, 8, 9, 10, 11, 12, 0, 0, 0, 0, 0, 0, 0, 0,
+];
+
+const OF_MIDDLE: [u8; 24] = [
+    1, 2, 3, 4, 21, 22, 7, 8, 0, 0, 0, 0, 0, 0, 0, 0, 0, 0, 0, 0, 0, 0, 0, 0,
+];
+
+/// A call of the top layer, what a range is then, through all layers, and the first bytes of the disk.
+type Row = (Call, (u64, u64), (&'static str, u64), [u8; 16]);
+
+const WRITTEN: [u8; 16] = [1, 2, 3, 4, 21, 22, 7, 8, 0, 41, 0, 0, 0, 0, 0, 0];
+
+const GIVEN_BACK: [u8; 16] = [1, 2, 3, 4, 21, 22, 7, 8, 0, 0, 0, 0, 0, 0, 0, 0];
+
+/// Nothing is changed.
+const NONE: Call = Call::Shrink(32);
+
+const UNALLOCATED: &str = "<zero:unallocated>";
+
+const ROWS: [Row; 15] = [
+    (NONE, (0, 32), ("2/0:0x0/ro", 4), WRITTEN),
+    (NONE, (1, 2), ("2/0:0x1/ro", 2), WRITTEN),
+    (NONE, (4, 9), ("1/0:0x0/ro", 4), WRITTEN),
+    (NONE, (8, 32), ("0/0:0x0/rw", 8), WRITTEN),
+    (NONE, (13, 9), ("0/0:0x5/rw", 3), WRITTEN),
+    // nothing is below, the lowest layer ends, and so does the next one
+    (NONE, (16, 9), (UNALLOCATED, 4), WRITTEN),
+    (NONE, (20, 9), (UNALLOCATED, 4), WRITTEN),
+    (NONE, (24, 9), (UNALLOCATED, 8), WRITTEN),
+    // explicit zeroes of a lower layer
+    (
+        Call::DiscardToBacking(8, 8),
+        (8, 8),
+        (UNALLOCATED, 4),
+        GIVEN_BACK,
+    ),
+    (NONE, (12, 4), (UNALLOCATED, 4), GIVEN_BACK),
+    (
+        Call::WriteZeroes(0, 8),
+        (0, 32),
+        ("<zero:explicit>", 8),
+        [0; 16],
+    ),
+    (
+        Call::DiscardToBacking(0, 8),
+        (4, 4),
+        ("1/0:0x0/ro", 4),
+        GIVEN_BACK,
+    ),
+    (
+        Call::DiscardToAny(8, 8),
+        (8, 8),
+        ("<zero:explicit>", 8),
+        GIVEN_BACK,
+    ),
+    (
+        Call::Write(6, 1, 99),
+        (0, 9),
+        ("0/0:0x0/rw", 8),
+        [1, 2, 3, 4, 21, 22, 99, 8, 0, 0, 0, 0, 0, 0, 0, 0],
+    ),
+    (
+        Call::Write(16, 1, 9),
+        (17, 32),
+        ("0/0:0x9/rw", 7),
+        [1, 2, 3, 4, 21, 22, 99, 8, 0, 0, 0, 0, 0, 0, 0, 0],
+    ),
+];
+
+/// Makes a call of an image that succeeds.
+fn on(rt: &impl Abort, alloc: Global, image: &mut Image, call: Call) {
+    let lent = lent(rt, alloc, false);
+    let step = (Level::Image, call);
+    if make_on(rt, alloc, image, &lent, step) == Answer::Refused(Error::Memory) {
+        assert_eq!(rt; make_on(rt, alloc, image, &lent, step), Answer::Done);
+    }
+}
+
+/// A layer above others, or the lowest.
+fn layer(
+    rt: &impl Abort,
+    alloc: Global,
+    (size, block, calls): Layer,
+    below: Option<Box<Image>>,
+) -> Image {
+    let driver = created(rt, alloc, (size, block), PLAIN, Fault::Never);
+    let mut image = match below {
+        None => FormatAccess::new(driver),
+        Some(_) => above(rt, driver, below),
+    };
+    for &call in calls {
+        on(rt, alloc, &mut image, call);
+    }
+    image
+}
+
+/// A layer to stand on, where there is memory for it.
+fn boxed(alloc: Global, image: Image) -> Option<Box<Image>> {
+    Box::new(alloc, image).ok()
+}
+
+/// The three layers, where there is memory for them.
+fn layers(rt: &impl Abort, alloc: Global) -> Option<Image> {
+    let bottom = boxed(alloc, layer(rt, alloc, BOTTOM, None))?;
+    let middle = boxed(alloc, layer(rt, alloc, MIDDLE, Some(bottom)))?;
+    Some(layer(rt, alloc, TOP, Some(middle)))
+}
+
+/// What a range of an image is.
+fn mapped(image: &Image, (offset, count): (u64, u64)) -> Result<(Mapping, u64), Error> {
+    image.get_mapping(offset, count)
+}
+
+#[test]
+fn three_disks_stand_on_one_another(rt: HostRuntime) {
+    let alloc = rt.alloc();
+    let mut image = match layers(&rt, alloc) {
+        Some(image) => image,
+        None => layers(&rt, alloc).expect(&rt, "memory for layers"),
+    };
+    for (call, range, (text, length), bytes) in ROWS {
+        on(&rt, alloc, &mut image, call);
+        let (mapping, count) = mapped(&image, range).expect(&rt, "a mapping");
+        assert_eq!(&rt; printed(&rt, alloc, &mapping).as_str(), text);
+        assert_eq!(&rt; count, length);
+        let shown = contents_of(&rt, alloc, &image);
+        assert!(&rt;
+            shown.get(..16) == Some(bytes.as_slice()),
+            "other bytes are shown"
+        );
+        let middle = image.backing().expect(&rt, "a layer");
+        assert!(&rt; contents_of(&rt, alloc, middle).as_slice() == OF_MIDDLE.as_slice());
+        let bottom = middle.backing().expect(&rt, "a layer");
+        assert!(&rt; contents_of(&rt, alloc, bottom).as_slice() == OF_BOTTOM.as_slice());
+    }
+}
