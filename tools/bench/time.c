@@ -12,18 +12,21 @@ uint64_t imago_bench_zero(size_t align, uint64_t offset, uint64_t count, uint64_
 uint64_t imago_bench_discard(size_t align, uint64_t offset, uint64_t count, uint64_t rounds);
 uint64_t imago_bench_image_read(size_t align, uint64_t offset, size_t count, uint64_t rounds);
 uint64_t imago_bench_map(uint64_t layers, uint64_t count, uint64_t rounds);
+uint64_t imago_bench_open(uint64_t extents, uint64_t rounds);
+uint64_t imago_bench_cow_read(size_t align, size_t count, uint64_t rounds);
+uint64_t imago_bench_cow_write(size_t align, size_t count, uint32_t first, uint64_t rounds);
 
 enum { SIZE = 4194304, RUNS = 15, MOST = 1 << 24 };
 
 /* how long the rounds of a run take at least, in nanoseconds */
 static const double ENOUGH = 2e7;
 
-enum call { READ, WRITE, ZERO, DISCARD, IMAGE_READ, MAP };
+enum call { READ, WRITE, ZERO, DISCARD, IMAGE_READ, MAP, OPEN, COW_READ, COW_WRITE, COW_FIRST };
 
 struct row {
     const char *name;
     enum call call;
-    uint64_t align; /* of MAP: how many layers */
+    uint64_t align; /* of MAP: how many layers; of OPEN: how many extents */
     uint64_t offset, count;
 };
 
@@ -43,6 +46,11 @@ static const struct row ROWS[] = {
     {"mapping, one layer", MAP, 0, 0, 0},
     {"mapping through 8 layers", MAP, 8, 0, 0},
     {"mapping through 64 layers", MAP, 64, 0, 0},
+    {"opening of a descriptor of 100 extents", OPEN, 100, 0, 1032},
+    {"opening of a descriptor of 200,000 extents", OPEN, 200000, 0, 2000032},
+    {"read of 4 KiB, copy-on-write", COW_READ, 512, 0, 4096},
+    {"write of 4 KiB, copy-on-write, into data", COW_WRITE, 512, 0, 4096},
+    {"first write of 4 KiB into a block of 64 KiB", COW_FIRST, 512, 0, 4096},
 };
 
 static uint64_t calls(const struct row *row, uint64_t rounds) {
@@ -52,6 +60,10 @@ static uint64_t calls(const struct row *row, uint64_t rounds) {
     case ZERO: return imago_bench_zero(row->align, row->offset, row->count, rounds);
     case DISCARD: return imago_bench_discard(row->align, row->offset, row->count, rounds);
     case IMAGE_READ: return imago_bench_image_read(row->align, row->offset, row->count, rounds);
+    case OPEN: return imago_bench_open(row->align, rounds);
+    case COW_READ: return imago_bench_cow_read(row->align, row->count, rounds);
+    case COW_WRITE: return imago_bench_cow_write(row->align, row->count, 0, rounds);
+    case COW_FIRST: return imago_bench_cow_write(row->align, row->count, 1, rounds);
     default: return imago_bench_map(row->align, 65536, rounds);
     }
 }
