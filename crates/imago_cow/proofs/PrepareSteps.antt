@@ -10,6 +10,8 @@ use Rattle.imago_drivers.specs.Operation.{Operation, Map, Read, Write, Zero, Dis
 use Rattle.imago_drivers.specs.Place.{Value, Byte, IsIn, shown, values, SamePlaces}
 use Rattle.imago_drivers.specs.Causes.{IsSettled, IsOnRange, CauseOver}
 use Rattle.imago_storage.specs.Features.{AreAlignments}
+use Rattle.imago_storage.specs.Padding.{Wraps}
+use Rattle.imago_drivers.specs.Ranges.{HasWrappingPart}
 use Rattle.imago_storage.specs.Faults.{CountsFaults}
 use Rattle.imago_storage.proofs.Padding.{wrap_causes}
 use Rattle.imago_drivers.specs.Reasons.{Reasons, allowed}
@@ -26,8 +28,8 @@ use Rattle.imago_cow.specs.declared.cow.CowState.{CowState}
 use Rattle.imago_cow.specs.Table.{named_count, IsLowestUnused, times_used}
 use Rattle.imago_cow.specs.Guest.{Covers, entry_place, cow_place, is_data, is_touched, number_of}
 use Rattle.imago_cow.specs.GuestLaws.{rest_small, place_in, place_out, entry_at, left_holds, right_holds, touched_at, number_longer, lies_in}
-use Rattle.imago_cow.specs.Copies.{old_value, block_from, block_until, round_reasons}
-use Rattle.imago_cow.specs.Cow.{cow_view, cow_cause, cow_copies, WaitsApart, waiting_byte, waiting_from, needs_data, has_waiting, guest_count, data_count, touched_from, touched_until, in_block}
+use Rattle.imago_cow.specs.Copies.{old_value, block_from, block_until, IsInBlock, IsApart, round_reasons, over_reasons}
+use Rattle.imago_cow.specs.Cow.{cow_view, cow_cause, cow_copies, WaitsApart, waiting_byte, waiting_from, needs_data, has_waiting, guest_count, data_count, touched_from, touched_until, in_block, DataWraps}
 use Rattle.imago_cow.specs.CowLaws.{from_size, lower_place, stored_place, cow_only, data_wraps_more, count_settled, needs_more, copies_more, until_more}
 use Rattle.imago_cow.proofs.WholeSteps.{times_more}
 use Rattle.imago_cow.proofs.MapSteps.{number_ends}
@@ -237,6 +239,12 @@ length_within f block number count len old positive known h =
     let t : nat_lt 0 (count * block) ≡ true = let u : 0 < count * block = omega (arith, x, positive) in grind (arith, nat_tests) in
     rw t (omega (arith, h, x))
 
+-- a data block that wraps around is one of the first so many
+block_wraps : (f : Features) (block number count start : ℕ) → start ≡ number * block → number < count → HasWrappingPart (Wraps f) start block → DataWraps f block count
+block_wraps f block number count start starts known part =
+    let x = number_ends block number count known in
+    record { from = part.from; count = part.count; above = omega arith; below = omega (arith, part.below, starts, x); wraps = part.wraps }
+
 module _ (f : Features) (faults : ℕ) (bytes : List ℕ) (size block : ℕ) (entries : List GuestBlock) (blocks : ℕ) (l : LayerBelow) (absent : Bool) (o most number start : ℕ)
     (positive : 0 < block) (under : o < size) (some : 0 < most) (here : absent ≡ true → slice_get entries (o / block) ≡ Some GuestBlock.Absent)
     (starts : start ≡ number * block) (known : number < data_count block size entries blocks None Write o most) where
@@ -250,29 +258,52 @@ module _ (f : Features) (faults : ℕ) (bytes : List ℕ) (size block : ℕ) (en
       let same : p / block ≡ o / block = lies_in block positive (o / block) p (omega (arith, a, h, i.0)) (omega (arith, a, k, i.1)) in
       (below, ap (slice_get entries) same ∙ here t, ap (is_touched block o (o + most)) same ∙ touched_at block positive o (o + most) o (omega arith) (omega (arith, some)))
 
-  lower : (e : Error) → absent ≡ true → ((q : ℕ) × (m : ℕ) × (0 < m) × (block_from block o ≤ q) × (q + m ≤ block_until block size o) × l.cause q m e) → CauseOver (cow_cause f block size entries blocks None) (cow_copies block size entries) l Write o most e
-  lower e t (q, m, nonempty, h, k, c) = inr (q, m, nonempty, copied_block t q m h k, c)
+  lower : (overwrite : Bool) (run : ℕ) (e : Error) → absent ≡ true → ((q : ℕ) × (m : ℕ) × IsInBlock block size o q m × (overwrite ≡ true → IsApart o run q m) × l.cause q m e) → CauseOver (cow_cause f block size entries blocks None) (cow_copies block size entries) l Write o most e
+  lower overwrite run e t (q, m, inside, out, c) = inr (q, m, inside.some, copied_block t q m inside.above inside.below, c)
 
-  pub round_refused : (e : Error) → allowed (round_reasons f l absent (block_from block o) (block_until block size o) start block) e → allowed reasons e
-  round_refused E.WrapAround c = ⊎_elim
-      (λ w. let part = w.1 in let x = number_ends block number (data_count block size entries blocks None Write o most) known in
-      inl (refl, record { from = part.from; count = part.count; above = omega arith; below = omega (arith, part.below, starts, x); wraps = part.wraps }))
-      (λ d. lower Error.WrapAround (d.0) (d.1)) c
-  round_refused E.InvalidData c = ⊎_elim (λ w. let x : Error.InvalidData ≡ Error.WrapAround = w.0 in let z : ⊥ = cc in absurd z) (λ d. lower Error.InvalidData (d.0) (d.1)) c
-  round_refused E.Unsupported c = ⊎_elim (λ w. let x : Error.Unsupported ≡ Error.WrapAround = w.0 in let z : ⊥ = cc in absurd z) (λ d. lower Error.Unsupported (d.0) (d.1)) c
-  round_refused E.NoAccess c = ⊎_elim (λ w. let x : Error.NoAccess ≡ Error.WrapAround = w.0 in let z : ⊥ = cc in absurd z) (λ d. lower Error.NoAccess (d.0) (d.1)) c
-  round_refused E.Device c = tt
-  round_refused E.Memory c = λ z. z
-  round_refused E.ReadOnly c = c
-  round_refused E.BeyondDisk c = absurd c
-  round_refused E.RangeOverflow c = c
-  round_refused E.ForeignMapping c = c
-  round_refused E.Denied c = c
-  round_refused E.NotFound c = c
+  pub round_refused : (overwrite : Bool) (run : ℕ) (e : Error) → allowed (round_reasons f l absent overwrite block size o run start) e → allowed reasons e
+  round_refused overwrite run E.WrapAround c = ⊎_elim (λ w. inl (refl, block_wraps f block number (data_count block size entries blocks None Write o most) start starts known (w.1))) (λ d. lower overwrite run Error.WrapAround (d.0) (d.1)) c
+  round_refused overwrite run E.InvalidData c = ⊎_elim (λ w. let x : Error.InvalidData ≡ Error.WrapAround = w.0 in let z : ⊥ = cc in absurd z) (λ d. lower overwrite run Error.InvalidData (d.0) (d.1)) c
+  round_refused overwrite run E.Unsupported c = ⊎_elim (λ w. let x : Error.Unsupported ≡ Error.WrapAround = w.0 in let z : ⊥ = cc in absurd z) (λ d. lower overwrite run Error.Unsupported (d.0) (d.1)) c
+  round_refused overwrite run E.NoAccess c = ⊎_elim (λ w. let x : Error.NoAccess ≡ Error.WrapAround = w.0 in let z : ⊥ = cc in absurd z) (λ d. lower overwrite run Error.NoAccess (d.0) (d.1)) c
+  round_refused overwrite run E.Device c = tt
+  round_refused overwrite run E.Memory c = λ z. z
+  round_refused overwrite run E.ReadOnly c = c
+  round_refused overwrite run E.BeyondDisk c = absurd c
+  round_refused overwrite run E.RangeOverflow c = c
+  round_refused overwrite run E.ForeignMapping c = c
+  round_refused overwrite run E.Denied c = c
+  round_refused overwrite run E.NotFound c = c
+
+-- For overwriting nothing of the range is read.
+module _ (f : Features) (size block : ℕ) (entries : List GuestBlock) (blocks : ℕ) (l : LayerBelow) (absent overwrite : Bool) (o most run number start : ℕ) (here : absent ≡ true → slice_get entries (o / block) ≡ Some GuestBlock.Absent)
+    (starts : start ≡ number * block) (known : number < data_count block size entries blocks None Write o most) (over : overwrite ≡ true) (is_run : run ≡ in_block block o most) where
+  over_cause : (e : Error) → (round_reasons f l absent overwrite block size o run start).cause e → (over_reasons f l block size entries blocks o most).cause e
+  over_cause e c = ⊎_elim
+      (λ w. inl (w.0, block_wraps f block number (data_count block size entries blocks None Write o most) start starts known (w.1)))
+      (λ d. let (q, m, inside, out, x) = d.1 in inr (here (d.0), (q, m, inside, rw (← is_run) (out over), x)))
+      c
+
+  pub over_refused : (e : Error) → allowed (round_reasons f l absent overwrite block size o run start) e → allowed (over_reasons f l block size entries blocks o most) e
+  over_refused E.WrapAround c = over_cause Error.WrapAround c
+  over_refused E.InvalidData c = over_cause Error.InvalidData c
+  over_refused E.Unsupported c = over_cause Error.Unsupported c
+  over_refused E.NoAccess c = over_cause Error.NoAccess c
+  over_refused E.Device c = c
+  over_refused E.Memory c = c
+  over_refused E.ReadOnly c = c
+  over_refused E.BeyondDisk c = c
+  over_refused E.RangeOverflow c = c
+  over_refused E.ForeignMapping c = c
+  over_refused E.Denied c = c
+  over_refused E.NotFound c = c
 
 -- no place for a new data block is a wrap-around
+pub full_wraps : (f : Features) (block size : ℕ) (entries : List GuestBlock) (blocks o most : ℕ) → AreAlignments f → 0 < block → blocks < data_count block size entries blocks None Write o most → 18446744073709551616 ≤ blocks * block + block
+    → DataWraps f block (data_count block size entries blocks None Write o most)
+full_wraps f block size entries blocks o most lawful positive known full = block_wraps f block blocks _ (blocks * block) refl known
+    (record { from = blocks * block; count = block; above = omega arith; below = omega arith; wraps = (wrap_causes f lawful (blocks * block) block positive).1 (inl full) })
+
 pub full_refused : (f : Features) (faults : ℕ) (bytes : List ℕ) (size block : ℕ) (entries : List GuestBlock) (blocks : ℕ) (l : LayerBelow) (o most : ℕ) → AreAlignments f → 0 < block → blocks < data_count block size entries blocks None Write o most → 18446744073709551616 ≤ blocks * block + block
     → allowed (lending_reasons (cow_view f faults bytes size block entries blocks None) l Write o most) Error.WrapAround
-full_refused f faults bytes size block entries blocks l o most lawful positive known full =
-    let x = number_ends block blocks (data_count block size entries blocks None Write o most) known in
-    inl (refl, record { from = blocks * block; count = block; above = omega arith; below = omega (arith, x); wraps = (wrap_causes f lawful (blocks * block) block positive).1 (inl full) })
+full_refused f faults bytes size block entries blocks l o most lawful positive known full = inl (refl, full_wraps f block size entries blocks o most lawful positive known full)

@@ -1,11 +1,14 @@
-use Rattle.std.specs.Prelude.{◌≡◌, ℕ, ◌+◌, ◌-◌, ◌%◌, ◌<◌, ◌≤◌, ◌⊎◌, min, Bool, true, List, length, slice_index, if◌then◌else◌}
+use Rattle.std.specs.Prelude.{◌≡◌, ℕ, ◌+◌, ◌-◌, ◌/◌, ◌%◌, ◌<◌, ◌≤◌, ◌⊎◌, min, Bool, true, List, length, slice_index, slice_get, Some, None, if◌then◌else◌}
 use Rattle.imago_storage.specs.declared.error.Error.{Error}
 use Rattle.imago_storage.specs.Features.{Features}
 use Rattle.imago_storage.specs.Padding.{Wraps}
+use Rattle.imago_drivers.specs.Operation.{Write}
 use Rattle.imago_drivers.specs.Place.{Value, Byte}
 use Rattle.imago_drivers.specs.Reasons.{Reasons, none}
 use Rattle.imago_drivers.specs.LayerBelow.{LayerBelow}
 use Rattle.imago_drivers.specs.Ranges.{HasWrappingPart}
+use Rattle.imago_cow.specs.declared.table.GuestBlock.{GuestBlock}
+use Rattle.imago_cow.specs.Cow.{DataWraps, data_count, in_block}
 
 -- what a place without data shows over a layer with these values: that layer's where its guest block is absent, else zero
 abbrev pub old_value : (ℕ → Value) → Bool → ℕ → Value
@@ -31,17 +34,37 @@ copy_reasons f l absent o n to = record none {
   memory = Unit {0};
 }
 
--- Why the part of a guest block round a range may not be copied to that offset: `from .. until` are its places in the disk.
-abbrev pub round_reasons : Features → LayerBelow → Bool → ℕ → ℕ → ℕ → ℕ → Reasons
-round_reasons f l absent from until to block = record none {
-  cause = λ e. ((e ≡ Error.WrapAround) × HasWrappingPart (Wraps f) to block) ⊎ ((absent ≡ true) × ((q : ℕ) × (m : ℕ) × (0 < m) × (from ≤ q) × (q + m ≤ until) × l.cause q m e));
-  device = Unit {0};
-  memory = Unit {0};
-}
-
 -- the offset in the disk that the guest block of an offset begins at, and where it ends, by the disk's end at the latest
 abbrev pub block_from : ℕ → ℕ → ℕ
 block_from block o = o - o % block
 
 abbrev pub block_until : ℕ → ℕ → ℕ → ℕ
 block_until block size o = min size (block_from block o + block)
+
+-- The range isn't empty, and lies in the guest block of that offset and in the disk.
+pub record IsInBlock (block size o q m : ℕ) : Type 0 where
+  pub some : 0 < m
+  pub above : block_from block o ≤ q
+  pub below : q + m ≤ block_until block size o
+
+-- q .. q + m is wholly before o .. o + n, or wholly behind it
+abbrev pub IsApart : ℕ → ℕ → ℕ → ℕ → Type 0
+IsApart o n q m = (q + m ≤ o) ⊎ (o + n ≤ q)
+
+-- Why the guest block of a range o .. o + n may not be copied to that offset of the storage. For overwriting the range itself
+-- isn't read.
+abbrev pub round_reasons : Features → LayerBelow → Bool → Bool → ℕ → ℕ → ℕ → ℕ → ℕ → Reasons
+round_reasons f l absent overwrite block size o n to = record none {
+  cause = λ e. ((e ≡ Error.WrapAround) × HasWrappingPart (Wraps f) to block) ⊎ ((absent ≡ true) × ((q : ℕ) × (m : ℕ) × IsInBlock block size o q m × (overwrite ≡ true → IsApart o n q m) × l.cause q m e));
+  device = Unit {0};
+  memory = Unit {0};
+}
+
+-- Why a prepare for overwriting n bytes from o on may be refused: in the data blocks a write wraps around, or the guest block is
+-- absent, and the layer below can't be read before or behind the prepared part of the range. That part itself isn't read.
+abbrev pub over_reasons : Features → LayerBelow → ℕ → ℕ → List GuestBlock → ℕ → ℕ → ℕ → Reasons
+over_reasons f l block size entries blocks o n = record none {
+  cause = λ e. ((e ≡ Error.WrapAround) × DataWraps f block (data_count block size entries blocks None Write o n)) ⊎ ((slice_get entries (o / block) ≡ Some GuestBlock.Absent) × ((q : ℕ) × (m : ℕ) × IsInBlock block size o q m × IsApart o (in_block block o n) q m × l.cause q m e));
+  device = Unit {0};
+  memory = Unit {0};
+}

@@ -140,9 +140,8 @@ pub(crate) fn copy_round<S: Storage, B: LowerLayer>(
         (S.fault_count storage.old + faults.old) (S.fault_count storage.new + faults.new) result }
     ensures refusals { IfErr result
         (allowed
-        (round_reasons (S.features storage.old) (lent B.as_layer_below below.entry) part.absent
-        (block_from part.block part.offset) (block_until part.block part.size part.offset) start
-        part.block)) }
+        (round_reasons (S.features storage.old) (lent B.as_layer_below below.entry) part.absent part.overwrite
+        part.block part.size part.offset part.run start)) }
 {
     let rest = part.offset % part.block;
     let from = part.offset - rest;

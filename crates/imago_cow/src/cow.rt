@@ -4,7 +4,7 @@ ghost use Rattle.std.specs.Int.{is_power_of_two};
 ghost use Rattle.std.specs.Option.{ForSome};
 ghost use Rattle.imago_drivers.specs.Place.{Lower, BytesAreWritable, HasStranger, values};
 ghost use Rattle.imago_drivers.specs.LayerBelow.{lent};
-ghost use Rattle.imago_drivers.specs.Reasons.{none};
+ghost use Rattle.imago_drivers.specs.Reasons.{none, allowed};
 ghost use Rattle.imago_drivers.specs.Pending.{IsOwn};
 ghost use Rattle.imago_drivers.specs.Prepared.{IsPrepared};
 ghost use Rattle.imago_drivers.specs.Calls.{IsPreparation};
@@ -15,6 +15,7 @@ ghost use Rattle.imago_cow.specs.TableLaws.{named_once};
 ghost use Rattle.imago_cow.specs.declared.table.GuestBlock.{GuestBlock};
 ghost use Rattle.imago_cow.specs.Guest.{IsExact, IsMade, cow_place};
 ghost use Rattle.imago_cow.specs.Cow.{cow_view, cow_pending, number_of_waiting, WaitsApart};
+ghost use Rattle.imago_cow.specs.Copies.{over_reasons};
 ghost use Rattle.imago_cow.specs.CowLaws.{cow_lawful, cow_causes};
 
 use crate::commit::enter_waiting;
@@ -184,7 +185,7 @@ impl<S: Storage> Display for Cow<S> {
 }
 
 impl<S: Storage> FormatDriverInstance for Cow<S> {
-    ghost use Rattle.imago_cow.specs.CowImage.{storage_in, block_of, blocks_of, data_blocks_of, waiting_in};
+    ghost use Rattle.imago_cow.specs.CowImage.{storage_in, size_of, block_of, blocks_of, data_blocks_of, waiting_in};
 
     type Storage = S;
 
@@ -350,6 +351,11 @@ impl<S: Storage> FormatDriverInstance for Cow<S> {
             → slice_get (blocks_of self.old) (offset / block_of self.old) ≡ Some (GuestBlock.Data j)
             → (storage_in self.new ≡ storage_in self.old) × (data_blocks_of self.new ≡ data_blocks_of self.old) ×
             (waiting_in self.new ≡ waiting_in self.old) }
+        ensures over { overwrite ≡ true
+            → IfErr result
+            (allowed
+            (over_reasons (S.features (storage_in self.old)) (lent B.as_layer_below below.entry) (block_of self.old)
+            (size_of self.old) (blocks_of self.old) (data_blocks_of self.old) offset count)) }
     {
         if count == 0 {
             return Ok(PreparedDataMapping::existing(0, 0, 0));

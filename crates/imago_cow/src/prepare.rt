@@ -15,6 +15,7 @@ ghost use Rattle.imago_cow.specs.declared.table.GuestBlock.{GuestBlock};
 ghost use Rattle.imago_cow.specs.Table.{named_count};
 ghost use Rattle.imago_cow.specs.TableView.{entries_of, held_of, count_of};
 ghost use Rattle.imago_cow.specs.Guest.{IsExact, cow_place};
+ghost use Rattle.imago_cow.specs.Copies.{over_reasons};
 ghost use Rattle.imago_cow.specs.Cow.{cow_view, cow_cause, cow_copies, data_count, in_block, WaitsApart};
 
 use crate::copy::{Part, copy_round};
@@ -93,6 +94,14 @@ pub(crate) fn prepare_part<S: Storage, B: LowerLayer>(
         (lending_reasons
         (cow_view (S.features storage.old) old_faults (S.bytes storage.old) part.size part.block (entries_of table.old) (count_of table.old) None)
         (lent B.as_layer_below below.entry) Write part.offset most)) }
+    ensures over { (most : ℕ)
+        → 0 < most
+        → part.run ≡ in_block part.block part.offset most
+        → part.overwrite ≡ true
+        → IfErr result
+        (allowed
+        (over_reasons (S.features storage.old) (lent B.as_layer_below below.entry) part.block part.size
+        (entries_of table.old) (count_of table.old) part.offset most)) }
 {
     if !fits_next(table, part.block) {
         return Err(Error::WrapAround);

@@ -9,7 +9,7 @@ use Rattle.imago_cow.specs.TableView.{entries_of, count_of}
 use Rattle.imago_cow.specs.TableLaws.{held_apart}
 use Rattle.imago_cow.specs.GuestLaws.{rest_small}
 use Rattle.imago_cow.proofs.MapSteps.{number_ends}
-use Rattle.imago_cow.proofs.PrepareSteps.{empty_entry, one_more, prepared, prepared_unchanged, prepared_settled, length_within, round_refused, full_refused}
+use Rattle.imago_cow.proofs.PrepareSteps.{empty_entry, one_more, prepared, prepared_unchanged, prepared_settled, length_within, round_refused, over_refused, full_wraps, full_refused}
 use Rattle.imago_cow.proofs.prepare.prepare_part.Goals as goal
 
 pub overflow_mul-start : goal.overflow_mul-start
@@ -210,7 +210,18 @@ returns-in-Err-clause-refusals g c = λ old_faults most some.
     let more = one_more part.block part.size (entries_of c.args.table.now) (count_of c.args.table.now) c.requires.positive c.requires.exact.covers part.offset under (empty_entry part.absent _ c.requires.absent c.requires.zero) Write part.offset most tt (omega arith) (omega (arith, some)) in
     let known : number < data_count part.block part.size (entries_of c.args.table.now) (count_of c.args.table.now) None Write part.offset most = omega (arith, more, c.in_ok-number.ensures.count, c.take.ensures.added) in
     round_refused (g.S.Storage.features c.args.storage.now) old_faults (g.S.Storage.bytes c.args.storage.now) part.size part.block (entries_of c.args.table.now) (count_of c.args.table.now) (lent g.B.LowerLayer.as_layer_below c.args.below) part.absent part.offset most number (number * part.block)
-    c.requires.positive under some c.requires.absent refl known c.in-Err.e c.in-Err.ensures.refusals
+    c.requires.positive under some c.requires.absent refl known part.overwrite part.run c.in-Err.e c.in-Err.ensures.refusals
+
+pub returns-in-Err-clause-over : goal.returns-in-Err-clause-over
+returns-in-Err-clause-over g c = λ most some run over.
+    let part = c.args.part in
+    let number = c.in_ok-number.number in
+    let e = c.take.ensures.entries in
+    let under : part.offset < part.size = omega (arith, c.requires.some, c.requires.inside) in
+    let more = one_more part.block part.size (entries_of c.args.table.now) (count_of c.args.table.now) c.requires.positive c.requires.exact.covers part.offset under (empty_entry part.absent _ c.requires.absent c.requires.zero) Write part.offset most tt (omega arith) (omega (arith, some)) in
+    let known : number < data_count part.block part.size (entries_of c.args.table.now) (count_of c.args.table.now) None Write part.offset most = omega (arith, more, c.in_ok-number.ensures.count, c.take.ensures.added) in
+    over_refused (g.S.Storage.features c.args.storage.now) part.size part.block (entries_of c.args.table.now) (count_of c.args.table.now) (lent g.B.LowerLayer.as_layer_below c.args.below) part.absent part.overwrite part.offset most part.run number (number * part.block)
+    c.requires.absent refl known over run c.in-Err.e c.in-Err.ensures.refusals
 
 pub returns-then-not-fits_next-clause-refusals : goal.returns-then-not-fits_next-clause-refusals
 returns-then-not-fits_next-clause-refusals g c = λ old_faults most some.
@@ -220,3 +231,15 @@ returns-then-not-fits_next-clause-refusals g c = λ old_faults most some.
     let more = one_more part.block part.size (entries_of c.args.table.now) (count_of c.args.table.now) c.requires.positive c.requires.exact.covers part.offset under (empty_entry part.absent _ c.requires.absent c.requires.zero) Write part.offset most tt (omega arith) (omega (arith, some)) in
     full_refused (g.S.Storage.features c.args.storage.now) old_faults (g.S.Storage.bytes c.args.storage.now) part.size part.block (entries_of c.args.table.now) (count_of c.args.table.now) (lent g.B.LowerLayer.as_layer_below c.args.below) part.offset most
     (g.met.S.Storage.lawful c.args.storage.now) c.requires.positive (omega (arith, more, full.0)) (full.1)
+
+pub returns-then-not-fits_next-clause-over : goal.returns-then-not-fits_next-clause-over
+returns-then-not-fits_next-clause-over g c = λ most some run over.
+    let part = c.args.part in
+    let full = c.fits_next.ensures.full c.if-not-fits_next.true in
+    let under : part.offset < part.size = omega (arith, c.requires.some, c.requires.inside) in
+    let more = one_more part.block part.size (entries_of c.args.table.now) (count_of c.args.table.now) c.requires.positive c.requires.exact.covers part.offset under (empty_entry part.absent _ c.requires.absent c.requires.zero) Write part.offset most tt (omega arith) (omega (arith, some)) in
+    inl (
+      refl,
+      full_wraps (g.S.Storage.features c.args.storage.now) part.block part.size (entries_of c.args.table.now) (count_of c.args.table.now) part.offset most
+          (g.met.S.Storage.lawful c.args.storage.now) c.requires.positive (omega (arith, more, full.0)) (full.1),
+    )

@@ -94,6 +94,7 @@ returns-in_err-waiting g c =
       entries = e.entries;
       added = e.added;
       in_data = λ j h. absurd (not_in_data _ _ j c.get-entry.ensures c.in_default.not-Data h);
+      over = λ o. c.in_err-waiting.ensures.over c.args.count some c.min-run.ensures o;
     })
 
 pub returns : goal.returns
@@ -127,4 +128,5 @@ returns g c =
       entries = e.entries;
       added = e.added;
       in_data = λ j h. absurd (not_in_data _ _ j c.get-entry.ensures c.in_default.not-Data h);
+      over = λ o. tt;
     }
