@@ -136,7 +136,7 @@ fn make(rt: &impl Abort, table: &mut Table, step: Step) {
 #[test]
 fn the_lowest_free_data_block_is_taken(rt: HostRuntime) {
     let mut table = table(&rt, rt.alloc(), 3);
-    for (step, guest_blocks, count, used, next) in ROWS {
+    for &(step, guest_blocks, count, used, next) in &ROWS {
         make(&rt, &mut table, step);
         assert_eq!(&rt; table.len(), guest_blocks);
         assert_eq!(&rt; table.block_count(), count);

@@ -256,7 +256,7 @@ const LONG_LINES: [(&[u8], &[u8], &[u8], &[u8], u8); 14] = [
 
 #[test]
 fn long_lines(rt: HostRuntime) {
-    for (start, unit, end, printed, status) in LONG_LINES {
+    for &(start, unit, end, printed, status) in &LONG_LINES {
         let (got, output) = long_outcome(rt.alloc(), start, unit, PIECES, end);
         if got != status || output.as_slice() != printed {
             // Memory was refused once.
@@ -268,7 +268,7 @@ fn long_lines(rt: HostRuntime) {
 }
 
 /// How many lines a long script has.
-const LINES: usize = 200000;
+const LINES: usize = 1000000;
 
 /// Whether that is the answer to so many commands without an open image.
 fn is_refused_throughout(status: u8, output: &[u8]) -> bool {

@@ -105,7 +105,7 @@ const BAD_LINES: [&[u8]; 90] = [
 
 #[test]
 fn each_ends_the_script(rt: HostRuntime) {
-    for line in BAD_LINES {
+    for &line in &BAD_LINES {
         check(&rt, line, "bad line 1\n", 2);
     }
 }
@@ -128,7 +128,7 @@ const SCRIPTS: [(&str, &str); 6] = [
 
 #[test]
 fn lines_are_counted_from_one(rt: HostRuntime) {
-    for (text, printed) in SCRIPTS {
+    for &(text, printed) in &SCRIPTS {
         check(&rt, text.as_bytes(), printed, 2);
     }
 }

@@ -299,14 +299,14 @@ const COPY_ON_WRITE: [(&str, &str); 15] = [
 
 #[test]
 fn rows(rt: HostRuntime) {
-    for (text, printed) in ROWS {
+    for &(text, printed) in &ROWS {
         check(&rt, text.as_bytes(), printed, 0);
     }
 }
 
 #[test]
 fn copy_on_write(rt: HostRuntime) {
-    for (text, printed) in COPY_ON_WRITE {
+    for &(text, printed) in &COPY_ON_WRITE {
         check(&rt, text.as_bytes(), printed, 0);
     }
 }

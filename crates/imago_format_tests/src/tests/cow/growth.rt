@@ -117,7 +117,7 @@ fn on(rt: &impl Abort, alloc: Global, subject: &mut Subject, call: Call) {
 #[test]
 fn a_cut_guest_block_is_filled_as_the_mode_says(rt: HostRuntime) {
     let alloc = rt.alloc();
-    for (before, mode, runs, used) in ROWS {
+    for &(before, mode, runs, used) in &ROWS {
         let mut subject = Subject::open(&rt, alloc, SIZE, PLAIN, Fault::Never);
         on(&rt, alloc, &mut subject, before);
         on(&rt, alloc, &mut subject, Call::Grow(GROWN, mode));

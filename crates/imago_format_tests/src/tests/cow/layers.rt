@@ -151,7 +151,7 @@ fn three_disks_stand_on_one_another(rt: HostRuntime) {
         Some(image) => image,
         None => layers(&rt, alloc).expect(&rt, "memory for layers"),
     };
-    for (call, range, (text, length), bytes) in ROWS {
+    for &(call, range, (text, length), bytes) in &ROWS {
         on(&rt, alloc, &mut image, call);
         let (mapping, count) = mapped(&image, range).expect(&rt, "a mapping");
         assert_eq!(&rt; printed(&rt, alloc, &mapping).as_str(), text);

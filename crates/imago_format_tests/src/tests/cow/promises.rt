@@ -120,7 +120,7 @@ fn prepared_at(
 fn a_data_block_is_added_only_where_none_is_free(rt: HostRuntime) {
     let alloc = rt.alloc();
     let mut image = alone(&rt, alloc, 64, 16, Fault::Storage(0, Tear::All));
-    for (range, act, at, used, length) in ROWS {
+    for &(range, act, at, used, length) in &ROWS {
         match act {
             Act::Refuse => match prepared(&rt, alloc, &mut image, range, false) {
                 Ok(mapping) => {
@@ -201,7 +201,7 @@ fn a_mapping_that_does_not_wait_is_refused_by_name(rt: HostRuntime) {
     let state = state_of(&waiting);
     is_foreign(&rt, alloc, &mut other, (0, (3, 4)), state);
     is_foreign(&rt, alloc, &mut image, (0, (3, 4)), None);
-    for range in STRANGERS {
+    for &range in &STRANGERS {
         is_foreign(&rt, alloc, &mut image, range, state);
         is_foreign(&rt, alloc, &mut image, range, None);
     }
@@ -257,7 +257,7 @@ const CREATED: [(u64, u64, u64); 7] = [
 #[test]
 fn disks_of_any_size_are_created(rt: HostRuntime) {
     let alloc = rt.alloc();
-    for (size, block, count) in CREATED {
+    for &(size, block, count) in &CREATED {
         let mut image = alone(&rt, alloc, size, block, Fault::Never);
         assert_eq!(&rt; image.inner().block_size(), block);
         assert!(&rt; contents_of(&rt, alloc, &image) == equal(&rt, alloc, size, 0));

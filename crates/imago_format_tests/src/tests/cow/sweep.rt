@@ -125,7 +125,7 @@ const USES: [Call; 3] = [
 /// A disk on which what is done first has been done, and then that call, where there was memory for it.
 fn begun(rt: &impl Abort, alloc: Global, form: Form, fault: Fault, before: Call) -> Option<Run> {
     let mut run = Run::open(rt, alloc, SIZE, form, fault);
-    for call in FIRST {
+    for &call in &FIRST {
         if !run.begin(rt, alloc, call) {
             return None;
         }
@@ -151,7 +151,7 @@ fn opened(rt: &impl Abort, alloc: Global, form: Form, fault: Fault, before: Call
 fn failures(rt: &impl Abort, alloc: Global, form: Form, pass: u64) -> Option<u64> {
     let fault = Fault::Storage(pass, Tear::Nothing);
     let mut subject = Subject::open(rt, alloc, SIZE, form, fault);
-    for call in FIRST {
+    for &call in &FIRST {
         if subject.make(rt, alloc, (Level::Image, call)) == MEMORY {
             return None;
         }
@@ -200,7 +200,7 @@ fn is_refused(
 
 /// Makes a call with a failure at each call of the storage, until it meets none.
 fn sweep_row(rt: &impl Abort, alloc: Global, form: Form, row: (Call, Step), first: u64) {
-    for tear in TEARS {
+    for &tear in &TEARS {
         for pass in first..LIMIT {
             if !is_refused(rt, alloc, form, row, Fault::Storage(pass, tear)) {
                 break;
@@ -245,7 +245,7 @@ fn calls_of_a_driver_in_long_requests_fail_anywhere(rt: HostRuntime) {
 
 #[test]
 fn resizes_of_an_image_fail_anywhere(rt: HostRuntime) {
-    for align in ALIGNS {
+    for &align in &ALIGNS {
         sweep(&rt, rt.alloc(), Level::Image, align, &SIZES);
     }
 }
@@ -257,7 +257,7 @@ fn resizes_of_a_driver_fail_anywhere(rt: HostRuntime) {
 
 #[test]
 fn more_calls_of_an_image_fail_anywhere(rt: HostRuntime) {
-    for align in ALIGNS {
+    for &align in &ALIGNS {
         sweep(&rt, rt.alloc(), Level::Image, align, &MORE);
     }
 }
@@ -285,11 +285,11 @@ const READS_NOTHING: [Row; 4] = [
 #[test]
 fn a_layer_below_that_fails_is_told(rt: HostRuntime) {
     let alloc = rt.alloc();
-    for (before, call) in READS {
+    for &(before, call) in &READS {
         let row = (before, (Level::Image, call));
         assert!(&rt; is_refused(&rt, alloc, PLAIN, row, Fault::Below));
     }
-    for (before, call) in READS_NOTHING {
+    for &(before, call) in &READS_NOTHING {
         let row = (before, (Level::Image, call));
         assert!(&rt; !is_refused(&rt, alloc, PLAIN, row, Fault::Below));
     }

@@ -45,7 +45,7 @@ fn created(rt: &impl Abort, alloc: Global, size: u64, mode: PreallocateMode) -> 
 #[test]
 fn a_new_image_is_zero(rt: HostRuntime) {
     let alloc = rt.alloc();
-    for mode in MODES {
+    for &mode in &MODES {
         for size in [0, 2, 3, 5] {
             let storage = created(&rt, alloc, size, mode);
             let zeroes = [0; 5];

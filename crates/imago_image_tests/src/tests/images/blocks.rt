@@ -83,8 +83,8 @@ const PIECEWISE: [[(Call, Answer); 3]; 5] = [
 #[test]
 fn a_range_is_zeroed_and_discarded_block_by_block(rt: HostRuntime) {
     let alloc = rt.alloc();
-    for calls in PIECEWISE {
-        on(&rt, alloc, (16, 0xff), (4, false), &calls);
+    for calls in &PIECEWISE {
+        on(&rt, alloc, (16, 0xff), (4, false), calls);
     }
 }
 
@@ -139,8 +139,8 @@ const GRANULES: [[(Call, Answer); 2]; 6] = [
 fn a_granule_is_not_zeroed_past_the_range(rt: HostRuntime) {
     let alloc = rt.alloc();
     on(&rt, alloc, (1000, 0x22), (65536, true), &BELOW_ONE);
-    for calls in GRANULES {
-        on(&rt, alloc, (1000, 0x22), (64, true), &calls);
+    for calls in &GRANULES {
+        on(&rt, alloc, (1000, 0x22), (64, true), calls);
     }
 }
 

@@ -1,6 +1,6 @@
 //! Images whose layers have different drivers.
 use super::answer::Answer;
-use super::image::{Call, on_driver, script};
+use super::image::{Call, above, alone, on_driver, script};
 use super::set_up::stored;
 use imago_access::access::FormatAccess;
 use imago_drivers::raw::Raw;
@@ -16,17 +16,14 @@ use std::process::Abort;
 const BELOW: Kind = Kind::Below { writable: true };
 
 /// An image of one kind of place above another image, where there is memory for it.
-fn above<S: Storage>(
+fn above_kind<S: Storage>(
     alloc: Global,
     kind: Kind,
     size: u64,
     below: FormatAccess<TestDriver<S>>,
 ) -> Option<FormatAccess<TestDriver<S>>> {
     let driver = TestDriver::Pattern(Pattern::new(kind, size));
-    match Box::new(alloc, below) {
-        Ok(below) => Some(FormatAccess::with_backing(driver, below)),
-        Err(_) => None,
-    }
+    above(alloc, driver, below)
 }
 
 /// A layer of each of these kinds and of that size above an image, where there is memory for them.
@@ -38,7 +35,7 @@ fn above_each<S: Storage>(
 ) -> Option<FormatAccess<TestDriver<S>>> {
     let mut image = below;
     for &kind in kinds {
-        image = above(alloc, kind, size, image)?;
+        image = above_kind(alloc, kind, size, image)?;
     }
     Some(image)
 }
@@ -52,7 +49,7 @@ fn layers<S: Storage>(
     size: u64,
 ) -> Option<FormatAccess<TestDriver<S>>> {
     let raw = Raw::open_image(storage, true).expect(rt, "a raw image");
-    let mut image = FormatAccess::new(TestDriver::Raw(raw));
+    let mut image = alone(TestDriver::Raw(raw));
     for _ in 0..times {
         image = above_each(alloc, kinds, size, image)?;
     }

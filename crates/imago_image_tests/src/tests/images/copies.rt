@@ -1,6 +1,6 @@
 //! Images over a driver whose writes wait for a commit, each layer copying the one below it at its first write.
 use super::answer::Answer;
-use super::image::{Call, on_two, script};
+use super::image::{Call, above, alone, on_two, script};
 use super::runs::run_two;
 use super::set_up::stored;
 use imago_access::access::FormatAccess;
@@ -147,6 +147,11 @@ const ASKED: [(Call, Answer, bool); 5] = [
     ),
 ];
 
+/// Whether the driver was last asked to prepare a mapping for overwriting.
+fn last_asked<S: Storage>(image: &FormatAccess<CopyOnce<S>>) -> Option<bool> {
+    image.inner().overwrites()
+}
+
 /// Makes those calls, and looks at what the driver is asked.
 fn are_asked<S: Storage>(
     rt: &impl Abort,
@@ -154,24 +159,23 @@ fn are_asked<S: Storage>(
     image: &mut FormatAccess<CopyOnce<S>>,
     asked: &[(Call, Answer, bool)],
 ) {
-    assert_eq!(rt; image.inner().overwrites(), None);
+    assert_eq!(rt; last_asked(&*image), None);
     for &(call, answer, overwrites) in asked {
         script(rt, alloc, image, &[(call, answer)]);
-        assert_eq!(rt; image.inner().overwrites(), Some(overwrites));
+        assert_eq!(rt; last_asked(&*image), Some(overwrites));
     }
 }
 
 /// The same of an image above one of the bytes 1 to 8. Answers whether there was memory for both.
 fn is_told<S: Storage>(rt: &impl Abort, alloc: Global, lower: S, upper: S) -> bool {
-    let mut below = FormatAccess::new(CopyOnce::new(lower, 8));
+    let mut below = alone(CopyOnce::new(lower, 8));
     script(rt, alloc, &mut below, &COUNTED);
-    match Box::new(alloc, below) {
-        Ok(below) => {
-            let mut image = FormatAccess::with_backing(CopyOnce::new(upper, 8), below);
+    match above(alloc, CopyOnce::new(upper, 8), below) {
+        Some(mut image) => {
             are_asked(rt, alloc, &mut image, &ASKED);
             true
         }
-        Err(_) => false,
+        None => false,
     }
 }
 

@@ -117,7 +117,7 @@ const STOPS: [(u64, Tear, Answer, [u8; 16]); 5] = [
 #[test]
 fn a_write_stops_at_each_call(rt: HostRuntime) {
     let alloc = rt.alloc();
-    for (pass, tear, answer, left) in STOPS {
+    for &(pass, tear, answer, left) in &STOPS {
         let mut storage = armed(&rt, alloc, pass, tear);
         on(&rt, alloc, &mut storage, &[(TEN_ZEROES, answer)]);
         is_left(&rt, &storage, &left, u64::from(answer == DEVICE));

@@ -367,6 +367,23 @@ pub(super) fn script<D: FormatDriverInstance>(
     }
 }
 
+/// An image of a driver with nothing below it.
+pub(super) fn alone<D: FormatDriverInstance>(driver: D) -> FormatAccess<D> {
+    FormatAccess::new(driver)
+}
+
+/// An image of a driver above another image, where there is memory for it.
+pub(super) fn above<D: FormatDriverInstance>(
+    alloc: Global,
+    driver: D,
+    below: FormatAccess<D>,
+) -> Option<FormatAccess<D>> {
+    match Box::new(alloc, below) {
+        Ok(below) => Some(FormatAccess::with_backing(driver, below)),
+        Err(_) => None,
+    }
+}
+
 /// The calls on an image of a driver with nothing below it.
 pub(super) fn on_driver<D: FormatDriverInstance>(
     rt: &impl Abort,
@@ -398,18 +415,13 @@ pub(super) fn on_two<D: FormatDriverInstance>(
     upper: D,
     calls: &[(Call, Answer)],
 ) -> bool {
-    let mut below = FormatAccess::new(lower);
+    let mut below = alone(lower);
     script(rt, alloc, &mut below, first);
-    match Box::new(alloc, below) {
-        Ok(below) => {
-            script(
-                rt,
-                alloc,
-                &mut FormatAccess::with_backing(upper, below),
-                calls,
-            );
+    match above(alloc, upper, below) {
+        Some(mut image) => {
+            script(rt, alloc, &mut image, calls);
             true
         }
-        Err(_) => false,
+        None => false,
     }
 }

@@ -2,7 +2,7 @@
 use super::answer::Answer;
 use super::driver;
 use super::driver::Give;
-use super::image::{Call, on_raw, on_two, script};
+use super::image::{Call, above, alone, on_raw, on_two, script};
 use super::runs::{by_run, run_raw};
 use super::set_up::{in_blocks, printed, stored, storing};
 use imago_access::access::FormatAccess;
@@ -239,7 +239,7 @@ fn commit_stranger<S: Storage>(
     calls: &[(Call, Answer)],
 ) {
     let driver = Raw::open_image(storage, true).expect(rt, "a raw image");
-    let mut image = FormatAccess::new(driver);
+    let mut image = alone(driver);
     let refused = image.commit_data_mapping(PreparedDataMapping::to_commit(0, 0, 4, ()));
     assert_eq!(rt; refused, Err(Error::ForeignMapping));
     script(rt, alloc, &mut image, calls);
@@ -433,7 +433,7 @@ const REFUSED: [(Call, Answer); 4] = [
 /// Runs the calls three times on one image. At most one of the runs has no memory, and the replies of the others are kept.
 fn run_thrice<S: Storage>(rt: &impl Abort, alloc: Global, storage: S, calls: &[(Call, Answer)]) {
     let driver = Raw::open_image(storage, false).expect(rt, "a raw image");
-    let mut image = FormatAccess::new(driver);
+    let mut image = alone(driver);
     let mut replies = Vec::new(alloc);
     let mut done: usize = 0;
     for _ in 0..3 {
@@ -464,7 +464,7 @@ fn seen_from_above<B: LowerLayer>(
 /// A driver above an image of that storage sees its size, and its last bytes.
 fn is_seen<S: Storage>(rt: &impl Abort, alloc: Global, storage: S) {
     let driver = Raw::open_image(storage, false).expect(rt, "a raw image");
-    let image = FormatAccess::new(driver);
+    let image = alone(driver);
     let seen = match seen_from_above(alloc, &image, 2) {
         Err(Error::Memory) => seen_from_above(alloc, &image, 2),
         answer => answer,
@@ -492,7 +492,7 @@ fn above_raw<S: Storage>(
 }
 
 /// The same of images in memory.
-fn above(
+fn above_mem(
     rt: &impl Abort,
     alloc: Global,
     lower: MemStorage,
@@ -518,7 +518,7 @@ const HIDES: [(Call, Answer); 8] = [
 /// The calls on 4 bytes ff above 8 bytes 11. Answers whether there was memory for both.
 fn hides(rt: &impl Abort, alloc: Global) -> bool {
     let lower = storing(rt, alloc, &[0x11; 8]);
-    above(
+    above_mem(
         rt,
         alloc,
         lower,
@@ -558,14 +558,13 @@ fn exchange<S: Storage>(
     let lower = Raw::open_image(lower, false).expect(rt, "a raw image");
     let upper = Raw::open_image(upper, true).expect(rt, "a raw image");
     let other = Raw::open_image(other, false).expect(rt, "a raw image");
-    match Box::new(alloc, FormatAccess::new(lower)) {
-        Ok(below) => {
-            let mut image = FormatAccess::with_backing(upper, below);
+    match above(alloc, upper, alone(lower)) {
+        Some(mut image) => {
             assert!(rt; !put(&mut image, other));
             script(rt, alloc, &mut image, calls);
             true
         }
-        Err(_) => false,
+        None => false,
     }
 }
 
@@ -594,7 +593,7 @@ const ALIGNED: [(Call, Answer); 1] = [(Call::Aligns, Answer::Aligns(512, 4096))]
 fn aligned(rt: &impl Abort, alloc: Global) -> bool {
     let lower = storing(rt, alloc, &[1]).with_aligns(8, 512);
     let upper = storing(rt, alloc, &[2]).with_aligns(4096, 64);
-    above(rt, alloc, lower, (upper, false), &ALIGNED)
+    above_mem(rt, alloc, lower, (upper, false), &ALIGNED)
 }
 
 #[test]
@@ -638,7 +637,7 @@ const PRINTED: [(Mapping, &str); 6] = [
 #[test]
 fn mappings_are_printed(rt: HostRuntime) {
     let alloc = rt.alloc();
-    for (mapping, text) in PRINTED {
+    for &(mapping, text) in &PRINTED {
         assert_eq!(rt; printed(&rt, alloc, &mapping).as_str(), text);
         assert_eq!(rt; mapping.is_eof(), text == "<eof>");
     }

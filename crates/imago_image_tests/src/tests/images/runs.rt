@@ -1,6 +1,6 @@
 //! The same calls as a list for `run`, and the replies.
 use super::answer::{Answer, data, prepared};
-use super::image::{Call, is_spent, script};
+use super::image::{Call, above, alone, is_spent, script};
 use super::set_up::{copied, printed, runs};
 use imago_access::access::FormatAccess;
 use imago_access::run::{self, Reply};
@@ -140,7 +140,7 @@ pub(super) fn run_raw<S: Storage>(
     calls: &[(Call, Answer)],
 ) -> bool {
     let driver = Raw::open_image(storage, writable).expect(rt, "a raw image");
-    let mut image = FormatAccess::new(driver);
+    let mut image = alone(driver);
     by_run(rt, alloc, &mut image, calls, &mut Vec::new(alloc))
 }
 
@@ -153,13 +153,10 @@ pub(super) fn run_two<D: FormatDriverInstance>(
     upper: D,
     calls: &[(Call, Answer)],
 ) -> bool {
-    let mut below = FormatAccess::new(lower);
+    let mut below = alone(lower);
     script(rt, alloc, &mut below, first);
-    match Box::new(alloc, below) {
-        Ok(below) => {
-            let mut image = FormatAccess::with_backing(upper, below);
-            by_run(rt, alloc, &mut image, calls, &mut Vec::new(alloc))
-        }
-        Err(_) => false,
+    match above(alloc, upper, below) {
+        Some(mut image) => by_run(rt, alloc, &mut image, calls, &mut Vec::new(alloc)),
+        None => false,
     }
 }

@@ -51,10 +51,11 @@ pub(super) fn in_blocks(rt: &impl Abort, storage: MemStorage, align: usize) -> M
 
 /// A copy.
 pub(super) fn copied(rt: &impl Abort, alloc: Global, bytes: &[u8]) -> Vec<u8> {
-    match bytes.to_vec(alloc) {
-        Ok(copy) => copy,
-        Err(_) => bytes.to_vec(alloc).expect(rt, "memory for a copy"),
+    let mut copy = buffer(rt, alloc, bytes.len());
+    for (to, &byte) in copy.iter_mut().zip(bytes) {
+        *to = byte;
     }
+    copy
 }
 
 /// A storage of these bytes.

@@ -1,7 +1,7 @@
 //! The images that a sweep is made on. What is done with them is generic, and named once for each type, so that the proofs
 //! of the tests stay short.
 use super::answer::Answer;
-use super::image::{Call, make};
+use super::image::{Call, above, alone, make};
 use super::rule::Disk;
 use super::set_up::{buffer, in_blocks, number, numbers, runs};
 use imago_access::access::FormatAccess;
@@ -168,21 +168,6 @@ fn sparse<S: Storage>(rt: &impl Abort, first: S, second: S, table: Vec<Origin>) 
     Sparse::new(first, second, table, size, settings).expect(rt, "a table that fits")
 }
 
-/// An image of a driver, alone or above one of another driver, where there is memory for it.
-fn layered<D: FormatDriverInstance>(
-    alloc: Global,
-    driver: D,
-    lower: Option<D>,
-) -> Option<FormatAccess<D>> {
-    let Some(lower) = lower else {
-        return Some(FormatAccess::new(driver));
-    };
-    match Box::new(alloc, FormatAccess::new(lower)) {
-        Ok(below) => Some(FormatAccess::with_backing(driver, below)),
-        Err(_) => None,
-    }
-}
-
 /// The layer below a table.
 fn lowest(rt: &impl Abort, alloc: Global, form: Form) -> Sparse<Faulty> {
     let first = device(rt, runs(rt, alloc, &[(LOWER_SIZE, LOWER)]), form);
@@ -200,17 +185,16 @@ fn opened_table(
     let first = armed(rt, alloc, form, fault, false);
     let second = armed(rt, alloc, form, fault, true);
     let driver = sparse(rt, first, second, table(rt, alloc, SIZE, false));
-    let lower = match form.kind {
-        Kind::Chain => Some(lowest(rt, alloc, form)),
-        _ => None,
-    };
-    layered(alloc, driver, lower)
+    match form.kind {
+        Kind::Chain => above(alloc, driver, alone(lowest(rt, alloc, form))),
+        _ => Some(alone(driver)),
+    }
 }
 
 /// An image of one storage.
 fn single<S: Storage>(rt: &impl Abort, storage: S, kind: Kind) -> FormatAccess<TestDriver<S>> {
     let raw = Raw::open_image(storage, true).expect(rt, "a raw image");
-    FormatAccess::new(match kind {
+    alone(match kind {
         Kind::Choppy(cut) => TestDriver::Choppy(Choppy::new(raw, cut)),
         Kind::Granular(cut) => TestDriver::Choppy(Choppy::granular(raw, cut)),
         _ => TestDriver::Raw(raw),

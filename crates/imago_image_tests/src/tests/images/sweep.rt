@@ -220,6 +220,13 @@ fn step_on(rt: &impl Abort, alloc: Global, subject: &mut Subject, disk: &mut Dis
     assert!(rt; !is_refusal(answer), "refused without a fault");
 }
 
+/// Uses an image on.
+fn use_on(rt: &impl Abort, alloc: Global, subject: &mut Subject, disk: &mut Disk) {
+    for &next in &USES {
+        step_on(rt, alloc, subject, disk, next);
+    }
+}
+
 /// Makes a call that a fault is waiting for, and answers whether it met the fault. The image is used on then.
 fn is_refused(rt: &impl Abort, alloc: Global, form: Form, row: Row, fault: Fault) -> bool {
     let mut disk = first_disk(rt, alloc, form.kind);
@@ -236,9 +243,7 @@ fn is_refused(rt: &impl Abort, alloc: Global, form: Form, row: Row, fault: Fault
     }
     assert_eq!(rt; answer, DEVICE);
     step_on(rt, alloc, &mut subject, &mut disk, row);
-    for next in USES {
-        step_on(rt, alloc, &mut subject, &mut disk, next);
-    }
+    use_on(rt, alloc, &mut subject, &mut disk);
     let (faults, below) = subject.end(rt, alloc);
     assert_eq!(rt; faults, 1);
     assert!(rt; below == disk.below, "the layer below has changed");
@@ -264,7 +269,7 @@ fn reached(rt: &impl Abort, alloc: Global, form: Form, row: Row, tear: Tear, sec
 /// Sweeps over the rows with each tear, and with a refused resize.
 fn sweep(rt: &impl Abort, alloc: Global, form: Form, rows: &[Row]) {
     for &row in rows {
-        for tear in TEARS {
+        for &tear in &TEARS {
             reached(rt, alloc, form, row, tear, false);
             if let Kind::Table | Kind::Chain = form.kind {
                 reached(rt, alloc, form, row, tear, true);
@@ -286,6 +291,11 @@ fn sweep_both(rt: &impl Abort, alloc: Global, kind: Kind, align: usize, rows: &[
     }
 }
 
+/// Sweeps over the calls of an image for storages with that alignment.
+fn sweep_image(rt: &impl Abort, alloc: Global, kind: Kind, align: usize) {
+    sweep_both(rt, alloc, kind, align, &CALLS);
+}
+
 /// Sweeps over the calls of a driver for storages with alignments of 1, 8 and 512, and a driver for each.
 fn sweep_driver(rt: &impl Abort, alloc: Global, kinds: [Kind; 3]) {
     for (kind, align) in kinds.into_iter().zip([1, 8, 512]) {
@@ -295,77 +305,77 @@ fn sweep_driver(rt: &impl Abort, alloc: Global, kinds: [Kind; 3]) {
 
 #[test]
 fn a_raw_image_over_bytes_fails_anywhere(rt: HostRuntime) {
-    sweep_both(&rt, rt.alloc(), Kind::Raw, 1, &CALLS);
+    sweep_image(&rt, rt.alloc(), Kind::Raw, 1);
 }
 
 #[test]
 fn a_raw_image_over_short_blocks_fails_anywhere(rt: HostRuntime) {
-    sweep_both(&rt, rt.alloc(), Kind::Raw, 8, &CALLS);
+    sweep_image(&rt, rt.alloc(), Kind::Raw, 8);
 }
 
 #[test]
 fn a_raw_image_over_long_blocks_fails_anywhere(rt: HostRuntime) {
-    sweep_both(&rt, rt.alloc(), Kind::Raw, 512, &CALLS);
+    sweep_image(&rt, rt.alloc(), Kind::Raw, 512);
 }
 
 #[test]
 fn an_image_in_pieces_over_bytes_fails_anywhere(rt: HostRuntime) {
-    sweep_both(&rt, rt.alloc(), Kind::Choppy(256), 1, &CALLS);
+    sweep_image(&rt, rt.alloc(), Kind::Choppy(256), 1);
 }
 
 #[test]
 fn an_image_in_pieces_over_short_blocks_fails_anywhere(rt: HostRuntime) {
-    sweep_both(&rt, rt.alloc(), Kind::Choppy(256), 8, &CALLS);
+    sweep_image(&rt, rt.alloc(), Kind::Choppy(256), 8);
 }
 
 #[test]
 fn an_image_in_pieces_over_long_blocks_fails_anywhere(rt: HostRuntime) {
-    sweep_both(&rt, rt.alloc(), Kind::Choppy(512), 512, &CALLS);
+    sweep_image(&rt, rt.alloc(), Kind::Choppy(512), 512);
 }
 
 #[test]
 fn an_image_in_granules_over_bytes_fails_anywhere(rt: HostRuntime) {
-    sweep_both(&rt, rt.alloc(), Kind::Granular(256), 1, &CALLS);
+    sweep_image(&rt, rt.alloc(), Kind::Granular(256), 1);
 }
 
 #[test]
 fn an_image_in_granules_over_short_blocks_fails_anywhere(rt: HostRuntime) {
-    sweep_both(&rt, rt.alloc(), Kind::Granular(256), 8, &CALLS);
+    sweep_image(&rt, rt.alloc(), Kind::Granular(256), 8);
 }
 
 #[test]
 fn an_image_in_granules_over_long_blocks_fails_anywhere(rt: HostRuntime) {
-    sweep_both(&rt, rt.alloc(), Kind::Granular(512), 512, &CALLS);
+    sweep_image(&rt, rt.alloc(), Kind::Granular(512), 512);
 }
 
 #[test]
 fn a_table_over_bytes_fails_anywhere(rt: HostRuntime) {
-    sweep_both(&rt, rt.alloc(), Kind::Table, 1, &CALLS);
+    sweep_image(&rt, rt.alloc(), Kind::Table, 1);
 }
 
 #[test]
 fn a_table_over_short_blocks_fails_anywhere(rt: HostRuntime) {
-    sweep_both(&rt, rt.alloc(), Kind::Table, 8, &CALLS);
+    sweep_image(&rt, rt.alloc(), Kind::Table, 8);
 }
 
 #[test]
 fn a_table_over_long_blocks_fails_anywhere(rt: HostRuntime) {
-    sweep_both(&rt, rt.alloc(), Kind::Table, 512, &CALLS);
+    sweep_image(&rt, rt.alloc(), Kind::Table, 512);
 }
 
 #[test]
 fn a_chain_over_bytes_fails_anywhere(rt: HostRuntime) {
-    sweep_both(&rt, rt.alloc(), Kind::Chain, 1, &CALLS);
+    sweep_image(&rt, rt.alloc(), Kind::Chain, 1);
 }
 
 #[test]
 fn a_chain_over_short_blocks_fails_anywhere(rt: HostRuntime) {
-    sweep_both(&rt, rt.alloc(), Kind::Chain, 8, &CALLS);
+    sweep_image(&rt, rt.alloc(), Kind::Chain, 8);
 }
 
 #[test]
 fn a_chain_over_long_blocks_fails_anywhere(rt: HostRuntime) {
-    sweep_both(&rt, rt.alloc(), Kind::Chain, 512, &CALLS);
+    sweep_image(&rt, rt.alloc(), Kind::Chain, 512);
 }
 
 #[test]
@@ -405,20 +415,23 @@ fn each_once(rt: &impl Abort, alloc: Global, kind: Kind, rows: &[Row]) {
         let mut disk = first_disk(rt, alloc, kind);
         let mut subject = Subject::open(rt, alloc, form, Fault::Never);
         step_on(rt, alloc, &mut subject, &mut disk, row);
-        for next in USES {
-            step_on(rt, alloc, &mut subject, &mut disk, next);
-        }
+        use_on(rt, alloc, &mut subject, &mut disk);
     }
+}
+
+/// The same for the calls of an image.
+fn each_of_an_image(rt: &impl Abort, alloc: Global, kind: Kind) {
+    each_once(rt, alloc, kind, &CALLS);
 }
 
 #[test]
 fn calls_of_a_raw_image_go_on_without_memory(rt: HostRuntime) {
-    each_once(&rt, rt.alloc(), Kind::Raw, &CALLS);
+    each_of_an_image(&rt, rt.alloc(), Kind::Raw);
 }
 
 #[test]
 fn calls_of_an_image_in_granules_go_on_without_memory(rt: HostRuntime) {
-    each_once(&rt, rt.alloc(), Kind::Granular(256), &CALLS);
+    each_of_an_image(&rt, rt.alloc(), Kind::Granular(256));
 }
 
 #[test]
@@ -428,7 +441,7 @@ fn calls_of_a_table_go_on_without_memory(rt: HostRuntime) {
 
 #[test]
 fn calls_of_a_chain_go_on_without_memory(rt: HostRuntime) {
-    each_once(&rt, rt.alloc(), Kind::Chain, &CALLS);
+    each_of_an_image(&rt, rt.alloc(), Kind::Chain);
 }
 
 /// A driver and the alignment of its storage, a row, and how many calls it makes.
@@ -459,7 +472,7 @@ const REACHED: [(Kind, usize, usize, u64); 15] = [
 #[test]
 fn a_change_makes_so_many_calls(rt: HostRuntime) {
     let alloc = rt.alloc();
-    for (kind, align, row, calls) in REACHED {
+    for &(kind, align, row, calls) in &REACHED {
         let form = Form {
             kind,
             align,

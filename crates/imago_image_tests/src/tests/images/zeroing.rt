@@ -155,8 +155,8 @@ const ALIGNED: [[(Call, Answer); 2]; 4] = [
 #[test]
 fn what_the_driver_leaves_is_zeroed_as_data(rt: HostRuntime) {
     let alloc = rt.alloc();
-    for calls in ALIGNED {
-        on_storage(&rt, alloc, sixteen(&rt, alloc), &calls);
+    for calls in &ALIGNED {
+        on_storage(&rt, alloc, sixteen(&rt, alloc), calls);
     }
 }
 

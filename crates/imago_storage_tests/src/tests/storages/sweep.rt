@@ -172,7 +172,7 @@ const CHANGES: [(Kind, Call, Option<bool>, [u64; 3]); 8] = [
 #[test]
 fn a_change_fails_at_each_call(rt: HostRuntime) {
     let alloc = rt.alloc();
-    for (kind, call, written, expected) in CHANGES {
+    for &(kind, call, written, expected) in &CHANGES {
         let (before, after) = bytes(&rt, alloc, written);
         let change = Change {
             kind,
@@ -180,7 +180,7 @@ fn a_change_fails_at_each_call(rt: HostRuntime) {
             before: &before,
             after: &after,
         };
-        for tear in TEARS {
+        for &tear in &TEARS {
             for (align, expected) in [1, 8, 512].into_iter().zip(expected) {
                 let made = calls(&rt, alloc, align, &change, tear);
                 assert_eq!(rt; made, expected, "{align}");

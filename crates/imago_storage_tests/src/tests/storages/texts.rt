@@ -143,7 +143,7 @@ fn message(rt: &impl Abort, alloc: Global, error: &Error) -> String {
 #[test]
 fn each_refusal_has_its_kind_and_its_message(rt: HostRuntime) {
     let alloc = rt.alloc();
-    for (refusal, kind, text) in REFUSALS {
+    for &(refusal, kind, text) in &REFUSALS {
         assert_eq!(rt; refusal.kind(), kind, "{refusal:?}");
         assert_eq!(rt; message(&rt, alloc, &refusal).as_str(), text);
     }
