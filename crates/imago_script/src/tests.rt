@@ -48,9 +48,13 @@ fn check(rt: &(impl Abort + AllocGlobal), text: &[u8], printed: &str, status: u8
     assert_eq!(rt; got, status);
 }
 
+fn check_the_examples_print_what_stands_beside_them(rt: &(impl Abort + AllocGlobal)) {
+    for (_name, text, printed) in examples::EXAMPLES {
+        check(rt, text.as_bytes(), printed, 0);
+    }
+}
+
 #[test]
 fn the_examples_print_what_stands_beside_them(rt: HostRuntime) {
-    for (_name, text, printed) in examples::EXAMPLES {
-        check(&rt, text.as_bytes(), printed, 0);
-    }
+    check_the_examples_print_what_stands_beside_them(&rt);
 }

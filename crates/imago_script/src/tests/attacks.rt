@@ -131,24 +131,32 @@ fn check(rt: &(impl Abort + AllocGlobal), text: &[u8], same: usize) {
     );
 }
 
-#[test]
-fn each_beginning_of_a_script(rt: HostRuntime) {
+fn check_each_beginning_of_a_script(rt: &(impl Abort + AllocGlobal)) {
     for end in 0..=TEXT.len() {
-        check(&rt, &TEXT[..end], end);
+        check(rt, &TEXT[..end], end);
     }
 }
 
 #[test]
-fn each_byte_of_a_script_replaced(rt: HostRuntime) {
+fn each_beginning_of_a_script(rt: HostRuntime) {
+    check_each_beginning_of_a_script(&rt);
+}
+
+fn check_each_byte_of_a_script_replaced(rt: &(impl Abort + AllocGlobal)) {
     let mut text = TEXT;
     for place in 0..text.len() {
         let byte = text[place];
         for other in [0, b'\n', b' ', b'#', b'-', b'9', b'f', 0xff] {
             text[place] = other;
-            check(&rt, &text, place);
+            check(rt, &text, place);
         }
         text[place] = byte;
     }
+}
+
+#[test]
+fn each_byte_of_a_script_replaced(rt: HostRuntime) {
+    check_each_byte_of_a_script_replaced(&rt);
 }
 
 /// A script of three parts, the middle one a text so many times, which is given piece by piece.
@@ -254,8 +262,7 @@ const LONG_LINES: [(&[u8], &[u8], &[u8], &[u8], u8); 14] = [
     (b"shrink ", &[b'0'; 64], b"1\n", b"err NotFound\n", 0),
 ];
 
-#[test]
-fn long_lines(rt: HostRuntime) {
+fn check_long_lines(rt: &(impl Abort + AllocGlobal)) {
     for &(start, unit, end, printed, status) in &LONG_LINES {
         let (got, output) = long_outcome(rt.alloc(), start, unit, PIECES, end);
         if got != status || output.as_slice() != printed {
@@ -265,6 +272,11 @@ fn long_lines(rt: HostRuntime) {
             assert_eq!(rt; got, status);
         }
     }
+}
+
+#[test]
+fn long_lines(rt: HostRuntime) {
+    check_long_lines(&rt);
 }
 
 /// How many lines a long script has.
@@ -279,11 +291,15 @@ fn is_refused_throughout(status: u8, output: &[u8]) -> bool {
             .all(|line| line == b"err NotFound\n".as_slice())
 }
 
-#[test]
-fn many_lines(rt: HostRuntime) {
+fn check_many_lines(rt: &(impl Abort + AllocGlobal)) {
     let (status, output) = long_outcome(rt.alloc(), b"", b"size\n", LINES, b"");
     if !is_refused_throughout(status, &output) {
         let (status, output) = long_outcome(rt.alloc(), b"", b"size\n", LINES, b"");
         assert!(rt; is_refused_throughout(status, &output));
     }
+}
+
+#[test]
+fn many_lines(rt: HostRuntime) {
+    check_many_lines(&rt);
 }

@@ -1,6 +1,7 @@
 //! Lines that are no commands.
 
 use super::check;
+use std::process::Abort;
 
 /// Texts that are no command, each by one fault.
 const BAD_LINES: [&[u8]; 90] = [
@@ -103,11 +104,15 @@ const BAD_LINES: [&[u8]; 90] = [
     b"open raw a wr",
 ];
 
+fn check_each_ends_the_script(rt: &(impl Abort + AllocGlobal)) {
+    for &line in &BAD_LINES {
+        check(rt, line, "bad line 1\n", 2);
+    }
+}
+
 #[test]
 fn each_ends_the_script(rt: HostRuntime) {
-    for &line in &BAD_LINES {
-        check(&rt, line, "bad line 1\n", 2);
-    }
+    check_each_ends_the_script(&rt);
 }
 
 /// Scripts with a bad line, and what they print: the lines before it are done, those behind it aren't.
@@ -126,9 +131,13 @@ const SCRIPTS: [(&str, &str); 6] = [
     ("size\r\nsize\r\n", "bad line 1\n"),
 ];
 
+fn check_lines_are_counted_from_one(rt: &(impl Abort + AllocGlobal)) {
+    for &(text, printed) in &SCRIPTS {
+        check(rt, text.as_bytes(), printed, 2);
+    }
+}
+
 #[test]
 fn lines_are_counted_from_one(rt: HostRuntime) {
-    for &(text, printed) in &SCRIPTS {
-        check(&rt, text.as_bytes(), printed, 2);
-    }
+    check_lines_are_counted_from_one(&rt);
 }

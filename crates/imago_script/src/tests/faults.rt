@@ -1,8 +1,9 @@
 //! Inputs and outputs that fail.
 
 use imago_script_parts::script::script;
-use std::alloc::Global;
+use std::alloc::{AllocGlobal, Global};
 use std::io::{self, ErrorKind, Read, Write};
+use std::process::Abort;
 
 /// Gives its text a byte at a time, and then ends or fails.
 #[derive(Drop)]
@@ -49,8 +50,9 @@ impl Write for FullWriter {
     }
 }
 
-#[test]
-fn an_input_that_fails_ends_the_script_before_its_first_line(rt: HostRuntime) {
+fn check_an_input_that_fails_ends_the_script_before_its_first_line(
+    rt: &(impl Abort + AllocGlobal),
+) {
     for text in [&b""[..], b"size\n", b"hex a 00\nbad line\n"] {
         let mut output = Vec::new(rt.alloc());
         assert_eq!(rt;
@@ -66,7 +68,11 @@ fn an_input_that_fails_ends_the_script_before_its_first_line(rt: HostRuntime) {
 }
 
 #[test]
-fn an_output_that_fails_ends_the_script(rt: HostRuntime) {
+fn an_input_that_fails_ends_the_script_before_its_first_line(rt: HostRuntime) {
+    check_an_input_that_fails_ends_the_script_before_its_first_line(&rt);
+}
+
+fn check_an_output_that_fails_ends_the_script(rt: &(impl Abort + AllocGlobal)) {
     // Each text, and how many bytes it prints: the last one more than are buffered.
     for (text, printed) in [
         ("size\n", 13),
@@ -83,6 +89,11 @@ fn an_output_that_fails_ends_the_script(rt: HostRuntime) {
             assert_eq!(rt; status, 1, "{text} {room}");
         }
     }
+}
+
+#[test]
+fn an_output_that_fails_ends_the_script(rt: HostRuntime) {
+    check_an_output_that_fails_ends_the_script(&rt);
 }
 
 /// A script, and what it prints.
@@ -109,8 +120,7 @@ fn kept(alloc: Global, room: usize, most: usize) -> (u8, Vec<u8>) {
     (status, kept)
 }
 
-#[test]
-fn an_output_that_fails_after_any_byte_has_what_came_before(rt: HostRuntime) {
+fn check_an_output_that_fails_after_any_byte_has_what_came_before(rt: &(impl Abort + AllocGlobal)) {
     for room in 0..=PRINTED.len() {
         for most in [1, 5, 4096] {
             let status = if room < PRINTED.len() { 1 } else { 2 };
@@ -123,4 +133,9 @@ fn an_output_that_fails_after_any_byte_has_what_came_before(rt: HostRuntime) {
             }
         }
     }
+}
+
+#[test]
+fn an_output_that_fails_after_any_byte_has_what_came_before(rt: HostRuntime) {
+    check_an_output_that_fails_after_any_byte_has_what_came_before(&rt);
 }

@@ -1,6 +1,7 @@
 //! Scripts that were worked out by hand.
 
 use super::check;
+use std::process::Abort;
 
 /// Scripts whose every line is a command, and what they print.
 const ROWS: [(&str, &str); 26] = [
@@ -297,16 +298,24 @@ const COPY_ON_WRITE: [(&str, &str); 15] = [
     ),
 ];
 
+fn check_rows(rt: &(impl Abort + AllocGlobal)) {
+    for &(text, printed) in &ROWS {
+        check(rt, text.as_bytes(), printed, 0);
+    }
+}
+
 #[test]
 fn rows(rt: HostRuntime) {
-    for &(text, printed) in &ROWS {
-        check(&rt, text.as_bytes(), printed, 0);
+    check_rows(&rt);
+}
+
+fn check_copy_on_write(rt: &(impl Abort + AllocGlobal)) {
+    for &(text, printed) in &COPY_ON_WRITE {
+        check(rt, text.as_bytes(), printed, 0);
     }
 }
 
 #[test]
 fn copy_on_write(rt: HostRuntime) {
-    for &(text, printed) in &COPY_ON_WRITE {
-        check(&rt, text.as_bytes(), printed, 0);
-    }
+    check_copy_on_write(&rt);
 }

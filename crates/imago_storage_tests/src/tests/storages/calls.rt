@@ -3,6 +3,8 @@ use super::script::{Call, Script, Step, check_all};
 use super::subject::Kind;
 use imago_storage::storage::{PreallocateMode, ZeroKind};
 use imago_test_storages::recording::Recorded;
+use std::alloc::Global;
+use std::process::Abort;
 
 /// Bytes without alignments.
 const BYTES: (usize, usize, usize) = (1, 1, 1);
@@ -95,9 +97,13 @@ const CALLS: [Script; 4] = [
     },
 ];
 
+fn check_each_call_succeeds(rt: &impl Abort, alloc: Global) {
+    check_all(rt, alloc, &CALLS);
+}
+
 #[test]
 fn each_call_succeeds(rt: HostRuntime) {
-    check_all(&rt, rt.alloc(), &CALLS);
+    check_each_call_succeeds(&rt, rt.alloc());
 }
 
 const RESIZES: [Script; 4] = [
@@ -165,9 +171,13 @@ const RESIZES: [Script; 4] = [
     },
 ];
 
+fn check_memory_grows_by_zeroes_and_shrinks(rt: &impl Abort, alloc: Global) {
+    check_all(rt, alloc, &RESIZES);
+}
+
 #[test]
 fn memory_grows_by_zeroes_and_shrinks(rt: HostRuntime) {
-    check_all(&rt, rt.alloc(), &RESIZES);
+    check_memory_grows_by_zeroes_and_shrinks(&rt, rt.alloc());
 }
 
 const LENT: [Script; 2] = [

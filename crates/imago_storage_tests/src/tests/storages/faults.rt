@@ -4,6 +4,8 @@ use super::subject::Kind;
 use imago_storage::error::Error;
 use imago_storage::storage::PreallocateMode;
 use imago_test_storages::faulty::Tear;
+use std::alloc::Global;
+use std::process::Abort;
 
 /// Sixteen bytes in blocks of 8.
 const BLOCKS: (usize, usize, usize) = (8, 8, 8);
@@ -125,9 +127,13 @@ const WRITES: [Script; 9] = [
     },
 ];
 
+fn check_a_write_stops_at_each_call(rt: &impl Abort, alloc: Global) {
+    check_all(rt, alloc, &WRITES);
+}
+
 #[test]
 fn a_write_stops_at_each_call(rt: HostRuntime) {
-    check_all(&rt, rt.alloc(), &WRITES);
+    check_a_write_stops_at_each_call(&rt, rt.alloc());
 }
 
 // the zero write, then the byte behind it as data, read and written
@@ -179,9 +185,13 @@ const ZEROES: [Script; 5] = [
     },
 ];
 
+fn check_a_zero_write_stops_at_each_call(rt: &impl Abort, alloc: Global) {
+    check_all(rt, alloc, &ZEROES);
+}
+
 #[test]
 fn a_zero_write_stops_at_each_call(rt: HostRuntime) {
-    check_all(&rt, rt.alloc(), &ZEROES);
+    check_a_zero_write_stops_at_each_call(&rt, rt.alloc());
 }
 
 const KINDS: [Script; 5] = [
@@ -278,9 +288,13 @@ const KINDS: [Script; 5] = [
     },
 ];
 
+fn check_each_kind_of_call_fails(rt: &impl Abort, alloc: Global) {
+    check_all(rt, alloc, &KINDS);
+}
+
 #[test]
 fn each_kind_of_call_fails(rt: HostRuntime) {
-    check_all(&rt, rt.alloc(), &KINDS);
+    check_each_kind_of_call_fails(&rt, rt.alloc());
 }
 
 const TEARS: [Script; 7] = [
@@ -396,7 +410,11 @@ const TEARS: [Script; 7] = [
     },
 ];
 
+fn check_a_refused_write_tears_as_it_is_told(rt: &impl Abort, alloc: Global) {
+    check_all(rt, alloc, &TEARS);
+}
+
 #[test]
 fn a_refused_write_tears_as_it_is_told(rt: HostRuntime) {
-    check_all(&rt, rt.alloc(), &TEARS);
+    check_a_refused_write_tears_as_it_is_told(&rt, rt.alloc());
 }

@@ -68,12 +68,11 @@ fn zeroes_are_not_opened_by_name(rt: HostRuntime) {
     );
 }
 
-#[test]
-fn lent_memory_is_not_opened_by_name(rt: HostRuntime) {
+fn check_lent_memory_is_not_opened_by_name(rt: &impl Abort, alloc: Global) {
     let none = Err(Error::Unsupported);
     is_created::<&mut MemStorage>(
-        &rt,
-        rt.alloc(),
+        rt,
+        alloc,
         true,
         Error::Unsupported,
         none,
@@ -82,12 +81,15 @@ fn lent_memory_is_not_opened_by_name(rt: HostRuntime) {
 }
 
 #[test]
-fn a_storage_is_created_and_let_go(rt: HostRuntime) {
-    let alloc = rt.alloc();
-    is_created::<Created>(&rt, alloc, true, Error::NotFound, Ok(700), Ok(()));
+fn lent_memory_is_not_opened_by_name(rt: HostRuntime) {
+    check_lent_memory_is_not_opened_by_name(&rt, rt.alloc());
+}
+
+fn check_a_storage_is_created_and_let_go(rt: &impl Abort, alloc: Global) {
+    is_created::<Created>(rt, alloc, true, Error::NotFound, Ok(700), Ok(()));
     let refused = Err(Error::NotFound);
     is_created::<Created>(
-        &rt,
+        rt,
         alloc,
         false,
         Error::NotFound,
@@ -97,19 +99,27 @@ fn a_storage_is_created_and_let_go(rt: HostRuntime) {
 }
 
 #[test]
-fn a_lent_storage_creates_as_its_own(rt: HostRuntime) {
-    let alloc = rt.alloc();
+fn a_storage_is_created_and_let_go(rt: HostRuntime) {
+    check_a_storage_is_created_and_let_go(&rt, rt.alloc());
+}
+
+fn check_a_lent_storage_creates_as_its_own(rt: &impl Abort, alloc: Global) {
     let none = Err(Error::Unsupported);
-    is_created::<&mut Created>(&rt, alloc, true, Error::Unsupported, none, Ok(()));
+    is_created::<&mut Created>(rt, alloc, true, Error::Unsupported, none, Ok(()));
     let refused = Err(Error::NotFound);
     is_created::<&mut Created>(
-        &rt,
+        rt,
         alloc,
         false,
         Error::Unsupported,
         Err(Error::Unsupported),
         refused,
     );
+}
+
+#[test]
+fn a_lent_storage_creates_as_its_own(rt: HostRuntime) {
+    check_a_lent_storage_creates_as_its_own(&rt, rt.alloc());
 }
 
 /// A name relative to a storage.
@@ -177,13 +187,16 @@ const ONE_BYTE: Told = Told {
     beside: Some("b.img"),
 };
 
+fn check_names_in_memory_are_kept_as_they_are(rt: &impl Abort, alloc: Global) {
+    let mut storage = memory(rt, alloc, (1, 1, 1));
+    memory_tells(rt, alloc, &storage, &ONE_BYTE);
+    let lent = &mut storage;
+    tells(rt, alloc, &lent, &ONE_BYTE);
+}
+
 #[test]
 fn names_in_memory_are_kept_as_they_are(rt: HostRuntime) {
-    let alloc = rt.alloc();
-    let mut storage = memory(&rt, alloc, (1, 1, 1));
-    memory_tells(&rt, alloc, &storage, &ONE_BYTE);
-    let lent = &mut storage;
-    tells(&rt, alloc, &lent, &ONE_BYTE);
+    check_names_in_memory_are_kept_as_they_are(&rt, rt.alloc());
 }
 
 /// One byte in blocks of one of a storage whose names are in a folder.
@@ -195,12 +208,15 @@ const BESIDE: Told = Told {
     beside: Some("beside/b.img"),
 };
 
+fn check_names_are_relative_to_a_lent_storage(rt: &impl Abort, alloc: Global) {
+    let mut storage = Recording::new(memory(rt, alloc, (1, 1, 1)));
+    let lent = &mut storage;
+    tells(rt, alloc, &lent, &BESIDE);
+}
+
 #[test]
 fn names_are_relative_to_a_lent_storage(rt: HostRuntime) {
-    let alloc = rt.alloc();
-    let mut storage = Recording::new(memory(&rt, alloc, (1, 1, 1)));
-    let lent = &mut storage;
-    tells(&rt, alloc, &lent, &BESIDE);
+    check_names_are_relative_to_a_lent_storage(&rt, rt.alloc());
 }
 
 /// Four zeroes.
@@ -217,14 +233,17 @@ fn no_names_are_relative_to_zeroes(rt: HostRuntime) {
     tells(&rt, rt.alloc(), &Null::new(4), &FOUR_ZEROES);
 }
 
-#[test]
-fn memory_has_bytes(rt: HostRuntime) {
-    let alloc = rt.alloc();
-    let storage = MemStorage::new(runs(&rt, alloc, &[(2, 5), (1, 6)]));
+fn check_memory_has_bytes(rt: &impl Abort, alloc: Global) {
+    let storage = MemStorage::new(runs(rt, alloc, &[(2, 5), (1, 6)]));
     assert_eq!(rt; storage.as_bytes(), [5, 5, 6].as_slice());
     assert_eq!(rt; storage.into_bytes().as_slice(), [5, 5, 6].as_slice());
-    let storage = memory(&rt, alloc, (1, 1, 1));
+    let storage = memory(rt, alloc, (1, 1, 1));
     assert_eq!(rt; storage.as_bytes(), [4].as_slice());
+}
+
+#[test]
+fn memory_has_bytes(rt: HostRuntime) {
+    check_memory_has_bytes(&rt, rt.alloc());
 }
 
 /// Memory without a name, with these alignments. Its blocks are as long as these are.
@@ -260,24 +279,30 @@ const DIFFERENT: Told = Told {
     beside: Some("b.img"),
 };
 
+fn check_a_lent_storage_has_its_own_alignments(rt: &impl Abort, alloc: Global) {
+    let mut storage = memory(rt, alloc, (2, 1, 16));
+    let lent = &mut storage;
+    tells(rt, alloc, &lent, &DIFFERENT);
+}
+
 #[test]
 fn a_lent_storage_has_its_own_alignments(rt: HostRuntime) {
-    let alloc = rt.alloc();
-    let mut storage = memory(&rt, alloc, (2, 1, 16));
-    let lent = &mut storage;
-    tells(&rt, alloc, &lent, &DIFFERENT);
+    check_a_lent_storage_has_its_own_alignments(&rt, rt.alloc());
+}
+
+fn check_what_is_inside_comes_back_as_it_was(rt: &impl Abort, alloc: Global) {
+    let inside = MemStorage::new(runs(rt, alloc, &[(1, 4)])).with_aligns(8, 2);
+    let storage = Faulty::new(inside.with_zero_align(16));
+    let told = unnamed((8, 2, 16, 2), 1);
+    tells(rt, alloc, &storage, &told);
+    let inner = storage.into_inner();
+    memory_tells(rt, alloc, &inner, &told);
+    assert_eq!(rt; inner.as_bytes(), [4].as_slice());
 }
 
 #[test]
 fn what_is_inside_comes_back_as_it_was(rt: HostRuntime) {
-    let alloc = rt.alloc();
-    let inside = MemStorage::new(runs(&rt, alloc, &[(1, 4)])).with_aligns(8, 2);
-    let storage = Faulty::new(inside.with_zero_align(16));
-    let told = unnamed((8, 2, 16, 2), 1);
-    tells(&rt, alloc, &storage, &told);
-    let inner = storage.into_inner();
-    memory_tells(&rt, alloc, &inner, &told);
-    assert_eq!(rt; inner.as_bytes(), [4].as_slice());
+    check_what_is_inside_comes_back_as_it_was(&rt, rt.alloc());
 }
 
 #[test]
@@ -290,8 +315,12 @@ fn alignments_are_powers_of_two(rt: HostRuntime) {
     }
 }
 
-#[test]
-fn a_range_has_an_aligned_part(rt: HostRuntime) {
+fn check_a_range_has_an_aligned_part(rt: &impl Abort) {
     assert_eq!(rt; aligned_part(8, 3, 13), Some((8, 16)));
     assert_eq!(rt; aligned_part(4096, u64::MAX - 10, 5), None);
+}
+
+#[test]
+fn a_range_has_an_aligned_part(rt: HostRuntime) {
+    check_a_range_has_an_aligned_part(&rt);
 }

@@ -1,9 +1,10 @@
 //! Options to open and create storages with.
 use super::set_up::owned;
 use imago_storage::storage::{PreallocateMode, StorageCreateOptions, StorageOpenOptions};
+use std::alloc::Global;
+use std::process::Abort;
 
-#[test]
-fn nothing_is_set_at_first(rt: HostRuntime) {
+fn check_nothing_is_set_at_first(rt: &impl Abort) {
     for opts in [StorageOpenOptions::new(), StorageOpenOptions::default()] {
         assert_eq!(rt; opts.get_filename(), None);
         assert!(rt; !opts.get_writable());
@@ -19,8 +20,12 @@ fn nothing_is_set_at_first(rt: HostRuntime) {
 }
 
 #[test]
-fn opening_options_are_kept(rt: HostRuntime) {
-    let name = owned(&rt, rt.alloc(), "a.img");
+fn nothing_is_set_at_first(rt: HostRuntime) {
+    check_nothing_is_set_at_first(&rt);
+}
+
+fn check_opening_options_are_kept(rt: &impl Abort, alloc: Global) {
+    let name = owned(rt, alloc, "a.img");
     let opts = StorageOpenOptions::new().filename(name).write(true);
     assert_eq!(rt; opts.get_filename(), Some("a.img"));
     assert!(rt; opts.get_writable());
@@ -31,8 +36,12 @@ fn opening_options_are_kept(rt: HostRuntime) {
 }
 
 #[test]
-fn creation_options_are_kept(rt: HostRuntime) {
-    let name = owned(&rt, rt.alloc(), "b.img");
+fn opening_options_are_kept(rt: HostRuntime) {
+    check_opening_options_are_kept(&rt, rt.alloc());
+}
+
+fn check_creation_options_are_kept(rt: &impl Abort, alloc: Global) {
+    let name = owned(rt, alloc, "b.img");
     let opts = StorageCreateOptions::new()
         .filename(name)
         .size(65536)
@@ -47,4 +56,9 @@ fn creation_options_are_kept(rt: HostRuntime) {
     assert_eq!(rt; to_open.get_filename(), Some("b.img"));
     assert!(rt; to_open.get_direct());
     assert!(rt; !to_open.get_writable());
+}
+
+#[test]
+fn creation_options_are_kept(rt: HostRuntime) {
+    check_creation_options_are_kept(&rt, rt.alloc());
 }

@@ -169,11 +169,9 @@ const CHANGES: [(Kind, Call, Option<bool>, [u64; 3]); 8] = [
     ),
 ];
 
-#[test]
-fn a_change_fails_at_each_call(rt: HostRuntime) {
-    let alloc = rt.alloc();
+fn check_a_change_fails_at_each_call(rt: &impl Abort, alloc: Global) {
     for &(kind, call, written, expected) in &CHANGES {
-        let (before, after) = bytes(&rt, alloc, written);
+        let (before, after) = bytes(rt, alloc, written);
         let change = Change {
             kind,
             call,
@@ -182,11 +180,16 @@ fn a_change_fails_at_each_call(rt: HostRuntime) {
         };
         for &tear in &TEARS {
             for (align, expected) in [1, 8, 512].into_iter().zip(expected) {
-                let made = calls(&rt, alloc, align, &change, tear);
+                let made = calls(rt, alloc, align, &change, tear);
                 assert_eq!(rt; made, expected, "{align}");
             }
         }
     }
+}
+
+#[test]
+fn a_change_fails_at_each_call(rt: HostRuntime) {
+    check_a_change_fails_at_each_call(&rt, rt.alloc());
 }
 
 /// What is left at an offset: zero in the first MiB, and at each odd offset of the second one.

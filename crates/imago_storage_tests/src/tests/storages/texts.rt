@@ -37,25 +37,31 @@ fn memory(rt: &impl Abort, alloc: Global, storage: &MemStorage) -> String {
     printed(rt, alloc, storage)
 }
 
+fn check_memory_is_printed_by_its_name_or_its_length(rt: &impl Abort, alloc: Global) {
+    let bytes = runs(rt, alloc, &[(3, 0)]);
+    let named = MemStorage::named(owned(rt, alloc, "disk.img"), bytes);
+    assert_eq!(rt; memory(rt, alloc, &named).as_str(), "mem:disk.img");
+    for (count, text) in [(512, "mem:[512B]"), (0, "mem:[0B]")] {
+        let storage = zeroes(rt, alloc, count);
+        assert_eq!(rt; memory(rt, alloc, &storage).as_str(), text);
+    }
+}
+
 #[test]
 fn memory_is_printed_by_its_name_or_its_length(rt: HostRuntime) {
-    let alloc = rt.alloc();
-    let bytes = runs(&rt, alloc, &[(3, 0)]);
-    let named = MemStorage::named(owned(&rt, alloc, "disk.img"), bytes);
-    assert_eq!(rt; memory(&rt, alloc, &named).as_str(), "mem:disk.img");
-    for (count, text) in [(512, "mem:[512B]"), (0, "mem:[0B]")] {
-        let storage = zeroes(&rt, alloc, count);
-        assert_eq!(rt; memory(&rt, alloc, &storage).as_str(), text);
+    check_memory_is_printed_by_its_name_or_its_length(&rt, rt.alloc());
+}
+
+fn check_zeroes_are_printed_by_their_length(rt: &impl Abort, alloc: Global) {
+    for (size, text) in [(7, "null:[7B]"), (u64::MAX, "null:[18446744073709551615B]")] {
+        let storage = Null::new(size);
+        assert_eq!(rt; printed(rt, alloc, &storage).as_str(), text);
     }
 }
 
 #[test]
 fn zeroes_are_printed_by_their_length(rt: HostRuntime) {
-    let alloc = rt.alloc();
-    for (size, text) in [(7, "null:[7B]"), (u64::MAX, "null:[18446744073709551615B]")] {
-        let storage = Null::new(size);
-        assert_eq!(rt; printed(&rt, alloc, &storage).as_str(), text);
-    }
+    check_zeroes_are_printed_by_their_length(&rt, rt.alloc());
 }
 
 #[test]
@@ -66,21 +72,24 @@ fn a_lent_storage_is_printed_as_itself(rt: HostRuntime) {
     assert_eq!(rt; printed(&rt, alloc, &lent).as_str(), "mem:[9B]");
 }
 
-#[test]
-fn storages_for_tests_print_what_is_inside(rt: HostRuntime) {
-    let alloc = rt.alloc();
-    let faulty = Faulty::new(zeroes(&rt, alloc, 4));
-    assert_eq!(rt; printed(&rt, alloc, &faulty).as_str(), "faulty[mem:[4B]]");
-    let counting = Counting::new(zeroes(&rt, alloc, 4));
+fn check_storages_for_tests_print_what_is_inside(rt: &impl Abort, alloc: Global) {
+    let faulty = Faulty::new(zeroes(rt, alloc, 4));
+    assert_eq!(rt; printed(rt, alloc, &faulty).as_str(), "faulty[mem:[4B]]");
+    let counting = Counting::new(zeroes(rt, alloc, 4));
     assert_eq!(rt;
-        printed(&rt, alloc, &counting).as_str(),
+        printed(rt, alloc, &counting).as_str(),
         "counting[mem:[4B]]"
     );
-    let recording = Recording::new(zeroes(&rt, alloc, 4));
+    let recording = Recording::new(zeroes(rt, alloc, 4));
     assert_eq!(rt;
-        printed(&rt, alloc, &recording).as_str(),
+        printed(rt, alloc, &recording).as_str(),
         "recording[mem:[4B]]"
     );
+}
+
+#[test]
+fn storages_for_tests_print_what_is_inside(rt: HostRuntime) {
+    check_storages_for_tests_print_what_is_inside(&rt, rt.alloc());
 }
 
 /// Each refusal, its kind and its message.
@@ -149,19 +158,22 @@ fn each_refusal_has_its_kind_and_its_message(rt: HostRuntime) {
     }
 }
 
-#[test]
-fn enums_show_their_variants(rt: HostRuntime) {
-    let alloc = rt.alloc();
-    let wraps = shown(&rt, alloc, &Error::WrapAround);
+fn check_enums_show_their_variants(rt: &impl Abort, alloc: Global) {
+    let wraps = shown(rt, alloc, &Error::WrapAround);
     assert_eq!(rt; wraps.as_str(), "WrapAround");
-    let memory = shown(&rt, alloc, &ErrorKind::OutOfMemory);
+    let memory = shown(rt, alloc, &ErrorKind::OutOfMemory);
     assert_eq!(rt; memory.as_str(), "OutOfMemory");
-    let allocated = shown(&rt, alloc, &ZeroKind::Allocated);
+    let allocated = shown(rt, alloc, &ZeroKind::Allocated);
     assert_eq!(rt; allocated.as_str(), "Allocated");
     for (mode, text) in [
         (PreallocateMode::WriteData, "WriteData"),
         (PreallocateMode::None, "None"),
     ] {
-        assert_eq!(rt; shown(&rt, alloc, &mode).as_str(), text);
+        assert_eq!(rt; shown(rt, alloc, &mode).as_str(), text);
     }
+}
+
+#[test]
+fn enums_show_their_variants(rt: HostRuntime) {
+    check_enums_show_their_variants(&rt, rt.alloc());
 }

@@ -2,6 +2,8 @@
 use super::script::{Call, Script, Step, check_all};
 use super::subject::Kind;
 use imago_test_storages::counting::Counts;
+use std::alloc::Global;
+use std::process::Abort;
 
 const PADDED: [Script; 4] = [
     // a last block is padded by zeroes
@@ -207,7 +209,11 @@ const COUNTED: [Script; 5] = [
 ];
 
 // a first block, whole blocks, a last block
+fn check_only_partly_written_blocks_are_read(rt: &impl Abort, alloc: Global) {
+    check_all(rt, alloc, &COUNTED);
+}
+
 #[test]
 fn only_partly_written_blocks_are_read(rt: HostRuntime) {
-    check_all(&rt, rt.alloc(), &COUNTED);
+    check_only_partly_written_blocks_are_read(&rt, rt.alloc());
 }

@@ -5,6 +5,8 @@ use imago_storage::error::Error;
 use imago_test_storages::counting::Counts;
 use imago_test_storages::faulty::Tear;
 use imago_test_storages::recording::Recorded;
+use std::alloc::Global;
+use std::process::Abort;
 
 const AS_DATA: [Script; 4] = [
     // 11 bytes are no multiple of 8, so they are padded as a write is: from 1 to 17
@@ -59,9 +61,13 @@ const AS_DATA: [Script; 4] = [
     },
 ];
 
+fn check_a_zero_write_is_made_as_data(rt: &impl Abort, alloc: Global) {
+    check_all(rt, alloc, &AS_DATA);
+}
+
 #[test]
 fn a_zero_write_is_made_as_data(rt: HostRuntime) {
-    check_all(&rt, rt.alloc(), &AS_DATA);
+    check_a_zero_write_is_made_as_data(&rt, rt.alloc());
 }
 
 const IN_PLACE: [Script; 5] = [
@@ -120,9 +126,13 @@ const IN_PLACE: [Script; 5] = [
     },
 ];
 
+fn check_a_zero_write_zeroes_its_range_alone(rt: &impl Abort, alloc: Global) {
+    check_all(rt, alloc, &IN_PLACE);
+}
+
 #[test]
 fn a_zero_write_zeroes_its_range_alone(rt: HostRuntime) {
-    check_all(&rt, rt.alloc(), &IN_PLACE);
+    check_a_zero_write_zeroes_its_range_alone(&rt, rt.alloc());
 }
 
 const DISCARDS: [Script; 4] = [
@@ -175,9 +185,13 @@ const DISCARDS: [Script; 4] = [
     },
 ];
 
+fn check_a_discard_takes_whole_blocks(rt: &impl Abort, alloc: Global) {
+    check_all(rt, alloc, &DISCARDS);
+}
+
 #[test]
 fn a_discard_takes_whole_blocks(rt: HostRuntime) {
-    check_all(&rt, rt.alloc(), &DISCARDS);
+    check_a_discard_takes_whole_blocks(&rt, rt.alloc());
 }
 
 // three pieces of 1 MiB, the second of which fails
