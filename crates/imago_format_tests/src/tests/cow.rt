@@ -133,14 +133,18 @@ fn make(rt: &impl Abort, table: &mut Table, step: Step) {
     }
 }
 
+fn check_the_lowest_free_data_block_is_taken(rt: &impl Abort, alloc: Global) {
+    let mut table = table(rt, alloc, 3);
+    for &(step, guest_blocks, count, used, next) in &ROWS {
+        make(rt, &mut table, step);
+        assert_eq!(rt; table.len(), guest_blocks);
+        assert_eq!(rt; table.block_count(), count);
+        assert_eq!(rt; table.used(), used);
+        assert_eq!(rt; table.next(), next);
+    }
+}
+
 #[test]
 fn the_lowest_free_data_block_is_taken(rt: HostRuntime) {
-    let mut table = table(&rt, rt.alloc(), 3);
-    for &(step, guest_blocks, count, used, next) in &ROWS {
-        make(&rt, &mut table, step);
-        assert_eq!(&rt; table.len(), guest_blocks);
-        assert_eq!(&rt; table.block_count(), count);
-        assert_eq!(&rt; table.used(), used);
-        assert_eq!(&rt; table.next(), next);
-    }
+    check_the_lowest_free_data_block_is_taken(&rt, rt.alloc());
 }

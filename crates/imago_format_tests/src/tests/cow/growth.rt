@@ -114,15 +114,18 @@ fn on(rt: &impl Abort, alloc: Global, subject: &mut Subject, call: Call) {
     assert_eq!(rt; answer, Answer::Done);
 }
 
+fn check_a_cut_guest_block_is_filled_as_the_mode_says(rt: &impl Abort, alloc: Global) {
+    for &(before, mode, runs, used) in &ROWS {
+        let mut subject = Subject::open(rt, alloc, SIZE, PLAIN, Fault::Never);
+        on(rt, alloc, &mut subject, before);
+        on(rt, alloc, &mut subject, Call::Grow(GROWN, mode));
+        let shown = subject.contents(rt, alloc);
+        assert!(rt; are_shown(&shown, runs), "other bytes are shown");
+        assert_eq!(rt; subject.used(), used);
+    }
+}
+
 #[test]
 fn a_cut_guest_block_is_filled_as_the_mode_says(rt: HostRuntime) {
-    let alloc = rt.alloc();
-    for &(before, mode, runs, used) in &ROWS {
-        let mut subject = Subject::open(&rt, alloc, SIZE, PLAIN, Fault::Never);
-        on(&rt, alloc, &mut subject, before);
-        on(&rt, alloc, &mut subject, Call::Grow(GROWN, mode));
-        let shown = subject.contents(&rt, alloc);
-        assert!(&rt; are_shown(&shown, runs), "other bytes are shown");
-        assert_eq!(&rt; subject.used(), used);
-    }
+    check_a_cut_guest_block_is_filled_as_the_mode_says(&rt, rt.alloc());
 }

@@ -144,26 +144,29 @@ fn mapped(image: &Image, (offset, count): (u64, u64)) -> Result<(Mapping, u64), 
     image.get_mapping(offset, count)
 }
 
-#[test]
-fn three_disks_stand_on_one_another(rt: HostRuntime) {
-    let alloc = rt.alloc();
-    let mut image = match layers(&rt, alloc) {
+fn check_three_disks_stand_on_one_another(rt: &impl Abort, alloc: Global) {
+    let mut image = match layers(rt, alloc) {
         Some(image) => image,
-        None => layers(&rt, alloc).expect(&rt, "memory for layers"),
+        None => layers(rt, alloc).expect(rt, "memory for layers"),
     };
     for &(call, range, (text, length), bytes) in &ROWS {
-        on(&rt, alloc, &mut image, call);
-        let (mapping, count) = mapped(&image, range).expect(&rt, "a mapping");
-        assert_eq!(&rt; printed(&rt, alloc, &mapping).as_str(), text);
-        assert_eq!(&rt; count, length);
-        let shown = contents_of(&rt, alloc, &image);
-        assert!(&rt;
+        on(rt, alloc, &mut image, call);
+        let (mapping, count) = mapped(&image, range).expect(rt, "a mapping");
+        assert_eq!(rt; printed(rt, alloc, &mapping).as_str(), text);
+        assert_eq!(rt; count, length);
+        let shown = contents_of(rt, alloc, &image);
+        assert!(rt;
             shown.get(..16) == Some(bytes.as_slice()),
             "other bytes are shown"
         );
-        let middle = image.backing().expect(&rt, "a layer");
-        assert!(&rt; contents_of(&rt, alloc, middle).as_slice() == OF_MIDDLE.as_slice());
-        let bottom = middle.backing().expect(&rt, "a layer");
-        assert!(&rt; contents_of(&rt, alloc, bottom).as_slice() == OF_BOTTOM.as_slice());
+        let middle = image.backing().expect(rt, "a layer");
+        assert!(rt; contents_of(rt, alloc, middle).as_slice() == OF_MIDDLE.as_slice());
+        let bottom = middle.backing().expect(rt, "a layer");
+        assert!(rt; contents_of(rt, alloc, bottom).as_slice() == OF_BOTTOM.as_slice());
     }
+}
+
+#[test]
+fn three_disks_stand_on_one_another(rt: HostRuntime) {
+    check_three_disks_stand_on_one_another(&rt, rt.alloc());
 }

@@ -116,37 +116,40 @@ fn prepared_at(
     mapping
 }
 
-#[test]
-fn a_data_block_is_added_only_where_none_is_free(rt: HostRuntime) {
-    let alloc = rt.alloc();
-    let mut image = alone(&rt, alloc, 64, 16, Fault::Storage(0, Tear::All));
+fn check_a_data_block_is_added_only_where_none_is_free(rt: &impl Abort, alloc: Global) {
+    let mut image = alone(rt, alloc, 64, 16, Fault::Storage(0, Tear::All));
     for &(range, act, at, used, length) in &ROWS {
         match act {
-            Act::Refuse => match prepared(&rt, alloc, &mut image, range, false) {
+            Act::Refuse => match prepared(rt, alloc, &mut image, range, false) {
                 Ok(mapping) => {
                     cancel(&mut image, mapping);
-                    assert!(&rt; false, "prepared in spite of a fault");
+                    assert!(rt; false, "prepared in spite of a fault");
                 }
-                Err(refusal) => assert_eq!(&rt; refusal, Error::Device),
+                Err(refusal) => assert_eq!(rt; refusal, Error::Device),
             },
             Act::Cancel(overwrite) => {
-                let mapping = prepared_at(&rt, alloc, &mut image, range, overwrite, at);
+                let mapping = prepared_at(rt, alloc, &mut image, range, overwrite, at);
                 cancel(&mut image, mapping);
             }
             Act::Commit(overwrite) => {
-                let mapping = prepared_at(&rt, alloc, &mut image, range, overwrite, at);
-                assert_eq!(&rt; commit(&mut image, mapping), Ok(()));
+                let mapping = prepared_at(rt, alloc, &mut image, range, overwrite, at);
+                assert_eq!(rt; commit(&mut image, mapping), Ok(()));
             }
             Act::Give => on(
-                &rt,
+                rt,
                 alloc,
                 &mut image,
                 Call::DiscardToBacking(range.0, range.1),
             ),
         }
-        assert_eq!(&rt; image.inner().blocks_used(), used);
-        assert_eq!(&rt; storage_of(&rt, &image).as_bytes().len() as u64, length);
+        assert_eq!(rt; image.inner().blocks_used(), used);
+        assert_eq!(rt; storage_of(rt, &image).as_bytes().len() as u64, length);
     }
+}
+
+#[test]
+fn a_data_block_is_added_only_where_none_is_free(rt: HostRuntime) {
+    check_a_data_block_is_added_only_where_none_is_free(&rt, rt.alloc());
 }
 
 /// A mapping of bytes of a storage, with that state if there is one.
@@ -192,55 +195,61 @@ const STRANGERS: [(usize, (u64, u64)); 7] = [
     (0, (u64::MAX, 1)),
 ];
 
-#[test]
-fn a_mapping_that_does_not_wait_is_refused_by_name(rt: HostRuntime) {
-    let alloc = rt.alloc();
-    let mut image = alone(&rt, alloc, 64, 16, Fault::Never);
-    let mut other = alone(&rt, alloc, 64, 16, Fault::Never);
-    let waiting = prepared_at(&rt, alloc, &mut image, (3, 4), false, 3);
+fn check_a_mapping_that_does_not_wait_is_refused_by_name(rt: &impl Abort, alloc: Global) {
+    let mut image = alone(rt, alloc, 64, 16, Fault::Never);
+    let mut other = alone(rt, alloc, 64, 16, Fault::Never);
+    let waiting = prepared_at(rt, alloc, &mut image, (3, 4), false, 3);
     let state = state_of(&waiting);
-    is_foreign(&rt, alloc, &mut other, (0, (3, 4)), state);
-    is_foreign(&rt, alloc, &mut image, (0, (3, 4)), None);
+    is_foreign(rt, alloc, &mut other, (0, (3, 4)), state);
+    is_foreign(rt, alloc, &mut image, (0, (3, 4)), None);
     for &range in &STRANGERS {
-        is_foreign(&rt, alloc, &mut image, range, state);
-        is_foreign(&rt, alloc, &mut image, range, None);
+        is_foreign(rt, alloc, &mut image, range, state);
+        is_foreign(rt, alloc, &mut image, range, None);
     }
-    assert_eq!(&rt; image.inner().blocks_used(), 0);
-    assert_eq!(&rt; write_to(&rt, alloc, &mut image, &waiting), Ok(()));
-    assert_eq!(&rt; commit(&mut image, waiting), Ok(()));
-    is_foreign(&rt, alloc, &mut image, (0, (3, 4)), state);
-    assert_eq!(&rt; image.inner().blocks_used(), 1);
-    assert_eq!(&rt; other.inner().blocks_used(), 0);
+    assert_eq!(rt; image.inner().blocks_used(), 0);
+    assert_eq!(rt; write_to(rt, alloc, &mut image, &waiting), Ok(()));
+    assert_eq!(rt; commit(&mut image, waiting), Ok(()));
+    is_foreign(rt, alloc, &mut image, (0, (3, 4)), state);
+    assert_eq!(rt; image.inner().blocks_used(), 1);
+    assert_eq!(rt; other.inner().blocks_used(), 0);
     // places stand there now, but none behind the data block
     let existing = of_state(0, (9, 2), None);
-    assert_eq!(&rt; write_to(&rt, alloc, &mut image, &existing), Ok(()));
+    assert_eq!(rt; write_to(rt, alloc, &mut image, &existing), Ok(()));
     cancel(&mut image, existing);
-    is_foreign(&rt, alloc, &mut image, (0, (15, 2)), None);
-    let shown = contents_of(&rt, alloc, &image);
+    is_foreign(rt, alloc, &mut image, (0, (15, 2)), None);
+    let shown = contents_of(rt, alloc, &image);
     for (i, &byte) in shown.iter().enumerate() {
         let is_written = matches!(i, 3..=6 | 9..=10);
-        assert_eq!(&rt; byte == 0xee, is_written);
-        assert!(&rt; is_written || byte == 0);
+        assert_eq!(rt; byte == 0xee, is_written);
+        assert!(rt; is_written || byte == 0);
     }
 }
 
 #[test]
-fn a_cancelled_mapping_is_refused_by_name(rt: HostRuntime) {
-    let alloc = rt.alloc();
-    let mut image = alone(&rt, alloc, 64, 16, Fault::Never);
-    let cancelled = prepared_at(&rt, alloc, &mut image, (3, 4), false, 3);
+fn a_mapping_that_does_not_wait_is_refused_by_name(rt: HostRuntime) {
+    check_a_mapping_that_does_not_wait_is_refused_by_name(&rt, rt.alloc());
+}
+
+fn check_a_cancelled_mapping_is_refused_by_name(rt: &impl Abort, alloc: Global) {
+    let mut image = alone(rt, alloc, 64, 16, Fault::Never);
+    let cancelled = prepared_at(rt, alloc, &mut image, (3, 4), false, 3);
     let state = state_of(&cancelled);
     cancel(&mut image, cancelled);
-    is_foreign(&rt, alloc, &mut image, (0, (3, 4)), state);
-    let waiting = prepared_at(&rt, alloc, &mut image, (3, 4), false, 3);
-    is_foreign(&rt, alloc, &mut image, (0, (3, 4)), state);
-    assert_eq!(&rt; write_to(&rt, alloc, &mut image, &waiting), Ok(()));
-    assert_eq!(&rt; commit(&mut image, waiting), Ok(()));
-    on(&rt, alloc, &mut image, Call::DiscardToZero(0, 16));
-    is_foreign(&rt, alloc, &mut image, (0, (3, 4)), None);
-    assert_eq!(&rt; image.inner().blocks_used(), 0);
-    let shown = contents_of(&rt, alloc, &image);
-    assert_eq!(&rt; byte_at(&shown, 3), 0);
+    is_foreign(rt, alloc, &mut image, (0, (3, 4)), state);
+    let waiting = prepared_at(rt, alloc, &mut image, (3, 4), false, 3);
+    is_foreign(rt, alloc, &mut image, (0, (3, 4)), state);
+    assert_eq!(rt; write_to(rt, alloc, &mut image, &waiting), Ok(()));
+    assert_eq!(rt; commit(&mut image, waiting), Ok(()));
+    on(rt, alloc, &mut image, Call::DiscardToZero(0, 16));
+    is_foreign(rt, alloc, &mut image, (0, (3, 4)), None);
+    assert_eq!(rt; image.inner().blocks_used(), 0);
+    let shown = contents_of(rt, alloc, &image);
+    assert_eq!(rt; byte_at(&shown, 3), 0);
+}
+
+#[test]
+fn a_cancelled_mapping_is_refused_by_name(rt: HostRuntime) {
+    check_a_cancelled_mapping_is_refused_by_name(&rt, rt.alloc());
 }
 
 /// A size, a guest block's length, and how many of them there are.
@@ -254,16 +263,19 @@ const CREATED: [(u64, u64, u64); 7] = [
     (1_048_577, 1_048_576, 2),
 ];
 
+fn check_disks_of_any_size_are_created(rt: &impl Abort, alloc: Global) {
+    for &(size, block, count) in &CREATED {
+        let mut image = alone(rt, alloc, size, block, Fault::Never);
+        assert_eq!(rt; image.inner().block_size(), block);
+        assert!(rt; contents_of(rt, alloc, &image) == equal(rt, alloc, size, 0));
+        assert_eq!(rt; image.inner().blocks_used(), 0);
+        on(rt, alloc, &mut image, Call::Write(0, size, 1));
+        assert!(rt; contents_of(rt, alloc, &image) == numbers(rt, alloc, size, 1));
+        assert_eq!(rt; image.inner().blocks_used(), count);
+    }
+}
+
 #[test]
 fn disks_of_any_size_are_created(rt: HostRuntime) {
-    let alloc = rt.alloc();
-    for &(size, block, count) in &CREATED {
-        let mut image = alone(&rt, alloc, size, block, Fault::Never);
-        assert_eq!(&rt; image.inner().block_size(), block);
-        assert!(&rt; contents_of(&rt, alloc, &image) == equal(&rt, alloc, size, 0));
-        assert_eq!(&rt; image.inner().blocks_used(), 0);
-        on(&rt, alloc, &mut image, Call::Write(0, size, 1));
-        assert!(&rt; contents_of(&rt, alloc, &image) == numbers(&rt, alloc, size, 1));
-        assert_eq!(&rt; image.inner().blocks_used(), count);
-    }
+    check_disks_of_any_size_are_created(&rt, rt.alloc());
 }

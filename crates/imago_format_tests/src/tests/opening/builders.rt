@@ -83,9 +83,13 @@ fn keeps_opening<S: Storage>(rt: &impl Abort, alloc: Global) {
     );
 }
 
+fn check_an_opening_builder_keeps_what_is_set(rt: &impl Abort, alloc: Global) {
+    keeps_opening::<MemStorage>(rt, alloc);
+}
+
 #[test]
 fn an_opening_builder_keeps_what_is_set(rt: HostRuntime) {
-    keeps_opening::<MemStorage>(&rt, rt.alloc());
+    check_an_opening_builder_keeps_what_is_set(&rt, rt.alloc());
 }
 
 /// A builder that creates keeps what is set.
@@ -135,10 +139,13 @@ fn makes_options<S: Storage>(rt: &impl Abort, alloc: Global, storage: S) {
     assert!(rt; opened.is_ok());
 }
 
+fn check_a_base_makes_options(rt: &impl Abort, alloc: Global) {
+    makes_options(rt, alloc, stored(rt, alloc, "a", 1));
+}
+
 #[test]
 fn a_base_makes_options(rt: HostRuntime) {
-    let alloc = rt.alloc();
-    makes_options(&rt, alloc, stored(&rt, alloc, "a", 1));
+    check_a_base_makes_options(&rt, rt.alloc());
 }
 
 /// A base of a creation keeps what is set, and that storage of 3 bytes.
@@ -152,7 +159,11 @@ fn keeps_storage<S: Storage>(rt: &impl Abort, storage: S) {
     assert_eq!(rt; base.get_image().size(), Ok(3));
 }
 
+fn check_a_base_of_a_creation_keeps_its_storage(rt: &impl Abort, alloc: Global) {
+    keeps_storage(rt, stored(rt, alloc, "a", 3));
+}
+
 #[test]
 fn a_base_of_a_creation_keeps_its_storage(rt: HostRuntime) {
-    keeps_storage(&rt, stored(&rt, rt.alloc(), "a", 3));
+    check_a_base_of_a_creation_keeps_its_storage(&rt, rt.alloc());
 }

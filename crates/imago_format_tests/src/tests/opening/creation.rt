@@ -61,10 +61,8 @@ fn failing(rt: &impl Abort, alloc: Global, count: usize, resizes: u64) -> Faulty
     storage
 }
 
-#[test]
-fn a_storage_that_is_not_emptied_is_as_it_was(rt: HostRuntime) {
-    let alloc = rt.alloc();
-    let mut storage = failing(&rt, alloc, 3, 1);
+fn check_a_storage_that_is_not_emptied_is_as_it_was(rt: &impl Abort, alloc: Global) {
+    let mut storage = failing(rt, alloc, 3, 1);
     let created = create(alloc, &mut storage, 5, PreallocateMode::None);
     assert!(rt; created.is_err_and(|e| e == Error::Device));
     assert_eq!(rt; storage.as_bytes(), [0xff; 3].as_slice());
@@ -72,12 +70,20 @@ fn a_storage_that_is_not_emptied_is_as_it_was(rt: HostRuntime) {
 }
 
 #[test]
-fn a_storage_that_does_not_grow_is_empty(rt: HostRuntime) {
-    let alloc = rt.alloc();
-    let mut storage = failing(&rt, alloc, 0, 1);
+fn a_storage_that_is_not_emptied_is_as_it_was(rt: HostRuntime) {
+    check_a_storage_that_is_not_emptied_is_as_it_was(&rt, rt.alloc());
+}
+
+fn check_a_storage_that_does_not_grow_is_empty(rt: &impl Abort, alloc: Global) {
+    let mut storage = failing(rt, alloc, 0, 1);
     let created = create_in(&mut storage, 5, PreallocateMode::Zero);
     assert_eq!(rt; created, Err(Error::Device));
     assert_eq!(rt; storage.as_bytes(), [].as_slice());
+}
+
+#[test]
+fn a_storage_that_does_not_grow_is_empty(rt: HostRuntime) {
+    check_a_storage_that_does_not_grow_is_empty(&rt, rt.alloc());
 }
 
 /// The size of a new image of 5 bytes that is opened, by a builder that is told to be read-only, and whether it is writable.
@@ -105,11 +111,14 @@ fn not_opened<S: Storage>(alloc: Global, storage: S) -> Result<u64, Error> {
     size_of(builder.create_open(alloc, gate, |_| Err(Error::NoAccess)))
 }
 
-#[test]
-fn a_new_image_without_a_builder_is_not_opened(rt: HostRuntime) {
-    let alloc = rt.alloc();
-    let mut storage = stored(&rt, alloc, "a", 3);
+fn check_a_new_image_without_a_builder_is_not_opened(rt: &impl Abort, alloc: Global) {
+    let mut storage = stored(rt, alloc, "a", 3);
     let refused = not_opened(alloc, &mut storage);
     assert_eq!(rt; refused, Err(Error::NoAccess));
     assert_eq!(rt; storage.as_bytes(), [].as_slice());
+}
+
+#[test]
+fn a_new_image_without_a_builder_is_not_opened(rt: HostRuntime) {
+    check_a_new_image_without_a_builder_is_not_opened(&rt, rt.alloc());
 }

@@ -62,10 +62,8 @@ fn a_gate_denies_or_permits_each_opening(rt: HostRuntime) {
     open_permitted(&rt, alloc, &[("a", Err(Error::Unsupported))]);
 }
 
-#[test]
-fn storages_are_handed_out_once_by_their_names(rt: HostRuntime) {
-    let alloc = rt.alloc();
-    let mut gate = named(&rt, alloc, &["a", "b", "a"]);
+fn check_storages_are_handed_out_once_by_their_names(rt: &impl Abort, alloc: Global) {
+    let mut gate = named(rt, alloc, &["a", "b", "a"]);
     let rows = [
         ("c", Err(Error::NotFound)),
         ("b", Ok(2)),
@@ -74,7 +72,12 @@ fn storages_are_handed_out_once_by_their_names(rt: HostRuntime) {
         ("a", Ok(3)),
         ("a", Err(Error::NotFound)),
     ];
-    open_named(&rt, alloc, &mut gate, &rows);
+    open_named(rt, alloc, &mut gate, &rows);
+}
+
+#[test]
+fn storages_are_handed_out_once_by_their_names(rt: HostRuntime) {
+    check_storages_are_handed_out_once_by_their_names(&rt, rt.alloc());
 }
 
 /// The length of the storage that is handed out next under a name.
@@ -94,13 +97,16 @@ fn a_gate_shows_what_it_hands_out_next(rt: HostRuntime) {
     assert_eq!(rt; next(&gate, "a"), None);
 }
 
-#[test]
-fn options_without_a_name_open_nothing(rt: HostRuntime) {
-    let alloc = rt.alloc();
-    let mut gate = named(&rt, alloc, &["a"]);
+fn check_options_without_a_name_open_nothing(rt: &impl Abort, alloc: Global) {
+    let mut gate = named(rt, alloc, &["a"]);
     let opened = gate.open_storage(alloc, StorageOpenOptions::new());
     assert!(rt; opened.is_err_and(|e| e == Error::NotFound));
     assert_eq!(rt; next(&gate, "a"), Some(Ok(1)));
+}
+
+#[test]
+fn options_without_a_name_open_nothing(rt: HostRuntime) {
+    check_options_without_a_name_open_nothing(&rt, rt.alloc());
 }
 
 #[test]
@@ -113,11 +119,14 @@ fn one_opening_is_refused(rt: HostRuntime) {
     open_but_nth(&rt, alloc, 3, [Ok(1), Ok(2), Err(Error::Denied)]);
 }
 
-#[test]
-fn what_was_handed_in_asks_no_gate(rt: HostRuntime) {
-    let alloc = rt.alloc();
-    let builder = Raw::builder(stored(&rt, alloc, "a", 4));
+fn check_what_was_handed_in_asks_no_gate(rt: &impl Abort, alloc: Global) {
+    let builder = Raw::builder(stored(rt, alloc, "a", 4));
     assert_eq!(rt; builder.get_image_path(), Some("a"));
     let opened = builder.open(alloc, DenyImplicitOpenGate::default());
     assert_eq!(rt; size_of(opened), Ok(4));
+}
+
+#[test]
+fn what_was_handed_in_asks_no_gate(rt: HostRuntime) {
+    check_what_was_handed_in_asks_no_gate(&rt, rt.alloc());
 }

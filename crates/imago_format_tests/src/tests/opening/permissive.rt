@@ -8,6 +8,7 @@ use imago_storage::error::Error;
 use imago_storage::storage::{Storage, StorageOpenOptions};
 use imago_test_storages::created::Created;
 use std::alloc::Global;
+use std::process::Abort;
 
 /// The size of an image, and whether it can be written to.
 type Opened = Result<(u64, bool), Error>;
@@ -26,24 +27,31 @@ fn by_gate<S: Storage>(alloc: Global, name: String, writable: bool) -> Opened {
     Ok((image.size(), image.writable()))
 }
 
-#[test]
-fn an_image_is_opened_by_the_name_of_its_storage(rt: HostRuntime) {
-    let alloc = rt.alloc();
+fn check_an_image_is_opened_by_the_name_of_its_storage(rt: &impl Abort, alloc: Global) {
     for (name, writable, expected) in [
         ("", false, Ok((0, false))),
         ("a.img", false, Ok((5, false))),
         ("dir/b.img", true, Ok((9, true))),
     ] {
-        let path = text(&rt, alloc, name);
+        let path = text(rt, alloc, name);
         assert_eq!(rt; by_path::<Created>(path, writable), expected);
-        let path = text(&rt, alloc, name);
+        let path = text(rt, alloc, name);
         assert_eq!(rt; by_gate::<Created>(alloc, path, writable), expected);
     }
 }
 
 #[test]
-fn the_permissive_gate_passes_refusals_on(rt: HostRuntime) {
+fn an_image_is_opened_by_the_name_of_its_storage(rt: HostRuntime) {
+    check_an_image_is_opened_by_the_name_of_its_storage(&rt, rt.alloc());
+}
+
+fn check_the_permissive_gate_passes_refusals_on(rt: &impl Abort, alloc: Global) {
     let mut gate = PermissiveImplicitOpenGate::default();
-    let opened: Result<Created, Error> = gate.open_storage(rt.alloc(), StorageOpenOptions::new());
+    let opened: Result<Created, Error> = gate.open_storage(alloc, StorageOpenOptions::new());
     assert!(rt; opened.is_err_and(|e| e == Error::NotFound));
+}
+
+#[test]
+fn the_permissive_gate_passes_refusals_on(rt: HostRuntime) {
+    check_the_permissive_gate_passes_refusals_on(&rt, rt.alloc());
 }

@@ -281,16 +281,20 @@ fn keeps<S: Storage>(rt: &impl Abort, builder: &VmdkOpenBuilder<S>, case: &Case)
     assert!(rt; builder.get_storage_open_options().is_some() == case.with_options);
 }
 
-#[test]
-fn a_builder_keeps_what_is_set(rt: HostRuntime) {
+fn check_a_builder_keeps_what_is_set(rt: &impl Abort, alloc: Global) {
     for case in &CASES {
-        let mut made = builder(rt.alloc(), case);
+        let mut made = builder(alloc, case);
         if made.is_err() {
-            made = builder(rt.alloc(), case);
+            made = builder(alloc, case);
         }
         assert!(rt; made.is_ok());
         if let Ok(builder) = made {
-            keeps(&rt, &builder, case);
+            keeps(rt, &builder, case);
         }
     }
+}
+
+#[test]
+fn a_builder_keeps_what_is_set(rt: HostRuntime) {
+    check_a_builder_keeps_what_is_set(&rt, rt.alloc());
 }

@@ -200,28 +200,36 @@ fn descriptors_are_opened_and_told(rt: HostRuntime) {
     }
 }
 
-#[test]
-fn each_beginning_is_read(rt: HostRuntime) {
+fn check_each_beginning_is_read(rt: &impl Abort, alloc: Global) {
     for count in 0..45 {
         assert!(rt;
-            opened(rt.alloc(), &TEXT[..count]) == answer_at(&BEGINNINGS, count),
+            opened(alloc, &TEXT[..count]) == answer_at(&BEGINNINGS, count),
             "{count}"
         );
     }
 }
 
 #[test]
-fn each_byte_is_replaced(rt: HostRuntime) {
+fn each_beginning_is_read(rt: HostRuntime) {
+    check_each_beginning_is_read(&rt, rt.alloc());
+}
+
+fn check_each_byte_is_replaced(rt: &impl Abort, alloc: Global) {
     for (byte, runs) in &REPLACED {
         for place in 0..44 {
             let mut text = TEXT;
             text[place] = *byte;
             assert!(rt;
-                opened(rt.alloc(), &text) == answer_at(runs, place),
+                opened(alloc, &text) == answer_at(runs, place),
                 "{byte} at {place}"
             );
         }
     }
+}
+
+#[test]
+fn each_byte_is_replaced(rt: HostRuntime) {
+    check_each_byte_is_replaced(&rt, rt.alloc());
 }
 
 /// What a descriptor of so many bytes is opened as: the version, and then that line over and over again.

@@ -177,15 +177,19 @@ fn answers<D: FormatDriverInstance>(rt: &impl Abort, alloc: Global, driver: D, c
     }
 }
 
-#[test]
-fn extents_stand_one_after_the_other(rt: HostRuntime) {
+fn check_extents_stand_one_after_the_other(rt: &impl Abort, alloc: Global) {
     for case in &CASES {
-        let image = opened(rt.alloc(), case);
+        let image = opened(alloc, case);
         assert!(rt; image.is_ok());
         if let Ok(image) = image {
-            answers(&rt, rt.alloc(), image, case);
+            answers(rt, alloc, image, case);
         }
     }
+}
+
+#[test]
+fn extents_stand_one_after_the_other(rt: HostRuntime) {
+    check_extents_stand_one_after_the_other(&rt, rt.alloc());
 }
 
 /// A descriptor of three extents, or of one past 64 bits, how many of `a`, `b` and `c` a gate has, which opening it refuses, and
