@@ -80,12 +80,15 @@ const PIECEWISE: [[(Call, Answer); 3]; 5] = [
     ],
 ];
 
+fn check_a_range_is_zeroed_and_discarded_block_by_block(rt: &impl Abort, alloc: Global) {
+    for calls in &PIECEWISE {
+        on(rt, alloc, (16, 0xff), (4, false), calls);
+    }
+}
+
 #[test]
 fn a_range_is_zeroed_and_discarded_block_by_block(rt: HostRuntime) {
-    let alloc = rt.alloc();
-    for calls in &PIECEWISE {
-        on(&rt, alloc, (16, 0xff), (4, false), calls);
-    }
+    check_a_range_is_zeroed_and_discarded_block_by_block(&rt, rt.alloc());
 }
 
 /// On 1000 bytes 22 in granules of more bytes.
@@ -135,13 +138,16 @@ const GRANULES: [[(Call, Answer); 2]; 6] = [
     ],
 ];
 
+fn check_a_granule_is_not_zeroed_past_the_range(rt: &impl Abort, alloc: Global) {
+    on(rt, alloc, (1000, 0x22), (65536, true), &BELOW_ONE);
+    for calls in &GRANULES {
+        on(rt, alloc, (1000, 0x22), (64, true), calls);
+    }
+}
+
 #[test]
 fn a_granule_is_not_zeroed_past_the_range(rt: HostRuntime) {
-    let alloc = rt.alloc();
-    on(&rt, alloc, (1000, 0x22), (65536, true), &BELOW_ONE);
-    for calls in &GRANULES {
-        on(&rt, alloc, (1000, 0x22), (64, true), calls);
-    }
+    check_a_granule_is_not_zeroed_past_the_range(&rt, rt.alloc());
 }
 
 /// On 16 bytes ff in blocks of 4, and on 14 where these are granules.

@@ -109,12 +109,15 @@ const READ_WRITE: [(Call, Answer); 1] = [(Call::Map(0, 512, "1/0:0x0/rw"), Answe
 
 const READ_ONLY: [(Call, Answer); 1] = [(Call::Map(0, 512, "2/0:0x0/ro"), Answer::Length(512))];
 
+fn check_each_layer_says_whether_it_may_be_written(rt: &impl Abort, alloc: Global) {
+    let fixed = Kind::Below { writable: false };
+    on_layers(rt, alloc, (1024, 0), (&[BELOW], 1024), &READ_WRITE);
+    on_layers(rt, alloc, (1024, 0), (&[BELOW, fixed], 1024), &READ_ONLY);
+}
+
 #[test]
 fn each_layer_says_whether_it_may_be_written(rt: HostRuntime) {
-    let alloc = rt.alloc();
-    let fixed = Kind::Below { writable: false };
-    on_layers(&rt, alloc, (1024, 0), (&[BELOW], 1024), &READ_WRITE);
-    on_layers(&rt, alloc, (1024, 0), (&[BELOW, fixed], 1024), &READ_ONLY);
+    check_each_layer_says_whether_it_may_be_written(&rt, rt.alloc());
 }
 
 /// Above 512 bytes 11.
@@ -138,12 +141,15 @@ const UNALLOCATED: [(Call, Answer); 1] = [(
     Answer::Length(512),
 )];
 
+fn check_zeroes_are_explicit_in_the_top_layer_alone(rt: &impl Abort, alloc: Global) {
+    on_pattern(rt, alloc, Kind::Zeroes, 512, &EXPLICIT);
+    let kinds = [Kind::Zeroes, BELOW];
+    on_layers(rt, alloc, (1, 1), (&kinds, 512), &UNALLOCATED);
+}
+
 #[test]
 fn zeroes_are_explicit_in_the_top_layer_alone(rt: HostRuntime) {
-    let alloc = rt.alloc();
-    on_pattern(&rt, alloc, Kind::Zeroes, 512, &EXPLICIT);
-    let kinds = [Kind::Zeroes, BELOW];
-    on_layers(&rt, alloc, (1, 1), (&kinds, 512), &UNALLOCATED);
+    check_zeroes_are_explicit_in_the_top_layer_alone(&rt, rt.alloc());
 }
 
 const SPECIAL: [(Call, Answer); 2] = [
@@ -159,20 +165,23 @@ const UNREADABLE: [(Call, Answer); 2] = [
     ),
 ];
 
-#[test]
-fn special_bytes_are_read_where_they_can_be(rt: HostRuntime) {
-    let alloc = rt.alloc();
+fn check_special_bytes_are_read_where_they_can_be(rt: &impl Abort, alloc: Global) {
     let byte = 0x5a;
     let readable = Kind::Special {
         byte,
         readable: true,
     };
-    on_pattern(&rt, alloc, readable, 8, &SPECIAL);
+    on_pattern(rt, alloc, readable, 8, &SPECIAL);
     let unreadable = Kind::Special {
         byte,
         readable: false,
     };
-    on_pattern(&rt, alloc, unreadable, 8, &UNREADABLE);
+    on_pattern(rt, alloc, unreadable, 8, &UNREADABLE);
+}
+
+#[test]
+fn special_bytes_are_read_where_they_can_be(rt: HostRuntime) {
+    check_special_bytes_are_read_where_they_can_be(&rt, rt.alloc());
 }
 
 /// Above 512 bytes 11.
@@ -182,9 +191,13 @@ const KEPT: [(Call, Answer); 3] = [
     (Call::ReadBelow(0, &[0x11; 2]), Answer::Done),
 ];
 
+fn check_a_pattern_is_not_written_through(rt: &impl Abort, alloc: Global) {
+    on_layers(rt, alloc, (512, 0x11), (&[BELOW], 512), &KEPT);
+}
+
 #[test]
 fn a_pattern_is_not_written_through(rt: HostRuntime) {
-    on_layers(&rt, rt.alloc(), (512, 0x11), (&[BELOW], 512), &KEPT);
+    check_a_pattern_is_not_written_through(&rt, rt.alloc());
 }
 
 /// On a chain of that many layers above 16 bytes 11.
@@ -196,10 +209,13 @@ const CHAIN: [(Call, Answer); 5] = [
     (Call::Print("pattern[16B]"), Answer::Is(true)),
 ];
 
+fn check_a_long_chain_needs_no_stack(rt: &impl Abort, alloc: Global) {
+    let done = on_once(rt, alloc, (16, 0x11), (&[BELOW], 100_000, 16), &CHAIN)
+        || on_once(rt, alloc, (16, 0x11), (&[BELOW], 100_000, 16), &CHAIN);
+    assert!(rt; done, "memory was refused twice");
+}
+
 #[test]
 fn a_long_chain_needs_no_stack(rt: HostRuntime) {
-    let alloc = rt.alloc();
-    let done = on_once(&rt, alloc, (16, 0x11), (&[BELOW], 100_000, 16), &CHAIN)
-        || on_once(&rt, alloc, (16, 0x11), (&[BELOW], 100_000, 16), &CHAIN);
-    assert!(rt; done, "memory was refused twice");
+    check_a_long_chain_needs_no_stack(&rt, rt.alloc());
 }

@@ -44,10 +44,13 @@ const WRITES: [(Call, Answer); 8] = [
     (Call::ReadBelow(0, &[1, 2, 3, 4, 5, 6, 7, 8]), DONE),
 ];
 
+fn check_a_first_write_copies_what_is_below(rt: &impl Abort, alloc: Global) {
+    on(rt, alloc, &WRITES);
+}
+
 #[test]
 fn a_first_write_copies_what_is_below(rt: HostRuntime) {
-    let alloc = rt.alloc();
-    on(&rt, alloc, &WRITES);
+    check_a_first_write_copies_what_is_below(&rt, rt.alloc());
 }
 
 /// Prepares 3 bytes at 2, and writes 8 and 9 from the second of them on.
@@ -74,10 +77,13 @@ const SPENT: [(Call, Answer); 6] = [
     (Call::Read(0, &[1, 2, 3, 8, 9, 6, 7, 8]), DONE),
 ];
 
+fn check_a_commit_shows_and_a_cancel_does_not(rt: &impl Abort, alloc: Global) {
+    on(rt, alloc, &SPENT);
+}
+
 #[test]
 fn a_commit_shows_and_a_cancel_does_not(rt: HostRuntime) {
-    let alloc = rt.alloc();
-    on(&rt, alloc, &SPENT);
+    check_a_commit_shows_and_a_cancel_does_not(&rt, rt.alloc());
 }
 
 /// Prepares 3 bytes at 2, for overwriting or not, and writes 8 and 9 from the first of them on.

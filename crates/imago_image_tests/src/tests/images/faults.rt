@@ -57,13 +57,16 @@ const SIZES: [(Call, Answer); 12] = [
     (LENGTH, Answer::Length(512)),
 ];
 
+fn check_a_refused_resize_changes_neither_size(rt: &impl Abort, alloc: Global) {
+    let mut storage = faulty(rt, alloc, &[(1024, 0)]);
+    storage.refuse_resizes(2);
+    on(rt, alloc, &mut storage, &SIZES);
+    assert_eq!(rt; storage.faults(), 2);
+}
+
 #[test]
 fn a_refused_resize_changes_neither_size(rt: HostRuntime) {
-    let alloc = rt.alloc();
-    let mut storage = faulty(&rt, alloc, &[(1024, 0)]);
-    storage.refuse_resizes(2);
-    on(&rt, alloc, &mut storage, &SIZES);
-    assert_eq!(rt; storage.faults(), 2);
+    check_a_refused_resize_changes_neither_size(&rt, rt.alloc());
 }
 
 /// A storage of 16 bytes ff in blocks of 8 that is armed.
@@ -114,32 +117,38 @@ const STOPS: [(u64, Tear, Answer, [u8; 16]); 5] = [
     ),
 ];
 
+fn check_a_write_stops_at_each_call(rt: &impl Abort, alloc: Global) {
+    for &(pass, tear, answer, left) in &STOPS {
+        let mut storage = armed(rt, alloc, pass, tear);
+        on(rt, alloc, &mut storage, &[(TEN_ZEROES, answer)]);
+        is_left(rt, &storage, &left, u64::from(answer == DEVICE));
+    }
+}
+
 #[test]
 fn a_write_stops_at_each_call(rt: HostRuntime) {
-    let alloc = rt.alloc();
-    for &(pass, tear, answer, left) in &STOPS {
-        let mut storage = armed(&rt, alloc, pass, tear);
-        on(&rt, alloc, &mut storage, &[(TEN_ZEROES, answer)]);
-        is_left(&rt, &storage, &left, u64::from(answer == DEVICE));
-    }
+    check_a_write_stops_at_each_call(&rt, rt.alloc());
 }
 
 /// The zero write of 3 MiB ff that is made as data, in pieces of 1 MiB.
 const LONG: [(Call, Answer); 1] = [(Call::Give(Give::EnsureZero, 0, 3145728), DEVICE)];
 
-#[test]
-fn a_zero_write_stops_in_its_second_piece(rt: HostRuntime) {
-    let alloc = rt.alloc();
-    let mut storage = faulty(&rt, alloc, &[(3145728, 0xff)]).without_zero_writes();
+fn check_a_zero_write_stops_in_its_second_piece(rt: &impl Abort, alloc: Global) {
+    let mut storage = faulty(rt, alloc, &[(3145728, 0xff)]).without_zero_writes();
     storage.arm(1, Tear::Odd);
-    on(&rt, alloc, &mut storage, &LONG);
-    let mut left = runs(&rt, alloc, &[(1048576, 0), (2097152, 0xff)]);
+    on(rt, alloc, &mut storage, &LONG);
+    let mut left = runs(rt, alloc, &[(1048576, 0), (2097152, 0xff)]);
     for (i, byte) in left.iter_mut().enumerate() {
         if i < 2097152 && i % 2 == 1 {
             *byte = 0;
         }
     }
-    is_left(&rt, &storage, &left, 1);
+    is_left(rt, &storage, &left, 1);
+}
+
+#[test]
+fn a_zero_write_stops_in_its_second_piece(rt: HostRuntime) {
+    check_a_zero_write_stops_in_its_second_piece(&rt, rt.alloc());
 }
 
 /// Where reads fail.
@@ -164,25 +173,31 @@ fn unreadable(rt: &impl Abort, alloc: Global) -> Faulty {
     storage
 }
 
+fn check_a_read_fails_and_a_write_does_not(rt: &impl Abort, alloc: Global) {
+    let mut storage = unreadable(rt, alloc);
+    on(rt, alloc, &mut storage, &UNREAD);
+    storage.fail_reads(false);
+    on(rt, alloc, &mut storage, &READ);
+    is_left(rt, &storage, &[0, 0, 2, 0], 0);
+}
+
 #[test]
 fn a_read_fails_and_a_write_does_not(rt: HostRuntime) {
-    let alloc = rt.alloc();
-    let mut storage = unreadable(&rt, alloc);
-    on(&rt, alloc, &mut storage, &UNREAD);
-    storage.fail_reads(false);
-    on(&rt, alloc, &mut storage, &READ);
-    is_left(&rt, &storage, &[0, 0, 2, 0], 0);
+    check_a_read_fails_and_a_write_does_not(&rt, rt.alloc());
+}
+
+fn check_a_run_over_failing_reads(rt: &impl Abort, alloc: Global) {
+    let mut storage = unreadable(rt, alloc);
+    if !run_on(rt, alloc, &mut storage, &UNREAD) {
+        storage = unreadable(rt, alloc);
+        assert!(rt; run_on(rt, alloc, &mut storage, &UNREAD));
+    }
+    is_left(rt, &storage, &[0xff, 1, 2, 0xff], 0);
 }
 
 #[test]
 fn a_run_over_failing_reads(rt: HostRuntime) {
-    let alloc = rt.alloc();
-    let mut storage = unreadable(&rt, alloc);
-    if !run_on(&rt, alloc, &mut storage, &UNREAD) {
-        storage = unreadable(&rt, alloc);
-        assert!(rt; run_on(&rt, alloc, &mut storage, &UNREAD));
-    }
-    is_left(&rt, &storage, &[0xff, 1, 2, 0xff], 0);
+    check_a_run_over_failing_reads(&rt, rt.alloc());
 }
 
 /// On 16 bytes ff in blocks of 8. The first write stops in its first block, and the growth is refused.

@@ -88,9 +88,13 @@ const WRITES: [(Call, Answer); 5] = [
     (Call::Readv(14, &[0, 3, 0]), Answer::Done),
 ];
 
+fn check_what_is_written_is_read(rt: &impl Abort, alloc: Global) {
+    on_bytes(rt, alloc, &[0; 16], &WRITES);
+}
+
 #[test]
 fn what_is_written_is_read(rt: HostRuntime) {
-    on_bytes(&rt, rt.alloc(), &[0; 16], &WRITES);
+    check_what_is_written_is_read(&rt, rt.alloc());
 }
 
 /// On the bytes 1 to 4 that may not be written.
@@ -135,14 +139,17 @@ const KEPT_MAPPINGS: [(Call, Answer); 3] = [
     (Call::Read(0, &[1, 2, 3, 4]), Answer::Done),
 ];
 
+fn check_a_read_only_image_is_kept(rt: &impl Abort, alloc: Global) {
+    on_read_only(rt, alloc, &[1, 2, 3, 4], &KEPT);
+    on_read_only(rt, alloc, &[1, 2, 3, 4], &KEPT_STRANGER);
+    on_read_only(rt, alloc, &[1, 2, 3, 4], &KEPT_MAPPINGS);
+    run_on_bytes(rt, alloc, (&[1, 2, 3, 4], false), &KEPT_MAPPINGS);
+    run_on_bytes(rt, alloc, (&[1, 2, 3, 4], false), &KEPT);
+}
+
 #[test]
 fn a_read_only_image_is_kept(rt: HostRuntime) {
-    let alloc = rt.alloc();
-    on_read_only(&rt, alloc, &[1, 2, 3, 4], &KEPT);
-    on_read_only(&rt, alloc, &[1, 2, 3, 4], &KEPT_STRANGER);
-    on_read_only(&rt, alloc, &[1, 2, 3, 4], &KEPT_MAPPINGS);
-    run_on_bytes(&rt, alloc, (&[1, 2, 3, 4], false), &KEPT_MAPPINGS);
-    run_on_bytes(&rt, alloc, (&[1, 2, 3, 4], false), &KEPT);
+    check_a_read_only_image_is_kept(&rt, rt.alloc());
 }
 
 /// On the bytes 1 to 4.
@@ -248,18 +255,24 @@ fn commit_stranger<S: Storage>(
 /// On 8 zeroes, as they were.
 const EIGHT: [(Call, Answer); 1] = [(Call::Read(0, &[0; 8]), Answer::Done)];
 
+fn check_data_mappings(rt: &impl Abort, alloc: Global) {
+    on_bytes(rt, alloc, &[0; 8], &PREPARED);
+    run_on_bytes(rt, alloc, (&[0; 8], true), &PREPARED);
+    on_bytes(rt, alloc, &[0; 8], &STRANGERS);
+}
+
 #[test]
 fn data_mappings(rt: HostRuntime) {
-    let alloc = rt.alloc();
-    on_bytes(&rt, alloc, &[0; 8], &PREPARED);
-    run_on_bytes(&rt, alloc, (&[0; 8], true), &PREPARED);
-    on_bytes(&rt, alloc, &[0; 8], &STRANGERS);
+    check_data_mappings(&rt, rt.alloc());
+}
+
+fn check_a_mapping_that_was_not_prepared_is_not_committed(rt: &impl Abort, alloc: Global) {
+    commit_stranger(rt, alloc, storing(rt, alloc, &[0; 8]), &EIGHT);
 }
 
 #[test]
 fn a_mapping_that_was_not_prepared_is_not_committed(rt: HostRuntime) {
-    let alloc = rt.alloc();
-    commit_stranger(&rt, alloc, storing(&rt, alloc, &[0; 8]), &EIGHT);
+    check_a_mapping_that_was_not_prepared_is_not_committed(&rt, rt.alloc());
 }
 
 /// On the bytes 1 to 4.
@@ -305,12 +318,15 @@ const STORED: [(Call, Answer); 3] = [
     ),
 ];
 
+fn check_resizes(rt: &impl Abort, alloc: Global) {
+    on_bytes(rt, alloc, &[1, 2, 3, 4], &SIZES);
+    on_bytes(rt, alloc, &[1, 2, 3, 4], &STORED);
+    run_on_bytes(rt, alloc, (&[1, 2, 3, 4], true), &SIZES);
+}
+
 #[test]
 fn resizes(rt: HostRuntime) {
-    let alloc = rt.alloc();
-    on_bytes(&rt, alloc, &[1, 2, 3, 4], &SIZES);
-    on_bytes(&rt, alloc, &[1, 2, 3, 4], &STORED);
-    run_on_bytes(&rt, alloc, (&[1, 2, 3, 4], true), &SIZES);
+    check_resizes(&rt, rt.alloc());
 }
 
 /// On 10000 bytes a5 in blocks of 4096.
@@ -337,11 +353,14 @@ const PADDED: [(Call, Answer); 11] = [
     ),
 ];
 
+fn check_growth_cuts_what_a_write_padded(rt: &impl Abort, alloc: Global) {
+    let storage = stored(rt, alloc, &[(10000, 0xa5)]).with_align(4096);
+    on_storage(rt, alloc, storage, &PADDED);
+}
+
 #[test]
 fn growth_cuts_what_a_write_padded(rt: HostRuntime) {
-    let alloc = rt.alloc();
-    let storage = stored(&rt, alloc, &[(10000, 0xa5)]).with_align(4096);
-    on_storage(&rt, alloc, storage, &PADDED);
+    check_growth_cuts_what_a_write_padded(&rt, rt.alloc());
 }
 
 /// On the bytes 1 to 3 in blocks of any length. The storage is at least one block long once it was written.
@@ -393,9 +412,13 @@ const CUT: [(Call, Answer); 9] = [
     (Call::Print("raw[mem:[4B]]"), Answer::Is(true)),
 ];
 
+fn check_mappings_are_cut_to_what_was_asked(rt: &impl Abort, alloc: Global) {
+    on_bytes(rt, alloc, &[1, 2, 3, 4], &CUT);
+}
+
 #[test]
 fn mappings_are_cut_to_what_was_asked(rt: HostRuntime) {
-    on_bytes(&rt, rt.alloc(), &[1, 2, 3, 4], &CUT);
+    check_mappings_are_cut_to_what_was_asked(&rt, rt.alloc());
 }
 
 /// On 4 zeroes, as a list.
@@ -417,9 +440,13 @@ const LISTED: [(Call, Answer); 15] = [
     (Call::Read(0, &[]), Answer::Done),
 ];
 
+fn check_each_call_has_its_reply(rt: &impl Abort, alloc: Global) {
+    run_on_bytes(rt, alloc, (&[0; 4], true), &LISTED);
+}
+
 #[test]
 fn each_call_has_its_reply(rt: HostRuntime) {
-    run_on_bytes(&rt, rt.alloc(), (&[0; 4], true), &LISTED);
+    check_each_call_has_its_reply(&rt, rt.alloc());
 }
 
 /// On the bytes 1 to 4 that may not be written. There is no memory for that buffer.
@@ -444,10 +471,13 @@ fn run_thrice<S: Storage>(rt: &impl Abort, alloc: Global, storage: S, calls: &[(
     assert!(rt; done >= 2 && replies.len() >= 8);
 }
 
+fn check_a_run_appends_and_goes_on_after_a_refusal(rt: &impl Abort, alloc: Global) {
+    run_thrice(rt, alloc, storing(rt, alloc, &[1, 2, 3, 4]), &REFUSED);
+}
+
 #[test]
 fn a_run_appends_and_goes_on_after_a_refusal(rt: HostRuntime) {
-    let alloc = rt.alloc();
-    run_thrice(&rt, alloc, storing(&rt, alloc, &[1, 2, 3, 4]), &REFUSED);
+    check_a_run_appends_and_goes_on_after_a_refusal(&rt, rt.alloc());
 }
 
 /// The size of what is below a driver, and its bytes from the offset on.
@@ -634,11 +664,14 @@ const PRINTED: [(Mapping, &str); 6] = [
     ),
 ];
 
-#[test]
-fn mappings_are_printed(rt: HostRuntime) {
-    let alloc = rt.alloc();
+fn check_mappings_are_printed(rt: &impl Abort, alloc: Global) {
     for &(mapping, text) in &PRINTED {
-        assert_eq!(rt; printed(&rt, alloc, &mapping).as_str(), text);
+        assert_eq!(rt; printed(rt, alloc, &mapping).as_str(), text);
         assert_eq!(rt; mapping.is_eof(), text == "<eof>");
     }
+}
+
+#[test]
+fn mappings_are_printed(rt: HostRuntime) {
+    check_mappings_are_printed(&rt, rt.alloc());
 }

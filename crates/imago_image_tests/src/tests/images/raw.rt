@@ -91,9 +91,13 @@ const PLAIN: [(Call, Answer); 14] = [
     (Call::Print("raw[mem:[3B]]"), Answer::Is(true)),
 ];
 
+fn check_plain_answers(rt: &impl Abort, alloc: Global) {
+    on_bytes(rt, alloc, &[1, 2, 3], &PLAIN);
+}
+
 #[test]
 fn plain_answers(rt: HostRuntime) {
-    on_bytes(&rt, rt.alloc(), &[1, 2, 3], &PLAIN);
+    check_plain_answers(&rt, rt.alloc());
 }
 
 #[test]
@@ -134,11 +138,14 @@ const PADDED: [(Call, Answer); 15] = [
     (Call::Stored(0, 10999, &[0]), Answer::Done),
 ];
 
+fn check_writes_pad_the_storage_and_growth_cuts_it(rt: &impl Abort, alloc: Global) {
+    let storage = stored(rt, alloc, &[(10000, 0xa5)]).with_align(4096);
+    on_storage(rt, alloc, storage, &PADDED);
+}
+
 #[test]
 fn writes_pad_the_storage_and_growth_cuts_it(rt: HostRuntime) {
-    let alloc = rt.alloc();
-    let storage = stored(&rt, alloc, &[(10000, 0xa5)]).with_align(4096);
-    on_storage(&rt, alloc, storage, &PADDED);
+    check_writes_pad_the_storage_and_growth_cuts_it(&rt, rt.alloc());
 }
 
 /// On the bytes 1 to 3 in blocks of a MiB.
@@ -190,9 +197,13 @@ const SIZES: [(Call, Answer); 14] = [
     (Call::Print("raw[mem:[4B]]"), Answer::Is(true)),
 ];
 
+fn check_a_shrink_and_a_growth(rt: &impl Abort, alloc: Global) {
+    on_bytes(rt, alloc, &[1, 2, 3, 4], &SIZES);
+}
+
 #[test]
 fn a_shrink_and_a_growth(rt: HostRuntime) {
-    on_bytes(&rt, rt.alloc(), &[1, 2, 3, 4], &SIZES);
+    check_a_shrink_and_a_growth(&rt, rt.alloc());
 }
 
 /// On 4 bytes ff that have grown to 6.
@@ -207,9 +218,7 @@ const GROWN: [(Call, Answer); 5] = [
     (Call::Stored(0, 0, &[0; 6]), Answer::Done),
 ];
 
-#[test]
-fn new_bytes_of_a_raw_image_are_zero_in_each_mode(rt: HostRuntime) {
-    let alloc = rt.alloc();
+fn check_new_bytes_of_a_raw_image_are_zero_in_each_mode(rt: &impl Abort, alloc: Global) {
     for mode in [
         PreallocateMode::Zero,
         PreallocateMode::FormatAllocate,
@@ -217,9 +226,14 @@ fn new_bytes_of_a_raw_image_are_zero_in_each_mode(rt: HostRuntime) {
         PreallocateMode::WriteData,
     ] {
         let growth = [(Call::Grow(6, mode), Answer::Done)];
-        let storage = on(&rt, alloc, storing(&rt, alloc, &[0xff; 4]), true, &growth);
-        on_storage(&rt, alloc, storage, &GROWN);
+        let storage = on(rt, alloc, storing(rt, alloc, &[0xff; 4]), true, &growth);
+        on_storage(rt, alloc, storage, &GROWN);
     }
+}
+
+#[test]
+fn new_bytes_of_a_raw_image_are_zero_in_each_mode(rt: HostRuntime) {
+    check_new_bytes_of_a_raw_image_are_zero_in_each_mode(&rt, rt.alloc());
 }
 
 /// On 16 bytes ff, whose storage zeroes blocks of 8.
@@ -239,12 +253,15 @@ const BLOCKS: [(Call, Answer); 10] = [
     (Call::Stored(0, 5, &[0; 11]), Answer::Done),
 ];
 
+fn check_only_the_aligned_part_is_zeroed(rt: &impl Abort, alloc: Global) {
+    let bytes = runs(rt, alloc, &[(16, 0xff)]);
+    let storage = MemStorage::new(bytes).with_zero_align(8);
+    on_storage(rt, alloc, storage, &BLOCKS);
+}
+
 #[test]
 fn only_the_aligned_part_is_zeroed(rt: HostRuntime) {
-    let alloc = rt.alloc();
-    let bytes = runs(&rt, alloc, &[(16, 0xff)]);
-    let storage = MemStorage::new(bytes).with_zero_align(8);
-    on_storage(&rt, alloc, storage, &BLOCKS);
+    check_only_the_aligned_part_is_zeroed(&rt, rt.alloc());
 }
 
 #[test]
@@ -283,10 +300,13 @@ const NOTHING: [(Call, Answer); 8] = [
     (Call::StorageLength(0), Answer::Length(1024)),
 ];
 
+fn check_ranges_of_nothing_at_the_end(rt: &impl Abort, alloc: Global) {
+    on_storage(rt, alloc, stored(rt, alloc, &[(1024, 0)]), &NOTHING);
+}
+
 #[test]
 fn ranges_of_nothing_at_the_end(rt: HostRuntime) {
-    let alloc = rt.alloc();
-    on_storage(&rt, alloc, stored(&rt, alloc, &[(1024, 0)]), &NOTHING);
+    check_ranges_of_nothing_at_the_end(&rt, rt.alloc());
 }
 
 /// On 8 zeroes.
@@ -380,12 +400,15 @@ fn commit_stranger<S: Storage>(rt: &impl Abort, storage: S) -> S {
     raw.into_inner()
 }
 
+fn check_foreign_mappings(rt: &impl Abort, alloc: Global) {
+    let storage = commit_stranger(rt, storing(rt, alloc, &[0; 8]));
+    on_storage(rt, alloc, storage, &STRANGERS);
+    on(rt, alloc, storing(rt, alloc, &[0; 8]), false, &READ_ONLY);
+}
+
 #[test]
 fn foreign_mappings(rt: HostRuntime) {
-    let alloc = rt.alloc();
-    let storage = commit_stranger(&rt, storing(&rt, alloc, &[0; 8]));
-    on_storage(&rt, alloc, storage, &STRANGERS);
-    on(&rt, alloc, storing(&rt, alloc, &[0; 8]), false, &READ_ONLY);
+    check_foreign_mappings(&rt, rt.alloc());
 }
 
 /// On four zeroes.
@@ -394,17 +417,24 @@ const MAPPED: [(Call, Answer); 2] = [
     (Call::Stored(0, 0, &[0, 0xaa, 0xbb, 0]), Answer::Done),
 ];
 
-#[test]
-fn mapped_writes(rt: HostRuntime) {
-    let alloc = rt.alloc();
-    let storage = on(&rt, alloc, storing(&rt, alloc, &[0; 4]), true, &MAPPED);
+fn check_mapped_writes(rt: &impl Abort, alloc: Global) {
+    let storage = on(rt, alloc, storing(rt, alloc, &[0; 4]), true, &MAPPED);
     assert_eq!(rt; storage.as_bytes(), [0, 0xaa, 0xbb, 0].as_slice());
 }
 
 #[test]
-fn no_layer_has_no_bytes(rt: HostRuntime) {
+fn mapped_writes(rt: HostRuntime) {
+    check_mapped_writes(&rt, rt.alloc());
+}
+
+fn check_no_layer_has_no_bytes(rt: &impl Abort, alloc: Global) {
     let mut buf = [1; 4];
     assert_eq!(rt; LowerLayer::size(&()), 0);
-    assert_eq!(rt; LowerLayer::read(&(), rt.alloc(), &mut buf, 3), Ok(()));
+    assert_eq!(rt; LowerLayer::read(&(), alloc, &mut buf, 3), Ok(()));
     assert_eq!(rt; buf, [0; 4]);
+}
+
+#[test]
+fn no_layer_has_no_bytes(rt: HostRuntime) {
+    check_no_layer_has_no_bytes(&rt, rt.alloc());
 }

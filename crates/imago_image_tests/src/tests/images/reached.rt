@@ -115,12 +115,15 @@ const REACHED: [Recorded; 10] = [
     Recorded::Resize(5, storage::PreallocateMode::None),
 ];
 
+fn check_calls_of_a_driver_reach_its_storage(rt: &impl Abort, alloc: Global) {
+    let mut storage = recording(rt, alloc);
+    on(rt, alloc, &mut storage, &CALLS);
+    was_reached(rt, &storage, &REACHED);
+}
+
 #[test]
 fn calls_of_a_driver_reach_its_storage(rt: HostRuntime) {
-    let alloc = rt.alloc();
-    let mut storage = recording(&rt, alloc);
-    on(&rt, alloc, &mut storage, &CALLS);
-    was_reached(&rt, &storage, &REACHED);
+    check_calls_of_a_driver_reach_its_storage(&rt, rt.alloc());
 }
 
 const FLUSHES: [(Call, Answer); 4] = [
@@ -204,13 +207,16 @@ pub(super) fn holds(rt: &impl Abort, alloc: Global, storage: &Recording, left: &
     assert_eq!(rt; storage.as_bytes(), runs(rt, alloc, left).as_slice());
 }
 
+fn check_an_image_reads_only_blocks_that_are_partly_written(rt: &impl Abort, alloc: Global) {
+    for ((call, reached), left) in WRITES.iter().zip(LEFT) {
+        let mut storage = recording(rt, alloc);
+        on(rt, alloc, &mut storage, &[(*call, DONE)]);
+        was_reached(rt, &storage, reached);
+        holds(rt, alloc, &storage, &left);
+    }
+}
+
 #[test]
 fn an_image_reads_only_blocks_that_are_partly_written(rt: HostRuntime) {
-    let alloc = rt.alloc();
-    for ((call, reached), left) in WRITES.iter().zip(LEFT) {
-        let mut storage = recording(&rt, alloc);
-        on(&rt, alloc, &mut storage, &[(*call, DONE)]);
-        was_reached(&rt, &storage, reached);
-        holds(&rt, alloc, &storage, &left);
-    }
+    check_an_image_reads_only_blocks_that_are_partly_written(&rt, rt.alloc());
 }

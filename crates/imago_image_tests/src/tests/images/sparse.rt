@@ -93,10 +93,14 @@ const ZEROED: [(driver::Call, Answer); 5] = [
     (driver::Call::Map(3, 8), Answer::Raw(1, 3, 1)),
 ];
 
+fn check_zero_calls_change_places(rt: &impl Abort, alloc: Global) {
+    let table = [FIRST, FIRST, LOWER, SECOND];
+    on_table(rt, alloc, (&table, 4), &ZEROED);
+}
+
 #[test]
 fn zero_calls_change_places(rt: HostRuntime) {
-    let table = [FIRST, FIRST, LOWER, SECOND];
-    on_table(&rt, rt.alloc(), (&table, 4), &ZEROED);
+    check_zero_calls_change_places(&rt, rt.alloc());
 }
 
 /// On bytes of the first storage, of the second, and of none.
@@ -133,9 +137,13 @@ const GROWN: [(driver::Call, Answer); 8] = [
     (driver::Call::Map(2, 8), Answer::Eof),
 ];
 
+fn check_growth_shows_the_layer_below_or_zeroes(rt: &impl Abort, alloc: Global) {
+    on_table(rt, alloc, (&[FIRST], 1), &GROWN);
+}
+
 #[test]
 fn growth_shows_the_layer_below_or_zeroes(rt: HostRuntime) {
-    on_table(&rt, rt.alloc(), (&[FIRST], 1), &GROWN);
+    check_growth_shows_the_layer_below_or_zeroes(&rt, rt.alloc());
 }
 
 /// On two bytes of the first storage, and a barred one.
@@ -163,9 +171,13 @@ const SHORT: [(driver::Call, Answer); 5] = [
     (driver::Call::Size, Answer::Length(4)),
 ];
 
+fn check_a_short_table_ends_before_the_disk(rt: &impl Abort, alloc: Global) {
+    on_table(rt, alloc, (&[FIRST, FIRST], 4), &SHORT);
+}
+
 #[test]
 fn a_short_table_ends_before_the_disk(rt: HostRuntime) {
-    on_table(&rt, rt.alloc(), (&[FIRST, FIRST], 4), &SHORT);
+    check_a_short_table_ends_before_the_disk(&rt, rt.alloc());
 }
 
 /// On a byte of the first storage.
@@ -189,13 +201,16 @@ const PLAIN: [(driver::Call, Answer); 14] = [
     (driver::Call::ReadSpecial(0, &[]), DONE),
 ];
 
+fn check_plain_answers(rt: &impl Abort, alloc: Global) {
+    on_table(rt, alloc, (&[FIRST], 1), &PLAIN);
+    // neither a granularity of 0, nor a table that is longer than the disk
+    assert!(rt; made(rt, alloc, &[FIRST], 1, (0, None)).is_none());
+    assert!(rt; made(rt, alloc, &[FIRST], 0, (4, None)).is_none());
+}
+
 #[test]
 fn plain_answers(rt: HostRuntime) {
-    let alloc = rt.alloc();
-    on_table(&rt, alloc, (&[FIRST], 1), &PLAIN);
-    // neither a granularity of 0, nor a table that is longer than the disk
-    assert!(rt; made(&rt, alloc, &[FIRST], 1, (0, None)).is_none());
-    assert!(rt; made(&rt, alloc, &[FIRST], 0, (4, None)).is_none());
+    check_plain_answers(&rt, rt.alloc());
 }
 
 /// Prepares three bytes and writes 9 into the first.
@@ -222,9 +237,13 @@ const SPENT: [(driver::Call, Answer); 6] = [
     (driver::Call::Read(0, &[9, 0, 1]), DONE),
 ];
 
+fn check_a_commit_shows_and_a_cancel_does_not(rt: &impl Abort, alloc: Global) {
+    on_table(rt, alloc, (&[NONE, NONE, LOWER], 3), &SPENT);
+}
+
 #[test]
 fn a_commit_shows_and_a_cancel_does_not(rt: HostRuntime) {
-    on_table(&rt, rt.alloc(), (&[NONE, NONE, LOWER], 3), &SPENT);
+    check_a_commit_shows_and_a_cancel_does_not(&rt, rt.alloc());
 }
 
 /// On three bytes of no storage, whose commit fails once it has made one show.
@@ -236,11 +255,14 @@ const TORN: [(driver::Call, Answer); 5] = [
     (driver::Call::Read(0, &[9, 0, 0]), DONE),
 ];
 
+fn check_a_torn_commit_shows_its_first_bytes(rt: &impl Abort, alloc: Global) {
+    let torn = made(rt, alloc, &[NONE; 3], 3, (4, Some(1)));
+    on_disk(rt, alloc, torn.expect(rt, "a table that fits"), &TORN);
+}
+
 #[test]
 fn a_torn_commit_shows_its_first_bytes(rt: HostRuntime) {
-    let alloc = rt.alloc();
-    let torn = made(&rt, alloc, &[NONE; 3], 3, (4, Some(1)));
-    on_disk(&rt, alloc, torn.expect(&rt, "a table that fits"), &TORN);
+    check_a_torn_commit_shows_its_first_bytes(&rt, rt.alloc());
 }
 
 /// A disk of that table and of 4 bytes. A commit fails once it has made so many bytes show.
@@ -284,10 +306,13 @@ const LAYERS: [(Call, Answer); 14] = [
     (Call::Print("sparse[mem:[8B], mem:[8B]]"), Answer::Is(true)),
 ];
 
+fn check_an_image_above_another(rt: &impl Abort, alloc: Global) {
+    on(rt, alloc, (&[FIRST, LOWER, NONE, BAR], None), &LAYERS);
+}
+
 #[test]
 fn an_image_above_another(rt: HostRuntime) {
-    let alloc = rt.alloc();
-    on(&rt, alloc, (&[FIRST, LOWER, NONE, BAR], None), &LAYERS);
+    check_an_image_above_another(&rt, rt.alloc());
 }
 
 /// On the same, as a list.
@@ -341,16 +366,19 @@ const GIVEN_IN_PART: [(Call, Answer); 8] = [
     (Call::Read(0, &[0, 2]), DONE),
 ];
 
-#[test]
-fn each_way_to_give_up_bytes_reaches_the_driver(rt: HostRuntime) {
-    let alloc = rt.alloc();
-    on(&rt, alloc, (&[FIRST; 4], None), &GIVEN);
+fn check_each_way_to_give_up_bytes_reaches_the_driver(rt: &impl Abort, alloc: Global) {
+    on(rt, alloc, (&[FIRST; 4], None), &GIVEN);
     on(
-        &rt,
+        rt,
         alloc,
         (&[FIRST, FIRST, BAR, FIRST], None),
         &GIVEN_IN_PART,
     );
+}
+
+#[test]
+fn each_way_to_give_up_bytes_reaches_the_driver(rt: HostRuntime) {
+    check_each_way_to_give_up_bytes_reaches_the_driver(&rt, rt.alloc());
 }
 
 /// On four bytes of the layer below.
@@ -373,10 +401,13 @@ const TORN_IMAGE: [(Call, Answer); 3] = [
     (Call::Read(2, &[2, 2]), DONE),
 ];
 
+fn check_a_torn_commit_leaves_each_byte_old_or_new(rt: &impl Abort, alloc: Global) {
+    on(rt, alloc, (&[LOWER; 4], Some(1)), &TORN_IMAGE);
+}
+
 #[test]
 fn a_torn_commit_leaves_each_byte_old_or_new(rt: HostRuntime) {
-    let alloc = rt.alloc();
-    on(&rt, alloc, (&[LOWER; 4], Some(1)), &TORN_IMAGE);
+    check_a_torn_commit_leaves_each_byte_old_or_new(&rt, rt.alloc());
 }
 
 /// On a disk of four bytes, of which the table has two.
@@ -386,8 +417,11 @@ const SHORT_IMAGE: [(Call, Answer); 3] = [
     (Call::Map(2, 2, "<eof>"), Answer::Length(0)),
 ];
 
+fn check_a_disk_whose_places_end_before_its_size(rt: &impl Abort, alloc: Global) {
+    on(rt, alloc, (&[FIRST; 2], None), &SHORT_IMAGE);
+}
+
 #[test]
 fn a_disk_whose_places_end_before_its_size(rt: HostRuntime) {
-    let alloc = rt.alloc();
-    on(&rt, alloc, (&[FIRST; 2], None), &SHORT_IMAGE);
+    check_a_disk_whose_places_end_before_its_size(&rt, rt.alloc());
 }

@@ -434,9 +434,13 @@ fn calls_of_an_image_in_granules_go_on_without_memory(rt: HostRuntime) {
     each_of_an_image(&rt, rt.alloc(), Kind::Granular(256));
 }
 
+fn check_calls_of_a_table_go_on_without_memory(rt: &impl Abort, alloc: Global) {
+    each_once(rt, alloc, Kind::Table, &DRIVER_CALLS);
+}
+
 #[test]
 fn calls_of_a_table_go_on_without_memory(rt: HostRuntime) {
-    each_once(&rt, rt.alloc(), Kind::Table, &DRIVER_CALLS);
+    check_calls_of_a_table_go_on_without_memory(&rt, rt.alloc());
 }
 
 #[test]
@@ -469,17 +473,20 @@ const REACHED: [(Kind, usize, usize, u64); 15] = [
     (Kind::Granular(512), 512, 2, 5),
 ];
 
-#[test]
-fn a_change_makes_so_many_calls(rt: HostRuntime) {
-    let alloc = rt.alloc();
+fn check_a_change_makes_so_many_calls(rt: &impl Abort, alloc: Global) {
     for &(kind, align, row, calls) in &REACHED {
         let form = Form {
             kind,
             align,
             zeroes: true,
         };
-        let row = *CALLS.get(row).expect(&rt, "a row");
-        let found = reached(&rt, alloc, form, row, Tear::Odd, false);
+        let row = *CALLS.get(row).expect(rt, "a row");
+        let found = reached(rt, alloc, form, row, Tear::Odd, false);
         assert_eq!(rt; found, calls, "{align}");
     }
+}
+
+#[test]
+fn a_change_makes_so_many_calls(rt: HostRuntime) {
+    check_a_change_makes_so_many_calls(&rt, rt.alloc());
 }

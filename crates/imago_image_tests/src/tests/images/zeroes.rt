@@ -35,9 +35,13 @@ const KEPT: [(Call, Answer); 11] = [
     (Call::Print("raw[null:[1024B]]"), Answer::Is(true)),
 ];
 
+fn check_a_disk_of_zeroes_stays_one_at_its_end(rt: &impl Abort, alloc: Global) {
+    on_zeroes(rt, alloc, 1024, &KEPT);
+}
+
 #[test]
 fn a_disk_of_zeroes_stays_one_at_its_end(rt: HostRuntime) {
-    on_zeroes(&rt, rt.alloc(), 1024, &KEPT);
+    check_a_disk_of_zeroes_stays_one_at_its_end(&rt, rt.alloc());
 }
 
 /// On as many zeroes as there are offsets.
@@ -52,9 +56,13 @@ const LONGEST: [(Call, Answer); 5] = [
     ),
 ];
 
+fn check_the_largest_disk_is_written_at_its_end(rt: &impl Abort, alloc: Global) {
+    on_zeroes(rt, alloc, u64::MAX, &LONGEST);
+}
+
 #[test]
 fn the_largest_disk_is_written_at_its_end(rt: HostRuntime) {
-    on_zeroes(&rt, rt.alloc(), u64::MAX, &LONGEST);
+    check_the_largest_disk_is_written_at_its_end(&rt, rt.alloc());
 }
 
 /// On no zeroes: the disk grows to the greatest size, and is cut to nothing.

@@ -60,11 +60,14 @@ const PASSED: [(Call, Answer); 13] = [
     (Call::Size, Answer::Length(4)),
 ];
 
+fn check_writability_the_end_and_the_size_are_tested_in_turn(rt: &impl Abort, alloc: Global) {
+    on_read_only(rt, alloc, &[1, 2, 3, 4], &FIXED);
+    on_bytes(rt, alloc, &[1, 2, 3, 4], &PASSED);
+}
+
 #[test]
 fn writability_the_end_and_the_size_are_tested_in_turn(rt: HostRuntime) {
-    let alloc = rt.alloc();
-    on_read_only(&rt, alloc, &[1, 2, 3, 4], &FIXED);
-    on_bytes(&rt, alloc, &[1, 2, 3, 4], &PASSED);
+    check_writability_the_end_and_the_size_are_tested_in_turn(&rt, rt.alloc());
 }
 
 /// On 1024 zeroes.
@@ -100,11 +103,14 @@ const LONGEST: [(Call, Answer); 8] = [
     (Call::Size, Answer::Length(u64::MAX)),
 ];
 
+fn check_a_disk_of_zeroes_keeps_its_size(rt: &impl Abort, alloc: Global) {
+    on_zeroes(rt, alloc, 1024, &KEPT);
+    on_zeroes(rt, alloc, u64::MAX, &LONGEST);
+}
+
 #[test]
 fn a_disk_of_zeroes_keeps_its_size(rt: HostRuntime) {
-    let alloc = rt.alloc();
-    on_zeroes(&rt, alloc, 1024, &KEPT);
-    on_zeroes(&rt, alloc, u64::MAX, &LONGEST);
+    check_a_disk_of_zeroes_keeps_its_size(&rt, rt.alloc());
 }
 
 /// On eight bytes ff.
@@ -121,9 +127,13 @@ const GIVEN_UP: [(Call, Answer); 7] = [
     (Call::Size, Answer::Length(8)),
 ];
 
+fn check_a_range_is_zeroed_alone(rt: &impl Abort, alloc: Global) {
+    on_bytes(rt, alloc, &[0xff; 8], &GIVEN_UP);
+}
+
 #[test]
 fn a_range_is_zeroed_alone(rt: HostRuntime) {
-    on_bytes(&rt, rt.alloc(), &[0xff; 8], &GIVEN_UP);
+    check_a_range_is_zeroed_alone(&rt, rt.alloc());
 }
 
 /// A storage of 16 bytes ff whose zero writes have an alignment of 8.
@@ -152,12 +162,15 @@ const ALIGNED: [[(Call, Answer); 2]; 4] = [
     ],
 ];
 
+fn check_what_the_driver_leaves_is_zeroed_as_data(rt: &impl Abort, alloc: Global) {
+    for calls in &ALIGNED {
+        on_storage(rt, alloc, sixteen(rt, alloc), calls);
+    }
+}
+
 #[test]
 fn what_the_driver_leaves_is_zeroed_as_data(rt: HostRuntime) {
-    let alloc = rt.alloc();
-    for calls in &ALIGNED {
-        on_storage(&rt, alloc, sixteen(&rt, alloc), calls);
-    }
+    check_what_the_driver_leaves_is_zeroed_as_data(&rt, rt.alloc());
 }
 
 /// In blocks of 4096: a call, and what it makes of its storage. What is aligned is one call.
@@ -207,15 +220,18 @@ const LEFT: [[(usize, u8); 3]; 7] = [
     [(1000, 0xa5), (9000, 0), (10000, 0xa5)],
 ];
 
+fn check_zero_writes_and_discards_of_an_image_reach_the_storage(rt: &impl Abort, alloc: Global) {
+    for ((call, reached), left) in REACHED.iter().zip(LEFT) {
+        let mut storage = recording(rt, alloc);
+        on_recording(rt, alloc, &mut storage, &[(*call, DONE)]);
+        was_reached(rt, &storage, reached);
+        holds(rt, alloc, &storage, &left);
+    }
+}
+
 #[test]
 fn zero_writes_and_discards_of_an_image_reach_the_storage(rt: HostRuntime) {
-    let alloc = rt.alloc();
-    for ((call, reached), left) in REACHED.iter().zip(LEFT) {
-        let mut storage = recording(&rt, alloc);
-        on_recording(&rt, alloc, &mut storage, &[(*call, DONE)]);
-        was_reached(&rt, &storage, reached);
-        holds(&rt, alloc, &storage, &left);
-    }
+    check_zero_writes_and_discards_of_an_image_reach_the_storage(&rt, rt.alloc());
 }
 
 const WRAPS: Answer = Answer::Refused(Error::WrapAround);
@@ -235,7 +251,11 @@ const LAST_BLOCK: [(Call, Answer); 10] = [
     (Call::Size, Answer::Length(u64::MAX)),
 ];
 
+fn check_the_last_block_of_the_longest_disk_wraps_around(rt: &impl Abort, alloc: Global) {
+    on_raw(rt, alloc, WideNull::new(u64::MAX), true, &LAST_BLOCK);
+}
+
 #[test]
 fn the_last_block_of_the_longest_disk_wraps_around(rt: HostRuntime) {
-    on_raw(&rt, rt.alloc(), WideNull::new(u64::MAX), true, &LAST_BLOCK);
+    check_the_last_block_of_the_longest_disk_wraps_around(&rt, rt.alloc());
 }
