@@ -51,8 +51,8 @@ pub record IsInBlock (block size o q m : ℕ) : Type 0 where
 abbrev pub IsApart : ℕ → ℕ → ℕ → ℕ → Type 0
 IsApart o n q m = (q + m ≤ o) ⊎ (o + n ≤ q)
 
--- Why the guest block of a range o .. o + n may not be copied to that offset of the storage. For overwriting the range itself
--- isn't read.
+-- Why the guest block of a range o .. o + n may not be copied to that offset of the storage. For overwriting what bars a read of the
+-- range itself is no reason.
 abbrev pub round_reasons : Features → LayerBelow → Bool → Bool → ℕ → ℕ → ℕ → ℕ → ℕ → Reasons
 round_reasons f l absent overwrite block size o n to = record none {
   cause = λ e. ((e ≡ Error.WrapAround) × HasWrappingPart (Wraps f) to block) ⊎ ((absent ≡ true) × ((q : ℕ) × (m : ℕ) × IsInBlock block size o q m × (overwrite ≡ true → IsApart o n q m) × l.cause q m e));
@@ -61,7 +61,7 @@ round_reasons f l absent overwrite block size o n to = record none {
 }
 
 -- Why a prepare for overwriting n bytes from o on may be refused: in the data blocks a write wraps around, or the guest block is
--- absent, and the layer below can't be read before or behind the prepared part of the range. That part itself isn't read.
+-- absent, and the layer below can't be read before or behind the prepared part of the range. What bars a read of that part is no reason.
 abbrev pub over_reasons : Features → LayerBelow → ℕ → ℕ → List GuestBlock → ℕ → ℕ → ℕ → Reasons
 over_reasons f l block size entries blocks o n = record none {
   cause = λ e. ((e ≡ Error.WrapAround) × DataWraps f block (data_count block size entries blocks None Write o n)) ⊎ ((slice_get entries (o / block) ≡ Some GuestBlock.Absent) × ((q : ℕ) × (m : ℕ) × IsInBlock block size o q m × IsApart o (in_block block o n) q m × l.cause q m e));
