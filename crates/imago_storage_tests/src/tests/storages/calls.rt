@@ -9,7 +9,7 @@ use std::process::Abort;
 /// Bytes without alignments.
 const BYTES: (usize, usize, usize) = (1, 1, 1);
 
-const CALLS: [Script; 4] = [
+static CALLS: [Script; 4] = [
     // aligned calls on memory
     Script {
         kind: Kind::Memory,
@@ -106,7 +106,7 @@ fn each_call_succeeds(rt: HostRuntime) {
     check_each_call_succeeds(&rt, rt.alloc());
 }
 
-const RESIZES: [Script; 4] = [
+static RESIZES: [Script; 4] = [
     Script {
         kind: Kind::Memory,
         aligns: (512, 512, 512),
@@ -180,7 +180,7 @@ fn memory_grows_by_zeroes_and_shrinks(rt: HostRuntime) {
     check_memory_grows_by_zeroes_and_shrinks(&rt, rt.alloc());
 }
 
-const LENT: [Script; 2] = [
+static LENT: [Script; 2] = [
     // aligned calls
     Script {
         kind: Kind::Lent,

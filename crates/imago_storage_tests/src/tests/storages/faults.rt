@@ -14,7 +14,7 @@ const BLOCKS: (usize, usize, usize) = (8, 8, 8);
 const BYTES: (usize, usize, usize) = (1, 1, 1);
 
 // read and write of the first block, read and write of the last
-const WRITES: [Script; 9] = [
+static WRITES: [Script; 9] = [
     Script {
         kind: Kind::Faulty,
         aligns: BLOCKS,
@@ -137,7 +137,7 @@ fn a_write_stops_at_each_call(rt: HostRuntime) {
 }
 
 // the zero write, then the byte behind it as data, read and written
-const ZEROES: [Script; 5] = [
+static ZEROES: [Script; 5] = [
     Script {
         kind: Kind::Faulty,
         aligns: BLOCKS,
@@ -194,7 +194,7 @@ fn a_zero_write_stops_at_each_call(rt: HostRuntime) {
     check_a_zero_write_stops_at_each_call(&rt, rt.alloc());
 }
 
-const KINDS: [Script; 5] = [
+static KINDS: [Script; 5] = [
     // a shared read fails, and a write does not
     Script {
         kind: Kind::Faulty,
@@ -297,7 +297,7 @@ fn each_kind_of_call_fails(rt: HostRuntime) {
     check_each_kind_of_call_fails(&rt, rt.alloc());
 }
 
-const TEARS: [Script; 7] = [
+static TEARS: [Script; 7] = [
     Script {
         kind: Kind::Faulty,
         aligns: BYTES,

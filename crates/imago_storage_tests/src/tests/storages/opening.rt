@@ -179,7 +179,7 @@ fn memory(rt: &impl Abort, alloc: Global, aligns: (usize, usize, usize)) -> MemS
 }
 
 /// One byte in blocks of one.
-const ONE_BYTE: Told = Told {
+static ONE_BYTE: Told = Told {
     aligns: (1, 1, 1, 1),
     blocks: (1, 1),
     size: 1,
@@ -200,7 +200,7 @@ fn names_in_memory_are_kept_as_they_are(rt: HostRuntime) {
 }
 
 /// One byte in blocks of one of a storage whose names are in a folder.
-const BESIDE: Told = Told {
+static BESIDE: Told = Told {
     aligns: (1, 1, 1, 1),
     blocks: (1, 1),
     size: 1,
@@ -220,7 +220,7 @@ fn names_are_relative_to_a_lent_storage(rt: HostRuntime) {
 }
 
 /// Four zeroes.
-const FOUR_ZEROES: Told = Told {
+static FOUR_ZEROES: Told = Told {
     aligns: (1, 1, 1, 1),
     blocks: (1, 1),
     size: 4,
@@ -271,7 +271,7 @@ fn memory_has_alignments(rt: HostRuntime) {
 }
 
 /// One byte whose alignments differ.
-const DIFFERENT: Told = Told {
+static DIFFERENT: Told = Told {
     aligns: (2, 1, 16, 1),
     blocks: (16, 1),
     size: 1,

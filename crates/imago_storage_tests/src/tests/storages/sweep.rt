@@ -14,7 +14,7 @@ const OFFSET: usize = 515;
 
 const COUNT: usize = 1030;
 
-const TEARS: [Tear; 4] = [Tear::Nothing, Tear::All, Tear::First(3), Tear::Odd];
+static TEARS: [Tear; 4] = [Tear::Nothing, Tear::All, Tear::First(3), Tear::Odd];
 
 /// A storage, and a change of it, with the bytes that it is to leave.
 #[derive(Clone, Copy)]
@@ -127,7 +127,7 @@ fn bytes(rt: &impl Abort, alloc: Global, written: Option<bool>) -> (Vec<u8>, Vec
 /// In blocks of 1 byte a change makes one call. In others a block is read and written at each end, and the blocks between
 /// are written. Without zero writes what stands before the first block is written as data, and what follows: both
 /// read and write a block, and the second one writes whole blocks too.
-const CHANGES: [(Kind, Call, Option<bool>, [u64; 3]); 8] = [
+static CHANGES: [(Kind, Call, Option<bool>, [u64; 3]); 8] = [
     (
         Kind::Faulty,
         Call::WriteOffsets(515, 1030),

@@ -93,7 +93,7 @@ fn storages_for_tests_print_what_is_inside(rt: HostRuntime) {
 }
 
 /// Each refusal, its kind and its message.
-const REFUSALS: [(Error, ErrorKind, &str); 12] = [
+static REFUSALS: [(Error, ErrorKind, &str); 12] = [
     (Error::ReadOnly, ErrorKind::Other, "the image is read-only"),
     (
         Error::BeyondDisk,

@@ -6,7 +6,7 @@ use imago_storage::storage::PreallocateMode;
 
 const MAX: u64 = u64::MAX;
 
-const WRAPS: [Script; 2] = [
+static WRAPS: [Script; 2] = [
     Script {
         kind: Kind::Memory,
         aligns: (4096, 4096, 4096),
@@ -70,7 +70,7 @@ fn a_request_wraps_around(rt: HostRuntime) {
     check_all(&rt, rt.alloc(), &WRAPS);
 }
 
-const LONGEST: [Script; 2] = [
+static LONGEST: [Script; 2] = [
     Script {
         kind: Kind::Zeroes(MAX),
         aligns: (1, 1, 1),

@@ -5,7 +5,7 @@ use imago_test_storages::counting::Counts;
 use std::alloc::Global;
 use std::process::Abort;
 
-const PADDED: [Script; 4] = [
+static PADDED: [Script; 4] = [
     // a last block is padded by zeroes
     Script {
         kind: Kind::Memory,
@@ -56,7 +56,7 @@ fn a_request_is_padded(rt: HostRuntime) {
     check_all(&rt, rt.alloc(), &PADDED);
 }
 
-const EMPTY: [Script; 1] = [Script {
+static EMPTY: [Script; 1] = [Script {
     kind: Kind::Memory,
     aligns: (4096, 4096, 4096),
     given: &[(4, 0x11)],
@@ -71,7 +71,7 @@ fn an_empty_request_does_nothing(rt: HostRuntime) {
     check_all(&rt, rt.alloc(), &EMPTY);
 }
 
-const ALIGNED: [Script; 2] = [
+static ALIGNED: [Script; 2] = [
     Script {
         kind: Kind::Memory,
         aligns: (512, 1, 1),
@@ -100,7 +100,7 @@ fn an_aligned_request_inside_takes_no_memory(rt: HostRuntime) {
 /// The alignments of a storage in blocks of 4096.
 const BLOCKS: (usize, usize, usize) = (4096, 4096, 4096);
 
-const COUNTED: [Script; 5] = [
+static COUNTED: [Script; 5] = [
     Script {
         kind: Kind::Counting,
         aligns: BLOCKS,

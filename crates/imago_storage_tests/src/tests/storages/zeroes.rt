@@ -8,7 +8,7 @@ use imago_test_storages::recording::Recorded;
 use std::alloc::Global;
 use std::process::Abort;
 
-const AS_DATA: [Script; 4] = [
+static AS_DATA: [Script; 4] = [
     // 11 bytes are no multiple of 8, so they are padded as a write is: from 1 to 17
     Script {
         kind: Kind::AsData,
@@ -70,7 +70,7 @@ fn a_zero_write_is_made_as_data(rt: HostRuntime) {
     check_a_zero_write_is_made_as_data(&rt, rt.alloc());
 }
 
-const IN_PLACE: [Script; 5] = [
+static IN_PLACE: [Script; 5] = [
     // an edge of the zero alignment is zeroed as data
     Script {
         kind: Kind::Memory,
@@ -135,7 +135,7 @@ fn a_zero_write_zeroes_its_range_alone(rt: HostRuntime) {
     check_a_zero_write_zeroes_its_range_alone(&rt, rt.alloc());
 }
 
-const DISCARDS: [Script; 4] = [
+static DISCARDS: [Script; 4] = [
     // memory keeps its bytes
     Script {
         kind: Kind::Memory,
@@ -195,7 +195,7 @@ fn a_discard_takes_whole_blocks(rt: HostRuntime) {
 }
 
 // three pieces of 1 MiB, the second of which fails
-const PIECES: [Script; 2] = [
+static PIECES: [Script; 2] = [
     Script {
         kind: Kind::FaultyUnzeroed,
         aligns: (1, 1, 1),
