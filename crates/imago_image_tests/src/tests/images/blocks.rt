@@ -51,7 +51,7 @@ fn on(
 }
 
 /// On 16 bytes ff in blocks of 4.
-const PIECEWISE: [[(Call, Answer); 3]; 5] = [
+static PIECEWISE: [[(Call, Answer); 3]; 5] = [
     [
         (Call::Map(0, 16, "0/0:0x0/rw"), Answer::Length(4)),
         (Call::Map(7, 2, "0/0:0x7/rw"), Answer::Length(2)),
@@ -92,7 +92,7 @@ fn a_range_is_zeroed_and_discarded_block_by_block(rt: HostRuntime) {
 }
 
 /// On 1000 bytes 22 in granules of more bytes.
-const BELOW_ONE: [(Call, Answer); 4] = [
+static BELOW_ONE: [(Call, Answer); 4] = [
     (Call::Give(ZERO, 10, 10), DONE),
     (Call::ReadRuns(0, &[(10, 0x22), (10, 0), (980, 0x22)]), DONE),
     (Call::Give(ZERO, 0, 1000), DONE),
@@ -100,7 +100,7 @@ const BELOW_ONE: [(Call, Answer); 4] = [
 ];
 
 /// On 1000 bytes 22 in granules of 64.
-const GRANULES: [[(Call, Answer); 2]; 6] = [
+static GRANULES: [[(Call, Answer); 2]; 6] = [
     [
         (Call::Give(ZERO, 70, 200), DONE),
         (
@@ -151,7 +151,7 @@ fn a_granule_is_not_zeroed_past_the_range(rt: HostRuntime) {
 }
 
 /// On 16 bytes ff in blocks of 4, and on 14 where these are granules.
-const PARTS: [(Call, Answer); 7] = [
+static PARTS: [(Call, Answer); 7] = [
     (Call::Drive(driver::Call::Granularity), Answer::Missing),
     (Call::Drive(driver::Call::Map(1, 100)), Answer::Raw(0, 1, 4)),
     (
@@ -183,7 +183,7 @@ const PARTS: [(Call, Answer); 7] = [
     ),
 ];
 
-const SHORT_PARTS: [(Call, Answer); 4] = [
+static SHORT_PARTS: [(Call, Answer); 4] = [
     (Call::Drive(driver::Call::Granularity), Answer::Length(4)),
     (
         Call::Drive(driver::Call::Give(ZERO, 9, 5)),

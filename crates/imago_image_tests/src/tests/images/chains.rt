@@ -105,9 +105,9 @@ fn on_pattern(rt: &impl Abort, alloc: Global, kind: Kind, size: u64, calls: &[(C
     on_driver(rt, alloc, driver, calls);
 }
 
-const READ_WRITE: [(Call, Answer); 1] = [(Call::Map(0, 512, "1/0:0x0/rw"), Answer::Length(512))];
+static READ_WRITE: [(Call, Answer); 1] = [(Call::Map(0, 512, "1/0:0x0/rw"), Answer::Length(512))];
 
-const READ_ONLY: [(Call, Answer); 1] = [(Call::Map(0, 512, "2/0:0x0/ro"), Answer::Length(512))];
+static READ_ONLY: [(Call, Answer); 1] = [(Call::Map(0, 512, "2/0:0x0/ro"), Answer::Length(512))];
 
 fn check_each_layer_says_whether_it_may_be_written(rt: &impl Abort, alloc: Global) {
     let fixed = Kind::Below { writable: false };
@@ -121,7 +121,7 @@ fn each_layer_says_whether_it_may_be_written(rt: HostRuntime) {
 }
 
 /// Above 512 bytes 11.
-const ENDS: [(Call, Answer); 2] = [
+static ENDS: [(Call, Answer); 2] = [
     (Call::ReadRuns(0, &[(512, 0x11), (512, 0)]), Answer::Done),
     (
         Call::Map(512, 512, "<zero:unallocated>"),
@@ -134,9 +134,12 @@ fn a_layer_below_may_end_before(rt: HostRuntime) {
     on_layers(&rt, rt.alloc(), (512, 0x11), (&[BELOW], 1024), &ENDS);
 }
 
-const EXPLICIT: [(Call, Answer); 1] = [(Call::Map(0, 512, "<zero:explicit>"), Answer::Length(512))];
+static EXPLICIT: [(Call, Answer); 1] = [(
+    Call::Map(0, 512, "<zero:explicit>"),
+    Answer::Length(512),
+)];
 
-const UNALLOCATED: [(Call, Answer); 1] = [(
+static UNALLOCATED: [(Call, Answer); 1] = [(
     Call::Map(0, 512, "<zero:unallocated>"),
     Answer::Length(512),
 )];
@@ -152,12 +155,12 @@ fn zeroes_are_explicit_in_the_top_layer_alone(rt: HostRuntime) {
     check_zeroes_are_explicit_in_the_top_layer_alone(&rt, rt.alloc());
 }
 
-const SPECIAL: [(Call, Answer); 2] = [
+static SPECIAL: [(Call, Answer); 2] = [
     (Call::Map(2, 4, "<special:0:0x2>"), Answer::Length(4)),
     (Call::Read(2, &[0x5a; 4]), Answer::Done),
 ];
 
-const UNREADABLE: [(Call, Answer); 2] = [
+static UNREADABLE: [(Call, Answer); 2] = [
     (Call::Map(2, 4, "<special:0:0x2>"), Answer::Length(4)),
     (
         Call::Read(2, &[0x5a; 4]),
@@ -185,7 +188,7 @@ fn special_bytes_are_read_where_they_can_be(rt: HostRuntime) {
 }
 
 /// Above 512 bytes 11.
-const KEPT: [(Call, Answer); 3] = [
+static KEPT: [(Call, Answer); 3] = [
     (Call::Write(0, &[7]), Answer::Refused(Error::ReadOnly)),
     (Call::Read(0, &[0x11; 2]), Answer::Done),
     (Call::ReadBelow(0, &[0x11; 2]), Answer::Done),
@@ -201,7 +204,7 @@ fn a_pattern_is_not_written_through(rt: HostRuntime) {
 }
 
 /// On a chain of that many layers above 16 bytes 11.
-const CHAIN: [(Call, Answer); 5] = [
+static CHAIN: [(Call, Answer); 5] = [
     (Call::Read(14, &[0x11, 0x11, 0, 0]), Answer::Done),
     (Call::Map(14, 4, "100000/0:0xe/rw"), Answer::Length(2)),
     (Call::Depth, Answer::Length(100_000)),

@@ -13,7 +13,7 @@ use std::process::Abort;
 const DONE: Answer = Answer::Done;
 
 /// What makes the bytes 1 to 8 of the layer below.
-const COUNTED: [(Call, Answer); 1] = [(Call::Write(0, &[1, 2, 3, 4, 5, 6, 7, 8]), DONE)];
+static COUNTED: [(Call, Answer); 1] = [(Call::Write(0, &[1, 2, 3, 4, 5, 6, 7, 8]), DONE)];
 
 /// The driver of an image of 8 bytes, over a storage of other bytes, whose first write copies what is below.
 fn copying(rt: &impl Abort, alloc: Global) -> CopyOnce<MemStorage> {
@@ -33,7 +33,7 @@ fn on(rt: &impl Abort, alloc: Global, calls: &[(Call, Answer)]) {
 }
 
 /// Above the bytes 1 to 8.
-const WRITES: [(Call, Answer); 8] = [
+static WRITES: [(Call, Answer); 8] = [
     (Call::Map(0, 8, "1/0:0x0/ro"), Answer::Length(8)),
     (Call::Read(0, &[1, 2, 3, 4, 5, 6, 7, 8]), DONE),
     (Call::Write(3, &[0xaa, 0xbb]), DONE),
@@ -68,7 +68,7 @@ macro_rules! eight_nine {
 }
 
 /// Above the same.
-const SPENT: [(Call, Answer); 6] = [
+static SPENT: [(Call, Answer); 6] = [
     (eight_nine!(false), Answer::Prepared(3, true)),
     (Call::Map(0, 8, "1/0:0x0/ro"), Answer::Length(8)),
     (Call::Read(0, &[1, 2, 3, 4, 5, 6, 7, 8]), DONE),
@@ -101,7 +101,7 @@ macro_rules! two_of_three {
 }
 
 /// Above the same, as a list.
-const LISTED: [(Call, Answer); 6] = [
+static LISTED: [(Call, Answer); 6] = [
     (two_of_three!(true, false), Answer::Prepared(3, true)),
     (Call::Read(0, &[1, 2, 3, 4, 5, 6, 7, 8]), DONE),
     (two_of_three!(false, true), Answer::Prepared(3, true)),
@@ -123,7 +123,7 @@ fn a_list_commits_and_cancels(rt: HostRuntime) {
 }
 
 /// The call, and whether the driver is asked to prepare a mapping for overwriting.
-const ASKED: [(Call, Answer, bool); 5] = [
+static ASKED: [(Call, Answer, bool); 5] = [
     (Call::Write(3, &[1]), DONE, true),
     (Call::MapData(2, 3, false), Answer::Data(0, 2, 3), false),
     (Call::MapData(2, 3, true), Answer::Data(0, 2, 3), true),

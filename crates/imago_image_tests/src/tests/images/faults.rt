@@ -42,7 +42,7 @@ const NONE: PreallocateMode = PreallocateMode::None;
 const LENGTH: Call = Call::Look(driver::Call::StorageLength(0));
 
 /// On 1024 zeroes whose next two resizes are refused.
-const SIZES: [(Call, Answer); 12] = [
+static SIZES: [(Call, Answer); 12] = [
     (Call::Grow(2048, NONE), DEVICE),
     (Call::Size, Answer::Length(1024)),
     (LENGTH, Answer::Length(1024)),
@@ -80,7 +80,7 @@ fn armed(rt: &impl Abort, alloc: Global, pass: u64, tear: Tear) -> Faulty {
 const TEN_ZEROES: Call = Call::Write(3, &[0; 10]);
 
 /// The calls that go through, what the next one leaves, the answer, and the bytes that are there.
-const STOPS: [(u64, Tear, Answer, [u8; 16]); 5] = [
+static STOPS: [(u64, Tear, Answer, [u8; 16]); 5] = [
     (0, Tear::Nothing, DEVICE, [0xff; 16]),
     (
         1,
@@ -131,7 +131,7 @@ fn a_write_stops_at_each_call(rt: HostRuntime) {
 }
 
 /// The zero write of 3 MiB ff that is made as data, in pieces of 1 MiB.
-const LONG: [(Call, Answer); 1] = [(Call::Give(Give::EnsureZero, 0, 3145728), DEVICE)];
+static LONG: [(Call, Answer); 1] = [(Call::Give(Give::EnsureZero, 0, 3145728), DEVICE)];
 
 fn check_a_zero_write_stops_in_its_second_piece(rt: &impl Abort, alloc: Global) {
     let mut storage = faulty(rt, alloc, &[(3145728, 0xff)]).without_zero_writes();
@@ -152,14 +152,14 @@ fn a_zero_write_stops_in_its_second_piece(rt: HostRuntime) {
 }
 
 /// Where reads fail.
-const UNREAD: [(Call, Answer); 3] = [
+static UNREAD: [(Call, Answer); 3] = [
     (Call::Read(0, &[0; 4]), DEVICE),
     (Call::Write(1, &[1, 2]), DONE),
     (Call::Size, Answer::Length(4)),
 ];
 
 /// Where they don't any more.
-const READ: [(Call, Answer); 4] = [
+static READ: [(Call, Answer); 4] = [
     (Call::Read(0, &[0xff, 1, 2, 0xff]), DONE),
     (Call::Give(Give::EnsureZero, 0, 2), DONE),
     (Call::Give(Give::DiscardToZero, 3, 1), DONE),
@@ -201,7 +201,7 @@ fn a_run_over_failing_reads(rt: HostRuntime) {
 }
 
 /// On 16 bytes ff in blocks of 8. The first write stops in its first block, and the growth is refused.
-const LISTED: [(Call, Answer); 9] = [
+static LISTED: [(Call, Answer); 9] = [
     (TEN_ZEROES, DEVICE),
     (Call::Read(0, &[0xff, 0xff, 0xff, 0, 0xff, 0xff]), DONE),
     (Call::Write(16, &[0]), Answer::Refused(Error::BeyondDisk)),
@@ -235,10 +235,10 @@ fn a_run_goes_on_after_refused_calls(rt: HostRuntime) {
 }
 
 /// On four bytes ff whose reads fail.
-const LENT_UNREAD: [(Call, Answer); 1] = [(Call::Drive(driver::Call::Read(3, &[0; 2])), DEVICE)];
+static LENT_UNREAD: [(Call, Answer); 1] = [(Call::Drive(driver::Call::Read(3, &[0; 2])), DEVICE)];
 
 /// Where they don't any more.
-const LENT: [(Call, Answer); 6] = [
+static LENT: [(Call, Answer); 6] = [
     (Call::Drive(driver::Call::Read(3, &[0xff, 0])), DONE),
     (Call::Drive(driver::Call::HasPrepared), Answer::Is(false)),
     (

@@ -80,7 +80,7 @@ fn run_on_bytes(
 }
 
 /// On 16 zeroes.
-const WRITES: [(Call, Answer); 5] = [
+static WRITES: [(Call, Answer); 5] = [
     (Call::Size, Answer::Length(16)),
     (Call::Write(3, &[1, 2]), Answer::Done),
     (Call::Read(0, &[0, 0, 0, 1, 2, 0]), Answer::Done),
@@ -98,7 +98,7 @@ fn what_is_written_is_read(rt: HostRuntime) {
 }
 
 /// On the bytes 1 to 4 that may not be written.
-const KEPT: [(Call, Answer); 10] = [
+static KEPT: [(Call, Answer); 10] = [
     (Call::Read(2, &[3, 4, 0, 0, 0, 0]), Answer::Done),
     (Call::Read(u64::MAX, &[0, 0]), Answer::Done),
     (Call::Write(0, &[]), READ_ONLY),
@@ -112,7 +112,7 @@ const KEPT: [(Call, Answer); 10] = [
 ];
 
 /// On the same.
-const KEPT_STRANGER: [(Call, Answer); 1] = [(
+static KEPT_STRANGER: [(Call, Answer); 1] = [(
     Call::WriteStranger {
         offset: 0,
         count: 4,
@@ -123,7 +123,7 @@ const KEPT_STRANGER: [(Call, Answer); 1] = [(
 )];
 
 /// On the same, also as a list.
-const KEPT_MAPPINGS: [(Call, Answer); 3] = [
+static KEPT_MAPPINGS: [(Call, Answer); 3] = [
     (
         Call::Prepare {
             offset: 2,
@@ -153,7 +153,7 @@ fn a_read_only_image_is_kept(rt: HostRuntime) {
 }
 
 /// On the bytes 1 to 4.
-const PAST_THE_END: [(Call, Answer); 5] = [
+static PAST_THE_END: [(Call, Answer); 5] = [
     (Call::Write(u64::MAX, &[9]), BEYOND),
     (Call::Write(3, &[8, 9]), BEYOND),
     (Call::Write(5, &[]), BEYOND),
@@ -169,7 +169,7 @@ fn a_write_past_the_end_changes_nothing(rt: HostRuntime) {
 }
 
 /// On 8 zeroes, also as a list.
-const PREPARED: [(Call, Answer); 9] = [
+static PREPARED: [(Call, Answer); 9] = [
     (
         Call::Prepare {
             offset: 2,
@@ -213,7 +213,7 @@ const PREPARED: [(Call, Answer); 9] = [
 ];
 
 /// On 8 zeroes.
-const STRANGERS: [(Call, Answer); 3] = [
+static STRANGERS: [(Call, Answer); 3] = [
     (
         Call::WriteStranger {
             offset: 100,
@@ -253,7 +253,7 @@ fn commit_stranger<S: Storage>(
 }
 
 /// On 8 zeroes, as they were.
-const EIGHT: [(Call, Answer); 1] = [(Call::Read(0, &[0; 8]), Answer::Done)];
+static EIGHT: [(Call, Answer); 1] = [(Call::Read(0, &[0; 8]), Answer::Done)];
 
 fn check_data_mappings(rt: &impl Abort, alloc: Global) {
     on_bytes(rt, alloc, &[0; 8], &PREPARED);
@@ -276,7 +276,7 @@ fn a_mapping_that_was_not_prepared_is_not_committed(rt: HostRuntime) {
 }
 
 /// On the bytes 1 to 4.
-const SIZES: [(Call, Answer); 25] = [
+static SIZES: [(Call, Answer); 25] = [
     (Call::Shrink(2), Answer::Done),
     (Call::Grow(4, ZERO), Answer::Done),
     (Call::Read(0, &[1, 2, 0, 0]), Answer::Done),
@@ -306,7 +306,7 @@ const SIZES: [(Call, Answer); 25] = [
 ];
 
 /// On the same.
-const STORED: [(Call, Answer); 3] = [
+static STORED: [(Call, Answer); 3] = [
     (Call::Grow(u64::MAX, ZERO), Answer::Refused(Error::Memory)),
     (
         Call::Look(driver::Call::StorageLength(0)),
@@ -330,7 +330,7 @@ fn resizes(rt: HostRuntime) {
 }
 
 /// On 10000 bytes a5 in blocks of 4096.
-const PADDED: [(Call, Answer); 11] = [
+static PADDED: [(Call, Answer); 11] = [
     (Call::Write(9999, &[1]), Answer::Done),
     (Call::Read(9998, &[0xa5, 1, 0]), Answer::Done),
     (Call::Size, Answer::Length(10000)),
@@ -364,7 +364,7 @@ fn growth_cuts_what_a_write_padded(rt: HostRuntime) {
 }
 
 /// On the bytes 1 to 3 in blocks of any length. The storage is at least one block long once it was written.
-const SHORT: [(Call, Answer); 12] = [
+static SHORT: [(Call, Answer); 12] = [
     (Call::Write(1, &[2]), Answer::Done),
     (
         Call::Look(driver::Call::StorageLength(0)),
@@ -399,7 +399,7 @@ fn a_disk_below_one_block_of_any_length(rt: HostRuntime) {
 }
 
 /// On the bytes 1 to 4.
-const CUT: [(Call, Answer); 9] = [
+static CUT: [(Call, Answer); 9] = [
     (Call::Map(1, 2, "0/0:0x1/rw"), Answer::Length(2)),
     (Call::Map(1, 100, "0/0:0x1/rw"), Answer::Length(3)),
     (Call::Map(4, 100, "<eof>"), Answer::Length(0)),
@@ -422,7 +422,7 @@ fn mappings_are_cut_to_what_was_asked(rt: HostRuntime) {
 }
 
 /// On 4 zeroes, as a list.
-const LISTED: [(Call, Answer); 15] = [
+static LISTED: [(Call, Answer); 15] = [
     (Call::Write(3, &[1, 2]), BEYOND),
     (Call::Write(1, &[1, 2]), Answer::Done),
     (Call::Read(0, &[0, 1, 2, 0, 0, 0]), Answer::Done),
@@ -450,7 +450,7 @@ fn each_call_has_its_reply(rt: HostRuntime) {
 }
 
 /// On the bytes 1 to 4 that may not be written. There is no memory for that buffer.
-const REFUSED: [(Call, Answer); 4] = [
+static REFUSED: [(Call, Answer); 4] = [
     (Call::ReadLong(0, u64::MAX), Answer::Refused(Error::Memory)),
     (Call::Write(0, &[9]), READ_ONLY),
     (Call::Size, Answer::Length(4)),
@@ -533,7 +533,7 @@ fn above_mem(
 }
 
 /// On 4 bytes ff above 8 bytes 11.
-const HIDES: [(Call, Answer); 8] = [
+static HIDES: [(Call, Answer); 8] = [
     (Call::Read(2, &[0xff, 0xff, 0, 0, 0, 0]), Answer::Done),
     (Call::Grow(6, PreallocateMode::FullAllocate), Answer::Done),
     (Call::Read(2, &[0xff, 0xff, 0, 0]), Answer::Done),
@@ -564,7 +564,7 @@ fn a_raw_image_hides_what_is_below(rt: HostRuntime) {
 }
 
 /// On the bytes 7 and 8 above 8 bytes 11.
-const EXCHANGED: [(Call, Answer); 4] = [
+static EXCHANGED: [(Call, Answer); 4] = [
     (Call::Size, Answer::Length(2)),
     (Call::Read(0, &[7, 8, 0]), Answer::Done),
     (Call::ReadBelow(0, &[0x11; 8]), Answer::Done),
@@ -617,7 +617,7 @@ fn a_driver_that_is_exchanged_shows_its_own_disk(rt: HostRuntime) {
 }
 
 /// On an image of alignments 64 and 4096 above one of 512 and 8, for requests and for memory.
-const ALIGNED: [(Call, Answer); 1] = [(Call::Aligns, Answer::Aligns(512, 4096))];
+static ALIGNED: [(Call, Answer); 1] = [(Call::Aligns, Answer::Aligns(512, 4096))];
 
 /// The calls on such an image. Answers whether there was memory for it.
 fn aligned(rt: &impl Abort, alloc: Global) -> bool {
@@ -633,7 +633,7 @@ fn alignments_are_the_greatest_of_all_layers(rt: HostRuntime) {
 }
 
 /// Mappings, and how each is printed.
-const PRINTED: [(Mapping, &str); 6] = [
+static PRINTED: [(Mapping, &str); 6] = [
     (
         Mapping::Raw {
             layer: 1,

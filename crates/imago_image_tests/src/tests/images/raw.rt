@@ -35,7 +35,7 @@ fn on_bytes(rt: &impl Abort, alloc: Global, bytes: &[u8], calls: &[(Call, Answer
 }
 
 /// On the bytes 1 to 4, whether they may be written or not.
-const READS: [(Call, Answer); 11] = [
+static READS: [(Call, Answer); 11] = [
     (Call::Map(2, 6), Answer::Raw(0, 2, 2)),
     (Call::Map(0, 3), Answer::Raw(0, 0, 3)),
     (Call::Map(2, 0), Answer::Raw(0, 2, 0)),
@@ -70,7 +70,7 @@ fn a_disk_of_four_bytes(rt: HostRuntime) {
 }
 
 /// On the bytes 1 to 3.
-const PLAIN: [(Call, Answer); 14] = [
+static PLAIN: [(Call, Answer); 14] = [
     (Call::IsRaw, Answer::Is(true)),
     (Call::Granularity, Answer::Missing),
     (Call::TakesBacking, Answer::Is(false)),
@@ -111,7 +111,7 @@ fn bytes_of_another_format_are_raw_too(rt: HostRuntime) {
 }
 
 /// On 10000 bytes a5 in blocks of 4096.
-const PADDED: [(Call, Answer); 15] = [
+static PADDED: [(Call, Answer); 15] = [
     (Call::MapData(9999, 1), Answer::Data(0, 9999, 1)),
     (
         Call::WriteStranger {
@@ -149,7 +149,7 @@ fn writes_pad_the_storage_and_growth_cuts_it(rt: HostRuntime) {
 }
 
 /// On the bytes 1 to 3 in blocks of a MiB.
-const LONG_BLOCK: [(Call, Answer); 8] = [
+static LONG_BLOCK: [(Call, Answer); 8] = [
     (
         Call::Prepare {
             offset: 1,
@@ -178,7 +178,7 @@ fn an_alignment_longer_than_the_disk(rt: HostRuntime) {
 }
 
 /// On the bytes 1 to 4.
-const SIZES: [(Call, Answer); 14] = [
+static SIZES: [(Call, Answer); 14] = [
     (Call::Shrink(2), Answer::Done),
     (Call::Size, Answer::Length(2)),
     (Call::StorageLength(0), Answer::Length(2)),
@@ -207,7 +207,7 @@ fn a_shrink_and_a_growth(rt: HostRuntime) {
 }
 
 /// On 4 bytes ff that have grown to 6.
-const GROWN: [(Call, Answer); 5] = [
+static GROWN: [(Call, Answer); 5] = [
     (Call::Size, Answer::Length(6)),
     (Call::StorageLength(0), Answer::Length(6)),
     (
@@ -237,7 +237,7 @@ fn new_bytes_of_a_raw_image_are_zero_in_each_mode(rt: HostRuntime) {
 }
 
 /// On 16 bytes ff, whose storage zeroes blocks of 8.
-const BLOCKS: [(Call, Answer); 10] = [
+static BLOCKS: [(Call, Answer); 10] = [
     (
         Call::Give(Give::DiscardToBacking, 3, 13),
         Answer::Part(8, 8),
@@ -280,7 +280,7 @@ fn a_zero_call_of_one_byte_blocks(rt: HostRuntime) {
 }
 
 /// On 1024 zeroes.
-const NOTHING: [(Call, Answer); 8] = [
+static NOTHING: [(Call, Answer); 8] = [
     (Call::Give(Give::EnsureZero, 1024, 0), Answer::Part(1024, 0)),
     (
         Call::Give(Give::DiscardToZero, 1024, 0),
@@ -310,7 +310,7 @@ fn ranges_of_nothing_at_the_end(rt: HostRuntime) {
 }
 
 /// On 8 zeroes.
-const PREPARED: [(Call, Answer); 6] = [
+static PREPARED: [(Call, Answer); 6] = [
     (
         Call::Prepare {
             offset: 2,
@@ -375,7 +375,7 @@ macro_rules! stranger {
 const FOREIGN: Answer = Answer::Refused(Error::ForeignMapping);
 
 /// On 8 zeroes. A mapping without a state is spent all the same.
-const STRANGERS: [(Call, Answer); 7] = [
+static STRANGERS: [(Call, Answer); 7] = [
     (stranger!(100, &[1], false), FOREIGN),
     (stranger!(100, &[1], true), FOREIGN),
     (stranger!(100, &[], true), FOREIGN),
@@ -386,7 +386,7 @@ const STRANGERS: [(Call, Answer); 7] = [
 ];
 
 /// On 8 zeroes that may not be written.
-const READ_ONLY: [(Call, Answer); 3] = [
+static READ_ONLY: [(Call, Answer); 3] = [
     (stranger!(0, &[1], false), FOREIGN),
     (stranger!(0, &[], true), FOREIGN),
     (Call::Stored(0, 0, &[0; 8]), Answer::Done),
@@ -412,7 +412,7 @@ fn foreign_mappings(rt: HostRuntime) {
 }
 
 /// On four zeroes.
-const MAPPED: [(Call, Answer); 2] = [
+static MAPPED: [(Call, Answer); 2] = [
     (Call::WriteMapped(1, &[0xaa, 0xbb]), Answer::Done),
     (Call::Stored(0, 0, &[0, 0xaa, 0xbb, 0]), Answer::Done),
 ];

@@ -62,7 +62,7 @@ pub(super) fn was_reached(rt: &impl Abort, storage: &Recording, expected: &[Reco
 }
 
 /// In blocks of 4096: only the aligned part of a range is discarded.
-const CALLS: [(Call, Answer); 12] = [
+static CALLS: [(Call, Answer); 12] = [
     (Call::Drive(driver::Call::Flush), DONE),
     (Call::Drive(driver::Call::Sync), DONE),
     (Call::Drive(driver::Call::Invalidate), DONE),
@@ -102,7 +102,7 @@ const CALLS: [(Call, Answer); 12] = [
 ];
 
 /// What reaches the storage.
-const REACHED: [Recorded; 10] = [
+static REACHED: [Recorded; 10] = [
     Recorded::Flush,
     Recorded::Sync,
     Recorded::Invalidate,
@@ -126,14 +126,14 @@ fn calls_of_a_driver_reach_its_storage(rt: HostRuntime) {
     check_calls_of_a_driver_reach_its_storage(&rt, rt.alloc());
 }
 
-const FLUSHES: [(Call, Answer); 4] = [
+static FLUSHES: [(Call, Answer); 4] = [
     (Call::Flush, DONE),
     (Call::Sync, DONE),
     (Call::Sync, DONE),
     (Call::Invalidate, DONE),
 ];
 
-const FLUSHED: [Recorded; 4] = [
+static FLUSHED: [Recorded; 4] = [
     Recorded::Flush,
     Recorded::Sync,
     Recorded::Sync,
@@ -155,7 +155,7 @@ fn flushes_of_an_image_and_of_a_run_reach_the_storage(rt: HostRuntime) {
 
 /// A write, and what it makes of its storage: the first and the last block are read where they are written in part, and whole
 /// blocks are written at once.
-const WRITES: [(Call, &[Recorded]); 5] = [
+static WRITES: [(Call, &[Recorded]); 5] = [
     (
         Call::WriteRun(1000, 9000, 0x3c),
         &[
@@ -194,7 +194,7 @@ const WRITES: [(Call, &[Recorded]); 5] = [
 ];
 
 /// The bytes that each of them leaves.
-const LEFT: [[(usize, u8); 3]; 5] = [
+static LEFT: [[(usize, u8); 3]; 5] = [
     [(1000, 0xa5), (9000, 0x3c), (10000, 0xa5)],
     [(4095, 0xa5), (4096, 0x3c), (11809, 0xa5)],
     [(4096, 0xa5), (4097, 0x3c), (11807, 0xa5)],

@@ -79,7 +79,7 @@ const LOWER: Origin = Origin::Lower;
 const BAR: Origin = Origin::Barred;
 
 /// On bytes of the first storage, twice, of the layer below, and of the second storage.
-const ZEROED: [(driver::Call, Answer); 5] = [
+static ZEROED: [(driver::Call, Answer); 5] = [
     (
         driver::Call::Give(Give::EnsureZero, 1, 1),
         Answer::Part(1, 1),
@@ -104,7 +104,7 @@ fn zero_calls_change_places(rt: HostRuntime) {
 }
 
 /// On bytes of the first storage, of the second, and of none.
-const DISCARDED: [(driver::Call, Answer); 4] = [
+static DISCARDED: [(driver::Call, Answer); 4] = [
     (
         driver::Call::Give(Give::DiscardToBacking, 1, 1),
         Answer::Part(1, 1),
@@ -123,7 +123,7 @@ fn discards_lead_to_the_layer_below(rt: HostRuntime) {
 }
 
 /// On a byte of the first storage.
-const GROWN: [(driver::Call, Answer); 8] = [
+static GROWN: [(driver::Call, Answer); 8] = [
     (driver::Call::Grow(3, PreallocateMode::FormatAllocate), DONE),
     (driver::Call::Grow(5, PreallocateMode::Zero), DONE),
     (
@@ -147,7 +147,7 @@ fn growth_shows_the_layer_below_or_zeroes(rt: HostRuntime) {
 }
 
 /// On two bytes of the first storage, and a barred one.
-const REFUSED: [(driver::Call, Answer); 4] = [
+static REFUSED: [(driver::Call, Answer); 4] = [
     (driver::Call::Map(2, 8), BARRED),
     (driver::Call::Give(Give::EnsureZero, 1, 2), BARRED),
     (driver::Call::Map(0, 8), Answer::Raw(0, 0, 1)),
@@ -160,7 +160,7 @@ fn a_barred_place_refuses(rt: HostRuntime) {
 }
 
 /// On a disk of four bytes, of which the table has two.
-const SHORT: [(driver::Call, Answer); 5] = [
+static SHORT: [(driver::Call, Answer); 5] = [
     (driver::Call::Map(2, 8), Answer::Eof),
     (driver::Call::Give(Give::DiscardToBacking, 1, 3), BEYOND),
     (driver::Call::Map(1, 8), Answer::BelowReadOnly(1, 1)),
@@ -181,7 +181,7 @@ fn a_short_table_ends_before_the_disk(rt: HostRuntime) {
 }
 
 /// On a byte of the first storage.
-const PLAIN: [(driver::Call, Answer); 14] = [
+static PLAIN: [(driver::Call, Answer); 14] = [
     (driver::Call::Granularity, Answer::Length(4)),
     (driver::Call::IsRaw, Answer::Is(true)),
     (driver::Call::TakesBacking, Answer::Is(true)),
@@ -228,7 +228,7 @@ macro_rules! nine {
 }
 
 /// On two bytes of no storage and one of the layer below.
-const SPENT: [(driver::Call, Answer); 6] = [
+static SPENT: [(driver::Call, Answer); 6] = [
     (driver::Call::Map(0, 8), Answer::Zeroes(2)),
     (nine!(false), Answer::Prepared(2, true)),
     (driver::Call::Map(0, 8), Answer::Zeroes(2)),
@@ -247,7 +247,7 @@ fn a_commit_shows_and_a_cancel_does_not(rt: HostRuntime) {
 }
 
 /// On three bytes of no storage, whose commit fails once it has made one show.
-const TORN: [(driver::Call, Answer); 5] = [
+static TORN: [(driver::Call, Answer); 5] = [
     (nine!(true), Answer::Refused(Error::Device)),
     (driver::Call::HasPrepared, Answer::Is(false)),
     (driver::Call::Map(0, 8), Answer::Raw(0, 0, 1)),
@@ -288,7 +288,7 @@ fn on(rt: &impl Abort, alloc: Global, table: (&[Origin], Option<u64>), calls: &[
 }
 
 /// On a byte of the first storage, one of the layer below, one of none, and a barred one.
-const LAYERS: [(Call, Answer); 14] = [
+static LAYERS: [(Call, Answer); 14] = [
     (Call::Read(0, &[1, 2]), DONE),
     (Call::Read(1, &[2, 0]), DONE),
     (Call::Read(2, &[0, 0]), BARRED),
@@ -316,7 +316,7 @@ fn an_image_above_another(rt: HostRuntime) {
 }
 
 /// On the same, as a list.
-const LISTED: [(Call, Answer); 8] = [
+static LISTED: [(Call, Answer); 8] = [
     (Call::Read(0, &[1, 2]), DONE),
     (Call::Read(2, &[0, 0]), BARRED),
     (Call::Read(3, &[]), DONE),
@@ -341,7 +341,7 @@ fn a_run_over_a_place_that_may_not_be_read(rt: HostRuntime) {
 }
 
 /// On four bytes of the first storage.
-const GIVEN: [(Call, Answer); 10] = [
+static GIVEN: [(Call, Answer); 10] = [
     (Call::Give(Give::EnsureZero, 0, 1), DONE),
     (Call::Read(0, &[0, 1, 1, 1]), DONE),
     (Call::Give(Give::DiscardToZero, 1, 1), DONE),
@@ -355,7 +355,7 @@ const GIVEN: [(Call, Answer); 10] = [
 ];
 
 /// On two bytes of the first storage, a barred one, and one more of that storage. Those before the barred one are given up.
-const GIVEN_IN_PART: [(Call, Answer); 8] = [
+static GIVEN_IN_PART: [(Call, Answer); 8] = [
     (Call::Give(Give::EnsureZero, 1, 2), BARRED),
     (Call::Read(0, &[1, 0]), DONE),
     (Call::Give(Give::DiscardToBacking, 0, 4), BARRED),
@@ -382,7 +382,7 @@ fn each_way_to_give_up_bytes_reaches_the_driver(rt: HostRuntime) {
 }
 
 /// On four bytes of the layer below.
-const COPIED: [(Call, Answer); 3] = [
+static COPIED: [(Call, Answer); 3] = [
     (Call::MapData(1, 2, false), Answer::Data(0, 1, 2)),
     (Call::Read(1, &[2, 2]), DONE),
     (Call::Map(1, 3, "0/0:0x1/rw"), Answer::Length(2)),
@@ -395,7 +395,7 @@ fn a_data_mapping_copies_what_is_below(rt: HostRuntime) {
 }
 
 /// On the same, whose commit fails once it has made one byte show.
-const TORN_IMAGE: [(Call, Answer); 3] = [
+static TORN_IMAGE: [(Call, Answer); 3] = [
     (Call::Write(1, &[8, 9]), Answer::Refused(Error::Device)),
     (Call::Read(0, &[2, 8]), DONE),
     (Call::Read(2, &[2, 2]), DONE),
@@ -411,7 +411,7 @@ fn a_torn_commit_leaves_each_byte_old_or_new(rt: HostRuntime) {
 }
 
 /// On a disk of four bytes, of which the table has two.
-const SHORT_IMAGE: [(Call, Answer); 3] = [
+static SHORT_IMAGE: [(Call, Answer); 3] = [
     (Call::Read(1, &[1, 0]), DONE),
     (Call::Write(1, &[8, 9]), BEYOND),
     (Call::Map(2, 2, "<eof>"), Answer::Length(0)),

@@ -21,7 +21,7 @@ const DEVICE: Answer = Answer::Refused(Error::Device);
 
 const MEMORY: Answer = Answer::Refused(Error::Memory);
 
-const TEARS: [Tear; 4] = [Tear::Nothing, Tear::All, Tear::First(3), Tear::Odd];
+static TEARS: [Tear; 4] = [Tear::Nothing, Tear::All, Tear::First(3), Tear::Odd];
 
 /// More calls than any change makes of its storages.
 const LIMIT: u64 = 300;
@@ -69,7 +69,7 @@ macro_rules! driver_prepared {
 }
 
 /// The changing calls of an image.
-const CALLS: [Row; 17] = [
+static CALLS: [Row; 17] = [
     (
         Call::WriteNumbers(AT, COUNT as usize, 101),
         Effect::Changed(How::Done, RANGE, New::Numbers(101)),
@@ -133,7 +133,7 @@ const CALLS: [Row; 17] = [
 ];
 
 /// The changing calls of a driver.
-const DRIVER_CALLS: [Row; 12] = [
+static DRIVER_CALLS: [Row; 12] = [
     (
         Call::Drive(driver::Call::Give(Give::EnsureZero, AT, COUNT)),
         Effect::Changed(How::Done, RANGE, ZEROES),
@@ -182,7 +182,7 @@ const DRIVER_CALLS: [Row; 12] = [
 ];
 
 /// What the image is used for after each refusal.
-const USES: [Row; 3] = [
+static USES: [Row; 3] = [
     (
         Call::WriteNumbers(700, 133, 51),
         Effect::Changed(How::Done, (700, 133), New::Numbers(51)),
@@ -452,7 +452,7 @@ fn calls_of_a_chain_go_on_without_memory(rt: HostRuntime) {
 ///
 /// In blocks one is read and written at each end, where it is changed in part. The blocks between are written or zeroed at once, or
 /// granule by granule.
-const REACHED: [(Kind, usize, usize, u64); 15] = [
+static REACHED: [(Kind, usize, usize, u64); 15] = [
     (Kind::Raw, 1, 0, 1),
     (Kind::Raw, 8, 0, 5),
     (Kind::Raw, 512, 0, 5),

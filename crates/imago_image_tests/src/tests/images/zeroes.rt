@@ -18,7 +18,7 @@ pub(super) fn on_zeroes(rt: &impl Abort, alloc: Global, size: u64, calls: &[(Cal
 }
 
 /// On 1024 zeroes.
-const KEPT: [(Call, Answer); 11] = [
+static KEPT: [(Call, Answer); 11] = [
     (Call::WriteRun(512, 4096, 1), BEYOND),
     (Call::MapData(512, 4096, false), BEYOND),
     (Call::WriteRun(1024, 4096, 1), BEYOND),
@@ -45,7 +45,7 @@ fn a_disk_of_zeroes_stays_one_at_its_end(rt: HostRuntime) {
 }
 
 /// On as many zeroes as there are offsets.
-const LONGEST: [(Call, Answer); 5] = [
+static LONGEST: [(Call, Answer); 5] = [
     (Call::Read(u64::MAX - 1, &[0, 0]), Answer::Done),
     (Call::Write(u64::MAX - 1, &[1]), Answer::Done),
     (Call::Write(u64::MAX - 1, &[1, 2]), BEYOND),
@@ -66,7 +66,7 @@ fn the_largest_disk_is_written_at_its_end(rt: HostRuntime) {
 }
 
 /// On no zeroes: the disk grows to the greatest size, and is cut to nothing.
-const GROWN: [(Call, Answer); 16] = [
+static GROWN: [(Call, Answer); 16] = [
     (Call::Map(0, 1, "<eof>"), Answer::Length(0)),
     (Call::Grow(u64::MAX, ZERO), Answer::Done),
     (Call::Size, Answer::Length(u64::MAX)),

@@ -32,7 +32,7 @@ const TO_ANY: Give = Give::DiscardToAny;
 const TO_BACKING: Give = Give::DiscardToBacking;
 
 /// On the bytes 1 to 4 that may not be written. Nothing else is tested before that.
-const FIXED: [(Call, Answer); 7] = [
+static FIXED: [(Call, Answer); 7] = [
     (Call::Give(ZERO, u64::MAX, 1), READ_ONLY),
     (Call::Give(TO_ZERO, u64::MAX, 1), READ_ONLY),
     (Call::Give(TO_ANY, u64::MAX, 1), READ_ONLY),
@@ -43,7 +43,7 @@ const FIXED: [(Call, Answer); 7] = [
 ];
 
 /// On the same where they may be written.
-const PASSED: [(Call, Answer); 13] = [
+static PASSED: [(Call, Answer); 13] = [
     (Call::Give(ZERO, u64::MAX, 1), OVERFLOW),
     (Call::Give(TO_ZERO, u64::MAX, 1), OVERFLOW),
     (Call::Give(TO_ANY, u64::MAX, 1), OVERFLOW),
@@ -71,7 +71,7 @@ fn writability_the_end_and_the_size_are_tested_in_turn(rt: HostRuntime) {
 }
 
 /// On 1024 zeroes.
-const KEPT: [(Call, Answer); 14] = [
+static KEPT: [(Call, Answer); 14] = [
     (Call::Give(ZERO, 1024, 4096), BEYOND),
     (Call::Give(TO_ZERO, 1024, 4096), BEYOND),
     (Call::Give(TO_ANY, 1024, 4096), BEYOND),
@@ -92,7 +92,7 @@ const KEPT: [(Call, Answer); 14] = [
 ];
 
 /// On as many zeroes as there are offsets.
-const LONGEST: [(Call, Answer); 8] = [
+static LONGEST: [(Call, Answer); 8] = [
     (Call::Give(ZERO, u64::MAX - 1, 1), DONE),
     (Call::Give(TO_ZERO, u64::MAX - 1, 1), DONE),
     (Call::Give(TO_ANY, u64::MAX - 1, 1), DONE),
@@ -114,7 +114,7 @@ fn a_disk_of_zeroes_keeps_its_size(rt: HostRuntime) {
 }
 
 /// On eight bytes ff.
-const GIVEN_UP: [(Call, Answer); 7] = [
+static GIVEN_UP: [(Call, Answer); 7] = [
     (Call::Give(TO_ZERO, 2, 3), DONE),
     (
         Call::Read(0, &[0xff, 0xff, 0, 0, 0, 0xff, 0xff, 0xff]),
@@ -142,7 +142,7 @@ fn sixteen(rt: &impl Abort, alloc: Global) -> MemStorage {
 }
 
 /// On such storages: what the raw image zeroes alone, and what is zeroed around it.
-const ALIGNED: [[(Call, Answer); 2]; 4] = [
+static ALIGNED: [[(Call, Answer); 2]; 4] = [
     [
         (Call::Give(TO_BACKING, 3, 13), DONE),
         (Call::ReadRuns(0, &[(8, 0xff), (8, 0)]), DONE),
@@ -174,7 +174,7 @@ fn what_the_driver_leaves_is_zeroed_as_data(rt: HostRuntime) {
 }
 
 /// In blocks of 4096: a call, and what it makes of its storage. What is aligned is one call.
-const REACHED: [(Call, &[Recorded]); 7] = [
+static REACHED: [(Call, &[Recorded]); 7] = [
     (
         Call::Give(ZERO, 4096, 8192),
         &[Recorded::Zero(4096, 8192, ZeroKind::Any)],
@@ -210,7 +210,7 @@ const REACHED: [(Call, &[Recorded]); 7] = [
 ];
 
 /// The bytes that each of them leaves. A storage in memory keeps what is discarded to any.
-const LEFT: [[(usize, u8); 3]; 7] = [
+static LEFT: [[(usize, u8); 3]; 7] = [
     [(4096, 0xa5), (8192, 0), (7712, 0xa5)],
     [(4096, 0xa5), (8192, 0), (7712, 0xa5)],
     [(4096, 0xa5), (4096, 0), (11808, 0xa5)],
@@ -237,7 +237,7 @@ fn zero_writes_and_discards_of_an_image_reach_the_storage(rt: HostRuntime) {
 const WRAPS: Answer = Answer::Refused(Error::WrapAround);
 
 /// On as many zeroes as there are offsets, in blocks of 4096. Their last block would end past them.
-const LAST_BLOCK: [(Call, Answer); 10] = [
+static LAST_BLOCK: [(Call, Answer); 10] = [
     (Call::Read(u64::MAX - 4096, &[0]), DONE),
     (Call::Read(u64::MAX - 4095, &[0]), WRAPS),
     (Call::Write(u64::MAX - 4096, &[1]), DONE),
