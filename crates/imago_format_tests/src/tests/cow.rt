@@ -37,7 +37,7 @@ enum Step {
 /// the lowest unused.
 type Row = (Step, usize, u64, u64, u64);
 
-const ROWS: [Row; 14] = [
+static ROWS: [Row; 14] = [
     (Step::Take, 3, 1, 0, 1),
     (Step::Enter(2), 3, 1, 1, 1),
     (Step::Take, 3, 2, 1, 2),

@@ -46,7 +46,7 @@ const ZERO_AND_LOWER: &[(u64, Shown)] = &[(2, Same(0)), (12, From(188)), (2, Sam
 /// Data, and then the same.
 const DATA_AND_LOWER: &[(u64, Shown)] = &[(2, From(5)), (12, From(188)), (2, Same(0))];
 
-const ROWS: [Row; 15] = [
+static ROWS: [Row; 15] = [
     (ABSENT, PreallocateMode::None, LOWER, 0),
     (
         ZERO,

@@ -15,7 +15,7 @@ type Layer = (u64, u64, &'static [Call]);
 const BOTTOM: Layer = (20, 4, &[Call::Write(0, 12, 1), Call::WriteZeroes(12, 4)]);
 
 /// The bytes 4 and 5 are written, 8 to 12 are explicit zeroes, and the last guest block is given back.
-const MIDDLE: Layer = (
+static MIDDLE: Layer = (
     24,
     4,
     &[
@@ -30,11 +30,11 @@ const MIDDLE: Layer = (
 const TOP: Layer = (32, 8, &[Call::Write(9, 1, 41)]);
 
 /// What the lower layers show.
-const OF_BOTTOM: [u8; 20] = [
+static OF_BOTTOM: [u8; 20] = [
     1, 2, 3, 4, 5, 6, 7, 8, 9, 10, 11, 12, 0, 0, 0, 0, 0, 0, 0, 0,
 ];
 
-const OF_MIDDLE: [u8; 24] = [
+static OF_MIDDLE: [u8; 24] = [
     1, 2, 3, 4, 21, 22, 7, 8, 0, 0, 0, 0, 0, 0, 0, 0, 0, 0, 0, 0, 0, 0, 0, 0,
 ];
 
@@ -50,7 +50,7 @@ const NONE: Call = Call::Shrink(32);
 
 const UNALLOCATED: &str = "<zero:unallocated>";
 
-const ROWS: [Row; 15] = [
+static ROWS: [Row; 15] = [
     (NONE, (0, 32), ("2/0:0x0/ro", 4), WRITTEN),
     (NONE, (1, 2), ("2/0:0x1/ro", 2), WRITTEN),
     (NONE, (4, 9), ("1/0:0x0/ro", 4), WRITTEN),

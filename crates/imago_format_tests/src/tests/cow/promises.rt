@@ -90,7 +90,7 @@ enum Act {
 type Row = ((u64, u64), Act, u64, u64, u64);
 
 /// On a disk in guest blocks of 16, over a storage of 20 bytes.
-const ROWS: [Row; 9] = [
+static ROWS: [Row; 9] = [
     ((3, 5), Act::Refuse, 0, 0, 20),
     ((0, 16), Act::Cancel(true), 0, 0, 20),
     ((16, 16), Act::Cancel(true), 0, 0, 20),
@@ -185,7 +185,7 @@ fn is_foreign(
 }
 
 /// Bytes of storages that aren't those of the mapping that waits, which has the first storage's bytes 3 to 6, and no places'.
-const STRANGERS: [(usize, (u64, u64)); 7] = [
+static STRANGERS: [(usize, (u64, u64)); 7] = [
     (0, (2, 4)),
     (0, (3, 3)),
     (0, (3, 5)),
@@ -253,7 +253,7 @@ fn a_cancelled_mapping_is_refused_by_name(rt: HostRuntime) {
 }
 
 /// A size, a guest block's length, and how many of them there are.
-const CREATED: [(u64, u64, u64); 7] = [
+static CREATED: [(u64, u64, u64); 7] = [
     (0, 1, 0),
     (0, 1_048_576, 0),
     (1, 1, 1),

@@ -11,7 +11,7 @@ use imago_test_storages::faulty::Tear;
 use std::alloc::Global;
 use std::process::Abort;
 
-const TEARS: [Tear; 4] = [Tear::Nothing, Tear::All, Tear::First(3), Tear::Odd];
+static TEARS: [Tear; 4] = [Tear::Nothing, Tear::All, Tear::First(3), Tear::Odd];
 
 /// More calls than any change makes of its storage.
 const LIMIT: u64 = 200;
@@ -21,7 +21,7 @@ const SIZE: u64 = 70;
 
 /// What is done first: the guest block 1 is an explicit zero, 2 and 4 are data, and 0 and 3 lead below. Of the data blocks the
 /// first is free, with old bytes.
-const FIRST: [Call; 5] = [
+static FIRST: [Call; 5] = [
     Call::Write(48, 16, 1),
     Call::Write(32, 16, 31),
     Call::Write(64, 6, 61),
@@ -61,7 +61,7 @@ macro_rules! in_steps {
 type Row = (Call, Call);
 
 /// The calls on ranges that an image has and a driver too.
-const RANGES: [Row; 17] = [
+static RANGES: [Row; 17] = [
     (NONE, Call::Write(AT, COUNT, 101)),
     (NONE, Call::WriteZeroes(AT, COUNT)),
     (NONE, Call::DiscardToZero(AT, COUNT)),
@@ -82,7 +82,7 @@ const RANGES: [Row; 17] = [
 ];
 
 /// The calls that change the size.
-const SIZES: [Row; 13] = [
+static SIZES: [Row; 13] = [
     (NONE, Call::Grow(100, PreallocateMode::None)),
     (NONE, Call::Grow(100, PreallocateMode::Zero)),
     (NONE, Call::Grow(100, PreallocateMode::FormatAllocate)),
@@ -102,7 +102,7 @@ const SIZES: [Row; 13] = [
 ];
 
 /// More calls of an image.
-const MORE: [Row; 8] = [
+static MORE: [Row; 8] = [
     // what lies before the part of a guest block that the layer below is read for
     (NONE, Call::Write(0, 49, 101)),
     // to the disk's end, and whole guest blocks
@@ -116,7 +116,7 @@ const MORE: [Row; 8] = [
 ];
 
 /// What the disk is used for after each refusal.
-const USES: [Call; 3] = [
+static USES: [Call; 3] = [
     Call::Resize(80, PreallocateMode::Zero),
     Call::Write(5, 60, 51),
     Call::WriteZeroes(3, 40),
@@ -221,7 +221,7 @@ fn sweep(rt: &impl Abort, alloc: Global, level: Level, align: usize, rows: &[Row
 }
 
 /// Less than a guest block, and more.
-const ALIGNS: [usize; 2] = [8, 64];
+static ALIGNS: [usize; 2] = [8, 64];
 
 #[test]
 fn calls_of_an_image_on_ranges_fail_anywhere(rt: HostRuntime) {
@@ -263,7 +263,7 @@ fn more_calls_of_an_image_fail_anywhere(rt: HostRuntime) {
 }
 
 /// A call that reads the layer below is refused where this fails.
-const READS: [Row; 5] = [
+static READS: [Row; 5] = [
     (NONE, Call::Write(AT, COUNT, 101)),
     (NONE, Call::Write(0, 49, 101)),
     (NONE, in_steps!(3, true, true)),
@@ -275,7 +275,7 @@ const READS: [Row; 5] = [
 ];
 
 /// One that reads nothing there isn't.
-const READS_NOTHING: [Row; 4] = [
+static READS_NOTHING: [Row; 4] = [
     (NONE, Call::Write(0, 48, 101)),
     (NONE, Call::WriteZeroes(16, 48)),
     (NONE, Call::Grow(100, PreallocateMode::Zero)),

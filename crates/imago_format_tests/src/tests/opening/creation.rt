@@ -12,7 +12,7 @@ use imago_test_storages::faulty::Faulty;
 use std::alloc::Global;
 use std::process::Abort;
 
-const MODES: [PreallocateMode; 5] = [
+static MODES: [PreallocateMode; 5] = [
     PreallocateMode::None,
     PreallocateMode::Zero,
     PreallocateMode::FormatAllocate,

@@ -25,7 +25,7 @@ const INVALID: Answer = Err(Error::InvalidData);
 
 const UNSUPPORTED: Answer = Err(Error::Unsupported);
 
-const ROWS: [Row; 22] = [
+static ROWS: [Row; 22] = [
     (MONOLITHIC_FLAT, Ok(1048576), true),
     (TWO_GB_MAX_EXTENT_FLAT, Ok(5368709120), true),
     (
@@ -63,13 +63,13 @@ const ROWS: [Row; 22] = [
 ];
 
 /// A disk of zeroes, and of a sector of a storage.
-const TEXT: [u8; 44] = *b"version=1\nRW 2 ZERO\nRDONLY 1 FLAT \"a.img\" 3\n";
+static TEXT: [u8; 44] = *b"version=1\nRW 2 ZERO\nRDONLY 1 FLAT \"a.img\" 3\n";
 
 /// The same answer for each place before that one, from the last run's on.
 type Run = (usize, Answer);
 
 /// For each count of bytes, what the beginning of [`TEXT`] is opened as.
-const BEGINNINGS: [Run; 10] = [
+static BEGINNINGS: [Run; 10] = [
     (4, INVALID),
     (8, UNSUPPORTED),
     (9, INVALID),
@@ -83,7 +83,7 @@ const BEGINNINGS: [Run; 10] = [
 ];
 
 /// For each byte, and each place of [`TEXT`], what it is opened as with that byte there.
-const REPLACED: [(u8, &[Run]); 5] = [
+static REPLACED: [(u8, &[Run]); 5] = [
     (
         0x00,
         &[

@@ -53,7 +53,7 @@ fn mapping_of(expected: Expected) -> Mapped {
     }
 }
 
-const CASES: [Case; 5] = [
+static CASES: [Case; 5] = [
     Case {
         text: b"version=1\nRW 2 ZERO\nRDONLY 1 FLAT \"a.img\" 3\n",
         a: &[(1536, 1), (600, 2)],
@@ -194,7 +194,7 @@ fn extents_stand_one_after_the_other(rt: HostRuntime) {
 
 /// A descriptor of three extents, or of one past 64 bits, how many of `a`, `b` and `c` a gate has, which opening it refuses, and
 /// what opening the extents answers.
-const REFUSED: [(&[u8], usize, u64, Error); 7] = [
+static REFUSED: [(&[u8], usize, u64, Error); 7] = [
     (THREE, 0, 0, Error::NotFound),
     (THREE, 1, 0, Error::NotFound),
     (THREE, 2, 0, Error::NotFound),
@@ -211,7 +211,7 @@ const REFUSED: [(&[u8], usize, u64, Error); 7] = [
 
 const THREE: &[u8] = b"version=1\nRW 1 FLAT \"a\"\nRW 1 FLAT \"b\"\nRW 1 FLAT \"c\"\n";
 
-const STORAGES: [(&str, Runs); 3] = [("a", &[(512, 1)]), ("b", &[(512, 2)]), ("c", &[(512, 3)])];
+static STORAGES: [(&str, Runs); 3] = [("a", &[(512, 1)]), ("b", &[(512, 2)]), ("c", &[(512, 3)])];
 
 /// What a driver tells: its size, how many storages it has, and the mapping of a byte.
 fn told<D: FormatDriverInstance>(driver: &D, offset: u64) -> (u64, usize, Mapped) {
