@@ -3,7 +3,7 @@ ghost use Rattle.std.specs.Prelude.{◌≡◌, true};
 ghost use Rattle.imago_storage.specs.Features.{IsAlignedRequest, IsAlignedTo};
 
 use super::script::{Call, Runs};
-use super::set_up::{offsets, runs};
+use super::set_up::{offsets, runs, same};
 use imago_storage::align::{discard_align, zero_align};
 use imago_storage::error::Error;
 use imago_storage::ext::StorageExt;
@@ -23,7 +23,7 @@ pub(super) fn make<S: Storage>(
     call: Call,
 ) -> Told {
     let answer = make_call(rt, alloc, storage, call);
-    assert_eq!(rt; Storage::get_filename(&*storage), name);
+    same(rt, &Storage::get_filename(&*storage), &name);
     (answer, Storage::size(&*storage))
 }
 

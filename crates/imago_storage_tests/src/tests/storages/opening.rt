@@ -1,5 +1,5 @@
 //! Opening and creating of storages, their names, and their alignments.
-use super::set_up::{owned, runs};
+use super::set_up::{owned, runs, same};
 use super::subject::stored;
 use imago_storage::align::{aligned_part, discard_align, zero_align};
 use imago_storage::error::Error;
@@ -27,10 +27,10 @@ fn is_created<S: Storage>(
     create: Result<(), Error>,
 ) {
     let opened = size_of(S::open(StorageOpenOptions::new()));
-    assert_eq!(rt; opened, Err(open));
+    same(rt, &opened, &Err(open));
     let created = size_of(S::create_open(options(rt, alloc, named)));
-    assert_eq!(rt; created, create_open);
-    assert_eq!(rt; S::create(options(rt, alloc, named)), create);
+    same(rt, &created, &create_open);
+    same(rt, &S::create(options(rt, alloc, named)), &create);
 }
 
 /// Options for 700 bytes.
@@ -145,15 +145,19 @@ struct Told {
 
 /// A storage tells that.
 fn tells<S: Storage>(rt: &impl Abort, alloc: Global, storage: &S, told: &Told) {
-    assert_eq!(rt; alignments(storage), told.aligns);
-    assert_eq!(rt; (zero_align(storage), discard_align(storage)), told.blocks);
-    assert_eq!(rt; storage.size(), Ok(told.size));
-    assert_eq!(rt; storage.get_filename(), told.name);
+    same(rt, &alignments(storage), &told.aligns);
+    same(
+        rt,
+        &(zero_align(storage), discard_align(storage)),
+        &told.blocks,
+    );
+    same(rt, &storage.size(), &Ok(told.size));
+    same(rt, &storage.get_filename(), &told.name);
     match beside(alloc, storage) {
-        Ok(name) => assert_eq!(rt; Some(name.as_str()), told.beside),
+        Ok(name) => same(rt, &Some(name.as_str()), &told.beside),
         Err(refusal) => {
-            assert_eq!(rt; refusal, Error::Unsupported);
-            assert_eq!(rt; told.beside, None);
+            same(rt, &refusal, &Error::Unsupported);
+            same(rt, &told.beside, &None);
         }
     }
 }
@@ -235,10 +239,10 @@ fn no_names_are_relative_to_zeroes(rt: HostRuntime) {
 
 fn check_memory_has_bytes(rt: &impl Abort, alloc: Global) {
     let storage = MemStorage::new(runs(rt, alloc, &[(2, 5), (1, 6)]));
-    assert_eq!(rt; storage.as_bytes(), [5, 5, 6].as_slice());
-    assert_eq!(rt; storage.into_bytes().as_slice(), [5, 5, 6].as_slice());
+    same(rt, &storage.as_bytes(), &[5, 5, 6].as_slice());
+    same(rt, &storage.into_bytes().as_slice(), &[5, 5, 6].as_slice());
     let storage = memory(rt, alloc, (1, 1, 1));
-    assert_eq!(rt; storage.as_bytes(), [4].as_slice());
+    same(rt, &storage.as_bytes(), &[4].as_slice());
 }
 
 #[test]
@@ -297,7 +301,7 @@ fn check_what_is_inside_comes_back_as_it_was(rt: &impl Abort, alloc: Global) {
     tells(rt, alloc, &storage, &told);
     let inner = storage.into_inner();
     memory_tells(rt, alloc, &inner, &told);
-    assert_eq!(rt; inner.as_bytes(), [4].as_slice());
+    same(rt, &inner.as_bytes(), &[4].as_slice());
 }
 
 #[test]
@@ -316,8 +320,8 @@ fn alignments_are_powers_of_two(rt: HostRuntime) {
 }
 
 fn check_a_range_has_an_aligned_part(rt: &impl Abort) {
-    assert_eq!(rt; aligned_part(8, 3, 13), Some((8, 16)));
-    assert_eq!(rt; aligned_part(4096, u64::MAX - 10, 5), None);
+    same(rt, &aligned_part(8, 3, 13), &Some((8, 16)));
+    same(rt, &aligned_part(4096, u64::MAX - 10, 5), &None);
 }
 
 #[test]

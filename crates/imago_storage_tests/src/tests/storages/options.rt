@@ -1,19 +1,19 @@
 //! Options to open and create storages with.
-use super::set_up::owned;
+use super::set_up::{owned, same};
 use imago_storage::storage::{PreallocateMode, StorageCreateOptions, StorageOpenOptions};
 use std::alloc::Global;
 use std::process::Abort;
 
 fn check_nothing_is_set_at_first(rt: &impl Abort) {
     for opts in [StorageOpenOptions::new(), StorageOpenOptions::default()] {
-        assert_eq!(rt; opts.get_filename(), None);
+        same(rt, &opts.get_filename(), &None);
         assert!(rt; !opts.get_writable());
         assert!(rt; !opts.get_direct());
     }
     for opts in [StorageCreateOptions::new(), StorageCreateOptions::default()] {
-        assert_eq!(rt; opts.get_filename(), None);
-        assert_eq!(rt; opts.get_size(), 0);
-        assert_eq!(rt; opts.get_preallocate(), PreallocateMode::None);
+        same(rt, &opts.get_filename(), &None);
+        same(rt, &opts.get_size(), &0);
+        same(rt, &opts.get_preallocate(), &PreallocateMode::None);
         assert!(rt; !opts.get_overwrite());
         assert!(rt; !opts.get_open_options().get_writable());
     }
@@ -27,7 +27,7 @@ fn nothing_is_set_at_first(rt: HostRuntime) {
 fn check_opening_options_are_kept(rt: &impl Abort, alloc: Global) {
     let name = owned(rt, alloc, "a.img");
     let opts = StorageOpenOptions::new().filename(name).write(true);
-    assert_eq!(rt; opts.get_filename(), Some("a.img"));
+    same(rt, &opts.get_filename(), &Some("a.img"));
     assert!(rt; opts.get_writable());
     assert!(rt; !opts.get_direct());
     let opts = opts.write(false).direct(true);
@@ -48,12 +48,12 @@ fn check_creation_options_are_kept(rt: &impl Abort, alloc: Global) {
         .preallocate(PreallocateMode::Allocate)
         .overwrite(true)
         .modify_open_opts(|opts| opts.direct(true));
-    assert_eq!(rt; opts.get_filename(), Some("b.img"));
-    assert_eq!(rt; opts.get_size(), 65536);
-    assert_eq!(rt; opts.get_preallocate(), PreallocateMode::Allocate);
+    same(rt, &opts.get_filename(), &Some("b.img"));
+    same(rt, &opts.get_size(), &65536);
+    same(rt, &opts.get_preallocate(), &PreallocateMode::Allocate);
     assert!(rt; opts.get_overwrite());
     let to_open = opts.get_open_options();
-    assert_eq!(rt; to_open.get_filename(), Some("b.img"));
+    same(rt, &to_open.get_filename(), &Some("b.img"));
     assert!(rt; to_open.get_direct());
     assert!(rt; !to_open.get_writable());
 }

@@ -2,7 +2,7 @@
 //!
 //! A test's run refuses one request for memory at most. So what is refused is made again, and has its memory then.
 use super::make::Told;
-use super::set_up::{copied, is_old_or_new, owned, runs, total};
+use super::set_up::{copied, is_old_or_new, owned, runs, same, total};
 use super::subject::{Kind, Subject};
 use imago_storage::error::Error;
 use imago_storage::storage::PreallocateMode;
@@ -138,8 +138,8 @@ impl State {
             }
             Step::RefuseResizes(count) => self.subject.refuse_resizes(rt, count),
             Step::FailReads(fails) => self.subject.fail_reads(rt, fails),
-            Step::Reached(calls) => assert_eq!(rt; self.subject.calls(rt), calls),
-            Step::Counted(counts) => assert_eq!(rt; self.subject.counts(rt), counts),
+            Step::Reached(calls) => same(rt, &self.subject.calls(rt), &calls),
+            Step::Counted(counts) => same(rt, &self.subject.counts(rt), &counts),
         }
     }
 
@@ -177,12 +177,12 @@ impl State {
         expected: Result<(), Error>,
         left: Runs,
     ) {
-        assert_eq!(rt; answer, expected);
+        same(rt, &answer, &expected);
         self.count(call, answer);
         let bytes = runs_of(rt, alloc, &self.subject, left);
         assert!(rt; self.subject.bytes() == bytes.as_slice(), "other bytes");
-        assert_eq!(rt; size, Ok(total(left)));
-        assert_eq!(rt; self.subject.faults(self.faults), self.faults);
+        same(rt, &size, &Ok(total(left)));
+        same(rt, &self.subject.faults(self.faults), &self.faults);
     }
 
     /// What was armed just before a call is armed again.

@@ -1,7 +1,12 @@
 //! What the tests share: bytes, texts and names, each made again where memory is refused once.
 use std::alloc::Global;
-use std::fmt::Display;
+use std::fmt::{Debug, Display};
 use std::process::Abort;
+
+/// A value is the one that is expected. A call of this costs less proof than the macro in its place.
+pub(super) fn same<T: PartialEq + Debug>(rt: &impl Abort, found: &T, expected: &T) {
+    assert_eq!(rt; found, expected);
+}
 
 /// Runs of equal bytes, one behind the other. Each is given by its length and its byte.
 pub(super) fn runs(rt: &impl Abort, alloc: Global, runs: &[(usize, u8)]) -> Vec<u8> {

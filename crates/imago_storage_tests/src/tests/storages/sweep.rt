@@ -1,6 +1,6 @@
 //! A failure at each call of a change, with each tear, over several alignments.
 use super::script::{Call, NAME};
-use super::set_up::{copied, is_old_or_new, offsets, owned, runs};
+use super::set_up::{copied, is_old_or_new, offsets, owned, runs, same};
 use super::subject::{Kind, Subject};
 use imago_storage::error::Error;
 use imago_test_storages::faulty::Tear;
@@ -76,7 +76,7 @@ fn is_refused(
     }
     if answer == Ok(()) {
         assert!(rt; subject.bytes() == change.after, "done at {pass}");
-        assert_eq!(rt; subject.faults(1), 0);
+        same(rt, &subject.faults(1), &0);
         return false;
     }
     assert_eq!(rt; answer, Err(Error::Device), "{align} {pass}");
@@ -84,7 +84,7 @@ fn is_refused(
         is_old_or_new(change.before, change.after, subject.bytes()),
         "refused at {pass}"
     );
-    assert_eq!(rt; subject.faults(0), 1);
+    same(rt, &subject.faults(0), &1);
     let again = make_for_sure(rt, alloc, &mut subject, change);
     assert_eq!(rt; again, Ok(()), "{align} {pass}");
     assert!(rt; subject.bytes() == change.after, "done again at {pass}");
@@ -224,6 +224,6 @@ fn a_zero_write_as_data_stops_in_its_second_piece(rt: HostRuntime) {
         subject = armed(&rt, alloc, 1, &change, 1, Tear::Odd);
         answer = subject.make(&rt, alloc, change.call).0;
     }
-    assert_eq!(rt; answer, Err(Error::Device));
+    same(&rt, &answer, &Err(Error::Device));
     assert!(rt; is_zeroed_into_its_second_piece(subject.bytes()));
 }

@@ -1,5 +1,5 @@
 //! Printed texts, and what is shown of refusals.
-use super::set_up::{owned, runs};
+use super::set_up::{owned, runs, same};
 use imago_storage::error::{Error, ErrorKind};
 use imago_storage::mem::MemStorage;
 use imago_storage::null::Null;
@@ -40,10 +40,10 @@ fn memory(rt: &impl Abort, alloc: Global, storage: &MemStorage) -> String {
 fn check_memory_is_printed_by_its_name_or_its_length(rt: &impl Abort, alloc: Global) {
     let bytes = runs(rt, alloc, &[(3, 0)]);
     let named = MemStorage::named(owned(rt, alloc, "disk.img"), bytes);
-    assert_eq!(rt; memory(rt, alloc, &named).as_str(), "mem:disk.img");
+    same(rt, &memory(rt, alloc, &named).as_str(), &"mem:disk.img");
     for (count, text) in [(512, "mem:[512B]"), (0, "mem:[0B]")] {
         let storage = zeroes(rt, alloc, count);
-        assert_eq!(rt; memory(rt, alloc, &storage).as_str(), text);
+        same(rt, &memory(rt, alloc, &storage).as_str(), &text);
     }
 }
 
@@ -55,7 +55,7 @@ fn memory_is_printed_by_its_name_or_its_length(rt: HostRuntime) {
 fn check_zeroes_are_printed_by_their_length(rt: &impl Abort, alloc: Global) {
     for (size, text) in [(7, "null:[7B]"), (u64::MAX, "null:[18446744073709551615B]")] {
         let storage = Null::new(size);
-        assert_eq!(rt; printed(rt, alloc, &storage).as_str(), text);
+        same(rt, &printed(rt, alloc, &storage).as_str(), &text);
     }
 }
 
@@ -69,21 +69,27 @@ fn a_lent_storage_is_printed_as_itself(rt: HostRuntime) {
     let alloc = rt.alloc();
     let mut storage = zeroes(&rt, alloc, 9);
     let lent = &mut storage;
-    assert_eq!(rt; printed(&rt, alloc, &lent).as_str(), "mem:[9B]");
+    same(&rt, &printed(&rt, alloc, &lent).as_str(), &"mem:[9B]");
 }
 
 fn check_storages_for_tests_print_what_is_inside(rt: &impl Abort, alloc: Global) {
     let faulty = Faulty::new(zeroes(rt, alloc, 4));
-    assert_eq!(rt; printed(rt, alloc, &faulty).as_str(), "faulty[mem:[4B]]");
+    same(
+        rt,
+        &printed(rt, alloc, &faulty).as_str(),
+        &"faulty[mem:[4B]]",
+    );
     let counting = Counting::new(zeroes(rt, alloc, 4));
-    assert_eq!(rt;
-        printed(rt, alloc, &counting).as_str(),
-        "counting[mem:[4B]]"
+    same(
+        rt,
+        &printed(rt, alloc, &counting).as_str(),
+        &"counting[mem:[4B]]",
     );
     let recording = Recording::new(zeroes(rt, alloc, 4));
-    assert_eq!(rt;
-        printed(rt, alloc, &recording).as_str(),
-        "recording[mem:[4B]]"
+    same(
+        rt,
+        &printed(rt, alloc, &recording).as_str(),
+        &"recording[mem:[4B]]",
     );
 }
 
@@ -154,22 +160,22 @@ fn each_refusal_has_its_kind_and_its_message(rt: HostRuntime) {
     let alloc = rt.alloc();
     for &(refusal, kind, text) in &REFUSALS {
         assert_eq!(rt; refusal.kind(), kind, "{refusal:?}");
-        assert_eq!(rt; message(&rt, alloc, &refusal).as_str(), text);
+        same(&rt, &message(&rt, alloc, &refusal).as_str(), &text);
     }
 }
 
 fn check_enums_show_their_variants(rt: &impl Abort, alloc: Global) {
     let wraps = shown(rt, alloc, &Error::WrapAround);
-    assert_eq!(rt; wraps.as_str(), "WrapAround");
+    same(rt, &wraps.as_str(), &"WrapAround");
     let memory = shown(rt, alloc, &ErrorKind::OutOfMemory);
-    assert_eq!(rt; memory.as_str(), "OutOfMemory");
+    same(rt, &memory.as_str(), &"OutOfMemory");
     let allocated = shown(rt, alloc, &ZeroKind::Allocated);
-    assert_eq!(rt; allocated.as_str(), "Allocated");
+    same(rt, &allocated.as_str(), &"Allocated");
     for (mode, text) in [
         (PreallocateMode::WriteData, "WriteData"),
         (PreallocateMode::None, "None"),
     ] {
-        assert_eq!(rt; shown(rt, alloc, &mode).as_str(), text);
+        same(rt, &shown(rt, alloc, &mode).as_str(), &text);
     }
 }
 
