@@ -243,3 +243,6 @@ returns-then-not-fits_next-clause-over g c = λ most some run over.
       full_wraps (g.S.Storage.features c.args.storage.now) part.block part.size (entries_of c.args.table.now) (count_of c.args.table.now) part.offset most
           (g.met.S.Storage.lawful c.args.storage.now) c.requires.positive (omega (arith, more, full.0)) (full.1),
     )
+
+pub returns-in-Err-clause-released : goal.returns-in-Err-clause-released
+returns-in-Err-clause-released g c = c.release.ensures.held

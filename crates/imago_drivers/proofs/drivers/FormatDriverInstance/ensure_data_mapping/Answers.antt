@@ -20,7 +20,7 @@ pub returns-clause-causes : goal.returns-clause-causes
 returns-clause-causes g c =
     let V = g.Self.FormatDriverInstance.view in
     let p = c.in_ok-mapping.ensures in
-    let at = is_at_start (V c.args.self.now) (V c.prepare_data_mapping.new.self) (V c.commit_data_mapping.new.self) _ c.args.offset c.args.count c.args.overwrite c.in_ok-mapping.mapping p.prepared p.call.unchanged in
+    let at = is_at_start (V c.args.self.now) (V c.prepare_data_mapping.new.self) (V c.commit_data_mapping.new.self) _ c.args.offset c.args.count _ c.in_ok-mapping.mapping p.prepared p.call.unchanged in
     rw c.length-length.ensures (settled_twice _ _ _ _ _ _ _ _ p.call.causes (c.in_ok-commit_data_mapping.ensures.settled c.args.offset at))
 
 pub returns-in_err-commit_data_mapping-clause-reaches : goal.returns-in_err-commit_data_mapping-clause-reaches
@@ -43,9 +43,9 @@ returns-in_err-commit_data_mapping-clause-refusals g c =
     let V = g.Self.FormatDriverInstance.view in
     let p = c.in_ok-mapping.ensures in
     let own : IsErrOf c.commit_data_mapping.result Error.ForeignMapping → ⊥ = λ x.
-    never_foreign (V c.args.self.now) (V c.prepare_data_mapping.new.self) (V c.commit_data_mapping.new.self) _ c.args.offset c.args.count c.args.overwrite c.in_ok-mapping.mapping p.prepared p.call.unchanged ((c.commit_data_mapping.ensures.foreign).0 x) in
+    never_foreign (V c.args.self.now) (V c.prepare_data_mapping.new.self) (V c.commit_data_mapping.new.self) _ c.args.offset c.args.count _ c.in_ok-mapping.mapping p.prepared p.call.unchanged ((c.commit_data_mapping.ensures.foreign).0 x) in
     if_refused c.from_residual-in_err-commit_data_mapping.result (λ e is.
     let same : IsErrOf c.commit_data_mapping.result e = search rules in
     let reason = rw same at c.commit_data_mapping.ensures.refusals in
-    commit_refused (V c.args.self.now) (V c.prepare_data_mapping.new.self) (V c.commit_data_mapping.new.self) _ c.args.offset c.args.count c.args.overwrite c.in_ok-mapping.mapping p.prepared p.call.unchanged (lent g.B.LowerLayer.as_layer_below c.args.below) p.call.causes e
+    commit_refused (V c.args.self.now) (V c.prepare_data_mapping.new.self) (V c.commit_data_mapping.new.self) _ c.args.offset c.args.count _ c.in_ok-mapping.mapping p.prepared p.call.unchanged (lent g.B.LowerLayer.as_layer_below c.args.below) p.call.causes e
     (λ x. own (same ∙ ap (λ y. Err y) x)) reason)

@@ -1,4 +1,5 @@
 use Rattle.std.proofs.Common.{arith, inr, refl, sym, ◌≡◌, ◌+◌, ◌<◌, ◌≤◌, length, true, false}
+use Rattle.std.proofs.lemmas.Grind.{common_steps}
 use Rattle.std.specs.Prelude.{is_none, IsTrue}
 use Rattle.std.proofs.lemmas.Result.{on_err_weaker, on_ok_weaker}
 use Rattle.imago_drivers.specs.Operation.{Write}
@@ -68,3 +69,9 @@ returns-then-mapping-self-2-clause-foreign g c =
     let some : 0 < m.length = omega arith in
     let out : s.size < m.offset + m.length = omega arith in
     (λ e. foreign_stateless (raw_view (g.S.Storage.features s.storage) (g.S.Storage.fault_count s.storage) B s.size s.writable) m m.state stateless (stranger s.size B m.storage m.offset m.length some (inr out)), λ f. refl)
+
+pub returns-then-not-self-clause-foreign : goal.returns-then-not-self-clause-foreign
+returns-then-not-self-clause-foreign g c = (λ e. grind (arith, common_steps), λ f. refl)
+
+pub returns-then-not-self-clause-written : goal.returns-then-not-self-clause-written
+returns-then-not-self-clause-written g c = tt

@@ -1,5 +1,7 @@
-use Rattle.std.proofs.Common.{◌≡◌, ◌∙◌, ap, refl, sym, Ok, Err, rules}
+use Rattle.std.proofs.Common.{◌≡◌, ◌∙◌, ap, refl, sym, Ok, Err, rules, arith, subst}
+use Rattle.std.proofs.lemmas.Grind.{common_steps}
 use Rattle.std.proofs.lemmas.Result.{err_from_is_err_and}
+use Rattle.imago_drivers.specs.RawBuilder.{IsRawOpening}
 use Rattle.imago_drivers.proofs.raw_builder.RawCreateBuilder.create_open.Goals as goal
 
 pub returns-in_err-empty-clause-created : goal.returns-in_err-empty-clause-created
@@ -18,15 +20,18 @@ pub returns-in_err-image-clause-created : goal.returns-in_err-image-clause-creat
 returns-in_err-image-clause-created g c =
     let p = err_from_is_err_and c.from_residual-in_err-image.result c.from_residual-in_err-image.ensures.1 in
     let h = c.in_ok-empty.ensures in
-    (Ok c.empty.new.storage, (search rules, search rules, search rules), (Ok c.in_ok-builder.builder, c.in_ok-builder.ensures, (Err c.in_err-image.field-0.0, search rules, p.1 ∙ ap (λ e. Err e) p.2)))
+    (Ok c.empty.new.storage, (search rules, search rules, search rules), (Ok c.in_ok-builder.builder, c.in_ok-builder.ensures, (Err c.in_err-image.field-0.0, subst (λ x. IsRawOpening {g = g.S.Storage} {h = g.S.Display} g.S.Storage.bytes g.S.Storage.features g.G.ImplicitOpenGate.opened c.args.gate x (Err c.in_err-image.field-0.0)) c.write.ensures c.in_err-image.ensures.opened, p.1 ∙ ap (λ e. Err e) p.2)))
 
 pub returns-in_err-resize_grow-clause-created : goal.returns-in_err-resize_grow-clause-created
 returns-in_err-resize_grow-clause-created g c =
     let p = err_from_is_err_and c.from_residual-in_err-resize_grow.result c.from_residual-in_err-resize_grow.ensures.1 in
     let h = c.in_ok-empty.ensures in
-    (Ok c.empty.new.storage, (search rules, search rules, search rules), (Ok c.in_ok-builder.builder, c.in_ok-builder.ensures, (Ok c.in_ok-image.image, search rules, rw (p.1, p.2) (c.resize_grow.new.self, rw (c.get_preallocate-mode.ensures, c.get_size-size.ensures) at c.in_err-resize_grow.ensures.call))))
+    (Ok c.empty.new.storage, (search rules, search rules, search rules), (Ok c.in_ok-builder.builder, c.in_ok-builder.ensures, (Ok c.in_ok-image.image, subst (λ x. IsRawOpening {g = g.S.Storage} {h = g.S.Display} g.S.Storage.bytes g.S.Storage.features g.G.ImplicitOpenGate.opened c.args.gate x (Ok c.in_ok-image.image)) c.write.ensures c.in_ok-image.ensures.opened, rw (p.1, p.2) (c.resize_grow.new.self, rw (c.get_preallocate-mode.ensures, c.get_size-size.ensures) at c.in_err-resize_grow.ensures.call))))
 
 pub returns-clause-created : goal.returns-clause-created
 returns-clause-created g c =
     let h = c.in_ok-empty.ensures in
-    (Ok c.empty.new.storage, (search rules, search rules, search rules), (Ok c.in_ok-builder.builder, c.in_ok-builder.ensures, (Ok c.in_ok-image.image, search rules, (rw (c.get_preallocate-mode.ensures, c.get_size-size.ensures) at c.in_ok-resize_grow.ensures.call, rw (c.get_size-size.ensures) at c.in_ok-resize_grow.ensures.exact))))
+    (Ok c.empty.new.storage, (search rules, search rules, search rules), (Ok c.in_ok-builder.builder, c.in_ok-builder.ensures, (Ok c.in_ok-image.image, subst (λ x. IsRawOpening {g = g.S.Storage} {h = g.S.Display} g.S.Storage.bytes g.S.Storage.features g.G.ImplicitOpenGate.opened c.args.gate x (Ok c.in_ok-image.image)) c.write.ensures c.in_ok-image.ensures.opened, (rw (c.get_preallocate-mode.ensures, c.get_size-size.ensures) at c.in_ok-resize_grow.ensures.call, rw (c.get_size-size.ensures) at c.in_ok-resize_grow.ensures.exact))))
+
+pub returns-clause-writable : goal.returns-clause-writable
+returns-clause-writable g c = grind (arith, common_steps)

@@ -1,0 +1,6 @@
+use Rattle.std.proofs.Common.{arith}
+use Rattle.std.proofs.lemmas.Grind.{common_steps}
+use Rattle.imago_storage.proofs.request.discard_any.Goals as goal
+
+pub returns-in-Err-Unsupported : goal.returns-in-Err-Unsupported
+returns-in-Err-Unsupported g c = grind (arith, common_steps)
