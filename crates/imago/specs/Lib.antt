@@ -66,6 +66,7 @@ pub use Rattle.imago_cow.specs.Guest as GuestBlocks
 pub use Rattle.imago_cow.specs.Cow
 pub use Rattle.imago_cow.specs.CowLaws
 pub use Rattle.imago_cow.specs.CowImage
+pub use Rattle.imago_cow.specs.Copies as CopiedBlocks
 pub use Rattle.imago_cow.specs.Worked as WorkedDataBlocks
 pub use Rattle.imago_access.specs.Chain
 pub use Rattle.imago_access.specs.Text

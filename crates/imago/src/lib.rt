@@ -23,8 +23,8 @@ pub use imago_drivers::builder::{
 };
 pub use imago_drivers::drivers::{FormatDriverInstance, PreparedDataMapping, ShallowMapping};
 pub use imago_drivers::gate::{DenyImplicitOpenGate, ImplicitOpenGate, PermissiveImplicitOpenGate};
-pub use imago_drivers::{builder, drivers, gate, layer, raw};
+pub use imago_drivers::{builder, drivers, gate, layer, raw, stored};
 pub use imago_storage::ext::StorageExt;
-pub use imago_storage::{error, ext, mem, null};
+pub use imago_storage::{align, error, ext, mem, null};
 pub use imago_vmdk::vmdk;
 pub use storage::{Storage, StorageCreateOptions, StorageOpenOptions};

@@ -1,9 +1,10 @@
-use Rattle.std.proofs.Common.{zero, suc, ◌≡◌, ℕ, ◌+◌, ◌-◌, ◌*◌, ◌/◌, ◌<◌, ◌≤◌, true, List, [], ◌∷◌, ◌++◌, length, take, replicate, length-append, Some, None, Ok, refl, sym, ap, ◌∙◌, arith}
+use Rattle.std.proofs.Common.{zero, suc, ◌≡◌, ℕ, ◌+◌, ◌-◌, ◌*◌, ◌/◌, ◌<◌, ◌≤◌, ⊎_elim, true, false, List, [], ◌∷◌, ◌++◌, length, take, replicate, length-append, Some, None, Ok, refl, sym, ap, ◌∙◌, arith}
 use Rattle.std.specs.Prelude.{slice_get}
+use Rattle.std.proofs.lemmas.Bool.{cases_lt}
 use Rattle.std.proofs.lemmas.List.{length-take-le, length-replicate}
 use Rattle.std.proofs.Math.Nat.{div-lt_iff_lt-mul, lt_of_mul-lt-mul_right}
 use Rattle.imago_storage.specs.Features.{Features}
-use Rattle.imago_drivers.specs.Place.{shown}
+use Rattle.imago_drivers.specs.Place.{Lower, shown}
 use Rattle.imago_drivers.specs.Calls.{IsShrink}
 use Rattle.imago_cow.specs.declared.table.GuestBlock.{GuestBlock}
 use Rattle.imago_cow.specs.Guest.{cow_place, entry_place, IsExact, Covers, AreAdded}
@@ -88,6 +89,15 @@ slice_get_replicate : {X : Type 0} (n : ℕ) (y : X) (i : ℕ) → i < n → sli
 slice_get_replicate zero y i h = let z : ⊥ = omega arith in absurd z
 slice_get_replicate (suc n) y zero h = refl
 slice_get_replicate (suc n) y (suc i) h = slice_get_replicate n y i (omega arith)
+
+-- each place of a new disk leads below
+pub leads_below : (bytes : List ℕ) (size block n : ℕ) → size ≤ n * block → (p : ℕ) → p < size → cow_place bytes size block (replicate n GuestBlock.Absent) p ≡ Lower p false
+leads_below bytes size block n covers p h =
+    let positive : 0 < block = ⊎_elim (λ pos. pos)
+    (λ none. let e : block ≡ 0 = omega (arith, none) in let z : ⊥ = omega (arith, ap (λ x. n * x) e, covers, h) in absurd z)
+    (cases_lt 0 block) in
+    let inside : p / block < n = (div-lt_iff_lt-mul positive).1 (omega (arith, h, covers)) in
+    place_in bytes size block (replicate n GuestBlock.Absent) p h ∙ ap (entry_place bytes block p) (slice_get_replicate n GuestBlock.Absent (p / block) inside)
 
 slice_get_added : {X : Type 0} (xs : List X) (n : ℕ) (y : X) (i : ℕ) → length xs ≤ i → i < length xs + n → slice_get (xs ++ replicate n y) i ≡ Some y
 slice_get_added [] n y i h k = slice_get_replicate n y i (omega arith)

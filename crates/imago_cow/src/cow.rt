@@ -1,5 +1,5 @@
 //! The copy-on-write driver.
-ghost use Rattle.std.specs.Prelude.{◌≡◌, ℕ, ◌+◌, ◌*◌, ◌/◌, ◌^◌, ◌<◌, ◌≤◌, ◌↔◌, None, Some, IfOk, IfErr, IsTrue, max, slice_get, true, false};
+ghost use Rattle.std.specs.Prelude.{◌≡◌, ℕ, ◌+◌, ◌*◌, ◌/◌, ◌^◌, ◌<◌, ◌≤◌, ◌↔◌, None, Some, IfOk, IfErr, IsOk, IsTrue, max, slice_get, true, false};
 ghost use Rattle.std.specs.Int.{is_power_of_two};
 ghost use Rattle.std.specs.Option.{ForSome};
 ghost use Rattle.imago_drivers.specs.Place.{Lower, BytesAreWritable, HasStranger, values};
@@ -7,7 +7,8 @@ ghost use Rattle.imago_drivers.specs.LayerBelow.{lent};
 ghost use Rattle.imago_drivers.specs.Reasons.{none, allowed};
 ghost use Rattle.imago_drivers.specs.Pending.{IsOwn};
 ghost use Rattle.imago_drivers.specs.Prepared.{IsPrepared};
-ghost use Rattle.imago_drivers.specs.Calls.{IsPreparation};
+ghost use Rattle.imago_drivers.specs.Operation.{Zero, DiscardToZero};
+ghost use Rattle.imago_drivers.specs.Calls.{IsPreparation, IsShrink, IsZeroCall};
 ghost use Rattle.imago_drivers.specs.Commit.{IsCommit, IsCancel};
 ghost use Rattle.imago_cow.specs.Table.{named_count};
 ghost use Rattle.imago_cow.specs.TableView.{entries_of, held_of, count_of};
@@ -296,7 +297,13 @@ impl<S: Storage> FormatDriverInstance for Cow<S> {
         _alloc: Global,
         offset: u64,
         count: u64,
-    ) -> Result<(u64, u64), Error> {
+    ) -> Result<(u64, u64), Error>
+        requires spent { (⟦<Cow<S> as FormatDriverInstance>⟧.view self.old).pending ≡ None }
+        requires inside { offset + count ≤ (⟦<Cow<S> as FormatDriverInstance>⟧.view self.old).size }
+        ensures call { IsZeroCall Zero offset count (⟦<Cow<S> as FormatDriverInstance>⟧.view self.old) (⟦<Cow<S> as FormatDriverInstance>⟧.view self.new) result }
+        ensures made { IsMade offset count (size_of self.old) (block_of self.old) GuestBlock.Zero (blocks_of self.old) (blocks_of self.new) result }
+        ensures storage { storage_in self.new ≡ storage_in self.old }
+    {
         make_zero(&mut self.table, self.block, self.size, offset, count)
     }
 
@@ -305,7 +312,13 @@ impl<S: Storage> FormatDriverInstance for Cow<S> {
         _alloc: Global,
         offset: u64,
         count: u64,
-    ) -> Result<(u64, u64), Error> {
+    ) -> Result<(u64, u64), Error>
+        requires spent { (⟦<Cow<S> as FormatDriverInstance>⟧.view self.old).pending ≡ None }
+        requires inside { offset + count ≤ (⟦<Cow<S> as FormatDriverInstance>⟧.view self.old).size }
+        ensures call { IsZeroCall DiscardToZero offset count (⟦<Cow<S> as FormatDriverInstance>⟧.view self.old) (⟦<Cow<S> as FormatDriverInstance>⟧.view self.new) result }
+        ensures made { IsMade offset count (size_of self.old) (block_of self.old) GuestBlock.Zero (blocks_of self.old) (blocks_of self.new) result }
+        ensures storage { storage_in self.new ≡ storage_in self.old }
+    {
         make_zero(&mut self.table, self.block, self.size, offset, count)
     }
 
@@ -468,7 +481,12 @@ impl<S: Storage> FormatDriverInstance for Cow<S> {
         Ok(())
     }
 
-    fn resize_shrink(&mut self, new_size: u64) -> Result<(), Error> {
+    fn resize_shrink(&mut self, new_size: u64) -> Result<(), Error>
+        requires spent { (⟦<Cow<S> as FormatDriverInstance>⟧.view self.old).pending ≡ None }
+        ensures call { IsShrink new_size (⟦<Cow<S> as FormatDriverInstance>⟧.view self.old) (⟦<Cow<S> as FormatDriverInstance>⟧.view self.new) result }
+        ensures done { IsOk result }
+        ensures storage { storage_in self.new ≡ storage_in self.old }
+    {
         self.size = shrink(&mut self.table, self.block, self.size, new_size);
         Ok(())
     }

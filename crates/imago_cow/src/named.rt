@@ -1,25 +1,11 @@
 //! Which bytes of the storage places of the disk stand in.
-ghost use Rattle.std.specs.Prelude.{◌≡◌, ◌≢◌, ℕ, ◌+◌, ◌*◌, ◌^◌, ◌<◌, ◌≤◌, MatchOption, Some, slice_get, true, false};
+ghost use Rattle.std.specs.Prelude.{◌≡◌, ◌≢◌, ℕ, ◌+◌, ◌*◌, ◌^◌, ◌<◌, ◌≤◌, Some, slice_get, true, false};
 ghost use Rattle.imago_drivers.specs.Place.{BytesAreWritable, HasStranger};
 ghost use Rattle.imago_cow.specs.declared.table.GuestBlock.{GuestBlock};
 ghost use Rattle.imago_cow.specs.TableView.{entries_of, count_of};
 ghost use Rattle.imago_cow.specs.Guest.{IsExact, cow_place};
 
-use crate::table::{GuestBlock, Table};
-
-/// The guest block that is in that data block. It walks over the entries.
-fn owner(table: &Table, number: u64) -> Option<u64>
-    ensures { MatchOption result
-        ((i : ℕ) → slice_get (entries_of table.now) i ≢ Some (GuestBlock.Data number))
-        (λ i. slice_get (entries_of table.now) i ≡ Some (GuestBlock.Data number)) }
-{
-    for index in 0..table.len() {
-        if table.get(index) == GuestBlock::Data(number) {
-            return Some(index as u64);
-        }
-    }
-    None
-}
+use crate::table::Table;
 
 /// Whether places of the disk stand in the first `until` bytes of a data block.
 fn shows(table: &Table, block: u64, size: u64, number: u64, until: u64) -> bool
@@ -32,8 +18,8 @@ fn shows(table: &Table, block: u64, size: u64, number: u64, until: u64) -> bool
         → slice_get (entries_of table.now) i ≡ Some (GuestBlock.Data number)
         → size < i * block + until }
 {
-    match owner(table, number) {
-        Some(index) => until <= size - index * block,
+    match table.owner(number) {
+        Some(index) => until <= size - index as u64 * block,
         None => false,
     }
 }

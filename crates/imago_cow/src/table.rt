@@ -1,5 +1,5 @@
 //! The table of a copy-on-write disk: what each guest block is, and which data blocks are free.
-ghost use Rattle.std.specs.Prelude.{◌≡◌, ◌≢◌, ℕ, ◌+◌, ◌-◌, ◌^◌, ◌<◌, ◌≤◌, ◌++◌, ◌∷◌, [], length, take, replicate, max, Some, None, IfOk, IfErr, OnOk, OnErr, IsOk, IsSome, slice_get, slice_set};
+ghost use Rattle.std.specs.Prelude.{◌≡◌, ◌≢◌, ℕ, ◌+◌, ◌-◌, ◌^◌, ◌<◌, ◌≤◌, ◌++◌, ◌∷◌, [], length, take, replicate, max, Some, None, IfOk, IfErr, OnOk, OnErr, IsOk, IsSome, MatchOption, slice_get, slice_set};
 ghost use Rattle.imago_cow.specs.Free.{free_count, free_room};
 ghost use Rattle.imago_cow.specs.Table.{IsEachOnce, IsLowestUnused, named_count, held_count, names_any, without_data};
 
@@ -22,12 +22,14 @@ pub enum GuestBlock {
 ///
 /// Each data block is named by exactly one entry, or held, or free. At most one is held: it was taken, and no entry
 /// names it yet. Taking one costs a logarithm of the number of free ones, and so does each that is given back; neither
-/// walks over the entries. Nothing that gives one back takes memory: the room is made when a new one is added, 8 bytes for
+/// walks over the entries. Nothing that gives one back takes memory: the room is made when a new one is added, 16 bytes for
 /// each data block.
 #[derive(Drop)]
 pub struct Table {
     entries: Vec<GuestBlock>,
     free: FreeBlocks,
+    /// For each data block, the guest block that was put in it last: where that is in it still, no walk finds it.
+    last_owners: Vec<usize>,
     count: u64,
     used: u64,
     held: Option<u64>,
@@ -53,6 +55,7 @@ impl Table {
         Ok(Table {
             entries,
             free: FreeBlocks::new(alloc),
+            last_owners: Vec::new(alloc),
             count: 0,
             used: 0,
             held: None,
@@ -72,6 +75,26 @@ impl Table {
         ensures { slice_get (entries_of self.now) index ≡ Some result }
     {
         self.entries[index]
+    }
+
+    /// The guest block that is in that data block. It is found at once; only where no guest block is in it, all entries are
+    /// looked at.
+    pub fn owner(&self, number: u64) -> Option<usize>
+        ensures { MatchOption result
+            ((i : ℕ) → slice_get (entries_of self.now) i ≢ Some (GuestBlock.Data number))
+            (λ i. slice_get (entries_of self.now) i ≡ Some (GuestBlock.Data number)) }
+    {
+        if let Some(index) = self.last_owners.get(number as usize) {
+            if *index < self.entries.len() && self.entries[*index] == GuestBlock::Data(number) {
+                return Some(*index);
+            }
+        }
+        for index in 0..self.entries.len() {
+            if self.entries[index] == GuestBlock::Data(number) {
+                return Some(index);
+            }
+        }
+        None
     }
 
     /// The number of data blocks, free ones too.
@@ -132,6 +155,7 @@ impl Table {
             return Err(Error::Memory);
         };
         self.free.reserve(count as usize)?;
+        self.last_owners.push(0)?;
         self.count = count;
         self.held = Some(block);
         Ok(block)
@@ -164,6 +188,7 @@ impl Table {
     {
         if let Some(block) = self.held {
             self.held = None;
+            note(&mut self.last_owners, block, index);
             self.entries[index] = GuestBlock::Data(block);
             self.used += 1;
         }
@@ -234,6 +259,7 @@ impl Table {
     {
         if let Some(block) = self.held {
             self.held = None;
+            note(&mut self.last_owners, block, self.entries.len());
             self.entries.push_reserved(GuestBlock::Data(block));
             self.used += 1;
         }
@@ -263,6 +289,13 @@ impl Table {
             self.used -= 1;
             self.free.put(block);
         }
+    }
+}
+
+/// Notes the guest block that is put in a data block.
+fn note(last_owners: &mut Vec<usize>, block: u64, index: usize) {
+    if let Some(owner) = last_owners.get_mut(block as usize) {
+        *owner = index;
     }
 }
 

@@ -2,8 +2,8 @@ use Rattle.std.proofs.Common.{◌≡◌, ◌+◌, None}
 use Rattle.imago_cow.proofs.DriverSteps.{none_waits}
 use Rattle.imago_cow.proofs.cow.CowFormatDriverInstance.resize_shrink.Goals as goal
 
-pub returns : goal.returns
-returns g c =
+pub returns-clause-call : goal.returns-clause-call
+returns-clause-call g c =
     let s = c.args.self.now in
     let none : s.waiting ≡ None = none_waits s.block s.size (g.S.Storage.bytes s.storage) s.waiting c.requires.spent in
     rw none (c.shrink-self.ensures.shrunk (g.S.Storage.features s.storage) (g.S.Storage.fault_count s.storage + s.faults) (g.S.Storage.bytes s.storage))

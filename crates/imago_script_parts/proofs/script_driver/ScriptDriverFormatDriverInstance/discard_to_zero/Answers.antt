@@ -5,4 +5,4 @@ pub returns-in-Raw : goal.returns-in-Raw
 returns-in-Raw g c = rw c.in-Raw.is (zero_call_restated _ _ _ _ _ _ c.discard_to_zero.ensures)
 
 pub returns-in-Cow : goal.returns-in-Cow
-returns-in-Cow g c = rw c.in-Cow.is c.discard_to_zero-in-Cow.ensures
+returns-in-Cow g c = rw c.in-Cow.is c.discard_to_zero-in-Cow.ensures.call

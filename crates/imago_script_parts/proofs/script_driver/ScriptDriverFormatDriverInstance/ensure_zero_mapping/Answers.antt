@@ -5,4 +5,4 @@ pub returns-in-Raw : goal.returns-in-Raw
 returns-in-Raw g c = rw c.in-Raw.is (zero_call_restated _ _ _ _ _ _ c.ensure_zero_mapping.ensures)
 
 pub returns-in-Cow : goal.returns-in-Cow
-returns-in-Cow g c = rw c.in-Cow.is c.ensure_zero_mapping-in-Cow.ensures
+returns-in-Cow g c = rw c.in-Cow.is c.ensure_zero_mapping-in-Cow.ensures.call

@@ -5,4 +5,4 @@ pub returns-in-Raw : goal.returns-in-Raw
 returns-in-Raw g c = rw c.in-Raw.is (shrink_restated _ _ _ _ c.resize_shrink.ensures.call)
 
 pub returns-in-Cow : goal.returns-in-Cow
-returns-in-Cow g c = rw c.in-Cow.is c.resize_shrink-in-Cow.ensures
+returns-in-Cow g c = rw c.in-Cow.is c.resize_shrink-in-Cow.ensures.call
