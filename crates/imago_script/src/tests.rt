@@ -21,9 +21,12 @@ fn outcome(alloc: Global, mut text: &[u8]) -> (u8, Vec<u8>) {
 const NO_MEMORY: &[u8] = b"err OutOfMemory\n";
 
 /// Whether a script told that memory was refused. Where it ended for that, this is its last line, behind those that it was to
-/// print.
+/// print. Where the output itself had no room, it can't be told there: the output is a beginning of what was to be printed.
 fn ran_out(status: u8, output: &[u8], printed: &[u8]) -> bool {
     if status == 1 {
+        if printed.starts_with(output) {
+            return true;
+        }
         let Some(end) = output.len().checked_sub(NO_MEMORY.len()) else {
             return false;
         };

@@ -4,7 +4,7 @@ use super::check;
 use std::process::Abort;
 
 /// Scripts whose every line is a command, and what they print.
-const ROWS: [(&str, &str); 26] = [
+const ROWS: [(&str, &str); 27] = [
     (
         "mem a 16 00 1 1\nopen raw a rw\nwrite 3 0102\nread 0 6\n",
         "ok\nok\nok\nok 000000010200\n",
@@ -137,6 +137,12 @@ const ROWS: [(&str, &str); 26] = [
          grow 1025 none\nflush\nsync\nshow\n",
         "ok\nok\nok\nok\nok 1024\nok aaaabbbb\nok bbbb0000\nok 100 0/2:0x200/rw\nok 512 0/1:0x0/rw\nok 0 <eof>\nerr Other\nerr Other\n\
          err Other\nok\nok\nok vmdk[mem:d]\n",
+    ),
+    // A file of no bytes, shorter than its extent: what is missing reads as zeroes.
+    (
+        "hex d 76657273696f6e3d310a5257203120464c41542022612e696d672220300a\nmem a.img 0 00 1 1\nopen vmdk d\nmap 0 512\n\
+         map 511 1\nread 0 4\nread 508 8\n",
+        "ok\nok\nok\nok 512 0/1:0x0/rw\nok 1 0/1:0x1ff/rw\nok 00000000\nok 0000000000000000\n",
     ),
     // An extent of no sectors. Where a file isn't there, nothing is opened, and what was taken out is gone.
     (

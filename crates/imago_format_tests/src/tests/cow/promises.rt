@@ -1,8 +1,10 @@
 //! What a copy-on-write disk does with its data blocks, which mappings it refuses, and the sizes that it can have.
 use super::call::{Answer, Call, Level, is_spent};
-use super::set_up::{byte_at, equal, numbers};
+use super::set_up::{byte_at, equal, numbers, printed};
 use super::subject::{Fault, Image, PLAIN, contents_of, created, lent, make_on, storage_of};
 use imago_access::access::FormatAccess;
+use imago_access::run;
+use imago_access::run::Reply;
 use imago_cow::cow::CowState;
 use imago_drivers::drivers::{FormatDriverInstance, PreparedDataMapping};
 use imago_storage::error::Error;
@@ -278,4 +280,98 @@ fn check_disks_of_any_size_are_created(rt: &impl Abort, alloc: Global) {
 #[test]
 fn disks_of_any_size_are_created(rt: HostRuntime) {
     check_disks_of_any_size_are_created(&rt, rt.alloc());
+}
+
+/// A size and a guest block's length, the calls on the disk, what it is then from its beginning on, and how many guest blocks
+/// are in data.
+type Zeroed = ((u64, u64), &'static [Call], (&'static str, u64), u64);
+
+/// Zeroes take a data block where their guest block has other bytes, and give it back where they are all of it.
+static ZEROED: [Zeroed; 4] = [
+    (
+        (16, 4),
+        &[Call::WriteZeroes(1, 2)],
+        ("<zero:explicit>", 4),
+        0,
+    ),
+    (
+        (10, 65536),
+        &[Call::Write(0, 10, 1), Call::WriteZeroes(3, 4)],
+        ("0/0:0x0/rw", 10),
+        1,
+    ),
+    (
+        (10, 65536),
+        &[Call::Write(0, 10, 1), Call::WriteZeroes(0, 10)],
+        ("<zero:explicit>", 10),
+        0,
+    ),
+    (
+        (10, 65536),
+        &[Call::Write(2, 3, 1), Call::DiscardToZero(0, 10)],
+        ("<zero:explicit>", 10),
+        0,
+    ),
+];
+
+fn check_zeroes_of_a_whole_guest_block_use_no_data(rt: &impl Abort, alloc: Global) {
+    for &((size, block), calls, (text, length), used) in &ZEROED {
+        let mut image = alone(rt, alloc, size, block, Fault::Never);
+        for &call in calls {
+            on(rt, alloc, &mut image, call);
+        }
+        let (mapping, count) = image.get_mapping(0, size).expect(rt, "a mapping");
+        assert_eq!(rt; printed(rt, alloc, &mapping).as_str(), text);
+        assert_eq!(rt; count, length);
+        assert_eq!(rt; image.inner().blocks_used(), used);
+    }
+}
+
+#[test]
+fn zeroes_of_a_whole_guest_block_use_no_data(rt: HostRuntime) {
+    check_zeroes_of_a_whole_guest_block_use_no_data(&rt, rt.alloc());
+}
+
+/// Runs a list that prepares the first guest block, writes a byte there, and cancels it. Answers whether there was memory for it.
+fn is_cancelled_by_a_list(rt: &impl Abort, alloc: Global, image: &mut Image) -> bool {
+    let mut replies = Vec::new(alloc);
+    let calls = [run::Call::Prepared {
+        offset: 0,
+        length: 4,
+        overwrite: false,
+        bytes: equal(rt, alloc, 1, 0xff),
+        commit: false,
+    }];
+    assert!(rt; is_spent(&*image));
+    if run::run(alloc, image, &calls, &mut replies).is_err() {
+        return false;
+    }
+    match replies.first() {
+        Some(
+            Reply::Prepared {
+                length,
+                nonblocking,
+            },
+        ) => {
+            assert_eq!(rt; (*length, *nonblocking), (4, false));
+            true
+        }
+        _ => false,
+    }
+}
+
+fn check_a_list_prepares_and_cancels(rt: &impl Abort, alloc: Global) {
+    let mut image = alone(rt, alloc, 16, 4, Fault::Never);
+    if !is_cancelled_by_a_list(rt, alloc, &mut image) {
+        assert!(rt; is_cancelled_by_a_list(rt, alloc, &mut image));
+    }
+    assert!(rt; contents_of(rt, alloc, &image) == equal(rt, alloc, 16, 0));
+    assert_eq!(rt; image.inner().blocks_used(), 0);
+    on(rt, alloc, &mut image, Call::Write(0, 1, 1));
+    assert_eq!(rt; image.inner().blocks_used(), 1);
+}
+
+#[test]
+fn a_list_prepares_and_cancels(rt: HostRuntime) {
+    check_a_list_prepares_and_cancels(&rt, rt.alloc());
 }

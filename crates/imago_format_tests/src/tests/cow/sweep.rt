@@ -220,8 +220,8 @@ fn sweep(rt: &impl Abort, alloc: Global, level: Level, align: usize, rows: &[Row
     }
 }
 
-/// Less than a guest block, and more.
-static ALIGNS: [usize; 2] = [8, 64];
+/// Less than a guest block, more, and more than the disk.
+static ALIGNS: [usize; 3] = [8, 64, 512];
 
 #[test]
 fn calls_of_an_image_on_ranges_fail_anywhere(rt: HostRuntime) {
@@ -230,7 +230,9 @@ fn calls_of_an_image_on_ranges_fail_anywhere(rt: HostRuntime) {
 
 #[test]
 fn calls_of_an_image_in_long_requests_fail_anywhere(rt: HostRuntime) {
-    sweep(&rt, rt.alloc(), Level::Image, 64, &RANGES);
+    for &align in &ALIGNS {
+        sweep(&rt, rt.alloc(), Level::Image, align, &RANGES);
+    }
 }
 
 #[test]
@@ -240,7 +242,9 @@ fn calls_of_a_driver_on_ranges_fail_anywhere(rt: HostRuntime) {
 
 #[test]
 fn calls_of_a_driver_in_long_requests_fail_anywhere(rt: HostRuntime) {
-    sweep(&rt, rt.alloc(), Level::Driver, 64, &RANGES);
+    for &align in &ALIGNS {
+        sweep(&rt, rt.alloc(), Level::Driver, align, &RANGES);
+    }
 }
 
 #[test]

@@ -232,10 +232,10 @@ fn each_byte_is_replaced(rt: HostRuntime) {
     check_each_byte_is_replaced(&rt, rt.alloc());
 }
 
-/// What a descriptor of so many bytes is opened as: the version, and then that line over and over again.
-fn open_long(alloc: Global, line: &[u8; 10], count: usize) -> Answer {
+/// What a descriptor of so many bytes is opened as: ten bytes, and then that line over and over again.
+fn open_long(alloc: Global, first: &[u8; 10], line: &[u8; 10], count: usize) -> Answer {
     let mut bytes = Vec::new(alloc);
-    for byte in b"version=1\n" {
+    for byte in first {
         if bytes.push(*byte).is_err() {
             return Err(Error::Memory);
         }
@@ -248,16 +248,36 @@ fn open_long(alloc: Global, line: &[u8; 10], count: usize) -> Answer {
     open_storage(alloc, MemStorage::new(bytes))
 }
 
-fn opened_long(alloc: Global, line: &[u8; 10], count: usize) -> Answer {
-    match open_long(alloc, line, count) {
-        Err(Error::Memory) => open_long(alloc, line, count),
+fn opened_long(alloc: Global, first: &[u8; 10], line: &[u8; 10], count: usize) -> Answer {
+    match open_long(alloc, first, line, count) {
+        Err(Error::Memory) => open_long(alloc, first, line, count),
         answer => answer,
+    }
+}
+
+/// The ten bytes that a descriptor begins with, the line that it has over and over again then, its length, and what it is
+/// opened as.
+static LONG: [(&[u8; 10], &[u8; 10], usize, Answer); 4] = [
+    // 209714 extents of 512 bytes, and the word of one more, which says nothing by itself
+    (b"version=1\n", b"RW 1 ZERO\n", 2097152, Ok(107373568)),
+    (b"version=1\n", b"RW 1 ZERO\n", 2097153, INVALID),
+    // empty lines, none of which says the version
+    (EMPTY_LINES, EMPTY_LINES, 2097152, UNSUPPORTED),
+    (EMPTY_LINES, EMPTY_LINES, 2097153, INVALID),
+];
+
+const EMPTY_LINES: &[u8; 10] = b"\n\n\n\n\n\n\n\n\n\n";
+
+fn check_the_longest_descriptor_is_read(rt: &impl Abort, alloc: Global) {
+    for (first, line, count, answer) in &LONG {
+        assert!(rt;
+            opened_long(alloc, first, line, *count) == *answer,
+            "{count}"
+        );
     }
 }
 
 #[test]
 fn the_longest_descriptor_is_read(rt: HostRuntime) {
-    // 209714 extents of 512 bytes, and the word of one more, which says nothing by itself
-    assert!(rt; opened_long(rt.alloc(), b"RW 1 ZERO\n", 2097152) == Ok(107373568));
-    assert!(rt; opened_long(rt.alloc(), b"RW 1 ZERO\n", 2097153) == INVALID);
+    check_the_longest_descriptor_is_read(&rt, rt.alloc());
 }

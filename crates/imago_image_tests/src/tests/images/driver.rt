@@ -55,8 +55,8 @@ pub(super) enum Call {
     Stored(usize, u64, &'static [u8]),
     /// Gives up the data of a range.
     Give(Give, u64, u64),
-    /// Maps a range to bytes that may be written, for overwriting.
-    MapData(u64, u64),
+    /// Maps a range to bytes that may be written, for overwriting or not.
+    MapData(u64, u64, bool),
     /// Maps a range to bytes that may be written, and writes these there.
     WriteMapped(u64, &'static [u8]),
     /// Prepares the range, writes the bytes from the `at`-th of the mapping on, and commits or cancels it.
@@ -239,16 +239,15 @@ fn give_up<D: FormatDriverInstance>(
     }
 }
 
-/// Maps a range to bytes that may be written, for overwriting.
+/// Maps a range to bytes that may be written, for overwriting or not.
 fn map_data<D: FormatDriverInstance>(
     rt: &impl Abort,
     alloc: Global,
     driver: &mut D,
-    offset: u64,
-    count: u64,
+    (offset, count, overwrite): (u64, u64, bool),
 ) -> Answer {
     assert!(rt; is_ready(&*driver, offset, count));
-    data(driver.ensure_data_mapping::<()>(alloc, None, offset, count, true))
+    data(driver.ensure_data_mapping::<()>(alloc, None, offset, count, overwrite))
 }
 
 /// Maps a range to bytes that may be written, and writes these there.
@@ -352,7 +351,9 @@ pub(super) fn make<D: FormatDriverInstance>(
 ) -> Answer {
     match call {
         Call::Give(kind, offset, count) => give_up(rt, alloc, driver, kind, offset, count),
-        Call::MapData(offset, count) => map_data(rt, alloc, driver, offset, count),
+        Call::MapData(offset, count, overwrite) => {
+            map_data(rt, alloc, driver, (offset, count, overwrite))
+        }
         Call::WriteMapped(offset, bytes) => done(write_mapped(rt, alloc, driver, offset, bytes)),
         Call::Prepare {
             offset,

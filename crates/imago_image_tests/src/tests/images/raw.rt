@@ -112,7 +112,7 @@ fn bytes_of_another_format_are_raw_too(rt: HostRuntime) {
 
 /// On 10000 bytes a5 in blocks of 4096.
 static PADDED: [(Call, Answer); 15] = [
-    (Call::MapData(9999, 1), Answer::Data(0, 9999, 1)),
+    (Call::MapData(9999, 1, true), Answer::Data(0, 9999, 1)),
     (
         Call::WriteStranger {
             offset: 9999,
@@ -294,8 +294,8 @@ static NOTHING: [(Call, Answer); 8] = [
         Call::Give(Give::DiscardToBacking, 1024, 0),
         Answer::Part(1024, 0),
     ),
-    (Call::MapData(0, 0), Answer::Length(0)),
-    (Call::MapData(1024, 0), Answer::Length(0)),
+    (Call::MapData(0, 0, true), Answer::Length(0)),
+    (Call::MapData(1024, 0, true), Answer::Length(0)),
     (Call::Size, Answer::Length(1024)),
     (Call::StorageLength(0), Answer::Length(1024)),
 ];

@@ -21,6 +21,8 @@ const DEVICE: Answer = Answer::Refused(Error::Device);
 
 const MEMORY: Answer = Answer::Refused(Error::Memory);
 
+const NOT_OFFERED: Answer = Answer::Refused(Error::Unsupported);
+
 static TEARS: [Tear; 4] = [Tear::Nothing, Tear::All, Tear::First(3), Tear::Odd];
 
 /// More calls than any change makes of its storages.
@@ -69,7 +71,7 @@ macro_rules! driver_prepared {
 }
 
 /// The changing calls of an image.
-static CALLS: [Row; 17] = [
+static CALLS: [Row; 19] = [
     (
         Call::WriteNumbers(AT, COUNT as usize, 101),
         Effect::Changed(How::Done, RANGE, New::Numbers(101)),
@@ -121,6 +123,14 @@ static CALLS: [Row; 17] = [
         Effect::Grown(2148, New::Below),
     ),
     (
+        Call::Grow(2148, PreallocateMode::FullAllocate),
+        Effect::Grown(2148, New::Below),
+    ),
+    (
+        Call::Grow(2148, PreallocateMode::WriteData),
+        Effect::Grown(2148, New::Below),
+    ),
+    (
         Call::Resize(2148, PreallocateMode::Zero),
         Effect::Grown(2148, ZEROES),
     ),
@@ -133,7 +143,7 @@ static CALLS: [Row; 17] = [
 ];
 
 /// The changing calls of a driver.
-static DRIVER_CALLS: [Row; 12] = [
+static DRIVER_CALLS: [Row; 16] = [
     (
         Call::Drive(driver::Call::Give(Give::EnsureZero, AT, COUNT)),
         Effect::Changed(How::Done, RANGE, ZEROES),
@@ -151,7 +161,11 @@ static DRIVER_CALLS: [Row; 12] = [
         Effect::Changed(How::Partly, RANGE, New::Below),
     ),
     (
-        Call::Drive(driver::Call::MapData(AT, COUNT)),
+        Call::Drive(driver::Call::MapData(AT, COUNT, false)),
+        Effect::Kept,
+    ),
+    (
+        Call::Drive(driver::Call::MapData(AT, COUNT, true)),
         Effect::Changed(How::Done, RANGE, New::Unspecified),
     ),
     (
@@ -175,7 +189,19 @@ static DRIVER_CALLS: [Row; 12] = [
         Effect::Grown(2148, ZEROES),
     ),
     (
+        Call::Drive(driver::Call::Grow(2148, PreallocateMode::None)),
+        Effect::Grown(2148, New::Unspecified),
+    ),
+    (
         Call::Drive(driver::Call::Grow(2148, PreallocateMode::FormatAllocate)),
+        Effect::Grown(2148, New::Below),
+    ),
+    (
+        Call::Drive(driver::Call::Grow(2148, PreallocateMode::FullAllocate)),
+        Effect::Grown(2148, New::Below),
+    ),
+    (
+        Call::Drive(driver::Call::Grow(2148, PreallocateMode::WriteData)),
         Effect::Grown(2148, New::Below),
     ),
     (Call::Drive(driver::Call::Shrink(1001)), Effect::Cut(1001)),
@@ -196,6 +222,19 @@ static USES: [Row; 3] = [
         Effect::Grown(2200, ZEROES),
     ),
 ];
+
+/// Whether a driver offers a call. A table allocates nothing for what it grows by.
+fn is_offered(kind: Kind, call: Call) -> bool {
+    let mode = match call {
+        Call::Grow(_, mode) | Call::Drive(driver::Call::Grow(_, mode)) => mode,
+        _ => return true,
+    };
+    match (kind, mode) {
+        (Kind::Table | Kind::Chain, PreallocateMode::FullAllocate | PreallocateMode::WriteData) =>
+            false,
+        _ => true,
+    }
+}
 
 /// Makes a call once. What it leaves is what it may leave, and what the test goes on from.
 fn step(
@@ -237,7 +276,12 @@ fn is_refused(rt: &impl Abort, alloc: Global, form: Form, row: Row, fault: Fault
         subject = Subject::open(rt, alloc, form, fault);
         answer = step(rt, alloc, &mut subject, &mut disk, row);
     }
-    if !is_refusal(answer) {
+    let offered = is_offered(form.kind, row.0);
+    assert!(rt;
+        offered || answer == NOT_OFFERED,
+        "a call that isn't offered"
+    );
+    if !offered || !is_refusal(answer) {
         assert_eq!(rt; subject.end(rt, alloc).0, 0);
         return false;
     }
@@ -414,7 +458,9 @@ fn each_once(rt: &impl Abort, alloc: Global, kind: Kind, rows: &[Row]) {
     for &row in rows {
         let mut disk = first_disk(rt, alloc, kind);
         let mut subject = Subject::open(rt, alloc, form, Fault::Never);
-        step_on(rt, alloc, &mut subject, &mut disk, row);
+        if is_offered(kind, row.0) {
+            step_on(rt, alloc, &mut subject, &mut disk, row);
+        }
         use_on(rt, alloc, &mut subject, &mut disk);
     }
 }
