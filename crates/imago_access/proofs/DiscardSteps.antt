@@ -1,6 +1,6 @@
 use Rattle.std.proofs.Common.{◌≡◌, ℕ, ◌+◌, ◌-◌, ◌<◌, ◌≤◌, ◌⊎◌, ⊎_elim, inl, inr, Bool, true, None, refl, sym, ap, ◌∙◌, subst, arith, Result, Ok, Err}
 use Rattle.std.proofs.lemmas.Bool.{cases_lt}
-use Rattle.std.specs.Prelude.{IsTrue, IfOk, IfErr, OnErr, IsErrOf}
+use Rattle.std.specs.Prelude.{IsTrue, IfOk, IfErr, OnErr, IsErrOf, IsOk}
 use Rattle.imago_storage.specs.declared.error.Error.{Error}
 use Rattle.imago_storage.specs.Faults.{CountsFaults}
 use Rattle.imago_drivers.specs.Place.{Value, values}
@@ -235,14 +235,15 @@ not_loosened view call x o n = unchanged _ (repeatable call (view (driver x)).ab
 
 -- what is promised of a discard but for the driver's own calls
 abbrev pub IsLoosenedRange : {D St : Type 0} (view : D → View St) (call : DiscardCall) (x new : FormatAccess D) (o n : ℕ) (result : Result (Unit {0}) Error) → Type 0
-IsLoosenedRange view call x new o n result = IsRangeCall view (discard_of call) o n (settles (discard_of call)) (discard_reasons (view (driver x)) (discard_of call) o n) ⊥ (λ u. 0)
+IsLoosenedRange view call x new o n result = IsRangeCall view (discard_of call) o n (n ≡ 0) (settles (discard_of call)) (discard_reasons (view (driver x)) (discard_of call) o n) ⊥ (λ u. 0)
     (λ u. IsLoosened view call o n x new) (IsLoosened view call o n x new) x new result
 
 -- a discard that passed its tests
 pub range_call : {D St : Type 0} (view : D → View St) (call : DiscardCall) (x new : FormatAccess D) (o n : ℕ) (result : Result (Unit {0}) Error) → (view (driver x)).abilities.is_writable ≡ true → o + n ≤ (view (driver x)).size
-    → (Overflows (discard_of call) o n → ⊥) → (IsLoose (discard_of call)) → HasLoosened view call o n x new result → IsLoosenedRange view call x new o n result
-range_call view call x new o n result w fits small loose h = record {
+    → (Overflows (discard_of call) o n → ⊥) → (IsLoose (discard_of call)) → (n ≡ 0 → IsOk result × (new ≡ x)) → HasLoosened view call o n x new result → IsLoosenedRange view call x new o n result
+range_call view call x new o n result w fits small loose idle h = record {
   tested = λ z g. absurd (not_failed (view (driver x)) (discard_of call) o n w fits small z g);
+  idle = λ i passed. idle i;
   done = λ k. done result (h.left k);
   torn = λ k. torn result (h.left k);
   reaches = λ l. absurd (l loose);

@@ -193,8 +193,8 @@ module _ {D St : Type 0} (view : D → View St) where
       (bool_cases (view (driver x)).abilities.is_writable)
 
   -- a call that succeeded lies in the disk
-  call_fits : {T : Type 0} {of : Operation → Type 0} {reasons : Reasons} {hidden : Type 0} {part : T → ℕ} {effect : T → Type 0} {remains : Type 0} {t : T} (old new : FormatAccess D) (op : Operation) (o n : ℕ) → Overflows op o n ⊎ (Overflows op o n → ⊥)
-      → IsRangeCall view op o n of reasons hidden part effect remains old new (Ok t) → o + n ≤ (view (driver old)).size
+  call_fits : {T nothing : Type 0} {of : Operation → Type 0} {reasons : Reasons} {hidden : Type 0} {part : T → ℕ} {effect : T → Type 0} {remains : Type 0} {t : T} (old new : FormatAccess D) (op : Operation) (o n : ℕ) → Overflows op o n ⊎ (Overflows op o n → ⊥)
+      → IsRangeCall view op o n nothing of reasons hidden part effect remains old new (Ok t) → o + n ≤ (view (driver old)).size
   call_fits old new op o n over h = ⊎_elim
       (λ (past : (view (driver old)).size < o + n).
       let f = call_fails old op o n over past in
@@ -205,8 +205,8 @@ module _ {D St : Type 0} (view : D → View St) where
       (cases_lt (view (driver old)).size (o + n))
 
   -- a call that a test refused changed nothing
-  call_untouched : {T : Type 0} {of : Operation → Type 0} {reasons : Reasons} {hidden : Type 0} {part : T → ℕ} {effect : T → Type 0} {remains : Type 0} (old new : FormatAccess D) (op : Operation) (o n : ℕ) → Overflows op o n ⊎ (Overflows op o n → ⊥) → (e : Error)
-      → (reasons.read_only → ⊥) → (reasons.range_overflow → ⊥) → IsRangeCall {T = T} view op o n of reasons hidden part effect remains old new (Err e) → IsEndRefusal (disk view old) o n e → disk view new ≡ disk view old
+  call_untouched : {T nothing : Type 0} {of : Operation → Type 0} {reasons : Reasons} {hidden : Type 0} {part : T → ℕ} {effect : T → Type 0} {remains : Type 0} (old new : FormatAccess D) (op : Operation) (o n : ℕ) → Overflows op o n ⊎ (Overflows op o n → ⊥) → (e : Error)
+      → (reasons.read_only → ⊥) → (reasons.range_overflow → ⊥) → IsRangeCall {T = T} view op o n nothing of reasons hidden part effect remains old new (Err e) → IsEndRefusal (disk view old) o n e → disk view new ≡ disk view old
   call_untouched {reasons = reasons} old new op o n over e no_read_only no_overflow h t = ap (disk view) (⊎_elim
       (λ overflow. ⊎_elim (λ f. (h.tested e f).1) (λ a. let none : reasons.range_overflow = subst (allowed reasons) overflow a in absurd (no_overflow none)) h.refusals)
       (λ test. ⊎_elim
@@ -328,8 +328,8 @@ module _ {D St : Type 0} (view : D → View St) (lawful : (d : D) → IsLawful (
   listed P old new h = subst (λ (f : ℕ → Value). P f (value_at (disk view new))) (values_in_list old) (subst (λ (f : ℕ → Value). P (disk_value view old) f) (values_in_list new) h)
 
   -- a test refuses a write or a mapping
-  test_untouched : {T : Type 0} {of : Operation → Type 0} {reasons : Reasons} {hidden : Type 0} {part : T → ℕ} {effect : T → Type 0} {remains : Type 0} (old new : FormatAccess D) (o n : ℕ) (e : Error)
-      → (reasons.read_only → ⊥) → (reasons.range_overflow → ⊥) → IsRangeCall {T = T} view Write o n of reasons hidden part effect remains old new (Err e) → IsTestRefusal (disk view old) o n e → disk view new ≡ disk view old
+  test_untouched : {T nothing : Type 0} {of : Operation → Type 0} {reasons : Reasons} {hidden : Type 0} {part : T → ℕ} {effect : T → Type 0} {remains : Type 0} (old new : FormatAccess D) (o n : ℕ) (e : Error)
+      → (reasons.read_only → ⊥) → (reasons.range_overflow → ⊥) → IsRangeCall {T = T} view Write o n nothing of reasons hidden part effect remains old new (Err e) → IsTestRefusal (disk view old) o n e → disk view new ≡ disk view old
   test_untouched old new o n e a b h t = call_untouched view old new Write o n (inr (λ z. z)) e a b h (inr t)
 
   data_step : (old new : FormatAccess D) (o n : ℕ) (overwrite : Bool) (r : Reply) → IsTrue (view (driver old)).abilities.keeps_data → Answers told_data r (IsDataMapped view old new o n overwrite) → IsDataStep (disk view old) o n overwrite r (disk view new)
@@ -395,7 +395,12 @@ module _ {D St : Type 0} (view : D → View St) (lawful : (d : D) → IsLawful (
 
   mapped_part : (x : FormatAccess D) (o n : ℕ) (r : Reply) → Answers told_mapping r (IsMapped view x o n) → IsMappingOf (disk view x) o n r
   mapped_part x o n r h = done_or_refused told_mapping r (IsMapped view x o n) _ _
-      (λ m y. (y.right.within, λ k lt. mapped_value m.0 k (target view x (o + k)) (value_at (disk view x) (o + k)) (sym (value_in_list x (o + k)) ∙ target_shows view x (o + k)) (y.right.leads k lt)))
+      (λ m y. record {
+        within = y.right.within;
+        names = λ k lt. mapped_value m.0 k (target view x (o + k)) (value_at (disk view x) (o + k)) (sym (value_in_list x (o + k)) ∙ target_shows view x (o + k)) (y.right.leads k lt);
+        empty = y.right.empty;
+        past = λ ge. y.right.eof.1 ((lawful (driver x)).bounded o (omega (arith, ge, disk_length view x)));
+      })
       (λ e y unreadable. sym (value_in_list x o) ∙ y.refused_place unreadable) h
 
   -- one step, on lists

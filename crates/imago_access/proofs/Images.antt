@@ -1,5 +1,5 @@
 use Rattle.std.proofs.Common.{◌≡◌, ℕ, ◌+◌, ◌<◌, ◌≤◌, ◌⊎◌, ◌&&◌, inl, inr, ⊎_elim, Bool, true, false, Option, Some, None, List, length, refl, sym, ap, ◌∙◌, subst, arith, Box, Global, Result, Ok, Err}
-use Rattle.std.specs.Prelude.{IsTrue, IfErr, IfOk, OnOk, OnErr, IsErrOf}
+use Rattle.std.specs.Prelude.{IsTrue, IfErr, IfOk, IsOk, OnOk, OnErr, IsErrOf}
 use Rattle.std.specs.Option.{option_copied}
 use Rattle.imago_storage.specs.Faults.{CountsFaults}
 use Rattle.imago_drivers.specs.Frame.{IsFramed, IsKind, IsUnchanged, ReachesNoMore}
@@ -15,7 +15,7 @@ use Rattle.imago_drivers.specs.LayerBelow.{LayerBelow, lent}
 use Rattle.imago_drivers.specs.View.{View}
 use Rattle.imago_drivers.specs.Reasons.{Reasons, allowed}
 use Rattle.imago_drivers.specs.Changes.{IsChanged, into, partly, overwritten}
-use Rattle.imago_access.specs.declared.access.FormatAccess.{FormatAccess, FormatAccess', out-FormatAccess, out-roll-FormatAccess, rolls-FormatAccess', FormatAccess-F, back-FormatAccess-backing}
+use Rattle.imago_access.specs.declared.access.FormatAccess.{FormatAccess, FormatAccess', out-FormatAccess, out-roll-FormatAccess, rolls-FormatAccess', is-FormatAccess', FormatAccess-F, back-FormatAccess-backing}
 use Rattle.imago_access.specs.Chain.{driver, backing, unboxed, disk_value, as_layer_below, lent_image}
 use Rattle.imago_access.specs.Lending.{with_driver}
 use Rattle.imago_access.specs.Calls.{Overflows, FailsTest, IsLoose, settles, ShowsFaults, IsRangeCall, IsWrite, devices_reliable, IsMappedWrite, IsEnsured, IsPreparing}
@@ -49,6 +49,10 @@ module _ {D : Type 0} (x : FormatAccess D) (d : D) where
 
   pub backing_with : backing (with_driver x d) ≡ backing x
   backing_with = ap (λ (r : FormatAccess-F D (FormatAccess D)). unboxed r.backing) (out-roll-FormatAccess D record { inner = d; backing = (out-FormatAccess D x).backing })
+
+-- an image with its own driver is itself
+pub with_own_driver : {D : Type 0} (x : FormatAccess D) (d : D) → d ≡ driver x → with_driver x d ≡ x
+with_own_driver {D} x d h = ap (with_driver x) h ∙ rolls-FormatAccess' record { inner = driver x; backing = (out-FormatAccess D x).backing } ∙ sym (is-FormatAccess' x)
 
 module _ {D St : Type 0} (view : D → View St) (x : FormatAccess D) (d : D) where
   value_rolled : (b : Option (Box (FormatAccess D) Global)) → disk_value view (FormatAccess' d (back-FormatAccess-backing D b)) ≡ values (lent_image view (unboxed b)).at (view d).place
@@ -111,11 +115,12 @@ settles_for op old new c d o n s = record {
 shows_faults : {T : Type 0} (r : Bool) (a b : ℕ) (result : Result T Error) → CountsFaults r a b result → ShowsFaults ⊥ r a b result
 shows_faults r a b result h = record { later = h.later; reliable = h.reliable; device = λ e. inl (h.device e) }
 
-module _ {D St T : Type 0} (view : D → View St) (x : FormatAccess D) (op : Operation) (o n : ℕ) (of : Operation → Type 0) (reasons : Reasons) (hidden : Type 0) (part : T → ℕ) (effect : T → Type 0) (remains : Type 0) where
+module _ {D St T : Type 0} (view : D → View St) (x : FormatAccess D) (op : Operation) (o n : ℕ) (nothing : Type 0) (of : Operation → Type 0) (reasons : Reasons) (hidden : Type 0) (part : T → ℕ) (effect : T → Type 0) (remains : Type 0) where
   -- a call that a test refuses
-  pub failed_call : (e : Error) → FailsTest (view (driver x)) op o n e → remains → (view (driver x)).pending ≡ None → IsRangeCall view op o n of reasons hidden part effect remains x x (Err e)
+  pub failed_call : (e : Error) → FailsTest (view (driver x)) op o n e → remains → (view (driver x)).pending ≡ None → IsRangeCall view op o n nothing of reasons hidden part effect remains x x (Err e)
   failed_call e f r p = record {
     tested = λ z g. (ap (λ y. Err y) (same_test (view (driver x)) op o n e z f g), refl);
+    idle = λ i passed. absurd (passed e f);
     done = λ k. tt;
     torn = λ k. r;
     reaches = λ l. reaches_same (view (driver x));
@@ -129,17 +134,18 @@ module _ {D St T : Type 0} (view : D → View St) (x : FormatAccess D) (op : Ope
   }
 
   -- a call that passed its tests
-  pub passed_call : (d : D) (result : Result T Error) → (view (driver x)).abilities.is_writable ≡ true → o + n ≤ (view (driver x)).size → (Overflows op o n → ⊥)
+  pub passed_call : (d : D) (result : Result T Error) → (view (driver x)).abilities.is_writable ≡ true → o + n ≤ (view (driver x)).size → (Overflows op o n → ⊥) → (nothing → IsOk result × (d ≡ driver x))
       → (IsTrue (view (driver x)).abilities.keeps_data → IfOk result effect) → (IsTrue (view (driver x)).abilities.keeps_data → OnErr result remains)
       → ((IsLoose op → ⊥) → ReachesNoMore (view (driver x)) (view d))
       → IfOk result (λ r. IsSettled of (view (driver x)).limits.cause (view d).limits.cause (view (driver x)).limits.copies (view d).limits.copies o (part r))
       → IsFramed (view (driver x)) (view d) → (view d).pending ≡ None
       → ShowsFaults hidden (devices_reliable view x) (view (driver x)).fault_count (view d).fault_count result
-      → IfErr result (allowed reasons) → IsRangeCall view op o n of reasons hidden part effect remains x (with_driver x d) result
-  passed_call d result w fits small done torn reaches settled framed spent faults refusals =
+      → IfErr result (allowed reasons) → IsRangeCall view op o n nothing of reasons hidden part effect remains x (with_driver x d) result
+  passed_call d result w fits small idle done torn reaches settled framed spent faults refusals =
       let e : driver (with_driver x d) ≡ d = driver_with x d in
       record {
         tested = λ z g. absurd (not_failed (view (driver x)) op o n w fits small z g);
+        idle = λ i passed. ((idle i).0, with_own_driver x d (idle i).1);
         done = done;
         torn = torn;
         reaches = λ l. subst (λ (y : D). ReachesNoMore (view (driver x)) (view y)) (sym e) (reaches l);
@@ -153,10 +159,11 @@ module _ {D St T : Type 0} (view : D → View St) (x : FormatAccess D) (op : Ope
       }
 
 pub image_write : {D St : Type 0} (view : D → View St) (x : FormatAccess D) (d : D) (o : ℕ) (bytes : List ℕ) (result : Result Unit Error) (l : LayerBelow) → l ≡ lent_image view (backing x)
-    → (view (driver x)).abilities.is_writable ≡ true → o + length bytes ≤ (view (driver x)).size → HasWrittenAll l (CommitMayTakeMemory view (driver x)) (view (driver x)) (view d) o bytes result → IsWrite view x (with_driver x d) o bytes result
-image_write view x d o bytes result l e w fits h =
+    → (view (driver x)).abilities.is_writable ≡ true → o + length bytes ≤ (view (driver x)).size → (length bytes ≡ 0 → IsOk result × (d ≡ driver x))
+    → HasWrittenAll l (CommitMayTakeMemory view (driver x)) (view (driver x)) (view d) o bytes result → IsWrite view x (with_driver x d) o bytes result
+image_write view x d o bytes result l e w fits idle h =
     let k = subst (λ (m : LayerBelow). HasWrittenAll m (CommitMayTakeMemory view (driver x)) (view (driver x)) (view d) o bytes result) e h in
-    passed_call view x Operation.Write o (length bytes) _ _ _ _ _ _ d result w fits (λ z. z)
+    passed_call view x Operation.Write o (length bytes) _ _ _ _ _ _ _ d result w fits (λ z. z) idle
     (λ keeps. on_ok result _ (ok_then result (λ c. changed_image view x d (λ a b. IsChanged o (length bytes) (into bytes) a b) c) (k.done keeps)))
     (λ keeps. err_more result _ _ (λ c. changed_image view x d (λ a b. IsChanged o (length bytes) (partly (into bytes)) a b) c) (k.torn keeps))
     (λ z. k.reaches)
@@ -176,7 +183,7 @@ image_mapped view x d o n w bytes commit result l e writable fits told h =
     let k = subst (λ (m : LayerBelow). HasMapped m (CommitMayTakeMemory view (driver x)) (view (driver x)) (view d) o n w bytes commit result) e h in
     record {
       told = subst (λ (f : ℕ → Value). IfOk result (WasPrepared view f (driver x) o n w)) (sym (value_out view x)) (subst (λ (m : LayerBelow). IfOk result (WasPrepared view (values m.at (view (driver x)).place) (driver x) o n w)) e told);
-      call = passed_call view x Operation.Write o n _ _ _ _ _ _ d result writable fits (λ z. z)
+      call = passed_call view x Operation.Write o n _ _ _ _ _ _ _ d result writable fits (λ z. z) (λ i. absurd i)
           (λ keeps. ok_more result _ _ (λ m c. changed_image view x d (λ a b. IsChanged o (shown_length commit m) (shown_change w bytes m) a b) c) (k.done keeps))
           (λ keeps. err_more result _ _ (λ c. changed_image view x d (λ a b. IsChanged o n (partly (filled w bytes)) a b) c) (k.torn keeps))
           (λ z. k.reaches) k.settled k.framed k.spent (shows_faults _ _ _ result k.faults) k.refusals;
@@ -186,7 +193,7 @@ pub failed_mapped : {D St : Type 0} (view : D → View St) (x : FormatAccess D) 
     → IsMappedWrite view x x o n w bytes commit (Err e)
 failed_mapped view x o n w bytes commit e f p = record {
   told = tt;
-  call = failed_call view x Operation.Write o n _ _ _ _ _ _ e f (record { inside = λ k h. inl refl; before = λ q h. refl; behind = λ q h. refl }) p;
+  call = failed_call view x Operation.Write o n _ _ _ _ _ _ _ e f (record { inside = λ k h. inl refl; before = λ q h. refl; behind = λ q h. refl }) p;
 }
 
 -- a data mapping by the driver, over what it is lent
@@ -200,7 +207,7 @@ pub image_ensured : {D St : Type 0} (view : D → View St) (x : FormatAccess D) 
     → CountsFaults ((view (driver x)).abilities.is_reliable && l.is_reliable) (view (driver x)).fault_count (view d).fault_count result
     → IfErr result (allowed (lending_reasons (view (driver x)) l Operation.Write o n)) → IsEnsured view x (with_driver x d) o n w result
 image_ensured view x d o n w result l h writable fits done torn reaches settled framed spent faults refusals =
-    passed_call view x Operation.Write o n _ _ _ _ _ _ d result writable fits (λ z. z)
+    passed_call view x Operation.Write o n _ _ _ _ _ _ _ d result writable fits (λ z. z) (λ i. absurd i)
     (λ k. ok_more result _ _ (λ r c. changed_image view x d (λ a b. IsChanged o r.2 (overwritten w) a b) c) (subst (λ (m : LayerBelow). IfOk result (λ r. IsChanged o r.2 (overwritten w) (values m.at (view (driver x)).place) (values m.at (view d).place))) h (done k)))
     (λ k. err_more result _ _ (λ c. changed_image view x d (λ a b. IsChanged o n (overwritten w) a b) c) (subst (λ (m : LayerBelow). OnErr result (IsChanged o n (overwritten w) (values m.at (view (driver x)).place) (values m.at (view d).place))) h (torn k)))
     (λ z. reaches)

@@ -1,4 +1,5 @@
 use Rattle.std.proofs.Common.{◌≡◌, ℕ, ◌+◌, ◌-◌, ◌<◌, ◌≤◌, ◌⊎◌, ⊎_elim, inl, inr, List, [], ◌∷◌, None, true, refl, sym, subst, arith, Result, Ok, Err}
+use Rattle.std.specs.Prelude.{IsOk}
 use Rattle.imago_storage.specs.declared.error.Error.{Error}
 use Rattle.imago_drivers.specs.View.{View}
 use Rattle.imago_drivers.specs.Discards.{Discard, Discards}
@@ -55,12 +56,12 @@ module _ {D : Type 0} (discard : Discard D) (o n : ℕ) (old : D) where
 module _ {D St : Type 0} (view : D → View St) (discards : Discards D) (call : DiscardCall) (x new : FormatAccess D) (o n : ℕ) where
   -- a discard that passed its tests
   pub discard_call : (result : Result (Unit {0}) Error) → (view (driver x)).abilities.is_writable ≡ true → o + n ≤ (view (driver x)).size
-      → (Overflows (discard_of call) o n → ⊥) → IsLoose (discard_of call) → HasLoosened view call o n x new result → InParts (discard_by discards call) o n (driver x) (driver new) result → IsImageDiscard view discards call x new o n result
-  discard_call result w fits small loose h made = record { range = range_call view call x new o n result w fits small loose h; performed = λ passed. made }
+      → (Overflows (discard_of call) o n → ⊥) → IsLoose (discard_of call) → (n ≡ 0 → IsOk result × (new ≡ x)) → HasLoosened view call o n x new result → InParts (discard_by discards call) o n (driver x) (driver new) result → IsImageDiscard view discards call x new o n result
+  discard_call result w fits small loose idle h made = record { range = range_call view call x new o n result w fits small loose idle h; performed = λ passed. made }
 
 -- one that failed them
 pub failed_discard : {D St : Type 0} (view : D → View St) (discards : Discards D) (call : DiscardCall) (x : FormatAccess D) (o n : ℕ) (e : Error) → FailsTest (view (driver x)) (discard_of call) o n e → (view (driver x)).pending ≡ None → IsImageDiscard view discards call x x o n (Err e)
 failed_discard view discards call x o n e f spent = record {
-  range = failed_call view x (discard_of call) o n _ _ _ _ _ _ e f (not_loosened view call x o n) spent;
+  range = failed_call view x (discard_of call) o n _ _ _ _ _ _ _ e f (not_loosened view call x o n) spent;
   performed = λ passed. absurd (passed e f);
 }

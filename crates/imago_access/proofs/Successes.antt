@@ -117,9 +117,9 @@ module _ {D St : Type 0} (view : D → View St) where
       h)
 
   -- a call on a range that the driver may not offer
-  offered_succeeds : {T takes_none : Type 0} {of : Operation → Type 0} {hidden : Type 0} {part : T → ℕ} {effect : T → Type 0} {remains : Type 0} (old new : FormatAccess D) (op : Operation) (o n : ℕ) (r : Reasons) (result : Result T Error)
+  offered_succeeds : {T takes_none nothing : Type 0} {of : Operation → Type 0} {hidden : Type 0} {part : T → ℕ} {effect : T → Type 0} {remains : Type 0} (old new : FormatAccess D) (op : Operation) (o n : ℕ) (r : Reasons) (result : Result T Error)
       → IsReadyToZero view old op o n r.cause → (hidden → ⊥) → (r.read_only → ⊥) → (r.beyond_disk → EndsIn (view (driver old)).place o n) → (r.range_overflow → ⊥) → (r.foreign_mapping → ⊥) → (r.memory → takes_none → ⊥)
-      → IsRangeCall view op o n of r hidden part effect remains old new result → SucceedsIfOffered ((view (driver old)).abilities.offers op) takes_none result
+      → IsRangeCall view op o n nothing of r hidden part effect remains old new result → SucceedsIfOffered ((view (driver old)).abilities.offers op) takes_none result
   offered_succeeds old new op o n r (Ok t) g shown ro bd ov fo m h = succeeds_if_offered _ (Ok t) tt
   offered_succeeds {T} {hidden = hidden} old new op o n r (Err e) g shown ro bd ov fo m h = succeeds_if_offered _ (Err e) (⊎_elim
       (λ k. absurd (not_failed (view (driver old)) op o n g.sound.writable g.inside g.fits e k))

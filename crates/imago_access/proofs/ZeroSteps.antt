@@ -1,6 +1,6 @@
 use Rattle.std.proofs.Common.{◌≡◌, ℕ, ◌+◌, ◌-◌, ◌<◌, ◌≤◌, ◌⊎◌, ⊎_elim, inl, inr, Bool, true, None, sym, ap, ◌∙◌, subst, arith, Result, Ok, Err}
 use Rattle.std.proofs.lemmas.Bool.{cases_lt}
-use Rattle.std.specs.Prelude.{List, length, slice_index, EachIndex, IfOk, IfErr, OnErr}
+use Rattle.std.specs.Prelude.{List, length, slice_index, EachIndex, IfOk, IfErr, OnErr, IsOk}
 use Rattle.imago_storage.specs.declared.error.Error.{Error}
 use Rattle.imago_storage.specs.Faults.{CountsFaults, RoseOrSaturated}
 use Rattle.imago_drivers.specs.Operation.{Operation}
@@ -194,9 +194,10 @@ piece_written {D} view x d o bytes result commit_memory l same z h =
 
 -- a zero write that passed its tests
 pub zero_call : {D St : Type 0} (view : D → View St) (op : Operation) (x new : FormatAccess D) (o n : ℕ) (result : Result (Unit {0}) Error) → (view (driver x)).abilities.is_writable ≡ true → o + n ≤ (view (driver x)).size → (Overflows op o n → ⊥)
-    → HasZeroed view o n (λ (u : Unit {0}). n) (zero_reasons view x op o n) x new result → IsZeroWrite view op x new o n result
-zero_call view op x new o n result w fits small h = record {
+    → (n ≡ 0 → IsOk result × (new ≡ x)) → HasZeroed view o n (λ (u : Unit {0}). n) (zero_reasons view x op o n) x new result → IsZeroWrite view op x new o n result
+zero_call view op x new o n result w fits small idle h = record {
   tested = λ z g. absurd (not_failed (view (driver x)) op o n w fits small z g);
+  idle = λ i passed. idle i;
   done = λ k. done result (h.done k) (h.alone k);
   torn = λ k. torn result (h.left.torn k);
   reaches = λ l. h.left.reaches;

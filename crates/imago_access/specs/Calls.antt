@@ -1,4 +1,4 @@
-use Rattle.std.specs.Prelude.{◌≡◌, ℕ, ◌+◌, ◌^◌, ◌<◌, ◌≤◌, ◌⊎◌, ◌&&◌, Bool, true, false, None, List, length, IsTrue, Result, IfOk, IfErr, OnOk, OnErr, IsErrOf}
+use Rattle.std.specs.Prelude.{◌≡◌, ℕ, ◌+◌, ◌^◌, ◌<◌, ◌≤◌, ◌⊎◌, ◌&&◌, Bool, true, false, None, List, length, IsTrue, Result, IsOk, IfOk, IfErr, OnOk, OnErr, IsErrOf}
 use Rattle.imago_storage.specs.declared.error.Error.{Error}
 use Rattle.imago_storage.specs.Faults.{CountsFaults, RoseOrSaturated}
 use Rattle.imago_drivers.specs.declared.mapping.PreparedDataMapping.{PreparedDataMapping}
@@ -82,12 +82,14 @@ settles op of = IsOnRange of × (IsLoose op → ⊥)
 abbrev pub write_refusals : {D St : Type 0} → (D → View St) → FormatAccess D → ℕ → ℕ → Reasons
 write_refusals view x o n = write_reasons (view (driver x)) (lent_image view (backing x)) (CommitMayTakeMemory view (driver x)) o n
 
--- A changing call on a range of an image: `reasons` is why it may be refused after its tests, `hidden` when a device may fail that
--- no count of faults shows. A success has the effect, for the part that its answer tells, and leaves no new cause for the operations
--- `of`; a refusal past the tests leaves what remains.
-pub record IsRangeCall {D St T : Type 0} (view : D → View St) (op : Operation) (o n : ℕ) (of : Operation → Type 0) (reasons : Reasons) (hidden : Type 0) (part : T → ℕ) (effect : T → Type 0) (remains : Type 0) (old new : FormatAccess D) (result : Result T Error) : Type 0 where
+-- A changing call on a range of an image: `nothing` is when there is nothing to do, `reasons` why it may be refused after its tests,
+-- `hidden` when a device may fail that no count of faults shows. A success has the effect, for the part that its answer tells, and leaves no new
+-- cause for the operations `of`; a refusal past the tests leaves what remains.
+pub record IsRangeCall {D St T : Type 0} (view : D → View St) (op : Operation) (o n : ℕ) (nothing : Type 0) (of : Operation → Type 0) (reasons : Reasons) (hidden : Type 0) (part : T → ℕ) (effect : T → Type 0) (remains : Type 0) (old new : FormatAccess D) (result : Result T Error) : Type 0 where
   -- the first test that fails is answered, and nothing is changed
   pub tested : (e : Error) → FailsTest (view (driver old)) op o n e → IsErrOf result e × (new ≡ old)
+  -- where there is nothing to do the call succeeds once its tests passed, and nothing is changed
+  pub idle : nothing → ((e : Error) → FailsTest (view (driver old)) op o n e → ⊥) → IsOk result × (new ≡ old)
   pub done : IsTrue (view (driver old)).abilities.keeps_data → IfOk result effect
   pub torn : IsTrue (view (driver old)).abilities.keeps_data → OnErr result remains
   -- no place leads below that didn't before, and a cause for a piece of the part that is done was one for the whole
@@ -103,7 +105,7 @@ pub record IsRangeCall {D St T : Type 0} (view : D → View St) (op : Operation)
 
 -- a write: the bytes stand in their range, or, where it is refused, each of them may
 abbrev pub IsWrite : {D St : Type 0} → (D → View St) → FormatAccess D → FormatAccess D → ℕ → List ℕ → Result Unit Error → Type 0
-IsWrite view old new o bytes result = IsRangeCall view Write o (length bytes) (settles Write) (write_refusals view old o (length bytes)) ⊥ (λ u. length bytes)
+IsWrite view old new o bytes result = IsRangeCall view Write o (length bytes) (length bytes ≡ 0) (settles Write) (write_refusals view old o (length bytes)) ⊥ (λ u. length bytes)
     (λ u. IsChanged o (length bytes) (into bytes) (disk_value view old) (disk_value view new))
     (IsChanged o (length bytes) (partly (into bytes)) (disk_value view old) (disk_value view new))
     old new result
@@ -116,14 +118,14 @@ mapped_refusals view x o n bytes commit = mapping_reasons (view (driver x)) (len
 -- cancelled. It answers how long the mapping was, and whether it had no state.
 pub record IsMappedWrite {D St : Type 0} (view : D → View St) (old new : FormatAccess D) (o n : ℕ) (overwrite : Bool) (bytes : List ℕ) (commit : Bool) (result : Result (ℕ × Bool) Error) : Type 0 where
   pub told : IfOk result (WasPrepared view (disk_value view old) (driver old) o n overwrite)
-  pub call : IsRangeCall view Write o n (settles_by commit) (mapped_refusals view old o n bytes commit) ⊥ (λ m. m.0)
+  pub call : IsRangeCall view Write o n ⊥ (settles_by commit) (mapped_refusals view old o n bytes commit) ⊥ (λ m. m.0)
       (λ m. IsChanged o (shown_length commit m) (shown_change overwrite bytes m) (disk_value view old) (disk_value view new))
       (IsChanged o n (partly (filled overwrite bytes)) (disk_value view old) (disk_value view new))
       old new result
 
 -- a data mapping: the disk stays, but for overwriting the part that is answered, or, refused, the range may show anything
 abbrev pub IsEnsured : {D St : Type 0} → (D → View St) → FormatAccess D → FormatAccess D → ℕ → ℕ → Bool → Result (ℕ × ℕ × ℕ) Error → Type 0
-IsEnsured view old new o n overwrite result = IsRangeCall view Write o n (settles Write) (range_refusals view old Write o n) ⊥ (λ r. r.2)
+IsEnsured view old new o n overwrite result = IsRangeCall view Write o n ⊥ (settles Write) (range_refusals view old Write o n) ⊥ (λ r. r.2)
     (λ r. IsChanged o r.2 (overwritten overwrite) (disk_value view old) (disk_value view new))
     (IsChanged o n (overwritten overwrite) (disk_value view old) (disk_value view new))
     old new result

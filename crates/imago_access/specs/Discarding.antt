@@ -55,7 +55,7 @@ pub record HasLoosenedPart {D St : Type 0} (view : D → View St) (call : Discar
 
 -- A discard of an image, whose success and refusal leave the same.
 pub record IsImageDiscard {D St : Type 0} (view : D → View St) (discards : Discards D) (call : DiscardCall) (old new : FormatAccess D) (o n : ℕ) (result : Result (Unit {0}) Error) : Type 0 where
-  pub range : IsRangeCall view (discard_of call) o n (settles (discard_of call)) (discard_reasons (view (driver old)) (discard_of call) o n) ⊥ (λ u. 0)
+  pub range : IsRangeCall view (discard_of call) o n (n ≡ 0) (settles (discard_of call)) (discard_reasons (view (driver old)) (discard_of call) o n) ⊥ (λ u. 0)
       (λ u. IsLoosened view call o n old new)
       (IsLoosened view call o n old new)
       old new result

@@ -8,6 +8,7 @@ use Rattle.imago_access.specs.declared.run.Call.{Call}
 use Rattle.imago_access.specs.declared.run.Call.TheVariants as C
 use Rattle.imago_access.specs.declared.run.Reply.{Reply}
 use Rattle.imago_access.specs.declared.run.Reply.TheVariants as R
+use Rattle.imago_access.specs.Resolved.{IsEndOfImage}
 use Rattle.imago_access.specs.Writing.{shown_length}
 use Rattle.imago_access.specs.Runs.{Answers, told_done, told_mapping, told_data, told_prepared}
 use Rattle.imago_access.specs.Disk.{value_at, IsSpliced, IsTorn, IsExtended, IsPartOf, IsEndRefusal, IsZeroed, IsPartlyZeroed, IsUnspecifiedIn, IsGivenBack, IsTestRefusal, IsOverwritten, IsFilledIn, IsPartlyFilled}
@@ -27,10 +28,17 @@ IsMappedTo (M.Raw layer storage offset writable) v = (b : ℕ) × (v ≡ Byte b)
 IsMappedTo (M.Special layer offset) v = (b : ℕ) × (v ≡ Byte b)
 IsMappedTo M.Eof v = ⊥
 
+-- A mapping of at most n values of the list from o on, and how many they are: each is what it names.
+pub record IsMappedPart (xs : List Value) (o n : ℕ) (m : Mapping × ℕ) : Type 0 where
+  pub within : m.1 ≤ n
+  pub names : (k : ℕ) → k < m.1 → IsMappedTo m.0 (value_at xs (o + k))
+  -- it is empty at an end or where nothing was asked for, alone; past the list it is the end
+  pub empty : m.1 ≡ 0 → IsEndOfImage m.0 ⊎ (n ≡ 0)
+  pub past : length xs ≤ o → IsEndOfImage m.0
+
 -- the reply to a request for a mapping: values of the list are what it names, or the first one can't be read
 abbrev pub IsMappingOf : List Value → ℕ → ℕ → Reply → Type 0
-IsMappingOf xs o n r = DoneOrRefused told_mapping r
-    (λ m. (m.1 ≤ n) × ((k : ℕ) → k < m.1 → IsMappedTo m.0 (value_at xs (o + k))))
+IsMappingOf xs o n r = DoneOrRefused told_mapping r (IsMappedPart xs o n)
     (λ e. (e ≡ Error.InvalidData) ⊎ (e ≡ Error.NoAccess) → value_at xs o ≡ Unreadable e)
 
 -- the reply to a call that leaves the list, done or refused

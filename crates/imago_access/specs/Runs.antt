@@ -1,4 +1,4 @@
-use Rattle.std.specs.Prelude.{◌≡◌, ℕ, ◌<◌, ◌⊎◌, Bool, List, [], ◌∷◌, length, Result, Ok, Err, IfOk, IfErr}
+use Rattle.std.specs.Prelude.{◌≡◌, ℕ, ◌<◌, ◌⊎◌, Bool, List, [], ◌∷◌, length, Result, Ok, Err, IsOk, IfOk, IfErr}
 use Rattle.std.specs.declared.vec.Vec.{Vec}
 use Rattle.std.specs.declared.alloc.Global.{Global}
 use Rattle.imago_storage.specs.declared.error.Error.{Error}
@@ -55,6 +55,7 @@ IsReadRefusal view x o n e = ((e ≡ Error.Memory) × (0 < n)) ⊎ allowed (read
 
 -- A read of n bytes into a buffer of its own: what the disk shows there.
 pub record IsBufferRead {D St : Type 0} (view : D → View St) (x : FormatAccess D) (o n : ℕ) (result : Result (Vec ℕ Global) Error) : Type 0 where
+  pub empty : n ≡ 0 → IsOk result
   pub bytes : IfOk result (λ v. (length v.items ≡ n) × HasValues (disk_value view x) o v.items)
   pub refusals : IfErr result (IsReadRefusal view x o n)
 

@@ -95,7 +95,7 @@ pub record IsZeroedByDriver {D St : Type 0} (view : D → View St) (o n : ℕ) (
 
 -- A zero write: zeroes stand in the range, and stay there whatever is below, or, where it is refused, each of its bytes may be zero.
 abbrev pub IsZeroWrite : {D St : Type 0} → (D → View St) → Operation → FormatAccess D → FormatAccess D → ℕ → ℕ → Result (Unit {0}) Error → Type 0
-IsZeroWrite view op old new o n result = IsRangeCall view op o n (settles op) (zero_reasons view old op o n) (is_reliable view old ≡ false) (λ u. n)
+IsZeroWrite view op old new o n result = IsRangeCall view op o n (n ≡ 0) (settles op) (zero_reasons view old op o n) (is_reliable view old ≡ false) (λ u. n)
     (λ u. IsChanged o n zeroes (disk_value view old) (disk_value view new) × StandsAlone (view (driver new)).place o n)
     (IsChanged o n (partly zeroes) (disk_value view old) (disk_value view new))
     old new result

@@ -1,5 +1,5 @@
 //! Discarding ranges of an image.
-ghost use Rattle.std.specs.Prelude.{◌≡◌, ℕ, ◌+◌, ◌≤◌, ◌<◌, ◌^◌, List, None, true};
+ghost use Rattle.std.specs.Prelude.{◌≡◌, ℕ, ◌+◌, ◌≤◌, ◌<◌, ◌^◌, List, None, true, IsOk};
 ghost use Rattle.imago_access.specs.Chain.{driver};
 ghost use Rattle.imago_access.specs.DiscardParts.{discard_by, IsDiscardedInParts};
 ghost use Rattle.imago_access.specs.Discarding.{HasLoosened, HasLoosenedPart, IsImageDiscard};
@@ -52,6 +52,7 @@ impl<D: FormatDriverInstance> FormatAccess<D> {
         requires spent { (D.view (driver self.old)).pending ≡ None }
         requires inside { offset + count ≤ (D.view (driver self.old)).size }
         requires fits { offset + count < 2 ^ 64 }
+        ensures empty { count ≡ 0 → IsOk result × (self.new ≡ self.old) }
         ensures loosened { HasLoosened D.view call offset count self.old self.new result }
         ensures performed { (parts : List (ℕ × ℕ)) × IsDiscardedInParts (discard_by D.discards call) offset count parts (driver self.old) (driver self.new) result }
     {
@@ -71,7 +72,8 @@ impl<D: FormatDriverInstance> FormatAccess<D> {
     ///
     /// [`Error::ReadOnly`] where the driver isn't writable, then [`Error::RangeOverflow`] where the range's end passes `u64::MAX`,
     /// then [`Error::BeyondDisk`] where it passes the disk's size, also for no bytes; nothing changed.
-    /// [`Error::Unsupported`] where the driver offers no such discards.
+    /// [`Error::Unsupported`] where the driver offers no such discards. An empty range that passes these tests makes no call of the
+    /// driver, and isn't refused.
     ///
     /// No prepared mapping may wait, which [`has_prepared`](FormatDriverInstance::has_prepared) of the driver tells.
     pub fn discard_to_any(&mut self, alloc: Global, offset: u64, count: u64) -> Result<(), Error>

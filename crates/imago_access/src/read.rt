@@ -1,5 +1,5 @@
 //! Reading an image.
-ghost use Rattle.std.specs.Prelude.{◌≡◌, ◌+◌, ◌<◌, ◌≤◌, ℕ, length, take, slice_index, EachIndex, IfOk, IfErr, OnOk};
+ghost use Rattle.std.specs.Prelude.{◌≡◌, ◌+◌, ◌<◌, ◌≤◌, ℕ, length, take, slice_index, EachIndex, IfOk, IfErr, IsOk, OnOk};
 ghost use Rattle.imago_drivers.specs.Place.{HasValues};
 ghost use Rattle.imago_drivers.specs.Reasons.{allowed};
 ghost use Rattle.imago_access.specs.Chain.{disk_value, chain_no_memory, inside_part, as_layer_below, read_reasons};
@@ -78,6 +78,7 @@ impl<D: FormatDriverInstance> FormatAccess<D> {
     /// Fills the buffer with the image's bytes from the offset on, with 0 past its end.
     fn read_range(&self, alloc: Global, buf: &mut [u8], offset: u64) -> Result<(), Error>
         ensures bytes { OnOk result (HasValues (disk_value D.view self.now) offset buf.new) }
+        ensures empty { length buf.old ≡ 0 → IsOk result }
         ensures refusals { IfErr result (allowed (read_reasons D.view self.now offset (length buf.old))) }
     {
         let size = self.inner.size();
@@ -95,9 +96,10 @@ impl<D: FormatDriverInstance> FormatAccess<D> {
     ///
     /// It is refused where a byte that it reads can't be read: [`Error::InvalidData`], [`Error::NoAccess`],
     /// [`Error::WrapAround`] and [`Error::Unsupported`] as the layers' drivers say, [`Error::Device`] only where a
-    /// device of the chain isn't reliable, [`Error::Memory`] only where a driver takes memory.
+    /// device of the chain isn't reliable, [`Error::Memory`] only where a driver takes memory. A read of no bytes is never refused.
     pub fn read(&self, alloc: Global, buf: &mut [u8], offset: u64) -> Result<(), Error>
         ensures bytes { OnOk result (HasValues (disk_value D.view self.now) offset buf.new) }
+        ensures empty { length buf.old ≡ 0 → IsOk result }
         ensures refusals { IfErr result (allowed (read_reasons D.view self.now offset (length buf.old))) }
     {
         self.read_range(alloc, buf, offset)
@@ -106,6 +108,7 @@ impl<D: FormatDriverInstance> FormatAccess<D> {
     /// The same as [`read`](Self::read).
     pub fn readv(&self, alloc: Global, buf: &mut [u8], offset: u64) -> Result<(), Error>
         ensures bytes { OnOk result (HasValues (disk_value D.view self.now) offset buf.new) }
+        ensures empty { length buf.old ≡ 0 → IsOk result }
         ensures refusals { IfErr result (allowed (read_reasons D.view self.now offset (length buf.old))) }
     {
         self.read(alloc, buf, offset)

@@ -1,5 +1,5 @@
 //! Writing to an image.
-ghost use Rattle.std.specs.Prelude.{◌≡◌, ◌+◌, ◌^◌, ◌<◌, ◌≤◌, None, true, is_none, length, IfOk};
+ghost use Rattle.std.specs.Prelude.{◌≡◌, ◌+◌, ◌^◌, ◌<◌, ◌≤◌, None, true, is_none, length, IfOk, IsOk};
 ghost use Rattle.imago_drivers.specs.Operation.{Write};
 ghost use Rattle.imago_drivers.specs.LayerBelow.{lent};
 ghost use Rattle.imago_drivers.specs.Place.{values};
@@ -112,7 +112,8 @@ fn write_all<D: FormatDriverInstance, B: LowerLayer>(
     requires spent { (D.view inner.old).pending ≡ None }
     requires inside { offset + length source.now ≤ (D.view inner.old).size }
     requires fits { offset + length source.now < 2 ^ 64 }
-    ensures { HasWrittenAll (lent B.as_layer_below below.entry) (CommitMayTakeMemory D.view inner.old) (D.view inner.old) (D.view inner.new) offset
+    ensures empty { length source.now ≡ 0 → IsOk result × (inner.new ≡ inner.old) }
+    ensures written { HasWrittenAll (lent B.as_layer_below below.entry) (CommitMayTakeMemory D.view inner.old) (D.view inner.old) (D.view inner.new) offset
         source.now result }
 {
     let mut done: usize = 0;
@@ -169,7 +170,7 @@ impl<D: FormatDriverInstance> FormatAccess<D> {
     ///
     /// [`Error::ReadOnly`] where the driver isn't writable, then [`Error::BeyondDisk`] where the range passes the
     /// disk's size, also for no bytes; nothing changed. Any other refusal leaves each byte of the range old or new, and
-    /// all others as they were.
+    /// all others as they were. A write of no bytes that passes these tests does nothing, and isn't refused.
     ///
     /// No prepared mapping may wait, which [`has_prepared`](FormatDriverInstance::has_prepared) of the driver tells.
     pub fn write(&mut self, alloc: Global, source: &[u8], offset: u64) -> Result<(), Error>

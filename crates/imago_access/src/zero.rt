@@ -255,7 +255,8 @@ impl<D: FormatDriverInstance> FormatAccess<D> {
         requires spent { (D.view (driver self.old)).pending ≡ None }
         requires inside { offset + count ≤ (D.view (driver self.old)).size }
         requires fits { offset + count < 2 ^ 64 }
-        ensures { HasZeroed D.view offset count (λ u. count)
+        ensures empty { count ≡ 0 → IsOk result × (self.new ≡ self.old) }
+        ensures zeroed { HasZeroed D.view offset count (λ u. count)
             (zero_reasons D.view self.old (operation_of call) offset count) self.old self.new
             result }
     {
@@ -292,7 +293,7 @@ impl<D: FormatDriverInstance> FormatAccess<D> {
     /// [`Error::ReadOnly`] where the driver isn't writable, then [`Error::RangeOverflow`] where the range's end passes `u64::MAX`,
     /// then [`Error::BeyondDisk`] where it passes the disk's size, also for no bytes; nothing changed.
     /// [`Error::Unsupported`] where the driver offers no zero writes. Any refusal leaves each byte of the range as it was or zero,
-    /// and all others as they were.
+    /// and all others as they were. An empty range that passes these tests makes no call of the driver, and isn't refused.
     ///
     /// No prepared mapping may wait, which [`has_prepared`](FormatDriverInstance::has_prepared) of the driver tells.
     pub fn write_zeroes(&mut self, alloc: Global, offset: u64, count: u64) -> Result<(), Error>

@@ -1,4 +1,4 @@
-use Rattle.std.specs.Prelude.{◌≡◌, ℕ, ◌+◌, ◌<◌, ◌≤◌, List, sum_by, Option, Some, None, nat_lt, if◌then◌else◌, Bool, true, false}
+use Rattle.std.specs.Prelude.{◌≡◌, ℕ, ◌+◌, ◌*◌, ◌%◌, ◌<◌, ◌≤◌, List, sum_by, Option, Some, None, nat_lt, if◌then◌else◌, Bool, true, false}
 use Rattle.imago_cow.specs.declared.free.FreeBlocks.{FreeBlocks}
 use Rattle.imago_cow.specs.declared.table.GuestBlock.{GuestBlock}
 use Rattle.imago_cow.specs.declared.table.GuestBlock.TheVariants as G
@@ -51,6 +51,13 @@ pub record IsLowestUnused (entries : List GuestBlock) (held : Option ℕ) (count
   pub within : next ≤ count
   pub unused : times_used next entries held ≡ 0
   pub lowest : (j : ℕ) → j < next → times_used j entries held ≡ 1
+
+-- An offset of the disk stands there in the lowest data block that no guest block is in: as far from its beginning as the offset
+-- is from that of its guest block.
+pub record StandsInLowest (entries : List GuestBlock) (count block offset at : ℕ) : Type 0 where
+  pub number : ℕ
+  pub lowest : IsLowestUnused entries None count number
+  pub stands : at ≡ number * block + offset % block
 
 -- the entry of a guest block without data
 abbrev pub without_data : Bool → GuestBlock

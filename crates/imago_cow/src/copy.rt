@@ -31,9 +31,7 @@ fn old_bytes<B: LowerLayer>(
     ensures refusals { IfErr result
         (allowed (old_reasons (lent B.as_layer_below below.entry) absent offset count)) }
 {
-    let Ok(mut bytes) = vec![in alloc; 0u8; count as usize] else {
-        return Err(Error::Memory);
-    };
+    let mut bytes = vec![in alloc; 0u8; count as usize]?;
     let Some(layer) = below else {
         return Ok(bytes);
     };

@@ -5,12 +5,13 @@ ghost use Rattle.std.specs.Option.{ForSome};
 ghost use Rattle.imago_drivers.specs.Place.{Lower, BytesAreWritable, HasStranger, values};
 ghost use Rattle.imago_drivers.specs.LayerBelow.{lent};
 ghost use Rattle.imago_drivers.specs.Reasons.{none, allowed};
+ghost use Rattle.imago_drivers.specs.Parts.{offset_of, state_of};
 ghost use Rattle.imago_drivers.specs.Pending.{IsOwn};
 ghost use Rattle.imago_drivers.specs.Prepared.{IsPrepared};
 ghost use Rattle.imago_drivers.specs.Operation.{Zero, DiscardToZero};
 ghost use Rattle.imago_drivers.specs.Calls.{IsPreparation, IsShrink, IsZeroCall};
 ghost use Rattle.imago_drivers.specs.Commit.{IsCommit, IsCancel};
-ghost use Rattle.imago_cow.specs.Table.{named_count};
+ghost use Rattle.imago_cow.specs.Table.{named_count, StandsInLowest};
 ghost use Rattle.imago_cow.specs.TableView.{entries_of, held_of, count_of};
 ghost use Rattle.imago_cow.specs.TableLaws.{named_once};
 ghost use Rattle.imago_cow.specs.declared.table.GuestBlock.{GuestBlock};
@@ -243,10 +244,8 @@ impl<S: Storage> FormatDriverInstance for Cow<S> {
 
     fn collect_storage_dependencies(&self, alloc: Global) -> Result<Vec<&S>, Error> {
         let mut storages = Vec::new(alloc);
-        match storages.push(&self.storage) {
-            Ok(()) => Ok(storages),
-            Err(_) => Err(Error::Memory),
-        }
+        storages.push(&self.storage)?;
+        Ok(storages)
     }
 
     fn storage_count(&self) -> usize {
@@ -360,6 +359,9 @@ impl<S: Storage> FormatDriverInstance for Cow<S> {
             (⟦<Cow<S> as FormatDriverInstance>⟧.view self.new) result }
         ensures entries { blocks_of self.new ≡ blocks_of self.old }
         ensures added { data_blocks_of self.new ≤ max (data_blocks_of self.old) (named_count (blocks_of self.old) + 1) }
+        ensures lowest { IfOk result
+            (λ m. (state_of m ≡ None → ⊥)
+            → StandsInLowest (blocks_of self.old) (data_blocks_of self.old) (block_of self.old) offset (offset_of m)) }
         ensures in_data { (j : ℕ)
             → slice_get (blocks_of self.old) (offset / block_of self.old) ≡ Some (GuestBlock.Data j)
             → (storage_in self.new ≡ storage_in self.old) × (data_blocks_of self.new ≡ data_blocks_of self.old) ×

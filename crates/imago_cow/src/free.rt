@@ -67,10 +67,8 @@ impl FreeBlocks {
         ensures room { OnOk result (free_count self.new + additional ≤ free_room self.new) }
         ensures memory { IfErr result (λ e. e ≡ Error.Memory) }
     {
-        match self.distances.reserve(additional) {
-            Ok(()) => Ok(()),
-            Err(_) => Err(Error::Memory),
-        }
+        self.distances.reserve(additional)?;
+        Ok(())
     }
 }
 

@@ -12,7 +12,7 @@ ghost use Rattle.imago_drivers.specs.Frame.{IsUnchanged};
 ghost use Rattle.imago_drivers.specs.Causes.{IsSettled, IsOnRange};
 ghost use Rattle.imago_drivers.specs.Parts.{storage_of, offset_of, length_of, state_of};
 ghost use Rattle.imago_cow.specs.declared.table.GuestBlock.{GuestBlock};
-ghost use Rattle.imago_cow.specs.Table.{named_count};
+ghost use Rattle.imago_cow.specs.Table.{IsLowestUnused, named_count};
 ghost use Rattle.imago_cow.specs.TableView.{entries_of, held_of, count_of};
 ghost use Rattle.imago_cow.specs.Guest.{IsExact, cow_place};
 ghost use Rattle.imago_cow.specs.Copies.{over_reasons};
@@ -50,6 +50,7 @@ pub(crate) fn prepare_part<S: Storage, B: LowerLayer>(
     ensures added { count_of table.new ≤ max (count_of table.old) (named_count (entries_of table.old) + 1) }
     ensures addressed { count_of table.new * part.block < 2 ^ 64 }
     ensures held { IfOk result (λ w. held_of table.new ≡ Some w.number) }
+    ensures lowest { IfOk result (λ w. IsLowestUnused (entries_of table.old) None (count_of table.old) w.number) }
     ensures released { OnErr result (held_of table.new ≡ None) }
     ensures apart { IfOk result (λ w. WaitsApart part.block part.size (entries_of table.new) (count_of table.new) w) }
     ensures same { IfOk result (λ w. (w.start ≡ part.offset) × (w.length ≡ part.run) × (w.state ≡ «state»)) }

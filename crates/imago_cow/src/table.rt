@@ -49,9 +49,7 @@ impl Table {
         ensures count { IfOk result (λ t. count_of t ≡ 0) }
         ensures memory { IfErr result (λ e. e ≡ Error.Memory) }
     {
-        let Ok(entries) = vec![in alloc; GuestBlock::Absent; guest_blocks] else {
-            return Err(Error::Memory);
-        };
+        let entries = vec![in alloc; GuestBlock::Absent; guest_blocks]?;
         Ok(Table {
             entries,
             free: FreeBlocks::new(alloc),
@@ -220,10 +218,8 @@ impl Table {
         ensures succeeds { length (entries_of self.old) + additional ≤ room_of self.old → IsOk result }
         ensures memory { IfErr result (λ e. e ≡ Error.Memory) }
     {
-        match self.entries.reserve(additional) {
-            Ok(()) => Ok(()),
-            Err(_) => Err(Error::Memory),
-        }
+        self.entries.reserve(additional)?;
+        Ok(())
     }
 
     /// Adds so many explicit zeroes, or absent guest blocks. [`Error::Memory`] is no room for their entries; it leaves all
@@ -240,10 +236,8 @@ impl Table {
         let Some(guest_blocks) = self.entries.len().checked_add(additional) else {
             return Err(Error::Memory);
         };
-        match self.entries.resize(guest_blocks, empty_block(zero)) {
-            Ok(()) => Ok(()),
-            Err(_) => Err(Error::Memory),
-        }
+        self.entries.resize(guest_blocks, empty_block(zero))?;
+        Ok(())
     }
 
     /// Adds a guest block in the held data block, into room that [`Table::reserve`] made. It takes no memory.

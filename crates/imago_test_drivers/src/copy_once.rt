@@ -95,9 +95,7 @@ fn read_below<B: LowerLayer>(alloc: Global, below: Option<&B>, size: u64) -> Res
         (record (below_reasons (lent B.as_layer_below below.entry) 0 size)
         { memory = Unit {0} })) }
 {
-    let Ok(mut bytes) = vec![in alloc; 0u8; size as usize] else {
-        return Err(Error::Memory);
-    };
+    let mut bytes = vec![in alloc; 0u8; size as usize]?;
     let Some(layer) = below else {
         return Ok(bytes);
     };
@@ -158,10 +156,8 @@ impl<S: Storage> FormatDriverInstance for CopyOnce<S> {
 
     fn collect_storage_dependencies(&self, alloc: Global) -> Result<Vec<&S>, Error> {
         let mut storages = Vec::new(alloc);
-        match storages.push(&self.storage) {
-            Ok(()) => Ok(storages),
-            Err(_) => Err(Error::Memory),
-        }
+        storages.push(&self.storage)?;
+        Ok(storages)
     }
 
     fn storage_count(&self) -> usize {

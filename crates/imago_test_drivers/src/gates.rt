@@ -28,10 +28,7 @@ impl Asked {
     {
         let filename = match opts.get_filename() {
             None => None,
-            Some(name) => match String::from_str(alloc, name) {
-                Ok(copy) => Some(copy),
-                Err(_) => return Err(Error::Memory),
-            },
+            Some(name) => Some(String::from_str(alloc, name)?),
         };
         Ok(Asked {
             filename,
@@ -76,9 +73,7 @@ impl<S: Storage, G: ImplicitOpenGate<S>> ImplicitOpenGate<S> for RecordingGate<G
 
     fn open_storage(&mut self, alloc: Global, opts: StorageOpenOptions) -> Result<S, Error> {
         let asked = Asked::of(alloc, &opts)?;
-        if self.asked.push(asked).is_err() {
-            return Err(Error::Memory);
-        }
+        self.asked.push(asked)?;
         self.inner.open_storage(alloc, opts)
     }
 }

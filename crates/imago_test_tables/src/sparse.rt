@@ -140,9 +140,7 @@ fn old_bytes<B: LowerLayer>(
     ensures refusals { IfErr result
         (allowed (copy_reasons (lent B.as_layer_below below.entry) origin offset count)) }
 {
-    let Ok(mut bytes) = vec![in alloc; 0u8; count as usize] else {
-        return Err(Error::Memory);
-    };
+    let mut bytes = vec![in alloc; 0u8; count as usize]?;
     let Some(layer) = below else {
         return Ok(bytes);
     };
@@ -270,10 +268,8 @@ impl<S: Storage> FormatDriverInstance for Sparse<S> {
     }
 
     fn collect_storage_dependencies(&self, alloc: Global) -> Result<Vec<&S>, Error> {
-        match Vec::from_array(alloc, [&self.storages.first, &self.storages.second]) {
-            Ok(storages) => Ok(storages),
-            Err(_) => Err(Error::Memory),
-        }
+        let storages = Vec::from_array(alloc, [&self.storages.first, &self.storages.second])?;
+        Ok(storages)
     }
 
     fn storage_count(&self) -> usize {

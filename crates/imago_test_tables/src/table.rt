@@ -154,8 +154,6 @@ pub(crate) fn grow(table: &mut Vec<Origin>, size: u64, origin: Origin) -> Result
     ensures unchanged { OnErr result (table.new.items ≡ table.old.items) }
     ensures memory { IfErr result (λ e. e ≡ Error.Memory) }
 {
-    match table.resize(size as usize, origin) {
-        Ok(()) => Ok(()),
-        Err(_) => Err(Error::Memory),
-    }
+    table.resize(size as usize, origin)?;
+    Ok(())
 }

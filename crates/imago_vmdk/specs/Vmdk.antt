@@ -144,10 +144,10 @@ vmdk_view features bytes opened extents = record {
   pending = None;
 }
 
--- why it may be refused to look at the text of a storage of that length: memory, where the length may be a descriptor's or the
--- storage takes some to tell it
-abbrev pub probe_refusals : Features → ℕ → Reasons
-probe_refusals f n = record none {
+-- why the text of a storage of that length may not be read: a wrap-around of that read, a device that isn't reliable, or memory, where
+-- the length may be a descriptor's or the storage takes some to tell it
+abbrev pub text_reasons : Features → ℕ → Reasons
+text_reasons f n = record none {
   cause = λ e. (e ≡ Error.WrapAround) × Wraps f 0 n;
   device = f.is_reliable ≡ false;
   memory = (is_length n ≡ true) ⊎ MayRunOut f.other_memory 0 0;

@@ -1,16 +1,17 @@
-use Rattle.std.specs.Prelude.{◌≡◌, ℕ, ◌⊎◌, Bool, true, false, List, Result, Ok, Err}
+use Rattle.std.specs.Prelude.{◌≡◌, ℕ, ◌⊎◌, Bool, true, false, List, length, Result, Ok, Err}
 use Rattle.std.specs.List.{sum_by}
 use Rattle.imago_storage.specs.declared.error.Error.{Error}
-use Rattle.imago_storage.specs.declared.error.Error.TheVariants.{Unsupported, Device}
-use Rattle.imago_storage.specs.Error.{IsExtRefusal}
+use Rattle.imago_storage.specs.declared.error.Error.TheVariants.{Unsupported}
 use Rattle.imago_storage.specs.Features.{Features}
 use Rattle.imago_drivers.specs.Opening.{Opening}
 use Rattle.imago_drivers.specs.Builder.{OpenSettings, IsImageStorage, storage_options}
 use Rattle.imago_drivers.specs.RawBuilder.{Then}
+use Rattle.imago_drivers.specs.Reasons.{allowed}
 use Rattle.imago_vmdk.specs.declared.line.Extent.{Extent}
 use Rattle.imago_vmdk.specs.declared.vmdk.Vmdk.{Vmdk}
 use Rattle.imago_vmdk.specs.Reading.{reading_of, size_of}
 use Rattle.imago_vmdk.specs.Opened.{AreOpened, AreRefused}
+use Rattle.imago_vmdk.specs.Vmdk.{text_reasons}
 use Rattle.imago_vmdk.specs.Image.{descriptor_in, extents_in, is_opened, storages_of_extents, takes_unknown_keys}
 
 -- why an image isn't opened whose descriptor has that storage: the descriptor is at fault, or couldn't be read, or its extents
@@ -18,7 +19,7 @@ use Rattle.imago_vmdk.specs.Image.{descriptor_in, extents_in, is_opened, storage
 abbrev pub IsVmdkRefusal : {Gate S : Type 0} → (S → List ℕ) → (S → Features) → Opening Gate S → Bool → Bool → Gate → Gate → S → Error → Type 0
 IsVmdkRefusal bytes features opened direct accept before after s e =
     ((after ≡ before) × (reading_of accept (bytes s) ≡ Err e))
-    ⊎ ((after ≡ before) × IsExtRefusal e × (e ≡ Device → (features s).is_reliable ≡ false))
+    ⊎ ((after ≡ before) × allowed (text_reasons (features s) (length (bytes s))) e)
     ⊎ ((extents : List (Extent (List ℕ))) × (size : ℕ) × (reading_of accept (bytes s) ≡ Ok (extents, size))
     × AreRefused opened direct (features s) extents before after e)
 

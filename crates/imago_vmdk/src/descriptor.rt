@@ -88,9 +88,7 @@ fn owned(alloc: Global, extent: Extent<&str>) -> Result<Extent<String>, Error>
             offset,
             writable,
         } => {
-            let Ok(name) = String::from_str(alloc, name) else {
-                return Err(Error::Memory);
-            };
+            let name = String::from_str(alloc, name)?;
             Ok(Extent::Flat {
                 sectors,
                 name,
@@ -112,10 +110,8 @@ fn append(
     ensures memory { IfErr result (λ e. e ≡ Error.Memory) }
 {
     let extent = owned(alloc, extent)?;
-    match extents.push(extent) {
-        Ok(()) => Ok(()),
-        Err(_) => Err(Error::Memory),
-    }
+    extents.push(extent)?;
+    Ok(())
 }
 
 /// The extents of lines of which none is a fault. Refused, it is [`Error::Memory`].

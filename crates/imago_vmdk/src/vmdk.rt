@@ -14,7 +14,7 @@ ghost use Rattle.imago_drivers.specs.Commit.{IsCommit, IsCancel};
 ghost use Rattle.imago_vmdk.specs.Line.{extent_with};
 ghost use Rattle.imago_vmdk.specs.Reading.{size_of as extent_size, is_length as may_be_long, reading_of};
 ghost use Rattle.imago_vmdk.specs.Probe.{probe_of};
-ghost use Rattle.imago_vmdk.specs.Vmdk.{extent_place, extent_rest, places_from, rest_from, storages_in, vmdk_count, vmdk_view, probe_refusals};
+ghost use Rattle.imago_vmdk.specs.Vmdk.{extent_place, extent_rest, places_from, rest_from, storages_in, vmdk_count, vmdk_view, text_reasons};
 ghost use Rattle.imago_vmdk.specs.Starts.{starts_from};
 ghost use Rattle.imago_vmdk.specs.Opened.{IsStorageOpened, IsStorageRefused, IsExtentOpened, IsExtentRefused, AreOpened, AreRefused};
 ghost use Rattle.imago_vmdk.specs.VmdkLaws.{vmdk_lawful, vmdk_causes};
@@ -82,9 +82,7 @@ fn text<S: Storage>(alloc: Global, storage: &S) -> Result<Option<Vec<u8>>, Error
     if !is_length(size) {
         return Ok(None);
     }
-    let Ok(mut text) = vec![in alloc; 0u8; size as usize] else {
-        return Err(Error::Memory);
-    };
+    let mut text = vec![in alloc; 0u8; size as usize]?;
     storage.read(alloc, &mut text, 0)?;
     Ok(Some(text))
 }
@@ -99,9 +97,7 @@ fn starts_of(alloc: Global, extents: &[Extent<String>]) -> Result<Vec<Start>, Er
     let mut offset = 0;
     let mut storage = 1;
     for extent in extents {
-        if starts.push(Start { offset, storage }).is_err() {
-            return Err(Error::Memory);
-        }
+        starts.push(Start { offset, storage })?;
         offset += extent.sectors() * 512;
         if let Extent::Flat { .. } = extent {
             storage += 1;
@@ -222,14 +218,12 @@ fn open_storage<S: Storage, G: ImplicitOpenGate<S>>(
 }
 
 /// Puts a storage behind the others. Refused, it is [`Error::Memory`].
-fn append<S: Storage>(storages: &mut Vec<S>, storage: S) -> Result<(), Error>
-    ensures items { OnOk result (storages.new.items ≡ storages.old.items ++ storage ∷ []) }
+fn append<S: Storage>(storages: &mut Vec<S>, last: S) -> Result<(), Error>
+    ensures items { OnOk result (storages.new.items ≡ storages.old.items ++ last ∷ []) }
     ensures memory { IfErr result (λ e. e ≡ Error.Memory) }
 {
-    match storages.push(storage) {
-        Ok(()) => Ok(()),
-        Err(_) => Err(Error::Memory),
-    }
+    storages.push(last)?;
+    Ok(())
 }
 
 /// Opens an extent, and puts its storage behind the others if it stands in one.
@@ -283,7 +277,8 @@ impl<S: Storage> Vmdk<S> {
     ///
     /// [`Error::Unsupported`] is an image that is to be written, before anything else. What the descriptor is refused for
     /// is told by [`descriptor::read`]; keys that aren't known are refused. [`Error::Device`], [`Error::Memory`] and
-    /// [`Error::WrapAround`] are passed on from the storage, and want of memory is answered only where the text has no fault.
+    /// [`Error::WrapAround`] are passed on from the storage. [`Error::Memory`] is also no room for the text, or, where the text
+    /// has no fault, for its extents.
     pub fn open_image(alloc: Global, storage: S, writable: bool) -> Result<Self, Error>
         ensures read_only { writable ≡ true → result ≡ Err Error.Unsupported }
         ensures opened { IfOk result
@@ -291,7 +286,8 @@ impl<S: Storage> Vmdk<S> {
             (reading_of false (S.bytes storage) ≡ Ok (extents_in v, sum_by extent_size (extents_in v)))) }
         ensures refused { writable ≡ false
             → IfErr result
-            (λ e. (reading_of false (S.bytes storage) ≡ Err e) ⊎ IsExtRefusal e) }
+            (λ e. (reading_of false (S.bytes storage) ≡ Err e)
+            ⊎ allowed (text_reasons (S.features storage) (length (S.bytes storage))) e) }
         ensures device { IsErrOf result Error.Device → (S.features storage).is_reliable ≡ false }
     {
         if writable {
@@ -372,7 +368,8 @@ impl<S: Storage> Vmdk<S> {
             (λ v. (descriptor_in v ≡ «descriptor») × (is_opened v ≡ false) × (opens_direct v ≡ direct) × (takes_unknown_keys v ≡ accepts_unknown_keys) ×
             (reading_of accepts_unknown_keys (S.bytes descriptor) ≡ Ok (extents_in v, sum_by extent_size (extents_in v)))) }
         ensures refused { IfErr result
-            (λ e. (reading_of accepts_unknown_keys (S.bytes descriptor) ≡ Err e) ⊎ IsExtRefusal e) }
+            (λ e. (reading_of accepts_unknown_keys (S.bytes descriptor) ≡ Err e)
+            ⊎ allowed (text_reasons (S.features descriptor) (length (S.bytes descriptor))) e) }
         ensures device { IsErrOf result Error.Device → (S.features descriptor).is_reliable ≡ false }
     {
         let Some(text) = text(alloc, &descriptor)? else {
@@ -408,7 +405,7 @@ impl<S: Storage> FormatDriverInstance for Vmdk<S> {
 
     ghost recognizes = { probe_of };
 
-    ghost probe_reasons = { λ s. probe_refusals (S.features s) (length (S.bytes s)) };
+    ghost probe_reasons = { λ s. text_reasons (S.features s) (length (S.bytes s)) };
 
     ghost flushes = { record { flushed = IsNothing; synced = IsNothing; invalidated = IsNothing } };
 
@@ -452,13 +449,9 @@ impl<S: Storage> FormatDriverInstance for Vmdk<S> {
 
     fn collect_storage_dependencies(&self, alloc: Global) -> Result<Vec<&S>, Error> {
         let mut storages = Vec::new(alloc);
-        if storages.push(&self.descriptor).is_err() {
-            return Err(Error::Memory);
-        }
+        storages.push(&self.descriptor)?;
         for storage in &self.storages {
-            if storages.push(storage).is_err() {
-                return Err(Error::Memory);
-            }
+            storages.push(storage)?;
         }
         Ok(storages)
     }

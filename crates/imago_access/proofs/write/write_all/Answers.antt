@@ -5,20 +5,27 @@ use Rattle.imago_access.proofs.Writes.{nothing_written, wrote_next, refused_next
 use Rattle.imago_access.proofs.write.write_all.Goals as goal
 
 pub loop-done-init : goal.loop-done-init
-loop-done-init g c = nothing_written g.D.FormatDriverInstance.view (lent g.B.LowerLayer.as_layer_below c.args.below) c.args.inner.now c.args.offset c.args.source.now (g.met.D.FormatDriverInstance.causes_lawful c.args.inner.now) c.requires.spent
+loop-done-init g c = (nothing_written g.D.FormatDriverInstance.view (lent g.B.LowerLayer.as_layer_below c.args.below) c.args.inner.now c.args.offset c.args.source.now (g.met.D.FormatDriverInstance.causes_lawful c.args.inner.now) c.requires.spent, λ z. refl)
 
 pub loop-done-preserved : goal.loop-done-preserved
-loop-done-preserved g c = wrote_next g.D.FormatDriverInstance.view (lent g.B.LowerLayer.as_layer_below c.args.below) c.args.inner.now c.args.offset c.args.source.now c.loop-done.inner c.write_first.new.inner c.loop-done.done c.loop-done.invariant c.in_ok-done.field-0 c.in_ok-done.ensures
+loop-done-preserved g c = (wrote_next g.D.FormatDriverInstance.view (lent g.B.LowerLayer.as_layer_below c.args.below) c.args.inner.now c.args.offset c.args.source.now c.loop-done.inner c.write_first.new.inner c.loop-done.done c.loop-done.invariant.0 c.in_ok-done.field-0 c.in_ok-done.ensures,
+    λ z. absurd (omega (arith, c.in_ok-done.ensures.some.0, z)))
 
-pub returns-in_err-done : goal.returns-in_err-done
-returns-in_err-done g c =
+pub returns-in_err-done-clause-empty : goal.returns-in_err-done-clause-empty
+returns-in_err-done-clause-empty g c = λ none. absurd (omega (arith, c.loop-done-test.true, none))
+
+pub returns-in_err-done-clause-written : goal.returns-in_err-done-clause-written
+returns-in_err-done-clause-written g c =
     let p = err_from_is_err_and c.from_residual.result c.from_residual.ensures.1 in
-    rw (p.1, p.2) (refused_next g.D.FormatDriverInstance.view (lent g.B.LowerLayer.as_layer_below c.args.below) c.args.inner.now c.args.offset c.args.source.now c.loop-done.inner c.write_first.new.inner c.loop-done.done c.loop-done.invariant c.in_err-done.field-0.0 c.loop-done-test.true c.in_err-done.ensures)
+    rw (p.1, p.2) (refused_next g.D.FormatDriverInstance.view (lent g.B.LowerLayer.as_layer_below c.args.below) c.args.inner.now c.args.offset c.args.source.now c.loop-done.inner c.write_first.new.inner c.loop-done.done c.loop-done.invariant.0 c.in_err-done.field-0.0 c.loop-done-test.true c.in_err-done.ensures)
 
-pub returns : goal.returns
-returns g c =
-    let e : c.loop-done.done ≡ length c.args.source.now = omega (arith, c.loop-done.invariant.within) in
-    all_written g.D.FormatDriverInstance.view (lent g.B.LowerLayer.as_layer_below c.args.below) c.args.inner.now c.args.offset c.args.source.now c.loop-done.inner c.loop-done.done e c.loop-done.invariant
+pub returns-clause-empty : goal.returns-clause-empty
+returns-clause-empty g c = λ none. (tt, c.loop-done.invariant.1 (omega (arith, c.loop-done.invariant.0.within, none)))
+
+pub returns-clause-written : goal.returns-clause-written
+returns-clause-written g c =
+    let e : c.loop-done.done ≡ length c.args.source.now = omega (arith, c.loop-done.invariant.0.within) in
+    all_written g.D.FormatDriverInstance.view (lent g.B.LowerLayer.as_layer_below c.args.below) c.args.inner.now c.args.offset c.args.source.now c.loop-done.inner c.loop-done.done e c.loop-done.invariant.0
 
 pub overflow_add-offset : goal.overflow_add-offset
-overflow_add-offset g c = omega (arith, c.loop-done.invariant.within)
+overflow_add-offset g c = omega (arith, c.loop-done.invariant.0.within)

@@ -10,6 +10,7 @@ pub loop-done-init : goal.loop-done-init
 loop-done-init g c = (
   nothing_discarded g.D.FormatDriverInstance.view c.args.call c.args.offset c.args.count c.args.self.now (g.met.D.FormatDriverInstance.causes_lawful _) c.requires.spent,
   begins (discard_by g.D.FormatDriverInstance.discards c.args.call) c.args.offset c.args.count (driver c.args.self.now),
+  λ z. refl,
 )
 
 pub loop-done-preserved : goal.loop-done-preserved
@@ -17,6 +18,7 @@ loop-done-preserved g c =
     let e = c.in_ok-start.ensures in (
       loosened_next g.D.FormatDriverInstance.view c.args.call c.args.offset c.args.count c.args.self.now c.loop-done.self c.discard_part.new.self c.loop-done.done c.loop-done.invariant.0 c.in_ok-start.start c.in_ok-start.length e.loosened c.if-length-eq0.false c.loop-done-test.true,
       goes_on (discard_by g.D.FormatDriverInstance.discards c.args.call) c.args.offset c.args.count (driver c.args.self.now) (driver c.loop-done.self) (driver c.discard_part.new.self) c.loop-done.done c.loop-done.invariant.1 c.in_ok-start.start c.in_ok-start.length c.loop-done-test.true c.if-length-eq0.false e.loosened.inside e.performed,
+      λ z. absurd (c.if-length-eq0.false (omega (arith, z))),
     )
 
 pub returns-then-length-eq0-clause-loosened : goal.returns-then-length-eq0-clause-loosened
@@ -34,6 +36,9 @@ pub returns-in_err-start-clause-performed : goal.returns-in_err-start-clause-per
 returns-in_err-start-clause-performed g c =
     let p = err_from_is_err_and c.from_residual.result c.from_residual.ensures.1 in
     rw (p.1, p.2) (gives_up (discard_by g.D.FormatDriverInstance.discards c.args.call) c.args.offset c.args.count (driver c.args.self.now) (driver c.loop-done.self) (driver c.discard_part.new.self) c.loop-done.done c.loop-done.invariant.1 c.in_err-start.field-0.0 c.loop-done-test.true c.in_err-start.ensures.performed)
+
+pub returns-clause-empty : goal.returns-clause-empty
+returns-clause-empty g c = λ none. (tt, c.loop-done.invariant.2 (omega (arith, none)))
 
 pub returns-clause-loosened : goal.returns-clause-loosened
 returns-clause-loosened g c = all_discarded g.D.FormatDriverInstance.view c.args.call c.args.offset c.args.count c.args.self.now c.loop-done.self c.loop-done.self c.loop-done.done c.loop-done.invariant.0 tt

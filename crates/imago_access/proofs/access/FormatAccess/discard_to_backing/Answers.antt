@@ -8,7 +8,7 @@ pub returns : goal.returns
 returns g c =
     let t = c.in_ok-test_end.ensures.passed in
     let e = c.discard_range.ensures in
-    discard_call g.D.FormatDriverInstance.view g.D.FormatDriverInstance.discards C.ToBacking c.args.self.now c.discard_range.new.self c.args.offset c.args.count c.discard_range.result t.0 t.1 (λ big. omega (arith, t.2, big)) tt e.loosened e.performed
+    discard_call g.D.FormatDriverInstance.view g.D.FormatDriverInstance.discards C.ToBacking c.args.self.now c.discard_range.new.self c.args.offset c.args.count c.discard_range.result t.0 t.1 (λ big. omega (arith, t.2, big)) tt e.empty e.loosened e.performed
 
 pub returns-in_err-test_end : goal.returns-in_err-test_end
 returns-in_err-test_end g c =

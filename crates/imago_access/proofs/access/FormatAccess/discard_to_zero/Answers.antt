@@ -8,9 +8,9 @@ use Rattle.imago_access.proofs.access.FormatAccess.discard_to_zero.Goals as goal
 pub returns : goal.returns
 returns g c =
     let t = c.in_ok-test_end.ensures.passed in
-    zero_call g.D.FormatDriverInstance.view DiscardToZero c.args.self.now c.zero_range.new.self c.args.offset c.args.count c.zero_range.result t.0 t.1 (λ big. omega (arith, t.2, big)) c.zero_range.ensures
+    zero_call g.D.FormatDriverInstance.view DiscardToZero c.args.self.now c.zero_range.new.self c.args.offset c.args.count c.zero_range.result t.0 t.1 (λ big. omega (arith, t.2, big)) c.zero_range.ensures.empty c.zero_range.ensures.zeroed
 
 pub returns-in_err-test_end : goal.returns-in_err-test_end
 returns-in_err-test_end g c =
     let p = err_from_is_err_and c.from_residual.result c.from_residual.ensures.1 in
-    rw (p.1, p.2) (failed_call g.D.FormatDriverInstance.view c.args.self.now DiscardToZero c.args.offset c.args.count _ _ _ _ _ _ c.in_err-test_end.field-0.0 c.in_err-test_end.ensures.failed (record { inside = λ k h. inl refl; before = λ p h. refl; behind = λ p h. refl }) c.requires)
+    rw (p.1, p.2) (failed_call g.D.FormatDriverInstance.view c.args.self.now DiscardToZero c.args.offset c.args.count _ _ _ _ _ _ _ c.in_err-test_end.field-0.0 c.in_err-test_end.ensures.failed (record { inside = λ k h. inl refl; before = λ p h. refl; behind = λ p h. refl }) c.requires)

@@ -11,9 +11,9 @@ returns-clause-call g c =
     let x = c.args.self.now in
     let t = c.in_ok-test_range.ensures.passed in
     let r = c.ensure_data_mapping in
-    image_ensured v x r.new.self c.args.offset c.args.count c.args.overwrite r.result _ (lent_is v c.below-lower.result (backing x) c.below-lower.ensures) t.0 t.1 r.ensures.done r.ensures.torn r.ensures.reaches r.ensures.causes r.ensures.framed r.ensures.nothing_pending r.ensures.faults r.ensures.refusals
+    image_ensured v x r.new.self c.args.offset c.args.count c.args.overwrite r.result _ (lent_is v c.below-lower.result (backing x) c.below-lower.ensures) t.0 t.1 r.ensures.done r.ensures.torn r.ensures.reaches r.ensures.causes r.ensures.framed r.ensures.empty_pending r.ensures.faults r.ensures.refusals
 
 pub returns-in_err-test_range-clause-call : goal.returns-in_err-test_range-clause-call
 returns-in_err-test_range-clause-call g c =
     let p = err_from_is_err_and c.from_residual.result c.from_residual.ensures.1 in
-    rw (p.1, p.2) (failed_call g.D.FormatDriverInstance.view c.args.self.now Write c.args.offset c.args.count _ _ _ _ _ _ c.in_err-test_range.field-0.0 c.in_err-test_range.ensures.failed (record { inside = λ k h. inr refl; before = λ p h. refl; behind = λ p h. refl }) c.requires)
+    rw (p.1, p.2) (failed_call g.D.FormatDriverInstance.view c.args.self.now Write c.args.offset c.args.count _ _ _ _ _ _ _ c.in_err-test_range.field-0.0 c.in_err-test_range.ensures.failed (record { inside = λ k h. inr refl; before = λ p h. refl; behind = λ p h. refl }) c.requires)

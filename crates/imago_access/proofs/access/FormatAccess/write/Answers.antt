@@ -10,9 +10,9 @@ returns g c =
     let v = g.D.FormatDriverInstance.view in
     let x = c.args.self.now in
     let t = c.in_ok-test_range.ensures.passed in
-    image_write v x c.write_all.new.inner c.args.offset c.args.source.now c.write_all.result _ (lent_is v c.below.result (backing x) c.below.ensures) t.0 t.1 c.write_all.ensures
+    image_write v x c.write_all.new.inner c.args.offset c.args.source.now c.write_all.result _ (lent_is v c.below.result (backing x) c.below.ensures) t.0 t.1 c.write_all.ensures.empty c.write_all.ensures.written
 
 pub returns-in_err-test_range : goal.returns-in_err-test_range
 returns-in_err-test_range g c =
     let p = err_from_is_err_and c.from_residual.result c.from_residual.ensures.1 in
-    rw (p.1, p.2) (failed_call g.D.FormatDriverInstance.view c.args.self.now Write c.args.offset (length c.args.source.now) _ _ _ _ _ _ c.in_err-test_range.field-0.0 c.in_err-test_range.ensures.failed (record { inside = λ k h. inl refl; before = λ p h. refl; behind = λ p h. refl }) c.requires)
+    rw (p.1, p.2) (failed_call g.D.FormatDriverInstance.view c.args.self.now Write c.args.offset (length c.args.source.now) _ _ _ _ _ _ _ c.in_err-test_range.field-0.0 c.in_err-test_range.ensures.failed (record { inside = λ k h. inl refl; before = λ p h. refl; behind = λ p h. refl }) c.requires)

@@ -6,20 +6,27 @@ use Rattle.imago_access.proofs.ZeroSteps.{zeroes_range}
 use Rattle.imago_access.proofs.access.FormatAccess.zero_range.Goals as goal
 
 pub loop-done-init : goal.loop-done-init
-loop-done-init g c = (nothing_zeroed g.D.FormatDriverInstance.view c.args.self.now c.args.offset c.args.count (g.met.D.FormatDriverInstance.causes_lawful _) c.requires.spent, λ free. inl (refl, refl))
+loop-done-init g c = (nothing_zeroed g.D.FormatDriverInstance.view c.args.self.now c.args.offset c.args.count (g.met.D.FormatDriverInstance.causes_lawful _) c.requires.spent, λ free. inl (refl, refl), λ z. refl)
 
 pub loop-done-preserved : goal.loop-done-preserved
 loop-done-preserved g c =
     let i = c.loop-done.invariant in (
       zeroed_next g.D.FormatDriverInstance.view c.args.self.now c.args.offset c.args.count c.loop-done.self c.zero_next.new.self c.loop-done.done i.0 _ c.in_ok-done.field-0 (c.in_ok-done.ensures.some.1) c.in_ok-done.ensures.zeroed,
       once_next g.D.FormatDriverInstance.view (operation_of c.args.call) (zeroes_range c.args.call) c.args.self.now c.loop-done.self c.zero_next.new.self c.args.offset c.args.count c.loop-done.done i.0 i.1 c.in_ok-done.field-0 c.loop-done-test.true c.in_ok-done.ensures.whole,
+      λ z. absurd (omega (arith, c.in_ok-done.ensures.some.0, z)),
     )
 
-pub returns-in_err-done : goal.returns-in_err-done
-returns-in_err-done g c =
+pub returns-in_err-done-clause-zeroed : goal.returns-in_err-done-clause-zeroed
+returns-in_err-done-clause-zeroed g c =
     let p = err_from_is_err_and c.from_residual.result c.from_residual.ensures.1 in
     let i = c.loop-done.invariant in
     rw (p.1, p.2) (range_refused g.D.FormatDriverInstance.view (operation_of c.args.call) (zeroes_range c.args.call) c.args.self.now c.loop-done.self c.zero_next.new.self c.args.offset c.args.count c.loop-done.done i.0 i.1 _ _ c.in_err-done.field-0.0 c.loop-done-test.true c.in_err-done.ensures.zeroed)
 
-pub returns : goal.returns
-returns g c = all_zeroed g.D.FormatDriverInstance.view c.args.self.now c.args.offset c.args.count tt c.loop-done.self c.loop-done.done _ (omega (arith, c.loop-done.invariant.0.within)) c.loop-done.invariant.0
+pub returns-in_err-done-clause-empty : goal.returns-in_err-done-clause-empty
+returns-in_err-done-clause-empty g c = λ none. absurd (omega (arith, c.loop-done-test.true, none))
+
+pub returns-clause-empty : goal.returns-clause-empty
+returns-clause-empty g c = λ none. (tt, c.loop-done.invariant.2 (omega (arith, c.loop-done.invariant.0.within, none)))
+
+pub returns-clause-zeroed : goal.returns-clause-zeroed
+returns-clause-zeroed g c = all_zeroed g.D.FormatDriverInstance.view c.args.self.now c.args.offset c.args.count tt c.loop-done.self c.loop-done.done _ (omega (arith, c.loop-done.invariant.0.within)) c.loop-done.invariant.0

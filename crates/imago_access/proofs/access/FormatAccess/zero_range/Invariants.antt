@@ -8,6 +8,7 @@ abbrev pub invariant-loop-done : goal.invariant-loop-done
 invariant-loop-done g l =
     IsZeroingOn g.D.FormatDriverInstance.view l.offset l.count l.fn.self l.self l.done
     × ((g.D.FormatDriverInstance.view (driver l.fn.self)).limits.whole (operation_of l.call) l.offset l.count → ((l.done ≡ 0) × (l.self ≡ l.fn.self)) ⊎ (l.done ≡ l.count))
+    × (l.done ≡ 0 → l.self ≡ l.fn.self)
 
 abbrev pub decreases-loop-done : goal.decreases-loop-done
 decreases-loop-done g l = l.count - l.done

@@ -1,4 +1,4 @@
-use Rattle.std.proofs.Common.{◌≡◌, ◌+◌, ◌<◌, Some, None, Ok, Err, arith, refl, ap, ◌∙◌}
+use Rattle.std.proofs.Common.{◌≡◌, ◌+◌, ◌*◌, ◌%◌, ◌<◌, Some, None, Ok, Err, arith, refl, ap, ◌∙◌}
 use Rattle.std.proofs.lemmas.Result.{err_from_is_err_and}
 use Rattle.imago_storage.specs.declared.error.Error.{Error}
 use Rattle.imago_drivers.specs.declared.mapping.PreparedDataMapping.{PreparedDataMapping}
@@ -93,6 +93,7 @@ returns-in_err-waiting g c =
       });
       entries = e.entries;
       added = e.added;
+      lowest = tt;
       in_data = λ j h. absurd (not_in_data _ _ j c.get-entry.ensures c.in_default.not-Data h);
       over = λ o. c.in_err-waiting.ensures.over c.args.count some c.min-run.ensures o;
     })
@@ -127,6 +128,11 @@ returns g c =
       });
       entries = e.entries;
       added = e.added;
+      lowest = λ with_state. record {
+        number = w.number;
+        lowest = k.lowest;
+        stands = m.offset ∙ k.apart.offset ∙ ap (λ o. w.number * s.block + o % s.block) k.same.0;
+      };
       in_data = λ j h. absurd (not_in_data _ _ j c.get-entry.ensures c.in_default.not-Data h);
       over = λ o. tt;
     }
