@@ -172,10 +172,8 @@ impl<D: FormatDriverInstance> FormatAccess<D> {
             return Ok(length);
         }
         let piece = piece_of(length, count, zeroes.len() as u64);
-        match self.write_zero_piece(alloc, &zeroes[..piece as usize], offset) {
-            Ok(written) => Ok(written as u64),
-            Err(error) => Err(error),
-        }
+        let written = self.write_zero_piece(alloc, &zeroes[..piece as usize], offset)?;
+        Ok(written as u64)
     }
 
     /// Zeroes a range by writes of zeroes, but for what is an explicit zero already.

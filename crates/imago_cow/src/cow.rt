@@ -103,18 +103,16 @@ impl<S: Storage> Cow<S> {
         ensures memory { IfErr result (λ e. e ≡ Error.Memory) }
     {
         let guest_blocks = first_whole(block, size);
-        match Table::new(alloc, guest_blocks as usize) {
-            Ok(table) => Ok(Cow {
-                storage,
-                size,
-                block,
-                table,
-                waiting: None,
-                tickets: 0,
-                faults: 0,
-            }),
-            Err(e) => Err(e),
-        }
+        let table = Table::new(alloc, guest_blocks as usize)?;
+        Ok(Cow {
+            storage,
+            size,
+            block,
+            table,
+            waiting: None,
+            tickets: 0,
+            faults: 0,
+        })
     }
 
     /// A block's length in bytes.

@@ -283,9 +283,7 @@ pub(crate) fn add_new<S: Storage, B: LowerLayer>(
     }
     let old = table.len();
     let missing = first_whole(block, new_size) as usize - old;
-    if let Err(e) = table.reserve(missing) {
-        return Err(e);
-    }
+    table.reserve(missing)?;
     if let Err(e) = push_blocks(
         storage, faults, table, alloc, below, block, new_size, missing,
     ) {

@@ -1,4 +1,4 @@
-use Rattle.std.proofs.Common.{arith, length, ◌≡◌}
+use Rattle.std.proofs.Common.{arith, length, refl, ◌≡◌}
 use Rattle.std.proofs.lemmas.Result.{err_from_is_err_and}
 use Rattle.imago_drivers.specs.LayerBelow.{lent}
 use Rattle.imago_access.proofs.Writes.{nothing_written, wrote_next, refused_next, all_written}
@@ -8,8 +8,10 @@ pub loop-done-init : goal.loop-done-init
 loop-done-init g c = (nothing_written g.D.FormatDriverInstance.view (lent g.B.LowerLayer.as_layer_below c.args.below) c.args.inner.now c.args.offset c.args.source.now (g.met.D.FormatDriverInstance.causes_lawful c.args.inner.now) c.requires.spent, λ z. refl)
 
 pub loop-done-preserved : goal.loop-done-preserved
-loop-done-preserved g c = (wrote_next g.D.FormatDriverInstance.view (lent g.B.LowerLayer.as_layer_below c.args.below) c.args.inner.now c.args.offset c.args.source.now c.loop-done.inner c.write_first.new.inner c.loop-done.done c.loop-done.invariant.0 c.in_ok-done.field-0 c.in_ok-done.ensures,
-    λ z. absurd (omega (arith, c.in_ok-done.ensures.some.0, z)))
+loop-done-preserved g c = (
+  wrote_next g.D.FormatDriverInstance.view (lent g.B.LowerLayer.as_layer_below c.args.below) c.args.inner.now c.args.offset c.args.source.now c.loop-done.inner c.write_first.new.inner c.loop-done.done c.loop-done.invariant.0 c.in_ok-done.field-0 c.in_ok-done.ensures,
+  λ z. absurd (omega (arith, c.in_ok-done.ensures.some.0, z)),
+)
 
 pub returns-in_err-done-clause-empty : goal.returns-in_err-done-clause-empty
 returns-in_err-done-clause-empty g c = λ none. absurd (omega (arith, c.loop-done-test.true, none))
@@ -20,7 +22,7 @@ returns-in_err-done-clause-written g c =
     rw (p.1, p.2) (refused_next g.D.FormatDriverInstance.view (lent g.B.LowerLayer.as_layer_below c.args.below) c.args.inner.now c.args.offset c.args.source.now c.loop-done.inner c.write_first.new.inner c.loop-done.done c.loop-done.invariant.0 c.in_err-done.field-0.0 c.loop-done-test.true c.in_err-done.ensures)
 
 pub returns-clause-empty : goal.returns-clause-empty
-returns-clause-empty g c = λ none. (tt, c.loop-done.invariant.1 (omega (arith, c.loop-done.invariant.0.within, none)))
+returns-clause-empty g c = λ none. (refl, c.loop-done.invariant.1 (omega (arith, c.loop-done.invariant.0.within, none)))
 
 pub returns-clause-written : goal.returns-clause-written
 returns-clause-written g c =

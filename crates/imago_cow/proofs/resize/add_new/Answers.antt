@@ -20,8 +20,8 @@ returns-then-not-lower-clause-extended g c =
     (λ added exact. subst (λ v. IsExtended at v keeps c.args.block (length old * c.args.block) c.args.new_size old new x x) (sym zero) (zero_extended at keeps c.args.block c.args.new_size old new x c.requires.positive exact added))
     c.add_blocks.ensures.added c.add_blocks.ensures.exact
 
-pub returns-in-Err-push_blocks-clause-no_longer : goal.returns-in-Err-push_blocks-clause-no_longer
-returns-in-Err-push_blocks-clause-no_longer g c = λ most wanted covers near counted named.
+pub returns-in-Err-clause-no_longer : goal.returns-in-Err-clause-no_longer
+returns-in-Err-clause-no_longer g c = λ most wanted covers near counted named.
     let w = c.first_whole.ensures in
     let one : c.first_whole.result ≡ wanted = one_whole c.args.block c.args.new_size c.first_whole.result wanted w.begins w.near covers near in
     let same : named_count (entries_of c.reserve.new.self) ≡ named_count (entries_of c.args.table.now) = ap named_count c.reserve.ensures.entries in
@@ -34,16 +34,16 @@ returns-clause-no_longer g c = λ most wanted covers near counted named.
     let same : named_count (entries_of c.reserve.new.self) ≡ named_count (entries_of c.args.table.now) = ap named_count c.reserve.ensures.entries in
     c.push_blocks.ensures.no_longer most (omega (arith, c.reserve.ensures.count, counted)) (let m = named c.if-not-lower.false in omega (arith, same, m, one, c.len-old.ensures))
 
-pub returns-in-Err-push_blocks-clause-refusals : goal.returns-in-Err-push_blocks-clause-refusals
-returns-in-Err-push_blocks-clause-refusals g c = λ most wanted covers near counted named.
+pub returns-in-Err-clause-refusals : goal.returns-in-Err-clause-refusals
+returns-in-Err-clause-refusals g c = λ most wanted covers near counted named.
     let w = c.first_whole.ensures in
     let one : c.first_whole.result ≡ wanted = one_whole c.args.block c.args.new_size c.first_whole.result wanted w.begins w.near covers near in
     let same : named_count (entries_of c.reserve.new.self) ≡ named_count (entries_of c.args.table.now) = ap named_count c.reserve.ensures.entries in
     let starts : length (entries_of c.reserve.new.self) * c.args.block ≡ length (entries_of c.args.table.now) * c.args.block = ap (λ e. length e * c.args.block) c.reserve.ensures.entries in
     let lower : c.args.lower ≡ true = c.if-not-lower.false in
-    limit_refused (g.S.Storage.features c.args.storage.now) (lent g.B.LowerLayer.as_layer_below c.args.below) (most * c.args.block) (most * c.args.block) _ _ c.in-Err-push_blocks.e (omega arith)
+    limit_refused (g.S.Storage.features c.args.storage.now) (lent g.B.LowerLayer.as_layer_below c.args.below) (most * c.args.block) (most * c.args.block) _ _ c.in-Err.e (omega arith)
     (λ p i. let y : length (entries_of c.args.table.now) * c.args.block ≤ p = omega (arith, starts, i.0) in (lower, y, i.1))
-    (c.in-Err-push_blocks.ensures.refusals most (omega (arith, c.reserve.ensures.count, counted)) (let m = named c.if-not-lower.false in omega (arith, same, m, one, c.len-old.ensures)))
+    (c.in-Err.ensures.refusals most (omega (arith, c.reserve.ensures.count, counted)) (let m = named c.if-not-lower.false in omega (arith, same, m, one, c.len-old.ensures)))
 
 pub returns-clause-extended : goal.returns-clause-extended
 returns-clause-extended g c =
@@ -54,7 +54,7 @@ returns-clause-extended g c =
     let x = g.S.Storage.bytes c.args.storage.now in
     let y = g.S.Storage.bytes c.push_blocks.new.storage in
     let b = c.args.block in
-    let done = c.in_default-push_blocks.ensures in
+    let done = c.in_default.ensures in
     let lower : c.args.lower ≡ true = c.if-not-lower.false in
     let lens : length (entries_of c.reserve.new.self) ≡ length old = ap length c.reserve.ensures.entries in
     let fewer : c.len-old.result ≤ c.first_whole.result = needs_no_fewer c.args.block c.args.size c.args.new_size c.len-old.result c.first_whole.result c.requires.grows c.first_whole.ensures.begins (let t : c.len-old.result * c.args.block ≡ length old * c.args.block = ap (λ n. n * c.args.block) c.len-old.ensures in omega (arith, t, c.requires.exact.near)) in
@@ -65,8 +65,8 @@ returns-clause-extended g c =
     let d : IsExtended at true keeps b (length old * b) c.args.new_size old new x y = subst (λ u. IsExtended at true keeps b (length old * b) u old new x y) until a in
     subst (λ v. IsExtended at v keeps b (length old * b) c.args.new_size old new x y) (sym lower) d
 
-pub returns-in-Err-push_blocks-clause-counted : goal.returns-in-Err-push_blocks-clause-counted
-returns-in-Err-push_blocks-clause-counted g c = λ most wanted covers near counted named.
+pub returns-in-Err-clause-counted : goal.returns-in-Err-clause-counted
+returns-in-Err-clause-counted g c = λ most wanted covers near counted named.
     let w = c.first_whole.ensures in
     let one : c.first_whole.result ≡ wanted = one_whole c.args.block c.args.new_size c.first_whole.result wanted w.begins w.near covers near in
     let same : named_count (entries_of c.reserve.new.self) ≡ named_count (entries_of c.args.table.now) = ap named_count c.reserve.ensures.entries in
@@ -86,5 +86,5 @@ returns-clause-named g c = λ wanted covers near.
     let w = c.first_whole.ensures in
     let one : c.first_whole.result ≡ wanted = one_whole c.args.block c.args.new_size c.first_whole.result wanted w.begins w.near covers near in
     let same : named_count (entries_of c.reserve.new.self) ≡ named_count (entries_of c.args.table.now) = ap named_count c.reserve.ensures.entries in
-    let x : named_count (entries_of c.push_blocks.new.table) ≡ named_count (entries_of c.args.table.now) + (wanted - length (entries_of c.args.table.now)) = omega (arith, c.in_default-push_blocks.ensures.named, same, one, c.len-old.ensures) in
+    let x : named_count (entries_of c.push_blocks.new.table) ≡ named_count (entries_of c.args.table.now) + (wanted - length (entries_of c.args.table.now)) = omega (arith, c.in_default.ensures.named, same, one, c.len-old.ensures) in
     inr (c.if-not-lower.false, x)

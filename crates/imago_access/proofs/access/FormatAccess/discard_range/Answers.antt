@@ -1,4 +1,4 @@
-use Rattle.std.proofs.Common.{arith}
+use Rattle.std.proofs.Common.{arith, refl}
 use Rattle.std.proofs.lemmas.Result.{err_from_is_err_and}
 use Rattle.imago_access.specs.Chain.{driver}
 use Rattle.imago_access.specs.DiscardParts.{discard_by}
@@ -38,7 +38,7 @@ returns-in_err-start-clause-performed g c =
     rw (p.1, p.2) (gives_up (discard_by g.D.FormatDriverInstance.discards c.args.call) c.args.offset c.args.count (driver c.args.self.now) (driver c.loop-done.self) (driver c.discard_part.new.self) c.loop-done.done c.loop-done.invariant.1 c.in_err-start.field-0.0 c.loop-done-test.true c.in_err-start.ensures.performed)
 
 pub returns-clause-empty : goal.returns-clause-empty
-returns-clause-empty g c = λ none. (tt, c.loop-done.invariant.2 (omega (arith, none)))
+returns-clause-empty g c = λ none. (refl, c.loop-done.invariant.2 (omega (arith, none)))
 
 pub returns-clause-loosened : goal.returns-clause-loosened
 returns-clause-loosened g c = all_discarded g.D.FormatDriverInstance.view c.args.call c.args.offset c.args.count c.args.self.now c.loop-done.self c.loop-done.self c.loop-done.done c.loop-done.invariant.0 tt

@@ -1,4 +1,4 @@
-use Rattle.std.proofs.Common.{◌-◌}
+use Rattle.std.proofs.Common.{◌≡◌, ◌-◌}
 use Rattle.imago_access.specs.Chain.{driver}
 use Rattle.imago_access.specs.DiscardParts.{discard_by}
 use Rattle.imago_access.proofs.DiscardSteps.{IsDiscardingOn}

@@ -11,7 +11,7 @@ returns-clause-call g c =
     let x = c.args.self.now in
     let t = c.in_ok-test_range.ensures.passed in
     let r = c.ensure_data_mapping in
-    image_ensured v x r.new.self c.args.offset c.args.count c.args.overwrite r.result _ (lent_is v c.below-lower.result (backing x) c.below-lower.ensures) t.0 t.1 r.ensures.done r.ensures.torn r.ensures.reaches r.ensures.causes r.ensures.framed r.ensures.empty_pending r.ensures.faults r.ensures.refusals
+    image_ensured v x r.new.self c.args.offset c.args.count c.args.overwrite r.result _ (lent_is v c.below-lower.result (backing x) c.below-lower.ensures) t.0 t.1 r.ensures.done r.ensures.torn r.ensures.reaches r.ensures.causes r.ensures.framed r.ensures.nothing_pending r.ensures.faults r.ensures.refusals
 
 pub returns-in_err-test_range-clause-call : goal.returns-in_err-test_range-clause-call
 returns-in_err-test_range-clause-call g c =

@@ -1,4 +1,5 @@
 use Rattle.std.proofs.Common.{Bool, arith, subst, length-take}
+use Rattle.std.proofs.lemmas.Result.{err_from_is_err_and}
 use Rattle.imago_access.specs.declared.mapping.Mapping.{Mapping}
 use Rattle.imago_access.specs.Resolved.{IsResolved}
 use Rattle.imago_access.proofs.ZeroSteps.{zero_mapped, explicit_alone}
@@ -13,6 +14,7 @@ returns-in-Zero-true-clause-zeroed g c =
     (zero_mapped v c.args.self.now c.args.offset c.args.count m.length c.in-Zero-true.explicit (subst (λ (k : Mapping). IsResolved v c.args.self.now c.args.offset c.args.count k m.length) c.in-Zero-true.is m.ensures.right))
     (explicit_alone v c.args.self.now c.args.offset c.args.count m.length (subst (λ (b : Bool). IsResolved v c.args.self.now c.args.offset c.args.count (Mapping.Zero b) m.length) c.in-Zero-true.explicit-test (subst (λ (k : Mapping). IsResolved v c.args.self.now c.args.offset c.args.count k m.length) c.in-Zero-true.is m.ensures.right)))
 
-pub returns-in-Err-clause-zeroed : goal.returns-in-Err-clause-zeroed
-returns-in-Err-clause-zeroed g c =
-    piece_refused g.D.FormatDriverInstance.view c.args.self.now c.args.offset c.args.count (g.met.D.FormatDriverInstance.causes_lawful _) c.requires.spent _ _ c.write_zero_piece.new.self _ c.in-Err.error (simp length-take (omega (arith, c.piece_of-piece.ensures.within))) c.in-Err.ensures.zeroed
+pub returns-in_err-written-clause-zeroed : goal.returns-in_err-written-clause-zeroed
+returns-in_err-written-clause-zeroed g c =
+    let p = err_from_is_err_and c.from_residual-in_err-written.result c.from_residual-in_err-written.ensures.1 in
+    rw (p.1, p.2) (piece_refused g.D.FormatDriverInstance.view c.args.self.now c.args.offset c.args.count (g.met.D.FormatDriverInstance.causes_lawful _) c.requires.spent _ _ c.write_zero_piece.new.self _ c.in_err-written.field-0.0 (simp length-take (omega (arith, c.piece_of-piece.ensures.within))) c.in_err-written.ensures.zeroed)

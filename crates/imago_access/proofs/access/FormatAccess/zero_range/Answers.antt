@@ -26,7 +26,7 @@ pub returns-in_err-done-clause-empty : goal.returns-in_err-done-clause-empty
 returns-in_err-done-clause-empty g c = λ none. absurd (omega (arith, c.loop-done-test.true, none))
 
 pub returns-clause-empty : goal.returns-clause-empty
-returns-clause-empty g c = λ none. (tt, c.loop-done.invariant.2 (omega (arith, c.loop-done.invariant.0.within, none)))
+returns-clause-empty g c = λ none. (refl, c.loop-done.invariant.2 (omega (arith, c.loop-done.invariant.0.within, none)))
 
 pub returns-clause-zeroed : goal.returns-clause-zeroed
 returns-clause-zeroed g c = all_zeroed g.D.FormatDriverInstance.view c.args.self.now c.args.offset c.args.count tt c.loop-done.self c.loop-done.done _ (omega (arith, c.loop-done.invariant.0.within)) c.loop-done.invariant.0

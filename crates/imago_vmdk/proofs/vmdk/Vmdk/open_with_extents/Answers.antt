@@ -10,7 +10,7 @@ returns-in_err-image g c =
     let p = err_from_is_err_and c.from_residual.result c.from_residual.ensures.1 in
     rw (p.1, p.2) (⊎_elim
     (λ reading. inl (refl, reading))
-    (λ only. inr (inl (refl, only, λ d. c.in_err-image.ensures.device (rw d refl))))
+    (λ reasons. inr (inl (refl, reasons)))
     c.in_err-image.ensures.refused)
 
 pub returns-in_err-open_implicit_dependencies_gated : goal.returns-in_err-open_implicit_dependencies_gated
