@@ -10,7 +10,7 @@ use Rattle.imago_access.specs.Writing.{shown_length}
 use Rattle.imago_access.specs.Disk.{filled_in, IsTestRefusal, IsOverwritten, IsFilledIn, IsPartlyFilled}
 use Rattle.imago_access.specs.Runs.{reply_of, told_done, told_data, told_prepared}
 use Rattle.imago_access.specs.Histories.{DoneOrRefused, IsPart, IsDataStep, IsPreparedStep, IsSame, IsFlatStep, IsFlatHistory}
-use Rattle.imago_access.specs.Determined.{IsDetermined, if_done, if_prepared, after, AreDetermined, after_all, FitsList, AllFit, IsFlatRun}
+use Rattle.imago_access.specs.Determined.{IsDetermined, if_done, if_prepared, after, AreDetermined, after_all, AllFit, IsFlatRun}
 use Rattle.imago_access.proofs.DiskLists.{extended_known, filled_cut, nothing_overwritten}
 
 -- what a call that answers nothing may be told as
@@ -99,14 +99,6 @@ prepared_after xs ys o n overwrite bytes commit r d t h = by h.0 h.1 h.2
     by (Ok m) e x = subst (λ (q : Reply). ys ≡ if_prepared q commit o bytes xs) (sym e) (filled_after (overwrite && not m.1) xs ys o (shown_length commit m) bytes (d m e) x.0.2)
     by (Err z) e x = subst (λ (q : Reply). ys ≡ if_prepared q commit o bytes xs) (sym e) (x.1.untouched (t z e))
 
--- how long a mapping is, by its reply
-part_so : {T : Type 0} (told : T → Reply) (r : Reply) (done kept : T → Type 0) (refused : Error → Type 0) → ((m : T) → done m → kept m) → DoneOrRefused told r done refused → DoneOrRefused told r kept (λ e. Unit {0})
-part_so told r done kept refused f h = (h.0, h.1, by h.0 h.2)
-  where
-    by : (result : Result _ Error) → IfOk result done × IfErr result refused → IfOk result kept × IfErr result (λ e. Unit {0})
-    by (Ok m) x = (f m x.0, tt)
-    by (Err e) x = (tt, tt)
-
 module _ (below : ℕ → Value) where
   -- a step that is determined leaves the one list
   step_after : (xs ys : List Value) (call : Call) (r : Reply) → IsDetermined xs call r → IsFlatStep below xs call r ys → ys ≡ after below call r xs
@@ -127,24 +119,6 @@ module _ (below : ℕ → Value) where
   step_after xs ys C.Sync r d h = same_so xs r ys h
   step_after xs ys C.InvalidateCache r d h = same_so xs r ys h
 
-  step_fits : (xs ys : List Value) (call : Call) (r : Reply) → IsFlatStep below xs call r ys → FitsList xs call r
-  step_fits xs ys (C.Read o n) r h = h.1
-  step_fits xs ys C.Size r h = h.1
-  step_fits xs ys (C.Write o bytes) r h = tt
-  step_fits xs ys (C.EnsureData o n overwrite) r h = part_so told_data r _ _ _ (λ m x. x.1) h
-  step_fits xs ys (C.Prepared o n overwrite bytes commit) r h = part_so told_prepared r _ _ _ (λ m x. x.1) h
-  step_fits xs ys (C.WriteZeroes o n) r h = tt
-  step_fits xs ys (C.DiscardToZero o n) r h = tt
-  step_fits xs ys (C.DiscardToAny o n) r h = tt
-  step_fits xs ys (C.DiscardToBacking o n) r h = tt
-  step_fits xs ys (C.Resize n mode) r h = tt
-  step_fits xs ys (C.ResizeGrow n mode) r h = tt
-  step_fits xs ys (C.ResizeShrink n) r h = tt
-  step_fits xs ys (C.GetMapping o n) r h = h.1
-  step_fits xs ys C.Flush r h = tt
-  step_fits xs ys C.Sync r h = tt
-  step_fits xs ys C.InvalidateCache r h = tt
-
   history_after : (xs zs : List Value) (calls : List Call) (replies : List Reply) → AreDetermined below xs calls replies → IsFlatHistory below xs calls replies zs → zs ≡ after_all below calls replies xs
   history_after xs zs [] [] d h = h
   history_after xs zs [] (r ∷ rs) d h = absurd h
@@ -160,7 +134,7 @@ module _ (below : ℕ → Value) where
   history_fits xs zs (c ∷ cs) (r ∷ rs) d h =
       let s = step_after xs h.0 c r d.0 h.1 in
       let rest = history_fits h.0 zs cs rs (subst (λ (ys : List Value). AreDetermined below ys cs rs) (sym s) d.1) h.2 in
-      (step_fits xs h.0 c r h.1, subst (λ (ys : List Value). AllFit below ys cs rs) s rest)
+      (subst (IsFlatStep below xs c r) s h.1, subst (λ (ys : List Value). AllFit below ys cs rs) s rest)
 
 -- a history whose steps are all determined
 pub flat_run : (below : ℕ → Value) (xs zs : List Value) (calls : List Call) (replies : List Reply) → AreDetermined below xs calls replies → IsFlatHistory below xs calls replies zs → IsFlatRun below xs calls replies zs

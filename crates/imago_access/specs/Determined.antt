@@ -9,8 +9,8 @@ use Rattle.imago_access.specs.declared.run.Reply.{Reply}
 use Rattle.imago_access.specs.declared.run.Reply.TheVariants as R
 use Rattle.imago_access.specs.Disk.{splice, zeroed, filled_in, IsTestRefusal, IsEndRefusal, extended}
 use Rattle.imago_access.specs.Writing.{shown_length}
-use Rattle.imago_access.specs.Runs.{told_data, told_prepared}
-use Rattle.imago_access.specs.Histories.{DoneOrRefused, IsDataOf, IsMappingOf, IsPart}
+use Rattle.imago_access.specs.Runs.{told_prepared}
+use Rattle.imago_access.specs.Histories.{IsFlatStep}
 
 -- new values of a growth to n are known: there are none, or the mode says what they are
 abbrev pub IsFilled : PreallocateMode → ℕ → List Value → Type 0
@@ -94,32 +94,14 @@ abbrev pub after_all : (ℕ → Value) → List Call → List Reply → List Val
 after_all below (call ∷ calls) (reply ∷ replies) xs = after_all below calls replies (after below call reply xs)
 after_all below calls replies xs = xs
 
--- the data of a read are the part of the list, a size is its length, a mapping names what it has, and one to write to is in bounds
-abbrev pub FitsList : List Value → Call → Reply → Type 0
-FitsList xs (C.Read o n) r = IsDataOf xs o n r
-FitsList xs (C.GetMapping o n) r = IsMappingOf xs o n r
-FitsList xs C.Size r = r ≡ R.Size (length xs)
-FitsList xs (C.EnsureData o n overwrite) r = DoneOrRefused told_data r (λ m. IsPart n m.2) (λ e. Unit {0})
-FitsList xs (C.Prepared o n overwrite bytes commit) r = DoneOrRefused told_prepared r (λ m. IsPart n m.0) (λ e. Unit {0})
-FitsList xs (C.Write o bytes) r = Unit {0}
-FitsList xs (C.WriteZeroes o n) r = Unit {0}
-FitsList xs (C.DiscardToZero o n) r = Unit {0}
-FitsList xs (C.DiscardToAny o n) r = Unit {0}
-FitsList xs (C.DiscardToBacking o n) r = Unit {0}
-FitsList xs (C.Resize n mode) r = Unit {0}
-FitsList xs (C.ResizeGrow n mode) r = Unit {0}
-FitsList xs (C.ResizeShrink n) r = Unit {0}
-FitsList xs C.Flush r = Unit {0}
-FitsList xs C.Sync r = Unit {0}
-FitsList xs C.InvalidateCache r = Unit {0}
-
--- each reply fits the list that stands at its point of the run
+-- each call, with its reply, takes the list that stands at its point of the run to the one after it
 abbrev pub AllFit : (ℕ → Value) → List Value → List Call → List Reply → Type 0
-AllFit below xs (call ∷ calls) (reply ∷ replies) = FitsList xs call reply × AllFit below (after below call reply xs) calls replies
+AllFit below xs (call ∷ calls) (reply ∷ replies) = let ys = after below call reply xs in IsFlatStep below xs call reply ys × AllFit below ys calls replies
 AllFit below xs calls replies = Unit {0}
 
 -- Calls and replies on one list, each of which is determined: the list at the end is the first one with each successful call
--- applied, in order, and each read, each size and each mapping answers the list as it stands then.
+-- applied, in order, and each reply is that of a step from the list as it stands then: a read, a size and a mapping answer it, and
+-- what a call changes lies in it.
 pub record IsFlatRun (below : ℕ → Value) (xs : List Value) (calls : List Call) (replies : List Reply) (zs : List Value) : Type 0 where
   pub list_after : zs ≡ after_all below calls replies xs
   pub replies_fit : AllFit below xs calls replies

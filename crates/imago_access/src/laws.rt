@@ -35,9 +35,10 @@ pub fn runs_keep_layers_below<D: FormatDriverInstance>()
 {}
 
 /// A history of one list whose replies say what the list is afterwards: at its end it is the first one with each
-/// successful write, cut and growth applied, in order, and each read, each size and each mapping answers the list at its
-/// point of the history. A write or zero write that is refused past its tests doesn't say it, nor does a growth without
-/// preallocation, a discard to any or to backing, or a mapping that may be overwritten and isn't filled.
+/// successful write, cut and growth applied, in order, and each reply is that of a step from the list at its point of the
+/// history: a read, a size and a mapping answer it. A write or zero write that is refused past its tests doesn't say what
+/// the list is, nor does a growth without preallocation, a discard to any or to backing, or a mapping that may be
+/// overwritten and isn't filled.
 pub fn flat_runs()
     ensures { (below : ℕ → Value) (xs zs : List Value) (calls : List Call) (replies : List Reply)
         → AreDetermined below xs calls replies

@@ -362,7 +362,7 @@ impl<S: Storage> FormatDriverInstance for Cow<S> {
             → StandsInLowest (blocks_of self.old) (data_blocks_of self.old) (block_of self.old) offset (offset_of m)) }
         ensures in_data { (j : ℕ)
             → slice_get (blocks_of self.old) (offset / block_of self.old) ≡ Some (GuestBlock.Data j)
-            → (storage_in self.new ≡ storage_in self.old) × (data_blocks_of self.new ≡ data_blocks_of self.old) ×
+            → IsOk result × (storage_in self.new ≡ storage_in self.old) × (data_blocks_of self.new ≡ data_blocks_of self.old) ×
             (waiting_in self.new ≡ waiting_in self.old) }
         ensures over { overwrite ≡ true
             → IfErr result

@@ -1,5 +1,5 @@
 //! The driver of raw images.
-ghost use Rattle.std.specs.Prelude.{◌≡◌, ℕ, ◌+◌, ◌^◌, ◌<◌, ◌≤◌, ◌⊎◌, max, length, slice_index, IsTrue, IfOk, IfErr, OnOk, OnErr, IsErrOf, true, false};
+ghost use Rattle.std.specs.Prelude.{◌≡◌, ℕ, ◌+◌, ◌^◌, ◌<◌, ◌≤◌, ◌⊎◌, max, length, slice_index, IsTrue, IfOk, IfErr, OnOk, OnErr, IsOk, IsErrOf, true, false};
 ghost use Rattle.std.specs.String.{string_bytes};
 ghost use Rattle.imago_storage.specs.Bytes.{SameOutside};
 ghost use Rattle.imago_storage.specs.Error.{IsDeviceOrMemory, IsExtRefusal};
@@ -282,6 +282,7 @@ impl<S: Storage> FormatDriverInstance for Raw<S> {
         ensures prepared { IfOk result (λ m. IsPrepared offset count _overwrite (values (lent B.as_layer_below _below.entry).at (⟦<Raw<S> as FormatDriverInstance>⟧.view self.old).place) (⟦<Raw<S> as FormatDriverInstance>⟧.view self.old) (⟦<Raw<S> as FormatDriverInstance>⟧.view self.new) m) }
         ensures call { IsPreparation (lent B.as_layer_below _below.entry) offset count (⟦<Raw<S> as FormatDriverInstance>⟧.view self.old) (⟦<Raw<S> as FormatDriverInstance>⟧.view self.new) result }
         ensures untouched { self.new ≡ self.old }
+        ensures never_refused { IsOk result }
     {
         Ok(PreparedDataMapping::existing(0, offset, count))
     }

@@ -64,7 +64,7 @@ returns-in-Data-clause-call g c =
     stands_prepared (cow_view f n A s.size s.block E (count_of s.table) s.waiting) L c.args.offset c.args.count c.requires.spent (cow_causes f n A s.size s.block E (count_of s.table) s.waiting) c.existing-in-Data.result
 
 pub returns-in-Data-clause-in_data : goal.returns-in-Data-clause-in_data
-returns-in-Data-clause-in_data g c = λ j h. (refl, refl, refl)
+returns-in-Data-clause-in_data g c = λ j h. (refl, refl, refl, refl)
 
 pub returns-in_err-waiting : goal.returns-in_err-waiting
 returns-in_err-waiting g c =
