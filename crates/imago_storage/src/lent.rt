@@ -25,7 +25,7 @@ impl<S: Storage> Storage for &mut S {
       discarded = λ at n a b r. S.maintenance.discarded at n a.now b.now r;
     } };
 
-    ghost openings = { record no_openings { made = IsMade S.openings } };
+    ghost openings = { record no_openings { made = IsMade S.openings; resolved = λ s. S.openings.resolved s.now } };
 
     ghost lawful = { λ s. S.lawful s.now };
 

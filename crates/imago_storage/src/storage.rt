@@ -1,6 +1,7 @@
 //! The interface of a storage: aligned calls on a list of bytes.
 ghost use Rattle.std.specs.Prelude.{◌≡◌, ◌≢◌, ℕ, ◌+◌, ◌%◌, ◌↔◌, List, length, replicate, max, false, IsTrue, OnOk, OnErr, IfOk, IfErr, IsErrOf};
 ghost use Rattle.std.specs.Option.{option_copied};
+ghost use Rattle.std.specs.String.{string_bytes};
 ghost use Rattle.imago_storage.specs.Bytes.{splice, OldOrNew, WriteOutcome, IsReadAt, SameOutside, IsResized, IsZeroFrom};
 ghost use Rattle.imago_storage.specs.Calls.{IsPureZeroing, IsMaintained};
 ghost use Rattle.imago_storage.specs.Error.{IsDeviceOrMemory, IsPureRefusal};
@@ -60,7 +61,8 @@ pub trait Storage: Display + Drop + Sized {
     /// What a flush, a sync, an invalidation, a wait for writes and a discard are: only the call itself gives its relation.
     ghost maintenance: { Maintenance Self };
 
-    /// What is opened and created by which options: only the call itself gives its relation.
+    /// What is opened and created by which options, and which name a relative one stands for: only the call itself gives
+    /// its relation.
     ghost openings: { Openings Self };
 
     /// Opens a storage. Which options are needed depends on the storage. One that isn't opened by options is
@@ -108,6 +110,7 @@ pub trait Storage: Display + Drop + Sized {
     /// The name of a storage that is given relative to this one, as `open` takes it. A storage whose names aren't
     /// relative to one another answers [`Error::Unsupported`].
     fn resolve_relative_path(&self, alloc: Global, relative: &str) -> Result<String, Error>
+        ensures resolved { IfOk result (λ name. openings.resolved self.now relative.now (string_bytes name)) }
         ensures only { IfErr result IsPureRefusal }
         ensures unsupported { IsErrOf result Error.Unsupported ↔ ((features self.now).resolves_paths ≡ false) }
         ensures device { IsErrOf result Error.Device → (features self.now).is_reliable ≡ false };

@@ -1,5 +1,5 @@
 //! Zero writes of any range.
-ghost use Rattle.std.specs.Prelude.{◌≡◌, ◌≢◌, ℕ, ◌+◌, ◌-◌, ◌%◌, ◌<◌, ◌≤◌, ◌⊎◌, ◌^◌, length, max, min, replicate, OnOk, IfErr, IsErrOf, IsOk, Ok, List, ◌↔◌};
+ghost use Rattle.std.specs.Prelude.{◌≡◌, ◌≢◌, ℕ, ◌+◌, ◌-◌, ◌%◌, ◌<◌, ◌≤◌, ◌⊎◌, ◌^◌, length, max, min, replicate, OnOk, IfOk, IfErr, IsErrOf, IsOk, Ok, List, ◌↔◌};
 ghost use Rattle.imago_storage.specs.Bytes.{splice, zero_extended, WriteOutcome};
 ghost use Rattle.imago_storage.specs.Calls.{IsRangeZeroing};
 ghost use Rattle.imago_storage.specs.Error.{IsExtRefusal, IsPureRefusal, IsZeroRefusal};
@@ -13,6 +13,25 @@ use crate::error::Error;
 use crate::request::write_parts;
 use crate::storage::{Storage, ZERO_PIECE, ZeroKind, zero_buffer};
 use std::alloc::Global;
+
+/// What zeroes are written from as data.
+#[derive(Drop)]
+struct ZeroStock {
+    zeroes: Vec<u8>,
+    /// One block, for requests that aren't aligned.
+    block: Vec<u8>,
+}
+
+/// That many zeroes, and a block of the storage. Refused, it is [`Error::Memory`].
+fn zero_stock<S: Storage>(storage: &S, alloc: Global, count: u64) -> Result<ZeroStock, Error>
+    ensures zeroes { IfOk result (λ s. s.zeroes.items ≡ replicate count 0) }
+    ensures block { IfOk result (λ s. length s.block.items ≡ len_align (S.features storage.now)) }
+    ensures memory { IfErr result (λ e. e ≡ Error.Memory) }
+{
+    let zeroes = zero_buffer(alloc, count as usize)?;
+    let block = zero_buffer(alloc, length_align(storage) as usize)?;
+    Ok(ZeroStock { zeroes, block })
+}
 
 /// Zeroes a range: its part that is aligned to the zero alignment by a zero write of the storage, and what stands
 /// before and behind it as data; the whole range as data where it has no such part, or where the storage refuses
@@ -104,10 +123,17 @@ fn zero_part_and_edges<S: Storage>(
     }
     // all memory is asked for before anything is written
     let edge = (start - offset).max(offset + count - end);
-    let zeroes = zero_buffer(alloc, edge as usize)?;
-    let mut block = zero_buffer(alloc, length_align(&*storage) as usize)?;
+    let mut stock = zero_stock(&*storage, alloc, edge)?;
     zero_part(storage, alloc, start, end - start, kind)?;
-    zero_edges(storage, &zeroes, &mut block, offset, count, start, end)
+    zero_edges(
+        storage,
+        &stock.zeroes,
+        &mut stock.block,
+        offset,
+        count,
+        start,
+        end,
+    )
 }
 
 /// Zeroes as data what stands before and behind the aligned part of a range, which is zeroed already.
@@ -265,20 +291,26 @@ fn zero_as_data<S: Storage>(
         → storage.new ≡ storage.old }
 {
     let piece = length_align(&*storage).max(ZERO_PIECE);
-    let zeroes = zero_buffer(alloc, piece.min(count) as usize)?;
-    let mut block = zero_buffer(alloc, length_align(&*storage) as usize)?;
+    let mut stock = zero_stock(&*storage, alloc, piece.min(count))?;
     let first = head_length(&*storage, offset, count);
     if first == 0 {
-        return zero_pieces(storage, &zeroes, &mut block, piece, offset, count);
+        return zero_pieces(
+            storage,
+            &stock.zeroes,
+            &mut stock.block,
+            piece,
+            offset,
+            count,
+        );
     }
-    zero_from(storage, &zeroes, &mut block, offset, first)?;
+    zero_from(storage, &stock.zeroes, &mut stock.block, offset, first)?;
     if first == count {
         return Ok(());
     }
     zero_pieces(
         storage,
-        &zeroes,
-        &mut block,
+        &stock.zeroes,
+        &mut stock.block,
         piece,
         offset + first,
         count - first,

@@ -17,4 +17,5 @@ by_name bytes = record {
   opened = λ options. IsByName bytes (λ name. length name) options.filename;
   created = λ options. IsByName bytes (λ name. options.size) options.to_open.filename;
   made = λ options result. ⊥;
+  resolved = λ storage relative name. name ≡ relative;
 }

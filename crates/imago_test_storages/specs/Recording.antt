@@ -1,4 +1,4 @@
-use Rattle.std.specs.Prelude.{Bool, cond, false}
+use Rattle.std.specs.Prelude.{◌≡◌, ℕ, ◌++◌, Bool, cond, false, List, codes}
 use Rattle.imago_storage.specs.Features.{Features, AsData, AreAlignments}
 
 -- the same storage with its zeroes written as data
@@ -16,6 +16,10 @@ recording_features as_data no_discards f = record f {
   allocated_zeroes = cond as_data AsData f.allocated_zeroes;
   offers_discard = cond no_discards false f.offers_discard;
 }
+
+-- a relative name stands for one in a folder beside the storage
+abbrev pub IsBeside : {S : Type 0} → S → List ℕ → List ℕ → Type 0
+IsBeside storage relative name = name ≡ codes "beside/" ++ relative
 
 -- its alignments are lawful
 pub recording_lawful : (as_data no_discards : Bool) (f : Features) → AreAlignments f → AreAlignments (recording_features as_data no_discards f)

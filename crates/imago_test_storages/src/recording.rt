@@ -3,7 +3,7 @@ ghost use Rattle.std.specs.Prelude.{◌≡◌, false};
 ghost use Rattle.imago_storage.specs.IoCount.{no_work};
 ghost use Rattle.imago_storage.specs.MemParts.{alignments_of};
 ghost use Rattle.imago_storage.specs.Openings.{no_openings};
-ghost use Rattle.imago_test_storages.specs.Recording.{zeroing, discarding, recording_features, recording_lawful};
+ghost use Rattle.imago_test_storages.specs.Recording.{zeroing, discarding, recording_features, recording_lawful, IsBeside};
 
 use imago_storage::error::Error;
 use imago_storage::mem::MemStorage;
@@ -146,7 +146,7 @@ impl Storage for Recording {
       discarded = λ _ _ a b _. b.inner ≡ a.inner;
     } };
 
-    ghost openings = { no_openings };
+    ghost openings = { record no_openings { resolved = IsBeside } };
 
     ghost lawful = { λ s. recording_lawful s.zeroes_as_data s.no_discards (⟦<MemStorage as Storage>⟧.features s.inner) (alignments_of s.inner) };
 
@@ -181,10 +181,9 @@ impl Storage for Recording {
     }
 
     fn resolve_relative_path(&self, alloc: Global, relative: &str) -> Result<String, Error> {
-        match format!(in alloc; "beside/{relative}") {
-            Ok(path) => Ok(path),
-            Err(_) => Err(Error::Memory),
-        }
+        let mut path = String::from_str(alloc, "beside/")?;
+        path.push_str(relative)?;
+        Ok(path)
     }
 
     fn get_filename(&self) -> Option<&str> {

@@ -10,35 +10,35 @@ use Rattle.imago_drivers.specs.Reasons.{allowed}
 use Rattle.imago_vmdk.specs.declared.line.Extent.{Extent}
 use Rattle.imago_vmdk.specs.declared.vmdk.Vmdk.{Vmdk}
 use Rattle.imago_vmdk.specs.Reading.{reading_of, size_of}
-use Rattle.imago_vmdk.specs.Opened.{AreOpened, AreRefused}
+use Rattle.imago_vmdk.specs.Opened.{Resolution, AreOpened, AreRefused}
 use Rattle.imago_vmdk.specs.Vmdk.{text_reasons}
 use Rattle.imago_vmdk.specs.Image.{descriptor_in, extents_in, is_opened, storages_of_extents, takes_unknown_keys}
 
 -- why an image isn't opened whose descriptor has that storage: the descriptor is at fault, or couldn't be read, or its extents
 -- aren't opened
-abbrev pub IsVmdkRefusal : {Gate S : Type 0} → (S → List ℕ) → (S → Features) → Opening Gate S → Bool → Bool → Gate → Gate → S → Error → Type 0
-IsVmdkRefusal bytes features opened direct accept before after s e =
+abbrev pub IsVmdkRefusal : {Gate S : Type 0} → (S → List ℕ) → (S → Features) → (S → Resolution (List ℕ)) → Opening Gate S → Bool → Bool → Gate → Gate → S → Error → Type 0
+IsVmdkRefusal bytes features resolved opened direct accept before after s e =
     ((after ≡ before) × (reading_of accept (bytes s) ≡ Err e))
     ⊎ ((after ≡ before) × allowed (text_reasons (features s) (length (bytes s))) e)
     ⊎ ((extents : List (Extent (List ℕ))) × (size : ℕ) × (reading_of accept (bytes s) ≡ Ok (extents, size))
-    × AreRefused opened direct (features s) extents before after e)
+    × AreRefused opened (resolved s) direct (features s) extents before after e)
 
 -- The image of the descriptor that the storage has: its extents, all opened; or why it isn't opened.
-abbrev pub IsVmdkImage : {Gate S : Type 0} {g : _} {h : _} → (S → List ℕ) → (S → Features) → Opening Gate S → Bool → Bool → Gate → Gate → S → Result (Vmdk S g h) Error → Type 0
-IsVmdkImage bytes features opened direct accept before after s (Ok v) =
+abbrev pub IsVmdkImage : {Gate S : Type 0} {g : _} {h : _} → (S → List ℕ) → (S → Features) → (S → Resolution (List ℕ)) → Opening Gate S → Bool → Bool → Gate → Gate → S → Result (Vmdk S g h) Error → Type 0
+IsVmdkImage bytes features resolved opened direct accept before after s (Ok v) =
     (descriptor_in v ≡ s) × (is_opened v ≡ true) × (takes_unknown_keys v ≡ accept) × (reading_of accept (bytes s) ≡ Ok (extents_in v, sum_by size_of (extents_in v)))
-    × AreOpened opened direct (extents_in v) before after (storages_of_extents v)
-IsVmdkImage bytes features opened direct accept before after s (Err e) = IsVmdkRefusal bytes features opened direct accept before after s e
+    × AreOpened opened (resolved s) direct (extents_in v) before after (storages_of_extents v)
+IsVmdkImage bytes features resolved opened direct accept before after s (Err e) = IsVmdkRefusal bytes features resolved opened direct accept before after s e
 
 -- The opening of a VMDK image that isn't to be written: of the storage that was handed in, or of the one that the gate gives, whose
 -- refusal is passed on. The options that are set count for the extents too.
-abbrev pub IsReadOnlyOpening : {Gate S : Type 0} {g : _} {h : _} → (S → List ℕ) → (S → Features) → Opening Gate S → Gate → OpenSettings S → Bool → Result (Vmdk S g h) Error → Type 0
-IsReadOnlyOpening {Gate} {S} bytes features opened gate settings accept result =
+abbrev pub IsReadOnlyOpening : {Gate S : Type 0} {g : _} {h : _} → (S → List ℕ) → (S → Features) → (S → Resolution (List ℕ)) → Opening Gate S → Gate → OpenSettings S → Bool → Result (Vmdk S g h) Error → Type 0
+IsReadOnlyOpening {Gate} {S} bytes features resolved opened gate settings accept result =
     (between : Gate) × (storage : Result S Error) × IsImageStorage opened settings gate between storage
-    × Then storage result (λ s. (after : Gate) × IsVmdkImage bytes features opened (storage_options settings).direct accept between after s result)
+    × Then storage result (λ s. (after : Gate) × IsVmdkImage bytes features resolved opened (storage_options settings).direct accept between after s result)
 
 -- One that is to be written is unsupported.
-abbrev pub IsVmdkOpening : {Gate S : Type 0} {g : _} {h : _} → (S → List ℕ) → (S → Features) → Opening Gate S → Gate → OpenSettings S → Bool → Result (Vmdk S g h) Error → Type 0
-IsVmdkOpening bytes features opened gate settings accept result =
+abbrev pub IsVmdkOpening : {Gate S : Type 0} {g : _} {h : _} → (S → List ℕ) → (S → Features) → (S → Resolution (List ℕ)) → Opening Gate S → Gate → OpenSettings S → Bool → Result (Vmdk S g h) Error → Type 0
+IsVmdkOpening bytes features resolved opened gate settings accept result =
     (settings.writable ≡ true → result ≡ Err Unsupported)
-    × (settings.writable ≡ false → IsReadOnlyOpening bytes features opened gate settings accept result)
+    × (settings.writable ≡ false → IsReadOnlyOpening bytes features resolved opened gate settings accept result)

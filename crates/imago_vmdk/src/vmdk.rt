@@ -210,8 +210,9 @@ fn open_storage<S: Storage, G: ImplicitOpenGate<S>>(
     direct: bool,
     gate: &mut G,
 ) -> Result<S, Error>
-    ensures opened { IfOk result (λ s. IsStorageOpened G.opened direct gate.old gate.new (s ∷ [])) }
-    ensures refused { IfErr result (IsStorageRefused G.opened direct (S.features descriptor.now) gate.old gate.new) }
+    ensures opened { IfOk result (λ s. IsStorageOpened G.opened (S.openings.resolved descriptor.now) direct name.now gate.old gate.new (s ∷ [])) }
+    ensures refused { IfErr result
+        (IsStorageRefused G.opened (S.openings.resolved descriptor.now) direct (S.features descriptor.now) name.now gate.old gate.new) }
 {
     let name = descriptor.resolve_relative_path(alloc, name)?;
     let opts = StorageOpenOptions::new().filename(name).direct(direct);
@@ -236,9 +237,9 @@ fn open_extent<S: Storage, G: ImplicitOpenGate<S>>(
     gate: &mut G,
     storages: &mut Vec<S>,
 ) -> Result<(), Error>
-    ensures opened { OnOk result ((own : List S) × IsExtentOpened G.opened direct extent.now gate.old gate.new own
+    ensures opened { OnOk result ((own : List S) × IsExtentOpened G.opened (λ n. S.openings.resolved descriptor.now (string_bytes n)) direct extent.now gate.old gate.new own
         × (storages.new.items ≡ storages.old.items ++ own)) }
-    ensures refused { IfErr result (IsExtentRefused G.opened direct (S.features descriptor.now) extent.now gate.old gate.new) }
+    ensures refused { IfErr result (IsExtentRefused G.opened (λ n. S.openings.resolved descriptor.now (string_bytes n)) direct (S.features descriptor.now) extent.now gate.old gate.new) }
 {
     let Extent::Flat { name, offset, .. } = extent else {
         return Ok(());
@@ -259,8 +260,8 @@ fn open_extents<S: Storage, G: ImplicitOpenGate<S>>(
     direct: bool,
     gate: &mut G,
 ) -> Result<Vec<S>, Error>
-    ensures opened { IfOk result (λ v. AreOpened G.opened direct extents.now gate.old gate.new v.items) }
-    ensures refused { IfErr result (AreRefused G.opened direct (S.features descriptor.now) extents.now gate.old gate.new) }
+    ensures opened { IfOk result (λ v. AreOpened G.opened (λ n. S.openings.resolved descriptor.now (string_bytes n)) direct extents.now gate.old gate.new v.items) }
+    ensures refused { IfErr result (AreRefused G.opened (λ n. S.openings.resolved descriptor.now (string_bytes n)) direct (S.features descriptor.now) extents.now gate.old gate.new) }
 {
     let mut storages = Vec::new(alloc);
     for extent in extents {
@@ -314,10 +315,10 @@ impl<S: Storage> Vmdk<S> {
         ensures settings { (opens_direct self.new ≡ opens_direct self.old) × (takes_unknown_keys self.new ≡ takes_unknown_keys self.old) }
         ensures again { is_opened self.old ≡ true → IsOk result × (self.new ≡ self.old) × (gate.new ≡ gate.old) }
         ensures storages { is_opened self.old ≡ false
-            → OnOk result (AreOpened G.opened (opens_direct self.old) (extents_in self.old) gate.old gate.new (storages_of_extents self.new)) }
+            → OnOk result (AreOpened G.opened (S.openings.resolved (descriptor_in self.old)) (opens_direct self.old) (extents_in self.old) gate.old gate.new (storages_of_extents self.new)) }
         ensures refused { OnErr result (self.new ≡ self.old) }
         ensures refusals { IfErr result
-            (AreRefused G.opened (opens_direct self.old) (S.features (descriptor_in self.old)) (extents_in self.old) gate.old gate.new) }
+            (AreRefused G.opened (S.openings.resolved (descriptor_in self.old)) (opens_direct self.old) (S.features (descriptor_in self.old)) (extents_in self.old) gate.old gate.new) }
     {
         if self.opened {
             return Ok(());
@@ -335,9 +336,9 @@ impl<S: Storage> Vmdk<S> {
         gate: &mut G,
     ) -> Result<Vec<S>, Error>
         ensures count { IfOk result (λ v. length v.items ≡ storages_in self.now.extents.items) }
-        ensures opened { IfOk result (λ v. AreOpened G.opened (opens_direct self.now) (extents_in self.now) gate.old gate.new v.items) }
+        ensures opened { IfOk result (λ v. AreOpened G.opened (S.openings.resolved (descriptor_in self.now)) (opens_direct self.now) (extents_in self.now) gate.old gate.new v.items) }
         ensures refused { IfErr result
-            (AreRefused G.opened (opens_direct self.now) (S.features (descriptor_in self.now)) (extents_in self.now) gate.old gate.new) }
+            (AreRefused G.opened (S.openings.resolved (descriptor_in self.now)) (opens_direct self.now) (S.features (descriptor_in self.now)) (extents_in self.now) gate.old gate.new) }
     {
         open_extents(alloc, &self.descriptor, &self.extents, self.direct, gate)
     }
@@ -350,7 +351,7 @@ impl<S: Storage> Vmdk<S> {
         accept_unknown_keys: bool,
         gate: &mut G,
     ) -> Result<Self, Error>
-        ensures { IsVmdkImage S.bytes S.features G.opened direct accept_unknown_keys gate.old gate.new descriptor result }
+        ensures { IsVmdkImage S.bytes S.features S.openings.resolved G.opened direct accept_unknown_keys gate.old gate.new descriptor result }
     {
         let mut image = Vmdk::open_read_only(alloc, descriptor, direct, accept_unknown_keys)?;
         image.open_implicit_dependencies_gated(alloc, gate)?;

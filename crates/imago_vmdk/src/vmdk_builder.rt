@@ -82,7 +82,7 @@ impl<S: Storage> FormatDriverBuilder<S> for VmdkOpenBuilder<S> {
 
     ghost settings = { vmdk_settings };
 
-    ghost opens = { λ Gate opened gate b result. IsVmdkOpening S.bytes S.features opened gate (vmdk_settings b) (accepts_unknown_keys b) result };
+    ghost opens = { λ Gate opened gate b result. IsVmdkOpening S.bytes S.features S.openings.resolved opened gate (vmdk_settings b) (accepts_unknown_keys b) result };
 
     fn new(image: S) -> Self {
         Vmdk::builder(image)

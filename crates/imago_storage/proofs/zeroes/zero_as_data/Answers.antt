@@ -9,16 +9,10 @@ use Rattle.imago_storage.proofs.ZeroRanges.{HasZeroed_unchanged, HasZeroed_refus
 use Rattle.imago_storage.proofs.ZeroWraps.{data_from_start}
 use Rattle.imago_storage.proofs.zeroes.zero_as_data.Goals as goal
 
-pub returns-in_err-zeroes-clause-written : goal.returns-in_err-zeroes-clause-written
-returns-in_err-zeroes-clause-written g c =
+pub returns-in_err-stock-clause-written : goal.returns-in_err-stock-clause-written
+returns-in_err-stock-clause-written g c =
     let f = g.S.Storage.features c.args.storage.now in
     let p = err_from_is_err_and c.from_residual.result c.from_residual.ensures.1 in
-    HasZeroed_unchanged f _ _ _ _ _ (len_positive f (g.met.S.Storage.lawful c.args.storage.now)) p.1
-
-pub returns-in_err-block-clause-written : goal.returns-in_err-block-clause-written
-returns-in_err-block-clause-written g c =
-    let f = g.S.Storage.features c.args.storage.now in
-    let p = err_from_is_err_and c.from_residual-in_err-block.result c.from_residual-in_err-block.ensures.1 in
     HasZeroed_unchanged f _ _ _ _ _ (len_positive f (g.met.S.Storage.lawful c.args.storage.now)) p.1
 
 pub zero_pieces-requires-clause-whole : goal.zero_pieces-requires-clause-whole

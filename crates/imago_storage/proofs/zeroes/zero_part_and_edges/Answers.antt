@@ -6,14 +6,9 @@ use Rattle.imago_storage.proofs.Padding.{len_positive}
 use Rattle.imago_storage.proofs.ZeroRanges.{HasZeroed_refused, HasZeroed_unchanged}
 use Rattle.imago_storage.proofs.zeroes.zero_part_and_edges.Goals as goal
 
-pub returns-in_err-zeroes-clause-written : goal.returns-in_err-zeroes-clause-written
-returns-in_err-zeroes-clause-written g c =
+pub returns-in_err-stock-clause-written : goal.returns-in_err-stock-clause-written
+returns-in_err-stock-clause-written g c =
     let p = err_from_is_err_and c.from_residual.result c.from_residual.ensures.1 in
-    HasZeroed_unchanged _ _ _ _ _ _ (len_positive _ (g.met.S.Storage.lawful c.args.storage.now)) p.1
-
-pub returns-in_err-block-clause-written : goal.returns-in_err-block-clause-written
-returns-in_err-block-clause-written g c =
-    let p = err_from_is_err_and c.from_residual-in_err-block.result c.from_residual-in_err-block.ensures.1 in
     HasZeroed_unchanged _ _ _ _ _ _ (len_positive _ (g.met.S.Storage.lawful c.args.storage.now)) p.1
 
 pub returns-in_err-zero_part-clause-written : goal.returns-in_err-zero_part-clause-written
