@@ -27,7 +27,7 @@ use crate::guest::{first_whole, make_absent, make_zero};
 use crate::map::map_place;
 use crate::named::all_shown;
 use crate::prepare::prepare_part;
-use crate::resize::shrink;
+use crate::resize::{Growth, shrink};
 use crate::stored::{read_stored, write_stored};
 use crate::table::{GuestBlock, Table};
 use imago_drivers::drivers::{
@@ -466,16 +466,19 @@ impl<S: Storage> FormatDriverInstance for Cow<S> {
         if new_size <= self.size {
             return Ok(());
         }
+        let growth = Growth {
+            block: self.block,
+            size: self.size,
+            new_size,
+            mode,
+        };
         grow(
             &mut self.storage,
             &mut self.faults,
             &mut self.table,
             alloc,
             below,
-            self.block,
-            self.size,
-            new_size,
-            mode,
+            growth,
         )?;
         self.size = new_size;
         Ok(())

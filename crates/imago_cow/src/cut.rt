@@ -1,8 +1,7 @@
 //! The guest block that the disk's end cuts, in a growth.
-ghost use Rattle.std.specs.Prelude.{◌≡◌, ◌≢◌, ℕ, ◌+◌, ◌-◌, ◌*◌, ◌/◌, ◌%◌, ◌^◌, ◌<◌, ◌≤◌, ◌⊎◌, ◌&&◌, max, length, List, slice_index, slice_get, slice_set, IsTrue, IfOk, IfErr, IfSome, OnOk, OnErr, Some, None, true, false};
+ghost use Rattle.std.specs.Prelude.{◌≡◌, ℕ, ◌+◌, ◌-◌, ◌*◌, ◌/◌, ◌%◌, ◌^◌, ◌<◌, ◌≤◌, ◌⊎◌, ◌&&◌, max, length, List, slice_index, slice_get, slice_set, IsTrue, IfOk, IfErr, IfSome, OnOk, OnErr, Some, None, true, false};
 ghost use Rattle.imago_storage.specs.Faults.{CountsFaults};
 ghost use Rattle.imago_storage.specs.Features.{len_align};
-ghost use Rattle.imago_drivers.specs.declared.format.PreallocateMode.{PreallocateMode};
 ghost use Rattle.imago_drivers.specs.Lengths.{padded_to};
 ghost use Rattle.imago_drivers.specs.Place.{Byte};
 ghost use Rattle.imago_drivers.specs.LayerBelow.{lent};
@@ -16,9 +15,8 @@ ghost use Rattle.imago_cow.specs.Growth.{fill_reasons};
 ghost use Rattle.imago_cow.specs.Cut.{IsCutEmpty, IsCutEntered, IsCutFilled, IsCutRead, IsTaken, shows_below};
 
 use crate::copy::copy_old;
-use crate::resize::take_block;
+use crate::resize::{Growth, adds_nothing, is_lower, take_block};
 use crate::table::{GuestBlock, Table};
-use imago_drivers::drivers::PreallocateMode;
 use imago_drivers::layer::LowerLayer;
 use imago_storage::error::Error;
 use imago_storage::storage::Storage;
@@ -35,32 +33,6 @@ struct Cut {
     count: u64,
     /// The new places show the layer below, else zeroes.
     lower: bool,
-}
-
-/// Whether new places show the layer below.
-pub(crate) fn is_lower(mode: PreallocateMode) -> bool
-    ensures { result ≡ shows_below mode }
-{
-    match mode {
-        PreallocateMode::None | PreallocateMode::Zero => false,
-        PreallocateMode::FormatAllocate
-        | PreallocateMode::FullAllocate
-        | PreallocateMode::WriteData => true,
-    }
-}
-
-/// Whether new places are unspecified.
-pub(crate) fn adds_nothing(mode: PreallocateMode) -> bool
-    ensures none { result ≡ true → mode ≡ PreallocateMode.None }
-    ensures some { result ≡ false → mode ≢ PreallocateMode.None }
-{
-    match mode {
-        PreallocateMode::None => true,
-        PreallocateMode::Zero
-        | PreallocateMode::FormatAllocate
-        | PreallocateMode::FullAllocate
-        | PreallocateMode::WriteData => false,
-    }
 }
 
 /// Copies what the guest block shows before the disk's old end, and then what its new places are to show, to a data block
@@ -205,72 +177,69 @@ pub(crate) fn fill_cut<S: Storage, B: LowerLayer>(
     table: &mut Table,
     alloc: Global,
     below: Option<&B>,
-    block: u64,
-    size: u64,
-    new_size: u64,
-    mode: PreallocateMode,
+    growth: Growth,
 ) -> Result<(), Error>
-    requires positive { 0 < block }
-    requires grows { size < new_size }
-    requires within { 0 < size % block → size / block < length (entries_of table.old) }
+    requires positive { 0 < growth.block }
+    requires grows { growth.size < growth.new_size }
+    requires within { 0 < growth.size % growth.block → growth.size / growth.block < length (entries_of table.old) }
     requires spent { held_of table.old ≡ None }
-    requires addressed { count_of table.old * block < 2 ^ 64 }
+    requires addressed { count_of table.old * growth.block < 2 ^ 64 }
     ensures filled { OnOk result
-        (IsCutFilled (lent B.as_layer_below below.entry).at mode (S.features storage.old).keeps_data block size
-        new_size (entries_of table.old) (entries_of table.new) (S.bytes storage.old) (S.bytes storage.new)) }
+        (IsCutFilled (lent B.as_layer_below below.entry).at growth.mode (S.features storage.old).keeps_data
+        growth.block growth.size growth.new_size (entries_of table.old) (entries_of table.new) (S.bytes storage.old) (S.bytes storage.new)) }
     ensures entries { OnErr result (entries_of table.new ≡ entries_of table.old) }
-    ensures entry { OnOk result (IsCutEntered block size (entries_of table.old) (entries_of table.new)) }
+    ensures entry { OnOk result (IsCutEntered growth.block growth.size (entries_of table.old) (entries_of table.new)) }
     ensures places { IsTrue (S.features storage.old).keeps_data
         → (p : ℕ)
-        → p < size
-        → entry_place (S.bytes storage.new) block p (slice_get (entries_of table.old) (p / block))
-        ≡ entry_place (S.bytes storage.old) block p (slice_get (entries_of table.old) (p / block)) }
+        → p < growth.size
+        → entry_place (S.bytes storage.new) growth.block p (slice_get (entries_of table.old) (p / growth.block))
+        ≡ entry_place (S.bytes storage.old) growth.block p (slice_get (entries_of table.old) (p / growth.block)) }
     ensures held { held_of table.new ≡ None }
-    ensures addressed { count_of table.new * block < 2 ^ 64 }
+    ensures addressed { count_of table.new * growth.block < 2 ^ 64 }
     ensures counted { (most : ℕ)
         → count_of table.old ≤ most
-        → (0 < size % block
-        → is_data (slice_get (entries_of table.old) (size / block)) ≡ false
+        → (0 < growth.size % growth.block
+        → is_data (slice_get (entries_of table.old) (growth.size / growth.block)) ≡ false
         → named_count (entries_of table.old) + 1 ≤ most)
         → count_of table.new ≤ most }
     ensures no_shorter { length (S.bytes storage.old) ≤ length (S.bytes storage.new) }
     ensures no_longer { (most : ℕ)
         → count_of table.old ≤ most
-        → (0 < size % block
-        → is_data (slice_get (entries_of table.old) (size / block)) ≡ false
+        → (0 < growth.size % growth.block
+        → is_data (slice_get (entries_of table.old) (growth.size / growth.block)) ≡ false
         → named_count (entries_of table.old) + 1 ≤ most)
         → length (S.bytes storage.new)
-        ≤ max (length (S.bytes storage.old)) (padded_to (S.features storage.old) 0 (most * block)) }
+        ≤ max (length (S.bytes storage.old)) (padded_to (S.features storage.old) 0 (most * growth.block)) }
     ensures features { S.features storage.new ≡ S.features storage.old }
     ensures faults { CountsFaults
         ((S.features storage.old).is_reliable && (lent B.as_layer_below below.entry).is_reliable)
         (S.fault_count storage.old + faults.old) (S.fault_count storage.new + faults.new) result }
     ensures refusals { (most : ℕ)
         → count_of table.old ≤ most
-        → (0 < size % block
-        → is_data (slice_get (entries_of table.old) (size / block)) ≡ false
+        → (0 < growth.size % growth.block
+        → is_data (slice_get (entries_of table.old) (growth.size / growth.block)) ≡ false
         → named_count (entries_of table.old) + 1 ≤ most)
         → IfErr result
         (allowed
-        (fill_reasons (S.features storage.old) (lent B.as_layer_below below.entry) (most * block)
-        (IsCutRead block size (entries_of table.old) (shows_below mode) new_size))) }
+        (fill_reasons (S.features storage.old) (lent B.as_layer_below below.entry) (most * growth.block)
+        (IsCutRead growth.block growth.size (entries_of table.old) (shows_below growth.mode) growth.new_size))) }
 {
-    let rest = size % block;
+    let rest = growth.size % growth.block;
     if rest == 0 {
         return Ok(());
     }
-    if adds_nothing(mode) {
+    if adds_nothing(growth.mode) {
         return Ok(());
     }
-    let lower = is_lower(mode);
-    let count = (block - rest).min(new_size - size);
+    let lower = is_lower(growth.mode);
+    let count = (growth.block - rest).min(growth.new_size - growth.size);
     let cut = Cut {
-        block,
-        size,
+        block: growth.block,
+        size: growth.size,
         count,
         lower,
     };
-    match table.get((size / block) as usize) {
+    match table.get((growth.size / growth.block) as usize) {
         GuestBlock::Absent => fill_taken(storage, faults, table, alloc, below, cut, true),
         GuestBlock::Zero => {
             if !lower {
@@ -279,8 +248,8 @@ pub(crate) fn fill_cut<S: Storage, B: LowerLayer>(
             fill_taken(storage, faults, table, alloc, below, cut, false)
         }
         GuestBlock::Data(number) => {
-            let to = number * block + rest;
-            copy_old(storage, faults, alloc, below, lower, size, count, to)
+            let to = number * growth.block + rest;
+            copy_old(storage, faults, alloc, below, lower, growth.size, count, to)
         }
     }
 }

@@ -7,10 +7,9 @@ ghost use Rattle.imago_cow.specs.TableView.{entries_of, held_of, count_of};
 ghost use Rattle.imago_cow.specs.Guest.{IsExact};
 ghost use Rattle.imago_cow.specs.Cow.{cow_view};
 
-use crate::cut::{adds_nothing, empty_cut, fill_cut, is_lower, restore_cut};
-use crate::resize::{add_blocks, add_new};
+use crate::cut::{empty_cut, fill_cut, restore_cut};
+use crate::resize::{Growth, add_blocks, add_new, adds_nothing};
 use crate::table::Table;
-use imago_drivers::drivers::PreallocateMode;
 use imago_drivers::layer::LowerLayer;
 use imago_storage::error::Error;
 use imago_storage::storage::Storage;
@@ -24,46 +23,38 @@ fn grow_with<S: Storage, B: LowerLayer>(
     table: &mut Table,
     alloc: Global,
     below: Option<&B>,
-    block: u64,
-    size: u64,
-    new_size: u64,
-    mode: PreallocateMode,
+    growth: Growth,
 ) -> Result<(), Error>
-    requires positive { 0 < block }
-    requires grows { size < new_size }
-    requires exact { IsExact size block (entries_of table.old) }
+    requires positive { 0 < growth.block }
+    requires grows { growth.size < growth.new_size }
+    requires exact { IsExact growth.size growth.block (entries_of table.old) }
     requires spent { held_of table.old ≡ None }
-    requires addressed { count_of table.old * block < 2 ^ 64 }
-    requires some { mode ≢ PreallocateMode.None }
+    requires addressed { count_of table.old * growth.block < 2 ^ 64 }
+    requires some { growth.mode ≢ PreallocateMode.None }
     ensures grown { OnOk result
-        (IsGrowth mode (lent B.as_layer_below below.entry) new_size
-        (cow_view (S.features storage.old) (S.fault_count storage.old + faults.old) (S.bytes storage.old) size block (entries_of table.old) (count_of table.old) None)
-        (cow_view (S.features storage.old) (S.fault_count storage.new + faults.new) (S.bytes storage.new) new_size block (entries_of table.new) (count_of table.new) None) (Ok tt)) }
+        (IsGrowth growth.mode (lent B.as_layer_below below.entry) growth.new_size
+        (cow_view (S.features storage.old) (S.fault_count storage.old + faults.old) (S.bytes storage.old) growth.size growth.block (entries_of table.old) (count_of table.old) None)
+        (cow_view (S.features storage.old) (S.fault_count storage.new + faults.new) (S.bytes storage.new) growth.new_size growth.block (entries_of table.new) (count_of table.new) None) (Ok tt)) }
     ensures refused { IfErr result
-        (λ e. IsGrowth mode (lent B.as_layer_below below.entry) new_size
-        (cow_view (S.features storage.old) (S.fault_count storage.old + faults.old) (S.bytes storage.old) size block (entries_of table.old) (count_of table.old) None)
-        (cow_view (S.features storage.old) (S.fault_count storage.new + faults.new) (S.bytes storage.new) size block (entries_of table.old) (count_of table.new) None) (Err e)) }
-    ensures exact_now { OnOk result (IsExact new_size block (entries_of table.new)) }
+        (λ e. IsGrowth growth.mode (lent B.as_layer_below below.entry) growth.new_size
+        (cow_view (S.features storage.old) (S.fault_count storage.old + faults.old) (S.bytes storage.old) growth.size growth.block (entries_of table.old) (count_of table.old) None)
+        (cow_view (S.features storage.old) (S.fault_count storage.new + faults.new) (S.bytes storage.new) growth.size growth.block (entries_of table.old) (count_of table.new) None) (Err e)) }
+    ensures exact_now { OnOk result (IsExact growth.new_size growth.block (entries_of table.new)) }
     ensures entries { OnErr result (entries_of table.new ≡ entries_of table.old) }
     ensures held { held_of table.new ≡ None }
-    ensures addressed { count_of table.new * block < 2 ^ 64 }
+    ensures addressed { count_of table.new * growth.block < 2 ^ 64 }
     ensures features { S.features storage.new ≡ S.features storage.old }
 {
-    let lower = is_lower(mode);
-    let was = empty_cut(table, block, size);
-    fill_cut(
-        storage, faults, table, alloc, below, block, size, new_size, mode,
-    )?;
-    if let Err(e) = add_new(
-        storage, faults, table, alloc, below, block, size, new_size, lower,
-    ) {
-        restore_cut(table, block, size, was);
+    let was = empty_cut(table, growth.block, growth.size);
+    fill_cut(storage, faults, table, alloc, below, growth)?;
+    if let Err(e) = add_new(storage, faults, table, alloc, below, growth) {
+        restore_cut(table, growth.block, growth.size, was);
         return Err(e);
     }
     Ok(())
 }
 
-/// Grows the disk of that size: fills the guest block that the old end cuts as the mode says, and adds those behind it.
+/// Grows the disk: fills the guest block that the old end cuts as the mode says, and adds those behind it.
 /// Refused, all is as it was, but for data blocks that are free.
 pub(crate) fn grow<S: Storage, B: LowerLayer>(
     storage: &mut S,
@@ -71,34 +62,29 @@ pub(crate) fn grow<S: Storage, B: LowerLayer>(
     table: &mut Table,
     alloc: Global,
     below: Option<&B>,
-    block: u64,
-    size: u64,
-    new_size: u64,
-    mode: PreallocateMode,
+    growth: Growth,
 ) -> Result<(), Error>
-    requires positive { 0 < block }
-    requires grows { size < new_size }
-    requires exact { IsExact size block (entries_of table.old) }
+    requires positive { 0 < growth.block }
+    requires grows { growth.size < growth.new_size }
+    requires exact { IsExact growth.size growth.block (entries_of table.old) }
     requires spent { held_of table.old ≡ None }
-    requires addressed { count_of table.old * block < 2 ^ 64 }
+    requires addressed { count_of table.old * growth.block < 2 ^ 64 }
     ensures grown { OnOk result
-        (IsGrowth mode (lent B.as_layer_below below.entry) new_size
-        (cow_view (S.features storage.old) (S.fault_count storage.old + faults.old) (S.bytes storage.old) size block (entries_of table.old) (count_of table.old) None)
-        (cow_view (S.features storage.old) (S.fault_count storage.new + faults.new) (S.bytes storage.new) new_size block (entries_of table.new) (count_of table.new) None) (Ok tt)) }
+        (IsGrowth growth.mode (lent B.as_layer_below below.entry) growth.new_size
+        (cow_view (S.features storage.old) (S.fault_count storage.old + faults.old) (S.bytes storage.old) growth.size growth.block (entries_of table.old) (count_of table.old) None)
+        (cow_view (S.features storage.old) (S.fault_count storage.new + faults.new) (S.bytes storage.new) growth.new_size growth.block (entries_of table.new) (count_of table.new) None) (Ok tt)) }
     ensures refused { IfErr result
-        (λ e. IsGrowth mode (lent B.as_layer_below below.entry) new_size
-        (cow_view (S.features storage.old) (S.fault_count storage.old + faults.old) (S.bytes storage.old) size block (entries_of table.old) (count_of table.old) None)
-        (cow_view (S.features storage.old) (S.fault_count storage.new + faults.new) (S.bytes storage.new) size block (entries_of table.old) (count_of table.new) None) (Err e)) }
-    ensures exact_now { OnOk result (IsExact new_size block (entries_of table.new)) }
+        (λ e. IsGrowth growth.mode (lent B.as_layer_below below.entry) growth.new_size
+        (cow_view (S.features storage.old) (S.fault_count storage.old + faults.old) (S.bytes storage.old) growth.size growth.block (entries_of table.old) (count_of table.old) None)
+        (cow_view (S.features storage.old) (S.fault_count storage.new + faults.new) (S.bytes storage.new) growth.size growth.block (entries_of table.old) (count_of table.new) None) (Err e)) }
+    ensures exact_now { OnOk result (IsExact growth.new_size growth.block (entries_of table.new)) }
     ensures entries { OnErr result (entries_of table.new ≡ entries_of table.old) }
     ensures held { held_of table.new ≡ None }
-    ensures addressed { count_of table.new * block < 2 ^ 64 }
+    ensures addressed { count_of table.new * growth.block < 2 ^ 64 }
     ensures features { S.features storage.new ≡ S.features storage.old }
 {
-    if adds_nothing(mode) {
-        return add_blocks(table, block, size, new_size, false);
+    if adds_nothing(growth.mode) {
+        return add_blocks(table, growth.block, growth.size, growth.new_size, false);
     }
-    grow_with(
-        storage, faults, table, alloc, below, block, size, new_size, mode,
-    )
+    grow_with(storage, faults, table, alloc, below, growth)
 }

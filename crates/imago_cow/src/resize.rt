@@ -1,12 +1,14 @@
 //! How the guest blocks follow the size of the disk.
-ghost use Rattle.std.specs.Prelude.{◌≡◌, ℕ, ◌+◌, ◌-◌, ◌*◌, ◌^◌, ◌<◌, ◌≤◌, ◌⊎◌, ◌&&◌, min, max, length, take, None, Some, Ok, OnOk, OnErr, IfOk, IfErr, IsErrOf, IsTrue, true};
+ghost use Rattle.std.specs.Prelude.{◌≡◌, ◌≢◌, ℕ, ◌+◌, ◌-◌, ◌*◌, ◌^◌, ◌<◌, ◌≤◌, ◌⊎◌, ◌&&◌, min, max, length, take, None, Some, Ok, OnOk, OnErr, IfOk, IfErr, IsErrOf, IsTrue, true, false};
 ghost use Rattle.imago_storage.specs.Faults.{CountsFaults};
 ghost use Rattle.imago_drivers.specs.Calls.{IsShrink};
+ghost use Rattle.imago_drivers.specs.declared.format.PreallocateMode.{PreallocateMode};
 ghost use Rattle.imago_drivers.specs.LayerBelow.{lent};
 ghost use Rattle.imago_drivers.specs.Lengths.{padded_to};
 ghost use Rattle.imago_drivers.specs.Reasons.{allowed};
 ghost use Rattle.imago_cow.specs.Guest.{IsExact, AreAdded};
 ghost use Rattle.imago_cow.specs.Growth.{IsPushed, IsExtended, KeepsBytes, fill_reasons};
+ghost use Rattle.imago_cow.specs.Cut.{shows_below};
 ghost use Rattle.imago_cow.specs.Cow.{cow_view};
 ghost use Rattle.imago_cow.specs.Table.{without_data, named_count};
 ghost use Rattle.imago_cow.specs.TableView.{entries_of, held_of, count_of, room_of, KeepsRoom};
@@ -14,10 +16,50 @@ ghost use Rattle.imago_cow.specs.TableView.{entries_of, held_of, count_of, room_
 use crate::copy::copy_old;
 use crate::guest::first_whole;
 use crate::table::Table;
+use imago_drivers::drivers::PreallocateMode;
 use imago_drivers::layer::LowerLayer;
 use imago_storage::error::Error;
 use imago_storage::storage::Storage;
 use std::alloc::Global;
+
+/// A growth of a disk.
+#[derive(Clone, Copy)]
+pub(crate) struct Growth {
+    /// A guest block's length in bytes.
+    pub(crate) block: u64,
+    /// The old size in bytes.
+    pub(crate) size: u64,
+    /// The size in bytes that it grows to.
+    pub(crate) new_size: u64,
+    /// What new places show.
+    pub(crate) mode: PreallocateMode,
+}
+
+/// Whether new places show the layer below.
+pub(crate) fn is_lower(mode: PreallocateMode) -> bool
+    ensures { result ≡ shows_below mode }
+{
+    match mode {
+        PreallocateMode::None | PreallocateMode::Zero => false,
+        PreallocateMode::FormatAllocate
+        | PreallocateMode::FullAllocate
+        | PreallocateMode::WriteData => true,
+    }
+}
+
+/// Whether new places are unspecified.
+pub(crate) fn adds_nothing(mode: PreallocateMode) -> bool
+    ensures none { result ≡ true → mode ≡ PreallocateMode.None }
+    ensures some { result ≡ false → mode ≢ PreallocateMode.None }
+{
+    match mode {
+        PreallocateMode::None => true,
+        PreallocateMode::Zero
+        | PreallocateMode::FormatAllocate
+        | PreallocateMode::FullAllocate
+        | PreallocateMode::WriteData => false,
+    }
+}
 
 /// Cuts the disk to that size, and answers the size that it has then. The guest blocks behind it are dropped, and their
 /// data blocks are free. It takes no memory, and is never refused.
@@ -215,77 +257,82 @@ pub(crate) fn push_blocks<S: Storage, B: LowerLayer>(
     Ok(())
 }
 
-/// Adds the guest blocks that a disk of that size needs, as explicit zeroes or in data blocks with the bytes that the layer
-/// below has there. Refused, the entries are as they were.
+/// Adds the guest blocks that the grown disk needs, as explicit zeroes, or in data blocks with the bytes that the layer below
+/// has there where new places show it. Refused, the entries are as they were.
 pub(crate) fn add_new<S: Storage, B: LowerLayer>(
     storage: &mut S,
     faults: &mut u64,
     table: &mut Table,
     alloc: Global,
     below: Option<&B>,
-    block: u64,
-    size: u64,
-    new_size: u64,
-    lower: bool,
+    growth: Growth,
 ) -> Result<(), Error>
-    requires positive { 0 < block }
+    requires positive { 0 < growth.block }
     requires spent { held_of table.old ≡ None }
-    requires addressed { count_of table.old * block < 2 ^ 64 }
-    requires exact { IsExact size block (entries_of table.old) }
-    requires grows { size ≤ new_size }
-    ensures exact { OnOk result (IsExact new_size block (entries_of table.new)) }
+    requires addressed { count_of table.old * growth.block < 2 ^ 64 }
+    requires exact { IsExact growth.size growth.block (entries_of table.old) }
+    requires grows { growth.size ≤ growth.new_size }
+    ensures exact { OnOk result (IsExact growth.new_size growth.block (entries_of table.new)) }
     ensures extended { OnOk result
-        (IsExtended (lent B.as_layer_below below.entry).at «lower» (S.features storage.old).keeps_data block
-        (length (entries_of table.old) * block) new_size
+        (IsExtended (lent B.as_layer_below below.entry).at (shows_below growth.mode)
+        (S.features storage.old).keeps_data growth.block
+        (length (entries_of table.old) * growth.block) growth.new_size
         (entries_of table.old) (entries_of table.new) (S.bytes storage.old) (S.bytes storage.new)) }
     ensures prefix { take (length (entries_of table.old)) (entries_of table.new) ≡ entries_of table.old }
     ensures named { (wanted : ℕ)
-        → new_size ≤ wanted * block
-        → wanted * block < new_size + block
+        → growth.new_size ≤ wanted * growth.block
+        → wanted * growth.block < growth.new_size + growth.block
         → OnOk result
-        ((named_count (entries_of table.new) ≡ named_count (entries_of table.old)) ⊎ ((«lower» ≡ true) × (named_count (entries_of table.new) ≡ named_count (entries_of table.old) + (wanted - length (entries_of table.old))))) }
+        ((named_count (entries_of table.new) ≡ named_count (entries_of table.old)) ⊎ ((shows_below growth.mode ≡ true) × (named_count (entries_of table.new) ≡ named_count (entries_of table.old) + (wanted - length (entries_of table.old))))) }
     ensures counted { (most wanted : ℕ)
-        → new_size ≤ wanted * block
-        → wanted * block < new_size + block
+        → growth.new_size ≤ wanted * growth.block
+        → wanted * growth.block < growth.new_size + growth.block
         → count_of table.old ≤ most
-        → («lower» ≡ true → named_count (entries_of table.old) + (wanted - length (entries_of table.old)) ≤ most)
+        → (shows_below growth.mode ≡ true → named_count (entries_of table.old) + (wanted - length (entries_of table.old)) ≤ most)
         → count_of table.new ≤ most }
     ensures refused { OnErr result (entries_of table.new ≡ entries_of table.old) }
-    ensures bytes { KeepsBytes (S.features storage.old).keeps_data block
-        (length (entries_of table.old) * block)
+    ensures bytes { KeepsBytes (S.features storage.old).keeps_data growth.block
+        (length (entries_of table.old) * growth.block)
         (entries_of table.old) (S.bytes storage.old) (S.bytes storage.new) }
     ensures held { held_of table.new ≡ None }
-    ensures addressed { count_of table.new * block < 2 ^ 64 }
+    ensures addressed { count_of table.new * growth.block < 2 ^ 64 }
     ensures no_shorter { length (S.bytes storage.old) ≤ length (S.bytes storage.new) }
     ensures no_longer { (most wanted : ℕ)
-        → new_size ≤ wanted * block
-        → wanted * block < new_size + block
+        → growth.new_size ≤ wanted * growth.block
+        → wanted * growth.block < growth.new_size + growth.block
         → count_of table.old ≤ most
-        → («lower» ≡ true → named_count (entries_of table.old) + (wanted - length (entries_of table.old)) ≤ most)
+        → (shows_below growth.mode ≡ true → named_count (entries_of table.old) + (wanted - length (entries_of table.old)) ≤ most)
         → length (S.bytes storage.new)
-        ≤ max (length (S.bytes storage.old)) (padded_to (S.features storage.old) 0 (most * block)) }
+        ≤ max (length (S.bytes storage.old)) (padded_to (S.features storage.old) 0 (most * growth.block)) }
     ensures features { S.features storage.new ≡ S.features storage.old }
     ensures faults { CountsFaults
         ((S.features storage.old).is_reliable && (lent B.as_layer_below below.entry).is_reliable)
         (S.fault_count storage.old + faults.old) (S.fault_count storage.new + faults.new) result }
     ensures refusals { (most wanted : ℕ)
-        → new_size ≤ wanted * block
-        → wanted * block < new_size + block
+        → growth.new_size ≤ wanted * growth.block
+        → wanted * growth.block < growth.new_size + growth.block
         → count_of table.old ≤ most
-        → («lower» ≡ true → named_count (entries_of table.old) + (wanted - length (entries_of table.old)) ≤ most)
+        → (shows_below growth.mode ≡ true → named_count (entries_of table.old) + (wanted - length (entries_of table.old)) ≤ most)
         → IfErr result
         (allowed
-        (fill_reasons (S.features storage.old) (lent B.as_layer_below below.entry) (most * block)
-        (λ p. («lower» ≡ true) × (length (entries_of table.old) * block ≤ p) × (p < new_size)))) }
+        (fill_reasons (S.features storage.old) (lent B.as_layer_below below.entry) (most * growth.block)
+        (λ p. (shows_below growth.mode ≡ true) × (length (entries_of table.old) * growth.block ≤ p) × (p < growth.new_size)))) }
 {
-    if !lower {
-        return add_blocks(table, block, size, new_size, true);
+    if !is_lower(growth.mode) {
+        return add_blocks(table, growth.block, growth.size, growth.new_size, true);
     }
     let old = table.len();
-    let missing = first_whole(block, new_size) as usize - old;
+    let missing = first_whole(growth.block, growth.new_size) as usize - old;
     table.reserve(missing)?;
     if let Err(e) = push_blocks(
-        storage, faults, table, alloc, below, block, new_size, missing,
+        storage,
+        faults,
+        table,
+        alloc,
+        below,
+        growth.block,
+        growth.new_size,
+        missing,
     ) {
         table.truncate(old);
         return Err(e);

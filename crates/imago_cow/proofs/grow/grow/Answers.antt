@@ -10,7 +10,8 @@ use Rattle.imago_cow.proofs.grow.grow.Goals as goal
 pub returns-then-adds_nothing-clause-grown : goal.returns-then-adds_nothing-clause-grown
 returns-then-adds_nothing-clause-grown g c =
     let a = c.args in
-    let m : a.mode ≡ PreallocateMode.None = c.adds_nothing.ensures.none c.if-adds_nothing.true in
+    let growth = a.growth in
+    let m : growth.mode ≡ PreallocateMode.None = c.adds_nothing.ensures.none c.if-adds_nothing.true in
     on_ok c.add_blocks.result (λ x is.
-    rw (m, c.add_blocks.ensures.count) (grown_absent (g.S.Storage.features a.storage.now) (g.S.Storage.fault_count a.storage.now + a.faults.now) (g.S.Storage.bytes a.storage.now) a.size a.block (entries_of a.table.now) (entries_of c.add_blocks.new.table) (count_of a.table.now) a.new_size
+    rw (m, c.add_blocks.ensures.count) (grown_absent (g.S.Storage.features a.storage.now) (g.S.Storage.fault_count a.storage.now + a.faults.now) (g.S.Storage.bytes a.storage.now) growth.size growth.block (entries_of a.table.now) (entries_of c.add_blocks.new.table) (count_of a.table.now) growth.new_size
     c.requires.positive (lent g.B.LowerLayer.as_layer_below a.below) GuestBlock.Absent (omega (arith, c.requires.grows)) c.requires.exact.covers ((ok_holds x is c.add_blocks.ensures.exact).covers) (ok_holds x is c.add_blocks.ensures.added)))
