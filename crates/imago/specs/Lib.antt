@@ -110,6 +110,7 @@ pub use Rattle.imago_drivers.specs.declared.builder.FormatCreateBuilderBase
 pub use Rattle.imago_vmdk.specs.declared.line.Extent
 pub use Rattle.imago_vmdk.specs.declared.vmdk.Vmdk as DeclaredVmdk
 pub use Rattle.imago_cow.specs.declared.table.GuestBlock
+pub use Rattle.imago_cow.specs.declared.table.WithoutData
 pub use Rattle.imago_cow.specs.declared.cow.Cow as DeclaredCow
 pub use Rattle.imago_cow.specs.declared.cow.CowState
 pub use Rattle.imago_cow.specs.declared.cow.Waiting as WaitingWrite

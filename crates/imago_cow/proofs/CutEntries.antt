@@ -1,6 +1,7 @@
-use Rattle.std.proofs.Common.{suc, zero, ◌≡◌, ℕ, ◌/◌, ◌<◌, ◌⊎◌, ⊎_elim, inl, inr, Bool, true, false, List, [], ◌∷◌, Option, Some, None, refl, sym, ap, ◌∙◌, arith}
+use Rattle.std.proofs.Common.{suc, zero, ◌≡◌, ℕ, ◌/◌, ◌<◌, ◌⊎◌, ⊎_elim, inl, inr, true, false, List, [], ◌∷◌, Option, Some, None, refl, sym, ap, ◌∙◌, arith}
 use Rattle.std.specs.Prelude.{slice_get, slice_set, IfSome}
 use Rattle.imago_cow.specs.declared.table.GuestBlock.{GuestBlock}
+use Rattle.imago_cow.specs.declared.table.WithoutData.{WithoutData}
 use Rattle.imago_cow.specs.Table.{without_data}
 use Rattle.imago_cow.specs.Guest.{is_data, is_touched}
 use Rattle.imago_cow.specs.GuestLaws.{touched_at}
@@ -18,9 +19,9 @@ put_twice [] i y z = refl
 put_twice (x ∷ xs) zero y z = refl
 put_twice (x ∷ xs) (suc i) y z = ap (λ w. x ∷ w) (put_twice xs i y z)
 
-pub within_same : (was : Option Bool) (i n m : ℕ) → m ≡ n → IfSome was (λ z. i < n) → IfSome was (λ z. i < m)
+pub within_same : (was : Option WithoutData) (i n m : ℕ) → m ≡ n → IfSome was (λ k. i < n) → IfSome was (λ k. i < m)
 within_same None i n m e h = h
-within_same (Some is_zero) i n m e h = rw e h
+within_same (Some kind) i n m e h = rw e h
 
 module _ (block size : ℕ) (old now : List GuestBlock) where
   -- a guest block that isn't told to be without data has its entry still
@@ -29,10 +30,10 @@ module _ (block size : ℕ) (old now : List GuestBlock) where
   restored_none holds (inr taken) = let x : true ≡ false = sym (holds taken.cuts) ∙ taken.empty in let z : ⊥ = cc in absurd z
 
   -- the other gets its entry back
-  pub restored_some : (is_zero : Bool) → slice_get old (size / block) ≡ Some (without_data is_zero) → IsCutEntered block size old now → slice_set now (size / block) (without_data is_zero) ≡ old
-  restored_some is_zero empty (inl same) = ap (λ x. slice_set x (size / block) (without_data is_zero)) same ∙ put_same old (size / block) (without_data is_zero) empty
-  restored_some is_zero empty (inr taken) =
-      ap (λ x. slice_set x (size / block) (without_data is_zero)) taken.entries ∙ put_twice old (size / block) (GuestBlock.Data taken.number) (without_data is_zero) ∙ put_same old (size / block) (without_data is_zero) empty
+  pub restored_some : (kind : WithoutData) → slice_get old (size / block) ≡ Some (without_data kind) → IsCutEntered block size old now → slice_set now (size / block) (without_data kind) ≡ old
+  restored_some kind empty (inl same) = ap (λ x. slice_set x (size / block) (without_data kind)) same ∙ put_same old (size / block) (without_data kind) empty
+  restored_some kind empty (inr taken) =
+      ap (λ x. slice_set x (size / block) (without_data kind)) taken.entries ∙ put_twice old (size / block) (GuestBlock.Data taken.number) (without_data kind) ∙ put_same old (size / block) (without_data kind) empty
 
   -- an entry that names a data block still does
   pub data_stays : IsCutEntered block size old now → (i j : ℕ) → slice_get old i ≡ Some (GuestBlock.Data j) → slice_get now i ≡ Some (GuestBlock.Data j)

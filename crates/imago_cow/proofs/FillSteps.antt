@@ -17,6 +17,8 @@ use Rattle.imago_drivers.specs.Lengths.{padded_to}
 use Rattle.imago_drivers.specs.Place.{Value, shown}
 use Rattle.imago_drivers.specs.Reasons.{allowed}
 use Rattle.imago_cow.specs.declared.table.GuestBlock.{GuestBlock}
+use Rattle.imago_cow.specs.declared.table.WithoutData.{WithoutData}
+use Rattle.imago_cow.specs.declared.table.WithoutData.TheVariants as W
 use Rattle.imago_cow.specs.Guest.{entry_place, IsExact, AreAdded}
 use Rattle.imago_cow.specs.GuestLaws.{lies_in}
 use Rattle.imago_cow.specs.Growth.{SameOutside, KeepsBytes, IsPushed, IsExtended, fill_reasons}
@@ -180,15 +182,15 @@ pub prefix_kept : {X T E : Type 0} (r : Result T E) (old new more : List X) → 
 prefix_kept (Ok x) old new more e u = ap (take (length old)) e ∙ take_at old more (length old) refl
 prefix_kept (Err x) old new more e u = ap (take (length old)) u ∙ take_all (length old) old (omega arith)
 
-empty_names : (clear : Bool) → names_any (without_data clear) ≡ 0
-empty_names true = refl
-empty_names false = refl
+empty_names : (kind : WithoutData) → names_any (without_data kind) ≡ 0
+empty_names W.Absent = refl
+empty_names W.Zero = refl
 
 -- entries without data name none
-pub named_kept : {T E : Type 0} (r : Result T E) (old new : List GuestBlock) (clear : Bool) (n : ℕ) → OnOk r (new ≡ old ++ replicate n (without_data clear)) → OnErr r (new ≡ old) → named_count new ≡ named_count old
-named_kept (Ok x) old new clear n e u =
-    let a = sum_by-append names_any old (replicate n (without_data clear)) in
-    let b : sum_by names_any (replicate n (without_data clear)) ≡ n * names_any (without_data clear) = sum_by-replicate names_any n (without_data clear) in
-    let c : n * names_any (without_data clear) ≡ n * 0 = ap (λ z. n * z) (empty_names clear) in
+pub named_kept : {T E : Type 0} (r : Result T E) (old new : List GuestBlock) (kind : WithoutData) (n : ℕ) → OnOk r (new ≡ old ++ replicate n (without_data kind)) → OnErr r (new ≡ old) → named_count new ≡ named_count old
+named_kept (Ok x) old new kind n e u =
+    let a = sum_by-append names_any old (replicate n (without_data kind)) in
+    let b : sum_by names_any (replicate n (without_data kind)) ≡ n * names_any (without_data kind) = sum_by-replicate names_any n (without_data kind) in
+    let c : n * names_any (without_data kind) ≡ n * 0 = ap (λ z. n * z) (empty_names kind) in
     ap named_count e ∙ omega (arith, a, b, c)
-named_kept (Err x) old new clear n e u = ap named_count u
+named_kept (Err x) old new kind n e u = ap named_count u

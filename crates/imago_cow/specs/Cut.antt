@@ -4,6 +4,7 @@ use Rattle.imago_drivers.specs.declared.format.PreallocateMode.TheVariants as Mo
 use Rattle.imago_drivers.specs.Place.{Value, Byte, shown}
 use Rattle.imago_drivers.specs.Resized.{grown_into}
 use Rattle.imago_cow.specs.declared.table.GuestBlock.{GuestBlock}
+use Rattle.imago_cow.specs.declared.table.WithoutData.{WithoutData}
 use Rattle.imago_cow.specs.Guest.{entry_place, is_data, IsEntered}
 use Rattle.imago_cow.specs.Table.{without_data}
 use Rattle.imago_cow.specs.Copies.{old_value}
@@ -55,7 +56,7 @@ pub record IsCutTaken (block size : ℕ) (old new : List GuestBlock) : Type 0 wh
 abbrev pub IsCutEntered : ℕ → ℕ → List GuestBlock → List GuestBlock → Type 0
 IsCutEntered block size old new = (new ≡ old) ⊎ IsCutTaken block size old new
 
--- what was told of that guest block: whether it is an explicit zero; none where it is data, or none is cut
-abbrev pub IsCutEmpty : ℕ → ℕ → List GuestBlock → Option Bool → Type 0
+-- what was told of that guest block: what it is without data; none where it is data, or none is cut
+abbrev pub IsCutEmpty : ℕ → ℕ → List GuestBlock → Option WithoutData → Type 0
 IsCutEmpty block size entries None = 0 < size % block → is_data (slice_get entries (size / block)) ≡ true
-IsCutEmpty block size entries (Some is_zero) = slice_get entries (size / block) ≡ Some (without_data is_zero)
+IsCutEmpty block size entries (Some kind) = slice_get entries (size / block) ≡ Some (without_data kind)

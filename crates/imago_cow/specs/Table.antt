@@ -1,7 +1,9 @@
-use Rattle.std.specs.Prelude.{◌≡◌, ℕ, ◌+◌, ◌*◌, ◌%◌, ◌<◌, ◌≤◌, List, sum_by, Option, Some, None, nat_lt, if◌then◌else◌, Bool, true, false}
+use Rattle.std.specs.Prelude.{◌≡◌, ℕ, ◌+◌, ◌*◌, ◌%◌, ◌<◌, ◌≤◌, List, sum_by, Option, Some, None, nat_lt, if◌then◌else◌}
 use Rattle.imago_cow.specs.declared.free.FreeBlocks.{FreeBlocks}
 use Rattle.imago_cow.specs.declared.table.GuestBlock.{GuestBlock}
 use Rattle.imago_cow.specs.declared.table.GuestBlock.TheVariants as G
+use Rattle.imago_cow.specs.declared.table.WithoutData.{WithoutData}
+use Rattle.imago_cow.specs.declared.table.WithoutData.TheVariants as W
 use Rattle.imago_cow.specs.Free.{one_if_same, times_free}
 
 -- 1 where the guest block is in data block j, else 0
@@ -60,6 +62,6 @@ pub record StandsInLowest (entries : List GuestBlock) (count block offset at : �
   pub stands : at ≡ number * block + offset % block
 
 -- the entry of a guest block without data
-abbrev pub without_data : Bool → GuestBlock
-without_data true = GuestBlock.Zero
-without_data false = GuestBlock.Absent
+abbrev pub without_data : WithoutData → GuestBlock
+without_data W.Absent = GuestBlock.Absent
+without_data W.Zero = GuestBlock.Zero

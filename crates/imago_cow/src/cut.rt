@@ -16,7 +16,7 @@ ghost use Rattle.imago_cow.specs.Cut.{IsCutEmpty, IsCutEntered, IsCutFilled, IsC
 
 use crate::copy::copy_old;
 use crate::resize::{Growth, adds_nothing, is_lower, take_block};
-use crate::table::{GuestBlock, Table};
+use crate::table::{GuestBlock, Table, WithoutData};
 use imago_drivers::layer::LowerLayer;
 use imago_storage::error::Error;
 use imago_storage::storage::Storage;
@@ -254,27 +254,27 @@ pub(crate) fn fill_cut<S: Storage, B: LowerLayer>(
     }
 }
 
-/// Whether the guest block that the disk's end cuts is an explicit zero, where it isn't data.
-pub(crate) fn empty_cut(table: &Table, block: u64, size: u64) -> Option<bool>
+/// What the guest block that the disk's end cuts is, where it isn't data.
+pub(crate) fn empty_cut(table: &Table, block: u64, size: u64) -> Option<WithoutData>
     requires positive { 0 < block }
     requires within { 0 < size % block → size / block < length (entries_of table.now) }
     ensures empty { IsCutEmpty block size (entries_of table.now) result }
-    ensures within { IfSome result (λ z. size / block < length (entries_of table.now)) }
+    ensures within { IfSome result (λ k. size / block < length (entries_of table.now)) }
 {
     if size % block == 0 {
         return None;
     }
     match table.get((size / block) as usize) {
-        GuestBlock::Absent => Some(false),
-        GuestBlock::Zero => Some(true),
+        GuestBlock::Absent => Some(WithoutData::Absent),
+        GuestBlock::Zero => Some(WithoutData::Zero),
         GuestBlock::Data(_) => None,
     }
 }
 
 /// Makes the guest block that the disk's end cuts again what it was, and its data block free.
-pub(crate) fn restore_cut(table: &mut Table, block: u64, size: u64, was: Option<bool>)
+pub(crate) fn restore_cut(table: &mut Table, block: u64, size: u64, was: Option<WithoutData>)
     requires positive { 0 < block }
-    requires within { IfSome was (λ z. size / block < length (entries_of table.old)) }
+    requires within { IfSome was (λ k. size / block < length (entries_of table.old)) }
     ensures restored { (old : List GuestBlock)
         → IsCutEmpty block size old was
         → IsCutEntered block size old (entries_of table.old)
@@ -282,8 +282,8 @@ pub(crate) fn restore_cut(table: &mut Table, block: u64, size: u64, was: Option<
     ensures held { held_of table.new ≡ held_of table.old }
     ensures count { count_of table.new ≡ count_of table.old }
 {
-    let Some(zero) = was else {
+    let Some(kind) = was else {
         return;
     };
-    table.clear((size / block) as usize, zero);
+    table.clear((size / block) as usize, kind);
 }

@@ -9,7 +9,7 @@ ghost use Rattle.imago_cow.specs.Cow.{cow_view};
 
 use crate::cut::{empty_cut, fill_cut, restore_cut};
 use crate::resize::{Growth, add_blocks, add_new, adds_nothing};
-use crate::table::Table;
+use crate::table::{Table, WithoutData};
 use imago_drivers::layer::LowerLayer;
 use imago_storage::error::Error;
 use imago_storage::storage::Storage;
@@ -84,7 +84,13 @@ pub(crate) fn grow<S: Storage, B: LowerLayer>(
     ensures features { S.features storage.new ≡ S.features storage.old }
 {
     if adds_nothing(growth.mode) {
-        return add_blocks(table, growth.block, growth.size, growth.new_size, false);
+        return add_blocks(
+            table,
+            growth.block,
+            growth.size,
+            growth.new_size,
+            WithoutData::Absent,
+        );
     }
     grow_with(storage, faults, table, alloc, below, growth)
 }

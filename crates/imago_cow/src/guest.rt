@@ -9,7 +9,7 @@ ghost use Rattle.imago_drivers.specs.Operation.{Zero, DiscardToZero, DiscardToAn
 ghost use Rattle.imago_drivers.specs.Changes.{unspecified, to_backing};
 ghost use Rattle.imago_drivers.specs.Calls.{IsZeroCall, IsDiscard};
 
-use crate::table::Table;
+use crate::table::{Table, WithoutData};
 use imago_storage::error::Error;
 
 /// The first guest block that begins at the offset or behind it.
@@ -41,15 +41,15 @@ fn last_whole(block: u64, size: u64, end: u64, guest_blocks: u64) -> u64
 }
 
 /// Makes the guest blocks from `first` on and before `last` explicit zeroes, or absent.
-fn clear_range(table: &mut Table, first: u64, last: u64, zero: bool)
+fn clear_range(table: &mut Table, first: u64, last: u64, kind: WithoutData)
     requires ordered { first ≤ last }
     requires within { last ≤ length (entries_of table.old) }
-    ensures cleared { IsCleared first last (without_data zero) (entries_of table.old) (entries_of table.new) }
+    ensures cleared { IsCleared first last (without_data kind) (entries_of table.old) (entries_of table.new) }
     ensures held { held_of table.new ≡ held_of table.old }
     ensures count { count_of table.new ≡ count_of table.old }
 {
     for index in first..last {
-        table.clear(index as usize, zero);
+        table.clear(index as usize, kind);
     }
 }
 
@@ -61,13 +61,13 @@ pub(crate) fn clear_whole(
     size: u64,
     offset: u64,
     count: u64,
-    zero: bool,
+    kind: WithoutData,
 ) -> (u64, u64)
     requires positive { 0 < block }
     requires inside { offset + count ≤ size }
     requires exact { IsExact size block (entries_of table.old) }
     ensures part { IsWholePart block size offset count result.0 result.1 }
-    ensures cleared { AreWholeCleared block size offset count (without_data zero) (entries_of table.old) (entries_of table.new) }
+    ensures cleared { AreWholeCleared block size offset count (without_data kind) (entries_of table.old) (entries_of table.new) }
     ensures held { held_of table.new ≡ held_of table.old }
     ensures count { count_of table.new ≡ count_of table.old }
 {
@@ -77,7 +77,7 @@ pub(crate) fn clear_whole(
     if last <= first {
         return (offset, 0);
     }
-    clear_range(table, first, last, zero);
+    clear_range(table, first, last, kind);
     let start = first * block;
     if end < size {
         return (start, last * block - start);
@@ -113,7 +113,7 @@ pub(crate) fn make_zero(
     ensures held { held_of table.new ≡ held_of table.old }
     ensures count { count_of table.new ≡ count_of table.old }
 {
-    Ok(clear_whole(table, block, size, offset, count, true))
+    Ok(clear_whole(table, block, size, offset, count, WithoutData::Zero))
 }
 
 /// Makes the guest blocks that lie in the range absent. It is never refused.
@@ -136,5 +136,5 @@ pub(crate) fn make_absent(
     ensures held { held_of table.new ≡ held_of table.old }
     ensures count { count_of table.new ≡ count_of table.old }
 {
-    Ok(clear_whole(table, block, size, offset, count, false))
+    Ok(clear_whole(table, block, size, offset, count, WithoutData::Absent))
 }

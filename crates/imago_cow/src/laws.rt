@@ -1,6 +1,7 @@
 //! What holds of every table. The functions do nothing; their contracts are proved.
-ghost use Rattle.std.specs.Prelude.{◌≡◌, ℕ, ◌+◌, ◌<◌, Some, slice_get, slice_set, None, false};
+ghost use Rattle.std.specs.Prelude.{◌≡◌, ℕ, ◌+◌, ◌<◌, Some, slice_get, slice_set, None};
 ghost use Rattle.imago_cow.specs.declared.table.GuestBlock.{GuestBlock};
+ghost use Rattle.imago_cow.specs.declared.table.WithoutData.{WithoutData};
 ghost use Rattle.imago_cow.specs.Worked.{two_named, one_named};
 ghost use Rattle.imago_cow.specs.Table.{IsLowestUnused, without_data, named_count, held_count, times_used, one_below};
 ghost use Rattle.imago_cow.specs.Free.{times_free, free_count};
@@ -49,7 +50,7 @@ pub fn data_blocks_are_counted(table: &Table)
 pub fn lowest_unused_ones()
     ensures free { IsLowestUnused two_named None 3 2 }
     ensures new { IsLowestUnused two_named (Some 2) 3 3 }
-    ensures cleared { slice_set two_named 3 (without_data false) ≡ one_named }
+    ensures cleared { slice_set two_named 3 (without_data WithoutData.Absent) ≡ one_named }
     ensures first { IsLowestUnused one_named (Some 2) 3 0 }
     ensures named { named_count two_named ≡ 2 }
 {}

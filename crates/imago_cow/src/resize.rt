@@ -15,7 +15,7 @@ ghost use Rattle.imago_cow.specs.TableView.{entries_of, held_of, count_of, room_
 
 use crate::copy::copy_old;
 use crate::guest::first_whole;
-use crate::table::Table;
+use crate::table::{Table, WithoutData};
 use imago_drivers::drivers::PreallocateMode;
 use imago_drivers::layer::LowerLayer;
 use imago_storage::error::Error;
@@ -89,12 +89,12 @@ pub(crate) fn add_blocks(
     block: u64,
     size: u64,
     new_size: u64,
-    zero: bool,
+    kind: WithoutData,
 ) -> Result<(), Error>
     requires positive { 0 < block }
     requires exact { IsExact size block (entries_of table.old) }
     requires grows { size ≤ new_size }
-    ensures added { OnOk result (AreAdded (without_data zero) (entries_of table.old) (entries_of table.new)) }
+    ensures added { OnOk result (AreAdded (without_data kind) (entries_of table.old) (entries_of table.new)) }
     ensures prefix { take (length (entries_of table.old)) (entries_of table.new) ≡ entries_of table.old }
     ensures named { named_count (entries_of table.new) ≡ named_count (entries_of table.old) }
     ensures exact { OnOk result (IsExact new_size block (entries_of table.new)) }
@@ -104,7 +104,7 @@ pub(crate) fn add_blocks(
     ensures memory { IfErr result (λ e. e ≡ Error.Memory) }
 {
     let wanted = first_whole(block, new_size) as usize;
-    table.grow(wanted - table.len(), zero)
+    table.grow(wanted - table.len(), kind)
 }
 
 /// Takes the lowest free data block, or a new one where none is free, and holds it. [`Error::WrapAround`] is a new one that
@@ -319,7 +319,13 @@ pub(crate) fn add_new<S: Storage, B: LowerLayer>(
         (λ p. (shows_below growth.mode ≡ true) × (length (entries_of table.old) * growth.block ≤ p) × (p < growth.new_size)))) }
 {
     if !is_lower(growth.mode) {
-        return add_blocks(table, growth.block, growth.size, growth.new_size, true);
+        return add_blocks(
+            table,
+            growth.block,
+            growth.size,
+            growth.new_size,
+            WithoutData::Zero,
+        );
     }
     let old = table.len();
     let missing = first_whole(growth.block, growth.new_size) as usize - old;

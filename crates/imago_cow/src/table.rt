@@ -18,6 +18,15 @@ pub enum GuestBlock {
     Data(u64),
 }
 
+/// What a guest block is that is in no data block.
+#[derive(Clone, Copy)]
+pub enum WithoutData {
+    /// It leads to the layer below.
+    Absent,
+    /// It is an explicit zero.
+    Zero,
+}
+
 /// One entry for each guest block, and the data blocks by their numbers from 0 on.
 ///
 /// Each data block is named by exactly one entry, or held, or free. At most one is held: it was taken, and no entry
@@ -193,15 +202,15 @@ impl Table {
     }
 
     /// Makes a guest block an explicit zero, or absent, and its data block free. It takes no memory.
-    pub fn clear(&mut self, index: usize, zero: bool)
+    pub fn clear(&mut self, index: usize, kind: WithoutData)
         requires { index < length (entries_of self.old) }
-        ensures entries { entries_of self.new ≡ slice_set (entries_of self.old) index (without_data «zero») }
+        ensures entries { entries_of self.new ≡ slice_set (entries_of self.old) index (without_data kind) }
         ensures held { held_of self.new ≡ held_of self.old }
         ensures count { count_of self.new ≡ count_of self.old }
         ensures room { KeepsRoom self.old self.new }
     {
         let old = self.entries[index];
-        self.entries[index] = empty_block(zero);
+        self.entries[index] = empty_block(kind);
         if let GuestBlock::Data(block) = old {
             self.used -= 1;
             self.free.put(block);
@@ -224,9 +233,9 @@ impl Table {
 
     /// Adds so many explicit zeroes, or absent guest blocks. [`Error::Memory`] is no room for their entries; it leaves all
     /// as it was.
-    pub fn grow(&mut self, additional: usize, zero: bool) -> Result<(), Error>
+    pub fn grow(&mut self, additional: usize, kind: WithoutData) -> Result<(), Error>
         ensures entries { OnOk result
-            (entries_of self.new ≡ entries_of self.old ++ replicate additional (without_data «zero»)) }
+            (entries_of self.new ≡ entries_of self.old ++ replicate additional (without_data kind)) }
         ensures unchanged { OnErr result (entries_of self.new ≡ entries_of self.old) }
         ensures held { held_of self.new ≡ held_of self.old }
         ensures count { count_of self.new ≡ count_of self.old }
@@ -236,7 +245,7 @@ impl Table {
         let Some(guest_blocks) = self.entries.len().checked_add(additional) else {
             return Err(Error::Memory);
         };
-        self.entries.resize(guest_blocks, empty_block(zero))?;
+        self.entries.resize(guest_blocks, empty_block(kind))?;
         Ok(())
     }
 
@@ -293,12 +302,12 @@ fn note(last_owners: &mut Vec<usize>, block: u64, index: usize) {
     }
 }
 
-/// A guest block without data.
-fn empty_block(zero: bool) -> GuestBlock
-    ensures { result ≡ without_data zero }
+/// The entry of a guest block without data.
+fn empty_block(kind: WithoutData) -> GuestBlock
+    ensures { result ≡ without_data kind }
 {
-    if zero {
-        return GuestBlock::Zero;
+    match kind {
+        WithoutData::Absent => GuestBlock::Absent,
+        WithoutData::Zero => GuestBlock::Zero,
     }
-    GuestBlock::Absent
 }

@@ -10,7 +10,7 @@ mod set_up;
 mod subject;
 mod sweep;
 
-use imago_cow::table::{GuestBlock, Table};
+use imago_cow::table::{GuestBlock, Table, WithoutData};
 use std::alloc::Global;
 use std::process::Abort;
 
@@ -108,15 +108,15 @@ fn push(rt: &impl Abort, table: &mut Table) {
 fn clear(rt: &impl Abort, table: &mut Table, index: usize) {
     assert!(rt; index < table.len());
     if index < table.len() {
-        table.clear(index, true);
+        table.clear(index, WithoutData::Zero);
         assert_eq!(rt; table.get(index), GuestBlock::Zero);
     }
 }
 
 /// Adds absent guest blocks.
 fn grow(rt: &impl Abort, table: &mut Table, additional: usize) {
-    if table.grow(additional, false).is_err() {
-        assert!(rt; table.grow(additional, false).is_ok());
+    if table.grow(additional, WithoutData::Absent).is_err() {
+        assert!(rt; table.grow(additional, WithoutData::Absent).is_ok());
     }
 }
 

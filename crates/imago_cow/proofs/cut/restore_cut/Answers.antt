@@ -8,4 +8,4 @@ returns-in_default-clause-restored c = λ old empty entered. restored_none c.arg
 
 pub returns-clause-restored : goal.returns-clause-restored
 returns-clause-restored c = λ old empty entered.
-    c.clear.ensures.entries ∙ restored_some c.args.block c.args.size old (entries_of c.args.table.now) c.in-Some.zero (rw c.in-Some.is at empty) entered
+    c.clear.ensures.entries ∙ restored_some c.args.block c.args.size old (entries_of c.args.table.now) c.in-Some.kind (rw c.in-Some.is at empty) entered

@@ -5,4 +5,4 @@ use Rattle.imago_cow.specs.Guest.{IsCleared}
 use Rattle.imago_cow.proofs.guest.clear_range.Given as goal
 
 abbrev pub invariant-loop-index : goal.invariant-loop-index
-invariant-loop-index l = IsCleared l.first l.index (without_data l.zero) (entries_of l.fn.table) (entries_of l.table) × (held_of l.table ≡ held_of l.fn.table) × (count_of l.table ≡ count_of l.fn.table)
+invariant-loop-index l = IsCleared l.first l.index (without_data l.kind) (entries_of l.fn.table) (entries_of l.table) × (held_of l.table ≡ held_of l.fn.table) × (count_of l.table ≡ count_of l.fn.table)

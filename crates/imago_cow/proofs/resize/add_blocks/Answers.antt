@@ -6,7 +6,7 @@ use Rattle.imago_cow.proofs.FillSteps.{prefix_kept, named_kept}
 use Rattle.imago_cow.proofs.resize.add_blocks.Goals as goal
 
 pub returns-clause-added : goal.returns-clause-added
-returns-clause-added c = on_ok_weaker c.grow.result (λ e. rw e (are_added (without_data c.args.zero) _ _)) c.grow.ensures.entries
+returns-clause-added c = on_ok_weaker c.grow.result (λ e. rw e (are_added (without_data c.args.kind) _ _)) c.grow.ensures.entries
 
 pub returns-clause-exact : goal.returns-clause-exact
 returns-clause-exact c = on_ok_weaker c.grow.result
@@ -15,12 +15,12 @@ returns-clause-exact c = on_ok_weaker c.grow.result
     let x = c.requires.exact in
     let t = c.args.table.now.entries.items in
     let fewer : length t ≤ c.first_whole-wanted.result = needs_no_fewer c.args.block c.args.size c.args.new_size (length t) c.first_whole-wanted.result c.requires.grows w.begins x.near in
-    let f = e ∙ ap (λ n. t ++ replicate (c.first_whole-wanted.result - n) (without_data c.args.zero)) c.len.ensures in
-    rw f (exact_added c.args.block c.args.new_size c.first_whole-wanted.result (without_data c.args.zero) t fewer w.begins w.near))
+    let f = e ∙ ap (λ n. t ++ replicate (c.first_whole-wanted.result - n) (without_data c.args.kind)) c.len.ensures in
+    rw f (exact_added c.args.block c.args.new_size c.first_whole-wanted.result (without_data c.args.kind) t fewer w.begins w.near))
     c.grow.ensures.entries
 
 pub returns-clause-prefix : goal.returns-clause-prefix
 returns-clause-prefix c = prefix_kept c.grow.result _ _ _ c.grow.ensures.entries c.grow.ensures.unchanged
 
 pub returns-clause-named : goal.returns-clause-named
-returns-clause-named c = named_kept c.grow.result _ _ c.args.zero _ c.grow.ensures.entries c.grow.ensures.unchanged
+returns-clause-named c = named_kept c.grow.result _ _ c.args.kind _ c.grow.ensures.entries c.grow.ensures.unchanged
