@@ -84,13 +84,7 @@ pub(crate) fn grow<S: Storage, B: LowerLayer>(
     ensures features { S.features storage.new ≡ S.features storage.old }
 {
     if adds_nothing(growth.mode) {
-        return add_blocks(
-            table,
-            growth.block,
-            growth.size,
-            growth.new_size,
-            WithoutData::Absent,
-        );
+        return add_blocks(table, growth, WithoutData::Absent);
     }
     grow_with(storage, faults, table, alloc, below, growth)
 }

@@ -82,28 +82,22 @@ pub(crate) fn shrink(table: &mut Table, block: u64, size: u64, new_size: u64) ->
     new_size
 }
 
-/// Adds absent guest blocks, or explicit zeroes, up to that size of the disk. [`Error::Memory`] is no room for their
+/// Adds absent guest blocks, or explicit zeroes, up to the disk's new size. [`Error::Memory`] is no room for their
 /// entries; it leaves all as it was.
-pub(crate) fn add_blocks(
-    table: &mut Table,
-    block: u64,
-    size: u64,
-    new_size: u64,
-    kind: WithoutData,
-) -> Result<(), Error>
-    requires positive { 0 < block }
-    requires exact { IsExact size block (entries_of table.old) }
-    requires grows { size ≤ new_size }
+pub(crate) fn add_blocks(table: &mut Table, growth: Growth, kind: WithoutData) -> Result<(), Error>
+    requires positive { 0 < growth.block }
+    requires exact { IsExact growth.size growth.block (entries_of table.old) }
+    requires grows { growth.size ≤ growth.new_size }
     ensures added { OnOk result (AreAdded (without_data kind) (entries_of table.old) (entries_of table.new)) }
     ensures prefix { take (length (entries_of table.old)) (entries_of table.new) ≡ entries_of table.old }
     ensures named { named_count (entries_of table.new) ≡ named_count (entries_of table.old) }
-    ensures exact { OnOk result (IsExact new_size block (entries_of table.new)) }
+    ensures exact { OnOk result (IsExact growth.new_size growth.block (entries_of table.new)) }
     ensures unchanged { OnErr result (entries_of table.new ≡ entries_of table.old) }
     ensures held { held_of table.new ≡ held_of table.old }
     ensures count { count_of table.new ≡ count_of table.old }
     ensures memory { IfErr result (λ e. e ≡ Error.Memory) }
 {
-    let wanted = first_whole(block, new_size) as usize;
+    let wanted = first_whole(growth.block, growth.new_size) as usize;
     table.grow(wanted - table.len(), kind)
 }
 
@@ -132,31 +126,31 @@ pub(crate) fn take_block(table: &mut Table, block: u64) -> Result<u64, Error>
 }
 
 /// Adds a guest block in a data block of its own, with the bytes that the layer below has there, as far as the end of the
-/// disk. Refused, the data block is given back.
+/// grown disk. Refused, the data block is given back.
 fn push_filled<S: Storage, B: LowerLayer>(
     storage: &mut S,
     faults: &mut u64,
     table: &mut Table,
     alloc: Global,
     below: Option<&B>,
-    block: u64,
-    end: u64,
+    growth: Growth,
 ) -> Result<(), Error>
-    requires positive { 0 < block }
+    requires positive { 0 < growth.block }
     requires spent { held_of table.old ≡ None }
-    requires addressed { count_of table.old * block < 2 ^ 64 }
-    requires begins { length (entries_of table.old) * block < end }
+    requires addressed { count_of table.old * growth.block < 2 ^ 64 }
+    requires begins { length (entries_of table.old) * growth.block < growth.new_size }
     requires reserved { length (entries_of table.old) < room_of table.old }
     ensures pushed { OnOk result
-        (IsPushed (lent B.as_layer_below below.entry).at (S.features storage.old).keeps_data block end
+        (IsPushed (lent B.as_layer_below below.entry).at (S.features storage.old).keeps_data
+        growth.block growth.new_size
         (entries_of table.old) (entries_of table.new) (S.bytes storage.old) (S.bytes storage.new)) }
     ensures refused { OnErr result (entries_of table.new ≡ entries_of table.old) }
     ensures bytes { OnErr result
-        (KeepsBytes (S.features storage.old).keeps_data block
-        (length (entries_of table.old) * block)
+        (KeepsBytes (S.features storage.old).keeps_data growth.block
+        (length (entries_of table.old) * growth.block)
         (entries_of table.old) (S.bytes storage.old) (S.bytes storage.new)) }
     ensures held { held_of table.new ≡ None }
-    ensures addressed { count_of table.new * block < 2 ^ 64 }
+    ensures addressed { count_of table.new * growth.block < 2 ^ 64 }
     ensures added { count_of table.new ≤ max (count_of table.old) (named_count (entries_of table.old) + 1) }
     ensures room { KeepsRoom table.old table.new }
     ensures no_shorter { length (S.bytes storage.old) ≤ length (S.bytes storage.new) }
@@ -164,7 +158,7 @@ fn push_filled<S: Storage, B: LowerLayer>(
         → count_of table.old ≤ most
         → named_count (entries_of table.old) + 1 ≤ most
         → length (S.bytes storage.new)
-        ≤ max (length (S.bytes storage.old)) (padded_to (S.features storage.old) 0 (most * block)) }
+        ≤ max (length (S.bytes storage.old)) (padded_to (S.features storage.old) 0 (most * growth.block)) }
     ensures features { S.features storage.new ≡ S.features storage.old }
     ensures faults { CountsFaults
         ((S.features storage.old).is_reliable && (lent B.as_layer_below below.entry).is_reliable)
@@ -174,12 +168,12 @@ fn push_filled<S: Storage, B: LowerLayer>(
         → named_count (entries_of table.old) + 1 ≤ most
         → IfErr result
         (allowed
-        (fill_reasons (S.features storage.old) (lent B.as_layer_below below.entry) (most * block)
-        (λ p. (length (entries_of table.old) * block ≤ p) × (p < end)))) }
+        (fill_reasons (S.features storage.old) (lent B.as_layer_below below.entry) (most * growth.block)
+        (λ p. (length (entries_of table.old) * growth.block ≤ p) × (p < growth.new_size)))) }
 {
-    let start = table.len() as u64 * block;
-    let count = block.min(end - start);
-    let number = take_block(table, block)?;
+    let start = table.len() as u64 * growth.block;
+    let count = growth.block.min(growth.new_size - start);
+    let number = take_block(table, growth.block)?;
     match copy_old(
         storage,
         faults,
@@ -188,7 +182,7 @@ fn push_filled<S: Storage, B: LowerLayer>(
         true,
         start,
         count,
-        number * block,
+        number * growth.block,
     ) {
         Ok(()) => {
             table.push_held();
@@ -201,44 +195,43 @@ fn push_filled<S: Storage, B: LowerLayer>(
     }
 }
 
-/// Adds guest blocks in data blocks of their own until there are that many, with the bytes that the layer below has there,
-/// as far as the end of the disk. Refused, those that were added stay.
+/// Adds so many guest blocks in data blocks of their own, with the bytes that the layer below has there, as far as the end of
+/// the grown disk. Refused, those that were added stay.
 pub(crate) fn push_blocks<S: Storage, B: LowerLayer>(
     storage: &mut S,
     faults: &mut u64,
     table: &mut Table,
     alloc: Global,
     below: Option<&B>,
-    block: u64,
-    end: u64,
+    growth: Growth,
     missing: usize,
 ) -> Result<(), Error>
-    requires positive { 0 < block }
+    requires positive { 0 < growth.block }
     requires spent { held_of table.old ≡ None }
-    requires addressed { count_of table.old * block < 2 ^ 64 }
-    requires ends { (length (entries_of table.old) + missing) * block < end + block }
+    requires addressed { count_of table.old * growth.block < 2 ^ 64 }
+    requires ends { (length (entries_of table.old) + missing) * growth.block < growth.new_size + growth.block }
     requires reserved { length (entries_of table.old) + missing ≤ room_of table.old }
     ensures length { OnOk result (length (entries_of table.new) ≡ length (entries_of table.old) + missing) }
     ensures extended { OnOk result
-        (IsExtended (lent B.as_layer_below below.entry).at true (S.features storage.old).keeps_data block
-        (length (entries_of table.old) * block)
-        (min end (length (entries_of table.new) * block))
+        (IsExtended (lent B.as_layer_below below.entry).at true (S.features storage.old).keeps_data growth.block
+        (length (entries_of table.old) * growth.block)
+        (min growth.new_size (length (entries_of table.new) * growth.block))
         (entries_of table.old) (entries_of table.new) (S.bytes storage.old) (S.bytes storage.new)) }
     ensures prefix { take (length (entries_of table.old)) (entries_of table.new) ≡ entries_of table.old }
-    ensures bytes { KeepsBytes (S.features storage.old).keeps_data block
-        (length (entries_of table.old) * block)
+    ensures bytes { KeepsBytes (S.features storage.old).keeps_data growth.block
+        (length (entries_of table.old) * growth.block)
         (entries_of table.old) (S.bytes storage.old) (S.bytes storage.new) }
     ensures named { OnOk result (named_count (entries_of table.new) ≡ named_count (entries_of table.old) + missing) }
     ensures counted { count_of table.new ≤ max (count_of table.old) (named_count (entries_of table.old) + missing) }
     ensures held { held_of table.new ≡ None }
-    ensures addressed { count_of table.new * block < 2 ^ 64 }
+    ensures addressed { count_of table.new * growth.block < 2 ^ 64 }
     ensures room { KeepsRoom table.old table.new }
     ensures no_shorter { length (S.bytes storage.old) ≤ length (S.bytes storage.new) }
     ensures no_longer { (most : ℕ)
         → count_of table.old ≤ most
         → named_count (entries_of table.old) + missing ≤ most
         → length (S.bytes storage.new)
-        ≤ max (length (S.bytes storage.old)) (padded_to (S.features storage.old) 0 (most * block)) }
+        ≤ max (length (S.bytes storage.old)) (padded_to (S.features storage.old) 0 (most * growth.block)) }
     ensures features { S.features storage.new ≡ S.features storage.old }
     ensures faults { CountsFaults
         ((S.features storage.old).is_reliable && (lent B.as_layer_below below.entry).is_reliable)
@@ -248,11 +241,11 @@ pub(crate) fn push_blocks<S: Storage, B: LowerLayer>(
         → named_count (entries_of table.old) + missing ≤ most
         → IfErr result
         (allowed
-        (fill_reasons (S.features storage.old) (lent B.as_layer_below below.entry) (most * block)
-        (λ p. (length (entries_of table.old) * block ≤ p) × (p < end)))) }
+        (fill_reasons (S.features storage.old) (lent B.as_layer_below below.entry) (most * growth.block)
+        (λ p. (length (entries_of table.old) * growth.block ≤ p) × (p < growth.new_size)))) }
 {
     for _ in 0..missing {
-        push_filled(storage, faults, table, alloc, below, block, end)?;
+        push_filled(storage, faults, table, alloc, below, growth)?;
     }
     Ok(())
 }
@@ -319,27 +312,12 @@ pub(crate) fn add_new<S: Storage, B: LowerLayer>(
         (λ p. (shows_below growth.mode ≡ true) × (length (entries_of table.old) * growth.block ≤ p) × (p < growth.new_size)))) }
 {
     if !is_lower(growth.mode) {
-        return add_blocks(
-            table,
-            growth.block,
-            growth.size,
-            growth.new_size,
-            WithoutData::Zero,
-        );
+        return add_blocks(table, growth, WithoutData::Zero);
     }
     let old = table.len();
     let missing = first_whole(growth.block, growth.new_size) as usize - old;
     table.reserve(missing)?;
-    if let Err(e) = push_blocks(
-        storage,
-        faults,
-        table,
-        alloc,
-        below,
-        growth.block,
-        growth.new_size,
-        missing,
-    ) {
+    if let Err(e) = push_blocks(storage, faults, table, alloc, below, growth, missing) {
         table.truncate(old);
         return Err(e);
     }
