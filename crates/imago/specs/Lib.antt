@@ -21,8 +21,7 @@ pub use Rattle.imago_drivers.specs.LayerBelow
 pub use Rattle.imago_drivers.specs.Causes
 pub use Rattle.imago_drivers.specs.Parts
 pub use Rattle.imago_drivers.specs.Ranges
-pub use Rattle.imago_drivers.specs.Flushes
-pub use Rattle.imago_drivers.specs.Discards
+pub use Rattle.imago_drivers.specs.CallRelations
 pub use Rattle.imago_drivers.specs.Pending
 pub use Rattle.imago_drivers.specs.View
 pub use Rattle.imago_drivers.specs.Changes
@@ -35,11 +34,13 @@ pub use Rattle.imago_drivers.specs.Lengths as StorageLengths
 pub use Rattle.imago_drivers.specs.Calls as DriverCalls
 pub use Rattle.imago_drivers.specs.Resized
 pub use Rattle.imago_drivers.specs.Laws
+pub use Rattle.imago_drivers.specs.Room
 pub use Rattle.imago_drivers.specs.Worked as WorkedLayers
 pub use Rattle.imago_drivers.specs.Raw
 pub use Rattle.imago_drivers.specs.RawLaws
 pub use Rattle.imago_drivers.specs.RawImage
 pub use Rattle.imago_drivers.specs.RawDiscards
+pub use Rattle.imago_drivers.specs.RawCalls
 pub use Rattle.imago_drivers.specs.Opening
 pub use Rattle.imago_drivers.specs.NamedGate
 pub use Rattle.imago_drivers.specs.Builder
@@ -53,6 +54,7 @@ pub use Rattle.imago_vmdk.specs.Probe as DescriptorProbe
 pub use Rattle.imago_vmdk.specs.Vmdk
 pub use Rattle.imago_vmdk.specs.Starts as ExtentStarts
 pub use Rattle.imago_vmdk.specs.VmdkLaws
+pub use Rattle.imago_vmdk.specs.VmdkCalls
 pub use Rattle.imago_vmdk.specs.Image as VmdkImage
 pub use Rattle.imago_vmdk.specs.VmdkBuilderParts
 pub use Rattle.imago_vmdk.specs.VmdkBuilder
@@ -66,6 +68,8 @@ pub use Rattle.imago_cow.specs.Guest as GuestBlocks
 pub use Rattle.imago_cow.specs.Cow
 pub use Rattle.imago_cow.specs.CowLaws
 pub use Rattle.imago_cow.specs.CowImage
+pub use Rattle.imago_cow.specs.CowCalls
+pub use Rattle.imago_cow.specs.Grown as GrownBlocks
 pub use Rattle.imago_cow.specs.Copies as CopiedBlocks
 pub use Rattle.imago_cow.specs.Worked as WorkedDataBlocks
 pub use Rattle.imago_access.specs.Chain
@@ -77,6 +81,10 @@ pub use Rattle.imago_access.specs.Ways
 pub use Rattle.imago_access.specs.Named
 pub use Rattle.imago_access.specs.Writing
 pub use Rattle.imago_access.specs.Calls
+pub use Rattle.imago_access.specs.Framed
+pub use Rattle.imago_access.specs.Performed
+pub use Rattle.imago_access.specs.ZeroCalls
+pub use Rattle.imago_access.specs.Answered
 pub use Rattle.imago_access.specs.Zeroing
 pub use Rattle.imago_access.specs.Discarding
 pub use Rattle.imago_access.specs.DiscardParts

@@ -7,6 +7,7 @@ ghost use Rattle.imago_access.specs.Calls.{IsKept};
 ghost use Rattle.imago_access.specs.Runs.{IsRun};
 ghost use Rattle.imago_access.specs.Disk.{disk, backed_value};
 ghost use Rattle.imago_access.specs.Histories.{IsFlatHistory};
+ghost use Rattle.imago_cow.specs.CowImage.{storage_in};
 ghost use Rattle.imago_vmdk.specs.Image.{is_opened, takes_unknown_keys};
 ghost use Rattle.imago_vmdk.specs.Disk.{described_value};
 
@@ -33,19 +34,17 @@ pub fn vmdk_disk<S: Storage>(image: &FormatAccess<Vmdk<S>>)
 /// and no layer below changes. It is what [`images`] says of each driver.
 pub fn runs_of_cow<S: Storage>(before: &FormatAccess<Cow<S>>, after: &FormatAccess<Cow<S>>)
     ensures flat { (calls : List Call) (replies : List Reply)
-        → IsTrue (⟦<Cow<S> as FormatDriverInstance>⟧.view (driver before.now)).abilities.keeps_data
-        → IsRun ⟦<Cow<S> as FormatDriverInstance>⟧.view ⟦<Cow<S> as FormatDriverInstance>⟧.flushes
-        ⟦<Cow<S> as FormatDriverInstance>⟧.discards before.now calls replies after.now
+        → IsTrue (S.features (storage_in (driver before.now))).keeps_data
+        → IsRun ⟦<Cow<S> as FormatDriverInstance>⟧.view ⟦<Cow<S> as FormatDriverInstance>⟧.calls before.now calls replies after.now
         → IsFlatHistory (backed_value ⟦<Cow<S> as FormatDriverInstance>⟧.view before.now)
         (disk ⟦<Cow<S> as FormatDriverInstance>⟧.view before.now) calls replies
         (disk ⟦<Cow<S> as FormatDriverInstance>⟧.view after.now) }
     ensures below { (calls : List Call) (replies : List Reply)
-        → IsRun ⟦<Cow<S> as FormatDriverInstance>⟧.view ⟦<Cow<S> as FormatDriverInstance>⟧.flushes
-        ⟦<Cow<S> as FormatDriverInstance>⟧.discards before.now calls replies after.now
+        → IsRun ⟦<Cow<S> as FormatDriverInstance>⟧.view ⟦<Cow<S> as FormatDriverInstance>⟧.calls before.now calls replies after.now
         → IsKept ⟦<Cow<S> as FormatDriverInstance>⟧.view before.now after.now }
 {
     images::flat_histories::<Cow<S>>();
     images::runs_keep_layers_below::<Cow<S>>();
-    let _ = before;
+    data_blocks::a_disk_keeps_what_its_storage_keeps(before.inner());
     let _ = after;
 }

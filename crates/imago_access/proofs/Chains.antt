@@ -1,10 +1,11 @@
-use Rattle.std.proofs.Common.{◌+◌, arith, ◌<◌, ◌≡◌, ℕ, inl, inr, Bool, true, false, ◌&&◌, Option, Some, None, refl, sym, ap, ◌∙◌, subst, Box, Global}
+use Rattle.std.proofs.Common.{◌+◌, arith, ◌<◌, ◌≤◌, ◌≡◌, ℕ, inl, inr, ⊎_elim, Bool, true, false, ◌&&◌, Option, Some, None, refl, sym, ap, ◌∙◌, subst, Box, Global}
 use Rattle.imago_storage.specs.declared.error.Error.{Error}
 use Rattle.imago_drivers.specs.Operation.{Operation, Read}
 use Rattle.imago_drivers.specs.Place.{Value, Place, Lower, End, shown, values}
 use Rattle.imago_drivers.specs.View.{View}
 use Rattle.imago_access.specs.declared.access.FormatAccess.{FormatAccess, FormatAccess', out-FormatAccess, is-FormatAccess', back-FormatAccess-backing}
-use Rattle.imago_access.specs.Chain.{driver, backing, unboxed, disk_value, is_reliable, IsReached, chain_cause, cause_below, chain_no_memory, no_memory_below, lent_image}
+use Rattle.imago_access.specs.Chain.{driver, backing, unboxed, disk_value, is_reliable, IsReached, chain_cause, cause_below, chain_no_memory, no_memory_below, may_take_memory, may_take_memory_below, lent_image}
+use Rattle.imago_access.specs.ChainLaws.{reached_wider}
 use Rattle.imago_access.specs.Target.{Target, target, followed, deeper, target_here}
 
 module _ {D St : Type 0} (view : D → View St) where
@@ -80,6 +81,30 @@ module _ {D St : Type 0} (view : D → View St) where
   -- a cause at the layer below, for what is reached there
   pub cause_lower : (x y : FormatAccess D) (op : Operation) (o n q m : ℕ) (e : Error) → backing x ≡ Some y → 0 < m → IsReached (view (driver x)).place o n q m → chain_cause view y op q m e → chain_cause view x op o n e
   cause_lower x y op o n q m e h p r c = subst (λ (z : FormatAccess D). chain_cause view z op o n e) (sym (is-FormatAccess' x)) (inr (q, m, p, r, from_below (out-FormatAccess D x).backing y op q m e h c))
+
+  -- memory that is taken at the top
+  pub memory_here : (x : FormatAccess D) (o n : ℕ) → 0 < n → ((view (driver x)).limits.no_memory Read o n → ⊥) → may_take_memory view x o n
+  memory_here x o n some h =
+      let a : o ≤ o = omega arith in
+      let b : o + n ≤ o + n = omega arith in
+      subst (λ (y : FormatAccess D). may_take_memory view y o n) (sym (is-FormatAccess' x)) (inl (o, n, some, a, b, h))
+
+  memory_from_below : (b : Option (Box (FormatAccess D) Global)) (y : FormatAccess D) (q m : ℕ) → unboxed b ≡ Some y → may_take_memory view y q m → may_take_memory_below view (back-FormatAccess-backing D b) q m
+  memory_from_below None y q m h c = let z : ⊥ = cc in absurd z
+  memory_from_below (Some b) y q m h c =
+      let k : b.value ≡ y = cc in
+      subst (λ (z : FormatAccess D). may_take_memory view z q m) (sym k) c
+
+  -- memory that is taken at the layer below, for what is reached there
+  pub memory_lower : (x y : FormatAccess D) (o n q m : ℕ) → backing x ≡ Some y → 0 < m → IsReached (view (driver x)).place o n q m → may_take_memory view y q m → may_take_memory view x o n
+  memory_lower x y o n q m h p r c = subst (λ (z : FormatAccess D). may_take_memory view z o n) (sym (is-FormatAccess' x)) (inr (q, m, p, r, memory_from_below (out-FormatAccess D x).backing y q m h c))
+
+  -- what may take memory for a part of a range may for the whole
+  pub memory_part : (x : FormatAccess D) (o n q m : ℕ) → o ≤ q → q + m ≤ o + n → may_take_memory view x q m → may_take_memory view x o n
+  memory_part (FormatAccess' inner b) o n q m h j c = ⊎_elim
+      (λ a. inl (a.0, a.1, a.2, omega (arith, h, a.3), omega (arith, j, a.4), a.5))
+      (λ r. inr (r.0, r.1, r.2, reached_wider (view inner).place o n q m r.0 r.1 h j r.3, r.4))
+      c
 
   pub whole_here : (x : FormatAccess D) (o n : ℕ) → chain_no_memory view x o n → (view (driver x)).limits.whole Read o n
   whole_here x o n h = let k = subst (λ (y : FormatAccess D). chain_no_memory view y o n) (is-FormatAccess' x) h in k.0

@@ -10,7 +10,7 @@ use Rattle.imago_access.specs.declared.access.FormatAccess.{FormatAccess}
 use Rattle.imago_access.specs.Chain.{driver, backing, chain_no_memory}
 use Rattle.imago_access.specs.Target.{Target, target, deeper, target_here}
 use Rattle.imago_access.specs.Ways.{NamesOrEnds, IsPart, part_length, LeadsDown}
-use Rattle.imago_access.proofs.Chains.{value_lower, reliable_lower, target_lower, cause_lower, no_memory_lower}
+use Rattle.imago_access.proofs.Chains.{value_lower, reliable_lower, target_lower, cause_lower, memory_lower, no_memory_lower}
 
 and_true : (g : Bool) → (g && true) ≡ g
 and_true true = refl
@@ -38,6 +38,7 @@ module _ {D St : Type 0} (view : D → View St) (x : FormatAccess D) (o most : �
     targets = λ i h. sym (deeper_none (target view x (o + i)));
     shows = λ i h. refl;
     causes = λ op i m e p h c. c;
+    memory = λ i m p h c. c;
     reliable = λ h. h;
     within = omega arith;
     empty = λ h. h;
@@ -53,6 +54,7 @@ module _ {D St : Type 0} (view : D → View St) (x : FormatAccess D) (o most : �
       targets = λ i h. down.targets i (omega (arith, part.within));
       shows = λ i h. down.shows i (omega (arith, part.within));
       causes = λ op i k e p h c. down.causes op i k e p (omega (arith, part.within)) c;
+      memory = λ i k p h c. down.memory i k p (omega (arith, part.within)) c;
       reliable = down.reliable;
       within = omega (arith, part.within, down.within);
       empty = λ h. down.empty (part.empty h);
@@ -68,6 +70,10 @@ module _ {D St : Type 0} (view : D → View St) (x : FormatAccess D) (o most : �
       targets = λ i h. down.targets i (omega (arith, part.within)) ∙ ap (deeper hops w) (target_lower view layer y (at + i) (q + i) v b (named i h)) ∙ deeper_deeper hops w v (target view y (q + i));
       shows = λ i h. down.shows i (omega (arith, part.within)) ∙ value_lower view layer y (at + i) (q + i) v b (named i h);
       causes = λ op i k e p h c. down.causes op i k e p (omega (arith, part.within)) (cause_lower view layer y op (at + i) k (q + i) k e b p (λ j lt.
+          let a : at + (i + j) ≡ at + i + j = omega arith in
+          let d : q + (i + j) ≡ q + i + j = omega arith in
+          (j, lt, v, rw (a, d) at (named (i + j) (omega arith)))) c);
+      memory = λ i k p h c. down.memory i k p (omega (arith, part.within)) (memory_lower view layer y (at + i) k (q + i) k b p (λ j lt.
           let a : at + (i + j) ≡ at + i + j = omega arith in
           let d : q + (i + j) ≡ q + i + j = omega arith in
           (j, lt, v, rw (a, d) at (named (i + j) (omega arith)))) c);

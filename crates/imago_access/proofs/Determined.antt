@@ -1,5 +1,6 @@
-use Rattle.std.proofs.Common.{◌≡◌, ℕ, ◌+◌, ◌-◌, ◌≤◌, ◌⊎◌, ◌&&◌, ⊎_elim, Bool, true, false, List, [], ◌∷◌, length, take, refl, sym, ap, ◌∙◌, arith, subst, Result, Ok, Err}
+use Rattle.std.proofs.Common.{◌≡◌, ℕ, ◌+◌, ◌-◌, ◌≤◌, ◌⊎◌, ◌&&◌, ⊎_elim, Bool, true, false, List, [], ◌∷◌, ◌++◌, length, take, drop, refl, sym, ap, ◌∙◌, arith, subst, Result, Ok, Err}
 use Rattle.std.specs.Prelude.{IfOk, IfErr, not}
+use Rattle.std.proofs.lemmas.List.{append-nil, take-append-drop}
 use Rattle.imago_storage.specs.declared.error.Error.{Error}
 use Rattle.imago_drivers.specs.Place.{Value}
 use Rattle.imago_access.specs.declared.run.Call.{Call}
@@ -7,11 +8,11 @@ use Rattle.imago_access.specs.declared.run.Call.TheVariants as C
 use Rattle.imago_access.specs.declared.run.Reply.{Reply}
 use Rattle.imago_access.specs.declared.run.Reply.TheVariants as R
 use Rattle.imago_access.specs.Writing.{shown_length}
-use Rattle.imago_access.specs.Disk.{filled_in, IsTestRefusal, IsOverwritten, IsFilledIn, IsPartlyFilled}
+use Rattle.imago_access.specs.Disk.{value_at, splice, filled_in, IsTestRefusal, IsUnspecifiedIn, IsGivenBack, IsOverwritten, IsFilledIn, IsPartlyFilled}
 use Rattle.imago_access.specs.Runs.{reply_of, told_done, told_data, told_prepared}
 use Rattle.imago_access.specs.Histories.{DoneOrRefused, IsPart, IsDataStep, IsPreparedStep, IsSame, IsFlatStep, IsFlatHistory}
 use Rattle.imago_access.specs.Determined.{IsDetermined, if_done, if_prepared, after, AreDetermined, after_all, AllFit, IsFlatRun}
-use Rattle.imago_access.proofs.DiskLists.{extended_known, filled_cut, nothing_overwritten}
+use Rattle.imago_access.proofs.DiskLists.{extended_known, filled_cut, same_by_values, nothing_overwritten}
 
 -- what a call that answers nothing may be told as
 done_so : (result : Result Unit Error) (done : Type 0) (refused : Error → Type 0) → R.Done ≡ reply_of told_done result → IfOk result (λ u. done) × IfErr result refused → done
@@ -58,6 +59,14 @@ discard_so {same} {test} r done left e is h t =
     let k = refused_so e h.0 done (λ x. left × (test x → same)) (sym is ∙ h.1) h.2 in
     k.1 t
 
+-- what a discard leaves, done or refused
+discard_leaves : {fits left : Type 0} {same : Error → Type 0} (r : Reply) → DoneOrRefused told_done r (λ u. fits × left) (λ x. left × same x) → left
+discard_leaves {fits} {left} {same} r h = by h.0 h.2
+  where
+    by : (result : Result Unit Error) → IfOk result (λ u. fits × left) × IfErr result (λ x. left × same x) → left
+    by (Ok u) x = x.0.1
+    by (Err e) x = x.1.0
+
 -- a call that leaves the list, done or refused
 same_so : (xs : List Value) (r : Reply) (ys : List Value) → IsSame xs r ys → ys ≡ xs
 same_so xs r ys h = by h.0 h.2
@@ -72,8 +81,19 @@ data_refused : (x : Error) (xs ys : List Value) (o n : ℕ) (overwrite : Bool) (
 data_refused x xs ys o n overwrite (Ok m) e t h = let z : ⊥ = cc in absurd z
 data_refused x xs ys o n overwrite (Err y) e t h = let same : x ≡ y = cc in h.1 (subst (λ (w : Error). IsTestRefusal xs o n w) same t)
 
-data_after : (xs ys : List Value) (o n : ℕ) (overwrite : Bool) (r : Reply) → (overwrite ≡ true → (e : Error) × (r ≡ R.Refused e) × IsTestRefusal xs o n e) → IsDataStep xs o n overwrite r ys → ys ≡ xs
-data_after xs ys o n true r d h = let t = d refl in data_refused t.0 xs ys o n true h.0 (sym t.1 ∙ h.1) t.2 h.2.1
+-- one of nothing leaves it too
+data_of_none : (xs ys : List Value) (o n : ℕ) (r : Reply) → n ≡ 0 → IsDataStep xs o n true r ys → ys ≡ xs
+data_of_none xs ys o n r none h = by h.0 h.2
+  where
+    by : (result : Result (ℕ × ℕ × ℕ) Error) → IfOk result (λ m. (o + n ≤ length xs) × IsPart n m.2 × IsOverwritten true xs o m.2 ys) × IfErr result (λ e. IsOverwritten true xs o n ys × (IsTestRefusal xs o n e → ys ≡ xs)) → ys ≡ xs
+    by (Ok m) x = let z : m.2 ≡ 0 = omega (arith, x.0.1.0) in nothing_overwritten xs ys o (subst (λ (c : ℕ). IsUnspecifiedIn xs o c ys) z x.0.2)
+    by (Err e) x = nothing_overwritten xs ys o (subst (λ (c : ℕ). IsUnspecifiedIn xs o c ys) none x.1.0)
+
+data_after : (xs ys : List Value) (o n : ℕ) (overwrite : Bool) (r : Reply) → (overwrite ≡ true → (n ≡ 0) ⊎ ((e : Error) × (r ≡ R.Refused e) × IsTestRefusal xs o n e)) → IsDataStep xs o n overwrite r ys → ys ≡ xs
+data_after xs ys o n true r d h = ⊎_elim
+    (λ none. data_of_none xs ys o n r none h)
+    (λ t. data_refused t.0 xs ys o n true h.0 (sym t.1 ∙ h.1) t.2 h.2.1)
+    (d refl)
 data_after xs ys o n false r d h = by h.0 h.2
   where
     by : (result : Result (ℕ × ℕ × ℕ) Error) → IfOk result (λ m. (o + n ≤ length xs) × IsPart n m.2 × (ys ≡ xs)) × IfErr result (λ e. (ys ≡ xs) × (IsTestRefusal xs o n e → ys ≡ xs)) → ys ≡ xs
@@ -88,8 +108,30 @@ filled_after true xs ys o c bytes d h = ⊎_elim
     (λ (le : c ≤ length bytes). let z : c - length bytes ≡ 0 = omega arith in nothing_overwritten (filled_in xs o c bytes) ys (o + length bytes) (rw z at h))
     d
 
+spliced_none : (xs : List Value) (o : ℕ) → splice xs o [] ≡ xs
+spliced_none xs o =
+    let at : o + 0 ≡ o = omega arith in
+    let left : splice xs o [] ≡ (take o xs ++ []) ++ drop (o + 0) xs = refl in
+    left ∙ ap (λ (zs : List Value). zs ++ drop (o + 0) xs) (append-nil (take o xs)) ∙ ap (λ (k : ℕ). take o xs ++ drop k xs) at ∙ take-append-drop o xs
+
+filled_by_none : (xs : List Value) (o : ℕ) (bytes : List ℕ) → filled_in xs o 0 bytes ≡ xs
+filled_by_none xs o [] = spliced_none xs o
+filled_by_none xs o (b ∷ bytes) = spliced_none xs o
+
+-- of none, refused, nothing is left
+none_filled : (xs ys : List Value) (o n : ℕ) (overwrite : Bool) (bytes : List ℕ) (e : Error) → n ≡ 0 → IsPartlyFilled overwrite xs o n bytes e ys → ys ≡ xs
+none_filled xs ys o n overwrite bytes e none h =
+    let same : filled_in xs o 0 bytes ≡ xs = filled_by_none xs o bytes in
+    same_by_values xs ys h.same_length (λ p. ⊎_elim
+    (λ v. v)
+    (λ k. ⊎_elim
+    (λ v. subst (λ (c : ℕ). value_at ys p ≡ value_at (filled_in xs o c bytes) p) none v ∙ ap (λ (zs : List Value). value_at zs p) same)
+    (λ i. absurd (omega (arith, i.1.0, i.1.1)))
+    k)
+    (h.each p))
+
 prepared_after : (xs ys : List Value) (o n : ℕ) (overwrite : Bool) (bytes : List ℕ) (commit : Bool) (r : Reply)
-    → ((m : ℕ × Bool) → r ≡ told_prepared m → ((overwrite && not m.1) ≡ false) ⊎ (shown_length commit m ≤ length bytes)) → ((e : Error) → r ≡ R.Refused e → IsTestRefusal xs o n e)
+    → ((m : ℕ × Bool) → r ≡ told_prepared m → ((overwrite && not m.1) ≡ false) ⊎ (shown_length commit m ≤ length bytes)) → (n ≡ 0) ⊎ ((e : Error) → r ≡ R.Refused e → IsTestRefusal xs o n e)
     → IsPreparedStep xs o n overwrite bytes commit r ys → ys ≡ if_prepared r commit o bytes xs
 prepared_after xs ys o n overwrite bytes commit r d t h = by h.0 h.1 h.2
   where
@@ -97,7 +139,11 @@ prepared_after xs ys o n overwrite bytes commit r d t h = by h.0 h.1 h.2
         → IfOk result (λ m. (o + n ≤ length xs) × IsPart n m.0 × IsFilledIn (overwrite && not m.1) xs o (shown_length commit m) bytes ys) × IfErr result (λ e. IsPartlyFilled overwrite xs o n bytes e ys)
         → ys ≡ if_prepared r commit o bytes xs
     by (Ok m) e x = subst (λ (q : Reply). ys ≡ if_prepared q commit o bytes xs) (sym e) (filled_after (overwrite && not m.1) xs ys o (shown_length commit m) bytes (d m e) x.0.2)
-    by (Err z) e x = subst (λ (q : Reply). ys ≡ if_prepared q commit o bytes xs) (sym e) (x.1.untouched (t z e))
+    by (Err z) e x = subst (λ (q : Reply). ys ≡ if_prepared q commit o bytes xs) (sym e) (⊎_elim (λ none. none_filled xs ys o n overwrite bytes z none x.1) (λ test. x.1.untouched (test z e)) t)
+
+-- nothing is given back of none
+nothing_given_back : (below : ℕ → Value) (xs ys : List Value) (o : ℕ) → IsGivenBack below xs o 0 ys → ys ≡ xs
+nothing_given_back below xs ys o h = same_by_values xs ys h.same_length (λ p. ⊎_elim (λ v. v) (λ i. absurd (omega (arith, i.0.0, i.0.1))) (h.each p))
 
 module _ (below : ℕ → Value) where
   -- a step that is determined leaves the one list
@@ -107,8 +153,14 @@ module _ (below : ℕ → Value) where
   step_after xs ys (C.Prepared o n overwrite bytes commit) r d h = prepared_after xs ys o n overwrite bytes.items commit r d.0 d.1 h
   step_after xs ys (C.WriteZeroes o n) r d h = left r _ _ xs _ ys h (λ e s. s.1) (λ e w t. t.untouched (d e w))
   step_after xs ys (C.DiscardToZero o n) r d h = left r _ _ xs _ ys h (λ e s. s.1) (λ e w t. t.untouched (d e w))
-  step_after xs ys (C.DiscardToAny o n) r d h = discard_so r _ _ d.0 d.1 h d.2
-  step_after xs ys (C.DiscardToBacking o n) r d h = discard_so r _ _ d.0 d.1 h d.2
+  step_after xs ys (C.DiscardToAny o n) r d h = ⊎_elim
+      (λ none. nothing_overwritten xs ys o (subst (λ (c : ℕ). IsUnspecifiedIn xs o c ys) none (discard_leaves r h)))
+      (λ t. discard_so r _ _ t.0 t.1 h t.2)
+      d
+  step_after xs ys (C.DiscardToBacking o n) r d h = ⊎_elim
+      (λ none. nothing_given_back below xs ys o (subst (λ (c : ℕ). IsGivenBack below xs o c ys) none (discard_leaves r h)))
+      (λ t. discard_so r _ _ t.0 t.1 h t.2)
+      d
   step_after xs ys (C.Resize n mode) r d h = left r _ _ xs _ ys h (λ e s. extended_known mode below n (take n xs) ys (filled_cut mode n xs (d e)) s) (λ e w s. s)
   step_after xs ys (C.ResizeGrow n mode) r d h = left r _ _ xs _ ys h (λ e s. extended_known mode below n xs ys (d e) s) (λ e w s. s)
   step_after xs ys (C.ResizeShrink n) r d h = left r _ _ xs _ ys h (λ e s. s) (λ e w s. s)

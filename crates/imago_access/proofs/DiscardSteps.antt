@@ -9,8 +9,8 @@ use Rattle.imago_drivers.specs.Causes.{IsSettled}
 use Rattle.imago_drivers.specs.View.{View}
 use Rattle.imago_drivers.specs.Laws.{AreCauses}
 use Rattle.imago_drivers.specs.Changes.{IsChanged, partly}
-use Rattle.imago_drivers.specs.Frame.{IsFramed}
 use Rattle.imago_drivers.specs.Done.{range_reasons}
+use Rattle.imago_access.specs.Framed.{StaysFramed}
 use Rattle.imago_access.specs.declared.access.FormatAccess.{FormatAccess}
 use Rattle.imago_access.specs.declared.discard.DiscardCall.{DiscardCall}
 use Rattle.imago_access.specs.declared.discard.DiscardCall.TheVariants as C
@@ -21,7 +21,7 @@ use Rattle.imago_access.specs.Discarding.{discard_of, loosened, IsLoosened, HasL
 use Rattle.imago_access.specs.Zeroing.{IsFree}
 use Rattle.imago_access.proofs.Images.{driver_with, backing_with, changed_image, not_failed}
 use Rattle.imago_access.proofs.Weaker.{allowed_more, refused_more}
-use Rattle.imago_access.proofs.Written.{framed_twice}
+use Rattle.imago_access.proofs.Written.{framed_twice, same_frame}
 use Rattle.imago_access.proofs.Writes.{and_left, rose_more}
 use Rattle.imago_access.proofs.ZeroLoops.{same_devices}
 
@@ -76,7 +76,7 @@ pub part_loosened : {D St : Type 0} (view : D → View St) (x : FormatAccess D) 
     → (IsTrue (view (driver x)).abilities.keeps_data → IfOk result (λ r. IsChanged r.0 r.1 (λ k. loosened call (view (driver x)).abilities.takes_backing (lent_image view (backing x)).at (r.0 + k)) (values (lent_image view (backing x)).at (view (driver x)).place) (values (lent_image view (backing x)).at (view d).place)))
     → (IsTrue (view (driver x)).abilities.keeps_data → OnErr result (IsChanged o n (partly (λ k. loosened call (view (driver x)).abilities.takes_backing (lent_image view (backing x)).at (o + k))) (values (lent_image view (backing x)).at (view (driver x)).place) (values (lent_image view (backing x)).at (view d).place)))
     → IfOk result (λ r. IsSettled (λ op. op ≡ discard_of call) (view (driver x)).limits.cause (view d).limits.cause (view (driver x)).limits.copies (view d).limits.copies r.0 r.1)
-    → (view d).pending ≡ None → IsFramed (view (driver x)) (view d) → CountsFaults (view (driver x)).abilities.is_reliable (view (driver x)).fault_count (view d).fault_count result
+    → (view d).pending ≡ None → StaysFramed (view (driver x)) (view d) → CountsFaults (view (driver x)).abilities.is_reliable (view (driver x)).fault_count (view d).fault_count result
     → IfErr result (allowed (range_reasons (view (driver x)) (discard_of call) o n)) → HasLoosenedPart view call o n x (with_driver x d) result
 part_loosened {D} view x d call o n result inside whole done refused settled spent framed faults refusals =
     let e : d ≡ driver (with_driver x d) = sym (driver_with x d) in
@@ -84,7 +84,7 @@ part_loosened {D} view x d call o n result inside whole done refused settled spe
       left = record {
         left = λ k. changed_image view x d (λ a b. IsChanged o n (λ i. loosened call (view (driver x)).abilities.takes_backing (lent_image view (backing x)).at (o + i)) a b) (changed result inside (done k) (refused k));
         below = backing_with x d;
-        framed = subst (λ (y : D). IsFramed (view (driver x)) (view y)) e framed;
+        framed = subst (λ (y : D). StaysFramed (view (driver x)) (view y)) e framed;
         spent = subst (λ (y : D). (view y).pending ≡ None) e spent;
         faults = subst (λ (y : D). CountsFaults (devices_reliable view x) (view (driver x)).fault_count (view y).fault_count result) e (record { later = faults.later; reliable = λ t. faults.reliable (and_left _ _ t); device = faults.device });
         refusals = weaker result refusals;
@@ -117,7 +117,7 @@ pub record IsDiscardingOn {D St : Type 0} (view : D → View St) (call : Discard
   pub within : c ≤ n
   pub left : IsTrue (view (driver old)).abilities.keeps_data → IsLoosened view call o n old mid
   pub below : backing mid ≡ backing old
-  pub framed : IsFramed (view (driver old)) (view (driver mid))
+  pub framed : StaysFramed (view (driver old)) (view (driver mid))
   pub spent : (view (driver mid)).pending ≡ None
   pub later : (view (driver old)).fault_count ≤ (view (driver mid)).fault_count
   pub reliable : IsTrue (devices_reliable view old) → (view (driver mid)).fault_count ≡ (view (driver old)).fault_count
@@ -130,7 +130,7 @@ module _ {D St : Type 0} (view : D → View St) (call : DiscardCall) (o n : ℕ)
     within = omega arith;
     left = λ k. unchanged _ (repeatable call _ _) o n _;
     below = refl;
-    framed = record { kind = record { abilities = refl; store_count = refl; store_features = λ i. refl }; size = refl; ends = λ p h. h };
+    framed = same_frame _;
     spent = spent;
     later = omega arith;
     reliable = λ t. refl;
@@ -249,6 +249,7 @@ range_call view call x new o n result w fits small loose idle h = record {
   reaches = λ l. absurd (l loose);
   settled = settled result;
   ends = h.framed.ends;
+  no_shorter = h.framed.no_shorter;
   same_size = h.framed.size;
   kept = record { below = h.below; kind = h.framed.kind };
   nothing_pending = h.spent;

@@ -10,8 +10,7 @@ use Rattle.imago_drivers.specs.Place.{Value, Byte}
 use Rattle.imago_drivers.specs.LayerBelow.{IsUnreadableIn, ReadBound}
 use Rattle.imago_drivers.specs.Reasons.{Reasons, allowed}
 use Rattle.imago_drivers.specs.View.{View, Abilities}
-use Rattle.imago_drivers.specs.Flushes.{Flushes}
-use Rattle.imago_drivers.specs.Discards.{Discards}
+use Rattle.imago_drivers.specs.CallRelations.{Calls}
 use Rattle.imago_drivers.specs.Laws.{IsLawful, AreCauses}
 use Rattle.imago_drivers.specs.Changes.{IsChanged, into, partly, overwritten, given_back, zeroes}
 use Rattle.imago_access.specs.declared.access.FormatAccess.{FormatAccess}
@@ -60,23 +59,23 @@ module _ {D St : Type 0} (view : D → View St) where
   resize_kept : (old new : FormatAccess D) (n : ℕ) (mode : PreallocateMode) (result : Result Unit Error) → IsResizeTo view n mode old new result → IsKept view old new
   resize_kept old new n mode result h = ⊎_elim (λ lt. (h.cut lt).kept) (λ le. (h.grown le).kept) (cases_lt n (view (driver old)).size)
 
-  step_kept : (flushes : Flushes D) (discards : Discards D) (old new : FormatAccess D) (call : Call) (r : Reply) → IsStep view flushes discards old call r new → IsKept view old new
-  step_kept flushes discards old new (C.Write o bytes) r h = h.2.kept
-  step_kept flushes discards old new (C.Read o n) r h = same_kept old new h.0
-  step_kept flushes discards old new (C.GetMapping o n) r h = same_kept old new h.0
-  step_kept flushes discards old new C.Size r h = same_kept old new h.0
-  step_kept flushes discards old new C.Flush r h = h.2.kept
-  step_kept flushes discards old new C.Sync r h = h.2.kept
-  step_kept flushes discards old new C.InvalidateCache r h = h.2.kept
-  step_kept flushes discards old new (C.EnsureData o n overwrite) r h = h.2.call.kept
-  step_kept flushes discards old new (C.Prepared o n overwrite bytes commit) r h = h.2.call.kept
-  step_kept flushes discards old new (C.WriteZeroes o n) r h = h.2.kept
-  step_kept flushes discards old new (C.DiscardToZero o n) r h = h.2.kept
-  step_kept flushes discards old new (C.DiscardToAny o n) r h = h.2.range.kept
-  step_kept flushes discards old new (C.DiscardToBacking o n) r h = h.2.range.kept
-  step_kept flushes discards old new (C.Resize n mode) r h = resize_kept old new n mode h.0 h.2
-  step_kept flushes discards old new (C.ResizeGrow n mode) r h = h.2.kept
-  step_kept flushes discards old new (C.ResizeShrink n) r h = h.2.kept
+  step_kept : (its : Calls D St) (old new : FormatAccess D) (call : Call) (r : Reply) → IsStep view its old call r new → IsKept view old new
+  step_kept its old new (C.Write o bytes) r h = h.2.0.kept
+  step_kept its old new (C.Read o n) r h = same_kept old new h.0
+  step_kept its old new (C.GetMapping o n) r h = same_kept old new h.0
+  step_kept its old new C.Size r h = same_kept old new h.0
+  step_kept its old new C.Flush r h = h.2.kept
+  step_kept its old new C.Sync r h = h.2.kept
+  step_kept its old new C.InvalidateCache r h = h.2.kept
+  step_kept its old new (C.EnsureData o n overwrite) r h = h.2.0.call.kept
+  step_kept its old new (C.Prepared o n overwrite bytes commit) r h = h.2.0.call.kept
+  step_kept its old new (C.WriteZeroes o n) r h = h.2.0.kept
+  step_kept its old new (C.DiscardToZero o n) r h = h.2.0.kept
+  step_kept its old new (C.DiscardToAny o n) r h = h.2.range.kept
+  step_kept its old new (C.DiscardToBacking o n) r h = h.2.range.kept
+  step_kept its old new (C.Resize n mode) r h = resize_kept old new n mode h.0 h.2.0
+  step_kept its old new (C.ResizeGrow n mode) r h = h.2.0.kept
+  step_kept its old new (C.ResizeShrink n) r h = h.2.0.kept
 
   kept_twice : (old mid new : FormatAccess D) → IsKept view old mid → IsKept view mid new → IsKept view old new
   kept_twice old mid new a b = record {
@@ -85,11 +84,11 @@ module _ {D St : Type 0} (view : D → View St) where
   }
 
   -- a run changes no layer below
-  pub run_kept : (flushes : Flushes D) (discards : Discards D) (old new : FormatAccess D) (calls : List Call) (replies : List Reply) → IsRun view flushes discards old calls replies new → IsKept view old new
-  run_kept flushes discards old new [] [] h = same_kept old new h
-  run_kept flushes discards old new [] (r ∷ rs) h = absurd h
-  run_kept flushes discards old new (c ∷ cs) [] h = absurd h
-  run_kept flushes discards old new (c ∷ cs) (r ∷ rs) h = kept_twice old h.0 new (step_kept flushes discards old h.0 c r h.1) (run_kept flushes discards h.0 new cs rs h.2)
+  pub run_kept : (its : Calls D St) (old new : FormatAccess D) (calls : List Call) (replies : List Reply) → IsRun view its old calls replies new → IsKept view old new
+  run_kept its old new [] [] h = same_kept old new h
+  run_kept its old new [] (r ∷ rs) h = absurd h
+  run_kept its old new (c ∷ cs) [] h = absurd h
+  run_kept its old new (c ∷ cs) (r ∷ rs) h = kept_twice old h.0 new (step_kept its old h.0 c r h.1) (run_kept its h.0 new cs rs h.2)
 
   -- so what its layers below show stays
   same_backed : (old new : FormatAccess D) → IsKept view old new → backed_value view new ≡ backed_value view old
@@ -261,7 +260,7 @@ module _ {D St : Type 0} (view : D → View St) (lawful : (d : D) → IsLawful (
   write_done : (old new : FormatAccess D) (o : ℕ) (bytes : List ℕ) → IsTrue (view (driver old)).abilities.keeps_data → IsWrite view old new o bytes (Ok tt) → IsSpliced (disk view old) o bytes (disk view new)
   write_done old new o bytes k h =
       let fits = write_fits view old new o bytes h in
-      (inside old new o bytes h.same_size fits, written old new o bytes h.same_size fits (h.done k))
+      (inside old new o bytes h.same_size fits, written old new o bytes h.same_size fits (h.done k).0)
 
   write_refused : (old new : FormatAccess D) (o : ℕ) (bytes : List ℕ) (e : Error) → IsTrue (view (driver old)).abilities.keeps_data → IsWrite view old new o bytes (Err e) → IsTorn (disk view old) o bytes e (disk view new)
   write_refused old new o bytes e k h = record {
@@ -352,7 +351,7 @@ module _ {D St : Type 0} (view : D → View St) (lawful : (d : D) → IsLawful (
         inside,
         (within, λ some. omega (arith, len, p.some some)),
         filled_list (disk view old) o (shown_length commit m) bytes part (overwrite && not m.1) (disk view new) (list_length old new x.call.same_size)
-            (listed (λ f g. IsChanged o (shown_length commit m) (filled (overwrite && not m.1) bytes) f g) old new (x.call.done k)),
+            (listed (λ f g. IsChanged o (shown_length commit m) (filled (overwrite && not m.1) bytes) f g) old new (x.call.done k).0),
       )
 
   prepared_refused : (old new : FormatAccess D) (o n : ℕ) (overwrite : Bool) (bytes : List ℕ) (commit : Bool) (e : Error) → IsTrue (view (driver old)).abilities.keeps_data → IsMappedWrite view old new o n overwrite bytes commit (Err e)
@@ -388,13 +387,13 @@ module _ {D St : Type 0} (view : D → View St) (lawful : (d : D) → IsLawful (
       h
 
   -- what a read answers is the part of the list
-  read_part : (x : FormatAccess D) (o n : ℕ) (r : Reply) → Answers R.Data r (IsBufferRead view x o n) → IsDataOf (disk view x) o n r
-  read_part x o n r h = done_or_refused R.Data r (IsBufferRead view x o n) _ _
+  read_part : (its : Calls D St) (x : FormatAccess D) (o n : ℕ) (r : Reply) → Answers R.Data r (IsBufferRead view its x o n) → IsDataOf (disk view x) o n r
+  read_part its x o n r h = done_or_refused R.Data r (IsBufferRead view its x o n) _ _
       (λ v y. (y.bytes.0, λ k lt. let i : k < length v.items = omega (arith, y.bytes.0) in sym (value_in_list x (o + k)) ∙ y.bytes.1 k i))
       (λ e y. read_refused x o n e y.refusals) h
 
-  mapped_part : (x : FormatAccess D) (o n : ℕ) (r : Reply) → Answers told_mapping r (IsMapped view x o n) → IsMappingOf (disk view x) o n r
-  mapped_part x o n r h = done_or_refused told_mapping r (IsMapped view x o n) _ _
+  mapped_part : (its : Calls D St) (x : FormatAccess D) (o n : ℕ) (r : Reply) → Answers told_mapping r (IsMapped view its x o n) → IsMappingOf (disk view x) o n r
+  mapped_part its x o n r h = done_or_refused told_mapping r (IsMapped view its x o n) _ _
       (λ m y. record {
         within = y.right.within;
         names = λ k lt. mapped_value m.0 k (target view x (o + k)) (value_at (disk view x) (o + k)) (sym (value_in_list x (o + k)) ∙ target_shows view x (o + k)) (y.right.leads k lt);
@@ -404,37 +403,37 @@ module _ {D St : Type 0} (view : D → View St) (lawful : (d : D) → IsLawful (
       (λ e y unreadable. sym (value_in_list x o) ∙ y.refused_place unreadable) h
 
   -- one step, on lists
-  flat_step : (flushes : Flushes D) (discards : Discards D) (old new : FormatAccess D) (call : Call) (r : Reply) → IsTrue (view (driver old)).abilities.keeps_data → IsStep view flushes discards old call r new → IsFlatStep (backed_value view old) (disk view old) call r (disk view new)
-  flat_step flushes discards old new (C.Read o n) r k h = (ap (disk view) h.0, read_part old o n r h.1)
-  flat_step flushes discards old new C.Size r k h = (ap (disk view) h.0, h.1 ∙ ap R.Size (sym (disk_length view old)))
-  flat_step flushes discards old new (C.GetMapping o n) r k h = (ap (disk view) h.0, mapped_part old o n r h.1)
-  flat_step flushes discards old new (C.Write o bytes) r k h = done_or_refused told_done r (IsWrite view old new o bytes.items) _ _ (λ u. write_done old new o bytes.items k) (λ e x. write_refused old new o bytes.items e k x) h
-  flat_step flushes discards old new (C.EnsureData o n overwrite) r k h = data_step old new o n overwrite r k h
-  flat_step flushes discards old new (C.Prepared o n overwrite bytes commit) r k h = done_or_refused told_prepared r (IsMappedWrite view old new o n overwrite bytes.items commit) _ _
+  flat_step : (its : Calls D St) (old new : FormatAccess D) (call : Call) (r : Reply) → IsTrue (view (driver old)).abilities.keeps_data → IsStep view its old call r new → IsFlatStep (backed_value view old) (disk view old) call r (disk view new)
+  flat_step its old new (C.Read o n) r k h = (ap (disk view) h.0, read_part its old o n r h.1)
+  flat_step its old new C.Size r k h = (ap (disk view) h.0, h.1 ∙ ap R.Size (sym (disk_length view old)))
+  flat_step its old new (C.GetMapping o n) r k h = (ap (disk view) h.0, mapped_part its old o n r h.1)
+  flat_step its old new (C.Write o bytes) r k h = done_or_refused told_done r (IsWrite view old new o bytes.items) _ _ (λ u. write_done old new o bytes.items k) (λ e x. write_refused old new o bytes.items e k x) (h.0, h.1, h.2.0)
+  flat_step its old new (C.EnsureData o n overwrite) r k h = data_step old new o n overwrite r k (h.0, h.1, h.2.0)
+  flat_step its old new (C.Prepared o n overwrite bytes commit) r k h = done_or_refused told_prepared r (IsMappedWrite view old new o n overwrite bytes.items commit) _ _
       (λ m x. prepared_done old new o n overwrite bytes.items commit m k x)
-      (λ e x. prepared_refused old new o n overwrite bytes.items commit e k x) h
-  flat_step flushes discards old new C.Flush r k h = flushed view flushes.flushed old new r k h
-  flat_step flushes discards old new C.Sync r k h = flushed view flushes.synced old new r k h
-  flat_step flushes discards old new C.InvalidateCache r k h = flushed view flushes.invalidated old new r k h
-  flat_step flushes discards old new (C.WriteZeroes o n) r k h = done_or_refused told_done r (IsZeroWrite view Zero old new o n) _ _ (λ u x. zero_done old new Zero o n (zero_cases o n) k x) (λ e x. zero_refused old new Zero o n (zero_cases o n) e k x) h
-  flat_step flushes discards old new (C.DiscardToZero o n) r k h = done_or_refused told_done r (IsZeroWrite view DiscardToZero old new o n) _ _ (λ u x. zero_done old new DiscardToZero o n (zero_cases o n) k x) (λ e x. zero_refused old new DiscardToZero o n (zero_cases o n) e k x) h
-  flat_step flushes discards old new (C.DiscardToAny o n) r k h = done_or_refused told_done r (IsImageDiscard view discards X.ToAny old new o n) _ _
+      (λ e x. prepared_refused old new o n overwrite bytes.items commit e k x) (h.0, h.1, h.2.0)
+  flat_step its old new C.Flush r k h = flushed view its.flushed old new r k h
+  flat_step its old new C.Sync r k h = flushed view its.synced old new r k h
+  flat_step its old new C.InvalidateCache r k h = flushed view its.invalidated old new r k h
+  flat_step its old new (C.WriteZeroes o n) r k h = done_or_refused told_done r (IsZeroWrite view Zero old new o n) _ _ (λ u x. zero_done old new Zero o n (zero_cases o n) k x) (λ e x. zero_refused old new Zero o n (zero_cases o n) e k x) (h.0, h.1, h.2.0)
+  flat_step its old new (C.DiscardToZero o n) r k h = done_or_refused told_done r (IsZeroWrite view DiscardToZero old new o n) _ _ (λ u x. zero_done old new DiscardToZero o n (zero_cases o n) k x) (λ e x. zero_refused old new DiscardToZero o n (zero_cases o n) e k x) (h.0, h.1, h.2.0)
+  flat_step its old new (C.DiscardToAny o n) r k h = done_or_refused told_done r (IsImageDiscard view its X.ToAny old new o n) _ _
       (λ u x. let fits = call_fits view old new DiscardToAny o n (zero_cases o n) x.range in (omega (arith, fits, disk_length view old), unspecified_list old new o n x.range.same_size (x.range.done k)))
       (λ e x. (unspecified_list old new o n x.range.same_size (x.range.torn k), call_untouched view old new DiscardToAny o n (zero_cases o n) e (λ a. a) (λ a. a) x.range)) h
-  flat_step flushes discards old new (C.DiscardToBacking o n) r k h = done_or_refused told_done r (IsImageDiscard view discards X.ToBacking old new o n) _ _
+  flat_step its old new (C.DiscardToBacking o n) r k h = done_or_refused told_done r (IsImageDiscard view its X.ToBacking old new o n) _ _
       (λ u x. let fits = call_fits view old new DiscardToBacking o n (zero_cases o n) x.range in (omega (arith, fits, disk_length view old), given_back_list old new o n x.range.same_size (x.range.done k)))
       (λ e x. (given_back_list old new o n x.range.same_size (x.range.torn k), call_untouched view old new DiscardToBacking o n (zero_cases o n) e (λ a. a) (λ a. a) x.range)) h
-  flat_step flushes discards old new (C.Resize n mode) r k h = done_or_refused told_done r (IsResizeTo view n mode old new) _ _ (λ u. resized_to view old new mode n k) (λ e x. resize_refused view old new n mode e k x) h
-  flat_step flushes discards old new (C.ResizeGrow n mode) r k h = resized view old new _ n (HasGrown view mode n old new) _ r k (grown view old new mode n k) h
-  flat_step flushes discards old new (C.ResizeShrink n) r k h = resized view old new _ n (HasShrunk view n old new) _ r k (shrunk view old new n k) h
+  flat_step its old new (C.Resize n mode) r k h = done_or_refused told_done r (IsResizeTo view n mode old new) _ _ (λ u. resized_to view old new mode n k) (λ e x. resize_refused view old new n mode e k x) (h.0, h.1, h.2.0)
+  flat_step its old new (C.ResizeGrow n mode) r k h = resized view old new _ n (HasGrown view mode n old new) _ r k (grown view old new mode n k) (h.0, h.1, h.2.0)
+  flat_step its old new (C.ResizeShrink n) r k h = resized view old new _ n (HasShrunk view n old new) _ r k (shrunk view old new n k) (h.0, h.1, h.2.0)
 
   -- a run, on lists
-  pub flat_history : (flushes : Flushes D) (discards : Discards D) (old new : FormatAccess D) (calls : List Call) (replies : List Reply) → IsTrue (view (driver old)).abilities.keeps_data → IsRun view flushes discards old calls replies new → IsFlatHistory (backed_value view old) (disk view old) calls replies (disk view new)
-  flat_history flushes discards old new [] [] k h = ap (disk view) h
-  flat_history flushes discards old new [] (r ∷ rs) k h = absurd h
-  flat_history flushes discards old new (c ∷ cs) [] k h = absurd h
-  flat_history flushes discards old new (c ∷ cs) (r ∷ rs) k h =
-      let s = step_kept view flushes discards old h.0 c r h.1 in
+  pub flat_history : (its : Calls D St) (old new : FormatAccess D) (calls : List Call) (replies : List Reply) → IsTrue (view (driver old)).abilities.keeps_data → IsRun view its old calls replies new → IsFlatHistory (backed_value view old) (disk view old) calls replies (disk view new)
+  flat_history its old new [] [] k h = ap (disk view) h
+  flat_history its old new [] (r ∷ rs) k h = absurd h
+  flat_history its old new (c ∷ cs) [] k h = absurd h
+  flat_history its old new (c ∷ cs) (r ∷ rs) k h =
+      let s = step_kept view its old h.0 c r h.1 in
       let keeps : IsTrue (view (driver h.0)).abilities.keeps_data = rw s.kind.abilities k in
-      let rest = flat_history flushes discards h.0 new cs rs keeps h.2 in
-      (disk view h.0, flat_step flushes discards old h.0 c r k h.1, subst (λ (below : ℕ → Value). IsFlatHistory below (disk view h.0) cs rs (disk view new)) (same_backed view old h.0 s) rest)
+      let rest = flat_history its h.0 new cs rs keeps h.2 in
+      (disk view h.0, flat_step its old h.0 c r k h.1, subst (λ (below : ℕ → Value). IsFlatHistory below (disk view h.0) cs rs (disk view new)) (same_backed view old h.0 s) rest)

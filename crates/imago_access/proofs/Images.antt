@@ -1,8 +1,8 @@
-use Rattle.std.proofs.Common.{◌≡◌, ℕ, ◌+◌, ◌<◌, ◌≤◌, ◌⊎◌, ◌&&◌, inl, inr, ⊎_elim, Bool, true, false, Option, Some, None, List, length, refl, sym, ap, ◌∙◌, subst, arith, Box, Global, Result, Ok, Err}
+use Rattle.std.proofs.Common.{◌≡◌, ℕ, ◌+◌, ◌<◌, ◌≤◌, ◌⊎◌, ◌&&◌, inl, inr, ⊎_elim, Bool, true, false, Option, Some, None, List, length, max, refl, sym, ap, ◌∙◌, subst, arith, Box, Global, Result, Ok, Err}
 use Rattle.std.specs.Prelude.{IsTrue, IfErr, IfOk, IsOk, OnOk, OnErr, IsErrOf}
 use Rattle.std.specs.Option.{option_copied}
 use Rattle.imago_storage.specs.Faults.{CountsFaults}
-use Rattle.imago_drivers.specs.Frame.{IsFramed, IsKind, IsUnchanged, ReachesNoMore}
+use Rattle.imago_drivers.specs.Frame.{IsKind, IsUnchanged, ReachesNoMore}
 use Rattle.imago_drivers.specs.Causes.{Causes, Copies, IsSettled, IsOnRange}
 use Rattle.imago_drivers.specs.Done.{lending_reasons}
 use Rattle.imago_drivers.specs.Prepared.{IsPrepared}
@@ -12,14 +12,16 @@ use Rattle.imago_storage.specs.declared.error.Error.{Error}
 use Rattle.imago_drivers.specs.Operation.{Operation}
 use Rattle.imago_drivers.specs.Place.{Value, End, values, shown}
 use Rattle.imago_drivers.specs.LayerBelow.{LayerBelow, lent}
-use Rattle.imago_drivers.specs.View.{View}
+use Rattle.imago_drivers.specs.View.{View, Stores}
+use Rattle.imago_drivers.specs.Lengths.{GrowTo, AreNoShorter}
 use Rattle.imago_drivers.specs.Reasons.{Reasons, allowed}
 use Rattle.imago_drivers.specs.Changes.{IsChanged, into, partly, overwritten}
+use Rattle.imago_access.specs.Framed.{StaysFramed}
 use Rattle.imago_access.specs.declared.access.FormatAccess.{FormatAccess, FormatAccess', out-FormatAccess, out-roll-FormatAccess, rolls-FormatAccess', is-FormatAccess', FormatAccess-F, back-FormatAccess-backing}
 use Rattle.imago_access.specs.Chain.{driver, backing, unboxed, disk_value, as_layer_below, lent_image}
 use Rattle.imago_access.specs.Lending.{with_driver}
 use Rattle.imago_access.specs.Calls.{Overflows, FailsTest, IsLoose, settles, ShowsFaults, IsRangeCall, IsWrite, devices_reliable, IsMappedWrite, IsEnsured, IsPreparing}
-use Rattle.imago_access.specs.Writing.{CommitMayTakeMemory, WasPrepared, HasWrittenAll, HasMapped, filled, shown_length, shown_change}
+use Rattle.imago_access.specs.Writing.{CommitMayTakeMemory, WasPrepared, StandsAlone, HasWrittenAll, HasMapped, filled, shown_length, shown_change}
 use Rattle.imago_access.proofs.Chains.{value_out}
 
 -- what a driver is lent, as the image below
@@ -30,6 +32,10 @@ lent_is view (Some r) b h = ap (lent_image view) h
 ok_more : {T E : Type 0} (r : Result T E) (P Q : T → Type 0) → ((t : T) → P t → Q t) → IfOk r P → IfOk r Q
 ok_more (Ok t) P Q f h = f t h
 ok_more (Err e) P Q f h = tt
+
+ok_both : {T E : Type 0} (r : Result T E) (P Q R : T → Type 0) → ((t : T) → P t → Q t → R t) → IfOk r P → IfOk r Q → IfOk r R
+ok_both (Ok t) P Q R f h k = f t h k
+ok_both (Err e) P Q R f h k = tt
 
 pub on_ok : {E : Type 0} (r : Result Unit E) (P : Type 0) → OnOk r P → IfOk r (λ u. P)
 on_ok (Ok t) P h = h
@@ -111,6 +117,13 @@ settles_for op old new c d o n s = record {
   copied = λ of a m q k p t. s.copied of a m q k p t.0;
 }
 
+at_most : (a b : ℕ) → a ≤ max a b
+at_most a b = omega arith
+
+-- the lengths of storages that nothing is done to
+pub same_lengths : (s : Stores) (longest : ℕ → ℕ) → GrowTo longest s s
+same_lengths s longest = record { no_shorter = λ i. omega arith; no_longer = λ i. at_most (length (s.bytes i)) (longest i) }
+
 -- a count of faults that shows each of them
 shows_faults : {T : Type 0} (r : Bool) (a b : ℕ) (result : Result T Error) → CountsFaults r a b result → ShowsFaults ⊥ r a b result
 shows_faults r a b result h = record { later = h.later; reliable = h.reliable; device = λ e. inl (h.device e) }
@@ -127,6 +140,7 @@ module _ {D St T : Type 0} (view : D → View St) (x : FormatAccess D) (op : Ope
     settled = tt;
     same_size = refl;
     ends = λ q h. h;
+    no_shorter = λ i. omega arith;
     kept = record { below = refl; kind = record { abilities = refl; store_count = refl; store_features = λ i. refl } };
     nothing_pending = p;
     faults = record { later = omega arith; reliable = λ t. refl; device = λ h. absurd (test_device {T = T} (view (driver x)) op o n e f h) };
@@ -138,7 +152,7 @@ module _ {D St T : Type 0} (view : D → View St) (x : FormatAccess D) (op : Ope
       → (IsTrue (view (driver x)).abilities.keeps_data → IfOk result effect) → (IsTrue (view (driver x)).abilities.keeps_data → OnErr result remains)
       → ((IsLoose op → ⊥) → ReachesNoMore (view (driver x)) (view d))
       → IfOk result (λ r. IsSettled of (view (driver x)).limits.cause (view d).limits.cause (view (driver x)).limits.copies (view d).limits.copies o (part r))
-      → IsFramed (view (driver x)) (view d) → (view d).pending ≡ None
+      → StaysFramed (view (driver x)) (view d) → (view d).pending ≡ None
       → ShowsFaults hidden (devices_reliable view x) (view (driver x)).fault_count (view d).fault_count result
       → IfErr result (allowed reasons) → IsRangeCall view op o n nothing of reasons hidden part effect remains x (with_driver x d) result
   passed_call d result w fits small idle done torn reaches settled framed spent faults refusals =
@@ -152,6 +166,7 @@ module _ {D St T : Type 0} (view : D → View St) (x : FormatAccess D) (op : Ope
         settled = subst (λ (y : D). IfOk result (λ r. IsSettled of (view (driver x)).limits.cause (view y).limits.cause (view (driver x)).limits.copies (view y).limits.copies o (part r))) (sym e) settled;
         same_size = ap (λ (y : D). (view y).size) e ∙ framed.size;
         ends = subst (λ (y : D). (p : ℕ) → (view y).place p ≡ End → (view (driver x)).place p ≡ End) (sym e) framed.ends;
+        no_shorter = subst (λ (y : D). AreNoShorter (view (driver x)).stores (view y).stores) (sym e) framed.no_shorter;
         kept = record { below = backing_with x d; kind = subst (λ (y : D). IsKind (view (driver x)) (view y)) (sym e) framed.kind };
         nothing_pending = subst (λ (y : D). (view y).pending ≡ None) (sym e) spent;
         faults = subst (λ (y : D). ShowsFaults hidden (devices_reliable view x) (view (driver x)).fault_count (view y).fault_count result) (sym e) faults;
@@ -161,10 +176,10 @@ module _ {D St T : Type 0} (view : D → View St) (x : FormatAccess D) (op : Ope
 pub image_write : {D St : Type 0} (view : D → View St) (x : FormatAccess D) (d : D) (o : ℕ) (bytes : List ℕ) (result : Result Unit Error) (l : LayerBelow) → l ≡ lent_image view (backing x)
     → (view (driver x)).abilities.is_writable ≡ true → o + length bytes ≤ (view (driver x)).size → (length bytes ≡ 0 → IsOk result × (d ≡ driver x))
     → HasWrittenAll l (CommitMayTakeMemory view (driver x)) (view (driver x)) (view d) o bytes result → IsWrite view x (with_driver x d) o bytes result
-image_write view x d o bytes result l e w fits idle h =
+image_write {D} view x d o bytes result l e w fits idle h =
     let k = subst (λ (m : LayerBelow). HasWrittenAll m (CommitMayTakeMemory view (driver x)) (view (driver x)) (view d) o bytes result) e h in
     passed_call view x Operation.Write o (length bytes) _ _ _ _ _ _ _ d result w fits (λ z. z) idle
-    (λ keeps. on_ok result _ (ok_then result (λ c. changed_image view x d (λ a b. IsChanged o (length bytes) (into bytes) a b) c) (k.done keeps)))
+    (λ keeps. on_ok result _ (both result (λ c s. (changed_image view x d (λ a b. IsChanged o (length bytes) (into bytes) a b) c, subst (λ (y : D). StandsAlone (view y).place o (length bytes)) (sym (driver_with x d)) s)) (k.done keeps) k.alone))
     (λ keeps. err_more result _ _ (λ c. changed_image view x d (λ a b. IsChanged o (length bytes) (partly (into bytes)) a b) c) (k.torn keeps))
     (λ z. k.reaches)
     (on_ok result _ (ok_then result (λ s. settles_for Operation.Write _ _ _ _ o (length bytes) s) k.settled))
@@ -174,17 +189,21 @@ image_write view x d o bytes result l e w fits idle h =
     ok_then (Ok t) f h = f h
     ok_then (Err e) f h = tt
 
+    both : {P Q R : Type 0} (r : Result Unit Error) → (P → Q → R) → OnOk r P → OnOk r Q → OnOk r R
+    both (Ok t) f h k = f h k
+    both (Err e) f h k = tt
+
 -- a write through a mapping by the driver, over what it is lent
 pub image_mapped : {D St : Type 0} (view : D → View St) (x : FormatAccess D) (d : D) (o n : ℕ) (w : Bool) (bytes : List ℕ) (commit : Bool) (result : Result (ℕ × Bool) Error) (l : LayerBelow) → l ≡ lent_image view (backing x)
     → (view (driver x)).abilities.is_writable ≡ true → o + n ≤ (view (driver x)).size
     → IfOk result (WasPrepared view (values l.at (view (driver x)).place) (driver x) o n w)
     → HasMapped l (CommitMayTakeMemory view (driver x)) (view (driver x)) (view d) o n w bytes commit result → IsMappedWrite view x (with_driver x d) o n w bytes commit result
-image_mapped view x d o n w bytes commit result l e writable fits told h =
+image_mapped {D} view x d o n w bytes commit result l e writable fits told h =
     let k = subst (λ (m : LayerBelow). HasMapped m (CommitMayTakeMemory view (driver x)) (view (driver x)) (view d) o n w bytes commit result) e h in
     record {
       told = subst (λ (f : ℕ → Value). IfOk result (WasPrepared view f (driver x) o n w)) (sym (value_out view x)) (subst (λ (m : LayerBelow). IfOk result (WasPrepared view (values m.at (view (driver x)).place) (driver x) o n w)) e told);
       call = passed_call view x Operation.Write o n _ _ _ _ _ _ _ d result writable fits (λ z. z) (λ i. absurd i)
-          (λ keeps. ok_more result _ _ (λ m c. changed_image view x d (λ a b. IsChanged o (shown_length commit m) (shown_change w bytes m) a b) c) (k.done keeps))
+          (λ keeps. ok_both result _ _ _ (λ m c s. (changed_image view x d (λ a b. IsChanged o (shown_length commit m) (shown_change w bytes m) a b) c, subst (λ (y : D). StandsAlone (view y).place o (shown_length commit m)) (sym (driver_with x d)) s)) (k.done keeps) k.alone)
           (λ keeps. err_more result _ _ (λ c. changed_image view x d (λ a b. IsChanged o n (partly (filled w bytes)) a b) c) (k.torn keeps))
           (λ z. k.reaches) k.settled k.framed k.spent (shows_faults _ _ _ result k.faults) k.refusals;
     }
@@ -203,7 +222,7 @@ pub image_ensured : {D St : Type 0} (view : D → View St) (x : FormatAccess D) 
     → (IsTrue (view (driver x)).abilities.keeps_data → OnErr result (IsChanged o n (overwritten w) (values l.at (view (driver x)).place) (values l.at (view d).place)))
     → ReachesNoMore (view (driver x)) (view d)
     → IfOk result (λ r. IsSettled IsOnRange (view (driver x)).limits.cause (view d).limits.cause (view (driver x)).limits.copies (view d).limits.copies o r.2)
-    → IsFramed (view (driver x)) (view d) → (view d).pending ≡ None
+    → StaysFramed (view (driver x)) (view d) → (view d).pending ≡ None
     → CountsFaults ((view (driver x)).abilities.is_reliable && l.is_reliable) (view (driver x)).fault_count (view d).fault_count result
     → IfErr result (allowed (lending_reasons (view (driver x)) l Operation.Write o n)) → IsEnsured view x (with_driver x d) o n w result
 image_ensured view x d o n w result l h writable fits done torn reaches settled framed spent faults refusals =
@@ -221,9 +240,10 @@ pub image_preparing : {D St : Type 0} (view : D → View St) (x : FormatAccess D
     → (view (driver x)).abilities.is_writable ≡ true → o + n ≤ (view (driver x)).size
     → IsUnchanged (view (driver x)) (view d) → OnErr result ((view d).pending ≡ None)
     → IfOk result (λ m. IsSettled IsOnRange (view (driver x)).limits.cause (view d).limits.cause (view (driver x)).limits.copies (view d).limits.copies o m.length)
+    → GrowTo ((view (driver x)).limits.longest Operation.Write o n) (view (driver x)).stores (view d).stores
     → CountsFaults ((view (driver x)).abilities.is_reliable && l.is_reliable) (view (driver x)).fault_count (view d).fault_count result
     → IfErr result (allowed (lending_reasons (view (driver x)) l Operation.Write o n)) → IsPreparing view x (with_driver x d) o n result
-image_preparing {D = D} view x d o n result l h writable fits unchanged spent settled faults refusals =
+image_preparing {D = D} view x d o n result l h writable fits unchanged spent settled lengths faults refusals =
     let e : driver (with_driver x d) ≡ d = driver_with x d in
     let c = subst (λ (m : LayerBelow). CountsFaults ((view (driver x)).abilities.is_reliable && m.is_reliable) (view (driver x)).fault_count (view d).fault_count result) h faults in
     record {
@@ -231,6 +251,8 @@ image_preparing {D = D} view x d o n result l h writable fits unchanged spent se
       same_size = ap (λ (y : D). (view y).size) e ∙ unchanged.framed.size;
       ends = subst (λ (y : D). (p : ℕ) → (view y).place p ≡ End → (view (driver x)).place p ≡ End) (sym e) unchanged.framed.ends;
       unchanged = λ k. changed_image view x d (λ a b. (p : ℕ) → b p ≡ a p) (λ p. ap (shown (lent_image view (backing x)).at) (unchanged.places.same k p));
+      same_layer = subst (λ (y : D). IsUnchanged (view (driver x)) (view y)) (sym e) unchanged;
+      lengths = subst (λ (y : D). GrowTo ((view (driver x)).limits.longest Operation.Write o n) (view (driver x)).stores (view y).stores) (sym e) lengths;
       reaches = subst (λ (y : D). ReachesNoMore (view (driver x)) (view y)) (sym e) unchanged.reaches;
       settled = subst (λ (y : D). IfOk result (λ m. IsSettled IsOnRange (view (driver x)).limits.cause (view y).limits.cause (view (driver x)).limits.copies (view y).limits.copies o m.length)) (sym e) settled;
       kept = record { below = backing_with x d; kind = subst (λ (y : D). IsKind (view (driver x)) (view y)) (sym e) unchanged.framed.kind };
@@ -244,6 +266,12 @@ failed_preparing {St = St} view x o n e f p = record {
   tested = λ z g. (ap (λ y. Err y) (same_test (view (driver x)) Operation.Write o n e z f g), refl);
   same_size = refl;
   unchanged = λ k q. refl;
+  same_layer = record {
+    framed = record { kind = record { abilities = refl; store_count = refl; store_features = λ i. refl }; size = refl; ends = λ q h. h };
+    places = record { stored = λ q b s f w h. (b, h); same = λ k q. refl };
+    reaches = reaches_same (view (driver x));
+  };
+  lengths = same_lengths (view (driver x)).stores _;
   reaches = reaches_same (view (driver x));
   settled = tt;
   ends = λ q h. h;

@@ -3,6 +3,7 @@ pub mod Descent
 pub mod Landed
 pub mod Lengths
 pub mod Weaker
+pub mod AnswerSteps
 pub mod ReadSteps
 pub mod Values
 pub mod Written
@@ -10,6 +11,7 @@ pub mod Writes
 pub mod Parts
 pub mod Images
 pub mod SizeSteps
+pub mod MadeSteps
 pub mod Shown
 pub mod Greatest
 pub mod RunSteps
@@ -21,5 +23,6 @@ pub mod Determined
 pub mod Successes
 pub mod ZeroSteps
 pub mod ZeroLoops
+pub mod ZeroCallSteps
 pub mod DiscardSteps
 pub mod PartSteps

@@ -13,13 +13,15 @@ use Rattle.imago_drivers.specs.Pending.{Pending, IsOwn, ShowsRound}
 use Rattle.imago_drivers.specs.View.{View}
 use Rattle.imago_drivers.specs.Laws.{IsLawful}
 use Rattle.imago_drivers.specs.Changes.{IsChanged, or_torn, partly}
-use Rattle.imago_drivers.specs.Frame.{IsFramed, IsUnchanged, ReachesNoMore}
+use Rattle.imago_drivers.specs.Lengths.{AreNoShorter}
+use Rattle.imago_drivers.specs.Frame.{IsUnchanged, ReachesNoMore}
 use Rattle.imago_drivers.specs.Done.{lending_reasons, mapping_write_reasons}
 use Rattle.imago_drivers.specs.Prepared.{IsPrepared, IsWritten, IsForeignWrite, is_for, is_foreign}
 use Rattle.imago_drivers.specs.Commit.{IsCommit, IsCancel, commit_reasons, is_committed, prepared_bytes}
+use Rattle.imago_access.specs.Framed.{StaysFramed}
 use Rattle.imago_access.specs.Writing.{CommitMayTakeMemory, StandsAlone, HasWritten, HasFilled, HasMapped, IsWaiting, is_filled, filled, shown_length, shown_change, settles_by, first_reasons, filling_reasons, mapping_reasons}
 use Rattle.imago_access.proofs.Weaker.{IsWeaker, allowed_more}
-use Rattle.imago_access.proofs.Written.{settled_twice, framed_twice, changed_wider, changed_whole, written_length, is_at_start, is_at_start_after, never_foreign_write, is_spent, write_refused, cancelled, filled_so, filling_weaker}
+use Rattle.imago_access.proofs.Written.{settled_twice, framed_twice, stays, changed_wider, changed_whole, written_length, is_at_start, is_at_start_after, never_foreign_write, is_spent, write_refused, cancelled, filled_so, filling_weaker}
 use Rattle.imago_access.proofs.Writes.{and_left, of_err, GoesOn, goes_on, goes_on_twice, goes_on_with, reaches_twice, rose_more, counted, refused_first, wrote_first, unchanged_values}
 
 -- settled by a part, so by what holds it
@@ -31,15 +33,15 @@ settled_wider of old new c d o a b le s = record {
 
 -- a mapping that is prepared (old to mid), and written (mid to wrote)
 module _ {D St : Type 0} (view : D → View St) (l : LayerBelow) (old mid wrote : D) (o n : ℕ) (overwrite : Bool) (bytes : List ℕ) (k : ℕ) (m : PreparedDataMapping St)
-    (P : IsPrepared o n overwrite (values l.at (view old).place) (view old) (view mid) m) (U : IsUnchanged (view old) (view mid)) (law : IsLawful (view mid)) (fit : k ≡ min (length bytes) m.length)
+    (P : IsPrepared o n overwrite (values l.at (view old).place) (view old) (view mid) m) (U : IsUnchanged (view old) (view mid)) (N : AreNoShorter (view old).stores (view mid).stores) (law : IsLawful (view mid)) (fit : k ≡ min (length bytes) m.length)
     (S : IsSettled IsOnRange (view old).limits.cause (view mid).limits.cause (view old).limits.copies (view mid).limits.copies o m.length)
     (G : GoesOn ((view old).abilities.is_reliable && l.is_reliable) (view old).fault_count (view mid).fault_count)
-    (F : IsFramed (view mid) (view wrote)) (R : ReachesNoMore (view mid) (view wrote)) (H : GoesOn (view mid).abilities.is_reliable (view mid).fault_count (view wrote).fault_count) where
+    (F : StaysFramed (view mid) (view wrote)) (R : ReachesNoMore (view mid) (view wrote)) (H : GoesOn (view mid).abilities.is_reliable (view mid).fault_count (view wrote).fault_count) where
   wrote_goes : GoesOn ((view old).abilities.is_reliable && l.is_reliable) (view old).fault_count (view wrote).fault_count
   wrote_goes = goes_on_twice _ _ _ _ G (goes_on_with (view old).abilities.is_reliable (view mid).abilities.is_reliable l.is_reliable _ _ (ap (λ a. a.is_reliable) U.framed.kind.abilities) H)
 
-  wrote_framed : IsFramed (view old) (view wrote)
-  wrote_framed = framed_twice (view old) (view mid) (view wrote) U.framed F
+  wrote_framed : StaysFramed (view old) (view wrote)
+  wrote_framed = framed_twice (view old) (view mid) (view wrote) (stays (view old) (view mid) U.framed N) F
 
   wrote_reaches : ReachesNoMore (view old) (view wrote)
   wrote_reaches = reaches_twice (view old) (view mid) (view wrote) U.reaches R
@@ -59,7 +61,7 @@ module _ {D St : Type 0} (view : D → View St) (l : LayerBelow) (old mid wrote 
         nothing_pending = is_spent (view old) (view mid) (view wrote) l o n overwrite bytes k m P U law fit true (view new).pending w c.own_spent c.others_stay;
         settled = tt;
         reaches = reaches_twice (view old) (view wrote) (view new) wrote_reaches c.reaches;
-        framed = framed_twice (view old) (view wrote) (view new) wrote_framed c.framed;
+        framed = framed_twice (view old) (view wrote) (view new) wrote_framed (stays (view wrote) (view new) c.framed c.lengths.no_shorter);
         faults = counted _ _ _ _ (goes_on_twice _ _ _ _ wrote_goes (goes_on_with (view old).abilities.is_reliable (view wrote).abilities.is_reliable l.is_reliable _ _ same (record { later = c.later; reliable = c.reliable })))
             (λ h. rose_more (view old).fault_count (view mid).fault_count (view wrote).fault_count (view new).fault_count G.later c.later (device (of_err e Error.Device h)));
         refusals = write_refused (view old) (view mid) (view wrote) l o n overwrite bytes k m P U law fit S e
@@ -88,10 +90,10 @@ module _ {D St : Type 0} (view : D → View St) (l : LayerBelow) (old mid wrote 
       }
 
 -- a preparing that is refused
-pub fill_refused : {D St : Type 0} (view : D → View St) (l : LayerBelow) (old new : D) (o n : ℕ) (overwrite : Bool) (bytes : List ℕ) (e : Error) → IsUnchanged (view old) (view new) → (view new).pending ≡ None
+pub fill_refused : {D St : Type 0} (view : D → View St) (l : LayerBelow) (old new : D) (o n : ℕ) (overwrite : Bool) (bytes : List ℕ) (e : Error) → IsUnchanged (view old) (view new) → AreNoShorter (view old).stores (view new).stores → (view new).pending ≡ None
     → GoesOn ((view old).abilities.is_reliable && l.is_reliable) (view old).fault_count (view new).fault_count → (e ≡ Error.Device → RoseOrSaturated (view old).fault_count (view new).fault_count)
     → allowed (lending_reasons (view old) l Operation.Write o n) e → HasFilled l (view old) (view new) o n overwrite bytes (Err e)
-fill_refused view l old new o n overwrite bytes e U spent G device reasons = record {
+fill_refused view l old new o n overwrite bytes e U N spent G device reasons = record {
   mapping = tt;
   written = tt;
   for = tt;
@@ -99,7 +101,7 @@ fill_refused view l old new o n overwrite bytes e U spent G device reasons = rec
   nothing_pending = spent;
   settled = tt;
   reaches = U.reaches;
-  framed = U.framed;
+  framed = stays (view old) (view new) U.framed N;
   faults = counted _ _ _ _ G (λ h. device (of_err e Error.Device h));
   refusals = allowed_more _ _ (filling_weaker (view old) l o n bytes) e reasons;
 }
@@ -180,7 +182,7 @@ module _ {D St : Type 0} (view : D → View St) (l : LayerBelow) (old wrote new 
       let same : (p : ℕ) → values l.at (view new).place p ≡ values l.at (view old).place p = λ p. ap (shown l.at) (s.same (wrote_keeps keeps) p) ∙ w.2.same keeps p in
       record { inside = λ k lt. absurd (omega arith); before = λ p lt. same p; behind = λ p le. same p }
 
-  new_framed : IsFramed (view wrote) (view new) → IsFramed (view old) (view new)
+  new_framed : StaysFramed (view wrote) (view new) → StaysFramed (view old) (view new)
   new_framed h = framed_twice (view old) (view wrote) (view new) H.framed h
 
   new_goes : GoesOn (view wrote).abilities.is_reliable (view wrote).fault_count (view new).fault_count → GoesOn ((view old).abilities.is_reliable && l.is_reliable) (view old).fault_count (view new).fault_count
@@ -207,19 +209,29 @@ module _ {D St : Type 0} (view : D → View St) (l : LayerBelow) (old wrote new 
       reasons E.Denied own a = a
       reasons E.NotFound own a = a
 
-  -- what is committed stands in the layer itself
-  stands_at : (st : Option St) → is_for (view wrote) m st 0 m.length o → is_filled st l (view old) (view wrote) o overwrite bytes m → is_committed (view wrote).pending st false (view wrote) (view new) → StandsAlone (view new).place o m.length
-  stands_at None f w c p i q v h =
+  -- what is written without a state stands in the layer itself
+  direct_stands : is_for (view wrote) m None 0 m.length o → SamePlaces (view wrote).abilities.keeps_data (view wrote).place (view new).place → StandsAlone (view new).place o m.length
+  direct_stands f c p i q v h =
       let e : o + (p - o) ≡ p = omega (arith, i.0) in
       let x = f (p - o) (omega (arith, i.0, i.1)) in
       let y = c.stored (o + (p - o)) x.0 m.storage (m.offset + 0 + (p - o)) x.1 x.2 in
       let k : Lower q v ≡ Stored y.0 m.storage (m.offset + 0 + (p - o)) x.1 = sym h ∙ sym (ap (view new).place e) ∙ y.1 in
       cc
-  stands_at (Some s) f w c p i q v h =
+
+  -- what is cancelled without a state does so, and nothing shows of one with a state
+  cancelled_at : (st : Option St) → is_for (view wrote) m st 0 m.length o → SamePlaces (view wrote).abilities.keeps_data (view wrote).place (view new).place → StandsAlone (view new).place o (shown_length false (m.length, is_none st))
+  cancelled_at None f c = direct_stands f c
+  cancelled_at (Some s) f c = λ p i q v h. absurd (omega (arith, i.0, i.1))
+
+  -- what is committed stands in the layer itself
+  stands_at : (st : Option St) → is_for (view wrote) m st 0 m.length o → is_filled st l (view old) (view wrote) o overwrite bytes m → is_committed (view wrote).pending st false (view wrote) (view new) → StandsAlone (view new).place o m.length
+  stands_at None f w c = direct_stands f c
+  stands_at (Some s) f w c =
       let d : is_committed (Some w.0) (Some s) false (view wrote) (view new) = subst (λ (r : Option (Pending St)). is_committed r (Some s) false (view wrote) (view new)) w.1 c in
       let r = w.0 in
       let start : r.start ≡ o = w.2.start in
       let len : m.length ≡ r.length = w.2.own.2 in
+      λ p i q v h.
       let e : r.start + (p - o) ≡ p = omega (arith, i.0, start) in
       let y = d.0 refl (p - o) (omega (arith, i.0, i.1, len)) in
       let k : Lower q v ≡ Stored y.0 r.storage (r.offset + (p - o)) true = sym h ∙ sym (ap (view new).place e) ∙ y.1 in
@@ -230,10 +242,10 @@ module _ {D St : Type 0} (view : D → View St) (l : LayerBelow) (old wrote new 
     mapping = H.mapping;
     done = λ keeps. changed_whole o m.length (filled (overwrite && not (is_none m.state)) bytes) _ _ (shown_by_commit false c.done keeps);
     torn = λ keeps. tt;
-    alone = λ e. stands_at m.state H.for H.written c.done;
+    alone = stands_at m.state H.for H.written c.done;
     settled = settled_for (settled_twice _ _ _ _ _ _ o m.length H.settled (c.settled o H.for));
     reaches = reaches_twice (view old) (view wrote) (view new) H.reaches c.reaches;
-    framed = new_framed c.framed;
+    framed = new_framed (stays (view wrote) (view new) c.framed c.lengths.no_shorter);
     spent = spent c.own_spent c.others_stay;
     faults = counted _ _ _ _ (new_goes (goes_on _ _ _ _ c.faults)) (λ h. let z : ⊥ = cc in absurd z);
     refusals = tt;
@@ -255,11 +267,11 @@ module _ {D St : Type 0} (view : D → View St) (l : LayerBelow) (old wrote new 
       record {
         mapping = tt;
         done = λ keeps. tt;
-        alone = λ z. tt;
+        alone = tt;
         torn = λ keeps. looser_part (not (is_none m.state)) (changed_wider o m.length n (filled (overwrite && not (is_none m.state)) bytes) _ _ H.mapping.within (shown_by_commit true (c.torn (λ h. own (of_err e Error.ForeignMapping h))) keeps));
         settled = tt;
         reaches = reaches_twice (view old) (view wrote) (view new) H.reaches c.reaches;
-        framed = new_framed c.framed;
+        framed = new_framed (stays (view wrote) (view new) c.framed c.lengths.no_shorter);
         spent = spent c.own_spent c.others_stay;
         faults = counted _ _ _ _ (new_goes (goes_on _ _ _ _ c.faults)) (λ h. rose_more (view old).fault_count (view wrote).fault_count (view new).fault_count (view new).fault_count H.faults.later (omega arith) (c.faults.device (ap (λ x. Err x) (of_err e Error.Device h))));
         refusals = commit_refused e own c.refusals;
@@ -270,10 +282,10 @@ module _ {D St : Type 0} (view : D → View St) (l : LayerBelow) (old wrote new 
     mapping = H.mapping;
     done = λ keeps. unshown_at m.state H.written c.places keeps;
     torn = λ keeps. tt;
-    alone = λ e. let x : ⊥ = cc in absurd x;
+    alone = cancelled_at m.state H.for c.places;
     settled = record { causes = λ op a z q i e t. let y = t.1 in let x : ⊥ = cc in absurd x; copied = λ op a z q i p t. let y = t.1 in let x : ⊥ = cc in absurd x };
     reaches = reaches_twice (view old) (view wrote) (view new) H.reaches c.reaches;
-    framed = new_framed c.framed;
+    framed = new_framed (stays (view wrote) (view new) c.framed c.lengths.no_shorter);
     spent = spent c.own_spent c.others_stay;
     faults = counted _ _ _ _ (new_goes (record { later = c.later; reliable = c.reliable })) (λ h. let z : ⊥ = cc in absurd z);
     refusals = tt;
@@ -285,7 +297,7 @@ mapping_refused l commit_memory old new o n overwrite bytes commit e h = record 
   mapping = tt;
   done = λ keeps. tt;
   torn = λ keeps. more (h.torn keeps);
-  alone = λ z. tt;
+  alone = tt;
   settled = tt;
   reaches = h.reaches;
   framed = h.framed;
@@ -320,7 +332,7 @@ module _ {St : Type 0} (l : LayerBelow) (commit_memory : Type 0) (old new : View
   pub first_written : (c : ℕ) (b : Bool) → 0 < length bytes → HasMapped l commit_memory old new o (length bytes) true bytes true (Ok (c, b)) → HasWritten l commit_memory old new o bytes (Ok c)
   first_written c b some h = wrote_first l commit_memory old new o bytes c (h.mapping.some some) h.mapping.within
       (λ keeps. let d = h.done keeps in record { inside = λ k lt. (d.inside k lt).0 (omega (arith, h.mapping.within)); before = d.before; behind = d.behind })
-      h.mapping.whole (h.alone refl)
+      h.mapping.whole h.alone
       (record { causes = λ op a z q i e t. h.settled.causes op a z q i e (t, refl); copied = λ op a z q i p t. h.settled.copied op a z q i p (t, refl) })
       h.reaches h.framed h.spent (goes_on _ _ _ _ h.faults)
 

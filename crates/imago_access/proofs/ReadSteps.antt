@@ -12,12 +12,12 @@ use Rattle.imago_drivers.specs.declared.mapping.ShallowMapping.{ShallowMapping}
 use Rattle.imago_drivers.specs.declared.mapping.ShallowMapping.TheVariants as S
 use Rattle.imago_access.specs.declared.access.FormatAccess.{FormatAccess}
 use Rattle.imago_access.specs.declared.chain.Way.{Way}
-use Rattle.imago_access.specs.Chain.{driver, backing, disk_value, chain_cause, chain_no_memory, lent_image, read_reasons, inside_part}
+use Rattle.imago_access.specs.Chain.{driver, backing, disk_value, chain_cause, chain_no_memory, may_take_memory, lent_image, read_reasons, inside_part}
 use Rattle.imago_access.specs.ChainLaws.{chain_part}
 use Rattle.imago_access.specs.Resolved.{chain_map_reasons}
 use Rattle.imago_access.specs.Ways.{NamesOrEnds, IsBottom, HasLanded}
 use Rattle.imago_access.specs.Named.{IsKnown, IsNamedAt, own_values, named_read_reasons, chunk_read_reasons}
-use Rattle.imago_access.proofs.Chains.{value_out, reliable_here, cause_here, no_memory_here}
+use Rattle.imago_access.proofs.Chains.{value_out, reliable_here, cause_here, memory_here, memory_part, no_memory_here}
 use Rattle.imago_access.proofs.Weaker.{IsWeaker, allowed_more}
 
 -- the bytes of a storage, or special ones, are what the places show
@@ -109,7 +109,16 @@ module _ {D St : Type 0} (view : D → View St) (laws : (d : D) → IsLawful (vi
         let up = subst (λ (p : ℕ). chain_cause view x Read p way.length e) b (h.leads.causes Read 0 way.length e (landed_length view x o most layer way m h some) (omega arith) here) in
         inl (chain_part view causes x Read o most o way.length e (omega arith) (omega (arith, h.leads.within)) up);
     device = λ z. h.leads.reliable (reliable_here view layer z);
-    memory = λ c all. let w = h.leads.whole all in c way.offset h.part.names (no_memory_here view layer way.offset way.length w.1);
+    memory = λ c all. ⊎_elim
+        (λ every. let w = h.leads.whole every in c way.offset h.part.names (no_memory_here view layer way.offset way.length w.1))
+        (λ none.
+        let a : way.offset ≡ way.offset + 0 = omega arith in
+        let b : o + 0 ≡ o = omega arith in
+        let lt = landed_length view x o most layer way m h some in
+        let here = subst (λ (p : ℕ). may_take_memory view layer p way.length) a (memory_here view layer way.offset way.length lt (c way.offset h.part.names)) in
+        let up = subst (λ (p : ℕ). may_take_memory view x p way.length) b (h.leads.memory 0 way.length lt (omega arith) here) in
+        none (memory_part view x o most o way.length (omega arith) (omega (arith, h.leads.within)) up))
+        all;
     foreign_mapping = λ z. z;
   }
 
@@ -158,15 +167,19 @@ chunk_refused view laws x o n done m len inside lt first e c same = allowed_more
       device = λ h. h;
       memory = λ h none. ⊎_elim
           (λ z. absurd (omega arith))
-          (λ all.
-          let k : chain_no_memory view x o m = subst (λ (i : ℕ). chain_no_memory view x o i) (sym inside) all in
+          (λ all. ⊎_elim (λ every.
+          let k : chain_no_memory view x o m = subst (λ (i : ℕ). chain_no_memory view x o i) (sym inside) every in
           ⊎_elim
           (λ z.
           let a : o + done ≡ o = omega arith in
           let b : len ≡ m = omega arith in
-          absurd (h (rw (a, b) k)))
+          absurd (h (inl (rw (a, b) k))))
           (λ z. absurd (omega arith))
           (first k))
+          (λ takes.
+          let t : may_take_memory view x o m → ⊥ = subst (λ (i : ℕ). may_take_memory view x o i → ⊥) (sym inside) takes in
+          absurd (h (inr (λ part. t (memory_part view x o m (o + done) len (omega arith) (omega arith) part)))))
+          all)
           none;
       foreign_mapping = λ h. h;
     }

@@ -1,23 +1,27 @@
-use Rattle.std.proofs.Common.{◌≡◌, ℕ, ◌<◌, ◌≤◌, ◌&&◌, inl, inr, true, refl, sym, ap, ◌∙◌, subst, arith, Result, Ok, Err, min, max}
+use Rattle.std.proofs.Common.{◌≡◌, ℕ, ◌<◌, ◌≤◌, ◌&&◌, inl, inr, true, refl, sym, ap, ◌∙◌, subst, arith, Result, Ok, Err, min, max, length}
 use Rattle.std.specs.Prelude.{IsTrue, IsOk, IfErr, OnOk, OnErr}
 use Rattle.imago_storage.specs.declared.error.Error.{Error}
 use Rattle.imago_storage.specs.Faults.{CountsFaults}
-use Rattle.imago_drivers.specs.Operation.{Operation, Grow, Shrink}
+use Rattle.imago_drivers.specs.Operation.{Operation, Grow, Shrink, Flush}
 use Rattle.imago_drivers.specs.declared.format.PreallocateMode.{PreallocateMode}
 use Rattle.imago_drivers.specs.Place.{End, shown, values, SamePlaces}
 use Rattle.imago_drivers.specs.Pending.{ShowsRound}
 use Rattle.imago_drivers.specs.LayerBelow.{LayerBelow}
 use Rattle.imago_drivers.specs.View.{View}
+use Rattle.imago_drivers.specs.CallRelations.{Calls}
 use Rattle.imago_drivers.specs.Reasons.{allowed}
-use Rattle.imago_drivers.specs.Frame.{IsKind}
+use Rattle.imago_drivers.specs.Causes.{AddsNone}
+use Rattle.imago_drivers.specs.Frame.{IsKind, IsUnchanged}
+use Rattle.imago_drivers.specs.Lengths.{GrowTo, AreNoLonger}
 use Rattle.imago_drivers.specs.Calls.{IsFlush}
-use Rattle.imago_drivers.specs.Resized.{IsGrown, IsCut, IsSameDisk, grown_into}
+use Rattle.imago_drivers.specs.Resized.{IsGrown, IsCut, IsSameDisk, IsListed, grown_into}
 use Rattle.imago_drivers.specs.Done.{lending_reasons, driver_reasons}
 use Rattle.imago_access.specs.declared.access.FormatAccess.{FormatAccess}
 use Rattle.imago_access.specs.Chain.{driver, backing, disk_value, lent_image}
 use Rattle.imago_access.specs.Lending.{with_driver}
 use Rattle.imago_access.specs.Calls.{IsKept, range_refusals}
-use Rattle.imago_access.specs.Sizes.{HasGrown, HasShrunk, IsSameImage, FailsWritable, IsIdle, IsResize, IsFlushed, resize_reliable, resize_refusals}
+use Rattle.imago_access.specs.Performed.{IsGrownBy, IsCutBy}
+use Rattle.imago_access.specs.Sizes.{HasGrown, HasShrunk, IsSameImage, FailsWritable, IsIdle, IsResizedLayer, IsResize, IsFlushed, resize_reliable, resize_refusals}
 use Rattle.imago_access.proofs.Images.{driver_with, backing_with, changed_image}
 
 ok_then : {P Q : Type 0} (r : Result Unit Error) → (P → Q) → OnOk r P → OnOk r Q
@@ -63,13 +67,19 @@ module _ {D St : Type 0} (view : D → View St) (x : FormatAccess D) (d : D) whe
 
   pub resized_image : (op : Operation) (n : ℕ) (effect : Type 0) (result : Result Unit Error) → (view (driver x)).abilities.is_writable ≡ true
       → OnOk result effect → (IsIdle op (view (driver x)).size n → IsOk result) → OnErr result (IsSameDisk (view (driver x)) (view d)) → ((p : ℕ) → p < (view (driver x)).size → p < (view d).size → (view d).place p ≡ End → (view (driver x)).place p ≡ End) → IsKind (view (driver x)) (view d)
+      → OnOk result (IsResizedLayer op (lent_image view (backing x)).at n (view (driver x)) (view d)) → (IsListed (view (driver x)) → IsListed (view d))
+      → AreNoLonger ((view (driver x)).limits.longest op n 0) (view (driver x)).stores (view d).stores
       → CountsFaults (resize_reliable view x op) (view (driver x)).fault_count (view d).fault_count result
       → IfErr result (allowed (resize_refusals view x op n)) → IsResize view op n effect x (with_driver x d) result
-  resized_image op n effect result w done idle same ends kind faults refusals = record {
+  resized_image op n effect result w done idle same ends kind layer listed no_longer faults refusals = record {
     tested = λ e f. absurd (let y = sym w ∙ f.1 in cc);
     done = done;
     idle = λ t i. idle i;
     unchanged = err_then result (λ h. same_image h.size h.places) same;
+    layer = with (λ (y : D). OnOk result (IsResizedLayer op (lent_image view (backing x)).at n (view (driver x)) (view y))) layer;
+    same_layer = with (λ (y : D). OnErr result (IsSameDisk (view (driver x)) (view y))) same;
+    listed = with (λ (y : D). IsListed (view (driver x)) → IsListed (view y)) listed;
+    no_longer = with (λ (y : D). AreNoLonger ((view (driver x)).limits.longest op n 0) (view (driver x)).stores (view y).stores) no_longer;
     ends = with (λ (y : D). (p : ℕ) → p < (view (driver x)).size → p < (view y).size → (view y).place p ≡ End → (view (driver x)).place p ≡ End) ends;
     kept = kept_with kind;
     faults = with (λ (y : D). CountsFaults (resize_reliable view x op) (view (driver x)).fault_count (view y).fault_count result) faults;
@@ -80,6 +90,9 @@ module _ {D St : Type 0} (view : D → View St) (x : FormatAccess D) (d : D) whe
   flushed_image relation result h = record {
     performed = with (λ (y : D). relation (driver x) y result) h.performed;
     unchanged = same_image h.unchanged.framed.size h.unchanged.places;
+    same_layer = with (λ (y : D). IsUnchanged (view (driver x)) (view y)) h.unchanged;
+    causes = with (λ (y : D). AddsNone (view (driver x)).limits.cause (view y).limits.cause (view (driver x)).limits.copies (view y).limits.copies) h.causes;
+    lengths = with (λ (y : D). GrowTo ((view (driver x)).limits.longest Flush 0 0) (view (driver x)).stores (view y).stores) h.lengths;
     ends = with (λ (y : D). (p : ℕ) → (view y).place p ≡ End → (view (driver x)).place p ≡ End) h.unchanged.framed.ends;
     kept = kept_with h.unchanged.framed.kind;
     pending = with (λ (y : D). (view y).pending ≡ (view (driver x)).pending) h.pending;
@@ -93,6 +106,23 @@ module _ {D St : Type 0} (view : D → View St) (x : FormatAccess D) (d : D) whe
   round_image h = with (λ (y : D). ShowsRound (disk_value view x) (view (driver x)).pending → ShowsRound (disk_value view (with_driver x d)) (view y).pending)
       (changed_image view x d (λ a b. ShowsRound a (view (driver x)).pending → ShowsRound b (view d).pending) h)
 
+most : (a b : ℕ) → a ≤ max a b
+most a b = omega arith
+
+-- a list of places that is whole stays whole, over a cut and over a refusal
+listed_by_end : {St : Type 0} (old new : View St) → ((p : ℕ) → p < new.size → new.place p ≡ End → old.place p ≡ End) → new.size ≤ old.size → IsListed old → IsListed new
+listed_by_end old new ends le h p lt e = h p (omega arith) (ends p lt e)
+
+same_listed : {St : Type 0} (old new : View St) → IsSameDisk old new → IsListed old → IsListed new
+same_listed old new h = listed_by_end old new (λ p lt e. h.ends p e) (omega (arith, h.size))
+
+cut_listed : {St : Type 0} (old new : View St) (n : ℕ) → IsCut n old new → IsListed old → IsListed new
+cut_listed old new n h = listed_by_end old new h.ends (omega (arith, h.size))
+
+stays_listed : {St : Type 0} (old new : View St) (result : Result Unit Error) (effect : Type 0) → (effect → IsListed old → IsListed new) → OnOk result effect → OnErr result (IsSameDisk old new) → IsListed old → IsListed new
+stays_listed old new (Ok t) effect f done same = f done
+stays_listed old new (Err e) effect f done same = same_listed old new same
+
 -- a resize of an image that isn't writable
 pub read_only_resize : {D St : Type 0} (view : D → View St) (x : FormatAccess D) (op : Operation) (n : ℕ) (effect : Type 0) (e : Error) → FailsWritable (view (driver x)) e → IsResize view op n effect x x (Err e)
 read_only_resize view x op n effect e w = record {
@@ -100,6 +130,10 @@ read_only_resize view x op n effect e w = record {
   done = tt;
   idle = λ t i. let y = sym t ∙ w.1 in let z : ⊥ = cc in absurd z;
   unchanged = record { size = refl; values = λ k p. refl };
+  layer = tt;
+  same_layer = record { size = refl; places = record { stored = λ p b s f w h. (b, h); same = λ k p. refl }; reaches = λ p q w h. (w, h); ends = λ p h. h; no_shorter = λ i. omega arith };
+  listed = λ h. h;
+  no_longer = λ i. most (length ((view (driver x)).stores.bytes i)) ((view (driver x)).limits.longest op n 0 i);
   ends = λ p a b h. h;
   kept = record { below = refl; kind = record { abilities = refl; store_count = refl; store_features = λ i. refl } };
   faults = record { later = omega arith; reliable = λ t. refl; device = λ h. let y = w.0 in let z : ⊥ = cc in absurd z };
@@ -118,19 +152,34 @@ ends_by old new (Err e) effect f done same = λ p a b h. same.ends p h
 -- a growth by the driver, over what it is lent
 pub grow_image : {D St : Type 0} (view : D → View St) (x : FormatAccess D) (d : D) (l : LayerBelow) → l ≡ lent_image view (backing x) → (mode : PreallocateMode) (n : ℕ) (result : Result Unit Error) → (view (driver x)).abilities.is_writable ≡ true
     → OnOk result (IsGrown mode l.at n (view (driver x)) (view d)) → (n ≤ (view (driver x)).size → IsOk result) → OnErr result (IsSameDisk (view (driver x)) (view d)) → IsKind (view (driver x)) (view d)
+    → AreNoLonger ((view (driver x)).limits.longest (Grow mode) n 0) (view (driver x)).stores (view d).stores
     → CountsFaults ((view (driver x)).abilities.is_reliable && l.is_reliable) (view (driver x)).fault_count (view d).fault_count result
     → IfErr result (allowed (record (lending_reasons (view (driver x)) l (Grow mode) n 0) { beyond_disk = ⊥ })) → IsResize view (Grow mode) n (HasGrown view mode n x (with_driver x d)) x (with_driver x d) result
-grow_image view x d l h mode n result w grown idle same kind faults refusals =
+grow_image view x d l h mode n result w grown idle same kind no_longer faults refusals =
+    let layer : OnOk result (IsGrown mode (lent_image view (backing x)).at n (view (driver x)) (view d)) = subst (λ (m : LayerBelow). OnOk result (IsGrown mode m.at n (view (driver x)) (view d))) h grown in
     resized_image view x d (Grow mode) n _ result w
-    (ok_then result (λ g. grown_image view x d mode n (subst (λ (m : LayerBelow). IsGrown mode m.at n (view (driver x)) (view d)) h g)) grown)
-    idle same (ends_by (view (driver x)) (view d) result _ (λ g p a b h. g.ends p a h) grown same) kind
+    (ok_then result (λ g. grown_image view x d mode n g) layer)
+    idle same (ends_by (view (driver x)) (view d) result _ (λ g p a b h. g.ends p a h) layer same) kind
+    layer (stays_listed (view (driver x)) (view d) result _ (λ g. g.listed) layer same) no_longer
     (subst (λ (m : LayerBelow). CountsFaults ((view (driver x)).abilities.is_reliable && m.is_reliable) (view (driver x)).fault_count (view d).fault_count result) h faults)
     (refused_then result _ _ (grow_weaker view x l h (Grow mode) n) refusals)
 
 -- a cut by the driver
 pub shrink_image : {D St : Type 0} (view : D → View St) (x : FormatAccess D) (d : D) (n : ℕ) (result : Result Unit Error) → (view (driver x)).abilities.is_writable ≡ true
     → OnOk result (IsCut n (view (driver x)) (view d)) → ((view (driver x)).size ≤ n → IsOk result) → OnErr result (IsSameDisk (view (driver x)) (view d)) → IsKind (view (driver x)) (view d)
+    → AreNoLonger ((view (driver x)).limits.longest Shrink n 0) (view (driver x)).stores (view d).stores
     → CountsFaults (view (driver x)).abilities.is_reliable (view (driver x)).fault_count (view d).fault_count result
     → IfErr result (allowed (driver_reasons (view (driver x)) Shrink n 0)) → IsResize view Shrink n (HasShrunk view n x (with_driver x d)) x (with_driver x d) result
-shrink_image view x d n result w cut idle same kind faults refusals =
-    resized_image view x d Shrink n _ result w (ok_then result (cut_image view x d n) cut) idle same (ends_by (view (driver x)) (view d) result _ (λ g p a b h. g.ends p b h) cut same) kind faults refusals
+shrink_image view x d n result w cut idle same kind no_longer faults refusals =
+    resized_image view x d Shrink n _ result w (ok_then result (cut_image view x d n) cut) idle same (ends_by (view (driver x)) (view d) result _ (λ g p a b h. g.ends p b h) cut same) kind
+    cut (stays_listed (view (driver x)) (view d) result _ (cut_listed (view (driver x)) (view d) n) cut same) no_longer faults refusals
+
+-- the driver's growth, over what it was lent, is the image's
+pub grown_by : {D St : Type 0} (view : D → View St) (its : Calls D St) (x : FormatAccess D) (d : D) (l : LayerBelow) → l ≡ lent_image view (backing x) → (n : ℕ) (mode : PreallocateMode) (result : Result Unit Error)
+    → its.grown n mode l (driver x) d result → IsGrownBy view its n mode x (with_driver x d) result
+grown_by {D} view its x d l h n mode result p = λ w.
+    with view x d (λ (y : D). its.grown n mode (lent_image view (backing x)) (driver x) y result) (subst (λ (m : LayerBelow). its.grown n mode m (driver x) d result) h p)
+
+pub cut_by : {D St : Type 0} (view : D → View St) (its : Calls D St) (x : FormatAccess D) (d : D) (n : ℕ) (result : Result Unit Error)
+    → its.cut n (driver x) d result → IsCutBy view its n x (with_driver x d) result
+cut_by {D} view its x d n result p = λ w. with view x d (λ (y : D). its.cut n (driver x) y result) p

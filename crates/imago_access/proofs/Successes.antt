@@ -7,7 +7,7 @@ use Rattle.imago_drivers.specs.declared.format.PreallocateMode.{PreallocateMode}
 use Rattle.imago_drivers.specs.Place.{Value}
 use Rattle.imago_drivers.specs.LayerBelow.{ReadBound}
 use Rattle.imago_drivers.specs.Operation.{Operation, Map, Write, Grow, Shrink, Flush}
-use Rattle.imago_drivers.specs.Discards.{Discards}
+use Rattle.imago_drivers.specs.CallRelations.{Calls}
 use Rattle.imago_drivers.specs.View.{View, EndsIn}
 use Rattle.imago_drivers.specs.Laws.{IsLawful, AreCauses}
 use Rattle.imago_drivers.specs.Reasons.{Reasons, allowed}
@@ -133,8 +133,8 @@ module _ {D St : Type 0} (view : D → View St) where
   pub zero_write_succeeds : ZeroWritesSucceed view
   zero_write_succeeds = λ old new op o n result g h. offered_succeeds old new op o n (zero_reasons view old op o n) result g (λ z. both_ways (is_reliable view old) g.reliable z) (λ z. z) (λ z. z) (λ z. z) (λ z. z) (λ k free. k free) h
 
-  pub discard_succeeds : (discards : Discards D) → DiscardsSucceed view discards
-  discard_succeeds discards = λ old new call o n result g h. offered_succeeds old new (discard_of call) o n (discard_reasons (view (driver old)) (discard_of call) o n) result g (λ z. z) (λ z. z) (λ z. z) (λ z. z) (λ z. z) (λ k free. k free) h.range
+  pub discard_succeeds : (its : Calls D St) → DiscardsSucceed view its
+  discard_succeeds its = λ old new call o n result g h. offered_succeeds old new (discard_of call) o n (discard_reasons (view (driver old)) (discard_of call) o n) result g (λ z. z) (λ z. z) (λ z. z) (λ z. z) (λ z. z) (λ k free. k free) h.range
 
   -- a data mapping, or the preparing of one
   pub mapped_succeeds : {T : Type 0} (old new : FormatAccess D) (o n : ℕ) (result : Result T Error) → IsReadyToWrite view old o n

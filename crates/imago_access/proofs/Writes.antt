@@ -11,10 +11,11 @@ use Rattle.imago_drivers.specs.Causes.{Causes, Copies, IsSettled, IsOnRange}
 use Rattle.imago_drivers.specs.View.{View}
 use Rattle.imago_drivers.specs.Laws.{AreCauses}
 use Rattle.imago_drivers.specs.Changes.{Change, IsChanged, into, partly}
-use Rattle.imago_drivers.specs.Frame.{IsFramed, IsUnchanged, ReachesNoMore}
+use Rattle.imago_drivers.specs.Frame.{IsUnchanged, ReachesNoMore}
+use Rattle.imago_access.specs.Framed.{StaysFramed}
 use Rattle.imago_access.specs.Writing.{CommitMayTakeMemory, StandsAlone, first_reasons, write_reasons, HasWritten, HasWrittenAll}
 use Rattle.imago_access.proofs.Weaker.{IsWeaker, allowed_more}
-use Rattle.imago_access.proofs.Written.{kind_twice, framed_twice}
+use Rattle.imago_access.proofs.Written.{kind_twice, framed_twice, same_frame}
 
 pub and_left : (a b : Bool) → IsTrue (a && b) → IsTrue a
 and_left true b h = refl
@@ -55,7 +56,7 @@ of_err e x h = cc
 module _ {St : Type 0} (l : LayerBelow) (commit_memory : Type 0) (old new : View St) (o : ℕ) (bytes : List ℕ) where
   -- a refusal with nothing written for it but what may be torn
   pub refused_first : (e : Error) → (IsTrue old.abilities.keeps_data → IsChanged o (length bytes) (partly (into bytes)) (values l.at old.place) (values l.at new.place))
-      → ReachesNoMore old new → IsFramed old new → new.pending ≡ None → GoesOn (old.abilities.is_reliable && l.is_reliable) old.fault_count new.fault_count → (e ≡ Error.Device → RoseOrSaturated old.fault_count new.fault_count)
+      → ReachesNoMore old new → StaysFramed old new → new.pending ≡ None → GoesOn (old.abilities.is_reliable && l.is_reliable) old.fault_count new.fault_count → (e ≡ Error.Device → RoseOrSaturated old.fault_count new.fault_count)
       → allowed (first_reasons old l commit_memory o (length bytes)) e → HasWritten l commit_memory old new o bytes (Err e)
   refused_first e torn reaches framed spent goes device reasons = record {
     some = tt;
@@ -73,7 +74,7 @@ module _ {St : Type 0} (l : LayerBelow) (commit_memory : Type 0) (old new : View
 
   pub wrote_first : (n : ℕ) → 0 < n → n ≤ length bytes → (IsTrue old.abilities.keeps_data → IsChanged o n (into bytes) (values l.at old.place) (values l.at new.place))
       → (old.limits.whole Operation.Write o (length bytes) → n ≡ length bytes) → StandsAlone new.place o n → IsSettled IsOnRange old.limits.cause new.limits.cause old.limits.copies new.limits.copies o n
-      → ReachesNoMore old new → IsFramed old new → new.pending ≡ None → GoesOn (old.abilities.is_reliable && l.is_reliable) old.fault_count new.fault_count → HasWritten l commit_memory old new o bytes (Ok n)
+      → ReachesNoMore old new → StaysFramed old new → new.pending ≡ None → GoesOn (old.abilities.is_reliable && l.is_reliable) old.fault_count new.fault_count → HasWritten l commit_memory old new o bytes (Ok n)
   wrote_first n some within done whole alone settled reaches framed spent goes = record {
     some = (some, within);
     done = done;
@@ -99,7 +100,8 @@ pub record IsWritingOn {D St : Type 0} (view : D → View St) (l : LayerBelow) (
   pub done : IsTrue (view old).abilities.keeps_data → IsChanged o count (into bytes) (values l.at (view old).place) (values l.at (view mid).place)
   pub settled : IsSettled IsOnRange (view old).limits.cause (view mid).limits.cause (view old).limits.copies (view mid).limits.copies o count
   pub reaches : ReachesNoMore (view old) (view mid)
-  pub framed : IsFramed (view old) (view mid)
+  pub framed : StaysFramed (view old) (view mid)
+  pub alone : StandsAlone (view mid).place o count
   pub spent : (view mid).pending ≡ None
   pub goes : GoesOn ((view old).abilities.is_reliable && l.is_reliable) (view old).fault_count (view mid).fault_count
   pub once : (view old).limits.whole Operation.Write o (length bytes) → ((count ≡ 0) × (mid ≡ old)) ⊎ (count ≡ length bytes)
@@ -174,7 +176,8 @@ module _ {D St : Type 0} (view : D → View St) (l : LayerBelow) (old : D) (o : 
       copied = λ op a n q m p r h i j k c. laws.part_copied op a n q m p j k c;
     };
     reaches = λ p q w h. (w, h);
-    framed = record { kind = record { abilities = refl; store_count = refl; store_features = λ i. refl }; size = refl; ends = λ p h. h };
+    framed = same_frame _;
+    alone = λ p i q w h. absurd (omega (arith, i.0, i.1));
     spent = spent;
     goes = record { later = omega arith; reliable = λ t. refl };
     once = λ h. inl (refl, refl);
@@ -197,6 +200,10 @@ module _ {D St : Type 0} (view : D → View St) (l : LayerBelow) (old : D) (o : 
           settled = settled_next _ _ _ _ _ _ o done n sofar.settled h.settled;
           reaches = reaches_twice (view old) (view mid) (view new) sofar.reaches h.reaches;
           framed = framed_twice (view old) (view mid) (view new) sofar.framed h.framed;
+          alone = λ p i q w e. ⊎_elim
+              (λ below. let s = h.reaches p q w e in sofar.alone p (i.0, below) q s.0 s.1)
+              (λ above. h.alone p (above, omega (arith, i.1)) q w e)
+              (cases_lt p (o + done));
           spent = h.spent;
           goes = next_goes (goes_on _ _ _ _ h.faults);
           once = λ free. ⊎_elim
@@ -243,6 +250,7 @@ module _ {D St : Type 0} (view : D → View St) (l : LayerBelow) (old : D) (o : 
           torn = λ k.
               let t : IsChanged (o + done) (length bytes - done) (partly (into (take (length bytes - done) (drop done bytes)))) (values l.at (view mid).place) (values l.at (view new).place) = rw len at (h.torn (same_keeps k)) in
               rw whole at (torn_next o done (length bytes - done) bytes _ _ _ (sofar.done k) (torn_rest o done (length bytes - done) bytes _ _ (omega arith) t));
+          alone = tt;
           settled = tt;
           reaches = reaches_twice (view old) (view mid) (view new) sofar.reaches h.reaches;
           framed = framed_twice (view old) (view mid) (view new) sofar.framed h.framed;
@@ -255,6 +263,7 @@ module _ {D St : Type 0} (view : D → View St) (l : LayerBelow) (old : D) (o : 
   all_written new done e h = record {
     done = λ k. subst (λ (n : ℕ). IsChanged o n (into bytes) (values l.at (view old).place) (values l.at (view new).place)) e (h.done k);
     torn = λ k. tt;
+    alone = subst (λ (n : ℕ). StandsAlone (view new).place o n) e h.alone;
     settled = subst (λ (n : ℕ). IsSettled IsOnRange (view old).limits.cause (view new).limits.cause (view old).limits.copies (view new).limits.copies o n) e h.settled;
     reaches = h.reaches;
     framed = h.framed;

@@ -13,9 +13,11 @@ use Rattle.imago_drivers.specs.Pending.{Pending, IsOwn, ShowsRound, StaysPending
 use Rattle.imago_drivers.specs.View.{View}
 use Rattle.imago_drivers.specs.Laws.{IsLawful}
 use Rattle.imago_drivers.specs.Changes.{Change, IsChanged, or_torn, into, partly}
-use Rattle.imago_drivers.specs.Frame.{IsKind, IsFramed, IsUnchanged}
+use Rattle.imago_drivers.specs.Frame.{IsFramed, IsKind, IsUnchanged}
+use Rattle.imago_drivers.specs.Lengths.{AreNoShorter}
 use Rattle.imago_drivers.specs.Done.{lending_reasons, mapping_write_reasons}
 use Rattle.imago_drivers.specs.Prepared.{IsPrepared, IsPut, is_written, is_foreign_write, is_for}
+use Rattle.imago_access.specs.Framed.{StaysFramed}
 use Rattle.imago_access.specs.Writing.{filled, is_filled, filling_reasons}
 use Rattle.imago_access.proofs.Weaker.{IsWeaker}
 
@@ -28,12 +30,20 @@ settled_twice old mid new c d f o n s t = record {
 pub kind_twice : {St : Type 0} (a b c : View St) → IsKind a b → IsKind b c → IsKind a c
 kind_twice a b c f g = record { abilities = g.abilities ∙ f.abilities; store_count = g.store_count ∙ f.store_count; store_features = λ i. g.store_features i ∙ f.store_features i }
 
-pub framed_twice : {St : Type 0} (a b c : View St) → IsFramed a b → IsFramed b c → IsFramed a c
+pub framed_twice : {St : Type 0} (a b c : View St) → StaysFramed a b → StaysFramed b c → StaysFramed a c
 framed_twice a b c f g = record {
   kind = kind_twice a b c f.kind g.kind;
   size = g.size ∙ f.size;
   ends = λ p h. f.ends p (g.ends p h);
+  no_shorter = λ i. omega (arith, f.no_shorter i, g.no_shorter i);
 }
+
+-- a call of the driver that shortens no storage
+pub stays : {St : Type 0} (a b : View St) → IsFramed a b → AreNoShorter a.stores b.stores → StaysFramed a b
+stays a b f n = record { kind = f.kind; size = f.size; ends = f.ends; no_shorter = n }
+
+pub same_frame : {St : Type 0} (a : View St) → StaysFramed a a
+same_frame a = record { kind = record { abilities = refl; store_count = refl; store_features = λ i. refl }; size = refl; ends = λ p h. h; no_shorter = λ i. omega arith }
 
 -- each place may have the new bytes for a while: torn over a part is so over the whole
 pub changed_wider : (o c n : ℕ) (how : Change) (old new : ℕ → Value) → c ≤ n → IsChanged o c (or_torn true how) old new → IsChanged o n (partly how) old new
@@ -172,7 +182,7 @@ module _ {St : Type 0} (old mid wrote : View St) (l : LayerBelow) (o n : ℕ) (o
   same_value keeps p = ap (shown l.at) (U.places.same keeps p)
 
   -- what the disk shows afterwards
-  module _ (wrote_framed : IsFramed mid wrote) (keeps : IsTrue old.abilities.keeps_data) where
+  module _ (wrote_framed : StaysFramed mid wrote) (keeps : IsTrue old.abilities.keeps_data) where
     mid_keeps : IsTrue mid.abilities.keeps_data
     mid_keeps = rw U.framed.kind.abilities keeps
 
@@ -267,7 +277,7 @@ module _ {St : Type 0} (old mid wrote : View St) (l : LayerBelow) (o n : ℕ) (o
         kept true f = inl refl
         kept false f = inr (f refl)
 
-  waits : (wrote_framed : IsFramed mid wrote) (s : St) → m.state ≡ Some s → is_written (Some s) false mid wrote m 0 (take k bytes)
+  waits : (wrote_framed : StaysFramed mid wrote) (s : St) → m.state ≡ Some s → is_written (Some s) false mid wrote m 0 (take k bytes)
       → (IsTrue mid.abilities.keeps_data → ShowsRound (values l.at mid.place) mid.pending → ShowsRound (values l.at wrote.place) wrote.pending) → is_filled (Some s) l old wrote o overwrite bytes m
   waits F s e W round =
       let a = P.apart s e in
@@ -287,12 +297,12 @@ module _ {St : Type 0} (old mid wrote : View St) (l : LayerBelow) (o n : ℕ) (o
         },
       )
 
-  filled_at : (wrote_framed : IsFramed mid wrote) (st : Option St) → m.state ≡ st → is_written st false mid wrote m 0 (take k bytes)
+  filled_at : (wrote_framed : StaysFramed mid wrote) (st : Option St) → m.state ≡ st → is_written st false mid wrote m 0 (take k bytes)
       → (IsTrue mid.abilities.keeps_data → ShowsRound (values l.at mid.place) mid.pending → ShowsRound (values l.at wrote.place) wrote.pending) → is_filled st l old wrote o overwrite bytes m
   filled_at F None e W round = (none_pending false None e W refl, λ keeps. put F keeps (P.direct e).1 W.0)
   filled_at F (Some s) e W round = waits F s e W round
 
   -- the mapping, once it is written
-  pub filled_so : (wrote_framed : IsFramed mid wrote) → is_written m.state false mid wrote m 0 (take k bytes)
+  pub filled_so : (wrote_framed : StaysFramed mid wrote) → is_written m.state false mid wrote m 0 (take k bytes)
       → (IsTrue mid.abilities.keeps_data → ShowsRound (values l.at mid.place) mid.pending → ShowsRound (values l.at wrote.place) wrote.pending) → is_filled m.state l old wrote o overwrite bytes m
   filled_so F W round = filled_at F m.state refl W round

@@ -10,8 +10,8 @@ use Rattle.imago_drivers.specs.LayerBelow.{LayerBelow}
 use Rattle.imago_drivers.specs.View.{View}
 use Rattle.imago_drivers.specs.Laws.{AreCauses}
 use Rattle.imago_drivers.specs.Changes.{IsChanged, zeroes, partly}
-use Rattle.imago_drivers.specs.Frame.{IsFramed}
 use Rattle.imago_drivers.specs.Done.{range_reasons}
+use Rattle.imago_access.specs.Framed.{StaysFramed}
 use Rattle.imago_access.specs.declared.access.FormatAccess.{FormatAccess, is-FormatAccess', out-FormatAccess, back-FormatAccess-backing}
 use Rattle.imago_access.specs.Chain.{driver, backing, unboxed, disk_value, is_reliable, lent_image, IsReached, chain_cause, cause_below}
 use Rattle.imago_access.specs.ChainLaws.{reached_wider}
@@ -22,7 +22,7 @@ use Rattle.imago_access.specs.Writing.{StandsAlone}
 use Rattle.imago_access.proofs.ZeroSteps.{alone_later, alone_more}
 use Rattle.imago_access.proofs.Chains.{reliable_out, cause_here, cause_lower}
 use Rattle.imago_access.proofs.Weaker.{IsWeaker, allowed_more}
-use Rattle.imago_access.proofs.Written.{framed_twice, settled_twice}
+use Rattle.imago_access.proofs.Written.{framed_twice, same_frame, settled_twice}
 use Rattle.imago_access.proofs.Writes.{of_err, changed_next, rose_more}
 
 -- zeroes over a range, and then over a part of it
@@ -137,7 +137,7 @@ module _ {D St : Type 0} (view : D → View St) where
         (⊎_elim (λ a. inl (cause_before Write e tt a)) (λ r. inr (r.0, r.1, r.2, (λ p i. c.settled.copied Write o n q m p tt (omega arith) (omega arith) le fits (r.3 p i)), r.4)) h)
 
     -- what zeroes as data are refused for later, they were before
-    pub data_before : IsFramed (view (driver old)) (view (driver mid)) → IsWeaker (data_reasons view mid q m) (data_reasons view old o n)
+    pub data_before : StaysFramed (view (driver old)) (view (driver mid)) → IsWeaker (data_reasons view mid q m) (data_reasons view old o n)
     data_before framed = record {
       read_only = λ h. h;
       beyond_disk = λ h. (h.0, (omega (arith, h.1), omega (arith, h.1)), framed.ends h.0 h.2);
@@ -148,17 +148,17 @@ module _ {D St : Type 0} (view : D → View St) where
       foreign_mapping = λ h. h;
     }
 
-  pub same_devices : (old mid : FormatAccess D) → backing mid ≡ backing old → IsFramed (view (driver old)) (view (driver mid)) → devices_reliable view mid ≡ devices_reliable view old
+  pub same_devices : (old mid : FormatAccess D) → backing mid ≡ backing old → StaysFramed (view (driver old)) (view (driver mid)) → devices_reliable view mid ≡ devices_reliable view old
   same_devices old mid below framed = ap (λ a. a.is_reliable && (lent_image view (backing mid)).is_reliable) framed.kind.abilities ∙ ap (λ (b : Option (FormatAccess D)). (view (driver old)).abilities.is_reliable && (lent_image view b).is_reliable) below
 
-  unreliable_before : (old mid : FormatAccess D) → backing mid ≡ backing old → IsFramed (view (driver old)) (view (driver mid)) → is_reliable view mid ≡ false → is_reliable view old ≡ false
+  unreliable_before : (old mid : FormatAccess D) → backing mid ≡ backing old → StaysFramed (view (driver old)) (view (driver mid)) → is_reliable view mid ≡ false → is_reliable view old ≡ false
   unreliable_before old mid below framed h = reliable_out view old ∙ sym (same_devices old mid below framed) ∙ sym (reliable_out view mid) ∙ h
 
   pub partly_none : (x : FormatAccess D) (o n : ℕ) → (view (driver x)).pending ≡ None → IsPartlyZeroed view o n x x
   partly_none x o n spent = record {
     torn = λ k. record { inside = λ i lt. inl refl; before = λ p lt. refl; behind = λ p ge. refl };
     below = refl;
-    framed = record { kind = record { abilities = refl; store_count = refl; store_features = λ i. refl }; size = refl; ends = λ p h. h };
+    framed = same_frame _;
     reaches = λ p q w e. (w, e);
     spent = spent;
     count = record { later = omega arith; reliable = λ t. refl };

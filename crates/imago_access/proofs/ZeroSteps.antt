@@ -10,9 +10,10 @@ use Rattle.imago_drivers.specs.Causes.{IsSettled, IsOnRange, AddsNone}
 use Rattle.imago_drivers.specs.View.{View}
 use Rattle.imago_drivers.specs.Laws.{AreCauses}
 use Rattle.imago_drivers.specs.Changes.{IsChanged, zeroes, partly, into}
-use Rattle.imago_drivers.specs.Frame.{IsFramed, ReachesNoMore}
+use Rattle.imago_drivers.specs.Frame.{ReachesNoMore}
 use Rattle.imago_drivers.specs.LayerBelow.{LayerBelow}
 use Rattle.imago_drivers.specs.Done.{HasDone, range_reasons}
+use Rattle.imago_access.specs.Framed.{StaysFramed}
 use Rattle.imago_access.specs.declared.access.FormatAccess.{FormatAccess}
 use Rattle.imago_access.specs.Chain.{driver, backing, disk_value, lent_image}
 use Rattle.imago_access.specs.Lending.{with_driver}
@@ -79,7 +80,7 @@ module _ {D St : Type 0} (view : D → View St) (x : FormatAccess D) (d : D) whe
   -- a part of the driver's zeroing, as the image sees it
   pub part_zeroed : (op : Operation) (o n : ℕ) (result : Result (ℕ × ℕ) Error) → AreCauses (view (driver x)) → HasDone (λ f k. zeroes) op o n (view (driver x)) (view d) result
       → AddsNone (view (driver x)).limits.cause (view d).limits.cause (view (driver x)).limits.copies (view d).limits.copies → ReachesNoMore (view (driver x)) (view d) → (view d).pending ≡ None
-      → IsFramed (view (driver x)) (view d) → CountsFaults (view (driver x)).abilities.is_reliable (view (driver x)).fault_count (view d).fault_count result
+      → StaysFramed (view (driver x)) (view d) → CountsFaults (view (driver x)).abilities.is_reliable (view (driver x)).fault_count (view d).fault_count result
       → IfErr result (allowed (range_reasons (view (driver x)) op o n)) → HasZeroedPart view op o n x (with_driver x d) result
   part_zeroed op o n result law done none reaches spent framed faults refusals =
       let e : d ≡ driver (with_driver x d) = sym (driver_with x d) in
@@ -87,7 +88,7 @@ module _ {D St : Type 0} (view : D → View St) (x : FormatAccess D) (d : D) whe
         left = record {
           torn = λ k. torn result (done.inside) (done.done k (lent_image view (backing x)).at) (done.refused k (lent_image view (backing x)).at);
           below = backing_with x d;
-          framed = subst (λ (y : D). IsFramed (view (driver x)) (view y)) e framed;
+          framed = subst (λ (y : D). StaysFramed (view (driver x)) (view y)) e framed;
           reaches = subst (λ (y : D). ReachesNoMore (view (driver x)) (view y)) e reaches;
           spent = subst (λ (y : D). (view y).pending ≡ None) e spent;
           count = subst (λ (y : D). IsLaterCount (devices_reliable view x) (view (driver x)).fault_count (view y).fault_count) e (record { later = faults.later; reliable = λ t. faults.reliable (and_left _ _ t) });
@@ -152,7 +153,7 @@ piece_written {D} view x d o bytes result commit_memory l same z h =
       left = record {
         torn = λ k. torn result w.some (w.done k) (w.torn k);
         below = backing_with x d;
-        framed = subst (λ (y : D). IsFramed (view (driver x)) (view y)) e w.framed;
+        framed = subst (λ (y : D). StaysFramed (view (driver x)) (view y)) e w.framed;
         reaches = subst (λ (y : D). ReachesNoMore (view (driver x)) (view y)) e w.reaches;
         spent = subst (λ (y : D). (view y).pending ≡ None) e w.spent;
         count = subst (λ (y : D). IsLaterCount (devices_reliable view x) (view (driver x)).fault_count (view y).fault_count) e (record { later = w.faults.later; reliable = w.faults.reliable });
@@ -203,6 +204,7 @@ zero_call view op x new o n result w fits small idle h = record {
   reaches = λ l. h.left.reaches;
   settled = settled result h.carries;
   ends = h.left.framed.ends;
+  no_shorter = h.left.framed.no_shorter;
   same_size = h.left.framed.size;
   kept = record { below = h.left.below; kind = h.left.framed.kind };
   nothing_pending = h.left.spent;

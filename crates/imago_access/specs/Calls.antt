@@ -8,10 +8,11 @@ use Rattle.imago_drivers.specs.Reasons.{Reasons, allowed}
 use Rattle.imago_drivers.specs.Causes.{IsSettled, IsOnRange}
 use Rattle.imago_drivers.specs.View.{View}
 use Rattle.imago_drivers.specs.Changes.{IsChanged, into, partly, overwritten}
-use Rattle.imago_drivers.specs.Frame.{IsKind, ReachesNoMore}
+use Rattle.imago_drivers.specs.Frame.{IsKind, IsUnchanged, ReachesNoMore}
+use Rattle.imago_drivers.specs.Lengths.{GrowTo, AreNoShorter}
 use Rattle.imago_drivers.specs.Done.{lending_reasons}
 use Rattle.imago_access.specs.declared.access.FormatAccess.{FormatAccess}
-use Rattle.imago_access.specs.Writing.{CommitMayTakeMemory, WasPrepared, filled, shown_length, shown_change, settles_by, mapping_reasons, write_reasons}
+use Rattle.imago_access.specs.Writing.{CommitMayTakeMemory, WasPrepared, StandsAlone, filled, shown_length, shown_change, settles_by, mapping_reasons, write_reasons}
 use Rattle.imago_access.specs.Chain.{driver, backing, disk_value, lent_image}
 
 -- The range's end passes the greatest number of 64 bits, in a call that tests this by itself: a zero write or a discard. A write
@@ -96,17 +97,18 @@ pub record IsRangeCall {D St T : Type 0} (view : D → View St) (op : Operation)
   pub reaches : (IsLoose op → ⊥) → ReachesNoMore (view (driver old)) (view (driver new))
   pub settled : IfOk result (λ r. IsSettled of (view (driver old)).limits.cause (view (driver new)).limits.cause (view (driver old)).limits.copies (view (driver new)).limits.copies o (part r))
   pub same_size : (view (driver new)).size ≡ (view (driver old)).size
-  -- no place becomes an end
+  -- no place becomes an end, and no storage becomes shorter
   pub ends : (p : ℕ) → (view (driver new)).place p ≡ End → (view (driver old)).place p ≡ End
+  pub no_shorter : AreNoShorter (view (driver old)).stores (view (driver new)).stores
   pub kept : IsKept view old new
   pub nothing_pending : (view (driver new)).pending ≡ None
   pub faults : ShowsFaults hidden (devices_reliable view old) (view (driver old)).fault_count (view (driver new)).fault_count result
   pub refusals : IfErr result (λ e. FailsTest (view (driver old)) op o n e ⊎ allowed reasons e)
 
--- a write: the bytes stand in their range, or, where it is refused, each of them may
+-- a write: the bytes stand in their range, in the image's own layer, whatever is below, or, where it is refused, each of them may
 abbrev pub IsWrite : {D St : Type 0} → (D → View St) → FormatAccess D → FormatAccess D → ℕ → List ℕ → Result Unit Error → Type 0
 IsWrite view old new o bytes result = IsRangeCall view Write o (length bytes) (length bytes ≡ 0) (settles Write) (write_refusals view old o (length bytes)) ⊥ (λ u. length bytes)
-    (λ u. IsChanged o (length bytes) (into bytes) (disk_value view old) (disk_value view new))
+    (λ u. IsChanged o (length bytes) (into bytes) (disk_value view old) (disk_value view new) × StandsAlone (view (driver new)).place o (length bytes))
     (IsChanged o (length bytes) (partly (into bytes)) (disk_value view old) (disk_value view new))
     old new result
 
@@ -115,11 +117,11 @@ abbrev pub mapped_refusals : {D St : Type 0} → (D → View St) → FormatAcces
 mapped_refusals view x o n bytes commit = mapping_reasons (view (driver x)) (lent_image view (backing x)) (CommitMayTakeMemory view (driver x)) o n bytes commit
 
 -- A write through one mapping, which is prepared for at most n bytes from o on, filled with what fits of the bytes, and committed or
--- cancelled. It answers how long the mapping was, and whether it had no state.
+-- cancelled. It answers how long the mapping was, and whether it had no state. What shows of it stands in the image's own layer.
 pub record IsMappedWrite {D St : Type 0} (view : D → View St) (old new : FormatAccess D) (o n : ℕ) (overwrite : Bool) (bytes : List ℕ) (commit : Bool) (result : Result (ℕ × Bool) Error) : Type 0 where
   pub told : IfOk result (WasPrepared view (disk_value view old) (driver old) o n overwrite)
   pub call : IsRangeCall view Write o n ⊥ (settles_by commit) (mapped_refusals view old o n bytes commit) ⊥ (λ m. m.0)
-      (λ m. IsChanged o (shown_length commit m) (shown_change overwrite bytes m) (disk_value view old) (disk_value view new))
+      (λ m. IsChanged o (shown_length commit m) (shown_change overwrite bytes m) (disk_value view old) (disk_value view new) × StandsAlone (view (driver new)).place o (shown_length commit m))
       (IsChanged o n (partly (filled overwrite bytes)) (disk_value view old) (disk_value view new))
       old new result
 
@@ -136,6 +138,10 @@ pub record IsPreparing {D St : Type 0} (view : D → View St) (old new : FormatA
   pub tested : (e : Error) → FailsTest (view (driver old)) Write o n e → IsErrOf result e × (new ≡ old)
   pub same_size : (view (driver new)).size ≡ (view (driver old)).size
   pub unchanged : IsTrue (view (driver old)).abilities.keeps_data → (p : ℕ) → disk_value view new p ≡ disk_value view old p
+  -- each place stands where it stood
+  pub same_layer : IsUnchanged (view (driver old)) (view (driver new))
+  -- no storage becomes shorter, and none longer than the driver says
+  pub lengths : GrowTo ((view (driver old)).limits.longest Write o n) (view (driver old)).stores (view (driver new)).stores
   -- no place leads below that didn't before, and a cause for a piece of the mapping's range was one for the whole
   pub reaches : ReachesNoMore (view (driver old)) (view (driver new))
   pub settled : IfOk result (λ m. IsSettled IsOnRange (view (driver old)).limits.cause (view (driver new)).limits.cause (view (driver old)).limits.copies (view (driver new)).limits.copies o m.length)

@@ -1,4 +1,4 @@
-use Rattle.std.specs.Prelude.{◌≡◌, ℕ, ◌+◌, ◌-◌, ◌<◌, ◌⊎◌, ◌&&◌, Bool, true, Option, Some, None, min}
+use Rattle.std.specs.Prelude.{◌≡◌, ℕ, ◌+◌, ◌-◌, ◌<◌, ◌≤◌, ◌⊎◌, ◌&&◌, Bool, true, Option, Some, None, min}
 use Rattle.std.specs.declared.boxed.Box.{Box}
 use Rattle.std.specs.declared.alloc.Global.{Global}
 use Rattle.imago_storage.specs.declared.error.Error.{Error}
@@ -65,6 +65,21 @@ abbrev mutual
   no_memory_below view None' q n = Unit {0}
   no_memory_below view (Some' k x) q n = chain_no_memory view x q n
 
+abbrev mutual
+  -- a driver may take memory to read a part of that range: the one at the top, or, for what is reached there, one of a layer below
+  pub may_take_memory : {D St : Type 0} → (D → View St) → FormatAccess D → ℕ → ℕ → Type 0
+  may_take_memory view (FormatAccess' inner below) o n =
+      ((q : ℕ) × (m : ℕ) × (0 < m) × (o ≤ q) × (q + m ≤ o + n) × ((view inner).limits.no_memory Read q m → ⊥))
+      ⊎ ((q : ℕ) × (m : ℕ) × (0 < m) × IsReached (view inner).place o n q m × may_take_memory_below view below q m)
+
+  pub may_take_memory_below : {D St : Type 0} → (D → View St) → Held-FormatAccess-backing D → ℕ → ℕ → Type 0
+  may_take_memory_below view None' q m = ⊥
+  may_take_memory_below view (Some' k x) q m = may_take_memory view x q m
+
+-- none takes memory: each driver maps the whole at once and takes none for it, or none does for any part
+abbrev pub takes_no_memory : {D St : Type 0} → (D → View St) → FormatAccess D → ℕ → ℕ → Type 0
+takes_no_memory view x o n = chain_no_memory view x o n ⊎ (may_take_memory view x o n → ⊥)
+
 -- how much of a range lies inside a disk
 abbrev pub inside_part : ℕ → ℕ → ℕ → ℕ
 inside_part size o n = min n (size - o)
@@ -72,7 +87,7 @@ inside_part size o n = min n (size - o)
 -- a read of that range takes no memory: none of it lies inside the disk, or no driver takes any for what does
 abbrev pub no_memory_to_read : {D St : Type 0} → (D → View St) → FormatAccess D → ℕ → ℕ → Type 0
 no_memory_to_read view x o n =
-    let m = inside_part (view (driver x)).size o n in (m ≡ 0) ⊎ chain_no_memory view x o m
+    let m = inside_part (view (driver x)).size o n in (m ≡ 0) ⊎ takes_no_memory view x o m
 
 -- a read may meet the causes of a read and those of the mappings that it asks for
 abbrev pub read_cause : {D St : Type 0} → (D → View St) → FormatAccess D → ℕ → ℕ → Error → Type 0

@@ -20,21 +20,26 @@ IsFilled mode n xs = (n ≤ length xs) ⊎ (mode ≢ Mode.None)
 abbrev pub IsRefusedByTest : List Value → ℕ → ℕ → Reply → Type 0
 IsRefusedByTest xs o n r = (e : Error) × (r ≡ R.Refused e) × IsEndRefusal xs o n e
 
+-- the call is of no bytes, or is refused by its tests
+abbrev pub IsOfNoneOrRefused : List Value → ℕ → ℕ → Reply → Type 0
+IsOfNoneOrRefused xs o n r = (n ≡ 0) ⊎ IsRefusedByTest xs o n r
+
 -- a refusal, if it is one, is by the tests of a write or a mapping
 abbrev pub IsTestRefusalIfRefused : List Value → ℕ → ℕ → Reply → Type 0
 IsTestRefusalIfRefused xs o n r = (e : Error) → r ≡ R.Refused e → IsTestRefusal xs o n e
 
 -- The reply says what the list is afterwards: all but a write or zero write that is refused past its tests, a growth without preallocation,
--- a mapping that may be overwritten and isn't filled, and a discard to any or to backing that isn't refused by its tests.
+-- a mapping that may be overwritten and isn't filled, and a discard to any or to backing that isn't refused by its tests. A mapping or
+-- such a discard of no bytes changes nothing.
 abbrev pub IsDetermined : List Value → Call → Reply → Type 0
 IsDetermined xs (C.Write o bytes) r = IsTestRefusalIfRefused xs o (length bytes.items) r
-IsDetermined xs (C.EnsureData o n overwrite) r = overwrite ≡ true → (e : Error) × (r ≡ R.Refused e) × IsTestRefusal xs o n e
+IsDetermined xs (C.EnsureData o n overwrite) r = overwrite ≡ true → (n ≡ 0) ⊎ ((e : Error) × (r ≡ R.Refused e) × IsTestRefusal xs o n e)
 IsDetermined xs (C.Prepared o n overwrite bytes commit) r =
-    ((m : ℕ × Bool) → r ≡ told_prepared m → ((overwrite && not m.1) ≡ false) ⊎ (shown_length commit m ≤ length bytes.items)) × IsTestRefusalIfRefused xs o n r
+    ((m : ℕ × Bool) → r ≡ told_prepared m → ((overwrite && not m.1) ≡ false) ⊎ (shown_length commit m ≤ length bytes.items)) × ((n ≡ 0) ⊎ IsTestRefusalIfRefused xs o n r)
 IsDetermined xs (C.WriteZeroes o n) r = (e : Error) → r ≡ R.Refused e → IsEndRefusal xs o n e
 IsDetermined xs (C.DiscardToZero o n) r = (e : Error) → r ≡ R.Refused e → IsEndRefusal xs o n e
-IsDetermined xs (C.DiscardToAny o n) r = IsRefusedByTest xs o n r
-IsDetermined xs (C.DiscardToBacking o n) r = IsRefusedByTest xs o n r
+IsDetermined xs (C.DiscardToAny o n) r = IsOfNoneOrRefused xs o n r
+IsDetermined xs (C.DiscardToBacking o n) r = IsOfNoneOrRefused xs o n r
 IsDetermined xs (C.Resize n mode) r = r ≡ R.Done → IsFilled mode n xs
 IsDetermined xs (C.ResizeGrow n mode) r = r ≡ R.Done → IsFilled mode n xs
 IsDetermined xs (C.ResizeShrink n) r = Unit {0}

@@ -7,9 +7,9 @@ use Rattle.imago_drivers.specs.Reasons.{Reasons, allowed}
 use Rattle.imago_drivers.specs.Causes.{IsSettled}
 use Rattle.imago_drivers.specs.View.{View}
 use Rattle.imago_drivers.specs.Changes.{IsChanged, given_back}
-use Rattle.imago_drivers.specs.Frame.{IsFramed}
 use Rattle.imago_drivers.specs.Done.{range_reasons}
-use Rattle.imago_drivers.specs.Discards.{Discards}
+use Rattle.imago_drivers.specs.CallRelations.{Calls}
+use Rattle.imago_access.specs.Framed.{StaysFramed}
 use Rattle.imago_access.specs.declared.access.FormatAccess.{FormatAccess}
 use Rattle.imago_access.specs.declared.discard.DiscardCall.{DiscardCall}
 use Rattle.imago_access.specs.declared.discard.DiscardCall.TheVariants as C
@@ -41,7 +41,7 @@ discard_reasons v op o n = record (range_reasons v op o n) { memory = IsFree v o
 pub record HasLoosened {D St T : Type 0} (view : D → View St) (call : DiscardCall) (o n : ℕ) (old new : FormatAccess D) (result : Result T Error) : Type 0 where
   pub left : IsTrue (view (driver old)).abilities.keeps_data → IsLoosened view call o n old new
   pub below : backing new ≡ backing old
-  pub framed : IsFramed (view (driver old)) (view (driver new))
+  pub framed : StaysFramed (view (driver old)) (view (driver new))
   pub spent : (view (driver new)).pending ≡ None
   pub faults : CountsFaults (devices_reliable view old) (view (driver old)).fault_count (view (driver new)).fault_count result
   pub refusals : IfErr result (allowed (discard_reasons (view (driver old)) (discard_of call) o n))
@@ -54,10 +54,10 @@ pub record HasLoosenedPart {D St : Type 0} (view : D → View St) (call : Discar
   pub settled : IfOk result (λ r. IsSettled (λ op. op ≡ discard_of call) (view (driver old)).limits.cause (view (driver new)).limits.cause (view (driver old)).limits.copies (view (driver new)).limits.copies r.0 r.1)
 
 -- A discard of an image, whose success and refusal leave the same.
-pub record IsImageDiscard {D St : Type 0} (view : D → View St) (discards : Discards D) (call : DiscardCall) (old new : FormatAccess D) (o n : ℕ) (result : Result (Unit {0}) Error) : Type 0 where
+pub record IsImageDiscard {D St : Type 0} (view : D → View St) (its : Calls D St) (call : DiscardCall) (old new : FormatAccess D) (o n : ℕ) (result : Result (Unit {0}) Error) : Type 0 where
   pub range : IsRangeCall view (discard_of call) o n (n ≡ 0) (settles (discard_of call)) (discard_reasons (view (driver old)) (discard_of call) o n) ⊥ (λ u. 0)
       (λ u. IsLoosened view call o n old new)
       (IsLoosened view call o n old new)
       old new result
   -- once its tests passed, it is the driver's own, made until nothing is left or the driver does nothing more
-  pub performed : ((e : Error) → FailsTest (view (driver old)) (discard_of call) o n e → ⊥) → (parts : List (ℕ × ℕ)) × IsDiscardedInParts (discard_by discards call) o n parts (driver old) (driver new) result
+  pub performed : ((e : Error) → FailsTest (view (driver old)) (discard_of call) o n e → ⊥) → (parts : List (ℕ × ℕ)) × IsDiscardedInParts (discard_by its call) o n parts (driver old) (driver new) result

@@ -5,10 +5,14 @@ pub mod Resolved
 pub mod Lengths
 pub mod Ways
 pub mod Named
+pub mod Framed
 pub mod Writing
 pub mod Calls
 pub mod PreparedOnDisk
 pub mod Sizes
+pub mod Performed
+pub mod ZeroCalls
+pub mod Answered
 pub mod Runs
 pub mod Disk
 pub mod Alignments

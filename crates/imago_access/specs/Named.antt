@@ -6,7 +6,7 @@ use Rattle.imago_drivers.specs.View.{View}
 use Rattle.imago_drivers.specs.declared.mapping.ShallowMapping.{ShallowMapping}
 use Rattle.imago_drivers.specs.declared.mapping.ShallowMapping.TheVariants as S
 use Rattle.imago_access.specs.declared.access.FormatAccess.{FormatAccess}
-use Rattle.imago_access.specs.Chain.{is_reliable, read_cause, chain_no_memory}
+use Rattle.imago_access.specs.Chain.{is_reliable, read_cause, takes_no_memory}
 use Rattle.imago_access.specs.Ways.{NamesOrEnds}
 
 -- a storage that the mapping names is one of the driver's
@@ -35,5 +35,5 @@ abbrev pub chunk_read_reasons : {D St : Type 0} → (D → View St) → FormatAc
 chunk_read_reasons view x o n = record none {
   cause = read_cause view x o n;
   device = is_reliable view x ≡ false;
-  memory = chain_no_memory view x o n → ⊥;
+  memory = takes_no_memory view x o n → ⊥;
 }

@@ -3,10 +3,13 @@ use Rattle.imago_storage.specs.declared.error.Error.{Error}
 use Rattle.imago_storage.specs.Faults.{CountsFaults}
 use Rattle.imago_drivers.specs.Operation.{Operation, Grow, Shrink, Flush}
 use Rattle.imago_drivers.specs.declared.format.PreallocateMode.{PreallocateMode}
-use Rattle.imago_drivers.specs.Place.{End}
+use Rattle.imago_drivers.specs.Place.{Value, End}
 use Rattle.imago_drivers.specs.Reasons.{Reasons, allowed}
 use Rattle.imago_drivers.specs.View.{View}
-use Rattle.imago_drivers.specs.Resized.{grown_into}
+use Rattle.imago_drivers.specs.Causes.{AddsNone}
+use Rattle.imago_drivers.specs.Frame.{IsUnchanged}
+use Rattle.imago_drivers.specs.Lengths.{GrowTo, AreNoLonger}
+use Rattle.imago_drivers.specs.Resized.{grown_into, IsGrown, IsCut, IsSameDisk, IsListed}
 use Rattle.imago_drivers.specs.Done.{driver_reasons}
 use Rattle.imago_access.specs.declared.access.FormatAccess.{FormatAccess}
 use Rattle.imago_access.specs.Chain.{driver, backing, disk_value, lent_image}
@@ -49,6 +52,12 @@ abbrev pub resize_refusals : {D St : Type 0} → (D → View St) → FormatAcces
 resize_refusals view x Shrink new_size = driver_reasons (view (driver x)) Shrink new_size 0
 resize_refusals view x op new_size = record (range_refusals view x op new_size 0) { beyond_disk = ⊥ }
 
+-- what a resize did to a layer over one with these values
+abbrev pub IsResizedLayer : {St : Type 0} → Operation → (ℕ → Value) → ℕ → View St → View St → Type 0
+IsResizedLayer (Grow mode) below new_size old new = IsGrown mode below new_size old new
+IsResizedLayer Shrink below new_size old new = IsCut new_size old new
+IsResizedLayer _ below new_size old new = ⊥
+
 -- A resize: what holds where it succeeds; refused, the disk is as it was.
 pub record IsResize {D St : Type 0} (view : D → View St) (op : Operation) (new_size : ℕ) (effect : Type 0) (old new : FormatAccess D) (result : Result Unit Error) : Type 0 where
   pub tested : (e : Error) → FailsWritable (view (driver old)) e → IsErrOf result e × (new ≡ old)
@@ -56,6 +65,13 @@ pub record IsResize {D St : Type 0} (view : D → View St) (op : Operation) (new
   -- where there is nothing to do it isn't refused, once its test has passed
   pub idle : (view (driver old)).abilities.is_writable ≡ true → IsIdle op (view (driver old)).size new_size → IsOk result
   pub unchanged : OnErr result (IsSameImage view old new)
+  -- of the layer itself: what the driver did to it, and, refused, that each place stands where it stood, and no storage was cut
+  pub layer : OnOk result (IsResizedLayer op (lent_image view (backing old)).at new_size (view (driver old)) (view (driver new)))
+  pub same_layer : OnErr result (IsSameDisk (view (driver old)) (view (driver new)))
+  -- a layer whose places are as many as its size says stays so
+  pub listed : IsListed (view (driver old)) → IsListed (view (driver new))
+  -- no storage becomes longer than the driver says
+  pub no_longer : AreNoLonger ((view (driver old)).limits.longest op new_size 0) (view (driver old)).stores (view (driver new)).stores
   -- no place below the old and the new size becomes an end
   pub ends : (p : ℕ) → p < (view (driver old)).size → p < (view (driver new)).size → (view (driver new)).place p ≡ End → (view (driver old)).place p ≡ End
   pub kept : IsKept view old new
@@ -71,6 +87,12 @@ pub record IsResizeTo {D St : Type 0} (view : D → View St) (new_size : ℕ) (m
 pub record IsFlushed {D St : Type 0} (view : D → View St) (relation : D → D → Result Unit Error → Type 0) (old new : FormatAccess D) (result : Result Unit Error) : Type 0 where
   pub performed : relation (driver old) (driver new) result
   pub unchanged : IsSameImage view old new
+  -- each place stands where it stood, and none leads below that didn't
+  pub same_layer : IsUnchanged (view (driver old)) (view (driver new))
+  -- no cause of a refusal comes in
+  pub causes : AddsNone (view (driver old)).limits.cause (view (driver new)).limits.cause (view (driver old)).limits.copies (view (driver new)).limits.copies
+  -- no storage becomes shorter, and none longer than the driver says
+  pub lengths : GrowTo ((view (driver old)).limits.longest Flush 0 0) (view (driver old)).stores (view (driver new)).stores
   pub ends : (p : ℕ) → (view (driver new)).place p ≡ End → (view (driver old)).place p ≡ End
   pub kept : IsKept view old new
   pub pending : (view (driver new)).pending ≡ (view (driver old)).pending

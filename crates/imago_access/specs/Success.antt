@@ -7,7 +7,7 @@ use Rattle.imago_drivers.specs.Place.{Value, Unreadable, IsIn}
 use Rattle.imago_drivers.specs.Causes.{CauseOver}
 use Rattle.imago_drivers.specs.Reasons.{allowed}
 use Rattle.imago_drivers.specs.View.{View, EndsIn}
-use Rattle.imago_drivers.specs.Discards.{Discards}
+use Rattle.imago_drivers.specs.CallRelations.{Calls}
 use Rattle.imago_access.specs.declared.access.FormatAccess.{FormatAccess}
 use Rattle.imago_access.specs.declared.mapping.Mapping.{Mapping}
 use Rattle.imago_drivers.specs.Done.{mapping_write_reasons}
@@ -145,9 +145,9 @@ ZeroWritesSucceed {D} view = (old new : FormatAccess D) (op : Operation) (o n : 
     → IsZeroWrite view op old new o n result → SucceedsIfOffered ((view (driver old)).abilities.offers op) (IsFree (view (driver old)) op o n) result
 
 -- a discard to any or to backing
-abbrev pub DiscardsSucceed : {D St : Type 0} → (D → View St) → Discards D → Type 0
-DiscardsSucceed {D} view discards = (old new : FormatAccess D) (call : DiscardCall) (o n : ℕ) (result : Result Unit Error) → IsReadyToZero view old (discard_of call) o n ((view (driver old)).limits.cause (discard_of call) o n)
-    → IsImageDiscard view discards call old new o n result → SucceedsIfOffered ((view (driver old)).abilities.offers (discard_of call)) (IsFree (view (driver old)) (discard_of call) o n) result
+abbrev pub DiscardsSucceed : {D St : Type 0} → (D → View St) → Calls D St → Type 0
+DiscardsSucceed {D} view its = (old new : FormatAccess D) (call : DiscardCall) (o n : ℕ) (result : Result Unit Error) → IsReadyToZero view old (discard_of call) o n ((view (driver old)).limits.cause (discard_of call) o n)
+    → IsImageDiscard view its call old new o n result → SucceedsIfOffered ((view (driver old)).abilities.offers (discard_of call)) (IsFree (view (driver old)) (discard_of call) o n) result
 
 abbrev pub GrowthsSucceed : {D St : Type 0} → (D → View St) → Type 0
 GrowthsSucceed {D} view = (old new : FormatAccess D) (mode : PreallocateMode) (n : ℕ) (result : Result Unit Error) → IsReadyToResize view old (Grow mode) n

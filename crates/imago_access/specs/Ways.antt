@@ -9,7 +9,7 @@ use Rattle.imago_drivers.specs.declared.mapping.ShallowMapping.TheVariants as S
 use Rattle.imago_access.specs.declared.access.FormatAccess.{FormatAccess}
 use Rattle.imago_access.specs.declared.chain.Way.{Way}
 use Rattle.imago_access.specs.declared.mapping.Mapping.{Mapping}
-use Rattle.imago_access.specs.Chain.{driver, backing, disk_value, is_reliable, chain_cause, chain_no_memory}
+use Rattle.imago_access.specs.Chain.{driver, backing, disk_value, is_reliable, chain_cause, chain_no_memory, may_take_memory}
 use Rattle.imago_access.specs.Target.{target, deeper, told_depth}
 
 -- the mapping names that place as its i-th one, or it is the end
@@ -38,6 +38,7 @@ pub record LeadsDown {D St : Type 0} (view : D → View St) (x : FormatAccess D)
   pub targets : (i : ℕ) → i < left → target view x (o + i) ≡ deeper hops w (target view layer (at + i))
   pub shows : (i : ℕ) → i < left → disk_value view x (o + i) ≡ disk_value view layer (at + i)
   pub causes : (op : Operation) (i m : ℕ) (e : Error) → 0 < m → i + m ≤ left → chain_cause view layer op (at + i) m e → chain_cause view x op (o + i) m e
+  pub memory : (i m : ℕ) → 0 < m → i + m ≤ left → may_take_memory view layer (at + i) m → may_take_memory view x (o + i) m
   pub reliable : is_reliable view layer ≡ false → is_reliable view x ≡ false
   pub within : left ≤ most
   pub empty : left ≡ 0 → most ≡ 0

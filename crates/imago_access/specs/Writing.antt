@@ -11,7 +11,8 @@ use Rattle.imago_drivers.specs.Pending.{Pending, IsOwn, ShowsRound}
 use Rattle.imago_drivers.specs.Prepared.{IsFor, IsPrepared}
 use Rattle.imago_drivers.specs.View.{View}
 use Rattle.imago_drivers.specs.Changes.{Change, IsChanged, into, partly, overwritten}
-use Rattle.imago_drivers.specs.Frame.{IsKind, IsFramed, ReachesNoMore}
+use Rattle.imago_drivers.specs.Frame.{IsKind, ReachesNoMore}
+use Rattle.imago_access.specs.Framed.{StaysFramed}
 use Rattle.imago_drivers.specs.Done.{lending_reasons}
 
 -- a commit may take memory, of the driver or of what calls make of it
@@ -75,7 +76,7 @@ pub record HasFilled {St : Type 0} (l : LayerBelow) (old new : View St) (o n : �
   pub nothing_pending : OnErr result (new.pending ≡ None)
   pub settled : IfOk result (λ m. IsSettled IsOnRange old.limits.cause new.limits.cause old.limits.copies new.limits.copies o m.length)
   pub reaches : ReachesNoMore old new
-  pub framed : IsFramed old new
+  pub framed : StaysFramed old new
   pub faults : CountsFaults (old.abilities.is_reliable && l.is_reliable) old.fault_count new.fault_count result
   pub refusals : IfErr result (allowed (filling_reasons old l o n bytes))
 
@@ -100,11 +101,11 @@ pub record HasMapped {St : Type 0} (l : LayerBelow) (commit_memory : Type 0) (ol
   pub mapping : IfOk result (λ m. IsMappedLength old o n m.0)
   pub done : IsTrue old.abilities.keeps_data → IfOk result (λ m. IsChanged o (shown_length commit m) (shown_change overwrite bytes m) (values l.at old.place) (values l.at new.place))
   pub torn : IsTrue old.abilities.keeps_data → OnErr result (IsChanged o n (partly (filled overwrite bytes)) (values l.at old.place) (values l.at new.place))
-  -- what is committed stands in the layer itself
-  pub alone : commit ≡ true → IfOk result (λ m. StandsAlone new.place o m.0)
+  -- what shows of it stands in the layer itself
+  pub alone : IfOk result (λ m. StandsAlone new.place o (shown_length commit m))
   pub settled : IfOk result (λ m. IsSettled (settles_by commit) old.limits.cause new.limits.cause old.limits.copies new.limits.copies o m.0)
   pub reaches : ReachesNoMore old new
-  pub framed : IsFramed old new
+  pub framed : StaysFramed old new
   pub spent : new.pending ≡ None
   pub faults : CountsFaults (old.abilities.is_reliable && l.is_reliable) old.fault_count new.fault_count result
   pub refusals : IfErr result (allowed (mapping_reasons old l commit_memory o n bytes commit))
@@ -119,7 +120,7 @@ pub record HasWritten {St : Type 0} (l : LayerBelow) (commit_memory : Type 0) (o
   pub alone : IfOk result (λ n. StandsAlone new.place o n)
   pub settled : IfOk result (λ n. IsSettled IsOnRange old.limits.cause new.limits.cause old.limits.copies new.limits.copies o n)
   pub reaches : ReachesNoMore old new
-  pub framed : IsFramed old new
+  pub framed : StaysFramed old new
   pub spent : new.pending ≡ None
   pub faults : CountsFaults (old.abilities.is_reliable && l.is_reliable) old.fault_count new.fault_count result
   pub refusals : IfErr result (allowed (first_reasons old l commit_memory o (length bytes)))
@@ -128,9 +129,11 @@ pub record HasWritten {St : Type 0} (l : LayerBelow) (commit_memory : Type 0) (o
 pub record HasWrittenAll {St : Type 0} (l : LayerBelow) (commit_memory : Type 0) (old new : View St) (o : ℕ) (bytes : List ℕ) (result : Result Unit Error) : Type 0 where
   pub done : IsTrue old.abilities.keeps_data → OnOk result (IsChanged o (length bytes) (into bytes) (values l.at old.place) (values l.at new.place))
   pub torn : IsTrue old.abilities.keeps_data → OnErr result (IsChanged o (length bytes) (partly (into bytes)) (values l.at old.place) (values l.at new.place))
+  -- the bytes stand in the layer itself, whatever is below
+  pub alone : OnOk result (StandsAlone new.place o (length bytes))
   pub settled : OnOk result (IsSettled IsOnRange old.limits.cause new.limits.cause old.limits.copies new.limits.copies o (length bytes))
   pub reaches : ReachesNoMore old new
-  pub framed : IsFramed old new
+  pub framed : StaysFramed old new
   pub spent : new.pending ≡ None
   pub faults : CountsFaults (old.abilities.is_reliable && l.is_reliable) old.fault_count new.fault_count result
   pub refusals : IfErr result (allowed (write_reasons old l commit_memory o (length bytes)))

@@ -7,8 +7,9 @@ use Rattle.imago_drivers.specs.Reasons.{Reasons, allowed, none}
 use Rattle.imago_drivers.specs.Causes.{CauseOver, IsSettled, IsOnRange}
 use Rattle.imago_drivers.specs.View.{View, EndsIn}
 use Rattle.imago_drivers.specs.Changes.{IsChanged, zeroes, partly}
-use Rattle.imago_drivers.specs.Frame.{IsFramed, ReachesNoMore}
+use Rattle.imago_drivers.specs.Frame.{ReachesNoMore}
 use Rattle.imago_drivers.specs.Done.{range_reasons}
+use Rattle.imago_access.specs.Framed.{StaysFramed}
 use Rattle.imago_access.specs.declared.access.FormatAccess.{FormatAccess}
 use Rattle.imago_access.specs.declared.zero.ZeroCall.{ZeroCall}
 use Rattle.imago_access.specs.declared.zero.ZeroCall.TheVariants as Z
@@ -35,7 +36,7 @@ pub record IsLaterCount (is_reliable : Bool) (before now : ℕ) : Type 0 where
 pub record IsPartlyZeroed {D St : Type 0} (view : D → View St) (o n : ℕ) (old new : FormatAccess D) : Type 0 where
   pub torn : IsTrue (view (driver old)).abilities.keeps_data → IsChanged o n (partly zeroes) (disk_value view old) (disk_value view new)
   pub below : backing new ≡ backing old
-  pub framed : IsFramed (view (driver old)) (view (driver new))
+  pub framed : StaysFramed (view (driver old)) (view (driver new))
   pub reaches : ReachesNoMore (view (driver old)) (view (driver new))
   pub spent : (view (driver new)).pending ≡ None
   pub count : IsLaterCount (devices_reliable view old) (view (driver old)).fault_count (view (driver new)).fault_count

@@ -1,5 +1,5 @@
 //! The way of a range down the layers of an image.
-ghost use Rattle.std.specs.Prelude.{◌≡◌, ◌+◌, ◌-◌, ◌^◌, ◌<◌, ◌≤◌, ◌⊎◌, ◌&&◌, ℕ, IfOk, IfErr, min};
+ghost use Rattle.std.specs.Prelude.{◌≡◌, ◌+◌, ◌-◌, ◌^◌, ◌<◌, ◌≤◌, ◌⊎◌, ◌&&◌, ℕ, Err, IfOk, IfErr, min, max};
 ghost use Rattle.imago_drivers.specs.Operation.{Map, Read};
 ghost use Rattle.imago_drivers.specs.Place.{Refused, Unreadable};
 ghost use Rattle.imago_drivers.specs.Mapping.{IsRight};
@@ -8,6 +8,7 @@ ghost use Rattle.imago_drivers.specs.Done.{map_reasons};
 ghost use Rattle.imago_access.specs.Chain.{driver, backing, disk_value, chain_no_memory};
 ghost use Rattle.imago_access.specs.Resolved.{IsResolved, IsEndOfImage, chain_map_reasons};
 ghost use Rattle.imago_access.specs.Lengths.{IsOwnLength, IsResolvedLength, IsFullLength};
+ghost use Rattle.imago_access.specs.Answered.{IsOwnMapping, Maps, IsMapRefusal, Lands};
 ghost use Rattle.imago_access.specs.Ways.{IsPart, HasLanded, part_length, resolved_mapping, resolved_length};
 
 use crate::access::FormatAccess;
@@ -104,7 +105,7 @@ impl<D: FormatDriverInstance> FormatAccess<D> {
     /// only at the end, or where `max_length` is.
     ///
     /// It takes no memory. [`Error::InvalidData`] and [`Error::NoAccess`] are answered for an offset that may not be
-    /// read.
+    /// read. A refusal is what the driver answered for that range.
     pub fn get_shallow_mapping(
         &self,
         offset: u64,
@@ -121,6 +122,7 @@ impl<D: FormatDriverInstance> FormatAccess<D> {
             (λ e. (e ≡ Error.InvalidData) ⊎ (e ≡ Error.NoAccess)
             → (D.view (driver self.now)).place offset ≡ Refused e) }
         ensures refusals { IfErr result (allowed (map_reasons (D.view (driver self.now)) offset max_length)) }
+        ensures answered { IsOwnMapping D.calls (driver self.now) offset max_length result }
     {
         let (mapping, count) = self.inner.get_mapping(offset, max_length)?;
         Ok((mapping, count.min(max_length)))
@@ -136,6 +138,8 @@ impl<D: FormatDriverInstance> FormatAccess<D> {
             (λ e. (e ≡ Error.InvalidData) ⊎ (e ≡ Error.NoAccess)
             → (D.view (driver self.now)).place offset ≡ Refused e) }
         ensures refusals { IfErr result (allowed (map_reasons (D.view (driver self.now)) offset max_length)) }
+        ensures asked { IfOk result (λ r. Maps D.calls (driver self.now) offset max_length r.0 r.1) }
+        ensures answered { IfErr result (λ e. D.calls.mapped offset max_length (driver self.now) (Err e)) }
     {
         let (mapping, count) = self.get_shallow_mapping(offset, max_length)?;
         Ok((mapping, part_of(mapping, count, max_length)))
@@ -155,6 +159,8 @@ impl<D: FormatDriverInstance> FormatAccess<D> {
             (λ e. (e ≡ Error.InvalidData) ⊎ (e ≡ Error.NoAccess)
             → disk_value D.view self.now offset ≡ Unreadable e) }
         ensures refusals { IfErr result (allowed (chain_map_reasons D.view self.now offset max_length)) }
+        ensures asked { IfOk result (λ r. Lands D.calls self.now offset max_length r.0.now r.2 r.1.length) }
+        ensures answered { IfErr result (IsMapRefusal D.calls self.now offset max_length) }
     {
         let mut layer = self;
         let mut way = Way {
@@ -186,7 +192,8 @@ impl<D: FormatDriverInstance> FormatAccess<D> {
     ///
     /// [`Error::InvalidData`] and [`Error::NoAccess`] are answered for an offset that may not be read. [`Error::Unsupported`] and
     /// [`Error::WrapAround`] are answered only for a cause that a driver on the way tells, and [`Error::Device`] only where a
-    /// device of the chain isn't reliable. It takes no memory.
+    /// device of the chain isn't reliable. It takes no memory. A refusal is, by its own name, what the driver of a layer answered
+    /// that the range reaches, for that range there.
     pub fn get_mapping(&self, offset: u64, max_length: u64) -> Result<(Mapping, u64), Error>
         ensures right { IfOk result (λ r. IsResolved D.view self.now offset max_length r.0 r.1) }
         ensures length { IfOk result (λ r. IsFullLength D.view self.now offset max_length r.0 r.1) }
@@ -196,6 +203,7 @@ impl<D: FormatDriverInstance> FormatAccess<D> {
             (λ e. (e ≡ Error.InvalidData) ⊎ (e ≡ Error.NoAccess)
             → disk_value D.view self.now offset ≡ Unreadable e) }
         ensures refusals { IfErr result (allowed (chain_map_reasons D.view self.now offset max_length)) }
+        ensures answered { IfErr result (IsMapRefusal D.calls self.now offset (max max_length 1)) }
     {
         let (_layer, way, mapping) = self.descend(offset, max_length.max(1))?;
         let (mapping, count) = resolved(way, mapping);

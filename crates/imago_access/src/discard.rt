@@ -32,7 +32,7 @@ impl<D: FormatDriverInstance> FormatAccess<D> {
         requires spent { (D.view (driver self.old)).pending ≡ None }
         requires inside { offset + count ≤ (D.view (driver self.old)).size }
         ensures loosened { HasLoosenedPart D.view call offset count self.old self.new result }
-        ensures performed { discard_by D.discards call offset count (driver self.old) (driver self.new) result }
+        ensures performed { discard_by D.calls call offset count (driver self.old) (driver self.new) result }
     {
         match call {
             DiscardCall::ToAny => self.inner.discard_to_any(alloc, offset, count),
@@ -54,7 +54,7 @@ impl<D: FormatDriverInstance> FormatAccess<D> {
         requires fits { offset + count < 2 ^ 64 }
         ensures empty { count ≡ 0 → IsOk result × (self.new ≡ self.old) }
         ensures loosened { HasLoosened D.view call offset count self.old self.new result }
-        ensures performed { (parts : List (ℕ × ℕ)) × IsDiscardedInParts (discard_by D.discards call) offset count parts (driver self.old) (driver self.new) result }
+        ensures performed { (parts : List (ℕ × ℕ)) × IsDiscardedInParts (discard_by D.calls call) offset count parts (driver self.old) (driver self.new) result }
     {
         let mut done: u64 = 0;
         while done < count {
@@ -65,6 +65,21 @@ impl<D: FormatDriverInstance> FormatAccess<D> {
             done = start - offset + length;
         }
         Ok(())
+    }
+
+    /// Discards a range of the disk, once its tests passed.
+    fn discard(
+        &mut self,
+        alloc: Global,
+        call: DiscardCall,
+        offset: u64,
+        count: u64,
+    ) -> Result<(), Error>
+        requires { (D.view (driver self.old)).pending ≡ None }
+        ensures { IsImageDiscard D.view D.calls call self.old self.new offset count result }
+    {
+        self.test_end(offset, count)?;
+        self.discard_range(alloc, call, offset, count)
     }
 
     /// Gives up the data of a range, as far as the driver can. Its bytes are unspecified afterwards, also where it is refused; all
@@ -78,10 +93,9 @@ impl<D: FormatDriverInstance> FormatAccess<D> {
     /// No prepared mapping may wait, which [`has_prepared`](FormatDriverInstance::has_prepared) of the driver tells.
     pub fn discard_to_any(&mut self, alloc: Global, offset: u64, count: u64) -> Result<(), Error>
         requires { (D.view (driver self.old)).pending ≡ None }
-        ensures { IsImageDiscard D.view D.discards Call.ToAny self.old self.new offset count result }
+        ensures { IsImageDiscard D.view D.calls Call.ToAny self.old self.new offset count result }
     {
-        self.test_end(offset, count)?;
-        self.discard_range(alloc, DiscardCall::ToAny, offset, count)
+        self.discard(alloc, DiscardCall::ToAny, offset, count)
     }
 
     /// Gives up the data of a range, as far as the driver can: each byte of it is as it was, or that of the layer below at the same
@@ -97,9 +111,8 @@ impl<D: FormatDriverInstance> FormatAccess<D> {
         count: u64,
     ) -> Result<(), Error>
         requires { (D.view (driver self.old)).pending ≡ None }
-        ensures { IsImageDiscard D.view D.discards Call.ToBacking self.old self.new offset count result }
+        ensures { IsImageDiscard D.view D.calls Call.ToBacking self.old self.new offset count result }
     {
-        self.test_end(offset, count)?;
-        self.discard_range(alloc, DiscardCall::ToBacking, offset, count)
+        self.discard(alloc, DiscardCall::ToBacking, offset, count)
     }
 }

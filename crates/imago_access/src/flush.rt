@@ -10,21 +10,21 @@ use imago_storage::error::Error;
 impl<D: FormatDriverInstance> FormatAccess<D> {
     /// Writes what the driver and its storages buffer. The disk stays as it is, also where it is refused.
     pub fn flush(&mut self) -> Result<(), Error>
-        ensures { IsFlushed D.view D.flushes.flushed self.old self.new result }
+        ensures { IsFlushed D.view D.calls.flushed self.old self.new result }
     {
         self.inner.flush()
     }
 
     /// Syncs what is written to the hardware. The disk stays as it is, also where it is refused.
     pub fn sync(&mut self) -> Result<(), Error>
-        ensures { IsFlushed D.view D.flushes.synced self.old self.new result }
+        ensures { IsFlushed D.view D.calls.synced self.old self.new result }
     {
         self.inner.sync()
     }
 
     /// Drops what the driver and its storages cache. The disk stays as it is, also where it is refused.
     pub fn invalidate_cache(&mut self) -> Result<(), Error>
-        ensures { IsFlushed D.view D.flushes.invalidated self.old self.new result }
+        ensures { IsFlushed D.view D.calls.invalidated self.old self.new result }
     {
         self.inner.invalidate_cache()
     }

@@ -23,14 +23,14 @@ use imago_drivers::drivers::FormatDriverInstance;
 pub fn flat_histories<D: FormatDriverInstance>()
     ensures { (old new : FormatAccess D) (calls : List Call) (replies : List Reply)
         → IsTrue (D.view (driver old)).abilities.keeps_data
-        → IsRun D.view D.flushes D.discards old calls replies new
+        → IsRun D.view D.calls old calls replies new
         → IsFlatHistory (backed_value D.view old) (disk D.view old) calls replies (disk D.view new) }
 {}
 
 /// No run changes a layer below, or what the driver is good for, whatever its storages keep.
 pub fn runs_keep_layers_below<D: FormatDriverInstance>()
     ensures { (old new : FormatAccess D) (calls : List Call) (replies : List Reply)
-        → IsRun D.view D.flushes D.discards old calls replies new
+        → IsRun D.view D.calls old calls replies new
         → IsKept D.view old new }
 {}
 
@@ -67,7 +67,7 @@ pub fn reads_show_targets<D: FormatDriverInstance>()
 {}
 
 /// A read of an image whose devices are reliable, with no cause of a refusal in the range, is refused for want of memory
-/// alone, and succeeds where no driver takes any.
+/// alone, and succeeds where no driver takes any for a part of it, or each driver maps the whole at once and takes none for it.
 pub fn reads_succeed<D: FormatDriverInstance>()
     ensures { ReadsSucceed D.view }
 {}
@@ -109,7 +109,7 @@ pub fn zero_writes_succeed<D: FormatDriverInstance>()
 
 /// The same of the two other discards.
 pub fn discards_succeed<D: FormatDriverInstance>()
-    ensures { DiscardsSucceed D.view D.discards }
+    ensures { DiscardsSucceed D.view D.calls }
 {}
 
 /// The same of a growth to a size, which may also be refused as unsupported, where the driver doesn't offer it. A resize is
@@ -137,7 +137,7 @@ pub fn commits_succeed<D: FormatDriverInstance>()
 
 /// The same of a flush, a sync and an invalidation of caches.
 pub fn flushes_succeed<D: FormatDriverInstance>()
-    ensures flushed { FlushesSucceed D.view D.flushes.flushed }
-    ensures synced { FlushesSucceed D.view D.flushes.synced }
-    ensures invalidated { FlushesSucceed D.view D.flushes.invalidated }
+    ensures flushed { FlushesSucceed D.view D.calls.flushed }
+    ensures synced { FlushesSucceed D.view D.calls.synced }
+    ensures invalidated { FlushesSucceed D.view D.calls.invalidated }
 {}

@@ -1,14 +1,19 @@
 //! Data mappings of an image.
-ghost use Rattle.std.specs.Prelude.{◌≡◌, ◌+◌, ◌≤◌, ◌↔◌, None, true, false, length, IsTrue, IfOk, IfErr, OnOk, OnErr, IsErrOf};
+ghost use Rattle.std.specs.Prelude.{◌≡◌, ℕ, ◌+◌, ◌≤◌, ◌↔◌, None, true, false, length, IsTrue, IfOk, IfErr, OnOk, OnErr, IsErrOf};
 ghost use Rattle.imago_storage.specs.Faults.{CountsFaults};
-ghost use Rattle.imago_drivers.specs.Parts.{length_of};
+ghost use Rattle.imago_drivers.specs.Operation.{Write};
+ghost use Rattle.imago_drivers.specs.Causes.{IsSettled, IsOnRange};
+ghost use Rattle.imago_drivers.specs.Frame.{IsFramed, ReachesNoMore};
+ghost use Rattle.imago_drivers.specs.Lengths.{GrowTo, GrowAt};
+ghost use Rattle.imago_drivers.specs.Parts.{storage_of, offset_of, length_of};
 ghost use Rattle.imago_drivers.specs.Pending.{ShowsRound};
 ghost use Rattle.imago_drivers.specs.Reasons.{allowed};
 ghost use Rattle.imago_drivers.specs.Done.{mapping_write_reasons};
-ghost use Rattle.imago_drivers.specs.Prepared.{IsPrepared, IsDataMapping, IsForeignWrite, IsWritten};
+ghost use Rattle.imago_drivers.specs.Prepared.{IsPrepared, IsDataMapping, IsFor, IsForeignWrite, IsWritten};
 ghost use Rattle.imago_drivers.specs.Commit.{IsCommit, IsCancel};
 ghost use Rattle.imago_access.specs.Chain.{driver, backing, disk_value};
 ghost use Rattle.imago_access.specs.Calls.{IsEnsured, IsPreparing, IsKept};
+ghost use Rattle.imago_access.specs.Performed.{IsPreparedBy, IsEnsuredBy};
 ghost use Rattle.imago_access.specs.PreparedOnDisk.{ShowsSame, ShowsPreparedWrite, ShowsCommit};
 
 use crate::access::{FormatAccess, below};
@@ -37,6 +42,9 @@ impl<D: FormatDriverInstance> FormatAccess<D> {
             (λ r. IsDataMapping offset count r.0 r.1 r.2 (D.view (driver self.old))
             (D.view (driver self.new))) }
         ensures call { IsEnsured D.view self.old self.new offset count overwrite result }
+        ensures lengths { GrowTo ((D.view (driver self.old)).limits.longest Write offset count)
+            (D.view (driver self.old)).stores (D.view (driver self.new)).stores }
+        ensures performed { IsEnsuredBy D.view D.calls self.old self.new offset count overwrite result }
     {
         self.test_range(offset, count)?;
         let lower = below(&self.backing);
@@ -64,6 +72,7 @@ impl<D: FormatDriverInstance> FormatAccess<D> {
             (λ m. IsPrepared offset count overwrite (disk_value D.view self.old)
             (D.view (driver self.old)) (D.view (driver self.new)) m) }
         ensures call { IsPreparing D.view self.old self.new offset count result }
+        ensures performed { IsPreparedBy D.view D.calls self.old self.new offset count overwrite result }
     {
         self.test_range(offset, count)?;
         let lower = below(&self.backing);
@@ -96,6 +105,17 @@ impl<D: FormatDriverInstance> FormatAccess<D> {
         ensures round { IsTrue (D.view (driver self.old)).abilities.keeps_data
             → ShowsRound (disk_value D.view self.old) (D.view (driver self.old)).pending
             → ShowsRound (disk_value D.view self.new) (D.view (driver self.new)).pending }
+        ensures causes { OnOk result
+            ((o : ℕ)
+            → IsFor (D.view (driver self.old)) mapping.now at (length source.now) o
+            → IsSettled IsOnRange (D.view (driver self.old)).limits.cause
+            (D.view (driver self.new)).limits.cause (D.view (driver self.old)).limits.copies
+            (D.view (driver self.new)).limits.copies o (length source.now)) }
+        ensures reaches { ReachesNoMore (D.view (driver self.old)) (D.view (driver self.new)) }
+        ensures lengths { GrowAt (storage_of mapping.now) (offset_of mapping.now + at)
+            (length source.now) (D.view (driver self.old)).stores
+            (D.view (driver self.new)).stores }
+        ensures framed { IsFramed (D.view (driver self.old)) (D.view (driver self.new)) }
         ensures same_size { (D.view (driver self.new)).size ≡ (D.view (driver self.old)).size }
         ensures kept { IsKept D.view self.old self.new }
         ensures faults { CountsFaults (D.view (driver self.old)).abilities.is_reliable
@@ -104,6 +124,7 @@ impl<D: FormatDriverInstance> FormatAccess<D> {
             (allowed
             (mapping_write_reasons (D.view (driver self.old)) mapping.now at
             (length source.now))) }
+        ensures performed { D.calls.filled mapping.now source.now at (driver self.old) (driver self.new) result }
     {
         self.inner.write_prepared(alloc, mapping, source, at)
     }
@@ -117,6 +138,7 @@ impl<D: FormatDriverInstance> FormatAccess<D> {
         mapping: PreparedDataMapping<D::State>,
     ) -> Result<(), Error>
         ensures commit { IsCommit D.view (driver self.old) (driver self.new) mapping result }
+        ensures performed { D.calls.committed mapping (driver self.old) (driver self.new) result }
         ensures disk { IsTrue (D.view (driver self.old)).abilities.keeps_data
             → ShowsCommit D.view self.old self.new mapping result }
         ensures below { backing self.new ≡ backing self.old }
@@ -128,6 +150,7 @@ impl<D: FormatDriverInstance> FormatAccess<D> {
     /// mapping changes nothing.
     pub fn cancel_data_mapping(&mut self, mapping: PreparedDataMapping<D::State>)
         ensures cancel { IsCancel D.view (driver self.old) (driver self.new) mapping }
+        ensures performed { D.calls.cancelled mapping (driver self.old) (driver self.new) }
         ensures disk { IsTrue (D.view (driver self.old)).abilities.keeps_data
             → ShowsSame (disk_value D.view self.old) (disk_value D.view self.new) }
         ensures below { backing self.new ≡ backing self.old }

@@ -4,6 +4,7 @@ ghost use Rattle.imago_drivers.specs.Place.{HasValues};
 ghost use Rattle.imago_drivers.specs.Reasons.{allowed};
 ghost use Rattle.imago_access.specs.Chain.{disk_value, chain_no_memory, inside_part, as_layer_below, read_reasons};
 ghost use Rattle.imago_access.specs.ChainLaws.{image_is_layer};
+ghost use Rattle.imago_access.specs.Answered.{IsNamedRead, IsFirstRead, IsReadBy};
 ghost use Rattle.imago_access.specs.Named.{IsKnown, IsNamedAt, own_values, named_read_reasons, chunk_read_reasons};
 
 use crate::access::FormatAccess;
@@ -26,6 +27,7 @@ fn read_named<D: FormatDriverInstance>(
         → IsNamedAt (D.view inner.now).place «mapping» at (length buf.old)
         → HasValues (own_values (D.view inner.now).place) at buf.new) }
     ensures refusals { IfErr result (allowed (named_read_reasons (D.view inner.now) «mapping» (length buf.old))) }
+    ensures answered { IsNamedRead D.calls inner.now «mapping» (length buf.old) result }
 {
     match mapping {
         ShallowMapping::Raw {
@@ -68,6 +70,7 @@ impl<D: FormatDriverInstance> FormatAccess<D> {
         ensures whole { chain_no_memory D.view self.now offset (length buf.old)
             → IfOk result (λ n. n ≡ length buf.old) }
         ensures refusals { IfErr result (allowed (chunk_read_reasons D.view self.now offset (length buf.old))) }
+        ensures answered { IsFirstRead D.calls self.now offset (length buf.old) result }
     {
         let (layer, way, mapping) = self.descend(offset, buf.len() as u64)?;
         let count = way.length as usize;
@@ -80,6 +83,7 @@ impl<D: FormatDriverInstance> FormatAccess<D> {
         ensures bytes { OnOk result (HasValues (disk_value D.view self.now) offset buf.new) }
         ensures empty { length buf.old ≡ 0 → IsOk result }
         ensures refusals { IfErr result (allowed (read_reasons D.view self.now offset (length buf.old))) }
+        ensures answered { IsReadBy D.view D.calls self.now offset (length buf.old) result }
     {
         let size = self.inner.size();
         let inside = part_inside(size, offset, buf.len());
@@ -97,10 +101,14 @@ impl<D: FormatDriverInstance> FormatAccess<D> {
     /// It is refused where a byte that it reads can't be read: [`Error::InvalidData`], [`Error::NoAccess`],
     /// [`Error::WrapAround`] and [`Error::Unsupported`] as the layers' drivers say, [`Error::Device`] only where a
     /// device of the chain isn't reliable, [`Error::Memory`] only where a driver takes memory. A read of no bytes is never refused.
+    ///
+    /// The range is read part after part, up to the end of the disk. A refusal is, by its own name, what the driver of a layer
+    /// answered that the next part reaches, to the mapping of that part or to the read of what it maps.
     pub fn read(&self, alloc: Global, buf: &mut [u8], offset: u64) -> Result<(), Error>
         ensures bytes { OnOk result (HasValues (disk_value D.view self.now) offset buf.new) }
         ensures empty { length buf.old ≡ 0 → IsOk result }
         ensures refusals { IfErr result (allowed (read_reasons D.view self.now offset (length buf.old))) }
+        ensures answered { IsReadBy D.view D.calls self.now offset (length buf.old) result }
     {
         self.read_range(alloc, buf, offset)
     }
@@ -110,6 +118,7 @@ impl<D: FormatDriverInstance> FormatAccess<D> {
         ensures bytes { OnOk result (HasValues (disk_value D.view self.now) offset buf.new) }
         ensures empty { length buf.old ≡ 0 → IsOk result }
         ensures refusals { IfErr result (allowed (read_reasons D.view self.now offset (length buf.old))) }
+        ensures answered { IsReadBy D.view D.calls self.now offset (length buf.old) result }
     {
         self.read(alloc, buf, offset)
     }
@@ -118,6 +127,8 @@ impl<D: FormatDriverInstance> FormatAccess<D> {
 /// An image can be what is below another driver.
 impl<D: FormatDriverInstance> LowerLayer for FormatAccess<D> {
     ghost as_layer_below = { λ x. as_layer_below D.view x };
+
+    ghost reads = { λ o n x result. IsReadBy D.view D.calls x o n result };
 
     ghost lawful = { λ x. image_is_layer D.view D.causes_lawful D.lawful x };
 

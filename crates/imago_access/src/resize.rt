@@ -3,6 +3,7 @@ ghost use Rattle.std.specs.Prelude.{◌≡◌, None, true, IfErr, OnOk};
 ghost use Rattle.imago_drivers.specs.Operation.{Grow, Shrink};
 ghost use Rattle.imago_access.specs.Chain.{driver};
 ghost use Rattle.imago_access.specs.Sizes.{FailsWritable, IsResize, IsResizeTo, HasGrown, HasShrunk};
+ghost use Rattle.imago_access.specs.Performed.{IsGrownBy, IsCutBy, IsResizedBy};
 
 use crate::access::{FormatAccess, below};
 use imago_drivers::drivers::{FormatDriverInstance, PreallocateMode};
@@ -38,6 +39,7 @@ impl<D: FormatDriverInstance> FormatAccess<D> {
         requires { (D.view (driver self.old)).pending ≡ None }
         ensures resized { IsResize D.view (Grow mode) new_size (HasGrown D.view mode new_size self.old self.new)
             self.old self.new result }
+        ensures performed { IsGrownBy D.view D.calls new_size mode self.old self.new result }
         ensures nothing_pending { (D.view (driver self.new)).pending ≡ None }
     {
         self.test_writable()?;
@@ -54,6 +56,7 @@ impl<D: FormatDriverInstance> FormatAccess<D> {
         requires { (D.view (driver self.old)).pending ≡ None }
         ensures resized { IsResize D.view Shrink new_size (HasShrunk D.view new_size self.old self.new) self.old
             self.new result }
+        ensures performed { IsCutBy D.view D.calls new_size self.old self.new result }
         ensures nothing_pending { (D.view (driver self.new)).pending ≡ None }
     {
         self.test_writable()?;
@@ -73,6 +76,7 @@ impl<D: FormatDriverInstance> FormatAccess<D> {
     ) -> Result<(), Error>
         requires { (D.view (driver self.old)).pending ≡ None }
         ensures resized { IsResizeTo D.view new_size mode self.old self.new result }
+        ensures performed { IsResizedBy D.view D.calls new_size mode self.old self.new result }
         ensures nothing_pending { (D.view (driver self.new)).pending ≡ None }
     {
         if new_size < self.size() {

@@ -206,7 +206,7 @@ fn read_bytes<D: FormatDriverInstance>(
     offset: u64,
     count: u64,
 ) -> Result<Vec<u8>, Error>
-    ensures { IsBufferRead D.view image.now offset count result }
+    ensures { IsBufferRead D.view D.calls image.now offset count result }
 {
     let mut bytes = zeroes(alloc, count as usize)?;
     image.read(alloc, &mut bytes, offset)?;
@@ -216,7 +216,7 @@ fn read_bytes<D: FormatDriverInstance>(
 /// Makes one call, and answers its reply.
 fn step<D: FormatDriverInstance>(alloc: Global, image: &mut FormatAccess<D>, call: &Call) -> Reply
     requires { (D.view (driver image.old)).pending ≡ None }
-    ensures step { IsStep D.view D.flushes D.discards image.old call.now result image.new }
+    ensures step { IsStep D.view D.calls image.old call.now result image.new }
     ensures spent { (D.view (driver image.new)).pending ≡ None }
 {
     match call {
@@ -278,7 +278,7 @@ pub fn run<D: FormatDriverInstance>(
     requires { (D.view (driver image.old)).pending ≡ None }
     ensures run { OnOk result
         ((rs : List Reply) × (replies.new.items ≡ replies.old.items ++ rs) × IsRun D.view
-        D.flushes D.discards image.old calls.now rs image.new) }
+        D.calls image.old calls.now rs image.new) }
     ensures history { IsTrue (D.view (driver image.old)).abilities.keeps_data
         → OnOk result
         ((rs : List Reply) × (replies.new.items ≡ replies.old.items ++ rs) × IsFlatHistory

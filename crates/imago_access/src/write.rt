@@ -6,6 +6,7 @@ ghost use Rattle.imago_drivers.specs.Place.{values};
 ghost use Rattle.imago_drivers.specs.Parts.{length_of, state_of};
 ghost use Rattle.imago_access.specs.Chain.{driver};
 ghost use Rattle.imago_access.specs.Calls.{IsTested, IsWrite, IsMappedWrite};
+ghost use Rattle.imago_access.specs.Performed.{IsFilledBy, IsThroughBy, IsFirstBy, AllWrittenBy, IsWrittenBy, IsMappedBy};
 ghost use Rattle.imago_access.specs.Writing.{CommitMayTakeMemory, WasPrepared, HasFilled, HasMapped, HasWritten, HasWrittenAll};
 
 use crate::access::{FormatAccess, below};
@@ -32,11 +33,12 @@ fn fill_mapping<D: FormatDriverInstance, B: LowerLayer>(
         (λ m. WasPrepared D.view (values (lent B.as_layer_below below.entry).at (D.view inner.old).place)
         inner.old offset count overwrite (length_of m, is_none (state_of m))) }
     ensures filled { HasFilled (lent B.as_layer_below below.entry) (D.view inner.old) (D.view inner.new) offset count overwrite source.now result }
+    ensures performed { IsFilledBy D.calls (lent B.as_layer_below below.entry) offset count overwrite source.now inner.old inner.new result }
 {
     let mapping = inner.prepare_data_mapping(alloc, below, offset, count, overwrite)?;
     let fitting = source.len().min(mapping.length() as usize);
     if let Err(error) = inner.write_prepared(alloc, &mapping, &source[..fitting], 0) {
-        inner.cancel_data_mapping(mapping);
+        inner.cancel_data_mapping(mapping); // it has to be spent
         return Err(error);
     }
     Ok(mapping)
@@ -61,6 +63,7 @@ fn write_through<D: FormatDriverInstance, B: LowerLayer>(
         (WasPrepared D.view (values (lent B.as_layer_below below.entry).at (D.view inner.old).place)
         inner.old offset count overwrite) }
     ensures mapped { HasMapped (lent B.as_layer_below below.entry) (CommitMayTakeMemory D.view inner.old) (D.view inner.old) (D.view inner.new) offset count overwrite source.now commit result }
+    ensures performed { IsThroughBy D.calls (lent B.as_layer_below below.entry) offset count overwrite source.now commit inner.old inner.new result }
 {
     let mapping = fill_mapping(inner, alloc, below, offset, count, overwrite, source)?;
     let answer = (mapping.length(), mapping.is_nonblocking());
@@ -84,8 +87,9 @@ pub(crate) fn write_first<D: FormatDriverInstance, B: LowerLayer>(
     requires writable { (D.view inner.old).abilities.is_writable ≡ true }
     requires spent { (D.view inner.old).pending ≡ None }
     requires inside { offset + length source.now ≤ (D.view inner.old).size }
-    ensures { HasWritten (lent B.as_layer_below below.entry) (CommitMayTakeMemory D.view inner.old) (D.view inner.old) (D.view inner.new) offset
+    ensures written { HasWritten (lent B.as_layer_below below.entry) (CommitMayTakeMemory D.view inner.old) (D.view inner.old) (D.view inner.new) offset
         source.now result }
+    ensures performed { IsFirstBy D.calls (lent B.as_layer_below below.entry) offset source.now inner.old inner.new result }
 {
     let (count, _) = write_through(
         inner,
@@ -115,6 +119,7 @@ fn write_all<D: FormatDriverInstance, B: LowerLayer>(
     ensures empty { length source.now ≡ 0 → IsOk result × (inner.new ≡ inner.old) }
     ensures written { HasWrittenAll (lent B.as_layer_below below.entry) (CommitMayTakeMemory D.view inner.old) (D.view inner.old) (D.view inner.new) offset
         source.now result }
+    ensures performed { AllWrittenBy D.calls (lent B.as_layer_below below.entry) offset source.now inner.old inner.new result }
 {
     let mut done: usize = 0;
     while done < source.len() {
@@ -150,7 +155,8 @@ impl<D: FormatDriverInstance> FormatAccess<D> {
         commit: bool,
     ) -> Result<(u64, bool), Error>
         requires { (D.view (driver self.old)).pending ≡ None }
-        ensures { IsMappedWrite D.view self.old self.new offset count overwrite source.now commit result }
+        ensures mapped { IsMappedWrite D.view self.old self.new offset count overwrite source.now commit result }
+        ensures performed { IsMappedBy D.view D.calls self.old self.new offset count overwrite source.now commit result }
     {
         self.test_range(offset, count)?;
         let lower = below(&self.backing);
@@ -175,7 +181,8 @@ impl<D: FormatDriverInstance> FormatAccess<D> {
     /// No prepared mapping may wait, which [`has_prepared`](FormatDriverInstance::has_prepared) of the driver tells.
     pub fn write(&mut self, alloc: Global, source: &[u8], offset: u64) -> Result<(), Error>
         requires { (D.view (driver self.old)).pending ≡ None }
-        ensures { IsWrite D.view self.old self.new offset source.now result }
+        ensures written { IsWrite D.view self.old self.new offset source.now result }
+        ensures performed { IsWrittenBy D.view D.calls self.old self.new offset source.now result }
     {
         self.test_range(offset, source.len() as u64)?;
         write_all(&mut self.inner, alloc, below(&self.backing), source, offset)
@@ -186,7 +193,8 @@ impl<D: FormatDriverInstance> FormatAccess<D> {
     /// No prepared mapping may wait, which [`has_prepared`](FormatDriverInstance::has_prepared) of the driver tells.
     pub fn writev(&mut self, alloc: Global, source: &[u8], offset: u64) -> Result<(), Error>
         requires { (D.view (driver self.old)).pending ≡ None }
-        ensures { IsWrite D.view self.old self.new offset source.now result }
+        ensures written { IsWrite D.view self.old self.new offset source.now result }
+        ensures performed { IsWrittenBy D.view D.calls self.old self.new offset source.now result }
     {
         self.write(alloc, source, offset)
     }

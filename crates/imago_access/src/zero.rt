@@ -1,10 +1,13 @@
 //! Zeroing ranges of an image.
-ghost use Rattle.std.specs.Prelude.{◌≡◌, ℕ, ◌+◌, ◌-◌, ◌<◌, ◌≤◌, ◌^◌, None, true, IsTrue, IfOk, IfErr, IsOk, length, slice_index, EachIndex};
+ghost use Rattle.std.specs.Prelude.{◌≡◌, ℕ, ◌+◌, ◌-◌, ◌<◌, ◌≤◌, ◌^◌, None, true, List, IsTrue, IfOk, IfErr, IsOk, length, slice_index, EachIndex};
 ghost use Rattle.imago_drivers.specs.Operation.{Zero, DiscardToZero};
 ghost use Rattle.imago_drivers.specs.LayerBelow.{lent};
 ghost use Rattle.imago_drivers.specs.Place.{Byte};
-ghost use Rattle.imago_access.specs.Chain.{driver, disk_value, as_layer_below};
+ghost use Rattle.imago_access.specs.Chain.{driver, backing, disk_value, lent_image, as_layer_below};
 ghost use Rattle.imago_access.specs.Calls.{IsTested};
+ghost use Rattle.imago_access.specs.ZeroCalls.{OnDriver, zero_by, AreGranulesBy, IsRoundedFrom, TriesGranules, IsZeroPiece, IsZeroedAsData, IsGapZeroed, IsNextZeroed, AllZeroedBy, IsZeroedBy};
+ghost use Rattle.imago_access.specs.Performed.{IsFirstBy};
+ghost use Rattle.imago_access.specs.declared.zero.ZeroCall.TheVariants as Call;
 ghost use Rattle.imago_access.specs.Zeroing.{operation_of, AreZero, IsPartlyZeroed, Carries, HasZeroed, HasZeroedPart, IsZeroedByDriver, IsZeroWrite, data_reasons, zero_reasons};
 
 use crate::access::{FormatAccess, below};
@@ -38,7 +41,8 @@ impl<D: FormatDriverInstance> FormatAccess<D> {
         requires writable { (D.view (driver self.old)).abilities.is_writable ≡ true }
         requires spent { (D.view (driver self.old)).pending ≡ None }
         requires inside { offset + count ≤ (D.view (driver self.old)).size }
-        ensures { HasZeroedPart D.view (operation_of call) offset count self.old self.new result }
+        ensures zeroed { HasZeroedPart D.view (operation_of call) offset count self.old self.new result }
+        ensures performed { zero_by D.calls call offset count self.old self.new result }
     {
         match call {
             ZeroCall::EnsureZero => self.inner.ensure_zero_mapping(alloc, offset, count),
@@ -66,7 +70,8 @@ impl<D: FormatDriverInstance> FormatAccess<D> {
     fn first_granule(&self, granule: u64, offset: u64) -> u64
         requires some { 0 < granule }
         requires fits { offset < 2 ^ 64 }
-        ensures { (p : ℕ) → result ≤ p → p < offset → disk_value D.view self.now p ≡ Byte 0 }
+        ensures zero { (p : ℕ) → result ≤ p → p < offset → disk_value D.view self.now p ≡ Byte 0 }
+        ensures rounded { IsRoundedFrom granule offset result }
     {
         let head = offset % granule;
         let start = offset - head;
@@ -83,6 +88,7 @@ impl<D: FormatDriverInstance> FormatAccess<D> {
         requires inside { end ≤ (D.view (driver self.now)).size }
         ensures inside { result ≤ (D.view (driver self.now)).size }
         ensures zero { (p : ℕ) → end ≤ p → p < result → disk_value D.view self.now p ≡ Byte 0 }
+        ensures rounded { IsRoundedFrom granule end result }
     {
         let tail = end % granule;
         if tail == 0 {
@@ -101,7 +107,9 @@ impl<D: FormatDriverInstance> FormatAccess<D> {
         requires writable { (D.view (driver self.old)).abilities.is_writable ≡ true }
         requires spent { (D.view (driver self.old)).pending ≡ None }
         requires inside { end ≤ (D.view (driver self.old)).size }
-        ensures { IsZeroedByDriver D.view start (end - start) self.old self.new }
+        ensures zeroed { IsZeroedByDriver D.view start (end - start) self.old self.new }
+        ensures performed { (parts : List (ℕ × ℕ))
+            × AreGranulesBy (zero_by D.calls Call.EnsureZero) start end parts self.old self.new }
     {
         let mut done = start;
         while done < end {
@@ -119,7 +127,9 @@ impl<D: FormatDriverInstance> FormatAccess<D> {
         requires spent { (D.view (driver self.old)).pending ≡ None }
         requires inside { offset + count ≤ (D.view (driver self.old)).size }
         requires fits { offset + count < 2 ^ 64 }
-        ensures { IsZeroedByDriver D.view offset count self.old self.new }
+        ensures zeroed { IsZeroedByDriver D.view offset count self.old self.new }
+        ensures performed { TriesGranules (zero_by D.calls Call.EnsureZero)
+            (D.view (driver self.old)).abilities.zero_granularity offset count self.old self.new }
     {
         if let Some(granule) = self.inner.zero_granularity() {
             let start = self.first_granule(granule, offset);
@@ -143,6 +153,9 @@ impl<D: FormatDriverInstance> FormatAccess<D> {
         ensures some { IfOk result (λ n. (0 < n) × (n ≤ length zeroes.now)) }
         ensures zeroed { HasZeroed D.view offset (length zeroes.now) (λ n. n)
             (data_reasons D.view self.old offset (length zeroes.now)) self.old self.new result }
+        ensures performed { OnDriver
+            (IsFirstBy D.calls (lent_image D.view (backing self.old)) offset zeroes.now) self.old
+            self.new result }
     {
         write_first(&mut self.inner, alloc, below(&self.backing), zeroes, offset)
     }
@@ -166,6 +179,7 @@ impl<D: FormatDriverInstance> FormatAccess<D> {
         ensures some { IfOk result (λ n. (0 < n) × (n ≤ count)) }
         ensures zeroed { HasZeroed D.view offset count (λ n. n) (data_reasons D.view self.old offset count)
             self.old self.new result }
+        ensures performed { IsZeroPiece D.view D.calls offset count self.old self.new result }
     {
         let (mapping, length) = self.get_mapping(offset, count)?;
         if let Mapping::Zero { explicit: true } = mapping {
@@ -183,8 +197,9 @@ impl<D: FormatDriverInstance> FormatAccess<D> {
         requires spent { (D.view (driver self.old)).pending ≡ None }
         requires inside { offset + count ≤ (D.view (driver self.old)).size }
         requires fits { offset + count < 2 ^ 64 }
-        ensures { HasZeroed D.view offset count (λ u. count) (data_reasons D.view self.old offset count)
+        ensures zeroed { HasZeroed D.view offset count (λ u. count) (data_reasons D.view self.old offset count)
             self.old self.new result }
+        ensures performed { IsZeroedAsData D.view D.calls offset count self.old self.new result }
     {
         let zeroes = zero_bytes(alloc, count.min(ZERO_PIECE) as usize)?;
         let mut done: u64 = 0;
@@ -203,6 +218,7 @@ impl<D: FormatDriverInstance> FormatAccess<D> {
         ensures empty { count ≡ 0 → IsOk result × (self.new ≡ self.old) }
         ensures zeroed { HasZeroed D.view offset count (λ u. count) (data_reasons D.view self.old offset count)
             self.old self.new result }
+        ensures performed { IsGapZeroed D.view D.calls offset count self.old self.new result }
     {
         if count == 0 {
             return Ok(());
@@ -231,6 +247,7 @@ impl<D: FormatDriverInstance> FormatAccess<D> {
         ensures zeroed { HasZeroed D.view offset count (λ n. n)
             (zero_reasons D.view self.old (operation_of call) offset count) self.old self.new
             result }
+        ensures performed { IsNextZeroed D.view D.calls call offset count self.old self.new result }
     {
         let (start, length) = self.zero_part(alloc, call, offset, count)?;
         if length == 0 {
@@ -257,6 +274,7 @@ impl<D: FormatDriverInstance> FormatAccess<D> {
         ensures zeroed { HasZeroed D.view offset count (λ u. count)
             (zero_reasons D.view self.old (operation_of call) offset count) self.old self.new
             result }
+        ensures performed { AllZeroedBy D.view D.calls call offset count self.old self.new result }
     {
         let mut done: u64 = 0;
         while done < count {
@@ -296,7 +314,9 @@ impl<D: FormatDriverInstance> FormatAccess<D> {
     /// No prepared mapping may wait, which [`has_prepared`](FormatDriverInstance::has_prepared) of the driver tells.
     pub fn write_zeroes(&mut self, alloc: Global, offset: u64, count: u64) -> Result<(), Error>
         requires { (D.view (driver self.old)).pending ≡ None }
-        ensures { IsZeroWrite D.view Zero self.old self.new offset count result }
+        ensures zeroed { IsZeroWrite D.view Zero self.old self.new offset count result }
+        ensures performed { IsZeroedBy D.view D.calls Call.EnsureZero offset count self.old
+            self.new result }
     {
         self.test_end(offset, count)?;
         self.zero_range(alloc, ZeroCall::EnsureZero, offset, count)
@@ -308,7 +328,9 @@ impl<D: FormatDriverInstance> FormatAccess<D> {
     /// No prepared mapping may wait, which [`has_prepared`](FormatDriverInstance::has_prepared) of the driver tells.
     pub fn discard_to_zero(&mut self, alloc: Global, offset: u64, count: u64) -> Result<(), Error>
         requires { (D.view (driver self.old)).pending ≡ None }
-        ensures { IsZeroWrite D.view DiscardToZero self.old self.new offset count result }
+        ensures zeroed { IsZeroWrite D.view DiscardToZero self.old self.new offset count result }
+        ensures performed { IsZeroedBy D.view D.calls Call.DiscardToZero offset count self.old
+            self.new result }
     {
         self.test_end(offset, count)?;
         self.zero_range(alloc, ZeroCall::DiscardToZero, offset, count)

@@ -1,12 +1,12 @@
-use Rattle.std.proofs.Common.{◌≡◌, ℕ, ◌+◌, ◌-◌, ◌*◌, ◌<◌, ◌≤◌, ◌⊎◌, ⊎_elim, inl, inr, Bool, true, false, List, length, Option, Some, None, refl, sym, ap, ◌∙◌, arith, Result, Ok, Err, nat_lt}
-use Rattle.std.specs.Prelude.{slice_index, IsTrue, IfErr, IsErrOf}
+use Rattle.std.proofs.Common.{◌≡◌, ℕ, ◌+◌, ◌-◌, ◌*◌, ◌/◌, ◌<◌, ◌≤◌, ◌⊎◌, ⊎_elim, inl, inr, Bool, true, false, List, length, Option, Some, None, refl, sym, ap, ◌∙◌, arith, Result, Ok, Err, nat_lt}
+use Rattle.std.specs.Prelude.{slice_index, slice_get, is_none, IsTrue, IfErr, IsErrOf}
 use Rattle.std.proofs.lemmas.Bool.{cases_lt}
 use Rattle.std.proofs.lemmas.Bool.Decides.{nat_tests}
 use Rattle.std.proofs.lemmas.Nat.{div-add-mod'}
 use Rattle.imago_storage.specs.declared.error.Error.{Error}
 use Rattle.imago_storage.specs.Error.{IsDeviceOrMemory, IsExtRefusal}
 use Rattle.imago_storage.specs.Faults.{CountsFaults}
-use Rattle.imago_storage.specs.Features.{Features}
+use Rattle.imago_storage.specs.Features.{Features, IsAlignedRequest, MayRunOut}
 use Rattle.imago_storage.specs.Padding.{Wraps}
 use Rattle.imago_drivers.specs.Operation.{Write, Flush}
 use Rattle.imago_drivers.specs.Place.{Value, Byte, shown, values, SamePlaces}
@@ -16,7 +16,7 @@ use Rattle.imago_drivers.specs.Done.{driver_reasons, mapping_write_reasons}
 use Rattle.imago_drivers.specs.Frame.{IsFramed, IsUnchanged, ReachesNoMore}
 use Rattle.imago_drivers.specs.Ranges.{HasBytes}
 use Rattle.imago_drivers.specs.Pending.{Pending, IsOwn, ShowsRound}
-use Rattle.imago_drivers.specs.Prepared.{IsPutApart, is_foreign, is_written}
+use Rattle.imago_drivers.specs.Prepared.{IsFor, is_for, IsPutApart, is_foreign, is_written}
 use Rattle.imago_drivers.specs.Changes.{or_torn, into}
 use Rattle.imago_drivers.specs.View.{View}
 use Rattle.imago_drivers.specs.Laws.{AreCauses}
@@ -25,10 +25,11 @@ use Rattle.imago_drivers.specs.declared.mapping.PreparedDataMapping.{PreparedDat
 use Rattle.imago_cow.specs.declared.table.GuestBlock.{GuestBlock}
 use Rattle.imago_cow.specs.declared.cow.Waiting.{Waiting}
 use Rattle.imago_cow.specs.declared.cow.CowState.{CowState}
-use Rattle.imago_cow.specs.Guest.{Covers, entry_place, cow_place}
-use Rattle.imago_cow.specs.GuestLaws.{place_in, place_out}
-use Rattle.imago_cow.specs.Cow.{cow_view, cow_cause, cow_copies, cow_pending, WaitsApart, waiting_byte, waiting_from, data_count}
+use Rattle.imago_cow.specs.Guest.{Covers, entry_place, cow_place, is_data}
+use Rattle.imago_cow.specs.GuestLaws.{place_in, place_out, rest_small, same_block}
+use Rattle.imago_cow.specs.Cow.{cow_view, cow_cause, cow_copies, cow_pending, WaitsApart, waiting_byte, waiting_from, data_count, IsDirect}
 use Rattle.imago_cow.specs.CowLaws.{from_size, lower_place, cow_causes}
+use Rattle.imago_cow.proofs.DirectSteps.{not_direct, direct_request}
 use Rattle.imago_cow.proofs.WholeSteps.{times_more}
 use Rattle.imago_cow.proofs.PrepareSteps.{pending_of, same_places}
 
@@ -120,9 +121,10 @@ not_ext h w d m = ⊎_elim w (λ k. ⊎_elim d m k) h
 
 -- a write into a mapping whose bytes lie in the data blocks
 pub mapping_refused : (f : Features) (count : ℕ) (bytes : List ℕ) (size block : ℕ) (entries : List GuestBlock) (blocks : ℕ) (v : Option Waiting) (m : PreparedDataMapping CowState) (at n : ℕ) (r : Result Unit Error)
-    → IfErr r IsExtRefusal → (IsErrOf r Error.WrapAround → Wraps f (m.offset + at) n) → m.offset + at + n ≤ blocks * block → IfErr r (allowed (mapping_write_reasons (cow_view f count bytes size block entries blocks v) m at n))
-mapping_refused f count bytes size block entries blocks v m at n (Ok x) only wraps inside = tt
-mapping_refused f count bytes size block entries blocks v m at n (Err e) only wraps inside = ⊎_elim
+    → IfErr r IsExtRefusal → (IsErrOf r Error.WrapAround → Wraps f (m.offset + at) n) → m.offset + at + n ≤ blocks * block
+    → (IsErrOf r Error.Memory → (o : ℕ) → IsFor (cow_view f count bytes size block entries blocks v) m at n o → IsDirect f f.write_memory (length bytes) block entries o n → ⊥) → IfErr r (allowed (mapping_write_reasons (cow_view f count bytes size block entries blocks v) m at n))
+mapping_refused f count bytes size block entries blocks v m at n (Ok x) only wraps inside takes = tt
+mapping_refused f count bytes size block entries blocks v m at n (Err e) only wraps inside takes = ⊎_elim
     (λ w. rw w (
       refl,
       λ o q.
@@ -130,7 +132,26 @@ mapping_refused f count bytes size block entries blocks v m at n (Err e) only wr
           (refl, record { from = m.offset + at; count = n; above = omega arith; below = omega (arith, inside, t); wraps = wraps (ap (λ x. Err x) w) }),
       wraps (ap (λ x. Err x) w),
     ))
-    (λ k. ⊎_elim (λ d. rw d tt) (λ y. rw y (λ o q z. z)) k) only
+    (λ k. ⊎_elim (λ d. rw d tt) (λ y. rw y (takes (ap (λ x. Err x) y))) k) only
+
+-- A refusal for want of memory of a write into a mapping whose places stand in data blocks.
+pub existing_takes : (f : Features) (count : ℕ) (bytes : List ℕ) (size block : ℕ) (entries : List GuestBlock) (blocks : ℕ) (v : Option Waiting) (m : PreparedDataMapping CowState) (st : Option CowState) (at n o : ℕ)
+    → is_none st ≡ true → 0 < n → (IsAlignedRequest f (m.offset + at) n → MayRunOut f.write_memory (length bytes) (m.offset + at + n))
+    → is_for (cow_view f count bytes size block entries blocks v) m st at n o → IsDirect f f.write_memory (length bytes) block entries o n → ⊥
+existing_takes f count bytes size block entries blocks v m None at n o stateless some memory stands d =
+    let q = direct_request f f.write_memory (length bytes) block entries o n bytes size m.storage (m.offset + at) some stands d in (q.1) (memory (q.0))
+existing_takes f count bytes size block entries blocks v m (Some s) at n o stateless some memory stands d = let z : ⊥ = cc in z
+
+-- The places of the mapping that waits stand in no data block yet.
+pub waiting_takes : (f : Features) (count : ℕ) (bytes : List ℕ) (size block : ℕ) (entries : List GuestBlock) (blocks : ℕ) (w : Waiting) (m : PreparedDataMapping CowState) (at n o : ℕ)
+    → 0 < block → WaitsApart block size entries blocks w → m.state ≡ Some w.state → 0 < n → at + n ≤ w.length
+    → IsFor (cow_view f count bytes size block entries blocks (Some w)) m at n o → IsDirect f f.write_memory (length bytes) block entries o n → ⊥
+waiting_takes f count bytes size block entries blocks w m at n o positive apart state some inside is_for_it d =
+    let x : is_for (cow_view f count bytes size block entries blocks (Some w)) m (Some w.state) at n o = rw state at is_for_it in
+    let from : w.start ≡ x.0.start = let e = x.1 in let y : pending_of block size bytes w ≡ x.0 = cc in ap (λ p. p.start) y in
+    let starts : o ≡ w.start + at = omega (arith, x.2, from) in
+    let same : o / block ≡ w.start / block = ap (λ i. i / block) starts ∙ same_block block positive w.start (w.start + at) (omega arith) (omega (arith, apart.in_block, inside, some, rest_small block positive w.start)) in
+    not_direct f f.write_memory (length bytes) block entries o n (ap (λ i. is_data (slice_get entries i)) same ∙ apart.free) d
 
 -- no request is refused as a foreign mapping
 pub not_foreign : {T : Type 0} (r : Result T Error) → IfErr r IsExtRefusal → IsErrOf r Error.ForeignMapping → ⊥

@@ -1,5 +1,5 @@
-use Rattle.std.proofs.Common.{◌≡◌, ℕ, ◌+◌, ◌-◌, ◌*◌, ◌/◌, ◌%◌, ◌<◌, ◌≤◌, Bool, true, List, Option, Some, None, refl, sym, ap, ◌∙◌, arith, Ok, min}
-use Rattle.std.specs.Prelude.{slice_get, slice_index}
+use Rattle.std.proofs.Common.{◌≡◌, ℕ, ◌+◌, ◌-◌, ◌*◌, ◌/◌, ◌%◌, ◌<◌, ◌≤◌, Bool, true, List, Option, Some, None, refl, sym, subst, ap, ◌∙◌, arith, Ok, min}
+use Rattle.std.specs.Prelude.{slice_get, slice_index, length}
 use Rattle.imago_storage.specs.Features.{Features}
 use Rattle.imago_drivers.specs.Operation.{Write}
 use Rattle.imago_drivers.specs.Place.{Value, Stored, PlacesAreWritableAt}
@@ -13,7 +13,7 @@ use Rattle.imago_cow.specs.declared.table.GuestBlock.{GuestBlock}
 use Rattle.imago_cow.specs.declared.cow.CowState.{CowState}
 use Rattle.imago_cow.specs.Guest.{entry_place, cow_place}
 use Rattle.imago_cow.specs.GuestLaws.{rest_small, same_block, same_rest, place_in}
-use Rattle.imago_cow.specs.Cow.{cow_view}
+use Rattle.imago_cow.specs.Cow.{cow_view, IsDirect}
 use Rattle.imago_cow.specs.CowLaws.{data_count_more}
 use Rattle.imago_cow.proofs.WholeSteps.{times_more}
 use Rattle.imago_cow.proofs.PrepareSteps.{padded_more}
@@ -61,7 +61,7 @@ module _ (f : Features) (count : ℕ) (bytes : List ℕ) (size block : ℕ) (ent
         some = λ h. omega (arith, long, len, r, some);
         part = long ∙ len;
         whole = λ h. omega (arith, long, len, h);
-        no_memory = λ h. absurd h;
+        no_memory = λ h. let all : n ≡ m.length = omega (arith, long, len, h.whole) in (h, subst (λ k. IsDirect f f.write_memory (length bytes) block entries o k) all h, λ t. t.1);
         later = λ i.
             let a = data_count_more block size entries blocks None Write o n o m.length (omega arith) (omega (arith, long, len)) in
             let b = padded_more f _ _ (times_more block _ _ a) in
@@ -80,7 +80,7 @@ module _ (f : Features) (count : ℕ) (bytes : List ℕ) (size block : ℕ) (ent
     some = λ h. absurd (omega (arith, h, none));
     part = omega (arith, long, none);
     whole = λ h. omega (arith, long, none);
-    no_memory = λ h. absurd h;
+    no_memory = λ h. let all : n ≡ m.length = omega (arith, long, none) in (h, subst (λ k. IsDirect f f.write_memory (length bytes) block entries o k) all h, λ t. t.1);
     later = λ i.
         let a = data_count_more block size entries blocks None Write o n o m.length (omega arith) (omega (arith, long)) in
         let b = padded_more f _ _ (times_more block _ _ a) in

@@ -19,7 +19,8 @@ use Rattle.imago_drivers.specs.Reasons.{allowed}
 use Rattle.imago_cow.specs.declared.table.GuestBlock.{GuestBlock}
 use Rattle.imago_cow.specs.declared.table.WithoutData.{WithoutData}
 use Rattle.imago_cow.specs.declared.table.WithoutData.TheVariants as W
-use Rattle.imago_cow.specs.Guest.{entry_place, IsExact, AreAdded}
+use Rattle.imago_cow.specs.Guest.{entry_place, is_data, IsExact, AreAdded}
+use Rattle.imago_cow.specs.Grown.{AddsData}
 use Rattle.imago_cow.specs.GuestLaws.{lies_in}
 use Rattle.imago_cow.specs.Growth.{SameOutside, KeepsBytes, IsPushed, IsExtended, fill_reasons}
 use Rattle.imago_cow.proofs.WholeSteps.{times_next, times_more}
@@ -106,6 +107,7 @@ pub record IsPushing (at : ℕ → Value) (keeps : Bool) (block end : ℕ) (star
   pub len : length now ≡ length start + done
   pub prefix : take (length start) now ≡ start
   pub extended : IsExtended at true keeps block (length start * block) (min end (length now * block)) start now old new
+  pub in_data : AddsData start now
   pub named : named_count now ≡ named_count start + done
   pub counted : count ≤ max before (named_count start + done)
 
@@ -119,9 +121,20 @@ pushing_none at keeps block end start old before = record {
     names = λ i j e. e;
     bytes = λ k i j r e s h. refl;
   };
+  in_data = λ i h l. absurd (omega (arith, h, l));
   named = omega arith;
   counted = omega arith;
 }
+
+-- one more guest block in a data block
+data_more : (start now next : List GuestBlock) (n : ℕ) → next ≡ now ++ GuestBlock.Data n ∷ [] → AddsData start now → AddsData start next
+data_more start now next n pushed was i h l = ⊎_elim
+    (λ under. ap (λ e. is_data (slice_get e i)) pushed ∙ ap is_data (get_left now (GuestBlock.Data n ∷ []) i under) ∙ was i h under)
+    (λ over.
+    let len : length next ≡ length now + 1 = ap length pushed ∙ length_push now (GuestBlock.Data n) in
+    let last : i ≡ length now = omega (arith, over, l, len) in
+    ap (λ e. is_data (slice_get e i)) pushed ∙ ap (λ k. is_data (slice_get (now ++ GuestBlock.Data n ∷ []) k)) last ∙ ap is_data (get_last now (GuestBlock.Data n)))
+    (cases_lt i (length now))
 
 pub pushing_more : (at : ℕ → Value) (keeps : Bool) (block end : ℕ) (start now next : List GuestBlock) (old new more : List ℕ) (before count later done : ℕ) → 0 < block → length now * block < end → IsPushing at keeps block end start now old new before count done
     → IsPushed at keeps block end now next new more → later ≤ max count (named_count now + 1) → IsPushing at keeps block end start next old more before later (done + 1)
@@ -138,6 +151,7 @@ pushing_more at keeps block end start now next old new more before count later d
       len = omega (arith, l, was.len);
       prefix = ap (take (length start)) (push.entries) ∙ take-append-le (length start) now (GuestBlock.Data n ∷ []) less ∙ was.prefix;
       extended = extended_more at true keeps block (length start * block) (length now * block) (min end (length next * block)) start now next old new more (times_more block (length start) (length now) less) first second;
+      in_data = data_more start now next n (push.entries) was.in_data;
       named = ap named_count (push.entries) ∙ sum_by_push names_any now (GuestBlock.Data n) ∙ (let z = was.named in omega (arith, z));
       counted = omega (arith, added, was.counted, was.named);
     }

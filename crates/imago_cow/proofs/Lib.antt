@@ -22,3 +22,5 @@ pub mod GrownSteps
 pub mod GrowthSteps
 pub mod GrowBounds
 pub mod CutEntries
+pub mod GrownEntries
+pub mod DirectSteps

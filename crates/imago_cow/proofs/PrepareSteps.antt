@@ -31,6 +31,7 @@ use Rattle.imago_cow.specs.GuestLaws.{rest_small, place_in, place_out, entry_at,
 use Rattle.imago_cow.specs.Copies.{old_value, block_from, block_until, IsInBlock, IsApart, round_reasons, over_reasons}
 use Rattle.imago_cow.specs.Cow.{cow_view, cow_cause, cow_copies, WaitsApart, waiting_byte, waiting_from, needs_data, has_waiting, guest_count, data_count, touched_from, touched_until, in_block, DataWraps}
 use Rattle.imago_cow.specs.CowLaws.{from_size, lower_place, stored_place, cow_only, data_wraps_more, count_settled, needs_more, copies_more, until_more}
+use Rattle.imago_cow.proofs.DirectSteps.{not_direct}
 use Rattle.imago_cow.proofs.WholeSteps.{times_more}
 use Rattle.imago_cow.proofs.MapSteps.{number_ends}
 use Rattle.imago_cow.proofs.NumberSteps.{named_number, number_one_more}
@@ -198,7 +199,7 @@ module _ (f : Features) (faults now_faults : ℕ) (bytes now : List ℕ) (size b
       some = λ h. omega (arith, long, apart.some);
       part = long ∙ len;
       whole = λ h. omega (arith, long, len, h);
-      no_memory = λ h. absurd h;
+      no_memory = λ h. absurd (not_direct f f.write_memory (length bytes) block entries o most (ap (λ i. is_data (slice_get entries (i / block))) start ∙ apart.free) h);
       later = λ i.
           let a = prepared_count f size block entries blocks now_blocks w positive covers apart added Write o most o m.length tt (omega (arith, start)) (omega (arith, start, some)) (omega arith) (omega (arith, long, len)) in
           let b = padded_more f _ _ (times_more block _ _ a) in
@@ -261,19 +262,19 @@ module _ (f : Features) (faults : ℕ) (bytes : List ℕ) (size block : ℕ) (en
   lower : (overwrite : Bool) (run : ℕ) (e : Error) → absent ≡ true → ((q : ℕ) × (m : ℕ) × IsInBlock block size o q m × (overwrite ≡ true → IsApart o run q m) × l.cause q m e) → CauseOver (cow_cause f block size entries blocks None) (cow_copies block size entries) l Write o most e
   lower overwrite run e t (q, m, inside, out, c) = inr (q, m, inside.some, copied_block t q m inside.above inside.below, c)
 
-  pub round_refused : (overwrite : Bool) (run : ℕ) (e : Error) → allowed (round_reasons f l absent overwrite block size o run start) e → allowed reasons e
-  round_refused overwrite run E.WrapAround c = ⊎_elim (λ w. inl (refl, block_wraps f block number (data_count block size entries blocks None Write o most) start starts known (w.1))) (λ d. lower overwrite run Error.WrapAround (d.0) (d.1)) c
-  round_refused overwrite run E.InvalidData c = ⊎_elim (λ w. let x : Error.InvalidData ≡ Error.WrapAround = w.0 in let z : ⊥ = cc in absurd z) (λ d. lower overwrite run Error.InvalidData (d.0) (d.1)) c
-  round_refused overwrite run E.Unsupported c = ⊎_elim (λ w. let x : Error.Unsupported ≡ Error.WrapAround = w.0 in let z : ⊥ = cc in absurd z) (λ d. lower overwrite run Error.Unsupported (d.0) (d.1)) c
-  round_refused overwrite run E.NoAccess c = ⊎_elim (λ w. let x : Error.NoAccess ≡ Error.WrapAround = w.0 in let z : ⊥ = cc in absurd z) (λ d. lower overwrite run Error.NoAccess (d.0) (d.1)) c
-  round_refused overwrite run E.Device c = tt
-  round_refused overwrite run E.Memory c = λ z. z
-  round_refused overwrite run E.ReadOnly c = c
-  round_refused overwrite run E.BeyondDisk c = absurd c
-  round_refused overwrite run E.RangeOverflow c = c
-  round_refused overwrite run E.ForeignMapping c = c
-  round_refused overwrite run E.Denied c = c
-  round_refused overwrite run E.NotFound c = c
+  pub round_refused : is_data (slice_get entries (o / block)) ≡ false → (overwrite : Bool) (run : ℕ) (e : Error) → allowed (round_reasons f l absent overwrite block size o run start) e → allowed reasons e
+  round_refused empty overwrite run E.WrapAround c = ⊎_elim (λ w. inl (refl, block_wraps f block number (data_count block size entries blocks None Write o most) start starts known (w.1))) (λ d. lower overwrite run Error.WrapAround (d.0) (d.1)) c
+  round_refused empty overwrite run E.InvalidData c = ⊎_elim (λ w. let x : Error.InvalidData ≡ Error.WrapAround = w.0 in let z : ⊥ = cc in absurd z) (λ d. lower overwrite run Error.InvalidData (d.0) (d.1)) c
+  round_refused empty overwrite run E.Unsupported c = ⊎_elim (λ w. let x : Error.Unsupported ≡ Error.WrapAround = w.0 in let z : ⊥ = cc in absurd z) (λ d. lower overwrite run Error.Unsupported (d.0) (d.1)) c
+  round_refused empty overwrite run E.NoAccess c = ⊎_elim (λ w. let x : Error.NoAccess ≡ Error.WrapAround = w.0 in let z : ⊥ = cc in absurd z) (λ d. lower overwrite run Error.NoAccess (d.0) (d.1)) c
+  round_refused empty overwrite run E.Device c = tt
+  round_refused empty overwrite run E.Memory c = not_direct f f.write_memory (length bytes) block entries o most empty
+  round_refused empty overwrite run E.ReadOnly c = c
+  round_refused empty overwrite run E.BeyondDisk c = absurd c
+  round_refused empty overwrite run E.RangeOverflow c = c
+  round_refused empty overwrite run E.ForeignMapping c = c
+  round_refused empty overwrite run E.Denied c = c
+  round_refused empty overwrite run E.NotFound c = c
 
 -- For overwriting nothing of the range is read.
 module _ (f : Features) (size block : ℕ) (entries : List GuestBlock) (blocks : ℕ) (l : LayerBelow) (absent overwrite : Bool) (o most run number start : ℕ) (here : absent ≡ true → slice_get entries (o / block) ≡ Some GuestBlock.Absent)

@@ -22,6 +22,15 @@ slice_get_take [] (suc n) i h = refl
 slice_get_take (x ∷ xs) (suc n) zero h = refl
 slice_get_take (x ∷ xs) (suc n) (suc i) h = slice_get_take xs n i (omega arith)
 
+-- what was taken is taken again by its own length
+take_length : {X : Type 0} (xs : List X) (n : ℕ) → take (length (take n xs)) xs ≡ take n xs
+take_length xs zero = refl
+take_length [] (suc n) = refl
+take_length (x ∷ xs) (suc n) = ap (λ t. x ∷ t) (take_length xs n)
+
+pub taken_again : {X : Type 0} (n : ℕ) (old new : List X) → new ≡ take n old → new ≡ take (length new) old
+taken_again n old new e = e ∙ sym (take_length old n) ∙ ap (λ t. take (length t) old) (sym e)
+
 -- the entries that a cut disk needs are there
 enough : (block size new_size len n : ℕ) → new_size ≤ size → size ≤ len * block → n * block < new_size + block → n ≤ len
 enough block size new_size len n h covers near =

@@ -82,17 +82,19 @@ err_holds x e h = rw e at h
 not_ext : {e : Error} → IsExtRefusal e → (e ≡ Error.WrapAround → ⊥) → (e ≡ Error.Device → ⊥) → (e ≡ Error.Memory → ⊥) → ⊥
 not_ext h w d m = ⊎_elim w (λ k. ⊎_elim d m k) h
 
--- Why a request at the storage was refused, as one on the places that stand there: D is what a failed device means.
-pub request_refused : (f : Features) (bytes : List ℕ) (size block : ℕ) (entries : List GuestBlock) (blocks : ℕ) (waiting : Option Waiting) (op : Operation) (s at n : ℕ) (D : Type 0) (r : Result Unit Error)
+-- Why a request at the storage was refused, as one on the places that stand there: D is what a failed device means, and `free` when
+-- one on places from an offset on takes no memory.
+pub request_refused : (f : Features) (bytes : List ℕ) (size block : ℕ) (entries : List GuestBlock) (blocks : ℕ) (waiting : Option Waiting) (op : Operation) (s at n : ℕ) (D : Type 0) (r : Result Unit Error) (free : ℕ → Type 0)
+    → (IsErrOf r Error.Memory → (x : ℕ) → PlacesStandAt (cow_place bytes size block entries) s at n x → free x → ⊥)
     → 0 < block → ((i j : ℕ) → slice_get entries i ≡ Some (GuestBlock.Data j) → j < blocks) → uses_data op ≡ true
     → IfErr r IsExtRefusal → (IsErrOf r Error.Device → D) → (IsErrOf r Error.WrapAround → Wraps f at n)
     → IfErr r (allowed record none {
       cause = λ e. (e ≡ Error.WrapAround) × ((x : ℕ) → PlacesStandAt (cow_place bytes size block entries) s at n x → cow_cause f block size entries blocks waiting op x n e) × Wraps f at n;
       device = D;
-      memory = (x : ℕ) → PlacesStandAt (cow_place bytes size block entries) s at n x → ⊥ → ⊥;
+      memory = (x : ℕ) → PlacesStandAt (cow_place bytes size block entries) s at n x → free x → ⊥;
     })
-request_refused f bytes size block entries blocks waiting op s at n D (Ok u) positive known uses only device wraps = tt
-request_refused f bytes size block entries blocks waiting op s at n D (Err E.WrapAround) positive known uses only device wraps =
+request_refused f bytes size block entries blocks waiting op s at n D (Ok u) free takes positive known uses only device wraps = tt
+request_refused f bytes size block entries blocks waiting op s at n D (Err E.WrapAround) free takes positive known uses only device wraps =
     let w = wraps refl in (
       refl,
       λ x q.
@@ -101,14 +103,14 @@ request_refused f bytes size block entries blocks waiting op s at n D (Err E.Wra
           (uses, record { from = at; count = n; above = omega arith; below = omega (arith, h, m); wraps = w }),
       w,
     )
-request_refused f bytes size block entries blocks waiting op s at n D (Err E.Device) positive known uses only device wraps = device refl
-request_refused f bytes size block entries blocks waiting op s at n D (Err E.Memory) positive known uses only device wraps = λ x q z. z
-request_refused f bytes size block entries blocks waiting op s at n D (Err E.ReadOnly) positive known uses only device wraps = absurd (not_ext only (λ a. let z : ⊥ = cc in z) (λ a. let z : ⊥ = cc in z) (λ a. let z : ⊥ = cc in z))
-request_refused f bytes size block entries blocks waiting op s at n D (Err E.BeyondDisk) positive known uses only device wraps = absurd (not_ext only (λ a. let z : ⊥ = cc in z) (λ a. let z : ⊥ = cc in z) (λ a. let z : ⊥ = cc in z))
-request_refused f bytes size block entries blocks waiting op s at n D (Err E.RangeOverflow) positive known uses only device wraps = absurd (not_ext only (λ a. let z : ⊥ = cc in z) (λ a. let z : ⊥ = cc in z) (λ a. let z : ⊥ = cc in z))
-request_refused f bytes size block entries blocks waiting op s at n D (Err E.InvalidData) positive known uses only device wraps = absurd (not_ext only (λ a. let z : ⊥ = cc in z) (λ a. let z : ⊥ = cc in z) (λ a. let z : ⊥ = cc in z))
-request_refused f bytes size block entries blocks waiting op s at n D (Err E.Unsupported) positive known uses only device wraps = absurd (not_ext only (λ a. let z : ⊥ = cc in z) (λ a. let z : ⊥ = cc in z) (λ a. let z : ⊥ = cc in z))
-request_refused f bytes size block entries blocks waiting op s at n D (Err E.NoAccess) positive known uses only device wraps = absurd (not_ext only (λ a. let z : ⊥ = cc in z) (λ a. let z : ⊥ = cc in z) (λ a. let z : ⊥ = cc in z))
-request_refused f bytes size block entries blocks waiting op s at n D (Err E.ForeignMapping) positive known uses only device wraps = absurd (not_ext only (λ a. let z : ⊥ = cc in z) (λ a. let z : ⊥ = cc in z) (λ a. let z : ⊥ = cc in z))
-request_refused f bytes size block entries blocks waiting op s at n D (Err E.Denied) positive known uses only device wraps = absurd (not_ext only (λ a. let z : ⊥ = cc in z) (λ a. let z : ⊥ = cc in z) (λ a. let z : ⊥ = cc in z))
-request_refused f bytes size block entries blocks waiting op s at n D (Err E.NotFound) positive known uses only device wraps = absurd (not_ext only (λ a. let z : ⊥ = cc in z) (λ a. let z : ⊥ = cc in z) (λ a. let z : ⊥ = cc in z))
+request_refused f bytes size block entries blocks waiting op s at n D (Err E.Device) free takes positive known uses only device wraps = device refl
+request_refused f bytes size block entries blocks waiting op s at n D (Err E.Memory) free takes positive known uses only device wraps = takes refl
+request_refused f bytes size block entries blocks waiting op s at n D (Err E.ReadOnly) free takes positive known uses only device wraps = absurd (not_ext only (λ a. let z : ⊥ = cc in z) (λ a. let z : ⊥ = cc in z) (λ a. let z : ⊥ = cc in z))
+request_refused f bytes size block entries blocks waiting op s at n D (Err E.BeyondDisk) free takes positive known uses only device wraps = absurd (not_ext only (λ a. let z : ⊥ = cc in z) (λ a. let z : ⊥ = cc in z) (λ a. let z : ⊥ = cc in z))
+request_refused f bytes size block entries blocks waiting op s at n D (Err E.RangeOverflow) free takes positive known uses only device wraps = absurd (not_ext only (λ a. let z : ⊥ = cc in z) (λ a. let z : ⊥ = cc in z) (λ a. let z : ⊥ = cc in z))
+request_refused f bytes size block entries blocks waiting op s at n D (Err E.InvalidData) free takes positive known uses only device wraps = absurd (not_ext only (λ a. let z : ⊥ = cc in z) (λ a. let z : ⊥ = cc in z) (λ a. let z : ⊥ = cc in z))
+request_refused f bytes size block entries blocks waiting op s at n D (Err E.Unsupported) free takes positive known uses only device wraps = absurd (not_ext only (λ a. let z : ⊥ = cc in z) (λ a. let z : ⊥ = cc in z) (λ a. let z : ⊥ = cc in z))
+request_refused f bytes size block entries blocks waiting op s at n D (Err E.NoAccess) free takes positive known uses only device wraps = absurd (not_ext only (λ a. let z : ⊥ = cc in z) (λ a. let z : ⊥ = cc in z) (λ a. let z : ⊥ = cc in z))
+request_refused f bytes size block entries blocks waiting op s at n D (Err E.ForeignMapping) free takes positive known uses only device wraps = absurd (not_ext only (λ a. let z : ⊥ = cc in z) (λ a. let z : ⊥ = cc in z) (λ a. let z : ⊥ = cc in z))
+request_refused f bytes size block entries blocks waiting op s at n D (Err E.Denied) free takes positive known uses only device wraps = absurd (not_ext only (λ a. let z : ⊥ = cc in z) (λ a. let z : ⊥ = cc in z) (λ a. let z : ⊥ = cc in z))
+request_refused f bytes size block entries blocks waiting op s at n D (Err E.NotFound) free takes positive known uses only device wraps = absurd (not_ext only (λ a. let z : ⊥ = cc in z) (λ a. let z : ⊥ = cc in z) (λ a. let z : ⊥ = cc in z))

@@ -1,6 +1,6 @@
 use Rattle.std.specs.Prelude.{◌≡◌, ℕ, ◌+◌, ◌-◌, ◌*◌, ◌%◌, ◌/◌, ◌<◌, ◌≤◌, ◌⊎◌, ◌||◌, Bool, true, false, List, length, slice_index, slice_get, Option, Some, None, if◌then◌else◌, nat_lt, nat_eq, max, min}
 use Rattle.imago_storage.specs.declared.error.Error.TheVariants as E
-use Rattle.imago_storage.specs.Features.{Features, MayRunOut}
+use Rattle.imago_storage.specs.Features.{Features, MemoryUse, IsAlignedRequest, MayRunOut}
 use Rattle.imago_storage.specs.Padding.{Wraps, aligned_start}
 use Rattle.imago_drivers.specs.declared.format.Format.TheVariants as Format
 use Rattle.imago_drivers.specs.declared.format.PreallocateMode.{PreallocateMode}
@@ -15,7 +15,7 @@ use Rattle.imago_drivers.specs.View.{View}
 use Rattle.imago_cow.specs.declared.table.GuestBlock.{GuestBlock}
 use Rattle.imago_cow.specs.declared.cow.CowState.{CowState}
 use Rattle.imago_cow.specs.declared.cow.Waiting.{Waiting}
-use Rattle.imago_cow.specs.Guest.{cow_place, is_data, number_of, is_touched, IsWholeBlock, IsWholePart}
+use Rattle.imago_cow.specs.Guest.{origin_in, cow_place, is_data, number_of, is_touched, IsWholeBlock, IsWholePart}
 
 -- The places that an operation may make data of, from there on: those of its range, and of a growth the new ones.
 abbrev pub touched_from : ℕ → Operation → ℕ → ℕ
@@ -125,18 +125,28 @@ cow_copies block size entries DiscardToBacking o n p = ⊥
 cow_copies block size entries Shrink o n p = ⊥
 cow_copies block size entries Flush o n p = ⊥
 
--- Mappings, zero calls, discards and cuts take no memory.
-abbrev pub cow_no_memory : Features → Operation → Type 0
-cow_no_memory f Map = Unit {0}
-cow_no_memory f Zero = Unit {0}
-cow_no_memory f DiscardToZero = Unit {0}
-cow_no_memory f DiscardToAny = Unit {0}
-cow_no_memory f DiscardToBacking = Unit {0}
-cow_no_memory f Shrink = Unit {0}
-cow_no_memory f Flush = MayRunOut f.other_memory 0 0 → ⊥
-cow_no_memory f Read = ⊥
-cow_no_memory f Write = ⊥
-cow_no_memory f (Grow mode) = ⊥
+-- The n bytes of the disk from o on lie in one guest block, and stand in its data block as one request that the storage takes as it
+-- is, and takes no memory for.
+pub record IsDirect (f : Features) (memory : MemoryUse) (len block : ℕ) (entries : List GuestBlock) (o n : ℕ) : Type 0 where
+  pub number : ℕ
+  pub named : slice_get entries (o / block) ≡ Some (GuestBlock.Data number)
+  pub whole : o % block + n ≤ block
+  pub aligned : IsAlignedRequest f (origin_in block number o) n
+  pub free : MayRunOut memory len (origin_in block number o + n) → ⊥
+
+-- Mappings, zero calls, discards and cuts take no memory, nor do reads of a guest block without data, and reads and writes of data that
+-- the storage takes none for. A write that takes a data block may take some, and so may a growth.
+abbrev pub cow_no_memory : Features → ℕ → ℕ → List GuestBlock → Operation → ℕ → ℕ → Type 0
+cow_no_memory f len block entries Map o n = Unit {0}
+cow_no_memory f len block entries Zero o n = Unit {0}
+cow_no_memory f len block entries DiscardToZero o n = Unit {0}
+cow_no_memory f len block entries DiscardToAny o n = Unit {0}
+cow_no_memory f len block entries DiscardToBacking o n = Unit {0}
+cow_no_memory f len block entries Shrink o n = Unit {0}
+cow_no_memory f len block entries Flush o n = MayRunOut f.other_memory 0 0 → ⊥
+cow_no_memory f len block entries Read o n = ((o % block + n ≤ block) × (is_data (slice_get entries (o / block)) ≡ false)) ⊎ IsDirect f f.read_memory len block entries o n
+cow_no_memory f len block entries Write o n = IsDirect f f.write_memory len block entries o n
+cow_no_memory f len block entries (Grow mode) o n = ⊥
 
 -- how far a mapping goes that is asked for: no further than the guest block
 abbrev pub in_block : ℕ → ℕ → ℕ → ℕ
@@ -210,7 +220,7 @@ cow_view f fault_count bytes size block entries blocks waiting = record {
   limits = record {
     cause = cow_cause f block size entries blocks waiting;
     copies = cow_copies block size entries;
-    no_memory = λ op o n. cow_no_memory f op;
+    no_memory = cow_no_memory f (length bytes) block entries;
     commit_memory = ⊥;
     whole = cow_whole block size;
     answers = cow_answers block size;

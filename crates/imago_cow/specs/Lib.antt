@@ -11,3 +11,5 @@ pub mod CowImage
 pub mod Worked
 pub mod Growth
 pub mod Cut
+pub mod Grown
+pub mod CowCalls

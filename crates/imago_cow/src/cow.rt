@@ -2,6 +2,7 @@
 ghost use Rattle.std.specs.Prelude.{◌≡◌, ℕ, ◌+◌, ◌*◌, ◌/◌, ◌^◌, ◌<◌, ◌≤◌, ◌↔◌, None, Some, IfOk, IfErr, IsOk, IsTrue, max, slice_get, true, false};
 ghost use Rattle.std.specs.Int.{is_power_of_two};
 ghost use Rattle.std.specs.Option.{ForSome};
+ghost use Rattle.imago_drivers.specs.CallRelations.{IsEnsuredInParts};
 ghost use Rattle.imago_drivers.specs.Place.{Lower, BytesAreWritable, HasStranger, values};
 ghost use Rattle.imago_drivers.specs.LayerBelow.{lent};
 ghost use Rattle.imago_drivers.specs.Reasons.{none, allowed};
@@ -39,7 +40,8 @@ use imago_storage::storage::Storage;
 use std::alloc::Global;
 use std::fmt::{self, Display, Formatter, Write};
 
-/// What a prepared mapping of a [`Cow`] holds until it is committed. It has no public parts.
+/// What a prepared mapping of a [`Cow`] holds until it is committed: its number among those that the disk prepared. Two disks count
+/// alike, so it doesn't tell whose the mapping is. It has no public parts.
 #[derive(Clone, Copy, Debug, PartialEq, Eq)]
 pub struct CowState {
     pub(crate) ticket: u64,
@@ -65,6 +67,10 @@ pub struct Waiting {
 ///
 /// A write into a guest block without data takes the lowest free data block, or a new one behind all others, copies what
 /// stands round the written part, and shows it on commit.
+///
+/// A prepared mapping is known by its bytes of the storage and by its number: each that waits for its commit has the next one. A disk
+/// has nothing else to know its mappings by. So one of another disk is [`Error::ForeignMapping`] only where its bytes or its number
+/// differ; where both are those of the mapping that waits here, it is taken for that one. Give each back to the disk that it is of.
 #[derive(Drop)]
 pub struct Cow<S: Storage> {
     storage: S,
@@ -84,7 +90,7 @@ pub struct Cow<S: Storage> {
 }
 
 impl<S: Storage> Cow<S> {
-    ghost use Rattle.imago_cow.specs.CowImage.{storage_in, size_of, block_of, blocks_of, data_blocks_of, waiting_in};
+    ghost use Rattle.imago_cow.specs.CowImage.{storage_in, size_of, block_of, blocks_of, data_blocks_of, used_in, waiting_in, tickets_of};
 
     /// A disk of that size over a storage, in blocks of `block` bytes. Each place leads to the layer below, at the same
     /// offset, and nothing waits to be committed. `block` is a power of two from 1 to 1048576.
@@ -96,6 +102,9 @@ impl<S: Storage> Cow<S> {
         ensures made { IfOk result
             (λ d. (storage_in d ≡ «storage») × (size_of d ≡ «size») × (block_of d ≡ «block») × (waiting_in d ≡ None) ×
             (data_blocks_of d ≡ 0)) }
+        ensures faults { IfOk result
+            (λ d. (⟦<Cow<S> as FormatDriverInstance>⟧.view d).fault_count ≡ S.fault_count «storage») }
+        ensures tickets { IfOk result (λ d. tickets_of d ≡ 0) }
         ensures leads_below { IfOk result
             (λ d. (bytes : _) (p : ℕ)
             → p < size
@@ -122,11 +131,12 @@ impl<S: Storage> Cow<S> {
         self.block
     }
 
-    /// How many data blocks guest blocks are in.
+    /// How many data blocks are used: those that guest blocks are in, and that of a prepared mapping until it is spent. All others
+    /// are free.
     pub fn blocks_used(&self) -> u64
-        ensures { result ≡ named_count (blocks_of self.now) }
+        ensures { result ≡ used_in self.now }
     {
-        self.table.used()
+        self.table.taken()
     }
 
     /// Whether places of the disk stand in each byte of a range of a storage.
@@ -186,6 +196,7 @@ impl<S: Storage> Display for Cow<S> {
 
 impl<S: Storage> FormatDriverInstance for Cow<S> {
     ghost use Rattle.imago_cow.specs.CowImage.{storage_in, size_of, block_of, blocks_of, data_blocks_of, waiting_in};
+    ghost use Rattle.imago_cow.specs.CowCalls.{KeepsDisk, IsStorageRead, HasNoSpecial, IsClearing, IsCowPreparing, IsCowCommit, IsCowCancel, IsCowGrowth, IsCowCut};
 
     type Storage = S;
 
@@ -197,15 +208,26 @@ impl<S: Storage> FormatDriverInstance for Cow<S> {
 
     ghost probe_reasons = { λ _. none };
 
-    ghost flushes = { record {
-      flushed = λ a b r. S.maintenance.flushed a.storage b.storage r × (b.size ≡ a.size) × (b.block ≡ a.block) × (b.table ≡ a.table) × (b.waiting ≡ a.waiting) × (b.tickets ≡ a.tickets) × (b.faults ≡ a.faults);
-      synced = λ a b r. S.maintenance.synced a.storage b.storage r × (b.size ≡ a.size) × (b.block ≡ a.block) × (b.table ≡ a.table) × (b.waiting ≡ a.waiting) × (b.tickets ≡ a.tickets) × (b.faults ≡ a.faults);
-      invalidated = λ a b r. S.maintenance.invalidated a.storage b.storage r × (b.size ≡ a.size) × (b.block ≡ a.block) × (b.table ≡ a.table) × (b.waiting ≡ a.waiting) × (b.tickets ≡ a.tickets) × (b.faults ≡ a.faults);
-    } };
-
-    ghost discards = { record {
-      to_any = λ o n a b r. (b.storage ≡ a.storage) × IsMade o n a.size a.block GuestBlock.Zero (entries_of a.table) (entries_of b.table) r;
-      to_backing = λ o n a b r. (b.storage ≡ a.storage) × IsMade o n a.size a.block GuestBlock.Absent (entries_of a.table) (entries_of b.table) r;
+    ghost calls = { record {
+      mapped = λ o n d r. IsOk r;
+      read = λ index o n d r. IsStorageRead (S.features (storage_in d)) (S.bytes (storage_in d)) o n r;
+      read_special = λ o n d r. HasNoSpecial n r;
+      put = λ index bytes o a b r. KeepsDisk a b;
+      zeroed = λ o n a b r. IsClearing GuestBlock.Zero o n a b r;
+      discarded_to_zero = λ o n a b r. IsClearing GuestBlock.Zero o n a b r;
+      discarded_to_any = λ o n a b r. IsClearing GuestBlock.Zero o n a b r;
+      discarded_to_backing = λ o n a b r. IsClearing GuestBlock.Absent o n a b r;
+      prepared = λ below o n overwrite a b r. IsCowPreparing a b r;
+      filled = λ m bytes at a b r. KeepsDisk a b;
+      committed = λ m a b r. IsCowCommit m a b;
+      cancelled = λ m a b. IsCowCancel m a b;
+      ensured = λ below o n overwrite a b r. IsEnsuredInParts (λ l p c w x y z. IsCowPreparing x y z) (λ m x y z. IsCowCommit m x y) below o n overwrite a b r;
+      by_parts = λ below o n overwrite a b r h. h;
+      grown = λ n mode below a b r. IsCowGrowth n mode a b r;
+      cut = λ n a b r. IsCowCut n a b r;
+      flushed = λ a b r. S.maintenance.flushed (storage_in a) (storage_in b) r × KeepsDisk a b;
+      synced = λ a b r. S.maintenance.synced (storage_in a) (storage_in b) r × KeepsDisk a b;
+      invalidated = λ a b r. S.maintenance.invalidated (storage_in a) (storage_in b) r × KeepsDisk a b;
     } };
 
     ghost lawful = { λ d. cow_lawful (S.features d.storage) (S.fault_count d.storage + d.faults) (S.bytes d.storage) d.size d.block (entries_of d.table) (count_of d.table) d.waiting d.positive d.exact.covers (named_once d.table) };
@@ -298,6 +320,7 @@ impl<S: Storage> FormatDriverInstance for Cow<S> {
         requires spent { (⟦<Cow<S> as FormatDriverInstance>⟧.view self.old).pending ≡ None }
         requires inside { offset + count ≤ (⟦<Cow<S> as FormatDriverInstance>⟧.view self.old).size }
         ensures call { IsZeroCall Zero offset count (⟦<Cow<S> as FormatDriverInstance>⟧.view self.old) (⟦<Cow<S> as FormatDriverInstance>⟧.view self.new) result }
+        ensures performed { ⟦<Cow<S> as FormatDriverInstance>⟧.calls.zeroed offset count self.old self.new result }
         ensures made { IsMade offset count (size_of self.old) (block_of self.old) GuestBlock.Zero (blocks_of self.old) (blocks_of self.new) result }
         ensures storage { storage_in self.new ≡ storage_in self.old }
     {
@@ -313,6 +336,7 @@ impl<S: Storage> FormatDriverInstance for Cow<S> {
         requires spent { (⟦<Cow<S> as FormatDriverInstance>⟧.view self.old).pending ≡ None }
         requires inside { offset + count ≤ (⟦<Cow<S> as FormatDriverInstance>⟧.view self.old).size }
         ensures call { IsZeroCall DiscardToZero offset count (⟦<Cow<S> as FormatDriverInstance>⟧.view self.old) (⟦<Cow<S> as FormatDriverInstance>⟧.view self.new) result }
+        ensures performed { ⟦<Cow<S> as FormatDriverInstance>⟧.calls.discarded_to_zero offset count self.old self.new result }
         ensures made { IsMade offset count (size_of self.old) (block_of self.old) GuestBlock.Zero (blocks_of self.old) (blocks_of self.new) result }
         ensures storage { storage_in self.new ≡ storage_in self.old }
     {
@@ -364,6 +388,7 @@ impl<S: Storage> FormatDriverInstance for Cow<S> {
             → slice_get (blocks_of self.old) (offset / block_of self.old) ≡ Some (GuestBlock.Data j)
             → IsOk result × (storage_in self.new ≡ storage_in self.old) × (data_blocks_of self.new ≡ data_blocks_of self.old) ×
             (waiting_in self.new ≡ waiting_in self.old) }
+        ensures performed { ⟦<Cow<S> as FormatDriverInstance>⟧.calls.prepared (lent B.as_layer_below below.entry) offset count overwrite self.old self.new result }
         ensures over { overwrite ≡ true
             → IfErr result
             (allowed
@@ -380,7 +405,6 @@ impl<S: Storage> FormatDriverInstance for Cow<S> {
             return Ok(PreparedDataMapping::existing(0, number * self.block + rest, run));
         }
         let ticket = self.tickets.wrapping_add(1);
-        self.tickets = ticket;
         let waiting = prepare_part(
             &mut self.storage,
             &mut self.faults,
@@ -397,6 +421,7 @@ impl<S: Storage> FormatDriverInstance for Cow<S> {
             },
             CowState { ticket },
         )?;
+        self.tickets = ticket;
         self.waiting = Some(waiting);
         Ok(PreparedDataMapping::to_commit(0, waiting.offset, waiting.length, waiting.state))
     }
@@ -428,7 +453,8 @@ impl<S: Storage> FormatDriverInstance for Cow<S> {
     }
 
     fn commit_data_mapping(&mut self, mapping: PreparedDataMapping<CowState>) -> Result<(), Error>
-        ensures { IsCommit ⟦<Cow<S> as FormatDriverInstance>⟧.view self.old self.new mapping result }
+        ensures call { IsCommit ⟦<Cow<S> as FormatDriverInstance>⟧.view self.old self.new mapping result }
+        ensures performed { ⟦<Cow<S> as FormatDriverInstance>⟧.calls.committed mapping self.old self.new result }
     {
         let own = is_waiting(self.waiting, &mapping);
         let Some(_) = mapping.into_state() else {
@@ -446,7 +472,8 @@ impl<S: Storage> FormatDriverInstance for Cow<S> {
     }
 
     fn cancel_data_mapping(&mut self, mapping: PreparedDataMapping<CowState>)
-        ensures { IsCancel ⟦<Cow<S> as FormatDriverInstance>⟧.view self.old self.new mapping }
+        ensures call { IsCancel ⟦<Cow<S> as FormatDriverInstance>⟧.view self.old self.new mapping }
+        ensures performed { ⟦<Cow<S> as FormatDriverInstance>⟧.calls.cancelled mapping self.old self.new }
     {
         let own = is_waiting(self.waiting, &mapping);
         let _ = mapping.into_state();
@@ -487,10 +514,15 @@ impl<S: Storage> FormatDriverInstance for Cow<S> {
     fn resize_shrink(&mut self, new_size: u64) -> Result<(), Error>
         requires spent { (⟦<Cow<S> as FormatDriverInstance>⟧.view self.old).pending ≡ None }
         ensures call { IsShrink new_size (⟦<Cow<S> as FormatDriverInstance>⟧.view self.old) (⟦<Cow<S> as FormatDriverInstance>⟧.view self.new) result }
+        ensures performed { ⟦<Cow<S> as FormatDriverInstance>⟧.calls.cut new_size self.old self.new result }
         ensures done { IsOk result }
         ensures storage { storage_in self.new ≡ storage_in self.old }
     {
-        self.size = shrink(&mut self.table, self.block, self.size, new_size);
+        if new_size >= self.size {
+            return Ok(());
+        }
+        shrink(&mut self.table, self.block, self.size, new_size);
+        self.size = new_size;
         Ok(())
     }
 

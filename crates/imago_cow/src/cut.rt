@@ -12,6 +12,7 @@ ghost use Rattle.imago_cow.specs.TableView.{entries_of, held_of, count_of};
 ghost use Rattle.imago_cow.specs.Guest.{entry_place, is_data};
 ghost use Rattle.imago_cow.specs.Copies.{old_value};
 ghost use Rattle.imago_cow.specs.Growth.{fill_reasons};
+ghost use Rattle.imago_cow.specs.Grown.{IsCutGrown};
 ghost use Rattle.imago_cow.specs.Cut.{IsCutEmpty, IsCutEntered, IsCutFilled, IsCutRead, IsTaken, shows_below};
 
 use crate::copy::copy_old;
@@ -189,6 +190,8 @@ pub(crate) fn fill_cut<S: Storage, B: LowerLayer>(
         growth.block growth.size growth.new_size (entries_of table.old) (entries_of table.new) (S.bytes storage.old) (S.bytes storage.new)) }
     ensures entries { OnErr result (entries_of table.new ≡ entries_of table.old) }
     ensures entry { OnOk result (IsCutEntered growth.block growth.size (entries_of table.old) (entries_of table.new)) }
+    ensures grown { OnOk result
+        (IsCutGrown growth.mode growth.block growth.size (entries_of table.old) (entries_of table.new)) }
     ensures places { IsTrue (S.features storage.old).keeps_data
         → (p : ℕ)
         → p < growth.size

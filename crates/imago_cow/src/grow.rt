@@ -5,6 +5,7 @@ ghost use Rattle.imago_drivers.specs.LayerBelow.{lent};
 ghost use Rattle.imago_drivers.specs.declared.format.PreallocateMode.{PreallocateMode};
 ghost use Rattle.imago_cow.specs.TableView.{entries_of, held_of, count_of};
 ghost use Rattle.imago_cow.specs.Guest.{IsExact};
+ghost use Rattle.imago_cow.specs.Grown.{AreGrown};
 ghost use Rattle.imago_cow.specs.Cow.{cow_view};
 
 use crate::cut::{empty_cut, fill_cut, restore_cut};
@@ -39,6 +40,8 @@ fn grow_with<S: Storage, B: LowerLayer>(
         (λ e. IsGrowth growth.mode (lent B.as_layer_below below.entry) growth.new_size
         (cow_view (S.features storage.old) (S.fault_count storage.old + faults.old) (S.bytes storage.old) growth.size growth.block (entries_of table.old) (count_of table.old) None)
         (cow_view (S.features storage.old) (S.fault_count storage.new + faults.new) (S.bytes storage.new) growth.size growth.block (entries_of table.old) (count_of table.new) None) (Err e)) }
+    ensures blocks { OnOk result
+        (AreGrown growth.mode growth.block growth.size (entries_of table.old) (entries_of table.new)) }
     ensures exact_now { OnOk result (IsExact growth.new_size growth.block (entries_of table.new)) }
     ensures entries { OnErr result (entries_of table.new ≡ entries_of table.old) }
     ensures held { held_of table.new ≡ None }
@@ -77,6 +80,8 @@ pub(crate) fn grow<S: Storage, B: LowerLayer>(
         (λ e. IsGrowth growth.mode (lent B.as_layer_below below.entry) growth.new_size
         (cow_view (S.features storage.old) (S.fault_count storage.old + faults.old) (S.bytes storage.old) growth.size growth.block (entries_of table.old) (count_of table.old) None)
         (cow_view (S.features storage.old) (S.fault_count storage.new + faults.new) (S.bytes storage.new) growth.size growth.block (entries_of table.old) (count_of table.new) None) (Err e)) }
+    ensures blocks { OnOk result
+        (AreGrown growth.mode growth.block growth.size (entries_of table.old) (entries_of table.new)) }
     ensures exact_now { OnOk result (IsExact growth.new_size growth.block (entries_of table.new)) }
     ensures entries { OnErr result (entries_of table.new ≡ entries_of table.old) }
     ensures held { held_of table.new ≡ None }

@@ -6,11 +6,12 @@ ghost use Rattle.imago_cow.specs.Worked.{two_named, one_named};
 ghost use Rattle.imago_cow.specs.Table.{IsLowestUnused, without_data, named_count, held_count, times_used, one_below};
 ghost use Rattle.imago_cow.specs.Free.{times_free, free_count};
 ghost use Rattle.imago_cow.specs.Cow.{number_of_waiting};
-ghost use Rattle.imago_cow.specs.CowImage.{blocks_of, data_blocks_of, free_in, waiting_in};
+ghost use Rattle.imago_cow.specs.CowImage.{storage_in, blocks_of, data_blocks_of, free_in, used_in, waiting_in};
 ghost use Rattle.imago_cow.specs.TableView.{entries_of, held_of, count_of, free_of};
 
 use crate::cow::Cow;
 use crate::table::Table;
+use imago_drivers::drivers::FormatDriverInstance;
 use imago_storage::storage::Storage;
 
 /// Each data block is free, or named by exactly one entry, or held; one that is not there is none of these.
@@ -37,6 +38,17 @@ pub fn data_blocks_of_a_disk<S: Storage>(disk: &Cow<S>)
         → times_free j (free_in disk.now) + times_used j (blocks_of disk.now)
         (number_of_waiting (waiting_in disk.now))
         ≡ one_below j (data_blocks_of disk.now) }
+{}
+
+/// The free data blocks of a disk and the used ones, as [`Cow::blocks_used`] counts them, are all.
+pub fn data_blocks_of_a_disk_are_counted<S: Storage>(disk: &Cow<S>)
+    ensures { free_count (free_in disk.now) + used_in disk.now ≡ data_blocks_of disk.now }
+{}
+
+/// A disk keeps what is written to it exactly where its storage does.
+pub fn a_disk_keeps_what_its_storage_keeps<S: Storage>(disk: &Cow<S>)
+    ensures { (⟦<Cow<S> as FormatDriverInstance>⟧.view disk.now).abilities.keeps_data
+        ≡ (S.features (storage_in disk.now)).keeps_data }
 {}
 
 /// The free ones, the named ones and the held one are all.

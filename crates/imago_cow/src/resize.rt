@@ -9,6 +9,8 @@ ghost use Rattle.imago_drivers.specs.Reasons.{allowed};
 ghost use Rattle.imago_cow.specs.Guest.{IsExact, AreAdded};
 ghost use Rattle.imago_cow.specs.Growth.{IsPushed, IsExtended, KeepsBytes, fill_reasons};
 ghost use Rattle.imago_cow.specs.Cut.{shows_below};
+ghost use Rattle.imago_cow.specs.Grown.{AddsData};
+ghost use Rattle.imago_cow.specs.declared.table.GuestBlock.{GuestBlock};
 ghost use Rattle.imago_cow.specs.Cow.{cow_view};
 ghost use Rattle.imago_cow.specs.Table.{without_data, named_count};
 ghost use Rattle.imago_cow.specs.TableView.{entries_of, held_of, count_of, room_of, KeepsRoom};
@@ -61,25 +63,22 @@ pub(crate) fn adds_nothing(mode: PreallocateMode) -> bool
     }
 }
 
-/// Cuts the disk to that size, and answers the size that it has then. The guest blocks behind it are dropped, and their
-/// data blocks are free. It takes no memory, and is never refused.
-pub(crate) fn shrink(table: &mut Table, block: u64, size: u64, new_size: u64) -> u64
+/// Cuts the disk to that size, which is less. The guest blocks behind it are dropped, and their data blocks are free. It takes
+/// no memory, and is never refused.
+pub(crate) fn shrink(table: &mut Table, block: u64, size: u64, new_size: u64)
     requires positive { 0 < block }
     requires exact { IsExact size block (entries_of table.old) }
-    ensures size { result ≡ min size new_size }
+    requires less { new_size < size }
     ensures shrunk { (f : _) (faults : ℕ) (bytes : _)
         → IsShrink new_size
         (cow_view f faults bytes size block (entries_of table.old) (count_of table.old) None)
-        (cow_view f faults bytes result block (entries_of table.new) (count_of table.new) None) (Ok tt) }
-    ensures exact { IsExact result block (entries_of table.new) }
+        (cow_view f faults bytes new_size block (entries_of table.new) (count_of table.new) None) (Ok tt) }
+    ensures exact { IsExact new_size block (entries_of table.new) }
+    ensures entries { entries_of table.new ≡ take (length (entries_of table.new)) (entries_of table.old) }
     ensures held { held_of table.new ≡ held_of table.old }
     ensures count { count_of table.new ≡ count_of table.old }
 {
-    if size <= new_size {
-        return size;
-    }
     table.truncate(first_whole(block, new_size) as usize);
-    new_size
 }
 
 /// Adds absent guest blocks, or explicit zeroes, up to the disk's new size. [`Error::Memory`] is no room for their
@@ -221,6 +220,7 @@ pub(crate) fn push_blocks<S: Storage, B: LowerLayer>(
     ensures bytes { KeepsBytes (S.features storage.old).keeps_data growth.block
         (length (entries_of table.old) * growth.block)
         (entries_of table.old) (S.bytes storage.old) (S.bytes storage.new) }
+    ensures in_data { OnOk result (AddsData (entries_of table.old) (entries_of table.new)) }
     ensures named { OnOk result (named_count (entries_of table.new) ≡ named_count (entries_of table.old) + missing) }
     ensures counted { count_of table.new ≤ max (count_of table.old) (named_count (entries_of table.old) + missing) }
     ensures held { held_of table.new ≡ None }
@@ -272,6 +272,9 @@ pub(crate) fn add_new<S: Storage, B: LowerLayer>(
         (length (entries_of table.old) * growth.block) growth.new_size
         (entries_of table.old) (entries_of table.new) (S.bytes storage.old) (S.bytes storage.new)) }
     ensures prefix { take (length (entries_of table.old)) (entries_of table.new) ≡ entries_of table.old }
+    ensures in_data { shows_below growth.mode ≡ true → OnOk result (AddsData (entries_of table.old) (entries_of table.new)) }
+    ensures zero { shows_below growth.mode ≡ false
+        → OnOk result (AreAdded GuestBlock.Zero (entries_of table.old) (entries_of table.new)) }
     ensures named { (wanted : ℕ)
         → growth.new_size ≤ wanted * growth.block
         → wanted * growth.block < growth.new_size + growth.block

@@ -1,8 +1,10 @@
 //! Reads and writes of the storage bytes that places of the disk stand in.
-ghost use Rattle.std.specs.Prelude.{◌≡◌, ℕ, ◌<◌, length, Some, slice_get, IfErr, OnOk, OnErr, IsTrue, IsErrOf, slice_index, true, false};
+ghost use Rattle.std.specs.Prelude.{◌≡◌, ℕ, ◌+◌, ◌<◌, length, Some, slice_get, IfErr, OnOk, OnErr, IsOk, IsTrue, IsErrOf, slice_index, true, false};
 ghost use Rattle.imago_storage.specs.Bytes.{IsReadAt};
+ghost use Rattle.imago_storage.specs.Calls.{IsRangeRead};
 ghost use Rattle.imago_storage.specs.Faults.{CountsFaults};
 ghost use Rattle.imago_storage.specs.Error.{IsExtRefusal};
+ghost use Rattle.imago_storage.specs.Features.{IsAlignedRequest, MayRunOut};
 ghost use Rattle.imago_storage.specs.Padding.{Wraps};
 ghost use Rattle.imago_drivers.specs.Ranges.{HasBytes};
 ghost use Rattle.imago_drivers.specs.Reasons.{allowed};
@@ -26,6 +28,7 @@ pub(crate) fn read_stored<S: Storage>(
     buf: &mut [u8],
     offset: u64,
 ) -> Result<(), Error>
+    ensures read { IsRangeRead (S.features storage.now) (S.bytes storage.now) offset (length buf.old) buf.new result }
     ensures bytes { OnOk result (IsReadAt (S.bytes storage.now) offset buf.new) }
     ensures refusals { (faults size block : ℕ) (entries : _) (blocks : ℕ) (waiting : _)
         → 0 < block
@@ -64,9 +67,14 @@ pub(crate) fn write_stored<S: Storage>(
         → OnErr result
         (HasBytes true offset (length source.now) (λ k. slice_index source.now k)
         (S.bytes storage.old) (S.bytes storage.new)) }
+    ensures empty { length source.now ≡ 0 → IsOk result }
     ensures only { IfErr result IsExtRefusal }
     ensures wraps { IsErrOf result Error.WrapAround
         → Wraps (S.features storage.old) offset (length source.now) }
+    ensures memory { IsErrOf result Error.Memory
+        → IsAlignedRequest (S.features storage.old) offset (length source.now)
+        → MayRunOut (S.features storage.old).write_memory (length (S.bytes storage.old))
+        (offset + length source.now) }
     ensures lengths { (faults size block : ℕ) (entries : _) (blocks : ℕ) (waiting : _)
         → GrowAt 0 offset (length source.now)
         (cow_view (S.features storage.old) faults (S.bytes storage.old) size block entries blocks waiting).stores

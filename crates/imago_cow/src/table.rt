@@ -118,6 +118,16 @@ impl Table {
         self.used
     }
 
+    /// The number of data blocks that entries name, and the one that is held.
+    pub fn taken(&self) -> u64
+        ensures { result ≡ named_count (entries_of self.now) + held_count (held_of self.now) }
+    {
+        match self.held {
+            Some(_) => self.used + 1,
+            None => self.used,
+        }
+    }
+
     /// The data block that is held.
     pub fn held(&self) -> Option<u64>
         ensures { result ≡ held_of self.now }

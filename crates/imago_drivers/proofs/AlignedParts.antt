@@ -1,7 +1,8 @@
-use Rattle.std.proofs.Common.{◌≡◌, ℕ, ◌+◌, ◌-◌, ◌%◌, ◌^◌, ◌<◌, ⊎_elim, arith, subst, ◌∙◌}
+use Rattle.std.proofs.Common.{◌≡◌, ℕ, ◌+◌, ◌-◌, ◌%◌, ◌^◌, ◌<◌, ◌≤◌, ap, Err, ⊎_elim, arith, subst, ◌∙◌}
 use Rattle.std.proofs.Math.Nat.{mod_self, dvd-add, dvd_of_mod-eq-zero, mod-eq-zero_of_dvd}
-use Rattle.std.specs.Prelude.{List, Result}
+use Rattle.std.specs.Prelude.{List, Result, Bool}
 use Rattle.imago_storage.specs.declared.error.Error.{Error}
+use Rattle.imago_storage.specs.Faults.{CountsFaults}
 use Rattle.imago_storage.specs.Maintenance.{Maintenance, IsDiscarded}
 use Rattle.imago_storage.specs.Features.{IsAlignedTo}
 use Rattle.imago_storage.specs.Bytes.{SameOutside}
@@ -44,6 +45,20 @@ outside_part align mine at n start end old now e p l x =
     let s : aligned_start align start ≡ start = start_whole align start a.start in
     let w : aligned_end align start (end - start) ≡ start + (end - start) = end_whole align start (end - start) a.start a.whole in
     record { before = λ q h. x.before q (rw s h); behind = λ q h. x.behind q (rw (s, w) (omega arith)); same_length = x.same_length }
+
+-- the aligned part of a range is that of an alignment that is the same
+pub aligned_part_is : (align mine at n start end : ℕ) → mine ≡ align → IsAlignedPart mine at n start end → IsPartAlignedTo align at n start (end - start)
+aligned_part_is align mine at n start end e p =
+    let q : IsAlignedPart align at n start end = rw e at p in
+    record { len = omega (arith, q.is_start, q.is_end); start = λ some. q.is_start }
+
+-- what stays outside a part of a range stays outside the range
+pub outside_more : (at n q m : ℕ) (old now : List ℕ) → at ≤ q → q + m ≤ at + n → SameOutside q m old now → SameOutside at n old now
+outside_more at n q m old now a b x = record { before = λ p h. x.before p (omega (arith, a, h)); behind = λ p h. x.behind p (omega (arith, b, h)); same_length = x.same_length }
+
+-- a refusal counts the same faults, whatever the call would have answered
+pub same_faults : {T U : Type 0} (reliable : Bool) (before now : ℕ) (e : Error) → CountsFaults {T = T} reliable before now (Err e) → CountsFaults {T = U} reliable before now (Err e)
+same_faults reliable before now e h = record { later = h.later; reliable = h.reliable; device = λ d. let is : e ≡ Error.Device = cc in h.device (ap (λ (x : Error). Err x) is) }
 
 -- a discard of the aligned part of a range is that of the range
 pub part_discarded : {S : Type 0} (calls : Maintenance S) (align mine at n start end : ℕ) (old new : S) (answer : Result Unit Error) (result : Result (ℕ × ℕ) Error) → mine ≡ align → IsAlignedPart mine at n start end → start < end

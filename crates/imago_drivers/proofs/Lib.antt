@@ -3,3 +3,4 @@ pub mod AlignedParts
 pub mod Lengths
 pub mod RawSteps
 pub mod Ensured
+pub mod Room

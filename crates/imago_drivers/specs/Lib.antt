@@ -8,8 +8,6 @@ pub mod Ranges
 pub mod Pending
 pub mod View
 pub mod Lengths
-pub mod Flushes
-pub mod Discards
 pub mod Changes
 pub mod Frame
 pub mod Mapping
@@ -18,11 +16,14 @@ pub mod Done
 pub mod Commit
 pub mod Resized
 pub mod Calls
+pub mod CallRelations
 pub mod Laws
 pub mod Raw
 pub mod RawLaws
 pub mod RawImage
 pub mod RawDiscards
+pub mod Room
+pub mod RawCalls
 pub mod Opening
 pub mod NamedGate
 pub mod Builder

@@ -1,7 +1,7 @@
-use Rattle.std.specs.Prelude.{◌≡◌, ℕ, ◌+◌, ◌-◌, ◌<◌, ◌≤◌, ◌⊎◌, Bool, true, false, List, length, slice_index, if◌then◌else◌, nat_lt, min, None}
+use Rattle.std.specs.Prelude.{◌≡◌, ℕ, ◌+◌, ◌-◌, ◌≤◌, Bool, true, false, List, length, slice_index, if◌then◌else◌, nat_lt, min, None}
 use Rattle.imago_storage.specs.declared.error.Error.TheVariants as E
 use Rattle.imago_storage.specs.Features.{Features, InPlace, MayRunOut, IsAlignedRequest, IsAlignedTo}
-use Rattle.imago_storage.specs.Padding.{Wraps, aligned_start, aligned_end}
+use Rattle.imago_storage.specs.Padding.{Wraps}
 use Rattle.imago_storage.specs.Zeroes.{MayWrap}
 use Rattle.imago_storage.specs.declared.options.PreallocateMode.{PreallocateMode}
 use Rattle.imago_storage.specs.declared.options.PreallocateMode.TheVariants as StorageMode

@@ -1,7 +1,9 @@
-use Rattle.std.specs.Prelude.{◌≡◌, ◌≢◌, ℕ, ◌+◌, ◌^◌, ◌<◌, ◌≤◌, ◌⊎◌, Bool, true, false, List, [], length, slice_index, Some, Result, Ok, Err}
+use Rattle.std.specs.Prelude.{◌≡◌, ◌≢◌, ℕ, ◌+◌, ◌^◌, ◌<◌, ◌≤◌, ◌⊎◌, Bool, true, false, List, [], length, slice_index, Some, Result, Ok, Err, OnOk}
 use Rattle.imago_storage.specs.declared.error.Error.{Error}
 use Rattle.imago_storage.specs.declared.error.Error.TheVariants as E
 use Rattle.imago_storage.specs.Features.{Features, MayRunOut}
+use Rattle.imago_storage.specs.Maintenance.{Maintenance}
+use Rattle.imago_storage.specs.declared.options.PreallocateMode.TheVariants as StorageMode
 use Rattle.imago_storage.specs.Openings.{Openings}
 use Rattle.imago_storage.specs.Options.{no_open_options}
 use Rattle.imago_drivers.specs.declared.format.PreallocateMode.{PreallocateMode}
@@ -10,7 +12,9 @@ use Rattle.imago_drivers.specs.declared.raw.Raw.{Raw}
 use Rattle.imago_drivers.specs.RawImage.{storage_in, size_of, writability_of}
 use Rattle.imago_drivers.specs.LayerBelow.{no_layer}
 use Rattle.imago_drivers.specs.View.{View}
+use Rattle.imago_drivers.specs.CallRelations.{Calls}
 use Rattle.imago_drivers.specs.Calls.{IsGrowth}
+use Rattle.imago_drivers.specs.Raw.{storage_mode_of}
 use Rattle.imago_drivers.specs.Opening.{Opening}
 use Rattle.imago_drivers.specs.Builder.{OpenSettings, CreateSettings, IsImageStorage}
 
@@ -30,11 +34,16 @@ abbrev pub IsRawImage : {S : Type 0} {g : _} {h : _} → (S → List ℕ) → (S
 IsRawImage bytes features w s (Ok r) = (storage_in r ≡ s) × (size_of r ≡ length (bytes s)) × (writability_of r ≡ w)
 IsRawImage bytes features w s (Err e) = MaySizeBeRefused (features s) e
 
--- The opening of a raw image: of the storage that was handed in, or of the one that the gate gives, whose refusal is passed on.
-abbrev pub IsRawOpening : {Gate S : Type 0} {g : _} {h : _} → (S → List ℕ) → (S → Features) → Opening Gate S → Gate → OpenSettings S → Result (Raw S g h) Error → Type 0
-IsRawOpening {Gate} {S} bytes features opened gate settings result =
-    (after : Gate) × (storage : Result S Error) × IsImageStorage opened settings gate after storage
+-- The opening of a raw image by a lent gate: of the storage that was handed in, and the gate is as it was; or of the one that the gate
+-- gives, which is asked once, and whose refusal is passed on.
+abbrev pub IsRawOpeningBy : {Gate S : Type 0} {g : _} {h : _} → (S → List ℕ) → (S → Features) → Opening Gate S → OpenSettings S → Gate → Gate → Result (Raw S g h) Error → Type 0
+IsRawOpeningBy {Gate} {S} bytes features opened settings old new result =
+    (storage : Result S Error) × IsImageStorage opened settings old new storage
     × Then storage result (λ s. IsRawImage bytes features settings.writable s result)
+
+-- The opening of a raw image: the same, whatever becomes of the gate.
+abbrev pub IsRawOpening : {Gate S : Type 0} {g : _} {h : _} → (S → List ℕ) → (S → Features) → Opening Gate S → Gate → OpenSettings S → Result (Raw S g h) Error → Type 0
+IsRawOpening {Gate} bytes features opened gate settings result = (after : Gate) × IsRawOpeningBy bytes features opened settings gate after result
 
 -- The opening of a raw image by a path: of the storage that was opened by that name, to be written to where the image is.
 abbrev pub IsRawOpeningByPath : {S : Type 0} {g : _} {h : _} → Openings S → (S → List ℕ) → (S → Features) → List ℕ → Bool → Result (Raw S g h) Error → Type 0
@@ -65,28 +74,45 @@ pub record IsNewDisk (size : ℕ) (mode : PreallocateMode) (bytes : List ℕ) : 
   pub size_of_disk : length bytes ≡ size
   pub zero : mode ≢ Mode.None → (p : ℕ) → slice_index bytes p ≡ 0
 
+-- A storage is emptied: by one resize, or by no call where it has no bytes, or where its size isn't told.
+abbrev pub IsEmptiedBy : {S : Type 0} → (S → List ℕ) → Maintenance S → S → S → Result Unit Error → Type 0
+IsEmptiedBy bytes calls old new result = calls.resized 0 StorageMode.None old new result ⊎ ((new ≡ old) × OnOk result (bytes old ≡ []))
+
+-- What follows: nothing behind a refusal, which is passed on, and nothing for a disk of size 0; else one resize to the size, in the mode.
+abbrev pub IsGrownBehind : {S : Type 0} → Maintenance S → ℕ → PreallocateMode → Result Unit Error → S → S → Result Unit Error → Type 0
+IsGrownBehind calls size mode (Err e) old new result = (new ≡ old) × (result ≡ Err e)
+IsGrownBehind calls size mode (Ok u) old new result = ((size ≡ 0) × (new ≡ old) × (result ≡ Ok tt)) ⊎ ((0 < size) × calls.resized size (storage_mode_of mode) old new result)
+
+-- A disk is made in a storage: it is emptied, and then grows. No other call changes the storage.
+pub record IsMadeIn {S : Type 0} (bytes : S → List ℕ) (calls : Maintenance S) (size : ℕ) (mode : PreallocateMode) (old new : S) (result : Result Unit Error) : Type 0 where
+  pub between : S
+  pub answer : Result Unit Error
+  pub emptied : IsEmptiedBy bytes calls old between answer
+  pub grown : IsGrownBehind calls size mode answer between new result
+
 -- a storage that was emptied, or why it wasn't
-abbrev pub IsEmptied : {S : Type 0} → (S → List ℕ) → (S → Features) → (S → ℕ) → S → Result S Error → Type 0
-IsEmptied bytes features faults old (Ok new) = (bytes new ≡ []) × (features new ≡ features old) × (faults old ≤ faults new)
-IsEmptied bytes features faults old (Err e) = MayEmptyingBeRefused (features old) (faults old) (length (bytes old)) e
+abbrev pub IsEmptied : {S : Type 0} → (S → List ℕ) → (S → Features) → (S → ℕ) → Maintenance S → S → Result S Error → Type 0
+IsEmptied bytes features faults calls old (Ok new) = (bytes new ≡ []) × (features new ≡ features old) × (faults old ≤ faults new) × IsEmptiedBy bytes calls old new (Ok tt)
+IsEmptied {S} bytes features faults calls old (Err e) = MayEmptyingBeRefused (features old) (faults old) (length (bytes old)) e × (new : S) × IsEmptiedBy bytes calls old new (Err e)
 
 -- the creation of a raw image: its storage is given back, or why it isn't made
-abbrev pub IsRawCreation : {S : Type 0} → (S → List ℕ) → (S → Features) → (S → ℕ) → CreateSettings S → Result S Error → Type 0
-IsRawCreation bytes features faults settings (Ok s) = IsNewDisk settings.size settings.mode (bytes s) × (features s ≡ features settings.image)
-IsRawCreation bytes features faults settings (Err e) = MayCreationBeRefused (features settings.image) (faults settings.image) (length (bytes settings.image)) settings.size e
+abbrev pub IsRawCreation : {S : Type 0} → (S → List ℕ) → (S → Features) → (S → ℕ) → Maintenance S → CreateSettings S → Result S Error → Type 0
+IsRawCreation bytes features faults calls settings (Ok s) = IsNewDisk settings.size settings.mode (bytes s) × (features s ≡ features settings.image) × IsMadeIn bytes calls settings.size settings.mode settings.image s (Ok tt)
+IsRawCreation {S} bytes features faults calls settings (Err e) = MayCreationBeRefused (features settings.image) (faults settings.image) (length (bytes settings.image)) settings.size e
+    × (s : S) × IsMadeIn bytes calls settings.size settings.mode settings.image s (Err e)
 
 -- an image that was opened grows to the size: the grown one, or the refusal of the growth
-abbrev pub IsGrownTo : {Image St : Type 0} → (Image → View St) → PreallocateMode → ℕ → Image → Result Image Error → Type 0
-IsGrownTo {Image} view mode size old (Ok new) = IsGrowth mode no_layer size (view old) (view new) (Ok tt)
-    × ((view old).size < size → length ((view new).stores.bytes 0) ≡ size)
-IsGrownTo {Image} view mode size old (Err e) = (new : Image) × IsGrowth mode no_layer size (view old) (view new) (Err e)
+abbrev pub IsGrownTo : {Image St : Type 0} → (Image → View St) → Calls Image St → PreallocateMode → ℕ → Image → Result Image Error → Type 0
+IsGrownTo {Image} view calls mode size old (Ok new) = IsGrowth mode no_layer size (view old) (view new) (Ok tt)
+    × ((view old).size < size → length ((view new).stores.bytes 0) ≡ size) × calls.grown size mode no_layer old new (Ok tt)
+IsGrownTo {Image} view calls mode size old (Err e) = (new : Image) × IsGrowth mode no_layer size (view old) (view new) (Err e) × calls.grown size mode no_layer old new (Err e)
 
 -- The creation of a raw image that is opened: its storage is emptied, a builder is made of it, the builder opens the image as
 -- writable, and the image grows. The first refusal of these is the answer.
-abbrev pub IsRawCreatedOpen : {Gate S Builder St : Type 0} {g : _} {h : _} → (S → List ℕ) → (S → Features) → (S → ℕ) → (Raw S g h → View St)
+abbrev pub IsRawCreatedOpen : {Gate S Builder St : Type 0} {g : _} {h : _} → (S → List ℕ) → (S → Features) → (S → ℕ) → Maintenance S → (Raw S g h → View St) → Calls (Raw S g h) St
     → (Builder → OpenSettings S) → Opening Gate S → Gate → (S → Result Builder Error → Type 0) → CreateSettings S → Result (Raw S g h) Error → Type 0
-IsRawCreatedOpen {Gate} {S} {Builder} {St} {g} {h} bytes features faults view settings_of opened gate builds settings result =
-    (emptied : Result S Error) × IsEmptied bytes features faults settings.image emptied × Then emptied result (λ s.
+IsRawCreatedOpen {Gate} {S} {Builder} {St} {g} {h} bytes features faults maintenance view calls settings_of opened gate builds settings result =
+    (emptied : Result S Error) × IsEmptied bytes features faults maintenance settings.image emptied × Then emptied result (λ s.
     (builder : Result Builder Error) × builds s builder × Then builder result (λ b.
     (image : Result (Raw S g h) Error) × IsRawOpening bytes features opened gate (record (settings_of b) { writable = true }) image × Then image result (λ i.
-    IsGrownTo view settings.mode settings.size i result)))
+    IsGrownTo view calls settings.mode settings.size i result)))

@@ -18,3 +18,7 @@ pub record HasDiscarded {S : Type 0} (calls : Maintenance S) (q m : ℕ) (old ne
 pub record IsPartDiscarded {S : Type 0} (calls : Maintenance S) (align o n : ℕ) (old new : S) (result : Result (ℕ × ℕ) Error) : Type 0 where
   pub some : aligned_start align o < aligned_end align o n → HasDiscarded calls (aligned_start align o) (aligned_end align o n - aligned_start align o) old new result
   pub none : aligned_end align o n ≤ aligned_start align o → (new ≡ old) × (result ≡ Ok (o, 0))
+
+-- A zero call on a range that has no aligned part does nothing.
+abbrev pub IsIdleWithoutPart : {S : Type 0} → ℕ → ℕ → ℕ → S → S → Result (ℕ × ℕ) Error → Type 0
+IsIdleWithoutPart align o n old new result = aligned_end align o n ≤ aligned_start align o → (new ≡ old) × (result ≡ Ok (o, 0))

@@ -4,6 +4,7 @@ ghost use Rattle.std.specs.Option.{option_copied};
 ghost use Rattle.std.specs.String.{string_bytes};
 ghost use Rattle.imago_storage.specs.Options.{open_options};
 ghost use Rattle.imago_drivers.specs.Builder.{OpenSettings, CreateSettings, HandedIn, AtPath, unset, unsized, image_path, storage_options, IsImageStorage, ImageOpening, ImageCreation, IsImageOf};
+ghost use Rattle.imago_drivers.specs.declared.format.Format.{Format as ImageFormat};
 ghost use Rattle.imago_drivers.specs.BuilderBase.{open_settings, create_settings};
 
 use crate::drivers::FormatDriverInstance;
@@ -23,6 +24,9 @@ pub trait FormatDriverBuilder<S: Storage>: Drop + Sized {
 
     /// The image's format.
     const FORMAT: Format;
+
+    /// The same.
+    ghost FORMAT: { ImageFormat };
 
     /// What is set.
     ghost settings: { Self → OpenSettings S };
@@ -51,6 +55,7 @@ pub trait FormatDriverBuilder<S: Storage>: Drop + Sized {
     /// storage or the driver refuses is passed on, and lets a storage that was handed in go.
     fn open<G: ImplicitOpenGate<S>>(self, alloc: Global, gate: G) -> Result<Self::Format, Error>
         ensures opened { opens _ G.opened gate self result }
+        ensures format { IfOk result (λ r. (Self.Format.view r).abilities.format ≡ FORMAT) }
         ensures image { IfOk result (λ r. IsImageOf G.opened gate (settings self) S.bytes S.features (Self.Format.view r)) };
 
     /// The path of the image, or the name of the storage that was handed in, if it has one.

@@ -18,8 +18,7 @@ ghost use Rattle.imago_drivers.specs.Done.{HasDone, map_reasons, stored_read_rea
 ghost use Rattle.imago_drivers.specs.Prepared.{IsPrepared, IsForeignWrite, IsFor, IsPut, IsWritten, IsDataMapping};
 ghost use Rattle.imago_drivers.specs.Commit.{IsCommit, IsCancel};
 ghost use Rattle.imago_drivers.specs.Lengths.{GrowTo, GrowAt};
-ghost use Rattle.imago_drivers.specs.Flushes.{Flushes};
-ghost use Rattle.imago_drivers.specs.Discards.{Discards};
+ghost use Rattle.imago_drivers.specs.CallRelations.{Calls};
 ghost use Rattle.imago_drivers.specs.Calls.{IsZeroCall, IsDiscard, IsPreparation, IsGrowth, IsShrink, IsFlush};
 ghost use Rattle.imago_drivers.specs.Laws.{IsLawful, AreCauses};
 
@@ -57,13 +56,9 @@ pub trait FormatDriverInstance: Display + Drop {
     /// Why it may be refused to tell whether a storage has an image of the format.
     ghost probe_reasons: { Self.Storage → Reasons };
 
-    /// What a flush, a sync and an invalidation are. Over a driver that isn't known nothing but the call itself gives
-    /// its relation.
-    ghost flushes: { Flushes Self };
-
-    /// What a discard to any and one to backing are, which may do nothing that shows. Over a driver that isn't known
-    /// nothing but the call itself gives its relation.
-    ghost discards: { Discards Self };
+    /// What each call is. Over a driver that isn't known nothing but the call itself gives its relation: so what promises it made the
+    /// call, once, with these arguments, and tells its answer.
+    ghost calls: { Calls Self Self.State };
 
     /// The image's format.
     fn format(&self) -> Format
@@ -132,7 +127,8 @@ pub trait FormatDriverInstance: Display + Drop {
         ensures refused_place { IfErr result
             (λ e. (e ≡ Error.InvalidData) ⊎ (e ≡ Error.NoAccess)
             → (view self.now).place offset ≡ Refused e) }
-        ensures refusals { IfErr result (allowed (map_reasons (view self.now) offset max_length)) };
+        ensures refusals { IfErr result (allowed (map_reasons (view self.now) offset max_length)) }
+        ensures answered { calls.mapped offset max_length self.now result };
 
     /// Fills the buffer with bytes of a storage, as a mapping names them, with 0 past its end. Refused, the buffer is
     /// unspecified.
@@ -145,13 +141,15 @@ pub trait FormatDriverInstance: Display + Drop {
     ) -> Result<(), Error>
         requires { storage < (view self.now).stores.count }
         ensures bytes { OnOk result (IsReadAt ((view self.now).stores.bytes storage) offset buf.new) }
-        ensures refusals { IfErr result (allowed (stored_read_reasons (view self.now) storage offset (length buf.old))) };
+        ensures refusals { IfErr result (allowed (stored_read_reasons (view self.now) storage offset (length buf.old))) }
+        ensures answered { calls.read storage offset (length buf.old) self.now result };
 
     /// Fills the buffer with special bytes, as a mapping names them. Refused, the buffer is unspecified.
     fn readv_special(&self, alloc: Global, buf: &mut [u8], offset: u64) -> Result<(), Error>
         ensures bytes { OnOk result
             (EachIndex buf.new (λ k. slice_index buf.new k ≡ (view self.now).special (offset + k))) }
-        ensures refusals { IfErr result (allowed (special_read_reasons (view self.now) offset (length buf.old))) };
+        ensures refusals { IfErr result (allowed (special_read_reasons (view self.now) offset (length buf.old))) }
+        ensures answered { calls.read_special offset (length buf.old) self.now result };
 
     /// Writes bytes of a storage that a mapping names as writable. Refused, each place of the range is old or new.
     fn write_mapped(
@@ -183,7 +181,8 @@ pub trait FormatDriverInstance: Display + Drop {
         ensures faults { CountsFaults (view self.old).abilities.is_reliable (view self.old).fault_count
             (view self.new).fault_count result }
         ensures refusals { IfErr result
-            (allowed (stored_write_reasons (view self.old) storage offset (length source.now))) };
+            (allowed (stored_write_reasons (view self.old) storage offset (length source.now))) }
+        ensures performed { calls.put storage source.now offset self.old self.new result };
 
     /// Makes a part of the range explicit zeroes, and answers its offset and length: as much as the driver can at once,
     /// maybe nothing. Refused, each byte of the range is as it was or zero.
@@ -196,7 +195,8 @@ pub trait FormatDriverInstance: Display + Drop {
         requires writable { (view self.old).abilities.is_writable ≡ true }
         requires spent { (view self.old).pending ≡ None }
         requires inside { offset + count ≤ (view self.old).size }
-        ensures { IsZeroCall Zero offset count (view self.old) (view self.new) result };
+        ensures call { IsZeroCall Zero offset count (view self.old) (view self.new) result }
+        ensures performed { calls.zeroed offset count self.old self.new result };
 
     /// Gives up the data of a part of the range, which reads as zeroes afterwards, and answers its offset and length.
     /// Refused, each byte of the range is as it was or zero.
@@ -209,7 +209,8 @@ pub trait FormatDriverInstance: Display + Drop {
         requires writable { (view self.old).abilities.is_writable ≡ true }
         requires spent { (view self.old).pending ≡ None }
         requires inside { offset + count ≤ (view self.old).size }
-        ensures { IsZeroCall DiscardToZero offset count (view self.old) (view self.new) result };
+        ensures call { IsZeroCall DiscardToZero offset count (view self.old) (view self.new) result }
+        ensures performed { calls.discarded_to_zero offset count self.old self.new result };
 
     /// Gives up the data of a part of the range, whose bytes are unspecified afterwards, and answers its offset and
     /// length. Refused, the range is unspecified.
@@ -223,7 +224,7 @@ pub trait FormatDriverInstance: Display + Drop {
         requires spent { (view self.old).pending ≡ None }
         requires inside { offset + count ≤ (view self.old).size }
         ensures call { IsDiscard (λ _ _. unspecified) DiscardToAny offset count (view self.old) (view self.new) result }
-        ensures performed { discards.to_any offset count self.old self.new result };
+        ensures performed { calls.discarded_to_any offset count self.old self.new result };
 
     /// Gives up the data of a part of the range, whose bytes are as they were or those of the layer below afterwards,
     /// and answers its offset and length. So are those of the range where it is refused.
@@ -237,7 +238,7 @@ pub trait FormatDriverInstance: Display + Drop {
         requires spent { (view self.old).pending ≡ None }
         requires inside { offset + count ≤ (view self.old).size }
         ensures call { IsDiscard (to_backing (view self.old).abilities.takes_backing) DiscardToBacking offset count (view self.old) (view self.new) result }
-        ensures performed { discards.to_backing offset count self.old self.new result };
+        ensures performed { calls.discarded_to_backing offset count self.old self.new result };
 
     /// Prepares the writing of data at the offset: the mapping holds at least 1 byte and at most `count`, none for 0.
     /// No place changes. The mapping is written by [`write_prepared`](Self::write_prepared), and spent by commit or
@@ -257,7 +258,8 @@ pub trait FormatDriverInstance: Display + Drop {
             (λ m. IsPrepared offset count overwrite
             (values (lent B.as_layer_below below.entry).at (view self.old).place)
             (view self.old) (view self.new) m) }
-        ensures call { IsPreparation (lent B.as_layer_below below.entry) offset count (view self.old) (view self.new) result };
+        ensures call { IsPreparation (lent B.as_layer_below below.entry) offset count (view self.old) (view self.new) result }
+        ensures performed { calls.prepared (lent B.as_layer_below below.entry) offset count overwrite self.old self.new result };
 
     /// Writes data into a prepared mapping, from its `at`-th byte on: to the places that it stands for, or, with a
     /// state, to the bytes that wait for commit. Refused, each of these is old or new.
@@ -291,7 +293,8 @@ pub trait FormatDriverInstance: Display + Drop {
         ensures faults { CountsFaults (view self.old).abilities.is_reliable (view self.old).fault_count
             (view self.new).fault_count result }
         ensures refusals { IfErr result
-            (allowed (mapping_write_reasons (view self.old) mapping.now at (length source.now))) };
+            (allowed (mapping_write_reasons (view self.old) mapping.now at (length source.now))) }
+        ensures performed { calls.filled mapping.now source.now at self.old self.new result };
 
     /// Spends a prepared mapping: what was written into it shows from now on. Without a state nothing changes.
     ///
@@ -301,12 +304,14 @@ pub trait FormatDriverInstance: Display + Drop {
         &mut self,
         mapping: PreparedDataMapping<Self::State>,
     ) -> Result<(), Error>
-        ensures { IsCommit view self.old self.new mapping result };
+        ensures call { IsCommit view self.old self.new mapping result }
+        ensures performed { calls.committed mapping self.old self.new result };
 
     /// Spends a prepared mapping, and forgets what was written into one with a state: the disk is as it was. A foreign
     /// mapping changes nothing.
     fn cancel_data_mapping(&mut self, mapping: PreparedDataMapping<Self::State>)
-        ensures { IsCancel view self.old self.new mapping };
+        ensures call { IsCancel view self.old self.new mapping }
+        ensures performed { calls.cancelled mapping self.old self.new };
 
     /// Maps a part of the range, from the offset on, to bytes of a storage that may be written, and answers the
     /// storage, the offset there and the length: at least 1 and at most `count`, 0 for 0. With `overwrite` that part is
@@ -348,6 +353,7 @@ pub trait FormatDriverInstance: Display + Drop {
             (allowed
             (lending_reasons (view self.old) (lent B.as_layer_below below.entry) Write
             offset count)) }
+        ensures performed { calls.ensured (lent B.as_layer_below below.entry) offset count overwrite self.old self.new result }
     {
         let mapping = self.prepare_data_mapping(alloc, below, offset, count, overwrite)?;
         let (storage, start, length) = (mapping.storage(), mapping.offset(), mapping.length());
@@ -366,26 +372,28 @@ pub trait FormatDriverInstance: Display + Drop {
     ) -> Result<(), Error>
         requires writable { (view self.old).abilities.is_writable ≡ true }
         requires spent { (view self.old).pending ≡ None }
-        ensures { IsGrowth mode (lent B.as_layer_below below.entry) new_size (view self.old) (view self.new) result };
+        ensures call { IsGrowth mode (lent B.as_layer_below below.entry) new_size (view self.old) (view self.new) result }
+        ensures performed { calls.grown new_size mode (lent B.as_layer_below below.entry) self.old self.new result };
 
     /// Cuts the disk to that size. It does nothing where the disk is as small already, and then isn't refused. Refused,
     /// nothing changed.
     fn resize_shrink(&mut self, new_size: u64) -> Result<(), Error>
         requires writable { (view self.old).abilities.is_writable ≡ true }
         requires spent { (view self.old).pending ≡ None }
-        ensures { IsShrink new_size (view self.old) (view self.new) result };
+        ensures call { IsShrink new_size (view self.old) (view self.new) result }
+        ensures performed { calls.cut new_size self.old self.new result };
 
     /// Writes what the driver and its storages buffer. No place changes, also where it is refused.
     fn flush(&mut self) -> Result<(), Error>
-        ensures { IsFlush view flushes.flushed self.old self.new result };
+        ensures { IsFlush view calls.flushed self.old self.new result };
 
     /// Syncs what is written to the hardware. No place changes, also where it is refused.
     fn sync(&mut self) -> Result<(), Error>
-        ensures { IsFlush view flushes.synced self.old self.new result };
+        ensures { IsFlush view calls.synced self.old self.new result };
 
     /// Drops what the driver and its storages cache. No place changes, also where it is refused.
     fn invalidate_cache(&mut self) -> Result<(), Error>
-        ensures { IsFlush view flushes.invalidated self.old self.new result };
+        ensures { IsFlush view calls.invalidated self.old self.new result };
 
     /// The laws of the driver's places.
     ghost lawful: { (d : Self) → IsLawful (view d) };

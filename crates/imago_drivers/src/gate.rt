@@ -62,7 +62,8 @@ impl<S: Storage> ImplicitOpenGate<S> for PermissiveImplicitOpenGate {
 /// Storages by their names, each of which is handed out once. Of those that share a name the first added is handed
 /// out first.
 ///
-/// A name that no storage is left of, and options without a name, are [`Error::NotFound`]. The other options aren't looked at.
+/// A name that no storage is left of is forgotten. Such a name, and options without a name, are [`Error::NotFound`]. The other
+/// options aren't looked at.
 #[derive(Drop)]
 pub struct NamedGate<S> {
     alloc: Global,
@@ -70,7 +71,7 @@ pub struct NamedGate<S> {
 }
 
 impl<S: Storage> NamedGate<S> {
-    ghost use Rattle.imago_drivers.specs.NamedGate.{storages_named, KeepsOtherNames, HasRoomFor, first_of};
+    ghost use Rattle.imago_drivers.specs.NamedGate.{storages_named, KeepsOtherNames, HasRoomFor, IsForgotten, first_of};
 
     /// No storages. It takes no memory.
     pub fn new(alloc: Global) -> Self
@@ -109,14 +110,20 @@ impl<S: Storage> NamedGate<S> {
         self.queues.get(name)?.front()
     }
 
-    /// Takes the first storage of that name out.
+    /// Takes the first storage of that name out. With the last one the name is forgotten.
     fn take(&mut self, name: &str) -> Option<S>
         ensures first { MatchOption result (storages_named self.old name.now ≡ [])
             (λ s. storages_named self.old name.now ≡ s ∷ storages_named self.new name.now) }
         ensures none { MatchOption result (storages_named self.new name.now ≡ []) (λ _. Unit {0}) }
+        ensures forgotten { IsForgotten self.new name.now }
         ensures others { KeepsOtherNames self.old self.new name.now }
     {
-        self.queues.get_mut(name)?.pop_front()
+        let queue = self.queues.get_mut(name)?;
+        let storage = queue.pop_front();
+        if queue.is_empty() {
+            let _ = self.queues.remove(name);
+        }
+        storage
     }
 }
 

@@ -1,9 +1,38 @@
-//! What the definitions give for examples that are worked by hand. The functions do nothing; their contracts are proved.
-ghost use Rattle.std.specs.Prelude.{◌≡◌, ℕ, List, true};
+//! What the definitions give for raw images, and for examples that are worked by hand. The functions do nothing; their
+//! contracts are proved.
+ghost use Rattle.std.specs.Prelude.{◌≡◌, ℕ, ◌^◌, ◌<◌, ◌≤◌, List, length, true, false};
+ghost use Rattle.imago_storage.specs.declared.error.Error.{Error};
+ghost use Rattle.imago_drivers.specs.Operation.{Operation};
+ghost use Rattle.imago_drivers.specs.RawImage.{storage_in};
+ghost use Rattle.imago_drivers.specs.Room.{HasRoom, IsPadded};
 ghost use Rattle.imago_drivers.specs.Place.{Value, Byte, Stored, End, values, HasStranger};
 ghost use Rattle.imago_drivers.specs.Raw.{raw_place};
 ghost use Rattle.imago_drivers.specs.Ranges.{IsPartAlignedTo};
 ghost use Rattle.imago_drivers.specs.Worked.{four_bytes, seventeens, leading_below};
+
+use crate::drivers::FormatDriverInstance;
+use crate::raw::Raw;
+use imago_storage::storage::Storage;
+
+/// A raw image has one cause of a refusal: that its storage doesn't offer the operation. A range that ends less than one
+/// alignment before the greatest offset may wrap around besides, once it is padded.
+pub fn raw_images_refuse_nothing<S: Storage>(image: &Raw<S>)
+    ensures { (op : Operation) (o n : ℕ) (e : Error)
+        → (IsPadded op → HasRoom (S.features (storage_in image.now)) o n)
+        → (⟦<Raw<S> as FormatDriverInstance>⟧.view image.now).limits.cause op o n e
+        → (e ≡ Error.Unsupported) × ((⟦<Raw<S> as FormatDriverInstance>⟧.view image.now).abilities.offers op ≡ false) }
+{
+    let _ = image;
+}
+
+/// The whole disk of a raw image stands in its storage, so a write inside the disk doesn't grow it. No disk is longer
+/// than `u64::MAX` bytes.
+pub fn raw_image_stands_in_its_storage<S: Storage>(image: &Raw<S>)
+    ensures stored { (⟦<Raw<S> as FormatDriverInstance>⟧.view image.now).size ≤ length (S.bytes (storage_in image.now)) }
+    ensures fits { (⟦<Raw<S> as FormatDriverInstance>⟧.view image.now).size < 2 ^ 64 }
+{
+    let _ = image;
+}
 
 /// A raw image of the bytes 1, 2, 3, 4 has the byte 3 at 2, in its storage at the same offset, where it may be written. It
 /// ends at 4, and shows zeroes from there on.

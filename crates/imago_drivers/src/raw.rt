@@ -1,7 +1,9 @@
 //! The driver of raw images.
-ghost use Rattle.std.specs.Prelude.{◌≡◌, ℕ, ◌+◌, ◌^◌, ◌<◌, ◌≤◌, ◌⊎◌, max, length, slice_index, IsTrue, IfOk, IfErr, OnOk, OnErr, IsOk, IsErrOf, true, false};
+ghost use Rattle.std.specs.Prelude.{◌≡◌, ℕ, ◌+◌, ◌^◌, ◌<◌, ◌≤◌, ◌⊎◌, max, length, slice_index, IsTrue, IfOk, IfErr, OnOk, OnErr, IsOk, IsErrOf, Ok, true, false};
 ghost use Rattle.std.specs.String.{string_bytes};
 ghost use Rattle.imago_storage.specs.Bytes.{SameOutside};
+ghost use Rattle.imago_storage.specs.Calls.{IsRangeWrite};
+ghost use Rattle.imago_storage.specs.declared.options.PreallocateMode.TheVariants as StorageMode;
 ghost use Rattle.imago_storage.specs.Error.{IsDeviceOrMemory, IsExtRefusal};
 ghost use Rattle.imago_storage.specs.Faults.{CountsFaults};
 ghost use Rattle.imago_storage.specs.Features.{InPlace, MayRunOut, IsAlignedTo};
@@ -16,7 +18,9 @@ ghost use Rattle.imago_drivers.specs.Done.{HasDone};
 ghost use Rattle.imago_drivers.specs.Calls.{IsDiscard, IsPreparation, IsGrowth, IsShrink};
 ghost use Rattle.imago_drivers.specs.Reasons.{none};
 ghost use Rattle.imago_drivers.specs.RawLaws.{raw_lawful, raw_causes};
-ghost use Rattle.imago_drivers.specs.RawDiscards.{IsPartDiscarded};
+ghost use Rattle.imago_drivers.specs.RawDiscards.{IsPartDiscarded, IsIdleWithoutPart};
+ghost use Rattle.imago_drivers.specs.RawCalls.{HasNoSpecial, IsRawPrepared, IsRawCommitted, IsRawFilled, IsSizeBehind};
+ghost use Rattle.imago_drivers.specs.CallRelations.{any_calls, IsEnsuredInParts};
 ghost use Rattle.imago_drivers.specs.Place.{values};
 ghost use Rattle.imago_drivers.specs.Prepared.{IsPrepared};
 ghost use Rattle.imago_drivers.specs.Commit.{IsCommit, IsCancel};
@@ -121,17 +125,30 @@ impl<S: Storage> FormatDriverInstance for Raw<S> {
 
     ghost probe_reasons = { λ _. none };
 
-    ghost flushes = { record {
+    ghost calls = { record any_calls {
+      mapped = λ o n self r. IsOk r;
+      read_special = λ o n self r. HasNoSpecial n r;
+      put = λ index bytes o a b r. IsRangeWrite S.features S.bytes S.fault_count S.work o bytes a.storage b.storage r × (b.size ≡ a.size) × (b.writable ≡ a.writable);
+      zeroed = λ o n a b r. IsIdleWithoutPart (S.features a.storage).zero_align o n a.storage b.storage r × (b.size ≡ a.size) × (b.writable ≡ a.writable);
+      discarded_to_zero = λ o n a b r. IsIdleWithoutPart (S.features a.storage).zero_align o n a.storage b.storage r × (b.size ≡ a.size) × (b.writable ≡ a.writable);
+      discarded_to_any = λ o n a b r. IsPartDiscarded S.maintenance (S.features a.storage).discard_align o n a.storage b.storage r × (b.size ≡ a.size) × (b.writable ≡ a.writable);
+      discarded_to_backing = λ o n a b r. HasDone (λ _ _. zeroes) DiscardToBacking o n
+          (raw_view (S.features a.storage) (S.fault_count a.storage) (S.bytes a.storage) a.size a.writable)
+          (raw_view (S.features b.storage) (S.fault_count b.storage) (S.bytes b.storage) b.size b.writable) r
+          × IsIdleWithoutPart (S.features a.storage).zero_align o n a.storage b.storage r × (b.size ≡ a.size) × (b.writable ≡ a.writable);
+      prepared = IsRawPrepared;
+      filled = λ m bytes at a b r. IsRawFilled (λ xs o old new result. IsRangeWrite S.features S.bytes S.fault_count S.work o xs old.storage new.storage result × (new.size ≡ old.size) × (new.writable ≡ old.writable)) m bytes at a b r;
+      committed = IsRawCommitted;
+      cancelled = λ m a b. b ≡ a;
+      ensured = IsEnsuredInParts IsRawPrepared IsRawCommitted;
+      by_parts = λ below o n overwrite a b r h. h;
+      grown = λ n mode below a b r. (n ≤ a.size → (b ≡ a) × (r ≡ Ok tt))
+          × (a.size < n → S.maintenance.resized n (storage_mode_of mode) a.storage b.storage r × IsSizeBehind a.size n b.size r × (b.writable ≡ a.writable));
+      cut = λ n a b r. (a.size ≤ n → (b ≡ a) × (r ≡ Ok tt))
+          × (n < a.size → S.maintenance.resized n StorageMode.None a.storage b.storage r × IsSizeBehind a.size n b.size r × (b.writable ≡ a.writable));
       flushed = λ a b r. S.maintenance.flushed a.storage b.storage r × (b.size ≡ a.size) × (b.writable ≡ a.writable);
       synced = λ a b r. S.maintenance.synced a.storage b.storage r × (b.size ≡ a.size) × (b.writable ≡ a.writable);
       invalidated = λ a b r. S.maintenance.invalidated a.storage b.storage r × (b.size ≡ a.size) × (b.writable ≡ a.writable);
-    } };
-
-    ghost discards = { record {
-      to_any = λ o n a b r. IsPartDiscarded S.maintenance (S.features a.storage).discard_align o n a.storage b.storage r × (b.size ≡ a.size) × (b.writable ≡ a.writable);
-      to_backing = λ o n a b r. HasDone (λ _ _. zeroes) DiscardToBacking o n
-          (raw_view (S.features a.storage) (S.fault_count a.storage) (S.bytes a.storage) a.size a.writable)
-          (raw_view (S.features b.storage) (S.fault_count b.storage) (S.bytes b.storage) b.size b.writable) r;
     } };
 
     ghost lawful = { λ d. raw_lawful (S.features d.storage) (S.fault_count d.storage) (S.bytes d.storage) d.size d.writable };
@@ -263,7 +280,7 @@ impl<S: Storage> FormatDriverInstance for Raw<S> {
         ensures zeroed { HasDone (λ _ _. zeroes) DiscardToBacking offset count
             (⟦<Raw<S> as FormatDriverInstance>⟧.view self.old)
             (⟦<Raw<S> as FormatDriverInstance>⟧.view self.new) result }
-        ensures performed { ⟦<Raw<S> as FormatDriverInstance>⟧.discards.to_backing offset count self.old
+        ensures performed { ⟦<Raw<S> as FormatDriverInstance>⟧.calls.discarded_to_backing offset count self.old
             self.new result }
     {
         // No layer stands below: what is given back to it is zero.
@@ -283,6 +300,7 @@ impl<S: Storage> FormatDriverInstance for Raw<S> {
         ensures call { IsPreparation (lent B.as_layer_below _below.entry) offset count (⟦<Raw<S> as FormatDriverInstance>⟧.view self.old) (⟦<Raw<S> as FormatDriverInstance>⟧.view self.new) result }
         ensures untouched { self.new ≡ self.old }
         ensures never_refused { IsOk result }
+        ensures performed { ⟦<Raw<S> as FormatDriverInstance>⟧.calls.prepared (lent B.as_layer_below _below.entry) offset count _overwrite self.old self.new result }
     {
         Ok(PreparedDataMapping::existing(0, offset, count))
     }
@@ -316,7 +334,8 @@ impl<S: Storage> FormatDriverInstance for Raw<S> {
     }
 
     fn commit_data_mapping(&mut self, mapping: PreparedDataMapping<()>) -> Result<(), Error>
-        ensures { IsCommit ⟦<Raw<S> as FormatDriverInstance>⟧.view self.old self.new mapping result }
+        ensures call { IsCommit ⟦<Raw<S> as FormatDriverInstance>⟧.view self.old self.new mapping result }
+        ensures performed { ⟦<Raw<S> as FormatDriverInstance>⟧.calls.committed mapping self.old self.new result }
     {
         match mapping.into_state() {
             None => Ok(()),
@@ -325,7 +344,8 @@ impl<S: Storage> FormatDriverInstance for Raw<S> {
     }
 
     fn cancel_data_mapping(&mut self, mapping: PreparedDataMapping<()>)
-        ensures { IsCancel ⟦<Raw<S> as FormatDriverInstance>⟧.view self.old self.new mapping }
+        ensures call { IsCancel ⟦<Raw<S> as FormatDriverInstance>⟧.view self.old self.new mapping }
+        ensures performed { ⟦<Raw<S> as FormatDriverInstance>⟧.calls.cancelled mapping self.old self.new }
     {
         let _ = mapping.into_state();
     }
@@ -342,6 +362,8 @@ impl<S: Storage> FormatDriverInstance for Raw<S> {
             (⟦<Raw<S> as FormatDriverInstance>⟧.view self.new) result }
         ensures exact { (⟦<Raw<S> as FormatDriverInstance>⟧.view self.old).size < new_size
             → OnOk result (length ((⟦<Raw<S> as FormatDriverInstance>⟧.view self.new).stores.bytes 0) ≡ new_size) }
+        ensures performed { ⟦<Raw<S> as FormatDriverInstance>⟧.calls.grown new_size mode
+            (lent B.as_layer_below _below.entry) self.old self.new result }
     {
         if new_size <= self.size {
             return Ok(());
@@ -356,6 +378,7 @@ impl<S: Storage> FormatDriverInstance for Raw<S> {
             (⟦<Raw<S> as FormatDriverInstance>⟧.view self.new) result }
         ensures exact { new_size < (⟦<Raw<S> as FormatDriverInstance>⟧.view self.old).size
             → OnOk result (length ((⟦<Raw<S> as FormatDriverInstance>⟧.view self.new).stores.bytes 0) ≡ new_size) }
+        ensures performed { ⟦<Raw<S> as FormatDriverInstance>⟧.calls.cut new_size self.old self.new result }
     {
         if self.size <= new_size {
             return Ok(());
@@ -400,6 +423,7 @@ fn zero_part<S: Storage>(
     ensures no_shorter { length (S.bytes storage.old) ≤ length (S.bytes storage.new) }
     ensures near { length (S.bytes storage.new)
         ≤ max (length (S.bytes storage.old)) (padded_to (S.features storage.old) offset count) }
+    ensures idle { IsIdleWithoutPart (S.features storage.old).zero_align offset count storage.old storage.new result }
     ensures features { S.features storage.new ≡ S.features storage.old }
     ensures only { IfErr result IsExtRefusal }
     ensures wraps { IsErrOf result Error.WrapAround

@@ -1,8 +1,9 @@
 //! Builders of raw images.
 ghost use Rattle.std.specs.Prelude.{◌≡◌, ◌≤◌, ◌⊎◌, [], length, true, IsTrue, OnOk, OnErr, IfOk, IfErr};
 ghost use Rattle.std.specs.String.{string_bytes};
+ghost use Rattle.imago_drivers.specs.declared.format.Format.TheVariants as ImageFormat;
 ghost use Rattle.imago_drivers.specs.Builder.{HandedIn, AtPath, unset, unsized};
-ghost use Rattle.imago_drivers.specs.RawBuilder.{IsRawOpening, IsRawCreation, IsRawCreatedOpen, IsNewDisk, MayEmptyingBeRefused, MayCreationBeRefused};
+ghost use Rattle.imago_drivers.specs.RawBuilder.{IsRawOpening, IsRawOpeningBy, IsRawCreation, IsRawCreatedOpen, IsNewDisk, IsEmptiedBy, IsMadeIn, MayEmptyingBeRefused, MayCreationBeRefused};
 
 use crate::builder::{
     FormatCreateBuilder, FormatCreateBuilderBase, FormatDriverBuilder, FormatDriverBuilderBase,
@@ -48,12 +49,28 @@ impl<S: Storage> Raw<S> {
     }
 }
 
+impl<S: Storage> RawOpenBuilder<S> {
+    ghost use Rattle.imago_drivers.specs.RawBuilderParts.{raw_open_settings};
+
+    /// Opens the image by a gate that is lent. The gate isn't asked where a storage was handed in, and is else asked once.
+    fn open_by<G: ImplicitOpenGate<S>>(self, alloc: Global, gate: &mut G) -> Result<Raw<S>, Error>
+        ensures { IsRawOpeningBy S.bytes S.features G.opened (raw_open_settings self) gate.old gate.new result }
+    {
+        let RawOpenBuilder(base) = self;
+        let writable = base.get_writable();
+        let storage = base.open_image(alloc, gate)?;
+        Raw::open_image(storage, writable)
+    }
+}
+
 impl<S: Storage> FormatDriverBuilder<S> for RawOpenBuilder<S> {
     ghost use Rattle.imago_drivers.specs.RawBuilderParts.{raw_open_settings};
 
     type Format = Raw<S>;
 
     const FORMAT: Format = Format::Raw;
+
+    ghost FORMAT = { ImageFormat.Raw };
 
     ghost settings = { raw_open_settings };
 
@@ -78,10 +95,7 @@ impl<S: Storage> FormatDriverBuilder<S> for RawOpenBuilder<S> {
     }
 
     fn open<G: ImplicitOpenGate<S>>(self, alloc: Global, mut gate: G) -> Result<Raw<S>, Error> {
-        let RawOpenBuilder(base) = self;
-        let writable = base.get_writable();
-        let storage = base.open_image(alloc, &mut gate)?;
-        Raw::open_image(storage, writable)
+        self.open_by(alloc, &mut gate)
     }
 
     fn get_image_path(&self) -> Option<&str> {
@@ -106,7 +120,7 @@ impl<S: Storage> FormatCreateBuilder<S> for RawCreateBuilder<S> {
 
     ghost settings = { raw_create_settings };
 
-    ghost creates = { λ b result. IsRawCreation S.bytes S.features S.fault_count (raw_create_settings b) result };
+    ghost creates = { λ b result. IsRawCreation S.bytes S.features S.fault_count S.maintenance (raw_create_settings b) result };
 
     fn new(image: S) -> Self {
         RawCreateBuilder(FormatCreateBuilderBase::new(image))
@@ -152,8 +166,8 @@ impl<S: Storage> RawCreateBuilder<S> {
         f: F,
     ) -> Result<Raw<S>, Error>
         requires { F.IsAlwaysCallable f }
-        ensures created { IsRawCreatedOpen S.bytes S.features S.fault_count ⟦<Raw<S> as FormatDriverInstance>⟧.view
-            raw_open_settings G.opened gate (F.post f) (raw_create_settings self) result }
+        ensures created { IsRawCreatedOpen S.bytes S.features S.fault_count S.maintenance ⟦<Raw<S> as FormatDriverInstance>⟧.view
+            ⟦<Raw<S> as FormatDriverInstance>⟧.calls raw_open_settings G.opened gate (F.post f) (raw_create_settings self) result }
         ensures writable { IfOk result (λ r. (⟦<Raw<S> as FormatDriverInstance>⟧.view r).abilities.is_writable ≡ true) }
         ensures sized { IfOk result
             (λ r. (raw_create_settings self).size ≤ (⟦<Raw<S> as FormatDriverInstance>⟧.view r).size) }
@@ -177,6 +191,7 @@ impl<S: Storage> RawCreateBuilder<S> {
 /// the storage is as it was, or empty.
 pub fn create_in<S: Storage>(storage: &mut S, size: u64, mode: PreallocateMode) -> Result<(), Error>
     ensures created { OnOk result (IsNewDisk size mode (S.bytes storage.new)) }
+    ensures performed { IsMadeIn S.bytes S.maintenance size mode storage.old storage.new result }
     ensures refused { OnErr result ((S.bytes storage.new ≡ S.bytes storage.old) ⊎ (S.bytes storage.new ≡ [])) }
     ensures features { S.features storage.new ≡ S.features storage.old }
     ensures faults { S.fault_count storage.old ≤ S.fault_count storage.new }
@@ -193,6 +208,7 @@ pub fn create_in<S: Storage>(storage: &mut S, size: u64, mode: PreallocateMode) 
 /// Gives up all bytes of a storage. Refused, it is as it was.
 fn empty<S: Storage>(storage: &mut S) -> Result<(), Error>
     ensures emptied { OnOk result (S.bytes storage.new ≡ []) }
+    ensures performed { IsEmptiedBy S.bytes S.maintenance storage.old storage.new result }
     ensures refused { OnErr result (S.bytes storage.new ≡ S.bytes storage.old) }
     ensures features { S.features storage.new ≡ S.features storage.old }
     ensures faults { S.fault_count storage.old ≤ S.fault_count storage.new }

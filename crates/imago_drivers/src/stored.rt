@@ -1,6 +1,7 @@
 //! Bytes of a storage, for drivers whose places stand in one.
 ghost use Rattle.std.specs.Prelude.{◌≡◌, ◌+◌, ◌≤◌, max, length, slice_index, IsTrue, IsOk, IfErr, OnOk, OnErr, IsErrOf, true, false};
 ghost use Rattle.imago_storage.specs.Error.{IsExtRefusal};
+ghost use Rattle.imago_storage.specs.Calls.{IsRangeWrite};
 ghost use Rattle.imago_storage.specs.Faults.{CountsFaults};
 ghost use Rattle.imago_storage.specs.Features.{MayRunOut, IsAlignedRequest};
 ghost use Rattle.imago_storage.specs.Padding.{Wraps, padded_end};
@@ -18,13 +19,14 @@ use std::alloc::Global;
 ///
 /// It is refused as [`StorageExt::write`] is: [`Error::WrapAround`] where a request of the storage's alignment around the
 /// range would end past `u64::MAX`, [`Error::Memory`] only where the storage takes memory or the range isn't aligned, and
-/// [`Error::Device`] only where a device failed.
+/// [`Error::Device`] only where a device failed. It is that one write: no other call is made of the storage.
 pub fn write_bytes<S: Storage>(
     storage: &mut S,
     alloc: Global,
     source: &[u8],
     offset: u64,
 ) -> Result<(), Error>
+    ensures call { IsRangeWrite S.features S.bytes S.fault_count S.work offset source.now storage.old storage.new result }
     ensures empty { length source.now ≡ 0 → IsOk result }
     ensures written { IsTrue (S.features storage.old).keeps_data
         → OnOk result

@@ -1,8 +1,7 @@
 use Rattle.std.specs.Prelude.{ℕ, ◌+◌, List, ◌∷◌, Result, map}
 use Rattle.imago.specs.DeclaredError.{Error}
 use Rattle.imago.specs.Features.{Features}
-use Rattle.imago.specs.Flushes.{Flushes}
-use Rattle.imago.specs.Discards.{Discards}
+use Rattle.imago.specs.CallRelations.{Calls, any_calls}
 use Rattle.imago.specs.Laws.{IsLawful, AreCauses}
 use Rattle.imago.specs.Raw.{raw_view}
 use Rattle.imago.specs.RawImage.{storage_in, writability_of, size_of}
@@ -36,19 +35,14 @@ related of_raw of_vmdk of_cow (Vmdk old) (Vmdk new) r = of_vmdk old new r
 related of_raw of_vmdk of_cow (Cow old) (Cow new) r = of_cow old new r
 related of_raw of_vmdk of_cow _ _ r = ⊥
 
--- its flushes are those of the driver that it is
-abbrev pub flushes_by_format : {S : Type 0} {g : _} {h : _} → Flushes (RawImage S g h) → Flushes (VmdkImage S g h) → Flushes (CowImage S g h) → Flushes (ScriptDriver S g h)
-flushes_by_format r v c = record {
+-- its discards to any and to backing, and its flushes, are those of the driver that it is
+abbrev pub calls_by_format : {S : Type 0} {g : _} {h : _} → Calls (RawImage S g h) Unit → Calls (VmdkImage S g h) Unit → Calls (CowImage S g h) CowState → Calls (ScriptDriver S g h) CowState
+calls_by_format r v c = record any_calls {
+  discarded_to_any = λ at count. related (r.discarded_to_any at count) (v.discarded_to_any at count) (c.discarded_to_any at count);
+  discarded_to_backing = λ at count. related (r.discarded_to_backing at count) (v.discarded_to_backing at count) (c.discarded_to_backing at count);
   flushed = related r.flushed v.flushed c.flushed;
   synced = related r.synced v.synced c.synced;
   invalidated = related r.invalidated v.invalidated c.invalidated;
-}
-
--- so are its discards to any and to backing
-abbrev pub discards_by_format : {S : Type 0} {g : _} {h : _} → Discards (RawImage S g h) → Discards (VmdkImage S g h) → Discards (CowImage S g h) → Discards (ScriptDriver S g h)
-discards_by_format r v c = record {
-  to_any = λ at count. related (r.to_any at count) (v.to_any at count) (c.to_any at count);
-  to_backing = λ at count. related (r.to_backing at count) (v.to_backing at count) (c.to_backing at count);
 }
 
 -- a raw image over a storage that shows these features, counts of faults and bytes

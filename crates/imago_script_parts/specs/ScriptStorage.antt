@@ -29,6 +29,10 @@ maintenance_by_kind m n = record {
   invalidated = related m.invalidated n.invalidated;
   settled = related m.settled n.settled;
   discarded = λ at count. related (m.discarded at count) (n.discarded at count);
+  resized = λ new_size mode. related (m.resized new_size mode) (n.resized new_size mode);
+  counted = λ at buffer. related (m.counted at buffer) (n.counted at buffer);
+  zeroed_in_place = λ kind at count. related (m.zeroed_in_place kind at count) (n.zeroed_in_place kind at count);
+  zeroed = λ kind at count. related (m.zeroed kind at count) (n.zeroed kind at count);
 }
 
 -- the alignments of both kinds are lawful

@@ -2,7 +2,7 @@
 ghost use Rattle.std.specs.Prelude.{◌≡◌, None};
 ghost use Rattle.imago.specs.Parts.{storage_of, offset_of, length_of, state_of};
 ghost use Rattle.imago.specs.Commit.{IsCommit, IsCancel};
-ghost use Rattle.imago_script_parts.specs.ScriptDriver.{view_by_format, flushes_by_format, discards_by_format, formats_lawful, formats_causes};
+ghost use Rattle.imago_script_parts.specs.ScriptDriver.{view_by_format, calls_by_format, formats_lawful, formats_causes};
 
 use imago::cow::{Cow, CowState};
 use imago::drivers::{
@@ -103,9 +103,7 @@ impl<S: Storage> FormatDriverInstance for ScriptDriver<S> {
 
     ghost probe_reasons = { ⟦<Vmdk<S> as FormatDriverInstance>⟧.probe_reasons };
 
-    ghost flushes = { flushes_by_format ⟦<Raw<S> as FormatDriverInstance>⟧.flushes ⟦<Vmdk<S> as FormatDriverInstance>⟧.flushes ⟦<Cow<S> as FormatDriverInstance>⟧.flushes };
-
-    ghost discards = { discards_by_format ⟦<Raw<S> as FormatDriverInstance>⟧.discards ⟦<Vmdk<S> as FormatDriverInstance>⟧.discards ⟦<Cow<S> as FormatDriverInstance>⟧.discards };
+    ghost calls = { calls_by_format ⟦<Raw<S> as FormatDriverInstance>⟧.calls ⟦<Vmdk<S> as FormatDriverInstance>⟧.calls ⟦<Cow<S> as FormatDriverInstance>⟧.calls };
 
     ghost lawful = { λ d. formats_lawful S.features S.fault_count S.bytes d };
 
@@ -256,7 +254,8 @@ impl<S: Storage> FormatDriverInstance for ScriptDriver<S> {
     }
 
     fn commit_data_mapping(&mut self, mapping: PreparedDataMapping<CowState>) -> Result<(), Error>
-        ensures { IsCommit ⟦<ScriptDriver<S> as FormatDriverInstance>⟧.view self.old self.new mapping result }
+        ensures call { IsCommit ⟦<ScriptDriver<S> as FormatDriverInstance>⟧.view self.old self.new mapping result }
+        ensures performed { ⟦<ScriptDriver<S> as FormatDriverInstance>⟧.calls.committed mapping self.old self.new result }
     {
         match self {
             ScriptDriver::Raw(driver) => {
@@ -270,7 +269,8 @@ impl<S: Storage> FormatDriverInstance for ScriptDriver<S> {
     }
 
     fn cancel_data_mapping(&mut self, mapping: PreparedDataMapping<CowState>)
-        ensures { IsCancel ⟦<ScriptDriver<S> as FormatDriverInstance>⟧.view self.old self.new mapping }
+        ensures call { IsCancel ⟦<ScriptDriver<S> as FormatDriverInstance>⟧.view self.old self.new mapping }
+        ensures performed { ⟦<ScriptDriver<S> as FormatDriverInstance>⟧.calls.cancelled mapping self.old self.new }
     {
         match self {
             ScriptDriver::Raw(driver) => {

@@ -4,8 +4,10 @@ pub mod Splices
 pub mod Outcomes
 pub mod ZeroPieces
 pub mod Padding
+pub mod Work
 pub mod Writes
 pub mod Blocks
 pub mod ReadParts
 pub mod ZeroRanges
 pub mod ZeroWraps
+pub mod ZeroCalls

@@ -1,5 +1,6 @@
-use Rattle.std.proofs.Common.{◌≡◌, ℕ, ◌<◌, ◌≤◌, ◌⊎◌, List, length, arith, inl, inr, refl, ◌∙◌, Bool, IsTrue, Result, Ok, Err, OnOk, OnErr}
+use Rattle.std.proofs.Common.{◌≡◌, ℕ, ◌<◌, ◌≤◌, ◌⊎◌, List, length, arith, inl, inr, ap, refl, ◌∙◌, Bool, IsTrue, Result, Ok, Err, OnOk, OnErr}
 use Rattle.imago_storage.specs.Bytes.{OldOrNew, WriteOutcome}
+use Rattle.imago_storage.specs.Calls.{ShowsNoChange}
 use Rattle.imago_storage.specs.Faults.{CountsFaults}
 use Rattle.imago_storage.specs.Features.{Features, MemoryUse, Never, ForGrowth, Any, MayRunOut, RequestMayRunOut, ZeroesMayRunOut}
 use Rattle.imago_storage.specs.declared.error.Error.{Error}
@@ -102,6 +103,18 @@ not_refused r y e was refused = cc
 pub fits_where_ok : {T : Type 0} (r : Result T Error) (W P : Type 0) → (W → r ≡ Err WrapAround) → ((¬ W) → P) → OnOk r P
 fits_where_ok (Ok x) W P refused fits = fits (λ w. not_refused (Ok x) x WrapAround refl (refused w))
 fits_where_ok (Err e) W P refused fits = tt
+
+-- what is the same shows no change, also behind what showed none
+pub shows_same : {S : Type 0} (features_of : S → Features) (bytes_of : S → List ℕ) (faults_of : S → ℕ) (old new : S) → new ≡ old → ShowsNoChange features_of bytes_of faults_of old new
+shows_same features_of bytes_of faults_of old new same = record { bytes = ap bytes_of same; features = ap features_of same; faults = ap faults_of same }
+
+pub shows_still : {S : Type 0} (features_of : S → Features) (bytes_of : S → List ℕ) (faults_of : S → ℕ) (old mid new : S)
+    → ShowsNoChange features_of bytes_of faults_of old mid → new ≡ mid → ShowsNoChange features_of bytes_of faults_of old new
+shows_still features_of bytes_of faults_of old mid new first same = record {
+  bytes = ap bytes_of same ∙ first.bytes;
+  features = ap features_of same ∙ first.features;
+  faults = ap faults_of same ∙ first.faults;
+}
 
 -- what may run out of memory on a longer storage, for a nearer end, may do so on a shorter one for a farther end
 pub MayRunOut_more : (m : MemoryUse) (len more end whole : ℕ) → len ≤ more → end ≤ whole → MayRunOut m more end → MayRunOut m len whole

@@ -37,6 +37,10 @@ next_add x a = let e : (a + x) % a ≡ x % a = add-mod_left a x in rw e (omega a
 pub multiple_ge : (x a : ℕ) → 0 < x → x % a ≡ 0 → a ≤ x
 multiple_ge x a h e = le_of_dvd h (dvd_of_mod-eq-zero a e)
 
+-- the next multiple of something is one at least
+pub next_one : (x a : ℕ) → 0 < a → 0 < x → a ≤ next_multiple_of x a
+next_one x a h some = multiple_ge (next_multiple_of x a) a (omega arith) (next_multiple x a h)
+
 -- the next multiple is the least one
 next_least : (x a y : ℕ) → 0 < a → x ≤ y → y % a ≡ 0 → next_multiple_of x a ≤ y
 next_least x a y p h e = elim (cases_lt y (next_multiple_of x a)) [

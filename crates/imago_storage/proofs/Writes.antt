@@ -1,4 +1,4 @@
-use Rattle.std.proofs.Common.{◌≡◌, ℕ, ◌+◌, ◌-◌, ◌*◌, ◌<◌, ◌≤◌, ◌⊎◌, List, ◌++◌, length, take, drop, replicate, get_or, max, arith, inl, inr, refl, sym, ap, ◌∙◌, Bool, Result, Ok, Err, IsErrAnd}
+use Rattle.std.proofs.Common.{◌≡◌, ℕ, ◌+◌, ◌-◌, ◌*◌, ◌<◌, ◌≤◌, ◌⊎◌, List, ◌++◌, length, take, drop, replicate, get_or, max, min, arith, inl, inr, refl, sym, ap, ◌∙◌, Bool, Result, Ok, Err, IsErrAnd}
 use Rattle.std.proofs.lemmas.List.{places, length-append, length-replicate, length-take-le, length-drop, take-append-drop, take_rest, get_or_append_left, get_or-append_right}
 use Rattle.std.proofs.lemmas.Grind.{same_number_lists}
 use Rattle.std.proofs.lemmas.Bool.{cases_lt}
@@ -169,11 +169,6 @@ second_written {xs = xs} {mid = mid} {k = k} {at = at} {e = e} {d = d} vs s w wa
     (λ size. omega (arith, size, s.longer, length-part mid (at + k) (drop k vs) d second, length-part xs at (take k vs) e (omega (arith, l, s.first)), length-part xs at vs d s.covers))
 
 -- the parts of a padded request are the work of one write
-pub write_work : (f : Features) (at n start len block : ℕ) (old new : IoCount) → AddsAtMost 2 (2 * block) 3 len old new → block ≡ len_align f
-    → IsPaddedRequest f at n start len → IsWriteWork (len_align f) n old new
-write_work f at n start len block old new w same q = record {
-  reads = w.reads;
-  bytes_read = rw same at w.bytes_read;
-  writes = w.writes;
-  bytes_written = omega (arith, w.bytes_written, q.small, q.near);
-}
+pub write_work : (f : Features) (at n start len block : ℕ) (old new : IoCount) → AddsAtMost 2 (min (2 * block) len) 3 len old new → block ≡ len_align f
+    → IsPaddedRequest f at n start len → IsWriteWork f at n old new
+write_work f at n start len block old new w same q = rw (same, q.is_len) at w

@@ -2,7 +2,7 @@ use Rattle.std.proofs.Common.{◌≡◌, ◌≢◌, ℕ, ◌+◌, ◌-◌, ◌*�
 use Rattle.std.proofs.Math.Nat.{add-mul-mod_self_left, div-add-mod, mod-eq_of_lt, mod-lt}
 use Rattle.std.proofs.lemmas.Bool.{cases_lt}
 use Rattle.std.specs.Int.{next_multiple_of}
-use Rattle.imago_storage.specs.Features.{Features, ZeroSupport, AsData, MayBeUnsupported, AreAlignments, IsAlignedTo, len_align}
+use Rattle.imago_storage.specs.Features.{Features, ZeroSupport, AsData, MayBeUnsupported, AreAlignments, IsAlignedRequest, IsAlignedTo, len_align}
 use Rattle.imago_storage.specs.Padding.{padded_length, padded_end, Wraps, aligned_start, aligned_end, RangeWraps, IsAlignedPart}
 use Rattle.imago_storage.specs.Zeroes.{DataWraps, EdgeWraps, MayWrap, FitsZeroes, IsHead}
 use Rattle.imago_storage.proofs.Alignment.{power_positive, multiple_add, multiple_of_multiple}
@@ -45,6 +45,18 @@ pub piece_kind : (a piece left : ℕ) → piece % a ≡ 0 → (min piece left % 
 piece_kind a piece left whole = elim (cases_lt piece left) [
   | inl l ↦ let e : min piece left ≡ piece = omega arith in inl (rw e whole)
   | inr l ↦ inr (omega arith)
+]
+
+-- a piece that isn't the last one is an aligned request
+pub piece_aligned : (f : Features) (at n done k : ℕ) → AreAlignments f → at % f.req_align ≡ 0 → done % len_align f ≡ 0 → done + k ≤ n → at + n < 2 ^ 64
+    → (k % len_align f ≡ 0) ⊎ (k ≡ n - done) → done + k < n → IsAlignedRequest f (at + done) k
+piece_aligned f at n done k a start whole fits ends which more = elim which [
+  | inr last ↦ absurd (omega (arith, last, more))
+  | inl full ↦ record {
+    start = multiple_add f.req_align at done start (multiple_of_multiple f.req_align (len_align f) done whole (len_whole f a));
+    whole = full;
+    ends = omega (arith, ends, more);
+  }
 ]
 
 -- where the last piece fits, so does the range

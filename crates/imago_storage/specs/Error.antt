@@ -27,6 +27,10 @@ IsDeviceOrMemory e = (e ≡ Device) ⊎ (e ≡ Memory)
 abbrev pub IsPureRefusal : Error → Type 0
 IsPureRefusal e = (e ≡ Unsupported) ⊎ (e ≡ Device) ⊎ (e ≡ Memory)
 
+-- What telling which name a relative one stands for is refused for: also a name that isn't there, isn't one, or mustn't be seen.
+abbrev pub IsNameRefusal : Error → Type 0
+IsNameRefusal e = IsPureRefusal e ⊎ (e ≡ NotFound) ⊎ (e ≡ InvalidData) ⊎ (e ≡ Denied)
+
 -- what a request of any alignment is refused for
 abbrev pub IsExtRefusal : Error → Type 0
 IsExtRefusal e = (e ≡ WrapAround) ⊎ (e ≡ Device) ⊎ (e ≡ Memory)

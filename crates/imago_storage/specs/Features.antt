@@ -65,6 +65,10 @@ pub record AreAlignments (f : Features) : Type 0 where
 abbrev pub len_align : Features → ℕ
 len_align f = max f.req_align f.mem_align
 
+-- how many zeroes are written as data at once: 1 MiB, or one block where that is more
+abbrev pub zero_piece : Features → ℕ
+zero_piece f = max (len_align f) 1048576
+
 -- a read or write that the storage takes as it is
 pub record IsAlignedRequest (f : Features) (at n : ℕ) : Type 0 where
   pub start : at % f.req_align ≡ 0

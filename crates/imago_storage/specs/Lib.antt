@@ -3,13 +3,13 @@ pub mod Bytes
 pub mod Features
 pub mod Maintenance
 pub mod Faults
-pub mod IoCount
 pub mod Options
 pub mod Openings
 pub mod Powers
 pub mod Mem
 pub mod MemParts
 pub mod Padding
+pub mod IoCount
 pub mod Blocks
 pub mod Zeroes
 pub mod Calls

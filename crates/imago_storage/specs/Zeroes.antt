@@ -1,7 +1,11 @@
-use Rattle.std.specs.Prelude.{◌≡◌, ◌≢◌, ℕ, ◌+◌, ◌-◌, ◌%◌, ◌<◌, ◌≤◌, ◌⊎◌, List, min, replicate, Result, IsOk}
+use Rattle.std.specs.Prelude.{◌≡◌, ◌≢◌, ℕ, ◌+◌, ◌-◌, ◌%◌, ◌<◌, ◌≤◌, ◌⊎◌, List, min, replicate, Result, Ok, Err, IsOk, IsErrOf}
 use Rattle.imago_storage.specs.declared.error.Error.{Error}
 use Rattle.imago_storage.specs.Bytes.{splice, zero_extended, WriteOutcome}
-use Rattle.imago_storage.specs.Features.{Features, ZeroSupport, InPlace, AsData, NotOffered, MayBeUnsupported, len_align}
+use Rattle.imago_storage.specs.declared.error.Error.TheVariants.{Unsupported, Memory}
+use Rattle.imago_storage.specs.declared.options.ZeroKind.{ZeroKind}
+use Rattle.imago_storage.specs.Features.{Features, ZeroSupport, InPlace, AsData, NotOffered, MayBeUnsupported, len_align, zero_piece}
+use Rattle.imago_storage.specs.IoCount.{IoCount, IsInPieces, IsEdgedWork}
+use Rattle.imago_storage.specs.Maintenance.{Maintenance}
 use Rattle.imago_storage.specs.Padding.{Wraps, RangeWraps, aligned_start, aligned_end}
 
 -- Zeroes stand in the range, or the write of them was refused on the way. What grew ends by less than an alignment
@@ -60,3 +64,35 @@ pub record FitsZeroes (f : Features) (z : ZeroSupport) (at n : ℕ) : Type 0 whe
   pub whole_data : HasPart f at n → z ≡ AsData → part_length f at n % f.mem_align ≡ 0 → ¬ EdgeWraps f at n
   pub odd_data : HasPart f at n → z ≡ AsData → part_length f at n % f.mem_align ≢ 0 → ¬ DataWraps f at n
   pub either : HasPart f at n → z ≡ NotOffered → (¬ EdgeWraps f at n) ⊎ (¬ DataWraps f at n)
+
+-- An aligned zero write is the storage's own of that kind; or one in place, which isn't refused as unsupported; or one in place that is,
+-- and then pieces of data, behind which nothing else is called.
+abbrev pub IsZeroCall : {S : Type 0} → Maintenance S → (S → IoCount) → Features → ZeroKind → ℕ → ℕ → S → S → Result (Unit {0}) Error → Type 0
+IsZeroCall {S} calls work_of f kind at n old new result =
+    calls.zeroed kind at n old new result
+    ⊎ (calls.zeroed_in_place kind at n old new result × (result ≢ Err Unsupported))
+    ⊎ ((mid : S) × calls.zeroed_in_place kind at n old mid (Err Unsupported) × IsInPieces (zero_piece f) n (work_of mid) (work_of new))
+
+-- The aligned part of a range, from `start` to `end`, is zeroed by one aligned zero write of that kind, before anything else. Its refusal is
+-- the answer; behind its success the edges are written as data, which isn't unsupported.
+pub record IsPartAndEdges {S : Type 0} (calls : Maintenance S) (work_of : S → IoCount) (f : Features) (kind : ZeroKind) (at n start end : ℕ) (old new : S) (result : Result (Unit {0}) Error) : Type 0 where
+  pub answer : Result (Unit {0}) Error
+  pub between : S
+  pub part : IsZeroCall calls work_of f kind start (end - start) old between answer
+  pub refused : (e : Error) → answer ≡ Err e → (new ≡ between) × (result ≡ Err e)
+  pub edges : answer ≡ Ok tt → IsEdgedWork 2 (len_align f) (zero_piece f) (start - at + (at + n - end)) (work_of between) (work_of new) × (result ≢ Err Unsupported)
+
+-- Where the zero write of the aligned part is unsupported, the whole range is written as data.
+pub record IsPartThenData {S : Type 0} (calls : Maintenance S) (work_of : S → IoCount) (f : Features) (kind : ZeroKind) (n start end : ℕ) (old new : S) : Type 0 where
+  pub between : S
+  pub part : IsZeroCall calls work_of f kind start (end - start) old between (Err Unsupported)
+  pub data_work : IsEdgedWork 2 (len_align f) (zero_piece f) n (work_of between) (work_of new)
+
+-- A zero write of any range is made of its aligned part and the edges, or, that part being unsupported, of data; of data alone, where it
+-- has no such part; or of nothing, where there is no memory for the zeroes. Nothing else is called.
+abbrev pub IsZeroedInParts : {S : Type 0} → Maintenance S → (S → IoCount) → Features → ZeroKind → ℕ → ℕ → S → S → Result (Unit {0}) Error → Type 0
+IsZeroedInParts calls work_of f kind at n old new result =
+    ((new ≡ old) × IsErrOf result Memory)
+    ⊎ (HasPart f at n × IsPartAndEdges calls work_of f kind at n (aligned_start f.zero_align at) (aligned_end f.zero_align at n) old new result)
+    ⊎ (HasPart f at n × IsPartThenData calls work_of f kind n (aligned_start f.zero_align at) (aligned_end f.zero_align at n) old new)
+    ⊎ ((¬ HasPart f at n) × IsEdgedWork 2 (len_align f) (zero_piece f) n (work_of old) (work_of new))

@@ -1,6 +1,7 @@
 //! Calls on any range, for every storage.
 ghost use Rattle.std.specs.Prelude.{length};
 ghost use Rattle.imago_storage.specs.Calls.{IsRangeRead, IsRangeWrite, IsRangeZeroing, IsRangeDiscard};
+ghost use Rattle.imago_storage.specs.declared.options.ZeroKind.TheVariants.{Any, Allocated};
 
 use crate::error::Error;
 use crate::request::{discard_any, read_any, write_any};
@@ -53,7 +54,7 @@ pub trait StorageExt: Storage {
     /// buffer of zeroes, or passed on. Refused, each byte of the range is old or zero, all others are old, and the length
     /// is between.
     fn write_zeroes(&mut self, alloc: Global, offset: u64, count: u64) -> Result<(), Error>
-        ensures { IsRangeZeroing Self.features Self.bytes Self.fault_count (Self.features self.old).zeroes offset count self.old self.new result };
+        ensures { IsRangeZeroing Self.features Self.bytes Self.fault_count Self.work Self.maintenance Any (Self.features self.old).zeroes offset count self.old self.new result };
 
     /// Zeroes a range and allocates it, as [`write_zeroes`](Self::write_zeroes) does otherwise.
     fn write_allocated_zeroes(
@@ -62,7 +63,7 @@ pub trait StorageExt: Storage {
         offset: u64,
         count: u64,
     ) -> Result<(), Error>
-        ensures { IsRangeZeroing Self.features Self.bytes Self.fault_count (Self.features self.old).allocated_zeroes offset count self.old self.new result };
+        ensures { IsRangeZeroing Self.features Self.bytes Self.fault_count Self.work Self.maintenance Allocated (Self.features self.old).allocated_zeroes offset count self.old self.new result };
 
     /// Says that a range is no longer needed. The part of it that is aligned to the discard alignment is unspecified
     /// afterwards, also where the call is refused; all other bytes, and the length, stay. A storage that offers no

@@ -6,7 +6,7 @@ ghost use Rattle.std.specs.String.{string_bytes};
 ghost use Rattle.imago_storage.specs.Bytes.{splice, IsReadAt};
 ghost use Rattle.imago_storage.specs.Features.{Features};
 ghost use Rattle.imago_storage.specs.IoCount.{no_work};
-ghost use Rattle.imago_storage.specs.Maintenance.{no_maintenance};
+ghost use Rattle.imago_storage.specs.Maintenance.{no_maintenance, resizes_bytes};
 ghost use Rattle.imago_storage.specs.Openings.{no_openings};
 ghost use Rattle.imago_storage.specs.Mem.{mem_features, mem_lawful};
 
@@ -219,7 +219,7 @@ impl Storage for MemStorage {
 
     ghost work = { λ _. no_work };
 
-    ghost maintenance = { no_maintenance };
+    ghost maintenance = { record no_maintenance { resized = resizes_bytes (λ s. s.bytes.items) } };
 
     ghost openings = { no_openings };
 

@@ -2,7 +2,7 @@
 ghost use Rattle.std.specs.Prelude.{◌≡◌, ℕ, Bool, true, false, replicate, length};
 ghost use Rattle.imago_storage.specs.Mem.{null_features, null_lawful};
 ghost use Rattle.imago_storage.specs.IoCount.{no_work};
-ghost use Rattle.imago_storage.specs.Maintenance.{no_maintenance};
+ghost use Rattle.imago_storage.specs.Maintenance.{no_maintenance, resizes_bytes};
 ghost use Rattle.imago_storage.specs.Openings.{no_openings};
 
 use crate::error::Error;
@@ -45,7 +45,7 @@ impl Storage for Null {
 
     ghost work = { λ _. no_work };
 
-    ghost maintenance = { no_maintenance };
+    ghost maintenance = { record no_maintenance { resized = resizes_bytes (λ s. replicate s.size 0) } };
 
     ghost openings = { no_openings };
 

@@ -1,5 +1,5 @@
 //! Reads, writes and discards of any range.
-ghost use Rattle.std.specs.Prelude.{◌≡◌, ◌+◌, ◌-◌, ◌<◌, ◌≤◌, ◌*◌, length, false, OnOk, IfErr, IsErrOf};
+ghost use Rattle.std.specs.Prelude.{◌≡◌, ◌+◌, ◌-◌, ◌<◌, ◌≤◌, ◌*◌, length, min, false, OnOk, IfErr, IsErrOf};
 ghost use Rattle.std.specs.Int.{next_multiple_of};
 ghost use Rattle.imago_storage.specs.Blocks.{IsInParts, IsInBlocks};
 ghost use Rattle.imago_storage.specs.Bytes.{splice, zero_extended, WriteOutcome, IsReadAt};
@@ -152,7 +152,7 @@ pub(crate) fn write_parts<S: Storage>(
         (splice (zero_extended (S.bytes storage.old) (start + len)) offset source.now)
         (S.bytes storage.new) result }
     ensures features { S.features storage.new ≡ S.features storage.old }
-    ensures work { AddsAtMost 2 (2 * length block.old) 3 len (S.work storage.old) (S.work storage.new) }
+    ensures work { AddsAtMost 2 (min (2 * length block.old) len) 3 len (S.work storage.old) (S.work storage.new) }
     ensures memory { IsErrOf result Error.Memory
         → RequestMayRunOut (S.features storage.old) (length (S.bytes storage.old)) (start + len) }
     ensures only { IfErr result IsDeviceOrMemory }

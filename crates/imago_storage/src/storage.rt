@@ -3,15 +3,16 @@ ghost use Rattle.std.specs.Prelude.{◌≡◌, ◌≢◌, ℕ, ◌+◌, ◌%◌,
 ghost use Rattle.std.specs.Option.{option_copied};
 ghost use Rattle.std.specs.String.{string_bytes};
 ghost use Rattle.imago_storage.specs.Bytes.{splice, OldOrNew, WriteOutcome, IsReadAt, SameOutside, IsResized, IsZeroFrom};
-ghost use Rattle.imago_storage.specs.Calls.{IsPureZeroing, IsMaintained};
-ghost use Rattle.imago_storage.specs.Error.{IsDeviceOrMemory, IsPureRefusal};
+ghost use Rattle.imago_storage.specs.Calls.{IsPureZeroing, IsMaintained, ShowsNoChange};
+ghost use Rattle.imago_storage.specs.Error.{IsDeviceOrMemory, IsNameRefusal, IsPureRefusal};
 ghost use Rattle.imago_storage.specs.Faults.{CountsFaults};
-ghost use Rattle.imago_storage.specs.Features.{Features, InPlace, MayRunOut, zero_support, AreAlignments, IsAlignedRequest, IsAlignedTo};
+ghost use Rattle.imago_storage.specs.Features.{Features, InPlace, MayRunOut, zero_support, zero_piece, AreAlignments, IsAlignedRequest, IsAlignedTo};
 ghost use Rattle.imago_storage.specs.Powers.{IsAlignment};
-ghost use Rattle.imago_storage.specs.IoCount.{IoCount, AddsAtMost};
+ghost use Rattle.imago_storage.specs.IoCount.{IoCount, AddsAtMost, IsInPieces};
 ghost use Rattle.imago_storage.specs.Maintenance.{Maintenance};
 ghost use Rattle.imago_storage.specs.Openings.{Openings, IsMade};
 ghost use Rattle.imago_storage.specs.Options.{open_options, create_options};
+ghost use Rattle.imago_storage.specs.declared.options.ZeroKind.TheVariants.{Any, Allocated};
 
 use crate::align::remainder;
 use crate::error::Error;
@@ -58,7 +59,8 @@ pub trait Storage: Display + Drop + Sized {
     /// The pure reads by exclusive calls and the pure writes so far.
     ghost work: { Self → IoCount };
 
-    /// What a flush, a sync, an invalidation, a wait for writes and a discard are: only the call itself gives its relation.
+    /// What a flush, a sync, an invalidation, a wait for writes, a discard, a resize, a counted read and a zero write are: only
+    /// the call itself gives its relation.
     ghost maintenance: { Maintenance Self };
 
     /// What is opened and created by which options, and which name a relative one stands for: only the call itself gives
@@ -108,10 +110,11 @@ pub trait Storage: Display + Drop + Sized {
         ensures memory { IsErrOf result Error.Memory → MayRunOut (features self.now).other_memory 0 0 };
 
     /// The name of a storage that is given relative to this one, as `open` takes it. A storage whose names aren't
-    /// relative to one another answers [`Error::Unsupported`].
+    /// relative to one another answers [`Error::Unsupported`]; one that knows which names there are may answer
+    /// [`Error::NotFound`], [`Error::InvalidData`] or [`Error::Denied`] for some of them.
     fn resolve_relative_path(&self, alloc: Global, relative: &str) -> Result<String, Error>
         ensures resolved { IfOk result (λ name. openings.resolved self.now relative.now (string_bytes name)) }
-        ensures only { IfErr result IsPureRefusal }
+        ensures only { IfErr result IsNameRefusal }
         ensures unsupported { IsErrOf result Error.Unsupported ↔ ((features self.now).resolves_paths ≡ false) }
         ensures device { IsErrOf result Error.Device → (features self.now).is_reliable ≡ false };
 
@@ -141,7 +144,8 @@ pub trait Storage: Display + Drop + Sized {
             result }
         ensures memory { IsErrOf result Error.Memory
             → MayRunOut (features self.old).read_memory (length (bytes self.old))
-            (offset + length buf.old) };
+            (offset + length buf.old) }
+        ensures performed { maintenance.counted offset buf.new self.old self.new result };
 
     /// Writes the bytes at the offset. The storage grows to the end of the range, by zeroes where offsets are
     /// skipped. Refused, each byte of the range is old or new, all others are old, and the length is between.
@@ -162,8 +166,8 @@ pub trait Storage: Display + Drop + Sized {
             → MayRunOut (features self.old).write_memory (length (bytes self.old))
             (offset + length source.now) };
 
-    /// Zeroes a range with no buffer. A storage that can't do so for that kind answers [`Error::Unsupported`] with
-    /// nothing changed, and zeroes are written as data in its place.
+    /// Zeroes a range with no buffer. A storage that can't do so for that kind answers [`Error::Unsupported`], with the
+    /// bytes and the count of faults as they were, and zeroes are written as data in its place.
     fn zero_in_place(&mut self, offset: u64, count: u64, kind: ZeroKind) -> Result<(), Error>
         requires { IsAlignedTo (features self.old).zero_align offset count }
         ensures written { WriteOutcome (features self.old).keeps_data (bytes self.old)
@@ -173,14 +177,16 @@ pub trait Storage: Display + Drop + Sized {
             (bytes self.new)) }
         ensures atomic { IsTrue (features self.old).atomic
             → OnErr result (bytes self.new ≡ bytes self.old) }
-        ensures unchanged { IsErrOf result Error.Unsupported → self.new ≡ self.old }
+        ensures unchanged { IsErrOf result Error.Unsupported
+            → ShowsNoChange features bytes fault_count self.old self.new }
         ensures features { features self.new ≡ features self.old }
         ensures only { IfErr result IsPureRefusal }
         ensures unsupported { IsErrOf result Error.Unsupported ↔ (zero_support (features self.old) kind ≢ InPlace) }
         ensures cause { CountsFaults (features self.old).is_reliable (fault_count self.old) (fault_count self.new)
             result }
         ensures memory { IsErrOf result Error.Memory
-            → MayRunOut (features self.old).zero_memory (length (bytes self.old)) (offset + count) };
+            → MayRunOut (features self.old).zero_memory (length (bytes self.old)) (offset + count) }
+        ensures performed { maintenance.zeroed_in_place kind offset count self.old self.new result };
 
     /// Zeroes a range by pure writes, in pieces of at most 1 MiB or one alignment, from one buffer. It is
     /// [`Error::Unsupported`], with nothing changed, where the count is no multiple of `mem_align`.
@@ -195,6 +201,7 @@ pub trait Storage: Display + Drop + Sized {
         ensures early { IsErrOf result Error.Memory
             → (¬ MayRunOut (features self.old).write_memory (length (bytes self.old)) (offset + count))
             → self.new ≡ self.old }
+        ensures work { IsInPieces (zero_piece (features self.old)) count (work self.old) (work self.new) }
         ensures cause { CountsFaults (features self.old).is_reliable (fault_count self.old) (fault_count self.new)
             result }
     {
@@ -219,12 +226,12 @@ pub trait Storage: Display + Drop + Sized {
     /// Zeroes a range: in place, or else as data. Refused, each byte of the range is old or zero, all others are
     /// old, and the length is between.
     ///
-    /// [`Error::Unsupported`] changes nothing. A storage that zeroes in place never answers it; one that writes zeroes
+    /// [`Error::Unsupported`] leaves bytes and the count of faults. A storage that zeroes in place never answers it; one that writes zeroes
     /// as data answers it exactly where the count is no multiple of `mem_align`; any other may answer it for any range.
     /// The buffer of zeroes is asked for before anything is written.
     fn pure_write_zeroes(&mut self, alloc: Global, offset: u64, count: u64) -> Result<(), Error>
         requires { IsAlignedTo (features self.old).zero_align offset count }
-        ensures { IsPureZeroing features bytes fault_count (features self.old).zeroes offset count self.old self.new result }
+        ensures { IsPureZeroing features bytes fault_count work maintenance Any (features self.old).zeroes offset count self.old self.new result }
     {
         match self.zero_in_place(offset, count, ZeroKind::Any) {
             Err(Error::Unsupported) => self.write_zeroes_as_data(alloc, offset, count),
@@ -242,7 +249,7 @@ pub trait Storage: Display + Drop + Sized {
         count: u64,
     ) -> Result<(), Error>
         requires { IsAlignedTo (features self.old).zero_align offset count }
-        ensures { IsPureZeroing features bytes fault_count (features self.old).allocated_zeroes offset count self.old self.new result }
+        ensures { IsPureZeroing features bytes fault_count work maintenance Allocated (features self.old).allocated_zeroes offset count self.old self.new result }
     {
         match self.zero_in_place(offset, count, ZeroKind::Allocated) {
             Err(Error::Unsupported) => self.write_zeroes_as_data(alloc, offset, count),
@@ -295,7 +302,8 @@ pub trait Storage: Display + Drop + Sized {
         ensures cause { CountsFaults (features self.old).is_reliable (fault_count self.old) (fault_count self.new)
             result }
         ensures memory { IsErrOf result Error.Memory
-            → MayRunOut (features self.old).resize_memory (length (bytes self.old)) new_size };
+            → MayRunOut (features self.old).resize_memory (length (bytes self.old)) new_size }
+        ensures performed { maintenance.resized new_size mode self.old self.new result };
 
     /// The alignments are powers of two, and those of zero writes and discards multiples of that of requests.
     ghost lawful: { (s : Self) → AreAlignments (features s) };

@@ -1,12 +1,13 @@
 //! Zero writes of any range.
 ghost use Rattle.std.specs.Prelude.{◌≡◌, ◌≢◌, ℕ, ◌+◌, ◌-◌, ◌%◌, ◌<◌, ◌≤◌, ◌⊎◌, ◌^◌, length, max, min, replicate, OnOk, IfOk, IfErr, IsErrOf, IsOk, Ok, List, ◌↔◌};
 ghost use Rattle.imago_storage.specs.Bytes.{splice, zero_extended, WriteOutcome};
-ghost use Rattle.imago_storage.specs.Calls.{IsRangeZeroing};
+ghost use Rattle.imago_storage.specs.Calls.{IsRangeZeroing, ShowsNoChange};
 ghost use Rattle.imago_storage.specs.Error.{IsExtRefusal, IsPureRefusal, IsZeroRefusal};
 ghost use Rattle.imago_storage.specs.Faults.{CountsFaults};
-ghost use Rattle.imago_storage.specs.Features.{InPlace, AsData, MayRunOut, MayBeUnsupported, IsAlignedTo, RequestMayRunOut, ZeroesMayRunOut, len_align, zero_support};
+ghost use Rattle.imago_storage.specs.Features.{InPlace, AsData, MayRunOut, MayBeUnsupported, IsAlignedRequest, IsAlignedTo, RequestMayRunOut, ZeroesMayRunOut, len_align, zero_piece, zero_support};
+ghost use Rattle.imago_storage.specs.IoCount.{AddsAtMost, IsWriteWork, IsEdgedWork};
 ghost use Rattle.imago_storage.specs.Padding.{padded_end, Wraps, IsAlignedPart};
-ghost use Rattle.imago_storage.specs.Zeroes.{HasZeroed, ZeroedPart, EdgeWraps, DataWraps};
+ghost use Rattle.imago_storage.specs.Zeroes.{HasZeroed, ZeroedPart, EdgeWraps, DataWraps, IsZeroCall, IsPartAndEdges};
 
 use crate::align::{aligned_blocks, head_length, length_align, padded_request, zero_align};
 use crate::error::Error;
@@ -43,7 +44,7 @@ pub(crate) fn zero_any<S: Storage>(
     count: u64,
     kind: ZeroKind,
 ) -> Result<(), Error>
-    ensures { IsRangeZeroing S.features S.bytes S.fault_count (zero_support (S.features storage.old) kind) offset count storage.old storage.new result }
+    ensures { IsRangeZeroing S.features S.bytes S.fault_count S.work S.maintenance kind (zero_support (S.features storage.old) kind) offset count storage.old storage.new result }
 {
     if count == 0 {
         return Ok(());
@@ -67,7 +68,7 @@ fn zero_range<S: Storage>(
 ) -> Result<(), Error>
     requires part { IsAlignedPart (S.features storage.old).zero_align offset count start end }
     requires some { 0 < count }
-    ensures { IsRangeZeroing S.features S.bytes S.fault_count (zero_support (S.features storage.old) kind) offset count storage.old storage.new result }
+    ensures { IsRangeZeroing S.features S.bytes S.fault_count S.work S.maintenance kind (zero_support (S.features storage.old) kind) offset count storage.old storage.new result }
 {
     if end <= start {
         return zero_as_data(storage, alloc, offset, count);
@@ -80,7 +81,7 @@ fn zero_range<S: Storage>(
 }
 
 /// Zeroes the aligned part of a range by a zero write of the storage, and then its edges as data. Where that zero
-/// write is refused as unsupported, so is this, and nothing changed.
+/// write is refused as unsupported, so is this, with bytes and the count of faults as they were.
 fn zero_part_and_edges<S: Storage>(
     storage: &mut S,
     alloc: Global,
@@ -115,8 +116,12 @@ fn zero_part_and_edges<S: Storage>(
     ensures early { IsErrOf result Error.Memory
         → (¬ ZeroesMayRunOut (S.features storage.old) (length (S.bytes storage.old))
         (offset + count + (len_align (S.features storage.old) - 1)))
-        → storage.new ≡ storage.old }
-    ensures unchanged { IsErrOf result Error.Unsupported → storage.new ≡ storage.old }
+        → ShowsNoChange S.features S.bytes S.fault_count storage.old storage.new }
+    ensures unchanged { IsErrOf result Error.Unsupported
+        → ShowsNoChange S.features S.bytes S.fault_count storage.old storage.new }
+    ensures performed { ((storage.new ≡ storage.old) × IsErrOf result Error.Memory)
+        ⊎ IsPartAndEdges S.maintenance S.work (S.features storage.old) kind offset count start end storage.old
+        storage.new result }
 {
     if start == offset && end == offset + count {
         return zero_part(storage, alloc, start, end - start, kind);
@@ -164,6 +169,8 @@ fn zero_edges<S: Storage>(
     ensures memory { IsErrOf result Error.Memory
         → RequestMayRunOut (S.features storage.old) (length (S.bytes storage.old))
         (offset + count + (len_align (S.features storage.old) - 1)) }
+    ensures work { IsEdgedWork 2 (len_align (S.features storage.old)) (zero_piece (S.features storage.old))
+        (start - offset + (offset + count - end)) (S.work storage.old) (S.work storage.new) }
 {
     zero_from(storage, zeroes, block, offset, start - offset)?;
     zero_from(storage, zeroes, block, end, offset + count - end)
@@ -196,8 +203,11 @@ fn zero_part<S: Storage>(
         (offset + count) }
     ensures early { IsErrOf result Error.Memory
         → (¬ ZeroesMayRunOut (S.features storage.old) (length (S.bytes storage.old)) (offset + count))
-        → storage.new ≡ storage.old }
-    ensures unchanged { IsErrOf result Error.Unsupported → storage.new ≡ storage.old }
+        → ShowsNoChange S.features S.bytes S.fault_count storage.old storage.new }
+    ensures unchanged { IsErrOf result Error.Unsupported
+        → ShowsNoChange S.features S.bytes S.fault_count storage.old storage.new }
+    ensures performed { IsZeroCall S.maintenance S.work (S.features storage.old) kind offset count storage.old
+        storage.new result }
 {
     match kind {
         ZeroKind::Any => storage.pure_write_zeroes(alloc, offset, count),
@@ -226,6 +236,9 @@ fn zero_from<S: Storage>(
     ensures memory { IsErrOf result Error.Memory
         → RequestMayRunOut (S.features storage.old) (length (S.bytes storage.old))
         (offset + count + (len_align (S.features storage.old) - 1)) }
+    ensures work { IsWriteWork (S.features storage.old) offset count (S.work storage.old) (S.work storage.new) }
+    ensures direct { IsAlignedRequest (S.features storage.old) offset count
+        → AddsAtMost 0 0 1 count (S.work storage.old) (S.work storage.new) }
 {
     write_by(storage, block, &zeroes[..count as usize], offset)
 }
@@ -254,6 +267,9 @@ fn write_by<S: Storage>(
     ensures memory { IsErrOf result Error.Memory
         → RequestMayRunOut (S.features storage.old) (length (S.bytes storage.old))
         (padded_end (S.features storage.old) offset (length source.now)) }
+    ensures work { IsWriteWork (S.features storage.old) offset (length source.now) (S.work storage.old) (S.work storage.new) }
+    ensures direct { IsAlignedRequest (S.features storage.old) offset (length source.now)
+        → AddsAtMost 0 0 1 (length source.now) (S.work storage.old) (S.work storage.new) }
 {
     if source.is_empty() {
         return Ok(());
@@ -289,6 +305,7 @@ fn zero_as_data<S: Storage>(
         → (¬ RequestMayRunOut (S.features storage.old) (length (S.bytes storage.old))
         (offset + count + (len_align (S.features storage.old) - 1)))
         → storage.new ≡ storage.old }
+    ensures work { IsEdgedWork 2 (len_align (S.features storage.old)) (zero_piece (S.features storage.old)) count (S.work storage.old) (S.work storage.new) }
 {
     let piece = length_align(&*storage).max(ZERO_PIECE);
     let mut stock = zero_stock(&*storage, alloc, piece.min(count))?;
@@ -345,6 +362,7 @@ fn zero_pieces<S: Storage>(
     ensures memory { IsErrOf result Error.Memory
         → RequestMayRunOut (S.features storage.old) (length (S.bytes storage.old))
         (offset + count + (len_align (S.features storage.old) - 1)) }
+    ensures work { IsEdgedWork 1 (len_align (S.features storage.old)) piece count (S.work storage.old) (S.work storage.new) }
 {
     let mut done = 0;
     while done < count {

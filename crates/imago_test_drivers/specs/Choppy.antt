@@ -4,7 +4,7 @@ use Rattle.imago_drivers.specs.declared.raw.Raw.{Raw}
 use Rattle.imago_drivers.specs.Operation.{Operation, Map, Read, Write, Zero, DiscardToZero, DiscardToAny, DiscardToBacking, Grow, Shrink, Flush}
 use Rattle.imago_drivers.specs.Raw.{raw_view}
 use Rattle.imago_drivers.specs.RawImage.{storage_in, size_of, writability_of}
-use Rattle.imago_drivers.specs.Discards.{Discard}
+use Rattle.imago_drivers.specs.CallRelations.{OnRange}
 use Rattle.imago_drivers.specs.View.{View}
 
 -- the granularity that is told: 1 for 0
@@ -37,7 +37,7 @@ chopped granularity v = record v {
 }
 
 -- a discard of a part of the range
-abbrev pub of_part : {Self : Type 0} → Discard Self → Discard Self
+abbrev pub of_part : {Self : Type 0} → OnRange Self → OnRange Self
 of_part discard o n old new result = (q : ℕ) × (m : ℕ) × (o ≤ q) × (q + m ≤ o + n) × discard q m old new result
 
 -- a raw image over storages that show these features, counts of faults and bytes

@@ -1,5 +1,6 @@
 //! A driver that does little at once: a raw image whose calls on ranges do one block each.
 ghost use Rattle.std.specs.Prelude.{◌≡◌, ◌+◌, ◌^◌, ◌<◌, ◌≤◌, max, None, Some};
+ghost use Rattle.imago_drivers.specs.CallRelations.{any_calls};
 ghost use Rattle.imago_drivers.specs.Commit.{IsCommit, IsCancel};
 ghost use Rattle.imago_drivers.specs.RawImage.{size_of};
 ghost use Rattle.imago_test_drivers.specs.Choppy.{told, choppy_view, of_part};
@@ -99,15 +100,20 @@ impl<S: Storage> FormatDriverInstance for Choppy<S> {
 
     ghost probe_reasons = { ⟦<Raw<S> as FormatDriverInstance>⟧.probe_reasons };
 
-    ghost flushes = { record {
-      flushed = λ a b r. ⟦<Raw<S> as FormatDriverInstance>⟧.flushes.flushed a.raw b.raw r × (b.cut ≡ a.cut) × (b.is_granular ≡ a.is_granular);
-      synced = λ a b r. ⟦<Raw<S> as FormatDriverInstance>⟧.flushes.synced a.raw b.raw r × (b.cut ≡ a.cut) × (b.is_granular ≡ a.is_granular);
-      invalidated = λ a b r. ⟦<Raw<S> as FormatDriverInstance>⟧.flushes.invalidated a.raw b.raw r × (b.cut ≡ a.cut) × (b.is_granular ≡ a.is_granular);
-    } };
-
-    ghost discards = { record {
-      to_any = λ o n a b r. of_part ⟦<Raw<S> as FormatDriverInstance>⟧.discards.to_any o n a.raw b.raw r × (b.cut ≡ a.cut) × (b.is_granular ≡ a.is_granular);
-      to_backing = λ o n a b r. of_part ⟦<Raw<S> as FormatDriverInstance>⟧.discards.to_backing o n a.raw b.raw r × (b.cut ≡ a.cut) × (b.is_granular ≡ a.is_granular);
+    ghost calls = { record any_calls {
+      read_special = λ o n d r. ⟦<Raw<S> as FormatDriverInstance>⟧.calls.read_special o n d.raw r;
+      put = λ index bytes o a b r. ⟦<Raw<S> as FormatDriverInstance>⟧.calls.put index bytes o a.raw b.raw r × (b.cut ≡ a.cut) × (b.is_granular ≡ a.is_granular);
+      filled = λ m bytes at a b r. ⟦<Raw<S> as FormatDriverInstance>⟧.calls.filled m bytes at a.raw b.raw r × (b.cut ≡ a.cut) × (b.is_granular ≡ a.is_granular);
+      committed = λ m a b r. ⟦<Raw<S> as FormatDriverInstance>⟧.calls.committed m a.raw b.raw r × (b.cut ≡ a.cut) × (b.is_granular ≡ a.is_granular);
+      by_parts = λ below o n overwrite a b r h. tt;
+      cancelled = λ m a b. ⟦<Raw<S> as FormatDriverInstance>⟧.calls.cancelled m a.raw b.raw × (b.cut ≡ a.cut) × (b.is_granular ≡ a.is_granular);
+      grown = λ n mode below a b r. ⟦<Raw<S> as FormatDriverInstance>⟧.calls.grown n mode below a.raw b.raw r × (b.cut ≡ a.cut) × (b.is_granular ≡ a.is_granular);
+      cut = λ n a b r. ⟦<Raw<S> as FormatDriverInstance>⟧.calls.cut n a.raw b.raw r × (b.cut ≡ a.cut) × (b.is_granular ≡ a.is_granular);
+      flushed = λ a b r. ⟦<Raw<S> as FormatDriverInstance>⟧.calls.flushed a.raw b.raw r × (b.cut ≡ a.cut) × (b.is_granular ≡ a.is_granular);
+      synced = λ a b r. ⟦<Raw<S> as FormatDriverInstance>⟧.calls.synced a.raw b.raw r × (b.cut ≡ a.cut) × (b.is_granular ≡ a.is_granular);
+      invalidated = λ a b r. ⟦<Raw<S> as FormatDriverInstance>⟧.calls.invalidated a.raw b.raw r × (b.cut ≡ a.cut) × (b.is_granular ≡ a.is_granular);
+      discarded_to_any = λ o n a b r. of_part ⟦<Raw<S> as FormatDriverInstance>⟧.calls.discarded_to_any o n a.raw b.raw r × (b.cut ≡ a.cut) × (b.is_granular ≡ a.is_granular);
+      discarded_to_backing = λ o n a b r. of_part ⟦<Raw<S> as FormatDriverInstance>⟧.calls.discarded_to_backing o n a.raw b.raw r × (b.cut ≡ a.cut) × (b.is_granular ≡ a.is_granular);
     } };
 
     ghost lawful = { λ d. choppy_lawful S.features S.fault_count S.bytes d.is_granular d.cut d.raw };
@@ -251,13 +257,15 @@ impl<S: Storage> FormatDriverInstance for Choppy<S> {
     }
 
     fn commit_data_mapping(&mut self, mapping: PreparedDataMapping<()>) -> Result<(), Error>
-        ensures { IsCommit ⟦<Choppy<S> as FormatDriverInstance>⟧.view self.old self.new mapping result }
+        ensures call { IsCommit ⟦<Choppy<S> as FormatDriverInstance>⟧.view self.old self.new mapping result }
+        ensures performed { ⟦<Choppy<S> as FormatDriverInstance>⟧.calls.committed mapping self.old self.new result }
     {
         self.raw.commit_data_mapping(mapping)
     }
 
     fn cancel_data_mapping(&mut self, mapping: PreparedDataMapping<()>)
-        ensures { IsCancel ⟦<Choppy<S> as FormatDriverInstance>⟧.view self.old self.new mapping }
+        ensures call { IsCancel ⟦<Choppy<S> as FormatDriverInstance>⟧.view self.old self.new mapping }
+        ensures performed { ⟦<Choppy<S> as FormatDriverInstance>⟧.calls.cancelled mapping self.old self.new }
     {
         self.raw.cancel_data_mapping(mapping);
     }

@@ -7,7 +7,8 @@ ghost use Rattle.imago_drivers.specs.Reasons.{allowed, none};
 ghost use Rattle.imago_drivers.specs.Pending.{IsOwn};
 ghost use Rattle.imago_test_drivers.specs.CopyOnce.{copy_view, copy_pending, WaitsInside};
 ghost use Rattle.imago_test_drivers.specs.CopyOnceLaws.{copy_lawful, copy_causes};
-ghost use Rattle.imago_drivers.specs.Discards.{no_discards};
+ghost use Rattle.imago_drivers.specs.CallRelations.{any_calls, IsNotOffered};
+ghost use Rattle.imago_drivers.specs.RawCalls.{HasNoSpecial};
 ghost use Rattle.imago_drivers.specs.Commit.{IsCommit, IsCancel};
 
 use imago_drivers::drivers::{
@@ -114,13 +115,18 @@ impl<S: Storage> FormatDriverInstance for CopyOnce<S> {
 
     ghost probe_reasons = { λ _. none };
 
-    ghost flushes = { record {
+    ghost calls = { record any_calls {
+      read_special = λ o n d r. HasNoSpecial n r;
+      zeroed = λ o n. IsNotOffered;
+      discarded_to_zero = λ o n. IsNotOffered;
+      grown = λ n mode below a b r. b ≡ a;
+      cut = λ n a b r. b ≡ a;
       flushed = λ a b r. S.maintenance.flushed a.storage b.storage r × (b.size ≡ a.size) × (b.copied ≡ a.copied) × (b.waiting ≡ a.waiting) × (b.tickets ≡ a.tickets) × (b.faults ≡ a.faults) × (b.overwrites ≡ a.overwrites);
       synced = λ a b r. S.maintenance.synced a.storage b.storage r × (b.size ≡ a.size) × (b.copied ≡ a.copied) × (b.waiting ≡ a.waiting) × (b.tickets ≡ a.tickets) × (b.faults ≡ a.faults) × (b.overwrites ≡ a.overwrites);
       invalidated = λ a b r. S.maintenance.invalidated a.storage b.storage r × (b.size ≡ a.size) × (b.copied ≡ a.copied) × (b.waiting ≡ a.waiting) × (b.tickets ≡ a.tickets) × (b.faults ≡ a.faults) × (b.overwrites ≡ a.overwrites);
+      discarded_to_any = λ o n. IsNotOffered;
+      discarded_to_backing = λ o n. IsNotOffered;
     } };
-
-    ghost discards = { no_discards };
 
     ghost lawful = { λ d. copy_lawful (S.features d.storage) (S.fault_count d.storage + d.faults) (S.bytes d.storage) d.size d.copied d.waiting };
 
@@ -323,7 +329,8 @@ impl<S: Storage> FormatDriverInstance for CopyOnce<S> {
     }
 
     fn commit_data_mapping(&mut self, mapping: PreparedDataMapping<u64>) -> Result<(), Error>
-        ensures { IsCommit ⟦<CopyOnce<S> as FormatDriverInstance>⟧.view self.old self.new mapping result }
+        ensures call { IsCommit ⟦<CopyOnce<S> as FormatDriverInstance>⟧.view self.old self.new mapping result }
+        ensures performed { ⟦<CopyOnce<S> as FormatDriverInstance>⟧.calls.committed mapping self.old self.new result }
     {
         let own = self.is_waiting(&mapping);
         let Some(_) = mapping.into_state() else {
@@ -338,7 +345,8 @@ impl<S: Storage> FormatDriverInstance for CopyOnce<S> {
     }
 
     fn cancel_data_mapping(&mut self, mapping: PreparedDataMapping<u64>)
-        ensures { IsCancel ⟦<CopyOnce<S> as FormatDriverInstance>⟧.view self.old self.new mapping }
+        ensures call { IsCancel ⟦<CopyOnce<S> as FormatDriverInstance>⟧.view self.old self.new mapping }
+        ensures performed { ⟦<CopyOnce<S> as FormatDriverInstance>⟧.calls.cancelled mapping self.old self.new }
     {
         let own = self.is_waiting(&mapping);
         let _ = mapping.into_state();

@@ -1,10 +1,12 @@
 //! A read-only disk of one kind of place: explicit zeroes, special bytes, or all that the layer below has.
-ghost use Rattle.std.specs.Prelude.{◌≡◌, false, IsErrOf};
+ghost use Rattle.std.specs.Prelude.{◌≡◌, false, IsErrOf, Err};
+ghost use Rattle.imago_storage.specs.declared.error.Error.TheVariants.{ForeignMapping};
 ghost use Rattle.imago_storage.specs.Maintenance.{IsNothing};
 ghost use Rattle.imago_test_drivers.specs.Pattern.{pattern_view, kind_of, size_of};
 ghost use Rattle.imago_test_drivers.specs.PatternLaws.{pattern_lawful, pattern_causes};
 ghost use Rattle.imago_drivers.specs.Commit.{IsCommit, IsCancel};
-ghost use Rattle.imago_drivers.specs.Discards.{no_discards};
+ghost use Rattle.imago_drivers.specs.CallRelations.{any_calls, IsNotOffered};
+ghost use Rattle.imago_drivers.specs.RawCalls.{IsRawCommitted};
 ghost use Rattle.imago_drivers.specs.Reasons.{none};
 
 use imago_drivers::drivers::{
@@ -36,7 +38,7 @@ pub enum Kind {
 }
 
 /// A read-only disk of one kind of place. The calls that ask for a writable driver, or for one of its storages, can't be
-/// made on it; they refuse all the same.
+/// made on it; they refuse all the same, and change nothing.
 #[derive(Drop)]
 pub struct Pattern {
     kind: Kind,
@@ -70,9 +72,20 @@ impl FormatDriverInstance for Pattern {
 
     ghost probe_reasons = { λ _. none };
 
-    ghost flushes = { record { flushed = IsNothing; synced = IsNothing; invalidated = IsNothing } };
-
-    ghost discards = { no_discards };
+    ghost calls = { record any_calls {
+      zeroed = λ o n. IsNotOffered;
+      discarded_to_zero = λ o n. IsNotOffered;
+      discarded_to_any = λ o n. IsNotOffered;
+      discarded_to_backing = λ o n. IsNotOffered;
+      filled = λ m bytes at a b r. (b ≡ a) × (r ≡ Err ForeignMapping);
+      committed = IsRawCommitted;
+      by_parts = λ below o n overwrite a b r h. tt;
+      cancelled = λ m a b. b ≡ a;
+      cut = λ n. IsNotOffered;
+      flushed = IsNothing;
+      synced = IsNothing;
+      invalidated = IsNothing;
+    } };
 
     ghost lawful = { λ d. pattern_lawful d.kind d.size };
 
@@ -182,7 +195,8 @@ impl FormatDriverInstance for Pattern {
         _source: &[u8],
         _offset: u64,
     ) -> Result<(), Error>
-        ensures { IsErrOf result Error.Unsupported }
+        ensures refused { IsErrOf result Error.Unsupported }
+        ensures unchanged { self.new ≡ self.old }
     {
         Err(Error::Unsupported)
     }
@@ -193,7 +207,8 @@ impl FormatDriverInstance for Pattern {
         _offset: u64,
         _count: u64,
     ) -> Result<(u64, u64), Error>
-        ensures { IsErrOf result Error.Unsupported }
+        ensures refused { IsErrOf result Error.Unsupported }
+        ensures unchanged { self.new ≡ self.old }
     {
         Err(Error::Unsupported)
     }
@@ -204,7 +219,8 @@ impl FormatDriverInstance for Pattern {
         _offset: u64,
         _count: u64,
     ) -> Result<(u64, u64), Error>
-        ensures { IsErrOf result Error.Unsupported }
+        ensures refused { IsErrOf result Error.Unsupported }
+        ensures unchanged { self.new ≡ self.old }
     {
         Err(Error::Unsupported)
     }
@@ -215,7 +231,8 @@ impl FormatDriverInstance for Pattern {
         _offset: u64,
         _count: u64,
     ) -> Result<(u64, u64), Error>
-        ensures { IsErrOf result Error.Unsupported }
+        ensures refused { IsErrOf result Error.Unsupported }
+        ensures unchanged { self.new ≡ self.old }
     {
         Err(Error::Unsupported)
     }
@@ -226,7 +243,8 @@ impl FormatDriverInstance for Pattern {
         _offset: u64,
         _count: u64,
     ) -> Result<(u64, u64), Error>
-        ensures { IsErrOf result Error.Unsupported }
+        ensures refused { IsErrOf result Error.Unsupported }
+        ensures unchanged { self.new ≡ self.old }
     {
         Err(Error::Unsupported)
     }
@@ -239,7 +257,8 @@ impl FormatDriverInstance for Pattern {
         _count: u64,
         _overwrite: bool,
     ) -> Result<PreparedDataMapping<()>, Error>
-        ensures { IsErrOf result Error.Unsupported }
+        ensures refused { IsErrOf result Error.Unsupported }
+        ensures unchanged { self.new ≡ self.old }
     {
         Err(Error::Unsupported)
     }
@@ -255,7 +274,8 @@ impl FormatDriverInstance for Pattern {
     }
 
     fn commit_data_mapping(&mut self, mapping: PreparedDataMapping<()>) -> Result<(), Error>
-        ensures { IsCommit ⟦<Pattern as FormatDriverInstance>⟧.view self.old self.new mapping result }
+        ensures call { IsCommit ⟦<Pattern as FormatDriverInstance>⟧.view self.old self.new mapping result }
+        ensures performed { ⟦<Pattern as FormatDriverInstance>⟧.calls.committed mapping self.old self.new result }
     {
         match mapping.into_state() {
             None => Ok(()),
@@ -264,7 +284,8 @@ impl FormatDriverInstance for Pattern {
     }
 
     fn cancel_data_mapping(&mut self, mapping: PreparedDataMapping<()>)
-        ensures { IsCancel ⟦<Pattern as FormatDriverInstance>⟧.view self.old self.new mapping }
+        ensures call { IsCancel ⟦<Pattern as FormatDriverInstance>⟧.view self.old self.new mapping }
+        ensures performed { ⟦<Pattern as FormatDriverInstance>⟧.calls.cancelled mapping self.old self.new }
     {
         let _ = mapping.into_state();
     }
@@ -277,7 +298,8 @@ impl FormatDriverInstance for Pattern {
         _count: u64,
         _overwrite: bool,
     ) -> Result<(usize, u64, u64), Error>
-        ensures { IsErrOf result Error.Unsupported }
+        ensures refused { IsErrOf result Error.Unsupported }
+        ensures unchanged { self.new ≡ self.old }
     {
         Err(Error::Unsupported)
     }
@@ -289,13 +311,15 @@ impl FormatDriverInstance for Pattern {
         _new_size: u64,
         _mode: PreallocateMode,
     ) -> Result<(), Error>
-        ensures { IsErrOf result Error.Unsupported }
+        ensures refused { IsErrOf result Error.Unsupported }
+        ensures unchanged { self.new ≡ self.old }
     {
         Err(Error::Unsupported)
     }
 
     fn resize_shrink(&mut self, _new_size: u64) -> Result<(), Error>
-        ensures { IsErrOf result Error.Unsupported }
+        ensures refused { IsErrOf result Error.Unsupported }
+        ensures unchanged { self.new ≡ self.old }
     {
         Err(Error::Unsupported)
     }

@@ -1,4 +1,5 @@
 //! One of several drivers, so that an image's layers can have different ones.
+ghost use Rattle.imago_drivers.specs.CallRelations.{any_calls};
 ghost use Rattle.imago_drivers.specs.Commit.{IsCommit, IsCancel};
 ghost use Rattle.imago_test_drivers.specs.TestDriver.{test_view, test_lawful, test_causes, by_driver};
 
@@ -53,15 +54,12 @@ impl<S: Storage> FormatDriverInstance for TestDriver<S> {
 
     ghost probe_reasons = { ⟦<Raw<S> as FormatDriverInstance>⟧.probe_reasons };
 
-    ghost flushes = { record {
-      flushed = by_driver ⟦<Raw<S> as FormatDriverInstance>⟧.flushes.flushed ⟦<Choppy<S> as FormatDriverInstance>⟧.flushes.flushed ⟦<Pattern as FormatDriverInstance>⟧.flushes.flushed;
-      synced = by_driver ⟦<Raw<S> as FormatDriverInstance>⟧.flushes.synced ⟦<Choppy<S> as FormatDriverInstance>⟧.flushes.synced ⟦<Pattern as FormatDriverInstance>⟧.flushes.synced;
-      invalidated = by_driver ⟦<Raw<S> as FormatDriverInstance>⟧.flushes.invalidated ⟦<Choppy<S> as FormatDriverInstance>⟧.flushes.invalidated ⟦<Pattern as FormatDriverInstance>⟧.flushes.invalidated;
-    } };
-
-    ghost discards = { record {
-      to_any = λ o n. by_driver (⟦<Raw<S> as FormatDriverInstance>⟧.discards.to_any o n) (⟦<Choppy<S> as FormatDriverInstance>⟧.discards.to_any o n) (⟦<Pattern as FormatDriverInstance>⟧.discards.to_any o n);
-      to_backing = λ o n. by_driver (⟦<Raw<S> as FormatDriverInstance>⟧.discards.to_backing o n) (⟦<Choppy<S> as FormatDriverInstance>⟧.discards.to_backing o n) (⟦<Pattern as FormatDriverInstance>⟧.discards.to_backing o n);
+    ghost calls = { record any_calls {
+      flushed = by_driver ⟦<Raw<S> as FormatDriverInstance>⟧.calls.flushed ⟦<Choppy<S> as FormatDriverInstance>⟧.calls.flushed ⟦<Pattern as FormatDriverInstance>⟧.calls.flushed;
+      synced = by_driver ⟦<Raw<S> as FormatDriverInstance>⟧.calls.synced ⟦<Choppy<S> as FormatDriverInstance>⟧.calls.synced ⟦<Pattern as FormatDriverInstance>⟧.calls.synced;
+      invalidated = by_driver ⟦<Raw<S> as FormatDriverInstance>⟧.calls.invalidated ⟦<Choppy<S> as FormatDriverInstance>⟧.calls.invalidated ⟦<Pattern as FormatDriverInstance>⟧.calls.invalidated;
+      discarded_to_any = λ o n. by_driver (⟦<Raw<S> as FormatDriverInstance>⟧.calls.discarded_to_any o n) (⟦<Choppy<S> as FormatDriverInstance>⟧.calls.discarded_to_any o n) (⟦<Pattern as FormatDriverInstance>⟧.calls.discarded_to_any o n);
+      discarded_to_backing = λ o n. by_driver (⟦<Raw<S> as FormatDriverInstance>⟧.calls.discarded_to_backing o n) (⟦<Choppy<S> as FormatDriverInstance>⟧.calls.discarded_to_backing o n) (⟦<Pattern as FormatDriverInstance>⟧.calls.discarded_to_backing o n);
     } };
 
     ghost lawful = { λ d. test_lawful S.features S.fault_count S.bytes d };
@@ -202,13 +200,15 @@ impl<S: Storage> FormatDriverInstance for TestDriver<S> {
     }
 
     fn commit_data_mapping(&mut self, mapping: PreparedDataMapping<()>) -> Result<(), Error>
-        ensures { IsCommit ⟦<TestDriver<S> as FormatDriverInstance>⟧.view self.old self.new mapping result }
+        ensures call { IsCommit ⟦<TestDriver<S> as FormatDriverInstance>⟧.view self.old self.new mapping result }
+        ensures performed { ⟦<TestDriver<S> as FormatDriverInstance>⟧.calls.committed mapping self.old self.new result }
     {
         dispatch!(self, driver => driver.commit_data_mapping(mapping))
     }
 
     fn cancel_data_mapping(&mut self, mapping: PreparedDataMapping<()>)
-        ensures { IsCancel ⟦<TestDriver<S> as FormatDriverInstance>⟧.view self.old self.new mapping }
+        ensures call { IsCancel ⟦<TestDriver<S> as FormatDriverInstance>⟧.view self.old self.new mapping }
+        ensures performed { ⟦<TestDriver<S> as FormatDriverInstance>⟧.calls.cancelled mapping self.old self.new }
     {
         dispatch!(self, driver => driver.cancel_data_mapping(mapping))
     }

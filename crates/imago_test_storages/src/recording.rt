@@ -144,6 +144,7 @@ impl Storage for Recording {
       invalidated = λ a b r. ⟦<MemStorage as Storage>⟧.maintenance.invalidated a.inner b.inner r;
       settled = λ a b r. ⟦<MemStorage as Storage>⟧.maintenance.settled a.inner b.inner r;
       discarded = λ _ _ a b _. b.inner ≡ a.inner;
+      resized = λ n mode a b r. ⟦<MemStorage as Storage>⟧.maintenance.resized n mode a.inner b.inner r;
     } };
 
     ghost openings = { record no_openings { resolved = IsBeside } };

@@ -2,6 +2,8 @@
 ghost use Rattle.std.specs.Prelude.{◌≡◌, ℕ, ◌+◌, ◌^◌, ◌<◌, ◌≤◌, ◌⊎◌, ◌↔◌, ◌&&◌, max, length, slice_index, IsTrue, IfOk, IfErr, OnOk, IsErrOf, MatchOption, Some, false};
 ghost use Rattle.std.specs.Option.{ForSome};
 ghost use Rattle.imago_storage.specs.Faults.{CountsFaults};
+ghost use Rattle.imago_drivers.specs.CallRelations.{any_calls};
+ghost use Rattle.imago_drivers.specs.RawCalls.{HasNoSpecial};
 ghost use Rattle.imago_drivers.specs.Place.{IsIn};
 ghost use Rattle.imago_drivers.specs.Lengths.{padded_to};
 ghost use Rattle.imago_drivers.specs.LayerBelow.{lent};
@@ -224,15 +226,13 @@ impl<S: Storage> FormatDriverInstance for Sparse<S> {
 
     ghost probe_reasons = { λ _. none };
 
-    ghost flushes = { record {
+    ghost calls = { record any_calls {
+      read_special = λ o n d r. HasNoSpecial n r;
       flushed = λ a b r. in_turn S.maintenance.flushed a.storages.first a.storages.second b.storages.first b.storages.second r × (b.table.items ≡ a.table.items);
       synced = λ a b r. in_turn S.maintenance.synced a.storages.first a.storages.second b.storages.first b.storages.second r × (b.table.items ≡ a.table.items);
       invalidated = λ a b r. in_turn S.maintenance.invalidated a.storages.first a.storages.second b.storages.first b.storages.second r × (b.table.items ≡ a.table.items);
-    } };
-
-    ghost discards = { record {
-      to_any = λ o n a b r. IsLeftBelow o n a.table.items b.table.items r × (b.storages ≡ a.storages) × (b.waiting ≡ a.waiting);
-      to_backing = λ o n a b r. IsLeftBelow o n a.table.items b.table.items r × (b.storages ≡ a.storages) × (b.waiting ≡ a.waiting);
+      discarded_to_any = λ o n a b r. IsLeftBelow o n a.table.items b.table.items r × (b.storages ≡ a.storages) × (b.waiting ≡ a.waiting);
+      discarded_to_backing = λ o n a b r. IsLeftBelow o n a.table.items b.table.items r × (b.storages ≡ a.storages) × (b.waiting ≡ a.waiting);
     } };
 
     ghost lawful = { λ d. sparse_lawful (S.features d.storages.first) (S.features d.storages.second) (S.fault_count d.storages.first + S.fault_count d.storages.second + d.storages.faults) (S.bytes d.storages.first) (S.bytes d.storages.second) d.table.items d.size d.settings d.short d.waiting d.bounded d.granular };
@@ -416,7 +416,8 @@ impl<S: Storage> FormatDriverInstance for Sparse<S> {
     }
 
     fn commit_data_mapping(&mut self, mapping: PreparedDataMapping<u64>) -> Result<(), Error>
-        ensures { IsCommit ⟦<Sparse<S> as FormatDriverInstance>⟧.view self.old self.new mapping result }
+        ensures call { IsCommit ⟦<Sparse<S> as FormatDriverInstance>⟧.view self.old self.new mapping result }
+        ensures performed { ⟦<Sparse<S> as FormatDriverInstance>⟧.calls.committed mapping self.old self.new result }
     {
         let own = self.is_waiting(&mapping);
         let (start, count) = (mapping.offset(), mapping.length());
@@ -437,7 +438,8 @@ impl<S: Storage> FormatDriverInstance for Sparse<S> {
     }
 
     fn cancel_data_mapping(&mut self, mapping: PreparedDataMapping<u64>)
-        ensures { IsCancel ⟦<Sparse<S> as FormatDriverInstance>⟧.view self.old self.new mapping }
+        ensures call { IsCancel ⟦<Sparse<S> as FormatDriverInstance>⟧.view self.old self.new mapping }
+        ensures performed { ⟦<Sparse<S> as FormatDriverInstance>⟧.calls.cancelled mapping self.old self.new }
     {
         let own = self.is_waiting(&mapping);
         let _ = mapping.into_state();

@@ -1,6 +1,7 @@
 pub mod Words
 pub mod Numbers
 pub mod Quotes
+pub mod Cuts
 pub mod Lines
 pub mod Extents
 pub mod Storages

@@ -1,18 +1,17 @@
 -- Going over the lines, one after the other.
-use Rattle.std.proofs.Common.{◌≡◌, ℕ, Bool, true, false, cond, ◌+◌, ◌*◌, ◌<◌, ◌^◌, List, [], ◌∷◌, ◌++◌, map, length, drop, get_or, Option, Some, None, Result, Ok, Err, refl, ⊎_elim, sym, ap, ◌∙◌, append_assoc, arith, nat_lt}
+use Rattle.std.proofs.Common.{◌≡◌, ℕ, Bool, true, false, cond, ◌+◌, ◌*◌, ◌<◌, ◌^◌, List, [], ◌∷◌, ◌++◌, map, Option, Some, None, MatchOption, Result, Ok, Err, refl, ⊎_elim, sym, ap, ◌∙◌, append_assoc, arith, nat_lt}
 use Rattle.std.proofs.lemmas.Bool.{cases_lt}
 use Rattle.std.proofs.lemmas.Bool.Decides.{nat_tests}
-use Rattle.std.proofs.lemmas.List.{append-nil, at_drop_more}
+use Rattle.std.proofs.lemmas.List.{append-nil}
 use Rattle.std.specs.List.{sum_by}
-use Rattle.std.specs.Result.{IsOk}
 use Rattle.std.specs.Option.{ok_or}
 use Rattle.imago_storage.specs.declared.error.Error.{Error}
 use Rattle.imago_vmdk.specs.declared.line.Line.{Line}
 use Rattle.imago_storage.specs.declared.error.Error.TheVariants.{InvalidData, Unsupported}
 use Rattle.std.proofs.lemmas.List.Sums.{sum_by-cons}
 use Rattle.imago_vmdk.specs.declared.line.Extent.{Extent}
-use Rattle.imago_vmdk.specs.Line.{◌>>=◌, verdict_of, extent_with, or_invalid, Gives}
-use Rattle.imago_vmdk.specs.Reading.{lines_say, last_version, extents_in, sectors_of, size_of, is_version, fitting, disk_of, disk_in, found_in, survey_of}
+use Rattle.imago_vmdk.specs.Line.{◌>>=◌, verdict_of, extent_with, line_with, or_invalid, Gives}
+use Rattle.imago_vmdk.specs.Reading.{lines_say, last_version, extents_in, extent_in, version_with, size_in, AreKept, sectors_of, size_of, is_version, fitting, disk_of, disk_in, found_in, survey_of}
 
 -- what is made of the lines that are left, where none of them is a fault
 abbrev pub onward : {B : Type 0} → Bool → (List (Line (List ℕ)) → B) → List (List ℕ) → Result B Error
@@ -37,10 +36,6 @@ made_same f g (Err e) h = refl
 pub same : {B : Type 0} (accept : Bool) (f g : List (Line (List ℕ)) → B) (lines : List (List ℕ)) → ((ls : List (Line (List ℕ))) → f ls ≡ g ls) → onward accept f lines ≡ onward accept g lines
 same accept f g lines h = made_same f g (lines_say accept lines) h
 
--- the line at n comes next
-pub turn : {B : Type 0} (accept : Bool) (f : List (Line (List ℕ)) → B) (n : ℕ) (lines : List (List ℕ)) (x : List ℕ) → (n < length lines) × (x ≡ get_or lines n x) → onward accept f (drop n lines) ≡ onward accept f (x ∷ drop (n + 1) lines)
-turn accept f n lines x h = at_drop_more (onward accept f) lines n x h.0 ∙ ap (λ (y : List ℕ). onward accept f (y ∷ drop (n + 1) lines)) (sym h.1)
-
 -- the last version and the size, from such a version and size on
 abbrev pub surveyed : ℕ → ℕ → List (Line (List ℕ)) → ℕ × Option ℕ
 surveyed version size ls = (last_version version ls, fitting (size + sum_by size_of (extents_in ls)))
@@ -50,16 +45,20 @@ sectors_same f (Extent.Zero s) = refl
 sectors_same f (Extent.NoAccess s) = refl
 sectors_same f (Extent.Flat s name offset writable) = refl
 
--- an extent adds its size
-pub counted : {N : Type 0} (accept : Bool) (version size sectors : ℕ) (f : N → List ℕ) (e : Extent N) (x : List ℕ) (lines : List (List ℕ)) → verdict_of accept x ≡ Ok (Line.Extent (extent_with f e)) → sectors ≡ sectors_of e
-    → onward accept (surveyed version size) (x ∷ lines) ≡ onward accept (surveyed version (size + sectors * 512)) lines
-counted accept version size sectors f e x lines h k =
-    let one : sectors_of (extent_with f e) ≡ sectors = sectors_same f e ∙ sym k in
-    step accept (surveyed version size) x (Line.Extent (extent_with f e)) lines h
-    ∙ same accept _ _ lines (λ ls.
+surveyed_more : {N : Type 0} (version size : ℕ) (f : N → List ℕ) (l : Line N) (ls : List (Line (List ℕ))) → surveyed version size (line_with f l ∷ ls) ≡ surveyed (version_with version l) (size + size_in l) ls
+surveyed_more version size f Line.Nothing ls = let e : size ≡ size + 0 = omega arith in ap (λ n. surveyed version n ls) e
+surveyed_more version size f (Line.Version m) ls = let e : size ≡ size + 0 = omega arith in ap (λ n. surveyed m n ls) e
+surveyed_more version size f Line.Setting ls = let e : size ≡ size + 0 = omega arith in ap (λ n. surveyed version n ls) e
+surveyed_more version size f (Line.Extent e) ls =
     let sum = sum_by-cons size_of (extent_with f e) (extents_in ls) in
-    let total : size + sum_by size_of (extent_with f e ∷ extents_in ls) ≡ size + sectors * 512 + sum_by size_of (extents_in ls) = omega (arith, sum, ap (λ k. k * 512) one) in
-    ap (λ n. (last_version version ls, fitting n)) total)
+    let one : size_of (extent_with f e) ≡ size_of e = ap (λ k. k * 512) (sectors_same f e) in
+    let total : size + sum_by size_of (extent_with f e ∷ extents_in ls) ≡ size + size_of e + sum_by size_of (extents_in ls) = omega (arith, sum, one) in
+    ap (λ n. (last_version version ls, fitting n)) total
+
+-- a line adds its version and its size
+pub counted : {N : Type 0} (accept : Bool) (version size : ℕ) (f : N → List ℕ) (l : Line N) (x : List ℕ) (lines : List (List ℕ)) → verdict_of accept x ≡ Ok (line_with f l)
+    → onward accept (surveyed version size) (x ∷ lines) ≡ onward accept (surveyed (version_with version l) (size + size_in l)) lines
+counted accept version size f l x lines h = step accept (surveyed version size) x (line_with f l) lines h ∙ same accept _ _ lines (surveyed_more version size f l)
 
 pub starts : (accept : Bool) (lines : List (List ℕ)) → onward accept (surveyed 0 0) lines ≡ survey_of accept lines
 starts accept lines = same accept (surveyed 0 0) found_in lines (λ ls. let e : 0 + sum_by size_of (extents_in ls) ≡ sum_by size_of (extents_in ls) = omega arith in ap (λ n. (last_version 0 ls, fitting n)) e)
@@ -67,10 +66,21 @@ starts accept lines = same accept (surveyed 0 0) found_in lines (λ ls. let e : 
 pub done : (accept : Bool) (version n : ℕ) → onward accept (surveyed version n) [] ≡ Ok (version, fitting n)
 done accept version n = let e : n + 0 ≡ n = omega arith in let found : ℕ → Result (ℕ × Option ℕ) Error = λ m. Ok (version, fitting m) in ap found e
 
--- an extent comes behind those so far
-pub appended : (accept : Bool) (es : List (Extent (List ℕ))) (e : Extent (List ℕ)) (x : List ℕ) (lines : List (List ℕ)) → verdict_of accept x ≡ Ok (Line.Extent e)
-    → onward accept (λ ls. es ++ extents_in ls) (x ∷ lines) ≡ onward accept (λ ls. (es ++ e ∷ []) ++ extents_in ls) lines
-appended accept es e x lines h = step accept (λ ls. es ++ extents_in ls) x (Line.Extent e) lines h ∙ same accept _ _ lines (λ ls. simp append_assoc)
+more_extents : (es : List (Extent (List ℕ))) (l : Line (List ℕ)) (ls : List (Line (List ℕ))) → es ++ extents_in (l ∷ ls) ≡ (es ++ extent_in l) ++ extents_in ls
+more_extents es Line.Nothing ls = ap (λ xs. xs ++ extents_in ls) (sym (append-nil es))
+more_extents es (Line.Version m) ls = ap (λ xs. xs ++ extents_in ls) (sym (append-nil es))
+more_extents es Line.Setting ls = ap (λ xs. xs ++ extents_in ls) (sym (append-nil es))
+more_extents es (Line.Extent e) ls = simp append_assoc
+
+-- a line's extent comes behind those so far
+pub appended : (accept : Bool) (es : List (Extent (List ℕ))) (l : Line (List ℕ)) (x : List ℕ) (lines : List (List ℕ)) → verdict_of accept x ≡ Ok l
+    → onward accept (λ ls. es ++ extents_in ls) (x ∷ lines) ≡ onward accept (λ ls. (es ++ extent_in l) ++ extents_in ls) lines
+appended accept es l x lines h = step accept (λ ls. es ++ extents_in ls) x l lines h ∙ same accept _ _ lines (more_extents es l)
+
+-- where extents are kept, they are what the lines give
+pub kept_are : {V : Type 0} (view : V → List (Extent (List ℕ))) (o : Option V) (es : List (Extent (List ℕ))) (r : Result (List (Extent (List ℕ))) Error) → AreKept view o es → r ≡ Ok es → MatchOption o (Unit {0}) (λ v. r ≡ Ok (view v))
+kept_are view None es r k h = tt
+kept_are view (Some v) es r k h = rw k h
 
 by_version : (known : Bool) (extents : List (Extent (List ℕ))) (size : Option ℕ) → ((cond known (disk_of extents size) (Err Unsupported)) >>= λ disk. Ok disk.1) ≡ cond known (or_invalid size) (Err Unsupported)
 by_version false extents size = refl
@@ -97,29 +107,8 @@ unfolding disk_in
 disk_by_parts (Err e) n es h k = let z : ⊥ = cc in absurd z
 disk_by_parts (Ok ls) n es h k = let same_extents : extents_in ls ≡ es = cc in size_by_version (is_version (last_version 0 ls)) (extents_in ls) (fitting (sum_by size_of (extents_in ls))) n es h same_extents
 
--- where there is a size, no line is a fault, and all lines together are none
-pub no_fault : {A B : Type 0} (r : Result A Error) (g : A → Result B Error) (n : B) → (r >>= g) ≡ Ok n → IsOk r
-no_fault (Ok x) g n h = refl
-no_fault (Err e) g n h = let z : ⊥ = cc in absurd z
-
--- the fault of a part is the fault of the whole
-pub size_fault : (r : Result (List (Line (List ℕ))) Error) (e : Error) → (r >>= λ ls. Ok (found_in ls)) ≡ Err e → ((r >>= disk_in) >>= λ disk. Ok disk.1) ≡ Err e
-size_fault (Ok ls) e h = let z : ⊥ = cc in absurd z
-size_fault (Err d) e h = let k : d ≡ e = cc in rw k refl
-
-pub disk_fault : (r : Result (List (Extent (List ℕ)) × ℕ) Error) (e : Error) → (r >>= λ disk. Ok disk.1) ≡ Err e → r ≡ Err e
-disk_fault (Ok x) e h = let z : ⊥ = cc in absurd z
-disk_fault (Err d) e h = let k : d ≡ e = cc in rw k refl
-
 pub behind_none : (accept : Bool) (es : List (Extent (List ℕ))) → onward accept (λ ls. es ++ extents_in ls) [] ≡ Ok es
 behind_none accept es = ap Ok (append-nil es)
-
-ok_is_no_fault : {A B : Type 0} (r : Result A Error) (f : A → B) (e : Error) → IsOk r → (r >>= λ x. Ok (f x)) ≡ Err e → ⊥
-ok_is_no_fault (Ok x) f e h k = let z : ⊥ = cc in z
-ok_is_no_fault (Err d) f e h k = let z : ⊥ = cc in z
-
-pub never_fault : {B : Type 0} (accept : Bool) (f : List (Line (List ℕ)) → B) (lines : List (List ℕ)) (e : Error) → IsOk (lines_say accept lines) → onward accept f lines ≡ Err e → ⊥
-never_fault accept f lines e h k = ok_is_no_fault (lines_say accept lines) f e h k
 
 pub gives_size : (size : Option ℕ) (wanted : Result ℕ Error) → wanted ≡ or_invalid size → Gives (λ n. n) (ok_or size InvalidData) wanted
 gives_size None wanted h = h

@@ -6,6 +6,7 @@ pub mod Vmdk
 pub mod Starts
 pub mod Disk
 pub mod Opened
+pub mod VmdkCalls
 pub mod VmdkLaws
 pub mod Image
 pub mod VmdkBuilder

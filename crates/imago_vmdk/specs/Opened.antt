@@ -36,6 +36,9 @@ abbrev pub MayResolvingBeRefused : Features → Error → Type 0
 MayResolvingBeRefused f E.Unsupported = f.resolves_paths ≡ false
 MayResolvingBeRefused f E.Device = f.is_reliable ≡ false
 MayResolvingBeRefused f E.Memory = Unit {0}
+MayResolvingBeRefused f E.NotFound = Unit {0}
+MayResolvingBeRefused f E.InvalidData = Unit {0}
+MayResolvingBeRefused f E.Denied = Unit {0}
 MayResolvingBeRefused f _ = ⊥
 
 -- The refusal is the gate's own. Else the gate wasn't asked, and the name isn't resolved; or it opened a storage that no memory was

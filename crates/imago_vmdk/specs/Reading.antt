@@ -3,7 +3,7 @@ use Rattle.std.specs.List.{sum_by}
 use Rattle.imago_storage.specs.declared.error.Error.{Error}
 use Rattle.imago_storage.specs.declared.error.Error.TheVariants.{InvalidData, Unsupported, Memory}
 use Rattle.imago_vmdk.specs.Text.{lines_of, is_text}
-use Rattle.imago_vmdk.specs.Line.{◌>>=◌, verdict_of}
+use Rattle.imago_vmdk.specs.Line.{◌>>=◌, verdict_of, Gives}
 use Rattle.imago_vmdk.specs.declared.line.Extent.{Extent}
 use Rattle.imago_vmdk.specs.declared.line.Line.{Line}
 
@@ -66,8 +66,33 @@ found_in lines = (last_version 0 lines, fitting (sum_by size_of (extents_in line
 abbrev pub survey_of : Bool → List (List ℕ) → Result (ℕ × Option ℕ) Error
 survey_of accept lines = lines_say accept lines >>= λ ls. Ok (found_in ls)
 
-abbrev pub disk_size_of : Bool → List (List ℕ) → Result ℕ Error
-disk_size_of accept lines = (lines_say accept lines >>= disk_in) >>= λ disk. Ok disk.1
+-- what one line adds: its version counts from then on, and its extent comes behind those before
+abbrev pub version_with : {N : Type 0} → ℕ → Line N → ℕ
+version_with n Line.Nothing = n
+version_with n (Line.Extent e) = n
+version_with n (Line.Version m) = m
+version_with n Line.Setting = n
+
+abbrev pub size_in : {N : Type 0} → Line N → ℕ
+size_in Line.Nothing = 0
+size_in (Line.Extent e) = size_of e
+size_in (Line.Version m) = 0
+size_in Line.Setting = 0
+
+abbrev pub extent_in : Line (List ℕ) → List (Extent (List ℕ))
+extent_in Line.Nothing = []
+extent_in (Line.Extent e) = e ∷ []
+extent_in (Line.Version m) = []
+extent_in Line.Setting = []
+
+-- these are the extents that are kept, unless memory was refused
+abbrev pub AreKept : {V : Type 0} → (V → List (Extent (List ℕ))) → Option V → List (Extent (List ℕ)) → Type 0
+AreKept view None extents = Unit {0}
+AreKept view (Some v) extents = view v ≡ extents
+
+-- what a function answers for the size, once the version and the size are found, is what the lines give
+abbrev pub GivesSize : ℕ → Option ℕ → Result ℕ Error → Type 0
+GivesSize version size result = (r : Result (List (Line (List ℕ))) Error) → (r >>= λ ls. Ok (found_in ls)) ≡ Ok (version, size) → Gives (λ n. n) result ((r >>= disk_in) >>= λ disk. Ok disk.1)
 
 abbrev pub extents_of : Bool → List (List ℕ) → Result (List (Extent (List ℕ))) Error
 extents_of accept lines = lines_say accept lines >>= λ ls. Ok (extents_in ls)

@@ -12,6 +12,11 @@ utf8_of bytes = if is_utf8 bytes then Some bytes else None
 abbrev pub lines_of : List ℕ → List (List ℕ)
 lines_of bytes = slice_split (λ b. b == 10) bytes
 
+-- the lines of what is left of a text, if anything is
+abbrev pub lines_left : Option (List ℕ) → List (List ℕ)
+lines_left None = []
+lines_left (Some bytes) = lines_of bytes
+
 -- the two texts are the same
 abbrev pub is_text : List ℕ → List ℕ → Bool
 is_text = bytes_eq

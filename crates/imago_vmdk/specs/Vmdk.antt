@@ -144,11 +144,11 @@ vmdk_view features bytes opened extents = record {
   pending = None;
 }
 
--- why the text of a storage of that length may not be read: a wrap-around of that read, a device that isn't reliable, or memory, where
--- the length may be a descriptor's or the storage takes some to tell it
+-- why the text of a storage of that length may not be read: a wrap-around of that read, where the length may be a descriptor's; a device
+-- that isn't reliable; or memory, where that may be so too, or the storage takes some to tell its length
 abbrev pub text_reasons : Features → ℕ → Reasons
 text_reasons f n = record none {
-  cause = λ e. (e ≡ Error.WrapAround) × Wraps f 0 n;
+  cause = λ e. (e ≡ Error.WrapAround) × (is_length n ≡ true) × Wraps f 0 n;
   device = f.is_reliable ≡ false;
   memory = (is_length n ≡ true) ⊎ MayRunOut f.other_memory 0 0;
 }

@@ -5,7 +5,6 @@ use Rattle.imago_storage.specs.declared.error.Error.TheVariants.{Unsupported}
 use Rattle.imago_storage.specs.Features.{Features}
 use Rattle.imago_drivers.specs.Opening.{Opening}
 use Rattle.imago_drivers.specs.Builder.{OpenSettings, IsImageStorage, storage_options}
-use Rattle.imago_drivers.specs.RawBuilder.{Then}
 use Rattle.imago_drivers.specs.Reasons.{allowed}
 use Rattle.imago_vmdk.specs.declared.line.Extent.{Extent}
 use Rattle.imago_vmdk.specs.declared.vmdk.Vmdk.{Vmdk}
@@ -30,15 +29,26 @@ IsVmdkImage bytes features resolved opened direct accept before after s (Ok v) =
     × AreOpened opened (resolved s) direct (extents_in v) before after (storages_of_extents v)
 IsVmdkImage bytes features resolved opened direct accept before after s (Err e) = IsVmdkRefusal bytes features resolved opened direct accept before after s e
 
--- The opening of a VMDK image that isn't to be written: of the storage that was handed in, or of the one that the gate gives, whose
--- refusal is passed on. The options that are set count for the extents too.
-abbrev pub IsReadOnlyOpening : {Gate S : Type 0} {g : _} {h : _} → (S → List ℕ) → (S → Features) → (S → Resolution (List ℕ)) → Opening Gate S → Gate → OpenSettings S → Bool → Result (Vmdk S g h) Error → Type 0
-IsReadOnlyOpening {Gate} {S} bytes features resolved opened gate settings accept result =
-    (between : Gate) × (storage : Result S Error) × IsImageStorage opened settings gate between storage
-    × Then storage result (λ s. (after : Gate) × IsVmdkImage bytes features resolved opened (storage_options settings).direct accept between after s result)
+-- The image of the storage that was found, or the refusal of that one, behind which the gate isn't asked any more.
+abbrev pub IsVmdkImageOf : {Gate S : Type 0} {g : _} {h : _} → (S → List ℕ) → (S → Features) → (S → Resolution (List ℕ)) → Opening Gate S → Bool → Bool → Gate → Gate → Result S Error → Result (Vmdk S g h) Error → Type 0
+IsVmdkImageOf bytes features resolved opened direct accept before after (Ok s) result = IsVmdkImage bytes features resolved opened direct accept before after s result
+IsVmdkImageOf bytes features resolved opened direct accept before after (Err e) result = (after ≡ before) × (result ≡ Err e)
 
--- One that is to be written is unsupported.
+-- The opening of a VMDK image that isn't to be written, by a gate that is so afterwards: of the storage that was handed in, for which
+-- the gate isn't asked, or of the one that it gives, whose refusal is passed on. Then it is asked for the extents, with the options
+-- that are set.
+abbrev pub IsReadOnlyOpening : {Gate S : Type 0} {g : _} {h : _} → (S → List ℕ) → (S → Features) → (S → Resolution (List ℕ)) → Opening Gate S → OpenSettings S → Bool → Gate → Gate → Result (Vmdk S g h) Error → Type 0
+IsReadOnlyOpening {Gate} {S} bytes features resolved opened settings accept before after result =
+    (between : Gate) × (storage : Result S Error) × IsImageStorage opened settings before between storage
+    × IsVmdkImageOf bytes features resolved opened (storage_options settings).direct accept between after storage result
+
+-- One that is to be written is unsupported, and the gate isn't asked.
+abbrev pub IsVmdkOpeningBy : {Gate S : Type 0} {g : _} {h : _} → (S → List ℕ) → (S → Features) → (S → Resolution (List ℕ)) → Opening Gate S → OpenSettings S → Bool → Gate → Gate → Result (Vmdk S g h) Error → Type 0
+IsVmdkOpeningBy bytes features resolved opened settings accept before after result =
+    (settings.writable ≡ true → (result ≡ Err Unsupported) × (after ≡ before))
+    × (settings.writable ≡ false → IsReadOnlyOpening bytes features resolved opened settings accept before after result)
+
+-- the same by a gate that is given away
 abbrev pub IsVmdkOpening : {Gate S : Type 0} {g : _} {h : _} → (S → List ℕ) → (S → Features) → (S → Resolution (List ℕ)) → Opening Gate S → Gate → OpenSettings S → Bool → Result (Vmdk S g h) Error → Type 0
-IsVmdkOpening bytes features resolved opened gate settings accept result =
-    (settings.writable ≡ true → result ≡ Err Unsupported)
-    × (settings.writable ≡ false → IsReadOnlyOpening bytes features resolved opened gate settings accept result)
+IsVmdkOpening {Gate} bytes features resolved opened gate settings accept result =
+    (after : Gate) × IsVmdkOpeningBy bytes features resolved opened settings accept gate after result

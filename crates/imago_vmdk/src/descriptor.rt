@@ -1,14 +1,15 @@
 //! What the text of a descriptor says, and whether bytes look like one.
-ghost use Rattle.std.specs.Prelude.{◌≡◌, ◌+◌, ◌*◌, ◌++◌, ◌∷◌, [], map, Ok, MatchResult, OnOk, IfOk, IfErr, IsOk, ◌<◌, ◌^◌};
+ghost use Rattle.std.specs.Prelude.{◌≡◌, ℕ, List, MatchOption, IfSome, option_map, length, ◌+◌, ◌*◌, ◌++◌, ◌∷◌, [], map, Ok, MatchResult, OnOk, IfOk, IfErr, ◌<◌, ◌^◌};
 ghost use Rattle.std.specs.List.{sum_by};
 ghost use Rattle.std.specs.String.{string_bytes};
-ghost use Rattle.imago_vmdk.specs.Text.{lines_of, number_of};
-ghost use Rattle.imago_vmdk.specs.Line.{Gives, extent_with};
-ghost use Rattle.imago_vmdk.specs.Reading.{lines_say, survey_of, disk_size_of, extents_of, size_of, is_version, is_length as may_be_long, fitting, reading_of, GivesOrMemory};
+ghost use Rattle.imago_vmdk.specs.Text.{lines_of, lines_left, number_of};
+ghost use Rattle.imago_vmdk.specs.Line.{Gives, extent_with, line_with};
+ghost use Rattle.imago_vmdk.specs.Reading.{survey_of, version_with, size_in, extent_in, AreKept, GivesSize, extents_of, size_of, is_version, is_length as may_be_long, fitting, reading_of, GivesOrMemory};
 ghost use Rattle.imago_vmdk.specs.Probe.{line_decides, names_version, probe_lines, probe_of};
 
 use crate::line::{Extent, Line, cut_at_equals, utf8, verdict, version_number};
 use imago_storage::error::Error;
+use memchr::memchr;
 use std::alloc::Global;
 
 /// What a descriptor says.
@@ -26,6 +27,8 @@ struct Survey {
     version: u32,
     /// The disk's size in bytes, if it fits.
     size: Option<u64>,
+    /// The extents, if there is memory for them.
+    extents: Option<Vec<Extent<String>>>,
 }
 
 /// Whether a descriptor may be that long, in bytes.
@@ -46,33 +49,6 @@ fn longer(size: Option<u64>, sectors: u64) -> Option<u64>
     ensures { (n : _) → size ≡ fitting n → result ≡ fitting (n + sectors * 512) }
 {
     size?.checked_add(sectors.checked_mul(512)?)
-}
-
-/// Reads all lines, and takes no memory.
-fn survey_lines(accept: bool, text: &[u8]) -> Result<Survey, Error>
-    ensures { Gives (λ s. (s.version, s.size)) result (survey_of accept (lines_of text.now)) }
-{
-    let mut version = 0;
-    let mut size = Some(0);
-    for line in text.split(|b| *b == b'\n') {
-        match verdict(accept, line)? {
-            Line::Nothing | Line::Setting => {}
-            Line::Version(number) => version = number,
-            Line::Extent(extent) => size = longer(size, extent.sectors()),
-        }
-    }
-    Ok(Survey { version, size })
-}
-
-/// The size of the disk that the lines describe, in bytes. It takes no memory.
-fn disk_size(accept: bool, text: &[u8]) -> Result<u64, Error>
-    ensures { Gives (λ n. n) result (disk_size_of accept (lines_of text.now)) }
-{
-    let survey = survey_lines(accept, text)?;
-    if !is_known_version(survey.version) {
-        return Err(Error::Unsupported);
-    }
-    survey.size.ok_or(Error::InvalidData)
 }
 
 /// The extent with a name of its own. Refused, it is [`Error::Memory`].
@@ -114,20 +90,97 @@ fn append(
     Ok(())
 }
 
-/// The extents of lines of which none is a fault. Refused, it is [`Error::Memory`].
-fn collect(alloc: Global, accept: bool, text: &[u8]) -> Result<Vec<Extent<String>>, Error>
-    requires { IsOk (lines_say accept (lines_of text.now)) }
-    ensures { MatchResult result (λ v. extents_of accept (lines_of text.now) ≡ Ok (map (extent_with string_bytes) v.items)) (λ e. e ≡ Error.Memory) }
+/// The extents with one more behind them, if there is memory for it.
+fn kept(
+    alloc: Global,
+    extents: Option<Vec<Extent<String>>>,
+    extent: Extent<&str>,
+) -> Option<Vec<Extent<String>>>
+    ensures { (es : List (Extent (List ℕ))) → AreKept (λ v. map (extent_with string_bytes) v.items) extents es
+        → AreKept (λ v. map (extent_with string_bytes) v.items) result (es ++ extent_with (λ s. s.now) extent.entry ∷ []) }
 {
-    let mut extents = Vec::new(alloc);
-    for line in text.split(|b| *b == b'\n') {
-        match verdict(accept, line)? {
-            Line::Nothing | Line::Setting => {}
-            Line::Version(_) => {}
-            Line::Extent(extent) => append(alloc, &mut extents, extent)?,
+    let mut extents = extents?;
+    match append(alloc, &mut extents, extent) {
+        Ok(()) => Some(extents),
+        Err(_) => None,
+    }
+}
+
+impl Survey {
+    /// What the lines say with one more. Of versions the last one counts. Where memory is refused, no extents are kept from there
+    /// on.
+    fn with(self, alloc: Global, line: Line<&str>) -> Self
+        ensures version { result.version ≡ version_with self.version line.entry }
+        ensures size { (n : ℕ) → self.size ≡ fitting n → result.size ≡ fitting (n + size_in line.entry) }
+        ensures extents { (es : List (Extent (List ℕ))) → AreKept (λ v. map (extent_with string_bytes) v.items) self.extents es
+            → AreKept (λ v. map (extent_with string_bytes) v.items) result.extents (es ++ extent_in (line_with (λ s. s.now) line.entry)) }
+    {
+        let Survey {
+            version,
+            size,
+            extents,
+        } = self;
+        match line {
+            Line::Nothing | Line::Setting => Survey {
+                version,
+                size,
+                extents,
+            },
+            Line::Version(number) => Survey {
+                version: number,
+                size,
+                extents,
+            },
+            Line::Extent(extent) => Survey {
+                version,
+                size: longer(size, extent.sectors()),
+                extents: kept(alloc, extents, extent),
+            },
         }
     }
-    Ok(extents)
+}
+
+/// The first line of a text, and what stands behind its end, if it has one.
+fn cut_line(text: &[u8]) -> (&[u8], Option<&[u8]>)
+    ensures lines { lines_of text.now ≡ result.0.now ∷ lines_left (option_map (λ s. s.now) result.1) }
+    ensures shorter { IfSome result.1 (λ rest. length rest.now < length text.now) }
+{
+    match memchr(b'\n', text) {
+        Some(end) => (&text[..end], Some(&text[end + 1..])),
+        None => (text, None),
+    }
+}
+
+/// Reads all lines. Where memory is refused, only the faults, the version and the size are looked for from there on.
+fn survey_lines(alloc: Global, accept: bool, text: &[u8]) -> Result<Survey, Error>
+    ensures found { Gives (λ s. (s.version, s.size)) result (survey_of accept (lines_of text.now)) }
+    ensures extents { IfOk result
+        (λ s. MatchOption s.extents (Unit {0})
+        (λ v. extents_of accept (lines_of text.now) ≡ Ok (map (extent_with string_bytes) v.items))) }
+{
+    let mut survey = Survey {
+        version: 0,
+        size: Some(0),
+        extents: Some(Vec::new(alloc)),
+    };
+    let mut left = Some(text);
+    while let Some(text) = left {
+        let (line, rest) = cut_line(text);
+        let said = verdict(accept, line)?;
+        survey = survey.with(alloc, said);
+        left = rest;
+    }
+    Ok(survey)
+}
+
+/// The size in bytes of the disk that lines describe, by their version and its size, if that fits.
+fn disk_size(version: u32, size: Option<u64>) -> Result<u64, Error>
+    ensures { GivesSize version size result }
+{
+    if !is_known_version(version) {
+        return Err(Error::Unsupported);
+    }
+    size.ok_or(Error::InvalidData)
 }
 
 /// What a descriptor says, whose bytes these are. Keys that aren't known are [`Error::InvalidData`], or say nothing where
@@ -149,8 +202,13 @@ pub fn read(alloc: Global, accept_unknown_keys: bool, text: &[u8]) -> Result<Des
     if text.starts_with(b"KDMV") {
         return Err(Error::Unsupported);
     }
-    let size = disk_size(accept_unknown_keys, text)?;
-    let extents = collect(alloc, accept_unknown_keys, text)?;
+    let Survey {
+        version,
+        size,
+        extents,
+    } = survey_lines(alloc, accept_unknown_keys, text)?;
+    let size = disk_size(version, size)?;
+    let extents = extents.ok_or(Error::Memory)?;
     Ok(Descriptor { extents, size })
 }
 
@@ -183,10 +241,13 @@ fn decision(line: &[u8]) -> Option<bool>
 fn first_decision(text: &[u8]) -> bool
     ensures { result ≡ probe_lines (lines_of text.now) }
 {
-    for line in text.split(|b| *b == b'\n') {
+    let mut left = Some(text);
+    while let Some(text) = left {
+        let (line, rest) = cut_line(text);
         if let Some(answer) = decision(line) {
             return answer;
         }
+        left = rest;
     }
     false
 }

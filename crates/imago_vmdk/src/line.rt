@@ -251,13 +251,13 @@ fn pair(accept: bool, text: &str) -> Result<Line<&str>, Error>
 fn trimmed(accept: bool, text: &str) -> Result<Line<&str>, Error>
     ensures { Gives (line_with (λ s. s.now)) result (text_of accept (words_of text.now) text.now) }
 {
+    if text.starts_with('#') {
+        return Ok(Line::Nothing);
+    }
     let mut words = text.split_whitespace();
     let Some(first) = next_word(&mut words) else {
         return Ok(Line::Nothing);
     };
-    if text.starts_with('#') {
-        return Ok(Line::Nothing);
-    }
     match access_of(first) {
         None => pair(accept, text),
         Some(access) => extent_line(access, &mut words, text),
@@ -280,6 +280,9 @@ pub(crate) fn utf8(bytes: &[u8]) -> Option<&str>
 pub fn verdict(accept_unknown_keys: bool, line: &[u8]) -> Result<Line<&str>, Error>
     ensures { Gives (line_with (λ s. s.now)) result (verdict_of accept_unknown_keys line.now) }
 {
+    if line.is_empty() {
+        return Ok(Line::Nothing);
+    }
     let text = utf8(line).ok_or(Error::InvalidData)?;
     trimmed(accept_unknown_keys, text.trim())
 }

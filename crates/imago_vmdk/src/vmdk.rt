@@ -5,12 +5,10 @@ ghost use Rattle.std.specs.String.{string_bytes};
 ghost use Rattle.imago_storage.specs.Error.{IsExtRefusal};
 ghost use Rattle.imago_storage.specs.Features.{MayRunOut};
 ghost use Rattle.imago_storage.specs.Padding.{Wraps};
-ghost use Rattle.imago_storage.specs.Maintenance.{IsNothing};
 ghost use Rattle.imago_drivers.specs.declared.mapping.ShallowMapping.TheVariants as ShallowMapping;
 ghost use Rattle.imago_drivers.specs.Mapping.{Names};
 ghost use Rattle.imago_drivers.specs.Place.{Refused};
 ghost use Rattle.imago_drivers.specs.Reasons.{allowed};
-ghost use Rattle.imago_drivers.specs.Discards.{no_discards};
 ghost use Rattle.imago_drivers.specs.Commit.{IsCommit, IsCancel};
 ghost use Rattle.imago_vmdk.specs.Line.{extent_with};
 ghost use Rattle.imago_vmdk.specs.Reading.{size_of as extent_size, is_length as may_be_long, reading_of};
@@ -18,6 +16,7 @@ ghost use Rattle.imago_vmdk.specs.Probe.{probe_of};
 ghost use Rattle.imago_vmdk.specs.Vmdk.{extent_place, extent_rest, places_from, rest_from, storages_in, vmdk_count, vmdk_view, text_reasons};
 ghost use Rattle.imago_vmdk.specs.Starts.{starts_from};
 ghost use Rattle.imago_vmdk.specs.Opened.{IsStorageOpened, IsStorageRefused, IsExtentOpened, IsExtentRefused, AreOpened, AreRefused};
+ghost use Rattle.imago_vmdk.specs.VmdkCalls.{vmdk_calls};
 ghost use Rattle.imago_vmdk.specs.VmdkLaws.{vmdk_lawful, vmdk_causes};
 
 use crate::descriptor::{self, Descriptor, is_length};
@@ -75,7 +74,8 @@ fn text<S: Storage>(alloc: Global, storage: &S) -> Result<Option<Vec<u8>>, Error
         (λ v. (may_be_long (length (S.bytes storage.now)) ≡ true) × (v.items ≡ S.bytes storage.now))) }
     ensures only { IfErr result IsExtRefusal }
     ensures device { IsErrOf result Error.Device → (S.features storage.now).is_reliable ≡ false }
-    ensures wraps { IsErrOf result Error.WrapAround → Wraps (S.features storage.now) 0 (length (S.bytes storage.now)) }
+    ensures wraps { IsErrOf result Error.WrapAround
+        → (may_be_long (length (S.bytes storage.now)) ≡ true) × Wraps (S.features storage.now) 0 (length (S.bytes storage.now)) }
     ensures memory { IsErrOf result Error.Memory
         → (may_be_long (length (S.bytes storage.now)) ≡ true) ⊎ MayRunOut (S.features storage.now).other_memory 0 0 }
 {
@@ -409,9 +409,7 @@ impl<S: Storage> FormatDriverInstance for Vmdk<S> {
 
     ghost probe_reasons = { λ s. text_reasons (S.features s) (length (S.bytes s)) };
 
-    ghost flushes = { record { flushed = IsNothing; synced = IsNothing; invalidated = IsNothing } };
-
-    ghost discards = { no_discards };
+    ghost calls = { vmdk_calls (λ v. S.features v.descriptor ∷ map S.features v.storages.items) (λ v. S.bytes v.descriptor ∷ map S.bytes v.storages.items) };
 
     ghost lawful = { λ v. vmdk_lawful (S.features v.descriptor ∷ map S.features v.storages.items) (S.bytes v.descriptor ∷ map S.bytes v.storages.items) v.opened v.extents.items };
 
@@ -506,7 +504,8 @@ impl<S: Storage> FormatDriverInstance for Vmdk<S> {
         _source: &[u8],
         _offset: u64,
     ) -> Result<(), Error>
-        ensures { IsErrOf result Error.Unsupported }
+        ensures unsupported { IsErrOf result Error.Unsupported }
+        ensures untouched { self.new ≡ self.old }
     {
         Err(Error::Unsupported)
     }
@@ -517,7 +516,8 @@ impl<S: Storage> FormatDriverInstance for Vmdk<S> {
         _offset: u64,
         _count: u64,
     ) -> Result<(u64, u64), Error>
-        ensures { IsErrOf result Error.Unsupported }
+        ensures unsupported { IsErrOf result Error.Unsupported }
+        ensures untouched { self.new ≡ self.old }
     {
         Err(Error::Unsupported)
     }
@@ -528,7 +528,8 @@ impl<S: Storage> FormatDriverInstance for Vmdk<S> {
         _offset: u64,
         _count: u64,
     ) -> Result<(u64, u64), Error>
-        ensures { IsErrOf result Error.Unsupported }
+        ensures unsupported { IsErrOf result Error.Unsupported }
+        ensures untouched { self.new ≡ self.old }
     {
         Err(Error::Unsupported)
     }
@@ -539,7 +540,8 @@ impl<S: Storage> FormatDriverInstance for Vmdk<S> {
         _offset: u64,
         _count: u64,
     ) -> Result<(u64, u64), Error>
-        ensures { IsErrOf result Error.Unsupported }
+        ensures unsupported { IsErrOf result Error.Unsupported }
+        ensures untouched { self.new ≡ self.old }
     {
         Err(Error::Unsupported)
     }
@@ -550,7 +552,8 @@ impl<S: Storage> FormatDriverInstance for Vmdk<S> {
         _offset: u64,
         _count: u64,
     ) -> Result<(u64, u64), Error>
-        ensures { IsErrOf result Error.Unsupported }
+        ensures unsupported { IsErrOf result Error.Unsupported }
+        ensures untouched { self.new ≡ self.old }
     {
         Err(Error::Unsupported)
     }
@@ -563,7 +566,8 @@ impl<S: Storage> FormatDriverInstance for Vmdk<S> {
         _count: u64,
         _overwrite: bool,
     ) -> Result<PreparedDataMapping<()>, Error>
-        ensures { IsErrOf result Error.Unsupported }
+        ensures unsupported { IsErrOf result Error.Unsupported }
+        ensures untouched { self.new ≡ self.old }
     {
         Err(Error::Unsupported)
     }
@@ -579,7 +583,9 @@ impl<S: Storage> FormatDriverInstance for Vmdk<S> {
     }
 
     fn commit_data_mapping(&mut self, mapping: PreparedDataMapping<()>) -> Result<(), Error>
-        ensures { IsCommit ⟦<Vmdk<S> as FormatDriverInstance>⟧.view self.old self.new mapping result }
+        ensures call { IsCommit ⟦<Vmdk<S> as FormatDriverInstance>⟧.view self.old self.new mapping result }
+        ensures untouched { self.new ≡ self.old }
+        ensures performed { ⟦<Vmdk<S> as FormatDriverInstance>⟧.calls.committed mapping self.old self.new result }
     {
         match mapping.into_state() {
             None => Ok(()),
@@ -588,7 +594,9 @@ impl<S: Storage> FormatDriverInstance for Vmdk<S> {
     }
 
     fn cancel_data_mapping(&mut self, mapping: PreparedDataMapping<()>)
-        ensures { IsCancel ⟦<Vmdk<S> as FormatDriverInstance>⟧.view self.old self.new mapping }
+        ensures call { IsCancel ⟦<Vmdk<S> as FormatDriverInstance>⟧.view self.old self.new mapping }
+        ensures untouched { self.new ≡ self.old }
+        ensures performed { ⟦<Vmdk<S> as FormatDriverInstance>⟧.calls.cancelled mapping self.old self.new }
     {
         let _ = mapping.into_state();
     }
@@ -601,7 +609,8 @@ impl<S: Storage> FormatDriverInstance for Vmdk<S> {
         _count: u64,
         _overwrite: bool,
     ) -> Result<(usize, u64, u64), Error>
-        ensures { IsErrOf result Error.Unsupported }
+        ensures unsupported { IsErrOf result Error.Unsupported }
+        ensures untouched { self.new ≡ self.old }
     {
         Err(Error::Unsupported)
     }
@@ -613,13 +622,15 @@ impl<S: Storage> FormatDriverInstance for Vmdk<S> {
         _new_size: u64,
         _mode: PreallocateMode,
     ) -> Result<(), Error>
-        ensures { IsErrOf result Error.Unsupported }
+        ensures unsupported { IsErrOf result Error.Unsupported }
+        ensures untouched { self.new ≡ self.old }
     {
         Err(Error::Unsupported)
     }
 
     fn resize_shrink(&mut self, _new_size: u64) -> Result<(), Error>
-        ensures { IsErrOf result Error.Unsupported }
+        ensures unsupported { IsErrOf result Error.Unsupported }
+        ensures untouched { self.new ≡ self.old }
     {
         Err(Error::Unsupported)
     }

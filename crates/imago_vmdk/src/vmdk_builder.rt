@@ -1,13 +1,15 @@
 //! The builder of VMDK images.
-ghost use Rattle.std.specs.Prelude.{◌≡◌, true, false, Err, OnErr, IsOk};
+ghost use Rattle.std.specs.Prelude.{◌≡◌, true, false, Some, IfOk};
 ghost use Rattle.std.specs.String.{string_bytes};
-ghost use Rattle.imago_drivers.specs.Builder.{HandedIn, AtPath, unset, storage_options};
+ghost use Rattle.imago_storage.specs.Options.{open_options};
+ghost use Rattle.imago_drivers.specs.declared.format.Format.TheVariants as ImageFormat;
+ghost use Rattle.imago_drivers.specs.Builder.{HandedIn, AtPath, unset, storage_options, IsImageOf};
 ghost use Rattle.imago_drivers.specs.BuilderBase.{open_settings};
-ghost use Rattle.imago_vmdk.specs.VmdkBuilder.{IsVmdkOpening};
+ghost use Rattle.imago_vmdk.specs.VmdkBuilder.{IsVmdkOpening, IsVmdkOpeningBy};
 
 use crate::vmdk::Vmdk;
 use imago_drivers::builder::{FormatDriverBuilder, FormatDriverBuilderBase};
-use imago_drivers::drivers::Format;
+use imago_drivers::drivers::{Format, FormatDriverInstance};
 use imago_drivers::gate::ImplicitOpenGate;
 use imago_storage::error::Error;
 use imago_storage::storage::{Storage, StorageOpenOptions};
@@ -61,6 +63,24 @@ impl<S: Storage> VmdkOpenBuilder<S> {
         self.accepts_unknown_keys = accept;
         self
     }
+
+    /// Opens the image. The gate is asked for the storage of a path, once, and then for those of the extents; it is as it was where the
+    /// image is to be written.
+    fn open_by<G: ImplicitOpenGate<S>>(self, alloc: Global, gate: &mut G) -> Result<Vmdk<S>, Error>
+        ensures opened { IsVmdkOpeningBy S.bytes S.features S.openings.resolved G.opened (vmdk_settings self) (accepts_unknown_keys self) gate.old gate.new result }
+        ensures image { IfOk result (λ r. IsImageOf G.opened gate.old (vmdk_settings self) S.bytes S.features (⟦<Vmdk<S> as FormatDriverInstance>⟧.view r)) }
+    {
+        let VmdkOpenBuilder {
+            base,
+            accepts_unknown_keys,
+        } = self;
+        if base.get_writable() {
+            return Err(Error::Unsupported);
+        }
+        let direct = is_direct(&base);
+        let storage = base.open_image(alloc, gate)?;
+        Vmdk::open_with_extents(alloc, storage, direct, accepts_unknown_keys, gate)
+    }
 }
 
 /// Whether storages are to be opened without the host's cache.
@@ -80,39 +100,48 @@ impl<S: Storage> FormatDriverBuilder<S> for VmdkOpenBuilder<S> {
 
     const FORMAT: Format = Format::Vmdk;
 
+    ghost FORMAT = { ImageFormat.Vmdk };
+
     ghost settings = { vmdk_settings };
 
     ghost opens = { λ Gate opened gate b result. IsVmdkOpening S.bytes S.features S.openings.resolved opened gate (vmdk_settings b) (accepts_unknown_keys b) result };
 
-    fn new(image: S) -> Self {
+    fn new(image: S) -> Self
+        ensures settings { vmdk_settings result ≡ unset (HandedIn image) }
+        ensures keys { accepts_unknown_keys result ≡ false }
+    {
         Vmdk::builder(image)
     }
 
-    fn new_path(path: String) -> Self {
+    fn new_path(path: String) -> Self
+        ensures settings { vmdk_settings result ≡ unset (AtPath (string_bytes path)) }
+        ensures keys { accepts_unknown_keys result ≡ false }
+    {
         Vmdk::builder_path(path)
     }
 
-    fn write(mut self, writable: bool) -> Self {
+    fn write(mut self, writable: bool) -> Self
+        ensures settings { vmdk_settings result ≡ record (vmdk_settings self) { writable = writable } }
+        ensures keys { accepts_unknown_keys result ≡ accepts_unknown_keys self }
+    {
         self.base.set_write(writable);
         self
     }
 
-    fn storage_open_options(mut self, options: StorageOpenOptions) -> Self {
+    fn storage_open_options(mut self, options: StorageOpenOptions) -> Self
+        ensures settings { vmdk_settings result ≡ record (vmdk_settings self) { options = Some (open_options options) } }
+        ensures keys { accepts_unknown_keys result ≡ accepts_unknown_keys self }
+    {
         self.base.set_storage_open_options(options);
         self
     }
 
-    fn open<G: ImplicitOpenGate<S>>(self, alloc: Global, mut gate: G) -> Result<Vmdk<S>, Error> {
-        let VmdkOpenBuilder {
-            base,
-            accepts_unknown_keys,
-        } = self;
-        if base.get_writable() {
-            return Err(Error::Unsupported);
-        }
-        let direct = is_direct(&base);
-        let storage = base.open_image(alloc, &mut gate)?;
-        Vmdk::open_with_extents(alloc, storage, direct, accepts_unknown_keys, &mut gate)
+    fn open<G: ImplicitOpenGate<S>>(self, alloc: Global, mut gate: G) -> Result<Vmdk<S>, Error>
+        ensures opened { IsVmdkOpening S.bytes S.features S.openings.resolved G.opened gate (vmdk_settings self) (accepts_unknown_keys self) result }
+        ensures image { IfOk result (λ r. IsImageOf G.opened gate (vmdk_settings self) S.bytes S.features (⟦<Vmdk<S> as FormatDriverInstance>⟧.view r)) }
+        ensures format { IfOk result (λ r. (⟦<Vmdk<S> as FormatDriverInstance>⟧.view r).abilities.format ≡ Format.Vmdk) }
+    {
+        self.open_by(alloc, &mut gate)
     }
 
     fn get_image_path(&self) -> Option<&str> {

@@ -4,7 +4,7 @@ use super::check;
 use std::process::Abort;
 
 /// Scripts whose every line is a command, and what they print.
-const ROWS: [(&str, &str); 27] = [
+const ROWS: [(&str, &str); 28] = [
     (
         "mem a 16 00 1 1\nopen raw a rw\nwrite 3 0102\nread 0 6\n",
         "ok\nok\nok\nok 000000010200\n",
@@ -129,6 +129,11 @@ const ROWS: [(&str, &str); 27] = [
         "mem a 18446744073709551615 00 1 1\nopen raw a ro\nmem b 1 77 1 1\nopen raw b rw\n\
          grow 18446744073709551615 zero\nresize 9223372036854775808 none\nsize\nread 0 1\n",
         "err OutOfMemory\nerr NotFound\nok\nok\nerr OutOfMemory\nerr OutOfMemory\nok 1\nok 77\n",
+    ),
+    // A VMDK image of two sectors of zeroes.
+    (
+        "hex d 76657273696f6e3d310a52572032205a45524f0a\nprobe d\nopen vmdk d\nsize\nmap 0 4096\nmap 1024 1\nwrite 0 01\n",
+        "ok\nok true\nok\nok 1024\nok 1024 <zero:explicit>\nok 0 <eof>\nerr Other\n",
     ),
     // A VMDK image of two files, the second one from its second sector on. It is read-only; behind its files are zeroes.
     (

@@ -12,7 +12,7 @@ loop-call-preserved g c =
     record {
       spent = c.step-reply.ensures.spent;
       room = omega (arith, c.in-Ok.ensures.len, c.in-Ok.ensures.capacity, c.loop-call.invariant.room);
-      run = (r.0 ++ c.step-reply.result ∷ [], items ∙ ap (λ xs. xs ++ c.step-reply.result ∷ []) r.1 ∙ append_assoc c.args.replies.now.items r.0 (c.step-reply.result ∷ []), rw calls (run_more g.D.FormatDriverInstance.view g.D.FormatDriverInstance.flushes g.D.FormatDriverInstance.discards c.args.image.now c.loop-call.image c.step-reply.new.image (take c.loop-call.call-index c.args.calls.now) r.0 c.call-item.result c.step-reply.result r.2 c.step-reply.ensures.step));
+      run = (r.0 ++ c.step-reply.result ∷ [], items ∙ ap (λ xs. xs ++ c.step-reply.result ∷ []) r.1 ∙ append_assoc c.args.replies.now.items r.0 (c.step-reply.result ∷ []), rw calls (run_more g.D.FormatDriverInstance.view g.D.FormatDriverInstance.calls c.args.image.now c.loop-call.image c.step-reply.new.image (take c.loop-call.call-index c.args.calls.now) r.0 c.call-item.result c.step-reply.result r.2 c.step-reply.ensures.step));
     }
 
 pub returns-clause-history : goal.returns-clause-history
@@ -20,4 +20,4 @@ returns-clause-history g c = λ keeps.
     let l = c.loop-call in
     let r = l.invariant.run in
     let all : take l.call-index c.args.calls.now ≡ c.args.calls.now = take_all l.call-index c.args.calls.now (omega arith) in
-    (r.0, r.1, flat_history g.D.FormatDriverInstance.view g.met.D.FormatDriverInstance.lawful g.met.D.FormatDriverInstance.causes_lawful g.D.FormatDriverInstance.flushes g.D.FormatDriverInstance.discards c.args.image.now l.image c.args.calls.now r.0 keeps (rw all at r.2))
+    (r.0, r.1, flat_history g.D.FormatDriverInstance.view g.met.D.FormatDriverInstance.lawful g.met.D.FormatDriverInstance.causes_lawful g.D.FormatDriverInstance.calls c.args.image.now l.image c.args.calls.now r.0 keeps (rw all at r.2))

@@ -9,5 +9,5 @@ invariant-loop-call g l =
     record {
       spent : (g.D.FormatDriverInstance.view (driver l.image)).pending ≡ None;
       room : vec_len l.replies + (length l.calls - l.call-index) ≤ vec_capacity l.replies;
-      run : (rs : List Reply) × (l.replies.items ≡ l.fn.replies.items ++ rs) × IsRun g.D.FormatDriverInstance.view g.D.FormatDriverInstance.flushes g.D.FormatDriverInstance.discards l.fn.image (take l.call-index l.calls) rs l.image;
+      run : (rs : List Reply) × (l.replies.items ≡ l.fn.replies.items ++ rs) × IsRun g.D.FormatDriverInstance.view g.D.FormatDriverInstance.calls l.fn.image (take l.call-index l.calls) rs l.image;
     }

@@ -1,4 +1,4 @@
-use Rattle.std.proofs.Common.{◌≡◌, ◌+◌, ◌*◌, ◌%◌, ◌<◌, ◌≤◌, arith, ap, ◌∙◌, refl, inl, inr, Some, max, true, false}
+use Rattle.std.proofs.Common.{◌≡◌, ◌+◌, ◌*◌, ◌%◌, ◌<◌, ◌≤◌, arith, ap, sym, ◌∙◌, refl, inl, inr, Some, max, true, false}
 use Rattle.imago_drivers.specs.declared.format.PreallocateMode.{PreallocateMode}
 use Rattle.imago_drivers.specs.LayerBelow.{lent}
 use Rattle.imago_cow.specs.Table.{named_count}
@@ -11,6 +11,7 @@ use Rattle.imago_cow.specs.Cut.{IsCutRead, shows_below}
 use Rattle.imago_cow.proofs.MapSteps.{number_ends}
 use Rattle.imago_cow.proofs.StoredSteps.{on_ok, ok_holds}
 use Rattle.imago_cow.proofs.CutSteps.{limit_padded, part_padded, if_limit_refused, taken_filled, data_filled, data_torn, if_refused, reads_behind}
+use Rattle.imago_cow.proofs.GrownEntries.{cut_whole, cut_none, cut_zero, cut_data, absent_put, zero_put}
 use Rattle.imago_cow.proofs.cut.fill_cut.Goals as goal
 
 pub overflow_mul-to : goal.overflow_mul-to
@@ -201,3 +202,35 @@ returns-else-not-lower-clause-counted g c = λ most m1 m2.
 
 pub returns-in-Data-clause-entry : goal.returns-in-Data-clause-entry
 returns-in-Data-clause-entry g c = on_ok c.copy_old.result (λ x e. inl refl)
+
+pub returns-then-rest-eq0-clause-grown : goal.returns-then-rest-eq0-clause-grown
+returns-then-rest-eq0-clause-grown g c = cut_whole _ _ _ _ c.if-rest-eq0.true
+
+pub returns-then-adds_nothing-clause-grown : goal.returns-then-adds_nothing-clause-grown
+returns-then-adds_nothing-clause-grown g c = cut_none _ _ _ _ (c.adds_nothing.ensures.none c.if-adds_nothing.true)
+
+pub returns-in-Absent-clause-grown : goal.returns-in-Absent-clause-grown
+returns-in-Absent-clause-grown g c =
+    let growth = c.args.growth in
+    let cutting : 0 < growth.size % growth.block = omega (arith, c.if-rest-eq0.false) in
+    on_ok c.fill_taken.result (λ x e.
+    let put = ok_holds x e c.fill_taken.ensures.entry in
+    absent_put growth.mode growth.block growth.size (entries_of c.args.table.now) (entries_of c.fill_taken.new.table) (put.0) (c.requires.within cutting) (put.1) (c.get.ensures ∙ ap (λ y. Some y) c.in-Absent.is) (c.adds_nothing.ensures.some c.if-adds_nothing.false))
+
+pub returns-then-not-lower-clause-grown : goal.returns-then-not-lower-clause-grown
+returns-then-not-lower-clause-grown g c =
+    let growth = c.args.growth in
+    cut_zero growth.mode growth.block growth.size (entries_of c.args.table.now) (c.get.ensures ∙ ap (λ y. Some y) c.in-Zero.is) (sym c.is_lower-lower.ensures ∙ c.if-not-lower.true)
+
+pub returns-else-not-lower-clause-grown : goal.returns-else-not-lower-clause-grown
+returns-else-not-lower-clause-grown g c =
+    let growth = c.args.growth in
+    let cutting : 0 < growth.size % growth.block = omega (arith, c.if-rest-eq0.false) in
+    on_ok c.fill_taken-in-Zero.result (λ x e.
+    let put = ok_holds x e c.fill_taken-in-Zero.ensures.entry in
+    zero_put growth.mode growth.block growth.size (entries_of c.args.table.now) (entries_of c.fill_taken-in-Zero.new.table) (put.0) (c.requires.within cutting) (put.1) (c.get.ensures ∙ ap (λ y. Some y) c.in-Zero.is) (sym c.is_lower-lower.ensures ∙ c.if-not-lower.false))
+
+pub returns-in-Data-clause-grown : goal.returns-in-Data-clause-grown
+returns-in-Data-clause-grown g c =
+    let growth = c.args.growth in
+    on_ok c.copy_old.result (λ x e. cut_data growth.mode growth.block growth.size (entries_of c.args.table.now) c.in-Data.number (c.get.ensures ∙ ap (λ y. Some y) c.in-Data.is))

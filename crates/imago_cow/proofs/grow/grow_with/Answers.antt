@@ -11,6 +11,7 @@ use Rattle.imago_cow.specs.Cut.{IsCutFilled, IsCutEntered, shows_below}
 use Rattle.imago_cow.proofs.FillSteps.{counts_then}
 use Rattle.imago_cow.proofs.CutEntries.{within_same}
 use Rattle.imago_cow.proofs.GrowBounds.{cut_inside}
+use Rattle.imago_cow.proofs.GrownEntries.{grown_blocks}
 use Rattle.imago_cow.proofs.GrowthSteps.{grown_whole, cut_refused, add_refused, not_grown, mode_uses, blocks_for, blocks_cover, blocks_near, new_fit, cut_fit, cut_read, added_read, if_grow_refused, same_exact}
 use Rattle.imago_cow.proofs.grow.grow_with.Goals as goal
 
@@ -152,3 +153,12 @@ returns-clause-grown g c =
     let then : CountsFaults {T = Unit {0}} (f.is_reliable && L.is_reliable) k1 k2 (Ok tt) = rw e1.features at done.faults in
     grown_whole f k0 k2 A B D growth.size growth.block growth.new_size E M F n0 (count_of c.add_new.new.table) L growth.mode lower pos c.requires.grows ex low c.requires.some filled extended (done.exact).covers longer
     (counts_then (f.is_reliable && L.is_reliable) k0 k1 k2 (Ok tt) first then)
+
+pub returns-clause-blocks : goal.returns-clause-blocks
+returns-clause-blocks g c =
+    let growth = c.args.growth in
+    let first = c.in_ok-fill_cut.ensures in
+    let then = c.add_new.ensures in
+    let done = c.in_default.ensures in
+    grown_blocks growth.block growth.size (entries_of c.args.table.now) c.requires.positive c.requires.exact growth.mode (entries_of c.fill_cut.new.table) (entries_of c.add_new.new.table)
+    c.requires.some first.entry (first.filled).len first.grown then.prefix done.in_data done.zero

@@ -210,7 +210,7 @@ returns-in-Err-clause-refusals g c = λ old_faults most some.
     let more = one_more part.block part.size (entries_of c.args.table.now) (count_of c.args.table.now) c.requires.positive c.requires.exact.covers part.offset under (empty_entry part.absent _ c.requires.absent c.requires.zero) Write part.offset most tt (omega arith) (omega (arith, some)) in
     let known : number < data_count part.block part.size (entries_of c.args.table.now) (count_of c.args.table.now) None Write part.offset most = omega (arith, more, c.in_ok-number.ensures.count, c.take.ensures.added) in
     round_refused (g.S.Storage.features c.args.storage.now) old_faults (g.S.Storage.bytes c.args.storage.now) part.size part.block (entries_of c.args.table.now) (count_of c.args.table.now) (lent g.B.LowerLayer.as_layer_below c.args.below) part.absent part.offset most number (number * part.block)
-    c.requires.positive under some c.requires.absent refl known part.overwrite part.run c.in-Err.e c.in-Err.ensures.refusals
+    c.requires.positive under some c.requires.absent refl known (empty_entry part.absent _ c.requires.absent c.requires.zero) part.overwrite part.run c.in-Err.e c.in-Err.ensures.refusals
 
 pub returns-in-Err-clause-over : goal.returns-in-Err-clause-over
 returns-in-Err-clause-over g c = λ most some run over.

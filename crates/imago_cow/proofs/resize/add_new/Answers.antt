@@ -4,6 +4,7 @@ use Rattle.imago_cow.specs.Table.{named_count}
 use Rattle.imago_cow.specs.TableView.{entries_of}
 use Rattle.imago_cow.specs.Growth.{IsExtended}
 use Rattle.imago_cow.specs.Cut.{shows_below}
+use Rattle.imago_cow.specs.Grown.{AddsData}
 use Rattle.imago_cow.proofs.ResizeSteps.{needs_no_fewer}
 use Rattle.imago_cow.proofs.FillSteps.{on_ok_both, zero_extended, one_whole}
 use Rattle.imago_cow.proofs.CutSteps.{limit_refused}
@@ -89,3 +90,16 @@ returns-clause-named g c = λ wanted covers near.
     let same : named_count (entries_of c.reserve.new.self) ≡ named_count (entries_of c.args.table.now) = ap named_count c.reserve.ensures.entries in
     let x : named_count (entries_of c.push_blocks.new.table) ≡ named_count (entries_of c.args.table.now) + (wanted - length (entries_of c.args.table.now)) = omega (arith, c.in_default.ensures.named, same, one, c.len-old.ensures) in
     inr (sym c.is_lower.ensures ∙ c.if-not-is_lower.false, x)
+
+pub returns-then-not-is_lower-clause-in_data : goal.returns-then-not-is_lower-clause-in_data
+returns-then-not-is_lower-clause-in_data g c = λ t.
+    let x : true ≡ false = sym t ∙ sym c.is_lower.ensures ∙ c.if-not-is_lower.true in
+    let z : ⊥ = cc in absurd z
+
+pub returns-clause-in_data : goal.returns-clause-in_data
+returns-clause-in_data g c = λ t. subst (λ e. AddsData e (entries_of c.push_blocks.new.table)) c.reserve.ensures.entries c.in_default.ensures.in_data
+
+pub returns-clause-zero : goal.returns-clause-zero
+returns-clause-zero g c = λ t.
+    let x : true ≡ false = sym c.if-not-is_lower.false ∙ c.is_lower.ensures ∙ t in
+    let z : ⊥ = cc in absurd z

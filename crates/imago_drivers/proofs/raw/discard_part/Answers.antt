@@ -4,7 +4,7 @@ use Rattle.std.specs.Prelude.{IsErrOf}
 use Rattle.imago_storage.specs.declared.error.Error.{Error}
 use Rattle.imago_storage.specs.Padding.{RangeWraps}
 use Rattle.imago_drivers.proofs.StorageBytes.{no_wrap}
-use Rattle.imago_drivers.proofs.AlignedParts.{whole_start, whole_length, part_fits, outside_part, part_discarded}
+use Rattle.imago_drivers.proofs.AlignedParts.{whole_start, whole_length, part_fits, outside_part, outside_more, same_faults, part_discarded}
 use Rattle.imago_drivers.proofs.raw.discard_part.Goals as goal
 
 pub returns-clause-whole : goal.returns-clause-whole
@@ -32,3 +32,17 @@ returns-in_err-discard-clause-performed g c =
     let p = err_from_is_err_and c.from_residual.result c.from_residual.ensures.1 in
     part_discarded g.S.Storage.maintenance (g.S.Storage.features c.args.storage.now).discard_align c.discard_align-align.result c.args.offset c.args.count c.in-Some.start c.in-Some.end _ _ c.discard.result _ c.discard_align-align.ensures.value c.in-Some.ensures
     (omega (arith, c.if-end-start.false)) c.discard.ensures.performed (rw (c.in_err-discard.was, p.1, p.2) refl)
+
+pub returns-in_err-discard-clause-refused : goal.returns-in_err-discard-clause-refused
+returns-in_err-discard-clause-refused g c =
+    let p = err_from_is_err_and c.from_residual.result c.from_residual.ensures.1 in
+    let part = outside_part (g.S.Storage.features c.args.storage.now).discard_align c.discard_align-align.result c.args.offset c.args.count c.in-Some.start c.in-Some.end _ _ c.discard_align-align.ensures.value c.in-Some.ensures
+        (omega (arith, c.if-end-start.false)) c.discard.ensures.bytes in
+    let a = c.in-Some.ensures in
+    rw p.1 (outside_more c.args.offset c.args.count c.in-Some.start (c.in-Some.end - c.in-Some.start) _ _ a.before (omega (arith, a.before, a.behind, c.if-end-start.false)) part)
+
+pub returns-in_err-discard-clause-cause : goal.returns-in_err-discard-clause-cause
+returns-in_err-discard-clause-cause g c =
+    let p = err_from_is_err_and c.from_residual.result c.from_residual.ensures.1 in
+    let cause = rw c.in_err-discard.was at c.discard.ensures.cause in
+    rw (p.1, p.2) (same_faults _ _ _ _ cause)

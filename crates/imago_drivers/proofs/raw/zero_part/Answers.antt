@@ -1,7 +1,11 @@
 use Rattle.std.proofs.Common.{rules, ◌≡◌, ◌-◌, ◌<◌, arith}
+use Rattle.std.proofs.lemmas.Result.{err_from_is_err_and}
+use Rattle.std.specs.Prelude.{IsErrOf}
+use Rattle.imago_storage.specs.declared.error.Error.{Error}
+use Rattle.imago_storage.proofs.Outcomes.{CountsFaults_ok}
 use Rattle.imago_storage.specs.Features.{IsAlignedTo}
 use Rattle.imago_drivers.proofs.StorageBytes.{zeroed_bytes, torn_zeroes, torn_in_range, on_refusal}
-use Rattle.imago_drivers.proofs.AlignedParts.{whole_start, whole_length}
+use Rattle.imago_drivers.proofs.AlignedParts.{whole_start, whole_length, same_faults, aligned_part_is}
 use Rattle.imago_drivers.proofs.Lengths.{near_end, longest_zeroes}
 use Rattle.imago_drivers.proofs.raw.zero_part.Goals as goal
 
@@ -47,3 +51,22 @@ returns-in_err-write_zeroes-clause-near g c =
     let z = c.in_err-write_zeroes.ensures.written some in
     near_end (g.S.Storage.features c.args.storage.now) c.args.offset c.args.count z.end _ _ (omega (arith, p.before, p.behind, some)) (omega (arith, z.near, p.behind, some))
     (longest_zeroes _ c.in-Some.start (c.in-Some.end - c.in-Some.start) z.end _ z.covers z.written.no_longer)
+
+pub returns-in_err-write_zeroes-clause-wraps : goal.returns-in_err-write_zeroes-clause-wraps
+returns-in_err-write_zeroes-clause-wraps g c = λ is.
+    let p = err_from_is_err_and c.from_residual.result c.from_residual.ensures.1 in
+    let e : IsErrOf c.write_zeroes.result Error.WrapAround = search rules in
+    let a = c.in-Some.ensures in
+    record { from = c.in-Some.start; count = c.in-Some.end - c.in-Some.start; above = a.before; below = omega (arith, a.before, a.behind, c.if-end-start.false); wraps = c.write_zeroes.ensures.may_wrap e }
+
+pub returns-in_err-write_zeroes-clause-cause : goal.returns-in_err-write_zeroes-clause-cause
+returns-in_err-write_zeroes-clause-cause g c =
+    let p = err_from_is_err_and c.from_residual.result c.from_residual.ensures.1 in
+    let cause = rw c.in_err-write_zeroes.was at c.write_zeroes.ensures.cause in
+    rw (p.1, p.2) (same_faults _ _ _ _ cause)
+
+pub returns-clause-part : goal.returns-clause-part
+returns-clause-part g c = aligned_part_is _ _ _ _ _ _ c.zero_align-align.ensures.value c.in-Some.ensures
+
+pub returns-clause-cause : goal.returns-clause-cause
+returns-clause-cause g c = CountsFaults_ok _ _ _ _ _ c.write_zeroes.ensures.cause

@@ -1,7 +1,9 @@
 //! What a copy-on-write disk does with its data blocks, which mappings it refuses, and the sizes that it can have.
 use super::call::{Answer, Call, Level, is_spent};
 use super::set_up::{byte_at, equal, numbers, printed};
-use super::subject::{Fault, Image, PLAIN, contents_of, created, lent, make_on, storage_of};
+use super::subject::{
+    Fault, Image, PLAIN, above, contents_of, created, lent, make_on, storage_of,
+};
 use imago_access::access::FormatAccess;
 use imago_access::run;
 use imago_access::run::Reply;
@@ -208,7 +210,8 @@ fn check_a_mapping_that_does_not_wait_is_refused_by_name(rt: &impl Abort, alloc:
         is_foreign(rt, alloc, &mut image, range, state);
         is_foreign(rt, alloc, &mut image, range, None);
     }
-    assert_eq!(rt; image.inner().blocks_used(), 0);
+    // what waits has its data block already
+    assert_eq!(rt; image.inner().blocks_used(), 1);
     assert_eq!(rt; write_to(rt, alloc, &mut image, &waiting), Ok(()));
     assert_eq!(rt; commit(&mut image, waiting), Ok(()));
     is_foreign(rt, alloc, &mut image, (0, (3, 4)), state);
@@ -360,15 +363,35 @@ fn is_cancelled_by_a_list(rt: &impl Abort, alloc: Global, image: &mut Image) -> 
     }
 }
 
+/// A disk of four guest blocks of 4, above one whose bytes are all the same, where there is memory for it.
+fn over_equal_bytes(rt: &impl Abort, alloc: Global) -> Option<Image> {
+    let mut lower = alone(rt, alloc, 16, 4, Fault::Never);
+    let bytes = equal(rt, alloc, 16, 0x11);
+    assert!(rt; is_spent(&lower));
+    lower.write(alloc, &bytes, 0).ok()?;
+    let below = Box::new(alloc, lower).ok()?;
+    let driver = created(rt, alloc, (16, 4), PLAIN, Fault::Never);
+    Some(above(rt, driver, Some(below)))
+}
+
 fn check_a_list_prepares_and_cancels(rt: &impl Abort, alloc: Global) {
-    let mut image = alone(rt, alloc, 16, 4, Fault::Never);
+    let mut image = match over_equal_bytes(rt, alloc) {
+        Some(image) => image,
+        None => over_equal_bytes(rt, alloc).expect(rt, "memory for layers"),
+    };
     if !is_cancelled_by_a_list(rt, alloc, &mut image) {
         assert!(rt; is_cancelled_by_a_list(rt, alloc, &mut image));
     }
-    assert!(rt; contents_of(rt, alloc, &image) == equal(rt, alloc, 16, 0));
+    assert!(rt; contents_of(rt, alloc, &image) == equal(rt, alloc, 16, 0x11));
     assert_eq!(rt; image.inner().blocks_used(), 0);
+    // the data block is free again, with the byte that was written and those that were copied round it
+    let stored = storage_of(rt, &image).as_bytes();
+    assert!(rt; stored.get(..5) == Some(&[0xff, 0x11, 0x11, 0x11, 0x99]));
     on(rt, alloc, &mut image, Call::Write(0, 1, 1));
     assert_eq!(rt; image.inner().blocks_used(), 1);
+    let shown = contents_of(rt, alloc, &image);
+    assert_eq!(rt; byte_at(&shown, 0), 1);
+    assert_eq!(rt; byte_at(&shown, 1), 0x11);
 }
 
 #[test]

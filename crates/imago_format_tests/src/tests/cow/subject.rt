@@ -181,7 +181,7 @@ impl Subject {
         kinds_of(rt, alloc, &self.image)
     }
 
-    /// How many guest blocks are in data blocks.
+    /// How many data blocks are used.
     pub(super) fn used(&self) -> u64 {
         self.image.inner().blocks_used()
     }

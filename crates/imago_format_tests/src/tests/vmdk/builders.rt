@@ -32,7 +32,7 @@ const ENCODED: &[u8] = b"version=1\nencoding=\"UTF-8\"\nRW 1 ZERO\n";
 const LAID_OUT: &[u8] =
     b"# Disk DescriptorFile\nversion=1\nencoding=\"UTF-8\"\nCID=1c8a4d02\nparentCID=ffffffff\ncreateType=\"twoGbMaxExtentFlat\"\n\n# Extent description\nRW 2 FLAT \"a\" 0\nRW 1 FLAT \"b\" 0\n\n# The Disk Data Base\n#DDB\n\nddb.virtualHWVersion = \"4\"\nddb.geometry.cylinders = \"1\"\nddb.geometry.heads = \"16\"\nddb.geometry.sectors = \"63\"\nddb.adapterType = \"ide\"\nddb.toolsVersion = \"2147483647\"\n";
 
-static CASES: [Case; 15] = [
+static CASES: [Case; 16] = [
     Case {
         text: TWO,
         at_path: false,
@@ -101,6 +101,15 @@ static CASES: [Case; 15] = [
         at_path: true,
         write: false,
         with_options: false,
+        accept: true,
+        answer: Ok(512),
+        asked: &["d"],
+    },
+    Case {
+        text: ENCODED,
+        at_path: true,
+        write: false,
+        with_options: true,
         accept: true,
         answer: Ok(512),
         asked: &["d"],
@@ -182,7 +191,7 @@ fn set<S: Storage>(
     builder: VmdkOpenBuilder<S>,
     case: &Case,
 ) -> Result<VmdkOpenBuilder<S>, Error> {
-    let builder = builder.write(case.write).accept_unknown_keys(case.accept);
+    let builder = builder.accept_unknown_keys(case.accept).write(case.write);
     if case.with_options {
         Ok(builder.storage_open_options(options(alloc)?))
     } else {
@@ -193,9 +202,9 @@ fn set<S: Storage>(
 /// The builder of a case.
 fn builder(alloc: Global, case: &Case) -> Result<VmdkOpenBuilder<MemStorage>, Error> {
     let builder = if case.at_path {
-        Vmdk::builder_path(name(alloc, "d")?)
+        VmdkOpenBuilder::new_path(name(alloc, "d")?)
     } else {
-        Vmdk::builder(storage_of(alloc, case.text)?)
+        VmdkOpenBuilder::new(storage_of(alloc, case.text)?)
     };
     set(alloc, builder, case)
 }
@@ -244,7 +253,7 @@ fn images_are_opened_by_their_settings(rt: HostRuntime) {
     }
 }
 
-/// The text of an image whose descriptor has that name, and the path that its builder tells.
+/// The text of an image whose descriptor has that name, and whether its builder tells that path, and the image's format.
 fn texts(alloc: Global) -> Result<(String, bool), Error> {
     let mut bytes = Vec::new(alloc);
     if bytes.extend_from_slice(b"version=1").is_err() {
@@ -254,6 +263,7 @@ fn texts(alloc: Global) -> Result<(String, bool), Error> {
     let is_named = builder.get_image_path() == Some("d.vmdk");
     let mut gate = recorded(alloc, NamedGate::new(alloc), 0);
     let image = builder.open(alloc, &mut gate)?;
+    let is_named = is_named && image.format() == VmdkOpenBuilder::<MemStorage>::FORMAT;
     match format!(in alloc; "{image}") {
         Ok(text) => Ok((text, is_named)),
         Err(_) => Err(Error::Memory),
@@ -294,7 +304,37 @@ fn check_a_builder_keeps_what_is_set(rt: &impl Abort, alloc: Global) {
     }
 }
 
+/// What is opened of a descriptor with a key that isn't known, by a builder that is told at first whether it accepts such keys,
+/// if that is told, and what else there is to set then.
+fn opened_by(alloc: Global, accept: Option<bool>) -> Result<u64, Error> {
+    let mut builder = VmdkOpenBuilder::new(storage_of(alloc, ENCODED)?);
+    if let Some(accept) = accept {
+        builder = builder.accept_unknown_keys(accept);
+    }
+    let builder = builder.write(true).write(false);
+    let builder = builder.storage_open_options(options(alloc)?);
+    let mut gate = recorded(alloc, NamedGate::new(alloc), 0);
+    let image = builder.open(alloc, &mut gate)?;
+    Ok(image.size())
+}
+
+/// Whether keys that aren't known are accepted is what was set, and they aren't at first.
+fn check_unknown_keys_are_kept(rt: &impl Abort, alloc: Global) {
+    for (accept, answer) in [
+        (None, Err(Error::InvalidData)),
+        (Some(false), Err(Error::InvalidData)),
+        (Some(true), Ok(512)),
+    ] {
+        let mut opened = opened_by(alloc, accept);
+        if opened == Err(Error::Memory) {
+            opened = opened_by(alloc, accept);
+        }
+        assert!(rt; opened == answer);
+    }
+}
+
 #[test]
 fn a_builder_keeps_what_is_set(rt: HostRuntime) {
     check_a_builder_keeps_what_is_set(&rt, rt.alloc());
+    check_unknown_keys_are_kept(&rt, rt.alloc());
 }

@@ -3,6 +3,8 @@ use super::set_up::storage_of;
 use imago_drivers::drivers::FormatDriverInstance;
 use imago_storage::error::Error;
 use imago_storage::mem::MemStorage;
+use imago_storage::storage::Storage;
+use imago_test_storages::wide_null::WideNull;
 use imago_vmdk::vmdk::Vmdk;
 use std::alloc::Global;
 use std::process::Abort;
@@ -25,7 +27,7 @@ const INVALID: Answer = Err(Error::InvalidData);
 
 const UNSUPPORTED: Answer = Err(Error::Unsupported);
 
-static ROWS: [Row; 22] = [
+static ROWS: [Row; 24] = [
     (MONOLITHIC_FLAT, Ok(1048576), true),
     (TWO_GB_MAX_EXTENT_FLAT, Ok(5368709120), true),
     (
@@ -36,6 +38,8 @@ static ROWS: [Row; 22] = [
     (b"RW 2 ZERO", UNSUPPORTED, false),
     (b"version=4\nversion=2", Ok(0), false),
     (b"version=2\nversion=4", UNSUPPORTED, true),
+    (b"version=1\nversion=0", UNSUPPORTED, true),
+    (b"version=1\nversion=0\nRW x ZERO", INVALID, true),
     (b"KDMV", UNSUPPORTED, true),
     (b"KDM", INVALID, false),
     (b"version=1\nRW 18446744073709551615 ZERO", INVALID, true),
@@ -163,7 +167,7 @@ fn answer_at(runs: &[Run], place: usize) -> Answer {
     Ok(1536)
 }
 
-fn open_storage(alloc: Global, storage: MemStorage) -> Answer {
+fn open_storage<S: Storage>(alloc: Global, storage: S) -> Answer {
     let image = Vmdk::open_image(alloc, storage, false)?;
     Ok(image.size())
 }
@@ -280,4 +284,15 @@ fn check_the_longest_descriptor_is_read(rt: &impl Abort, alloc: Global) {
 #[test]
 fn the_longest_descriptor_is_read(rt: HostRuntime) {
     check_the_longest_descriptor_is_read(&rt, rt.alloc());
+}
+
+/// A storage of the greatest length, whose last block doesn't end within 64 bits, is no descriptor: it isn't read.
+#[test]
+fn the_greatest_length_is_no_descriptor(rt: HostRuntime) {
+    let longest = u64::MAX;
+    assert!(rt; open_storage(rt.alloc(), WideNull::new(longest)) == INVALID);
+    assert!(rt;
+        <Vmdk<WideNull> as FormatDriverInstance>::probe(rt.alloc(), &WideNull::new(longest))
+            == Ok(false)
+    );
 }

@@ -1,5 +1,5 @@
 //! What images answer once their extents are opened.
-use super::set_up::{Gate, Runs, gate_of, storage_of};
+use super::set_up::{Gate, Runs, bytes_of, gate_of, storage_of};
 use imago_access::access::FormatAccess;
 use imago_drivers::drivers::{FormatDriverInstance, ShallowMapping};
 use imago_storage::error::Error;
@@ -21,6 +21,8 @@ struct Case {
     mappings: &'static [(u64, u64, Expected)],
     /// Offsets, and the four bytes that are read there.
     reads: &'static [(u64, Result<[u8; 4], Error>)],
+    /// The bytes from the disk's begin on, and the refusal of a read of so many, if there is one.
+    whole: &'static [(Runs, Result<(), Error>)],
 }
 
 /// What a mapping is to be.
@@ -71,6 +73,7 @@ static CASES: [Case; 5] = [
             (1534, Ok([2, 2, 0, 0])),
             (u64::MAX, Ok([0; 4])),
         ],
+        whole: &[(&[(1024, 0), (512, 2)], Ok(()))],
     },
     Case {
         text: b"version=1\nRW 1 ZERO\nNOACCESS 1\nRW 1 ZERO\n",
@@ -88,6 +91,7 @@ static CASES: [Case; 5] = [
             (1023, Err(Error::NoAccess)),
             (1024, Ok([0; 4])),
         ],
+        whole: &[(&[(512, 0)], Ok(())), (&[(1536, 0)], Err(Error::NoAccess))],
     },
     Case {
         text: b"version=1\nRW 1 FLAT \"a.img\"\nRW 1 FLAT \"b.img\" 1\n",
@@ -101,6 +105,7 @@ static CASES: [Case; 5] = [
             (510, Ok([0xaa, 0xaa, 0xbb, 0xbb])),
             (598, Ok([0xbb, 0xbb, 0, 0])),
         ],
+        whole: &[(&[(512, 0xaa), (88, 0xbb), (424, 0)], Ok(()))],
     },
     Case {
         text: b"version=1\nRW 0 ZERO\nRW 1 ZERO\nRW 0 FLAT \"b.img\"\nRW 1 FLAT \"a.img\"\n",
@@ -111,6 +116,7 @@ static CASES: [Case; 5] = [
             (512, 600, Expected::Raw(2, 0, true, 512)),
         ],
         reads: &[(510, Ok([0, 0, 7, 0]))],
+        whole: &[(&[(512, 0), (1, 7), (511, 0)], Ok(()))],
     },
     Case {
         text: b"version=1\nRW 1 FLAT \"a.img\" 36028797018963967\n",
@@ -121,6 +127,10 @@ static CASES: [Case; 5] = [
             (511, 1, Expected::Refused(Error::InvalidData)),
         ],
         reads: &[(507, Ok([0; 4])), (508, Err(Error::InvalidData))],
+        whole: &[
+            (&[(511, 0)], Ok(())),
+            (&[(512, 0)], Err(Error::InvalidData)),
+        ],
     },
 ];
 
@@ -163,6 +173,36 @@ fn read<D: FormatDriverInstance>(
     Ok(bytes)
 }
 
+/// Whether these bytes are read from the disk's begin on.
+fn reads_so<D: FormatDriverInstance>(
+    alloc: Global,
+    image: &FormatAccess<D>,
+    runs: Runs,
+) -> Result<bool, Error> {
+    let expected = bytes_of(alloc, runs)?;
+    let mut bytes = vec![in alloc; 0xffu8; expected.len()].or(Err(Error::Memory))?;
+    image.read(alloc, &mut bytes, 0)?;
+    Ok(bytes == expected)
+}
+
+/// The disk's bytes from its begin on are these, or the read of so many is refused so.
+fn is_read<D: FormatDriverInstance>(
+    rt: &impl Abort,
+    alloc: Global,
+    image: &FormatAccess<D>,
+    runs: Runs,
+    answer: Result<(), Error>,
+) {
+    let mut read = reads_so(alloc, image, runs);
+    if read == Err(Error::Memory) {
+        read = reads_so(alloc, image, runs);
+    }
+    match answer {
+        Ok(()) => assert!(rt; read == Ok(true)),
+        Err(refusal) => assert!(rt; read == Err(refusal)),
+    }
+}
+
 /// The driver answers as the case says, and so does an image of it.
 fn answers<D: FormatDriverInstance>(rt: &impl Abort, alloc: Global, driver: D, case: &Case) {
     for (offset, count, answer) in case.mappings {
@@ -174,6 +214,9 @@ fn answers<D: FormatDriverInstance>(rt: &impl Abort, alloc: Global, driver: D, c
     let image = FormatAccess::new(driver);
     for (offset, answer) in case.reads {
         assert!(rt; read(alloc, &image, *offset) == *answer, "{offset}");
+    }
+    for (runs, answer) in case.whole {
+        is_read(rt, alloc, &image, runs, *answer);
     }
 }
 
@@ -190,6 +233,32 @@ fn check_extents_stand_one_after_the_other(rt: &impl Abort, alloc: Global) {
 #[test]
 fn extents_stand_one_after_the_other(rt: HostRuntime) {
     check_extents_stand_one_after_the_other(&rt, rt.alloc());
+}
+
+/// An image whose extents aren't opened, of two storages that have bytes: it has its size, and ends everywhere.
+static CLOSED: Case = Case {
+    text: b"version=1\nRW 1 FLAT \"a.img\"\nRW 1 FLAT \"b.img\" 1\n",
+    a: &[],
+    b: &[],
+    mappings: &[
+        (0, 512, Expected::End),
+        (1023, 1, Expected::End),
+        (1024, 1, Expected::End),
+    ],
+    reads: &[(0, Ok([0; 4])), (510, Ok([0; 4])), (1022, Ok([0; 4]))],
+    whole: &[(&[(1024, 0)], Ok(()))],
+};
+
+#[test]
+fn an_image_without_extents_reads_as_zeroes(rt: HostRuntime) {
+    let mut image = closed(rt.alloc(), CLOSED.text);
+    if image.is_err() {
+        image = closed(rt.alloc(), CLOSED.text);
+    }
+    assert!(rt; image.is_ok());
+    if let Ok(image) = image {
+        answers(&rt, rt.alloc(), image, &CLOSED);
+    }
 }
 
 /// A descriptor of three extents, or of one past 64 bits, how many of `a`, `b` and `c` a gate has, which opening it refuses, and

@@ -25,8 +25,8 @@ pub(super) fn storage_of(alloc: Global, text: &[u8]) -> Result<MemStorage, Error
 /// Bytes of a storage: so many of each value, one after the other.
 pub(super) type Runs = &'static [(usize, u8)];
 
-/// A storage of these bytes.
-fn storage_of_runs(alloc: Global, runs: Runs) -> Result<MemStorage, Error> {
+/// These bytes.
+pub(super) fn bytes_of(alloc: Global, runs: Runs) -> Result<Vec<u8>, Error> {
     let mut bytes = Vec::new(alloc);
     for (count, byte) in runs {
         for _ in 0..*count {
@@ -35,7 +35,12 @@ fn storage_of_runs(alloc: Global, runs: Runs) -> Result<MemStorage, Error> {
             }
         }
     }
-    Ok(MemStorage::new(bytes))
+    Ok(bytes)
+}
+
+/// A storage of these bytes.
+fn storage_of_runs(alloc: Global, runs: Runs) -> Result<MemStorage, Error> {
+    Ok(MemStorage::new(bytes_of(alloc, runs)?))
 }
 
 /// Puts a storage into a gate, under that name.

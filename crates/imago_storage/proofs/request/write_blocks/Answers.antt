@@ -4,6 +4,7 @@ use Rattle.std.proofs.lemmas.List.{length-take-le, take_all, take_rest}
 use Rattle.imago_storage.proofs.Alignment.{max_power}
 use Rattle.imago_storage.proofs.Blocks.{block_facts}
 use Rattle.imago_storage.proofs.Outcomes.{WriteOutcome_ok, RequestMayRunOut_more}
+use Rattle.imago_storage.proofs.Work.{adds_then}
 use Rattle.imago_storage.proofs.Writes.{first_is_part, splice_is_part, first_refused, second_written}
 use Rattle.imago_storage.proofs.request.write_blocks.Goals as goal
 
@@ -45,6 +46,13 @@ returns-clause-written g c =
     let first = rw (first_is_part _ _ _ c.args.source.now b.fits) at c.pure_writev.ensures.written in
     let last = rw (c.in_ok-pure_writev.ensures.features, end, at, take_rest c.args.source.now whole) at c.update_block-2.ensures.written in
     second_written c.args.source.now b.split first c.in_ok-pure_writev.was last
+
+pub returns-clause-work : goal.returns-clause-work
+returns-clause-work g c =
+    let b = block_facts c.whole_blocks-whole.result c.whole_blocks-whole.ensures c.requires in
+    let size = length-take-le c.whole_blocks-whole.result c.args.source.now b.fits in
+    let end = b.one_more (omega (arith, b.fits, c.if-whole-source.false)) in
+    adds_then _ _ _ _ (rw size at c.in_ok-pure_writev.ensures.work) c.update_block-2.ensures.work (omega arith) (omega arith) (omega arith) (omega (arith, end))
 
 pub returns-clause-memory : goal.returns-clause-memory
 returns-clause-memory g c = λ m.

@@ -1,8 +1,10 @@
-use Rattle.std.proofs.Common.{arith, ◌≡◌, ◌+◌, ◌-◌, ◌≤◌, length, refl}
+use Rattle.std.proofs.Common.{arith, ◌≡◌, ◌+◌, ◌-◌, ◌<◌, ◌≤◌, length, refl}
 use Rattle.std.specs.Int.{next_multiple_of}
 use Rattle.std.proofs.lemmas.List.{take_rest}
 use Rattle.imago_storage.proofs.Blocks.{part_facts}
 use Rattle.imago_storage.proofs.Outcomes.{RequestMayRunOut_more}
+use Rattle.imago_storage.proofs.Padding.{len_positive, next_one}
+use Rattle.imago_storage.proofs.Work.{adds_more, adds_then}
 use Rattle.imago_storage.proofs.Writes.{length-rest, first_refused, second_written}
 use Rattle.imago_storage.proofs.request.write_parts.Goals as goal
 
@@ -20,15 +22,15 @@ returns-then-source-align-clause-written g c =
     let b = part_facts c.requires in
     rw (b.one_block c.if-source-align.true) (rw b.from_start at c.update_block.ensures.written)
 
+pub returns-then-head-eq0-clause-work : goal.returns-then-head-eq0-clause-work
+returns-then-head-eq0-clause-work g c =
+    let b = part_facts c.requires in
+    adds_more _ _ _ _ c.write_blocks.ensures.work (omega arith) (omega (arith, b.wide)) (omega arith) (omega (arith, b.no_head_ends c.if-head-eq0.true, b.from_start, c.if-head-eq0.true))
+
 pub returns-then-source-align-clause-work : goal.returns-then-source-align-clause-work
 returns-then-source-align-clause-work g c =
-    let u = c.update_block.ensures.work in
-    record {
-      reads = omega (arith, u.reads);
-      bytes_read = omega (arith, u.bytes_read);
-      writes = omega (arith, u.writes);
-      bytes_written = omega (arith, u.bytes_written, (part_facts c.requires).wide);
-    }
+    let b = part_facts c.requires in
+    adds_more _ _ _ _ c.update_block.ensures.work (omega arith) (omega (arith, b.wide)) (omega arith) (omega (arith, b.wide))
 
 pub update_block-requires-2-clause-aligned : goal.update_block-requires-2-clause-aligned
 update_block-requires-2-clause-aligned g c = (part_facts c.requires).first
@@ -55,14 +57,15 @@ returns-clause-written g c =
 
 pub returns-clause-work : goal.returns-clause-work
 returns-clause-work g c =
-    let u = c.in_ok-update_block.ensures.work in
+    let b = part_facts c.requires in
+    let a = length c.args.block.now in
     let v = rw (c.update_block-2.auto.block, length-rest c.args.source.now _) at c.write_blocks-2.ensures.work in
-    record {
-      reads = omega (arith, u.reads, v.reads);
-      bytes_read = omega (arith, u.bytes_read, v.bytes_read);
-      writes = omega (arith, u.writes, v.writes);
-      bytes_written = omega (arith, u.bytes_written, v.bytes_written, (part_facts c.requires).rest_ends c.if-source-align.false);
-    }
+    let n = length c.args.source.now - (a - (c.args.offset - c.args.start)) in
+    let ends = b.rest_ends c.if-source-align.false in
+    let positive : 0 < a = rw c.requires.is_block (len_positive _ c.requires.lawful) in
+    let some : 0 < n = omega (arith, c.if-source-align.false) in
+    let more = next_one n a positive some in
+    adds_then _ _ _ _ c.in_ok-update_block.ensures.work v (omega arith) (omega (arith, ends, more)) (omega arith) (omega (arith, ends))
 
 pub returns-then-source-align-clause-memory : goal.returns-then-source-align-clause-memory
 returns-then-source-align-clause-memory g c = λ m.

@@ -1,4 +1,5 @@
 use Rattle.std.proofs.Common.{rules, refl}
+use Rattle.imago_storage.proofs.Outcomes.{shows_same}
 use Rattle.imago_storage.proofs.Padding.{len_positive}
 use Rattle.imago_storage.proofs.ZeroRanges.{HasZeroed_unchanged}
 use Rattle.imago_storage.proofs.zeroes.zero_any.Goals as goal
@@ -14,5 +15,6 @@ returns-in_default g c = record {
   only = search rules;
   cause = search rules;
   memory = search rules;
-  early = λ m none. refl;
+  early = λ m none. shows_same _ _ _ _ _ refl;
+  performed = λ some fits. search rules;
 }

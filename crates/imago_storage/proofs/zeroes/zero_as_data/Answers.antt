@@ -1,9 +1,10 @@
 use Rattle.std.proofs.Common.{◌≡◌, ◌+◌, ◌-◌, ◌≤◌, length, arith, refl}
 use Rattle.std.proofs.lemmas.Result.{err_from_is_err_and}
-use Rattle.imago_storage.specs.Features.{len_align}
+use Rattle.imago_storage.specs.Features.{len_align, zero_piece}
 use Rattle.imago_storage.specs.Zeroes.{IsHead}
 use Rattle.imago_storage.proofs.Outcomes.{OnOk_map, RequestMayRunOut_more, same_refusal, not_refused}
 use Rattle.imago_storage.proofs.Padding.{len_positive}
+use Rattle.imago_storage.proofs.Work.{write_loose, edge_alone, edge_then_pieces}
 use Rattle.imago_storage.proofs.ZeroPieces.{piece_whole, align_power}
 use Rattle.imago_storage.proofs.ZeroRanges.{HasZeroed_unchanged, HasZeroed_refused, HasZeroed_next, ZeroedPart_longer}
 use Rattle.imago_storage.proofs.ZeroWraps.{data_from_start}
@@ -101,3 +102,27 @@ returns-clause-early g c = λ m none.
     let longer = ZeroedPart_longer f _ _ _ _ _ c.zero_from.ensures.written in
     let end : c.args.offset + c.head_length-first.result + (c.args.count - c.head_length-first.result) + (len_align f - 1) ≤ c.args.offset + c.args.count + (len_align f - 1) = omega (arith, h.within) in
     absurd (none (RequestMayRunOut_more f f _ _ _ _ refl longer end (rw c.in_ok-zero_from.ensures.features at (c.zero_pieces-2.ensures.memory m))))
+
+pub returns-in_err-zero_from-clause-work : goal.returns-in_err-zero_from-clause-work
+returns-in_err-zero_from-clause-work g c =
+    let f = g.S.Storage.features c.args.storage.now in
+    let lawful = g.met.S.Storage.lawful c.args.storage.now in
+    let h = c.head_length-first.ensures.some (omega arith) in
+    edge_alone (len_align f) (zero_piece f) _ c.head_length-first.result (omega arith) h.within (write_loose f c.args.offset c.head_length-first.result lawful c.zero_from.ensures.work)
+
+pub returns-then-first-count-clause-work : goal.returns-then-first-count-clause-work
+returns-then-first-count-clause-work g c =
+    let f = g.S.Storage.features c.args.storage.now in
+    let lawful = g.met.S.Storage.lawful c.args.storage.now in
+    let h = c.head_length-first.ensures.some (omega arith) in
+    edge_alone (len_align f) (zero_piece f) _ c.head_length-first.result (omega arith) h.within (write_loose f c.args.offset c.head_length-first.result lawful c.zero_from.ensures.work)
+
+pub returns-clause-work : goal.returns-clause-work
+returns-clause-work g c =
+    let f = g.S.Storage.features c.args.storage.now in
+    let lawful = g.met.S.Storage.lawful c.args.storage.now in
+    let h = c.head_length-first.ensures.some (omega arith) in
+    let piece : c.max-piece.result ≡ zero_piece f = rw (c.max-piece.ensures, c.length_align.ensures.value) refl in
+    edge_then_pieces (len_align f) (zero_piece f) c.args.count c.head_length-first.result h.within
+    (write_loose f c.args.offset c.head_length-first.result lawful c.in_ok-zero_from.ensures.work)
+    (rw (c.in_ok-zero_from.ensures.features, piece) at c.zero_pieces-2.ensures.work)

@@ -1,8 +1,9 @@
 use Rattle.std.proofs.Common.{◌≡◌, ◌+◌, ◌-◌, ◌≤◌, length, arith, inl, inr, refl}
 use Rattle.std.proofs.lemmas.Result.{err_from_is_err_and}
-use Rattle.imago_storage.specs.Features.{len_align}
+use Rattle.imago_storage.specs.Features.{len_align, zero_piece}
 use Rattle.imago_storage.specs.Padding.{Wraps}
 use Rattle.imago_storage.proofs.Outcomes.{RequestMayRunOut_more, same_refusal, not_refused, fits_where_ok}
+use Rattle.imago_storage.proofs.Work.{write_loose, edge_alone, both_edges}
 use Rattle.imago_storage.proofs.ZeroRanges.{HasZeroed_refused, HasZeroed_before, HasZeroed_behind, ZeroedPart_longer}
 use Rattle.imago_storage.proofs.ZeroWraps.{edge_wraps, edge_fits}
 use Rattle.imago_storage.proofs.zeroes.zero_edges.Goals as goal
@@ -60,3 +61,18 @@ returns-clause-memory g c = λ m.
     let longer = ZeroedPart_longer f _ _ _ _ _ c.zero_from.ensures.written in
     let end : c.args.end + (c.args.offset + c.args.count - c.args.end) + (len_align f - 1) ≤ c.args.offset + c.args.count + (len_align f - 1) = omega (arith, c.requires.part.behind) in
     RequestMayRunOut_more f f _ _ _ _ refl longer end (rw c.in_ok-zero_from.ensures.features at (c.zero_from-2.ensures.memory m))
+
+pub returns-in_err-zero_from-clause-work : goal.returns-in_err-zero_from-clause-work
+returns-in_err-zero_from-clause-work g c =
+    let f = g.S.Storage.features c.args.storage.now in
+    let lawful = g.met.S.Storage.lawful c.args.storage.now in
+    edge_alone (len_align f) (zero_piece f) _ (c.args.start - c.args.offset) (omega arith) (omega arith) (write_loose f c.args.offset (c.args.start - c.args.offset) lawful c.zero_from.ensures.work)
+
+pub returns-clause-work : goal.returns-clause-work
+returns-clause-work g c =
+    let f = g.S.Storage.features c.args.storage.now in
+    let lawful = g.met.S.Storage.lawful c.args.storage.now in
+    let head = c.args.start - c.args.offset in
+    let tail = c.args.offset + c.args.count - c.args.end in
+    let second = rw c.in_ok-zero_from.ensures.features at c.zero_from-2.ensures.work in
+    both_edges (len_align f) (zero_piece f) head tail (omega arith) (write_loose f c.args.offset head lawful c.in_ok-zero_from.ensures.work) (write_loose f c.args.end tail lawful second)

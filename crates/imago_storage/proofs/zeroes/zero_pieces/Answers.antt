@@ -1,10 +1,11 @@
-use Rattle.std.proofs.Common.{◌≡◌, ◌≢◌, ◌<◌, ◌≤◌, ◌+◌, ◌-◌, ◌%◌, ◌⊎◌, arith, inl, inr, ap, refl, ◌∙◌}
+use Rattle.std.proofs.Common.{rules, ◌≡◌, ◌≢◌, ◌<◌, ◌≤◌, ◌+◌, ◌-◌, ◌%◌, ◌⊎◌, arith, inl, inr, ap, refl, ◌∙◌}
 use Rattle.std.proofs.lemmas.Result.{err_from_is_err_and}
 use Rattle.imago_storage.specs.Features.{len_align}
 use Rattle.imago_storage.proofs.Alignment.{multiple_add}
 use Rattle.imago_storage.proofs.Outcomes.{CountsFaults_ok, CountsFaults_then, RequestMayRunOut_more, same_refusal, not_refused}
+use Rattle.imago_storage.proofs.Work.{write_loose, edged_none, edged_next, edged_within}
 use Rattle.imago_storage.proofs.ZeroRanges.{ZeroedPart_next, ZeroedPart_longer, HasZeroed_refused}
-use Rattle.imago_storage.proofs.ZeroWraps.{piece_wraps, last_fits, piece_kind}
+use Rattle.imago_storage.proofs.ZeroWraps.{piece_wraps, piece_aligned, last_fits, piece_kind}
 use Rattle.imago_storage.proofs.zeroes.zero_pieces.Goals as goal
 
 pub returns-in_err-zero_from-clause-written : goal.returns-in_err-zero_from-clause-written
@@ -42,7 +43,37 @@ loop-done-preserved g c =
       zeroed = record { some = λ _. rw c.in_ok-zero_from.was at step; none = λ zero. absurd (omega arith) };
       fits = λ all. last_fits f c.args.offset c.args.count c.loop-done.done c.min-next.result lawful c.requires.start whole all more (λ w. not_refused _ _ _ c.in_ok-zero_from.was (c.zero_from.ensures.wraps.1 (rw c.loop-done.invariant.features w)));
       cause = CountsFaults_ok _ _ _ _ tt (CountsFaults_then _ _ _ _ _ _ _ (ap (λ x. x.is_reliable) c.loop-done.invariant.features) c.loop-done.invariant.cause c.zero_from.ensures.cause);
+      work = edged_next (len_align f) c.args.piece c.args.count c.loop-done.done c.min-next.result (omega arith) c.min-next.ensures c.loop-done.invariant.work
+          (write_loose f (c.args.offset + c.loop-done.done) c.min-next.result lawful (rw c.loop-done.invariant.features at c.zero_from.ensures.work))
+          (λ rest. (rw c.loop-done.invariant.features at c.zero_from.ensures.direct) (piece_aligned f c.args.offset c.args.count c.loop-done.done c.min-next.result lawful c.requires.start whole (omega arith) c.requires.ends kind rest));
     }
+
+pub returns-in_err-zero_from-clause-work : goal.returns-in_err-zero_from-clause-work
+returns-in_err-zero_from-clause-work g c =
+    let f = g.S.Storage.features c.args.storage.now in
+    let lawful = g.met.S.Storage.lawful c.args.storage.now in
+    let left : c.loop-done.done ≢ c.args.count = omega arith in
+    let whole : c.loop-done.done % len_align f ≡ 0 = elim c.loop-done.invariant.whole [ inl w ↦ w | inr e ↦ absurd (left e) ] in
+    let kind : (c.min-next.result % len_align f ≡ 0) ⊎ (c.min-next.result ≡ c.args.count - c.loop-done.done) = rw c.min-next.ensures (piece_kind (len_align f) c.args.piece (c.args.count - c.loop-done.done) c.requires.whole) in
+    edged_within (len_align f) c.args.piece c.args.count (c.loop-done.done + c.min-next.result) (omega arith)
+    (edged_next (len_align f) c.args.piece c.args.count c.loop-done.done c.min-next.result (omega arith) c.min-next.ensures c.loop-done.invariant.work
+    (write_loose f (c.args.offset + c.loop-done.done) c.min-next.result lawful (rw c.loop-done.invariant.features at c.zero_from.ensures.work))
+    (λ rest. (rw c.loop-done.invariant.features at c.zero_from.ensures.direct) (piece_aligned f c.args.offset c.args.count c.loop-done.done c.min-next.result lawful c.requires.start whole (omega arith) c.requires.ends kind rest)))
+
+pub loop-done-init : goal.loop-done-init
+loop-done-init g c =
+    record {
+      counted = omega arith;
+      whole = search rules;
+      features = refl;
+      zeroed = search rules;
+      fits = search rules;
+      cause = search rules;
+      work = edged_none _ _ _ _ c.requires.positive;
+    }
+
+pub returns-clause-work : goal.returns-clause-work
+returns-clause-work g c = edged_within _ _ _ _ c.loop-done.invariant.counted c.loop-done.invariant.work
 
 pub returns-in_err-zero_from-clause-memory : goal.returns-in_err-zero_from-clause-memory
 returns-in_err-zero_from-clause-memory g c = λ m.

@@ -3,6 +3,7 @@ use Rattle.imago_storage.specs.Faults.{CountsFaults}
 use Rattle.imago_storage.specs.Features.{len_align}
 use Rattle.imago_storage.specs.Padding.{Wraps}
 use Rattle.imago_storage.specs.Zeroes.{ZeroedPart}
+use Rattle.imago_storage.proofs.Work.{EdgedDone}
 use Rattle.imago_storage.proofs.zeroes.zero_pieces.Given as goal
 
 abbrev pub invariant-loop-done : goal.invariant-loop-done
@@ -13,6 +14,7 @@ invariant-loop-done g l = record {
   zeroed : ZeroedPart {T = Unit {0}} (g.S.Storage.features l.fn.storage) (g.S.Storage.bytes l.fn.storage) l.offset l.done (g.S.Storage.bytes l.storage) (Ok tt);
   fits : l.done ≡ l.count → ¬ Wraps (g.S.Storage.features l.fn.storage) l.offset l.count;
   cause : CountsFaults {T = Unit {0}} (g.S.Storage.features l.fn.storage).is_reliable (g.S.Storage.fault_count l.fn.storage) (g.S.Storage.fault_count l.storage) (Ok tt);
+  work : EdgedDone (len_align (g.S.Storage.features l.fn.storage)) l.piece l.count l.done (g.S.Storage.work l.fn.storage) (g.S.Storage.work l.storage);
 }
 
 abbrev pub decreases-loop-done : goal.decreases-loop-done

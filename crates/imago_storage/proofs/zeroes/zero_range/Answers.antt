@@ -1,8 +1,9 @@
-use Rattle.std.proofs.Common.{rules, arith, ap, Err, inl, refl, ◌∙◌}
+use Rattle.std.proofs.Common.{rules, arith, ap, Err, inl, inr, refl, ◌∙◌}
 use Rattle.imago_storage.proofs.Alignment.{power_positive}
-use Rattle.imago_storage.proofs.Outcomes.{OnOk_map, CountsFaults_then, not_wrapped, not_done}
+use Rattle.imago_storage.proofs.Outcomes.{OnOk_map, CountsFaults_then, not_wrapped, not_done, shows_same, shows_still}
 use Rattle.imago_storage.proofs.ZeroRanges.{HasZeroed_again}
 use Rattle.imago_storage.proofs.ZeroWraps.{fits_without_part, fits_by_edges, fits_by_data, wrap_without_part, wrap_by_edges, wrap_by_data, part_of_aligned, range_fits}
+use Rattle.imago_storage.proofs.ZeroCalls.{has_part, has_no_part, part_then_data, part_and_edges}
 use Rattle.imago_storage.proofs.zeroes.zero_range.Goals as goal
 
 pub returns-then-end-start : goal.returns-then-end-start
@@ -21,7 +22,8 @@ returns-then-end-start g c =
       memory = λ m aligned in_place.
           let same = part_of_aligned _ _ _ _ _ (power_positive _ (g.met.S.Storage.lawful c.args.storage.now).zero) c.requires.some aligned p in
           absurd (omega (arith, same.0, same.1, c.if-end-start.true, c.requires.some));
-      early = λ m none. e.early m (λ may. none (inl may));
+      early = λ m none. shows_same _ _ _ _ _ (e.early m (λ may. none (inl may)));
+      performed = λ some fits. inr (inr (inr (λ has. has_no_part (g.S.Storage.features c.args.storage.now) _ _ _ _ p c.if-end-start.true has, e.work)));
     }
 
 pub returns-in-Err-Unsupported : goal.returns-in-Err-Unsupported
@@ -40,7 +42,8 @@ returns-in-Err-Unsupported g c =
       only = d.only;
       cause = CountsFaults_then _ _ _ _ _ _ _ refl e.cause d.cause;
       memory = λ m aligned in_place. absurd ((e.offered is).not_in_place in_place);
-      early = λ m none. (rw (e.unchanged is) at c.zero_as_data-in-Err-Unsupported.ensures.early) m (λ may. none (inl may));
+      early = λ m none. shows_still _ _ _ _ _ _ (e.unchanged is) ((rw (e.unchanged is).bytes at d.early) m (λ may. none (inl may)));
+      performed = λ some fits. inr (inr (inl (has_part (g.S.Storage.features c.args.storage.now) _ _ _ _ p (omega arith), part_then_data _ _ _ _ _ _ _ _ p _ _ _ _ is e.performed d.work)));
     }
 
 pub returns-in-Err : goal.returns-in-Err
@@ -60,6 +63,7 @@ returns-in-Err g c =
           let same = part_of_aligned _ _ _ _ _ (power_positive _ (g.met.S.Storage.lawful c.args.storage.now).zero) c.requires.some aligned p in
           e.memory m same.0 same.1;
       early = e.early;
+      performed = λ some fits. part_and_edges _ _ _ _ _ _ _ _ p _ _ _ (omega arith) e.performed;
     }
 
 pub returns-in-Ok : goal.returns-in-Ok
@@ -77,4 +81,5 @@ returns-in-Ok g c =
       cause = e.cause;
       memory = λ m. absurd cc;
       early = λ m. absurd cc;
+      performed = λ some fits. part_and_edges _ _ _ _ _ _ _ _ p _ _ _ (omega arith) e.performed;
     }

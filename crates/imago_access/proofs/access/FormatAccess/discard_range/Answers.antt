@@ -9,7 +9,7 @@ use Rattle.imago_access.proofs.access.FormatAccess.discard_range.Goals as goal
 pub loop-done-init : goal.loop-done-init
 loop-done-init g c = (
   nothing_discarded g.D.FormatDriverInstance.view c.args.call c.args.offset c.args.count c.args.self.now (g.met.D.FormatDriverInstance.causes_lawful _) c.requires.spent,
-  begins (discard_by g.D.FormatDriverInstance.discards c.args.call) c.args.offset c.args.count (driver c.args.self.now),
+  begins (discard_by g.D.FormatDriverInstance.calls c.args.call) c.args.offset c.args.count (driver c.args.self.now),
   λ z. refl,
 )
 
@@ -17,7 +17,7 @@ pub loop-done-preserved : goal.loop-done-preserved
 loop-done-preserved g c =
     let e = c.in_ok-start.ensures in (
       loosened_next g.D.FormatDriverInstance.view c.args.call c.args.offset c.args.count c.args.self.now c.loop-done.self c.discard_part.new.self c.loop-done.done c.loop-done.invariant.0 c.in_ok-start.start c.in_ok-start.length e.loosened c.if-length-eq0.false c.loop-done-test.true,
-      goes_on (discard_by g.D.FormatDriverInstance.discards c.args.call) c.args.offset c.args.count (driver c.args.self.now) (driver c.loop-done.self) (driver c.discard_part.new.self) c.loop-done.done c.loop-done.invariant.1 c.in_ok-start.start c.in_ok-start.length c.loop-done-test.true c.if-length-eq0.false e.loosened.inside e.performed,
+      goes_on (discard_by g.D.FormatDriverInstance.calls c.args.call) c.args.offset c.args.count (driver c.args.self.now) (driver c.loop-done.self) (driver c.discard_part.new.self) c.loop-done.done c.loop-done.invariant.1 c.in_ok-start.start c.in_ok-start.length c.loop-done-test.true c.if-length-eq0.false e.loosened.inside e.performed,
       λ z. absurd (c.if-length-eq0.false (omega (arith, z))),
     )
 
@@ -25,7 +25,7 @@ pub returns-then-length-eq0-clause-loosened : goal.returns-then-length-eq0-claus
 returns-then-length-eq0-clause-loosened g c = loosened_last g.D.FormatDriverInstance.view c.args.call c.args.offset c.args.count c.args.self.now c.loop-done.self c.discard_part.new.self c.loop-done.done c.loop-done.invariant.0 tt c.in_ok-start.start c.in_ok-start.length c.in_ok-start.ensures.loosened
 
 pub returns-then-length-eq0-clause-performed : goal.returns-then-length-eq0-clause-performed
-returns-then-length-eq0-clause-performed g c = stops (discard_by g.D.FormatDriverInstance.discards c.args.call) c.args.offset c.args.count (driver c.args.self.now) (driver c.loop-done.self) (driver c.discard_part.new.self) c.loop-done.done c.loop-done.invariant.1 c.in_ok-start.start c.in_ok-start.length c.loop-done-test.true c.if-length-eq0.true c.in_ok-start.ensures.performed
+returns-then-length-eq0-clause-performed g c = stops (discard_by g.D.FormatDriverInstance.calls c.args.call) c.args.offset c.args.count (driver c.args.self.now) (driver c.loop-done.self) (driver c.discard_part.new.self) c.loop-done.done c.loop-done.invariant.1 c.in_ok-start.start c.in_ok-start.length c.loop-done-test.true c.if-length-eq0.true c.in_ok-start.ensures.performed
 
 pub returns-in_err-start-clause-loosened : goal.returns-in_err-start-clause-loosened
 returns-in_err-start-clause-loosened g c =
@@ -35,7 +35,7 @@ returns-in_err-start-clause-loosened g c =
 pub returns-in_err-start-clause-performed : goal.returns-in_err-start-clause-performed
 returns-in_err-start-clause-performed g c =
     let p = err_from_is_err_and c.from_residual.result c.from_residual.ensures.1 in
-    rw (p.1, p.2) (gives_up (discard_by g.D.FormatDriverInstance.discards c.args.call) c.args.offset c.args.count (driver c.args.self.now) (driver c.loop-done.self) (driver c.discard_part.new.self) c.loop-done.done c.loop-done.invariant.1 c.in_err-start.field-0.0 c.loop-done-test.true c.in_err-start.ensures.performed)
+    rw (p.1, p.2) (gives_up (discard_by g.D.FormatDriverInstance.calls c.args.call) c.args.offset c.args.count (driver c.args.self.now) (driver c.loop-done.self) (driver c.discard_part.new.self) c.loop-done.done c.loop-done.invariant.1 c.in_err-start.field-0.0 c.loop-done-test.true c.in_err-start.ensures.performed)
 
 pub returns-clause-empty : goal.returns-clause-empty
 returns-clause-empty g c = λ none. (refl, c.loop-done.invariant.2 (omega (arith, none)))
@@ -44,4 +44,4 @@ pub returns-clause-loosened : goal.returns-clause-loosened
 returns-clause-loosened g c = all_discarded g.D.FormatDriverInstance.view c.args.call c.args.offset c.args.count c.args.self.now c.loop-done.self c.loop-done.self c.loop-done.done c.loop-done.invariant.0 tt
 
 pub returns-clause-performed : goal.returns-clause-performed
-returns-clause-performed g c = ends (discard_by g.D.FormatDriverInstance.discards c.args.call) c.args.offset c.args.count (driver c.args.self.now) (driver c.loop-done.self) c.loop-done.done c.loop-done.invariant.1 (omega (arith, c.loop-done-test.false))
+returns-clause-performed g c = ends (discard_by g.D.FormatDriverInstance.calls c.args.call) c.args.offset c.args.count (driver c.args.self.now) (driver c.loop-done.self) c.loop-done.done c.loop-done.invariant.1 (omega (arith, c.loop-done-test.false))

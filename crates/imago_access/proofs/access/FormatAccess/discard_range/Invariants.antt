@@ -7,7 +7,7 @@ use Rattle.imago_access.proofs.access.FormatAccess.discard_range.Given as goal
 
 abbrev pub invariant-loop-done : goal.invariant-loop-done
 invariant-loop-done g l = IsDiscardingOn g.D.FormatDriverInstance.view l.call l.offset l.count l.fn.self l.self l.done
-    × Continues (discard_by g.D.FormatDriverInstance.discards l.call) l.offset l.count (driver l.fn.self) l.done (driver l.self)
+    × Continues (discard_by g.D.FormatDriverInstance.calls l.call) l.offset l.count (driver l.fn.self) l.done (driver l.self)
     × (l.done ≡ 0 → l.self ≡ l.fn.self)
 
 abbrev pub decreases-loop-done : goal.decreases-loop-done

@@ -4,4 +4,4 @@ use Rattle.imago_access.proofs.access.FormatAccess.flush.Goals as goal
 pub returns : goal.returns
 returns g c =
     let r = c.flush in
-    flushed_image g.D.FormatDriverInstance.view c.args.self.now r.new.self g.D.FormatDriverInstance.flushes.flushed r.result r.ensures
+    flushed_image g.D.FormatDriverInstance.view c.args.self.now r.new.self g.D.FormatDriverInstance.calls.flushed r.result r.ensures

@@ -4,4 +4,4 @@ use Rattle.imago_access.proofs.access.FormatAccess.invalidate_cache.Goals as goa
 pub returns : goal.returns
 returns g c =
     let r = c.invalidate_cache in
-    flushed_image g.D.FormatDriverInstance.view c.args.self.now r.new.self g.D.FormatDriverInstance.flushes.invalidated r.result r.ensures
+    flushed_image g.D.FormatDriverInstance.view c.args.self.now r.new.self g.D.FormatDriverInstance.calls.invalidated r.result r.ensures

@@ -2,7 +2,7 @@ use Rattle.std.proofs.lemmas.Result.{err_from_is_err_and}
 use Rattle.imago_drivers.specs.Operation.{Grow}
 use Rattle.imago_access.specs.Chain.{backing}
 use Rattle.imago_access.proofs.Images.{lent_is}
-use Rattle.imago_access.proofs.SizeSteps.{grow_image, read_only_resize}
+use Rattle.imago_access.proofs.SizeSteps.{grow_image, grown_by, read_only_resize}
 use Rattle.imago_access.proofs.access.FormatAccess.resize_grow.Goals as goal
 
 pub returns-clause-resized : goal.returns-clause-resized
@@ -10,9 +10,16 @@ returns-clause-resized g c =
     let r = c.resize_grow in
     let v = g.D.FormatDriverInstance.view in
     let x = c.args.self.now in
-    grow_image v x r.new.self _ (lent_is v c.below-lower.result (backing x) c.below-lower.ensures) c.args.mode c.args.new_size r.result c.in_ok-test_writable.ensures.passed r.ensures.grown r.ensures.idle r.ensures.unchanged r.ensures.kind r.ensures.faults r.ensures.refusals
+    grow_image v x r.new.self _ (lent_is v c.below-lower.result (backing x) c.below-lower.ensures) c.args.mode c.args.new_size r.result c.in_ok-test_writable.ensures.passed r.ensures.call.grown r.ensures.call.idle r.ensures.call.unchanged r.ensures.call.kind r.ensures.call.no_longer r.ensures.call.faults r.ensures.call.refusals
 
 pub returns-in_err-test_writable-clause-resized : goal.returns-in_err-test_writable-clause-resized
 returns-in_err-test_writable-clause-resized g c =
     let p = err_from_is_err_and c.from_residual.result c.from_residual.ensures.1 in
     rw (p.1, p.2) (read_only_resize g.D.FormatDriverInstance.view c.args.self.now (Grow c.args.mode) c.args.new_size _ c.in_err-test_writable.field-0.0 c.in_err-test_writable.ensures.failed)
+
+pub returns-clause-performed : goal.returns-clause-performed
+returns-clause-performed g c =
+    let r = c.resize_grow in
+    let v = g.D.FormatDriverInstance.view in
+    let x = c.args.self.now in
+    grown_by v g.D.FormatDriverInstance.calls x r.new.self _ (lent_is v c.below-lower.result (backing x) c.below-lower.ensures) c.args.new_size c.args.mode r.result r.ensures.performed

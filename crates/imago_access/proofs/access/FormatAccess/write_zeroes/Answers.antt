@@ -5,12 +5,18 @@ use Rattle.imago_access.proofs.Images.{failed_call}
 use Rattle.imago_access.proofs.ZeroSteps.{zero_call}
 use Rattle.imago_access.proofs.access.FormatAccess.write_zeroes.Goals as goal
 
-pub returns : goal.returns
-returns g c =
+pub returns-clause-zeroed : goal.returns-clause-zeroed
+returns-clause-zeroed g c =
     let t = c.in_ok-test_end.ensures.passed in
     zero_call g.D.FormatDriverInstance.view Zero c.args.self.now c.zero_range.new.self c.args.offset c.args.count c.zero_range.result t.0 t.1 (λ big. omega (arith, t.2, big)) c.zero_range.ensures.empty c.zero_range.ensures.zeroed
 
-pub returns-in_err-test_end : goal.returns-in_err-test_end
-returns-in_err-test_end g c =
+pub returns-in_err-test_end-clause-zeroed : goal.returns-in_err-test_end-clause-zeroed
+returns-in_err-test_end-clause-zeroed g c =
     let p = err_from_is_err_and c.from_residual.result c.from_residual.ensures.1 in
     rw (p.1, p.2) (failed_call g.D.FormatDriverInstance.view c.args.self.now Zero c.args.offset c.args.count _ _ _ _ _ _ _ c.in_err-test_end.field-0.0 c.in_err-test_end.ensures.failed (record { inside = λ k h. inl refl; before = λ p h. refl; behind = λ p h. refl }) c.requires)
+
+pub returns-clause-performed : goal.returns-clause-performed
+returns-clause-performed g c = λ passed. c.zero_range.ensures.performed
+
+pub returns-in_err-test_end-clause-performed : goal.returns-in_err-test_end-clause-performed
+returns-in_err-test_end-clause-performed g c = λ passed. absurd (passed c.in_err-test_end.field-0.0 c.in_err-test_end.ensures.failed)

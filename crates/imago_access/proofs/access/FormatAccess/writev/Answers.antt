@@ -1,6 +1,7 @@
-use Rattle.std.proofs.Common.{arith}
-use Rattle.std.proofs.lemmas.Grind.{common_steps}
 use Rattle.imago_access.proofs.access.FormatAccess.writev.Goals as goal
 
-pub returns : goal.returns
-returns g c = grind (arith, common_steps)
+pub returns-clause-written : goal.returns-clause-written
+returns-clause-written g c = c.write.ensures.written
+
+pub returns-clause-performed : goal.returns-clause-performed
+returns-clause-performed g c = c.write.ensures.performed

@@ -6,8 +6,8 @@ use Rattle.imago_cow.proofs.PrepareSteps.{nothing_unchanged}
 use Rattle.imago_cow.proofs.DriverSteps.{own_is_known, own_has_state}
 use Rattle.imago_cow.proofs.cow.CowFormatDriverInstance.cancel_data_mapping.Goals as goal
 
-pub returns-then-own : goal.returns-then-own
-returns-then-own g c =
+pub returns-then-own-clause-call : goal.returns-then-own-clause-call
+returns-then-own-clause-call g c =
     let s = c.args.self.now in
     let m = c.args.mapping in
     let B = g.S.Storage.bytes s.storage in
@@ -26,3 +26,11 @@ returns-then-own g c =
       later = omega arith;
       reliable = λ x. refl;
     }
+
+pub returns-then-own-clause-performed : goal.returns-then-own-clause-performed
+returns-then-own-clause-performed g c =
+    let s = c.args.self.now in
+    let m = c.args.mapping in
+    let B = g.S.Storage.bytes s.storage in
+    let own : IsOwn (cow_pending s.block s.size B s.waiting) m = (c.is_waiting-own.ensures s.block s.size B).0 c.if-own.true in
+    (((refl, refl, c.release.ensures.count, refl, refl), refl, λ x. absurd (own_has_state (cow_pending s.block s.size B s.waiting) m own x)), c.release.ensures.entries)

@@ -6,16 +6,16 @@ use Rattle.imago_cow.specs.CowLaws.{cow_causes}
 use Rattle.imago_cow.proofs.DriverSteps.{commit_nothing, own_is_known, own_has_state}
 use Rattle.imago_cow.proofs.cow.CowFormatDriverInstance.commit_data_mapping.Goals as goal
 
-pub returns-in_default : goal.returns-in_default
-returns-in_default g c =
+pub returns-in_default-clause-call : goal.returns-in_default-clause-call
+returns-in_default-clause-call g c =
     let s = c.args.self.now in
     commit_nothing _ s c.args.mapping (sym c.into_state.ensures ∙ c.in_default.is) (cow_causes _ _ _ s.size s.block (entries_of s.table) (count_of s.table) s.waiting)
 
 pub enter_waiting-requires-clause-apart : goal.enter_waiting-requires-clause-apart
 enter_waiting-requires-clause-apart g c = c.args.self.now.waits_apart c.in-Some-waiting.waiting c.in-Some-waiting.is
 
-pub returns : goal.returns
-returns g c =
+pub returns-clause-call : goal.returns-clause-call
+returns-clause-call g c =
     let s = c.args.self.now in
     let m = c.args.mapping in
     let w = c.in-Some-waiting.waiting in

@@ -9,4 +9,4 @@ returns-clause-call g c =
     rw none (c.make_zero.ensures.to_any (g.S.Storage.features s.storage) (g.S.Storage.fault_count s.storage + s.faults) (g.S.Storage.bytes s.storage))
 
 pub returns-clause-performed : goal.returns-clause-performed
-returns-clause-performed g c = (refl, c.make_zero.ensures.made)
+returns-clause-performed g c = ((refl, refl, c.make_zero.ensures.count, refl, refl), refl, refl, c.make_zero.ensures.made)

@@ -13,3 +13,6 @@ returns-clause-made g c = c.make_zero.ensures.made
 
 pub returns-clause-storage : goal.returns-clause-storage
 returns-clause-storage g c = refl
+
+pub returns-clause-performed : goal.returns-clause-performed
+returns-clause-performed g c = ((refl, refl, c.make_zero.ensures.count, refl, refl), refl, refl, c.make_zero.ensures.made)

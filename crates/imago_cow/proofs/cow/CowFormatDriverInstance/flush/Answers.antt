@@ -9,7 +9,7 @@ returns g c =
     let s = c.args.self.now in
     let e = c.flush.ensures in
     record {
-      performed = (e.performed, refl, refl, refl, refl, refl, refl);
+      performed = (e.performed, (refl, refl, refl, refl, refl, refl));
       unchanged = same_bytes _ _ _ _ _ _ s.size s.block (entries_of s.table) (count_of s.table) s.waiting e.unchanged e.features;
       pending = rw e.unchanged refl;
       causes = rw e.features (record { causes = λ op o n r x. x; copied = λ op o n p x. x });

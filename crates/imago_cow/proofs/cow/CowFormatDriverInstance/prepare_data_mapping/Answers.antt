@@ -10,6 +10,7 @@ use Rattle.imago_cow.specs.TableLaws.{named_below}
 use Rattle.imago_cow.specs.GuestLaws.{rest_small}
 use Rattle.imago_cow.specs.Cow.{cow_view}
 use Rattle.imago_cow.specs.CowLaws.{cow_causes}
+use Rattle.imago_cow.specs.CowImage.{ticket_of}
 use Rattle.imago_cow.proofs.MapSteps.{number_ends}
 use Rattle.imago_cow.proofs.PrepareSteps.{counts_as}
 use Rattle.imago_cow.proofs.DriverSteps.{none_waits}
@@ -95,6 +96,7 @@ returns-in_err-waiting g c =
       added = e.added;
       lowest = tt;
       in_data = λ j h. absurd (not_in_data _ _ j c.get-entry.ensures c.in_default.not-Data h);
+      performed = (refl, refl, e.entries, refl, tt);
       over = λ o. c.in_err-waiting.ensures.over c.args.count some c.min-run.ensures o;
     })
 
@@ -134,5 +136,6 @@ returns g c =
         stands = m.offset ∙ k.apart.offset ∙ ap (λ o. w.number * s.block + o % s.block) k.same.0;
       };
       in_data = λ j h. absurd (not_in_data _ _ j c.get-entry.ensures c.in_default.not-Data h);
+      performed = (refl, refl, e.entries, tt, rw m.state (refl, ap ticket_of k.same.2));
       over = λ o. tt;
     }

@@ -1,5 +1,7 @@
 use Rattle.std.proofs.Common.{◌≡◌, ◌+◌, ◌*◌, ◌≤◌, Some, true, false, arith, refl, sym, length}
 use Rattle.std.specs.Prelude.{is_none}
+use Rattle.imago_storage.specs.declared.error.Error.{Error}
+use Rattle.imago_storage.specs.Features.{IsAlignedRequest, MayRunOut}
 use Rattle.imago_drivers.specs.Place.{BytesAreWritable, HasStranger}
 use Rattle.imago_drivers.specs.Pending.{IsOwn}
 use Rattle.imago_drivers.proofs.RawSteps.{foreign_stateless, foreign_not, written_stateless}
@@ -8,8 +10,9 @@ use Rattle.imago_cow.specs.TableView.{entries_of, count_of}
 use Rattle.imago_cow.specs.Guest.{cow_place}
 use Rattle.imago_cow.specs.Cow.{cow_view, cow_pending, WaitsApart}
 use Rattle.imago_cow.proofs.MapSteps.{number_ends}
+use Rattle.imago_cow.proofs.DirectSteps.{refused_some}
 use Rattle.imago_cow.proofs.StoredSteps.{on_ok, on_err, ok_holds, err_holds}
-use Rattle.imago_cow.proofs.DriverSteps.{bytes_settled, mapping_refused, not_foreign, written_apart, round_stays}
+use Rattle.imago_cow.proofs.DriverSteps.{bytes_settled, mapping_refused, existing_takes, waiting_takes, not_foreign, written_apart, round_stays}
 use Rattle.imago_cow.proofs.WriteSteps.{own_is_written, no_stranger, pending_stays, round_other}
 use Rattle.imago_cow.proofs.cow.CowFormatDriverInstance.write_prepared.Goals as goal
 
@@ -157,6 +160,9 @@ returns-then-not-is_nonblocking-clause-refusals g c =
     let inside : c.args.at + length c.args.source.now ≤ w.length = omega (arith, c.requires, own_w.2) in
     let ends : w.offset + w.length ≤ count_of s.table * s.block = omega (arith, number_ends s.block w.number (count_of s.table) apart.known, apart.offset, apart.in_block) in
     mapping_refused f n A s.size s.block (entries_of s.table) (count_of s.table) s.waiting m c.args.at (length c.args.source.now) r c.write_stored.ensures.only (rw (own_w.1) (c.write_stored.ensures.wraps)) (omega (arith, ends, inside, own_w.1))
+    (λ refused o q.
+    let len = length c.args.source.now in
+    waiting_takes f n A s.size s.block (entries_of s.table) (count_of s.table) w m c.args.at len o s.positive apart (own_w.3) (refused_some len r Error.Memory c.write_stored.ensures.empty refused) inside (rw is at q))
 
 pub returns-then-count-eq0-clause-causes : goal.returns-then-count-eq0-clause-causes
 returns-then-count-eq0-clause-causes g c =
@@ -298,3 +304,7 @@ returns-clause-refusals g c =
     let all : BytesAreWritable (cow_place A s.size s.block (entries_of s.table)) 0 c.offset-start.result c.length-count.result = shown.1 in
     let fits : c.args.at + length c.args.source.now ≤ c.length-count.result = omega (arith, c.requires, c.length-count.ensures) in
     mapping_refused f n A s.size s.block (entries_of s.table) (count_of s.table) s.waiting m c.args.at (length c.args.source.now) r c.write_stored-2.ensures.only (rw (← c.offset-start.ensures) (c.write_stored-2.ensures.wraps)) (omega (arith, c.shows_all.ensures.within c.if-not-shows_all.false, fits, c.offset-start.ensures))
+    (λ refused o q.
+    let len = length c.args.source.now in
+    let memory : IsAlignedRequest f (m.offset + c.args.at) len → MayRunOut f.write_memory (length A) (m.offset + c.args.at + len) = rw (← c.offset-start.ensures) (c.write_stored-2.ensures.memory refused) in
+    existing_takes f n A s.size s.block (entries_of s.table) (count_of s.table) s.waiting m m.state c.args.at len o stateless (refused_some len r Error.Memory c.write_stored-2.ensures.empty refused) memory q)

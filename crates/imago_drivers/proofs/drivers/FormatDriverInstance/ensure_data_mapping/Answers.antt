@@ -1,4 +1,4 @@
-use Rattle.std.proofs.Common.{rules, ap, false, Err, ◌∙◌}
+use Rattle.std.proofs.Common.{rules, ap, false, Ok, Err, ◌∙◌}
 use Rattle.std.specs.Prelude.{IsErrOf}
 use Rattle.imago_storage.specs.declared.error.Error.{Error}
 use Rattle.imago_drivers.specs.LayerBelow.{lent}
@@ -9,33 +9,33 @@ use Rattle.imago_drivers.proofs.drivers.FormatDriverInstance.ensure_data_mapping
 pub returns-clause-mapped : goal.returns-clause-mapped
 returns-clause-mapped g c =
     let p = c.in_ok-mapping.ensures in
-    ensured _ _ _ _ _ _ _ c.in_ok-mapping.mapping p.prepared p.call.unchanged c.in_ok-commit_data_mapping.ensures.done _ _ _ c.storage-storage.ensures c.offset-start.ensures c.length-length.ensures
+    ensured _ _ _ _ _ _ _ c.in_ok-mapping.mapping p.prepared p.call.unchanged c.in_ok-commit_data_mapping.ensures.call.done _ _ _ c.storage-storage.ensures c.offset-start.ensures c.length-length.ensures
 
 pub returns-clause-done : goal.returns-clause-done
 returns-clause-done g c = λ k.
     let p = c.in_ok-mapping.ensures in
-    rw c.length-length.ensures (ensured_change _ _ _ _ _ _ _ c.in_ok-mapping.mapping p.prepared p.call.unchanged k false c.in_ok-commit_data_mapping.ensures.done)
+    rw c.length-length.ensures (ensured_change _ _ _ _ _ _ _ c.in_ok-mapping.mapping p.prepared p.call.unchanged k false c.in_ok-commit_data_mapping.ensures.call.done)
 
 pub returns-clause-causes : goal.returns-clause-causes
 returns-clause-causes g c =
     let V = g.Self.FormatDriverInstance.view in
     let p = c.in_ok-mapping.ensures in
     let at = is_at_start (V c.args.self.now) (V c.prepare_data_mapping.new.self) (V c.commit_data_mapping.new.self) _ c.args.offset c.args.count _ c.in_ok-mapping.mapping p.prepared p.call.unchanged in
-    rw c.length-length.ensures (settled_twice _ _ _ _ _ _ _ _ p.call.causes (c.in_ok-commit_data_mapping.ensures.settled c.args.offset at))
+    rw c.length-length.ensures (settled_twice _ _ _ _ _ _ _ _ p.call.causes (c.in_ok-commit_data_mapping.ensures.call.settled c.args.offset at))
 
 pub returns-in_err-commit_data_mapping-clause-reaches : goal.returns-in_err-commit_data_mapping-clause-reaches
 returns-in_err-commit_data_mapping-clause-reaches g c =
     let V = g.Self.FormatDriverInstance.view in
-    reaches_twice (V c.args.self.now) (V c.prepare_data_mapping.new.self) (V c.commit_data_mapping.new.self) c.in_ok-mapping.ensures.call.unchanged.reaches c.commit_data_mapping.ensures.reaches
+    reaches_twice (V c.args.self.now) (V c.prepare_data_mapping.new.self) (V c.commit_data_mapping.new.self) c.in_ok-mapping.ensures.call.unchanged.reaches c.commit_data_mapping.ensures.call.reaches
 
 pub returns-in_err-commit_data_mapping-clause-torn : goal.returns-in_err-commit_data_mapping-clause-torn
 returns-in_err-commit_data_mapping-clause-torn g c = λ k.
     let V = g.Self.FormatDriverInstance.view in
     let p = c.in_ok-mapping.ensures in
-    let e = c.in_err-commit_data_mapping.ensures in
+    let e = c.in_err-commit_data_mapping.ensures.call in
     let own : IsErrOf c.commit_data_mapping.result Error.ForeignMapping → ⊥ = λ x.
-    never_foreign (V c.args.self.now) (V c.prepare_data_mapping.new.self) (V c.commit_data_mapping.new.self) _ c.args.offset c.args.count c.args.overwrite c.in_ok-mapping.mapping p.prepared p.call.unchanged ((c.commit_data_mapping.ensures.foreign).0 x) in
-    let torn = rw c.in_err-commit_data_mapping.was at (c.commit_data_mapping.ensures.torn own) in
+    never_foreign (V c.args.self.now) (V c.prepare_data_mapping.new.self) (V c.commit_data_mapping.new.self) _ c.args.offset c.args.count c.args.overwrite c.in_ok-mapping.mapping p.prepared p.call.unchanged ((c.commit_data_mapping.ensures.call.foreign).0 x) in
+    let torn = rw c.in_err-commit_data_mapping.was at (c.commit_data_mapping.ensures.call.torn own) in
     on_refusal _ _ (ensured_refused (V c.args.self.now) (V c.prepare_data_mapping.new.self) (V c.commit_data_mapping.new.self) _ c.args.offset c.args.count c.args.overwrite c.in_ok-mapping.mapping p.prepared p.call.unchanged k torn)
 
 pub returns-in_err-commit_data_mapping-clause-refusals : goal.returns-in_err-commit_data_mapping-clause-refusals
@@ -43,9 +43,14 @@ returns-in_err-commit_data_mapping-clause-refusals g c =
     let V = g.Self.FormatDriverInstance.view in
     let p = c.in_ok-mapping.ensures in
     let own : IsErrOf c.commit_data_mapping.result Error.ForeignMapping → ⊥ = λ x.
-    never_foreign (V c.args.self.now) (V c.prepare_data_mapping.new.self) (V c.commit_data_mapping.new.self) _ c.args.offset c.args.count _ c.in_ok-mapping.mapping p.prepared p.call.unchanged ((c.commit_data_mapping.ensures.foreign).0 x) in
+    never_foreign (V c.args.self.now) (V c.prepare_data_mapping.new.self) (V c.commit_data_mapping.new.self) _ c.args.offset c.args.count _ c.in_ok-mapping.mapping p.prepared p.call.unchanged ((c.commit_data_mapping.ensures.call.foreign).0 x) in
     if_refused c.from_residual-in_err-commit_data_mapping.result (λ e is.
     let same : IsErrOf c.commit_data_mapping.result e = search rules in
-    let reason = rw same at c.commit_data_mapping.ensures.refusals in
+    let reason = rw same at c.commit_data_mapping.ensures.call.refusals in
     commit_refused (V c.args.self.now) (V c.prepare_data_mapping.new.self) (V c.commit_data_mapping.new.self) _ c.args.offset c.args.count _ c.in_ok-mapping.mapping p.prepared p.call.unchanged (lent g.B.LowerLayer.as_layer_below c.args.below) p.call.causes e
     (λ x. own (same ∙ ap (λ y. Err y) x)) reason)
+
+pub returns-clause-performed : goal.returns-clause-performed
+returns-clause-performed g c =
+    g.Self.FormatDriverInstance.calls.by_parts (lent g.B.LowerLayer.as_layer_below c.args.below) c.args.offset c.args.count c.args.overwrite c.args.self.now c.commit_data_mapping.new.self (Ok (c.storage-storage.result, c.offset-start.result, c.length-length.result))
+    (c.in_ok-mapping.mapping, c.prepare_data_mapping.new.self, c.in_ok-mapping.ensures.performed, c.in_ok-commit_data_mapping.ensures.performed, c.storage-storage.ensures, c.offset-start.ensures, c.length-length.ensures)

@@ -2,5 +2,5 @@ use Rattle.std.proofs.Common.{arith}
 use Rattle.std.proofs.lemmas.Grind.{common_steps}
 use Rattle.imago_drivers.proofs.raw.RawFormatDriverInstance.cancel_data_mapping.Goals as goal
 
-pub returns : goal.returns
-returns g c = grind (arith, common_steps)
+pub returns-clause-call : goal.returns-clause-call
+returns-clause-call g c = grind (arith, common_steps)

@@ -2,11 +2,12 @@ use Rattle.std.proofs.Common.{◌≡◌, ℕ, ◌+◌, ◌-◌, ◌%◌, length,
 use Rattle.std.proofs.lemmas.List.{length-replicate}
 use Rattle.std.proofs.lemmas.Grind.{common_steps}
 use Rattle.std.proofs.lemmas.Result.{err_from_is_err_and}
-use Rattle.imago_storage.specs.Features.{len_align}
+use Rattle.imago_storage.specs.Features.{len_align, zero_piece}
 use Rattle.imago_storage.proofs.Alignment.{multiple_add}
 use Rattle.imago_storage.proofs.Outcomes.{WriteOutcome_unchanged, WriteOutcome_ok, WriteOutcome_refused, CountsFaults_ok, CountsFaults_then}
 use Rattle.imago_storage.proofs.Splices.{length-splice}
 use Rattle.imago_storage.proofs.ZeroPieces.{next_piece, next_whole, zeroes_then, zero_front, OldOrNew_zeroes}
+use Rattle.imago_storage.proofs.Work.{first_piece, next_piece_done, pieces_within, no_pieces}
 use Rattle.imago_storage.proofs.storage.Storage.write_zeroes_as_data.Goals as goal
 
 pub returns-then-remainder-ne0-clause-written : goal.returns-then-remainder-ne0-clause-written
@@ -44,6 +45,7 @@ loop-done-init g c =
       features = c.in_ok-pure_writev.ensures.features;
       written = WriteOutcome_ok _ _ _ _ _ _ _ c.in_ok-pure_writev.was (rw w at c.pure_writev.ensures.written);
       cause = CountsFaults_ok _ _ _ _ tt c.pure_writev.ensures.cause;
+      pieces = first_piece (zero_piece f) c.args.count c.min-first.result (omega (arith, n)) (rw (w, length-replicate {A = ℕ} c.min-first.result 0) at c.pure_writev.ensures.work);
     }
 
 pub pure_writev-requires-in-loop-done : goal.pure_writev-requires-in-loop-done
@@ -76,7 +78,32 @@ loop-done-preserved g c =
       features = c.in_ok-pure_writev-2.ensures.features ∙ c.loop-done.invariant.features;
       written = WriteOutcome_ok _ _ _ _ _ _ _ c.in_ok-pure_writev-2.was step;
       cause = CountsFaults_ok _ _ _ _ tt (CountsFaults_then _ _ _ _ _ _ _ (ap (λ f. f.is_reliable) c.loop-done.invariant.features) c.loop-done.invariant.cause c.pure_writev-in-loop-done.ensures.cause);
+      pieces = next_piece_done (zero_piece f) c.args.count c.loop-done.done c.min-next.result (omega arith) n c.loop-done.invariant.pieces (rw (w, length-replicate {A = ℕ} c.min-next.result 0) at c.pure_writev-in-loop-done.ensures.work);
     }
+
+pub returns-then-remainder-ne0-clause-work : goal.returns-then-remainder-ne0-clause-work
+returns-then-remainder-ne0-clause-work g c = no_pieces _ _ _
+
+pub returns-in_err-zeroes-clause-work : goal.returns-in_err-zeroes-clause-work
+returns-in_err-zeroes-clause-work g c = no_pieces _ _ _
+
+pub returns-in_err-pure_writev-clause-work : goal.returns-in_err-pure_writev-clause-work
+returns-in_err-pure_writev-clause-work g c =
+    let f = g.Self.Storage.features c.args.self.now in
+    let n : c.min-first.result ≡ min (zero_piece f) c.args.count = grind (arith, common_steps) in
+    let w : c.deref.result.now ≡ replicate {A = ℕ} c.min-first.result 0 = c.deref.ensures.value ∙ c.in_ok-zeroes.ensures.zeroes in
+    pieces_within (zero_piece f) c.args.count c.min-first.result (omega arith) (first_piece (zero_piece f) c.args.count c.min-first.result n (rw (w, length-replicate {A = ℕ} c.min-first.result 0) at c.pure_writev.ensures.work))
+
+pub returns-in_err-pure_writev-2-clause-work : goal.returns-in_err-pure_writev-2-clause-work
+returns-in_err-pure_writev-2-clause-work g c =
+    let f = g.Self.Storage.features c.args.self.now in
+    let n : c.min-next.result ≡ min (zero_piece f) (c.args.count - c.loop-done.done) = grind (arith, common_steps) in
+    let w = zero_front c.deref-in-loop-done.result.now c.min-first.result c.min-next.result (c.deref-in-loop-done.ensures.value ∙ c.in_ok-zeroes.ensures.zeroes) (omega arith) in
+    pieces_within (zero_piece f) c.args.count (c.loop-done.done + c.min-next.result) (omega arith)
+    (next_piece_done (zero_piece f) c.args.count c.loop-done.done c.min-next.result (omega arith) n c.loop-done.invariant.pieces (rw (w, length-replicate {A = ℕ} c.min-next.result 0) at c.pure_writev-in-loop-done.ensures.work))
+
+pub returns-clause-work : goal.returns-clause-work
+returns-clause-work g c = pieces_within _ _ _ c.loop-done.invariant.counted c.loop-done.invariant.pieces
 
 pub returns-clause-written : goal.returns-clause-written
 returns-clause-written g c =

@@ -1,7 +1,8 @@
 use Rattle.std.proofs.Common.{◌-◌, ◌≡◌, ◌%◌, ◌≤◌, replicate, Ok}
 use Rattle.imago_storage.specs.Bytes.{splice, WriteOutcome}
 use Rattle.imago_storage.specs.Faults.{CountsFaults}
-use Rattle.imago_storage.specs.Features.{len_align}
+use Rattle.imago_storage.specs.Features.{len_align, zero_piece}
+use Rattle.imago_storage.proofs.Work.{PiecesDone}
 use Rattle.imago_storage.proofs.storage.Storage.write_zeroes_as_data.Given as goal
 
 abbrev pub invariant-loop-done : goal.invariant-loop-done
@@ -11,6 +12,7 @@ invariant-loop-done g l = record {
   features : g.Self.Storage.features l.self ≡ g.Self.Storage.features l.fn.self;
   written : WriteOutcome {T = Unit {0}} (g.Self.Storage.features l.fn.self).keeps_data (g.Self.Storage.bytes l.fn.self) (splice (g.Self.Storage.bytes l.fn.self) l.offset (replicate l.done 0)) (g.Self.Storage.bytes l.self) (Ok tt);
   cause : CountsFaults {T = Unit {0}} (g.Self.Storage.features l.fn.self).is_reliable (g.Self.Storage.fault_count l.fn.self) (g.Self.Storage.fault_count l.self) (Ok tt);
+  pieces : PiecesDone (zero_piece (g.Self.Storage.features l.fn.self)) l.count l.done (g.Self.Storage.work l.fn.self) (g.Self.Storage.work l.self);
 }
 
 abbrev pub decreases-loop-done : goal.decreases-loop-done

@@ -3,10 +3,10 @@ use Rattle.imago_test_drivers.proofs.Variants.{commit_of}
 use Rattle.imago_test_drivers.proofs.ChoppySteps.{committed}
 use Rattle.imago_test_drivers.proofs.choppy.ChoppyFormatDriverInstance.commit_data_mapping.Goals as goal
 
-pub returns : goal.returns
-returns g c =
+pub returns-clause-call : goal.returns-clause-call
+returns-clause-call g c =
     let s = c.args.self.now in
     let st = g.S.Storage in
     let v = raw_over st.features st.fault_count st.bytes in
     let x = c.commit_data_mapping in
-    commit_of (λ r. record s { raw = r }) _ s.raw x.new.self c.args.mapping x.result (committed (told s.is_granular s.cut) v s.raw x.new.self c.args.mapping x.result x.ensures)
+    commit_of (λ r. record s { raw = r }) _ s.raw x.new.self c.args.mapping x.result (committed (told s.is_granular s.cut) v s.raw x.new.self c.args.mapping x.result x.ensures.call)

@@ -5,8 +5,8 @@ use Rattle.imago_test_drivers.specs.Choppy.{told, raw_over}
 use Rattle.imago_test_drivers.proofs.ChoppySteps.{zeroed, padded_part}
 use Rattle.imago_test_drivers.proofs.choppy.ChoppyFormatDriverInstance.discard_to_zero.Goals as goal
 
-pub returns : goal.returns
-returns g c =
+pub returns-clause-call : goal.returns-clause-call
+returns-clause-call g c =
     let s = c.args.self.now in
     let st = g.S.Storage in
     let f = st.features (storage_in s.raw) in
@@ -15,4 +15,4 @@ returns g c =
     let p = c.first_block-start.ensures in
     let x = c.discard_to_zero in
     zeroed (told s.is_granular s.cut) (v s.raw) (v x.new.self) DiscardToZero c.args.offset c.args.count part.0 part.1 (p.0) (p.1) (λ i. padded_part f c.args.offset c.args.count part.0 part.1 (p.0) (p.1)) (λ free. free)
-    (raw_causes f (st.fault_count (storage_in s.raw)) (st.bytes (storage_in s.raw)) (size_of s.raw) (writability_of s.raw)) x.result x.ensures
+    (raw_causes f (st.fault_count (storage_in s.raw)) (st.bytes (storage_in s.raw)) (size_of s.raw) (writability_of s.raw)) x.result x.ensures.call

@@ -2,8 +2,8 @@ use Rattle.imago_test_drivers.specs.Choppy.{told, raw_over}
 use Rattle.imago_test_drivers.proofs.ChoppySteps.{shrunk}
 use Rattle.imago_test_drivers.proofs.choppy.ChoppyFormatDriverInstance.resize_shrink.Goals as goal
 
-pub returns : goal.returns
-returns g c =
+pub returns-clause-call : goal.returns-clause-call
+returns-clause-call g c =
     let s = c.args.self.now in
     let st = g.S.Storage in
     let v = raw_over st.features st.fault_count st.bytes in

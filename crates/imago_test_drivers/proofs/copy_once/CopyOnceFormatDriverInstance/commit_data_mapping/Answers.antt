@@ -3,8 +3,8 @@ use Rattle.imago_test_drivers.specs.CopyOnce.{copy_view}
 use Rattle.imago_test_drivers.proofs.CopySteps.{copy_done, own_is_known, own_has_state, copy_reaches, copy_framed, copy_settled}
 use Rattle.imago_test_drivers.proofs.copy_once.CopyOnceFormatDriverInstance.commit_data_mapping.Goals as goal
 
-pub returns : goal.returns
-returns g c =
+pub returns-clause-call : goal.returns-clause-call
+returns-clause-call g c =
     let s = c.args.self.now in
     let m = c.args.mapping in
     let f = g.S.Storage.features s.storage in

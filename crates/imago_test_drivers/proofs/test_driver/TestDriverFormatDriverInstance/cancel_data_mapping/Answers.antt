@@ -2,11 +2,11 @@ use Rattle.imago_test_drivers.specs.declared.test_driver.TestDriver.TheVariants 
 use Rattle.imago_test_drivers.proofs.Variants.{cancel_of}
 use Rattle.imago_test_drivers.proofs.test_driver.TestDriverFormatDriverInstance.cancel_data_mapping.Goals as goal
 
-pub returns-in-Raw : goal.returns-in-Raw
-returns-in-Raw g c = rw c.in-Raw.is (cancel_of (λ r. T.Raw r) _ _ _ _ c.cancel_data_mapping.ensures)
+pub returns-in-Raw-clause-call : goal.returns-in-Raw-clause-call
+returns-in-Raw-clause-call g c = rw c.in-Raw.is (cancel_of (λ r. T.Raw r) _ _ _ _ c.cancel_data_mapping.ensures.call)
 
-pub returns-in-Pattern : goal.returns-in-Pattern
-returns-in-Pattern g c = rw c.in-Pattern.is (cancel_of (λ p. T.Pattern p) _ _ _ _ c.cancel_data_mapping-in-Pattern.ensures)
+pub returns-in-Pattern-clause-call : goal.returns-in-Pattern-clause-call
+returns-in-Pattern-clause-call g c = rw c.in-Pattern.is (cancel_of (λ p. T.Pattern p) _ _ _ _ c.cancel_data_mapping-in-Pattern.ensures.call)
 
-pub returns-in-Choppy : goal.returns-in-Choppy
-returns-in-Choppy g c = rw c.in-Choppy.is (cancel_of (λ d. T.Choppy d) _ _ _ _ c.cancel_data_mapping-in-Choppy.ensures)
+pub returns-in-Choppy-clause-call : goal.returns-in-Choppy-clause-call
+returns-in-Choppy-clause-call g c = rw c.in-Choppy.is (cancel_of (λ d. T.Choppy d) _ _ _ _ c.cancel_data_mapping-in-Choppy.ensures.call)

@@ -2,8 +2,8 @@ use Rattle.std.proofs.Common.{refl, arith}
 use Rattle.imago_test_tables.proofs.CommitSteps.{own_is_known, own_has_state}
 use Rattle.imago_test_tables.proofs.sparse.SparseFormatDriverInstance.cancel_data_mapping.Goals as goal
 
-pub returns-then-own : goal.returns-then-own
-returns-then-own g c =
+pub returns-then-own-clause-call : goal.returns-then-own-clause-call
+returns-then-own-clause-call g c =
     let s = c.args.self.now in
     let m = c.args.mapping in
     let own = (c.is_waiting-own.ensures).0 c.if-own.true in
@@ -19,8 +19,8 @@ returns-then-own g c =
       reliable = λ e. refl;
     }
 
-pub returns-else-own : goal.returns-else-own
-returns-else-own g c =
+pub returns-else-own-clause-call : goal.returns-else-own-clause-call
+returns-else-own-clause-call g c =
     let foreign = c.if-own.false in
     record {
       own_spent = λ own. let x = (c.is_waiting-own.ensures).1 own in let z : ⊥ = cc in absurd z;

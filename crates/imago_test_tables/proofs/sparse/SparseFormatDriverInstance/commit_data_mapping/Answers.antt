@@ -4,13 +4,13 @@ use Rattle.imago_test_tables.specs.SparseLaws.{sparse_causes}
 use Rattle.imago_test_tables.proofs.CommitSteps.{own_is_known, own_has_state, commit_nothing, commit_done, commit_reaches, commit_framed, commit_settled, no_plan, rose}
 use Rattle.imago_test_tables.proofs.sparse.SparseFormatDriverInstance.commit_data_mapping.Goals as goal
 
-pub returns-in_default : goal.returns-in_default
-returns-in_default g c =
+pub returns-in_default-clause-call : goal.returns-in_default-clause-call
+returns-in_default-clause-call g c =
     let s = c.args.self.now in
     commit_nothing _ s c.args.mapping (sym c.into_state.ensures ∙ c.in_default.is) (sparse_causes _ _ _ _ _ s.table.items s.size s.settings s.short s.waiting)
 
-pub returns-in_default-fail_commit_after : goal.returns-in_default-fail_commit_after
-returns-in_default-fail_commit_after g c =
+pub returns-in_default-fail_commit_after-clause-call : goal.returns-in_default-fail_commit_after-clause-call
+returns-in_default-fail_commit_after-clause-call g c =
     let s = c.args.self.now in
     let m = c.args.mapping in
     let A = g.S.Storage.bytes s.storages.first in
@@ -35,8 +35,8 @@ returns-in_default-fail_commit_after g c =
       refusals = tt;
     }
 
-pub returns : goal.returns
-returns g c =
+pub returns-clause-call : goal.returns-clause-call
+returns-clause-call g c =
     let s = c.args.self.now in
     let m = c.args.mapping in
     let A = g.S.Storage.bytes s.storages.first in

@@ -4,8 +4,8 @@ use Rattle.imago_test_tables.specs.Sparse.{sparse_view}
 use Rattle.imago_test_tables.proofs.SparseSteps.{same_table, growth_refused, not_offered}
 use Rattle.imago_test_tables.proofs.sparse.SparseFormatDriverInstance.resize_grow.Goals as goal
 
-pub returns-in-Err : goal.returns-in-Err
-returns-in-Err g c =
+pub returns-in-Err-clause-call : goal.returns-in-Err-clause-call
+returns-in-Err-clause-call g c =
     let s = c.args.self.now in
     record {
       grown = tt;
@@ -18,15 +18,15 @@ returns-in-Err g c =
       refusals = rw c.in-Err.ensures.memory (λ x. x);
     }
 
-pub returns-then-self : goal.returns-then-self
-returns-then-self g c =
+pub returns-then-self-clause-call : goal.returns-then-self-clause-call
+returns-then-self-clause-call g c =
     let s = c.args.self.now in
     growth_refused (sparse_view (g.S.Storage.features s.storages.first) (g.S.Storage.features s.storages.second) (g.S.Storage.fault_count s.storages.first + g.S.Storage.fault_count s.storages.second + s.storages.faults)
     (g.S.Storage.bytes s.storages.first) (g.S.Storage.bytes s.storages.second) s.table.items s.size s.settings s.short s.waiting)
     (lent g.B.LowerLayer.as_layer_below c.args._below) c.args.mode c.args.new_size (omega (arith, c.if-new_size-self.false)) c.requires.spent (not_offered s.short c.args.mode (inl c.if-self.true))
 
-pub returns-in_default : goal.returns-in_default
-returns-in_default g c =
+pub returns-in_default-clause-call : goal.returns-in_default-clause-call
+returns-in_default-clause-call g c =
     let s = c.args.self.now in
     growth_refused (sparse_view (g.S.Storage.features s.storages.first) (g.S.Storage.features s.storages.second) (g.S.Storage.fault_count s.storages.first + g.S.Storage.fault_count s.storages.second + s.storages.faults)
     (g.S.Storage.bytes s.storages.first) (g.S.Storage.bytes s.storages.second) s.table.items s.size s.settings s.short s.waiting)

@@ -37,3 +37,16 @@ returns-clause-refusals g c =
     let l = length_mapped g.S.Storage.features s.storages.items in
     read_allowed features bytes s.opened s.extents.items c.args.storage c.args.offset n (g.S.Storage.features one) (g.S.Storage.bytes one) c.read-2.result is_features is_bytes (omega (arith, known, l))
     c.read-2.ensures.empty c.read-2.ensures.only c.read-2.ensures.device (c.read-2.ensures.wraps).0 c.read-2.ensures.memory
+
+pub returns-then-storage-eq0-clause-answered : goal.returns-then-storage-eq0-clause-answered
+returns-then-storage-eq0-clause-answered g c = rw c.if-storage-eq0.true c.read.ensures.memory
+
+pub returns-clause-answered : goal.returns-clause-answered
+returns-clause-answered g c =
+    let s = c.args.self.now in
+    let one = c.index.result.now in
+    let some : 0 < c.args.storage = omega (arith, c.if-storage-eq0.false) in
+    let known : c.args.storage ≤ length s.storages.items = omega (arith, s.installed, c.requires) in
+    let is_bytes = behind_first g.S.Storage.bytes (g.S.Storage.bytes s.descriptor) s.storages.items c.args.storage [] one some known c.index.ensures in
+    let is_features = behind_first g.S.Storage.features (g.S.Storage.features s.descriptor) s.storages.items c.args.storage null_features one some known c.index.ensures in
+    rw (← is_features, ← is_bytes) c.read-2.ensures.memory

@@ -1,8 +1,4 @@
-use Rattle.std.proofs.Common.{Ok}
 use Rattle.imago_vmdk.proofs.vmdk_builder.VmdkOpenBuilderFormatDriverBuilder.open.Goals as goal
 
 pub returns-clause-opened : goal.returns-clause-opened
-returns-clause-opened g c =
-    let set = c.get_writable.ensures in
-    let unset = c.if-get_writable.false in
-    (λ writable. let z : ⊥ = cc in absurd z, λ _. (c.open_image.new.gate, Ok c.in_ok-storage.storage, c.in_ok-storage.ensures, (c.open_with_extents.new.gate, rw c.is_direct-direct.ensures at c.open_with_extents.ensures)))
+returns-clause-opened g c = (c.open_by.new.gate, c.open_by.ensures.opened)

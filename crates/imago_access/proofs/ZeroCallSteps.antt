@@ -1,0 +1,39 @@
+use Rattle.std.proofs.Common.{◌≡◌, ℕ, ◌+◌, ◌-◌, ◌<◌, ◌≤◌, inl, inr, List, [], ◌∷◌, refl, Result, Ok}
+use Rattle.std.specs.Prelude.{IfOk}
+use Rattle.imago_storage.specs.declared.error.Error.{Error}
+use Rattle.imago_drivers.specs.View.{View}
+use Rattle.imago_drivers.specs.LayerBelow.{LayerBelow}
+use Rattle.imago_drivers.specs.CallRelations.{Changing, OnRange}
+use Rattle.imago_access.specs.declared.access.FormatAccess.{FormatAccess}
+use Rattle.imago_access.specs.Chain.{driver, backing, lent_image}
+use Rattle.imago_access.specs.Lending.{with_driver}
+use Rattle.imago_access.specs.ZeroCalls.{OnDriver, AreGranulesBy}
+use Rattle.imago_access.proofs.Images.{backing_with}
+use Rattle.imago_access.proofs.MadeSteps.{by_driver}
+
+-- zero calls from s to e, in whatever parts
+abbrev pub GranulesFrom : {X : Type 0} → OnRange X → ℕ → ℕ → X → X → Type 0
+GranulesFrom zero s e old new = (parts : List (ℕ × ℕ)) × AreGranulesBy zero s e parts old new
+
+module _ {X : Type 0} (zero : OnRange X) (s e : ℕ) (old : X) where
+  -- those from p on are those from s on, after what was made before p
+  abbrev pub GranulesGoOn : ℕ → X → Type 0
+  GranulesGoOn p mid = (new : X) → GranulesFrom zero p e mid new → GranulesFrom zero s e old new
+
+  pub granules_begin : GranulesGoOn s old
+  granules_begin = λ new x. x
+
+  module _ (mid new : X) (p : ℕ) (sofar : GranulesGoOn p mid) where
+    pub granules_more : (q m : ℕ) → p < e → 0 < m → zero p (e - p) mid new (Ok (q, m)) → GranulesGoOn (q + m) new
+    granules_more q m lt some h = λ last x. sofar last ((q, m) ∷ x.0, (lt, some, new, h, x.1))
+
+    pub granules_over : (result : Result (ℕ × ℕ) Error) → p < e → zero p (e - p) mid new result → IfOk result (λ r. r.1 ≡ 0) → GranulesFrom zero s e old new
+    granules_over result lt h none = sofar new ([], inr (lt, (result, h, none)))
+
+  pub granules_end : (mid : X) (p : ℕ) → GranulesGoOn p mid → e ≤ p → GranulesFrom zero s e old mid
+  granules_end mid p sofar all = sofar mid ([], inl (all, refl))
+
+-- one call of the driver, over what it was lent, is one of the image
+pub on_driver : {D St T : Type 0} (view : D → View St) (x : FormatAccess D) (d : D) (l : LayerBelow) → l ≡ lent_image view (backing x) → (made : LayerBelow → Changing D T) (result : Result T Error)
+    → made l (driver x) d result → OnDriver (made (lent_image view (backing x))) x (with_driver x d) result
+on_driver view x d l e made result h = (by_driver view x d l e (λ m a b. made m a b result) h, backing_with x d)

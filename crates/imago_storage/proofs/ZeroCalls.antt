@@ -1,0 +1,39 @@
+use Rattle.std.proofs.Common.{◌≡◌, ℕ, ◌<◌, ◌≤◌, ◌⊎◌, arith, inl, inr, refl, sym, ◌∙◌, Result, Ok, Err, IsErrOf}
+use Rattle.imago_storage.specs.declared.error.Error.{Error}
+use Rattle.imago_storage.specs.declared.error.Error.TheVariants.{Unsupported, Memory}
+use Rattle.imago_storage.specs.declared.options.ZeroKind.{ZeroKind}
+use Rattle.imago_storage.specs.Features.{Features, len_align, zero_piece}
+use Rattle.imago_storage.specs.IoCount.{IoCount, IsEdgedWork}
+use Rattle.imago_storage.specs.Maintenance.{Maintenance}
+use Rattle.imago_storage.specs.Padding.{aligned_start, aligned_end, IsAlignedPart}
+use Rattle.imago_storage.specs.Zeroes.{HasPart, IsPartAndEdges, IsPartThenData, IsZeroedInParts}
+
+-- a range whose aligned part ends behind its start has that part, and no other one does
+pub has_part : (f : Features) (at n start end : ℕ) → IsAlignedPart f.zero_align at n start end → start < end → HasPart f at n
+has_part f at n start end p some = omega (arith, p.is_start, p.is_end, some)
+
+pub has_no_part : (f : Features) (at n start end : ℕ) → IsAlignedPart f.zero_align at n start end → end ≤ start → HasPart f at n → ⊥
+has_no_part f at n start end p none has = omega (arith, p.is_start, p.is_end, none, has)
+
+module _ {S : Type 0} (calls : Maintenance S) (work_of : S → IoCount) (f : Features) (kind : ZeroKind) (at n start end : ℕ) (p : IsAlignedPart f.zero_align at n start end) where
+  -- the part was unsupported, so the whole was written as data
+  pub part_then_data : (old mid new : S) (result : Result (Unit {0}) Error) → result ≡ Err Unsupported
+      → ((mid ≡ old) × IsErrOf result Memory) ⊎ IsPartAndEdges calls work_of f kind at n start end old mid result
+      → IsEdgedWork 2 (len_align f) (zero_piece f) n (work_of mid) (work_of new)
+      → IsPartThenData calls work_of f kind n (aligned_start f.zero_align at) (aligned_end f.zero_align at n) old new
+  part_then_data old mid new result is (inl none) data_work = absurd (cc)
+  part_then_data old mid new result is (inr made) data_work = rw (← p.is_start, ← p.is_end) (refused_part made.answer refl)
+    where
+      refused_part : (a : Result (Unit {0}) Error) → made.answer ≡ a → IsPartThenData calls work_of f kind n start end old new
+      refused_part (Ok x) same = absurd ((made.edges same).1 is)
+      refused_part (Err e) same =
+          let r = made.refused e same in
+          let u : made.answer ≡ Err Unsupported = same ∙ sym r.1 ∙ is in
+          record { between = mid; part = rw (u, ← r.0) at made.part; data_work = data_work }
+
+  -- the part was made, and then its edges; or nothing was
+  pub part_and_edges : (old new : S) (result : Result (Unit {0}) Error) → start < end
+      → ((new ≡ old) × IsErrOf result Memory) ⊎ IsPartAndEdges calls work_of f kind at n start end old new result
+      → IsZeroedInParts calls work_of f kind at n old new result
+  part_and_edges old new result some (inl none) = inl none
+  part_and_edges old new result some (inr made) = inr (inl (has_part f at n start end p some, rw (p.is_start, p.is_end) at made))
