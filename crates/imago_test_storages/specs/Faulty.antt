@@ -1,4 +1,7 @@
-use Rattle.std.specs.Prelude.{◌≡◌, ℕ, ◌+◌, ◌-◌, ◌%◌, ◌<◌, ◌≤◌, Bool, true, false, cond, List, length, slice_index, if◌then◌else◌, nat_eq, nat_lt, max, Option, Some, None}
+use Rattle.std.specs.Prelude.{◌≡◌, ℕ, ◌+◌, ◌-◌, ◌%◌, ◌<◌, ◌≤◌, Bool, true, false, cond, List, length, slice_index, if◌then◌else◌, nat_eq, nat_lt, max, Option, Some, None, Result, Err}
+use Rattle.imago_storage.specs.declared.error.Error.{Error}
+use Rattle.imago_storage.specs.declared.error.Error.TheVariants.{Unsupported}
+use Rattle.imago_storage.specs.declared.options.ZeroKind.{ZeroKind}
 use Rattle.imago_storage.specs.Features.{Features, InPlace, NotOffered, AreAlignments}
 use Rattle.imago_storage.specs.Mem.{mem_features}
 use Rattle.imago_test_storages.specs.declared.faulty.Tear.{Tear}
@@ -29,6 +32,10 @@ IsPlain f = f ≡ mem_features f.filename 1 1 1
 
 pub faulty_lawful : (zero_writes : Bool) (f : Features) → AreAlignments f → AreAlignments (faulty_features zero_writes f)
 faulty_lawful zero_writes f l = record { mem = l.mem; req = l.req; zero = l.zero; discard = l.discard; zero_whole = l.zero_whole; discard_whole = l.discard_whole }
+
+-- a zero write that the storage doesn't offer: nothing is changed or counted
+abbrev pub IsNotZeroed : {S : Type 0} → ZeroKind → ℕ → ℕ → S → S → Result (Unit {0}) Error → Type 0
+IsNotZeroed kind at n old new result = (new ≡ old) × (result ≡ Err Unsupported)
 
 -- whether the byte at that place of a refused request is new
 abbrev pub is_new : Tear → ℕ → Bool

@@ -5,6 +5,7 @@ ghost use Rattle.imago_storage.specs.Error.{IsDeviceOrMemory};
 ghost use Rattle.imago_storage.specs.Faults.{CountsFaults};
 ghost use Rattle.imago_storage.specs.Features.{IsAlignedRequest, MayRunOut};
 ghost use Rattle.imago_storage.specs.IoCount.{no_work};
+ghost use Rattle.imago_storage.specs.Maintenance.{IsAnyRead, IsAnyZeroing, IsNoZeroing};
 ghost use Rattle.imago_storage.specs.MemParts.{alignments_of};
 ghost use Rattle.imago_storage.specs.Openings.{no_openings};
 ghost use Rattle.imago_test_storages.specs.Counting.{io_count, after_read, after_write};
@@ -28,6 +29,8 @@ pub struct Counts {
     pub writes: u64,
     /// Their bytes.
     pub bytes_written: u64,
+    /// The bytes of the longest one.
+    pub longest_write: u64,
 }
 
 /// How many of the calls that no contract sees reached the storage. The numbers saturate.
@@ -63,6 +66,7 @@ impl Counting {
                 bytes_read: 0,
                 writes: 0,
                 bytes_written: 0,
+                longest_write: 0,
             },
             reached: Reached {
                 flushes: 0,
@@ -114,6 +118,9 @@ impl Storage for Counting {
       settled = λ a b r. ⟦<MemStorage as Storage>⟧.maintenance.settled a.inner b.inner r;
       discarded = λ at n a b r. ⟦<MemStorage as Storage>⟧.maintenance.discarded at n a.inner b.inner r;
       resized = λ n mode a b r. ⟦<MemStorage as Storage>⟧.maintenance.resized n mode a.inner b.inner r;
+      counted = IsAnyRead;
+      zeroed_in_place = IsAnyZeroing;
+      zeroed = IsNoZeroing;
     } };
 
     ghost openings = { no_openings };
@@ -211,6 +218,7 @@ impl Storage for Counting {
             .counts
             .bytes_written
             .saturating_add(source.len() as u64);
+        self.counts.longest_write = self.counts.longest_write.max(source.len() as u64);
         self.inner.pure_writev(source, offset)
     }
 

@@ -4,10 +4,11 @@ ghost use Rattle.imago_storage.specs.Bytes.{splice};
 ghost use Rattle.imago_storage.specs.Faults.{RoseOrSaturated};
 ghost use Rattle.imago_storage.specs.Features.{Features};
 ghost use Rattle.imago_storage.specs.IoCount.{no_work};
+ghost use Rattle.imago_storage.specs.Maintenance.{IsAnyRead, IsAnyZeroing};
 ghost use Rattle.imago_storage.specs.Mem.{mem_lawful};
 ghost use Rattle.imago_storage.specs.Openings.{no_openings};
 ghost use Rattle.imago_storage.specs.Powers.{IsAlignment};
-ghost use Rattle.imago_test_storages.specs.Faulty.{faulty_features, features_inside, features_outside, IsPlain, faulty_lawful, is_new, has_grown, IsTornRequest, no_faults, refused_next, after_call};
+ghost use Rattle.imago_test_storages.specs.Faulty.{faulty_features, features_inside, features_outside, IsPlain, IsNotZeroed, faulty_lawful, is_new, has_grown, IsTornRequest, no_faults, refused_next, after_call};
 
 use imago_storage::error::Error;
 use imago_storage::mem::MemStorage;
@@ -331,6 +332,9 @@ impl Storage for Faulty {
       settled = λ a b r. ⟦<MemStorage as Storage>⟧.maintenance.settled a.inner b.inner r;
       discarded = λ _ _ a b _. b.inner ≡ a.inner;
       resized = λ n mode a b r. ⟦<MemStorage as Storage>⟧.maintenance.resized n mode a.inner b.inner r;
+      counted = IsAnyRead;
+      zeroed_in_place = IsAnyZeroing;
+      zeroed = IsNotZeroed;
     } };
 
     ghost openings = { no_openings };

@@ -1,6 +1,7 @@
 //! A storage that records the calls that reach it.
 ghost use Rattle.std.specs.Prelude.{◌≡◌, false};
 ghost use Rattle.imago_storage.specs.IoCount.{no_work};
+ghost use Rattle.imago_storage.specs.Maintenance.{IsAnyRead, IsAnyZeroing, IsNoZeroing};
 ghost use Rattle.imago_storage.specs.MemParts.{alignments_of};
 ghost use Rattle.imago_storage.specs.Openings.{no_openings};
 ghost use Rattle.imago_test_storages.specs.Recording.{zeroing, discarding, recording_features, recording_lawful, IsBeside};
@@ -11,12 +12,13 @@ use imago_storage::storage::{
     PreallocateMode, Storage, StorageCreateOptions, StorageOpenOptions, ZeroKind,
 };
 use std::alloc::Global;
+use std::cell::Cell;
 use std::fmt;
 
 /// A call that reached a storage. A range is given by its offset and its length.
 #[derive(Clone, Copy, Debug, PartialEq, Eq, Drop)]
 pub enum Recorded {
-    /// A pure read by an exclusive call.
+    /// A pure read.
     Read(u64, u64),
     /// A pure write.
     Write(u64, u64),
@@ -37,13 +39,29 @@ pub enum Recorded {
 }
 
 /// The first calls, as far as there is room for them.
-#[derive(Drop)]
-struct Log {
+#[derive(Clone, Copy, Drop)]
+pub struct Log {
     calls: [Recorded; 16],
     count: usize,
 }
 
 impl Log {
+    /// With nothing recorded yet.
+    fn new() -> Self {
+        Log {
+            calls: [Recorded::Flush; 16],
+            count: 0,
+        }
+    }
+
+    /// The calls so far, the first one first.
+    pub fn calls(&self) -> &[Recorded] {
+        match self.calls.get(..self.count) {
+            Some(calls) => calls,
+            None => &self.calls,
+        }
+    }
+
     /// Records a call, if there is room.
     fn add(&mut self, call: Recorded) {
         if let Some(free) = self.calls.get_mut(self.count) {
@@ -61,6 +79,7 @@ pub struct Recording {
     zeroes_as_data: bool,
     no_discards: bool,
     log: Log,
+    shared: Cell<Log>,
 }
 
 impl Recording {
@@ -73,15 +92,12 @@ impl Recording {
             inner,
             zeroes_as_data: false,
             no_discards: false,
-            log: Log {
-                calls: [Recorded::Flush; 16],
-                count: 0,
-            },
+            log: Log::new(),
+            shared: Cell::new(Log::new()),
         }
     }
 
-    /// Zero writes in place are [`Error::Unsupported`] from now on and not recorded, so that both pure zero writes are made
-    /// as data.
+    /// Zero writes in place are [`Error::Unsupported`] from now on, so that both pure zero writes are made as data.
     pub fn with_zeroes_as_data(mut self) -> Self
         ensures bytes { ⟦<Recording as Storage>⟧.bytes result ≡ ⟦<Recording as Storage>⟧.bytes self }
         ensures features { ⟦<Recording as Storage>⟧.features result ≡ zeroing (⟦<Recording as Storage>⟧.features self) }
@@ -101,10 +117,12 @@ impl Recording {
 
     /// The calls so far, the first one first.
     pub fn calls(&self) -> &[Recorded] {
-        match self.log.calls.get(..self.log.count) {
-            Some(calls) => calls,
-            None => &self.log.calls,
-        }
+        self.log.calls()
+    }
+
+    /// The shared reads so far, of which the first 16 are recorded apart.
+    pub fn shared_reads(&self) -> Log {
+        self.shared.get()
     }
 
     /// Forgets the calls so far.
@@ -113,6 +131,7 @@ impl Recording {
         ensures features { ⟦<Recording as Storage>⟧.features self.new ≡ ⟦<Recording as Storage>⟧.features self.old }
     {
         self.log.count = 0;
+        self.shared.set(Log::new());
     }
 
     /// The bytes.
@@ -145,6 +164,9 @@ impl Storage for Recording {
       settled = λ a b r. ⟦<MemStorage as Storage>⟧.maintenance.settled a.inner b.inner r;
       discarded = λ _ _ a b _. b.inner ≡ a.inner;
       resized = λ n mode a b r. ⟦<MemStorage as Storage>⟧.maintenance.resized n mode a.inner b.inner r;
+      counted = IsAnyRead;
+      zeroed_in_place = IsAnyZeroing;
+      zeroed = IsNoZeroing;
     } };
 
     ghost openings = { record no_openings { resolved = IsBeside } };
@@ -192,6 +214,9 @@ impl Storage for Recording {
     }
 
     fn pure_readv(&self, buf: &mut [u8], offset: u64) -> Result<(), Error> {
+        let mut shared = self.shared.get();
+        shared.add(Recorded::Read(offset, buf.len() as u64));
+        self.shared.set(shared);
         self.inner.pure_readv(buf, offset)
     }
 
@@ -206,10 +231,10 @@ impl Storage for Recording {
     }
 
     fn zero_in_place(&mut self, offset: u64, count: u64, kind: ZeroKind) -> Result<(), Error> {
+        self.log.add(Recorded::Zero(offset, count, kind));
         if self.zeroes_as_data {
             return Err(Error::Unsupported);
         }
-        self.log.add(Recorded::Zero(offset, count, kind));
         self.inner.zero_in_place(offset, count, kind)
     }
 

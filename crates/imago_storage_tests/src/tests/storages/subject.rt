@@ -169,6 +169,7 @@ impl Subject {
                     bytes_read: 0,
                     writes: 0,
                     bytes_written: 0,
+                    longest_write: 0,
                 }
             }
         }

@@ -115,6 +115,7 @@ static COUNTED: [Script; 5] = [
                 bytes_read: 8192,
                 writes: 3,
                 bytes_written: 12288,
+                longest_write: 4096,
             }),
             Step::Done(
                 Call::Read(1000, &[(9000, 0x3c)]),
@@ -136,6 +137,7 @@ static COUNTED: [Script; 5] = [
                 bytes_read: 8192,
                 writes: 2,
                 bytes_written: 8192,
+                longest_write: 4096,
             }),
             Step::Done(
                 Call::Read(4095, &[(4096, 0x3c)]),
@@ -157,6 +159,7 @@ static COUNTED: [Script; 5] = [
                 bytes_read: 4096,
                 writes: 2,
                 bytes_written: 8192,
+                longest_write: 4096,
             }),
             Step::Done(
                 Call::Read(4096, &[(4097, 0x3c)]),
@@ -178,6 +181,7 @@ static COUNTED: [Script; 5] = [
                 bytes_read: 4096,
                 writes: 1,
                 bytes_written: 4096,
+                longest_write: 4096,
             }),
             Step::Done(
                 Call::Read(9999, &[(1, 0x3c)]),
@@ -199,6 +203,7 @@ static COUNTED: [Script; 5] = [
                 bytes_read: 0,
                 writes: 1,
                 bytes_written: 8192,
+                longest_write: 8192,
             }),
             Step::Done(
                 Call::Read(4096, &[(8192, 0x3c)]),

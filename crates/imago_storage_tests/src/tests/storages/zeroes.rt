@@ -121,6 +121,7 @@ static IN_PLACE: [Script; 5] = [
                 bytes_read: 0,
                 writes: 0,
                 bytes_written: 0,
+                longest_write: 0,
             }),
         ],
     },
