@@ -47,7 +47,7 @@ pub struct Log {
 
 impl Log {
     /// With nothing recorded yet.
-    fn new() -> Self {
+    pub fn new() -> Self {
         Log {
             calls: [Recorded::Flush; 16],
             count: 0,

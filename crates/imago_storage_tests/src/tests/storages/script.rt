@@ -78,6 +78,8 @@ pub(super) enum Step {
     FailReads(bool),
     /// What reached the storage by the last call.
     Reached(&'static [Recorded]),
+    /// The shared reads that reached the storage by the last call.
+    Shared(&'static [Recorded]),
     /// What the storage counted so far.
     Counted(Counts),
 }
@@ -139,6 +141,7 @@ impl State {
             Step::RefuseResizes(count) => self.subject.refuse_resizes(rt, count),
             Step::FailReads(fails) => self.subject.fail_reads(rt, fails),
             Step::Reached(calls) => same(rt, &self.subject.calls(rt), &calls),
+            Step::Shared(reads) => same(rt, &self.subject.shared_reads(rt).calls(), &reads),
             Step::Counted(counts) => same(rt, &self.subject.counts(rt), &counts),
         }
     }

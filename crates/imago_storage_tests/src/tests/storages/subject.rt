@@ -6,7 +6,7 @@ use imago_storage::null::Null;
 use imago_storage::storage::is_alignment;
 use imago_test_storages::counting::{Counting, Counts};
 use imago_test_storages::faulty::{Faulty, Tear};
-use imago_test_storages::recording::{Recorded, Recording};
+use imago_test_storages::recording::{Log, Recorded, Recording};
 use std::alloc::Global;
 use std::process::Abort;
 
@@ -154,6 +154,17 @@ impl Subject {
             _ => {
                 assert!(rt; false, "it records nothing");
                 &[]
+            }
+        }
+    }
+
+    /// The shared reads that reached it by the last call.
+    pub(super) fn shared_reads(&self, rt: &impl Abort) -> Log {
+        match self {
+            Subject::Recording(storage) | Subject::Lent(storage) => storage.shared_reads(),
+            _ => {
+                assert!(rt; false, "it records nothing");
+                Log::new()
             }
         }
     }

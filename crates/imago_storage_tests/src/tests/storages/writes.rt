@@ -2,6 +2,7 @@
 use super::script::{Call, Script, Step, check_all};
 use super::subject::Kind;
 use imago_test_storages::counting::Counts;
+use imago_test_storages::recording::Recorded;
 use std::alloc::Global;
 use std::process::Abort;
 
@@ -212,6 +213,39 @@ static COUNTED: [Script; 5] = [
         ],
     },
 ];
+
+// a long read at an odd place is made in three parts: a first block, whole blocks, a last block
+static SHARED: [Script; 2] = [
+    Script {
+        kind: Kind::Recording,
+        aligns: BLOCKS,
+        given: &[(20000, 0xa5)],
+        steps: &[
+            Step::Done(Call::Read(1000, &[(9000, 0xa5)]), &[(20000, 0xa5)]),
+            Step::Shared(&[
+                Recorded::Read(0, 4096),
+                Recorded::Read(4096, 4096),
+                Recorded::Read(8192, 4096),
+            ]),
+            Step::Reached(&[]),
+        ],
+    },
+    // an aligned one is made at once
+    Script {
+        kind: Kind::Lent,
+        aligns: BLOCKS,
+        given: &[(20000, 0xa5)],
+        steps: &[
+            Step::AtOnce(Call::Read(4096, &[(8192, 0xa5)]), &[(20000, 0xa5)]),
+            Step::Shared(&[Recorded::Read(4096, 8192)]),
+        ],
+    },
+];
+
+#[test]
+fn a_long_read_is_made_in_three_parts(rt: HostRuntime) {
+    check_all(&rt, rt.alloc(), &SHARED);
+}
 
 // a first block, whole blocks, a last block
 fn check_only_partly_written_blocks_are_read(rt: &impl Abort, alloc: Global) {

@@ -2,6 +2,7 @@
 use super::script::{Call, Script, Step, check_all};
 use super::subject::Kind;
 use imago_storage::error::Error;
+use imago_storage::storage::ZeroKind;
 use imago_test_storages::counting::Counts;
 use imago_test_storages::faulty::Tear;
 use imago_test_storages::recording::Recorded;
@@ -17,6 +18,7 @@ static AS_DATA: [Script; 4] = [
         steps: &[
             Step::Done(Call::Zero(1, 11), &[(1, 0xff), (11, 0), (4, 0xff), (1, 0)]),
             Step::Reached(&[
+                Recorded::Zero(1, 11, ZeroKind::Any),
                 Recorded::Write(1, 8),
                 Recorded::Read(9, 8),
                 Recorded::Write(9, 8),
@@ -30,7 +32,10 @@ static AS_DATA: [Script; 4] = [
         given: &[(16, 0xff)],
         steps: &[
             Step::Done(Call::ZeroAllocated(1, 8), &[(1, 0xff), (8, 0), (7, 0xff)]),
-            Step::Reached(&[Recorded::Write(1, 8)]),
+            Step::Reached(&[
+                Recorded::Zero(1, 8, ZeroKind::Allocated),
+                Recorded::Write(1, 8),
+            ]),
         ],
     },
     // the default writes no more than 1 MiB at once
@@ -41,12 +46,16 @@ static AS_DATA: [Script; 4] = [
         steps: &[
             Step::Done(Call::PureZero(8, 2097160), &[(8, 0xff), (2097160, 0)]),
             Step::Reached(&[
+                Recorded::Zero(8, 2097160, ZeroKind::Any),
                 Recorded::Write(8, 1048576),
                 Recorded::Write(1048584, 1048576),
                 Recorded::Write(2097160, 8),
             ]),
             Step::Done(Call::PureZeroAllocated(0, 8), &[(2097168, 0)]),
-            Step::Reached(&[Recorded::Write(0, 8)]),
+            Step::Reached(&[
+                Recorded::Zero(0, 8, ZeroKind::Allocated),
+                Recorded::Write(0, 8),
+            ]),
         ],
     },
     // it refuses what is no multiple of the memory alignment
@@ -56,7 +65,7 @@ static AS_DATA: [Script; 4] = [
         given: &[(16, 0xff)],
         steps: &[
             Step::Refused(Call::PureZero(1, 11), Error::Unsupported, &[(16, 0xff)]),
-            Step::Reached(&[]),
+            Step::Reached(&[Recorded::Zero(1, 11, ZeroKind::Any)]),
         ],
     },
 ];
