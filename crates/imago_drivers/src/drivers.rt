@@ -32,9 +32,10 @@ use std::fmt::Display;
 
 /// A driver of an image format: it shows a disk, and maps each range of it to where its bytes stand.
 ///
-/// Offsets, lengths and sizes are in bytes. Changing calls may be made on a writable driver while no prepared mapping
-/// with state waits to be spent, and only inside the disk; an image tests this before it calls its driver. Calls that
-/// are lent the layer below only read it.
+/// Offsets, lengths and sizes are in bytes. Over a driver that isn't known changing calls may be made only on a writable
+/// one, while no prepared mapping with state waits to be spent, and inside the disk; an image tests this before it calls
+/// its driver. A driver's own calls may ask for less: those of a raw image don't ask whether it is writable. A refused
+/// call of a driver that can't be written to leaves it as it was. Calls that are lent the layer below only read it.
 ///
 /// A refused call answers [`Error::Device`] only where a device failed: in an exclusive call the count of faults shows
 /// it. It answers [`Error::Memory`] where memory was refused, [`Error::BeyondDisk`] where the driver's list of places
