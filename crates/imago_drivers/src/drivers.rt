@@ -362,8 +362,8 @@ pub trait FormatDriverInstance: Display + Drop {
         Ok((storage, start, length))
     }
 
-    /// Grows the disk to that size, with new bytes as the mode says. It does nothing where the disk is as large already,
-    /// and then isn't refused. Refused, nothing changed.
+    /// Grows the disk to that size, with new bytes as the mode says. Where the disk is as large already, its size and
+    /// bytes stay, and it isn't refused. Refused, the disk is as it was.
     fn resize_grow<B: LowerLayer>(
         &mut self,
         alloc: Global,
@@ -376,8 +376,8 @@ pub trait FormatDriverInstance: Display + Drop {
         ensures call { IsGrowth mode (lent B.as_layer_below below.entry) new_size (view self.old) (view self.new) result }
         ensures performed { calls.grown new_size mode (lent B.as_layer_below below.entry) self.old self.new result };
 
-    /// Cuts the disk to that size. It does nothing where the disk is as small already, and then isn't refused. Refused,
-    /// nothing changed.
+    /// Cuts the disk to that size. Where the disk is as small already, its size and bytes stay, and it isn't refused.
+    /// Refused, the disk is as it was.
     fn resize_shrink(&mut self, new_size: u64) -> Result<(), Error>
         requires writable { (view self.old).abilities.is_writable ≡ true }
         requires spent { (view self.old).pending ≡ None }
