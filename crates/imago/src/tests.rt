@@ -1,4 +1,4 @@
-//! The first taste that the README gives.
+//! The example that the README gives.
 use crate::format::PreallocateMode;
 use crate::mem::MemStorage;
 use crate::raw::Raw;

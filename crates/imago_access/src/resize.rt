@@ -22,12 +22,12 @@ impl<D: FormatDriverInstance> FormatAccess<D> {
         Ok(())
     }
 
-    /// Grows the disk to that size in bytes, with new bytes as the mode says. It does nothing where the disk is as large
-    /// already.
+    /// Grows the disk to that size in bytes, with new bytes as the mode says. Where the disk is as large already, its size
+    /// and bytes stay. It is one growth of the driver's.
     ///
     /// [`Error::ReadOnly`] where the driver isn't writable. Where there is something to do it may also be [`Error::Unsupported`],
     /// [`Error::WrapAround`], [`Error::InvalidData`] or [`Error::NoAccess`], each for a cause that the driver tells,
-    /// [`Error::Device`] where a device failed, and [`Error::Memory`] where the driver takes memory. Refused, nothing changed.
+    /// [`Error::Device`] where a device failed, and [`Error::Memory`] where the driver takes memory. Refused, the disk is as it was.
     ///
     /// No prepared mapping may wait, which [`has_prepared`](FormatDriverInstance::has_prepared) of the driver tells.
     pub fn resize_grow(
@@ -47,9 +47,10 @@ impl<D: FormatDriverInstance> FormatAccess<D> {
         self.inner.resize_grow(alloc, lower, new_size, mode)
     }
 
-    /// Cuts the disk to that size in bytes. It does nothing where the disk is as small already.
+    /// Cuts the disk to that size in bytes. Where the disk is as small already, its size and bytes stay. It is one cut of the
+    /// driver's.
     ///
-    /// The refusals are those of [`resize_grow`](Self::resize_grow). Refused, nothing changed.
+    /// The refusals are those of [`resize_grow`](Self::resize_grow). Refused, the disk is as it was.
     ///
     /// No prepared mapping may wait, which [`has_prepared`](FormatDriverInstance::has_prepared) of the driver tells.
     pub fn resize_shrink(&mut self, new_size: u64) -> Result<(), Error>
@@ -65,7 +66,7 @@ impl<D: FormatDriverInstance> FormatAccess<D> {
 
     /// Cuts the disk to that size in bytes, or grows it to that size, with new bytes as the mode says.
     ///
-    /// The refusals are those of [`resize_grow`](Self::resize_grow). Refused, nothing changed.
+    /// The refusals are those of [`resize_grow`](Self::resize_grow). Refused, the disk is as it was.
     ///
     /// No prepared mapping may wait, which [`has_prepared`](FormatDriverInstance::has_prepared) of the driver tells.
     pub fn resize(

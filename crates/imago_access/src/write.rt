@@ -175,8 +175,9 @@ impl<D: FormatDriverInstance> FormatAccess<D> {
     /// Writes the bytes at the offset. Nothing below the top layer changes.
     ///
     /// [`Error::ReadOnly`] where the driver isn't writable, then [`Error::BeyondDisk`] where the range passes the
-    /// disk's size, also for no bytes; nothing changed. Any other refusal leaves each byte of the range old or new, and
-    /// all others as they were. A write of no bytes that passes these tests does nothing, and isn't refused.
+    /// disk's size, also for no bytes; nothing changed. Any other refusal is that of a call of the driver, and leaves each
+    /// byte of the range old or new, and all others as they were. A write of no bytes that passes these tests does nothing,
+    /// and isn't refused.
     ///
     /// No prepared mapping may wait, which [`has_prepared`](FormatDriverInstance::has_prepared) of the driver tells.
     pub fn write(&mut self, alloc: Global, source: &[u8], offset: u64) -> Result<(), Error>

@@ -32,9 +32,10 @@ use std::fmt::Display;
 
 /// A driver of an image format: it shows a disk, and maps each range of it to where its bytes stand.
 ///
-/// Offsets, lengths and sizes are in bytes. Changing calls may be made on a writable driver while no prepared mapping
-/// with state waits to be spent, and only inside the disk; an image tests this before it calls its driver. Calls that
-/// are lent the layer below only read it.
+/// Offsets, lengths and sizes are in bytes. Over a driver that isn't known changing calls may be made only on a writable
+/// one, while no prepared mapping with state waits to be spent, and inside the disk; an image tests this before it calls
+/// its driver. A driver's own calls may ask for less: those of a raw image don't ask whether it is writable. A refused
+/// call of a driver that can't be written to leaves it as it was. Calls that are lent the layer below only read it.
 ///
 /// A refused call answers [`Error::Device`] only where a device failed: in an exclusive call the count of faults shows
 /// it. It answers [`Error::Memory`] where memory was refused, [`Error::BeyondDisk`] where the driver's list of places
@@ -361,8 +362,8 @@ pub trait FormatDriverInstance: Display + Drop {
         Ok((storage, start, length))
     }
 
-    /// Grows the disk to that size, with new bytes as the mode says. It does nothing where the disk is as large already,
-    /// and then isn't refused. Refused, nothing changed.
+    /// Grows the disk to that size, with new bytes as the mode says. Where the disk is as large already, its size and
+    /// bytes stay, and it isn't refused. Refused, the disk is as it was.
     fn resize_grow<B: LowerLayer>(
         &mut self,
         alloc: Global,
@@ -375,8 +376,8 @@ pub trait FormatDriverInstance: Display + Drop {
         ensures call { IsGrowth mode (lent B.as_layer_below below.entry) new_size (view self.old) (view self.new) result }
         ensures performed { calls.grown new_size mode (lent B.as_layer_below below.entry) self.old self.new result };
 
-    /// Cuts the disk to that size. It does nothing where the disk is as small already, and then isn't refused. Refused,
-    /// nothing changed.
+    /// Cuts the disk to that size. Where the disk is as small already, its size and bytes stay, and it isn't refused.
+    /// Refused, the disk is as it was.
     fn resize_shrink(&mut self, new_size: u64) -> Result<(), Error>
         requires writable { (view self.old).abilities.is_writable ≡ true }
         requires spent { (view self.old).pending ≡ None }

@@ -17,8 +17,9 @@ use std::alloc::Global;
 pub trait StorageExt: Storage {
     /// Fills the buffer with the bytes from the offset on, with 0 past the end.
     ///
-    /// [`Error::WrapAround`] is a padded request that ends past `u64::MAX`; [`Error::Device`] is passed on;
-    /// [`Error::Memory`] is a refused bounce buffer, or passed on. Refused, the buffer is unspecified.
+    /// [`Error::WrapAround`] is a padded request that ends past `u64::MAX`; [`Error::Device`] is answered only by a
+    /// storage that isn't reliable; [`Error::Memory`] is a refused bounce buffer, or the storage's own. Refused, the
+    /// buffer is unspecified.
     ///
     /// A request that isn't aligned reads its first and last block alone by way of a buffer of one block; whole blocks between are
     /// read straight into the caller's buffer, in one call. One that is padded to one block or two is read at once, into a buffer of that
@@ -33,8 +34,9 @@ pub trait StorageExt: Storage {
     /// Writes the bytes at the offset. The storage grows to the padded end where that is longer, by zeroes.
     ///
     /// [`Error::WrapAround`] is a padded request that ends past `u64::MAX`, and nothing changed. [`Error::Device`] is
-    /// passed on; [`Error::Memory`] is a refused block of one alignment, or passed on. Refused by these, each byte of
-    /// the range is old or new, all others are old, and the length is between.
+    /// answered only where a device failed, as the count of faults shows; [`Error::Memory`] is a refused block of one
+    /// alignment, or the storage's own. Refused by these, each byte of the range is old or new, all others are old, and
+    /// the length is between.
     ///
     /// A request that isn't aligned reads and changes its first and last block alone; whole blocks between are written
     /// from the source in one call.
@@ -50,9 +52,10 @@ pub trait StorageExt: Storage {
     /// part, or where the storage doesn't offer the zero write. What grows ends by less than an alignment past the range.
     ///
     /// [`Error::WrapAround`] is a range whose end, or whose start rounded up, passes `u64::MAX`, and nothing changed; or
-    /// bytes of it that pass there once they are padded. [`Error::Device`] is passed on; [`Error::Memory`] is a refused
-    /// buffer of zeroes, or passed on. Refused, each byte of the range is old or zero, all others are old, and the length
-    /// is between.
+    /// bytes of it that pass there once they are padded. [`Error::Device`] is answered only where a device failed, as the
+    /// count of faults shows; [`Error::Memory`] is a refused buffer of zeroes, or the storage's own. What the storage's
+    /// own zero write is refused for, but as unsupported, is the answer. Refused, each byte of the range is old or zero,
+    /// all others are old, and the length is between.
     fn write_zeroes(&mut self, alloc: Global, offset: u64, count: u64) -> Result<(), Error>
         ensures { IsRangeZeroing Self.features Self.bytes Self.fault_count Self.work Self.maintenance Any (Self.features self.old).zeroes offset count self.old self.new result };
 

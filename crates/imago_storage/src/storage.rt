@@ -289,8 +289,8 @@ pub trait Storage: Display + Drop + Sized {
         ensures { IsMaintained features bytes fault_count maintenance.invalidated self.old self.new result };
 
     /// Sets the length in bytes. Bytes that stay are kept; new ones are zero, or for [`PreallocateMode::None`]
-    /// unspecified, unless the storage adds zeroes in every mode. A smaller size ignores the mode. Refused, nothing changed; a storage that can't be
-    /// resized answers [`Error::Unsupported`].
+    /// unspecified, unless the storage adds zeroes in every mode. A smaller size ignores the mode. Refused, no byte
+    /// changed; a storage that can't be resized answers [`Error::Unsupported`].
     fn resize(&mut self, new_size: u64, mode: PreallocateMode) -> Result<(), Error>
         ensures resized { OnOk result (IsResized (bytes self.old) new_size mode (bytes self.new)) }
         ensures filled { IsTrue (features self.old).grows_by_zeroes
