@@ -22,8 +22,8 @@ impl<D: FormatDriverInstance> FormatAccess<D> {
         Ok(())
     }
 
-    /// Grows the disk to that size in bytes, with new bytes as the mode says. It does nothing where the disk is as large
-    /// already.
+    /// Grows the disk to that size in bytes, with new bytes as the mode says. The driver isn't asked where the disk is as
+    /// large already.
     ///
     /// [`Error::ReadOnly`] where the driver isn't writable. Where there is something to do it may also be [`Error::Unsupported`],
     /// [`Error::WrapAround`], [`Error::InvalidData`] or [`Error::NoAccess`], each for a cause that the driver tells,
@@ -43,11 +43,14 @@ impl<D: FormatDriverInstance> FormatAccess<D> {
         ensures nothing_pending { (D.view (driver self.new)).pending ≡ None }
     {
         self.test_writable()?;
+        if new_size <= self.size() {
+            return Ok(());
+        }
         let lower = below(&self.backing);
         self.inner.resize_grow(alloc, lower, new_size, mode)
     }
 
-    /// Cuts the disk to that size in bytes. It does nothing where the disk is as small already.
+    /// Cuts the disk to that size in bytes. The driver isn't asked where the disk is as small already.
     ///
     /// The refusals are those of [`resize_grow`](Self::resize_grow). Refused, nothing changed.
     ///
@@ -60,6 +63,9 @@ impl<D: FormatDriverInstance> FormatAccess<D> {
         ensures nothing_pending { (D.view (driver self.new)).pending ≡ None }
     {
         self.test_writable()?;
+        if self.size() <= new_size {
+            return Ok(());
+        }
         self.inner.resize_shrink(new_size)
     }
 
