@@ -66,7 +66,7 @@ module _ {D St : Type 0} (view : D → View St) (x : FormatAccess D) (d : D) whe
   }
 
   pub resized_image : (op : Operation) (n : ℕ) (effect : Type 0) (result : Result Unit Error) → (view (driver x)).abilities.is_writable ≡ true
-      → OnOk result effect → (IsIdle op (view (driver x)).size n → IsOk result) → OnErr result (IsSameDisk (view (driver x)) (view d)) → ((p : ℕ) → p < (view (driver x)).size → p < (view d).size → (view d).place p ≡ End → (view (driver x)).place p ≡ End) → IsKind (view (driver x)) (view d)
+      → OnOk result effect → (IsIdle op (view (driver x)).size n → ⊥) → OnErr result (IsSameDisk (view (driver x)) (view d)) → ((p : ℕ) → p < (view (driver x)).size → p < (view d).size → (view d).place p ≡ End → (view (driver x)).place p ≡ End) → IsKind (view (driver x)) (view d)
       → OnOk result (IsResizedLayer op (lent_image view (backing x)).at n (view (driver x)) (view d)) → (IsListed (view (driver x)) → IsListed (view d))
       → AreNoLonger ((view (driver x)).limits.longest op n 0) (view (driver x)).stores (view d).stores
       → CountsFaults (resize_reliable view x op) (view (driver x)).fault_count (view d).fault_count result
@@ -74,7 +74,7 @@ module _ {D St : Type 0} (view : D → View St) (x : FormatAccess D) (d : D) whe
   resized_image op n effect result w done idle same ends kind layer listed no_longer faults refusals = record {
     tested = λ e f. absurd (let y = sym w ∙ f.1 in cc);
     done = done;
-    idle = λ t i. idle i;
+    idle = λ t i. absurd (idle i);
     unchanged = err_then result (λ h. same_image h.size h.places) same;
     layer = with (λ (y : D). OnOk result (IsResizedLayer op (lent_image view (backing x)).at n (view (driver x)) (view y))) layer;
     same_layer = with (λ (y : D). OnErr result (IsSameDisk (view (driver x)) (view y))) same;
@@ -140,6 +140,36 @@ read_only_resize view x op n effect e w = record {
   refusals = inl w;
 }
 
+-- a resize with nothing to do, which calls nothing
+idle_resize : {D St : Type 0} (view : D → View St) (x : FormatAccess D) (op : Operation) (n : ℕ) (effect : Type 0) → (view (driver x)).abilities.is_writable ≡ true → effect
+    → IsResizedLayer op (lent_image view (backing x)).at n (view (driver x)) (view (driver x)) → IsResize view op n effect x x (Ok tt)
+idle_resize view x op n effect w did layer = record {
+  tested = λ e f. absurd (let y = sym w ∙ f.1 in cc);
+  done = did;
+  idle = λ t i. (refl, refl);
+  unchanged = tt;
+  layer = layer;
+  same_layer = tt;
+  listed = λ h. h;
+  no_longer = λ i. most (length ((view (driver x)).stores.bytes i)) ((view (driver x)).limits.longest op n 0 i);
+  ends = λ p a b h. h;
+  kept = record { below = refl; kind = record { abilities = refl; store_count = refl; store_features = λ i. refl } };
+  faults = record { later = omega arith; reliable = λ t. refl; device = λ d. let z : ⊥ = cc in absurd z };
+  refusals = tt;
+}
+
+pub idle_growth : {D St : Type 0} (view : D → View St) (x : FormatAccess D) (mode : PreallocateMode) (n : ℕ) → (view (driver x)).abilities.is_writable ≡ true → n ≤ (view (driver x)).size
+    → IsResize view (Grow mode) n (HasGrown view mode n x x) x x (Ok tt)
+idle_growth view x mode n w le = idle_resize view x (Grow mode) n _ w
+    (record { size = omega (arith, le); stays = λ k p lt. refl; added = λ k p a b. absurd (omega (arith, le, a, b)) })
+    (record { size = omega (arith, le); kept = λ k p lt. refl; added = λ k p a b. absurd (omega (arith, le, a, b)); ends = λ p lt h. h; listed = λ h. h })
+
+pub idle_cut : {D St : Type 0} (view : D → View St) (x : FormatAccess D) (n : ℕ) → (view (driver x)).abilities.is_writable ≡ true → (view (driver x)).size ≤ n
+    → IsResize view Shrink n (HasShrunk view n x x) x x (Ok tt)
+idle_cut view x n w le = idle_resize view x Shrink n _ w
+    (record { size = omega (arith, le); stays = λ k p lt. refl })
+    (record { size = omega (arith, le); kept = λ k below p lt. refl; ends = λ p lt h. h })
+
 grow_weaker : {D St : Type 0} (view : D → View St) (x : FormatAccess D) (l : LayerBelow) → l ≡ lent_image view (backing x) → (op : Operation) (n : ℕ) (e : Error)
     → allowed (record (lending_reasons (view (driver x)) l op n 0) { beyond_disk = ⊥ }) e → allowed (record (range_refusals view x op n 0) { beyond_disk = ⊥ }) e
 grow_weaker view x l h op n e c = subst (λ (m : LayerBelow). allowed (record (lending_reasons (view (driver x)) m op n 0) { beyond_disk = ⊥ }) e) h c
@@ -151,7 +181,7 @@ ends_by old new (Err e) effect f done same = λ p a b h. same.ends p h
 
 -- a growth by the driver, over what it is lent
 pub grow_image : {D St : Type 0} (view : D → View St) (x : FormatAccess D) (d : D) (l : LayerBelow) → l ≡ lent_image view (backing x) → (mode : PreallocateMode) (n : ℕ) (result : Result Unit Error) → (view (driver x)).abilities.is_writable ≡ true
-    → OnOk result (IsGrown mode l.at n (view (driver x)) (view d)) → (n ≤ (view (driver x)).size → IsOk result) → OnErr result (IsSameDisk (view (driver x)) (view d)) → IsKind (view (driver x)) (view d)
+    → OnOk result (IsGrown mode l.at n (view (driver x)) (view d)) → (n ≤ (view (driver x)).size → ⊥) → OnErr result (IsSameDisk (view (driver x)) (view d)) → IsKind (view (driver x)) (view d)
     → AreNoLonger ((view (driver x)).limits.longest (Grow mode) n 0) (view (driver x)).stores (view d).stores
     → CountsFaults ((view (driver x)).abilities.is_reliable && l.is_reliable) (view (driver x)).fault_count (view d).fault_count result
     → IfErr result (allowed (record (lending_reasons (view (driver x)) l (Grow mode) n 0) { beyond_disk = ⊥ })) → IsResize view (Grow mode) n (HasGrown view mode n x (with_driver x d)) x (with_driver x d) result
@@ -166,7 +196,7 @@ grow_image view x d l h mode n result w grown idle same kind no_longer faults re
 
 -- a cut by the driver
 pub shrink_image : {D St : Type 0} (view : D → View St) (x : FormatAccess D) (d : D) (n : ℕ) (result : Result Unit Error) → (view (driver x)).abilities.is_writable ≡ true
-    → OnOk result (IsCut n (view (driver x)) (view d)) → ((view (driver x)).size ≤ n → IsOk result) → OnErr result (IsSameDisk (view (driver x)) (view d)) → IsKind (view (driver x)) (view d)
+    → OnOk result (IsCut n (view (driver x)) (view d)) → ((view (driver x)).size ≤ n → ⊥) → OnErr result (IsSameDisk (view (driver x)) (view d)) → IsKind (view (driver x)) (view d)
     → AreNoLonger ((view (driver x)).limits.longest Shrink n 0) (view (driver x)).stores (view d).stores
     → CountsFaults (view (driver x)).abilities.is_reliable (view (driver x)).fault_count (view d).fault_count result
     → IfErr result (allowed (driver_reasons (view (driver x)) Shrink n 0)) → IsResize view Shrink n (HasShrunk view n x (with_driver x d)) x (with_driver x d) result
@@ -177,9 +207,9 @@ shrink_image view x d n result w cut idle same kind no_longer faults refusals =
 -- the driver's growth, over what it was lent, is the image's
 pub grown_by : {D St : Type 0} (view : D → View St) (its : Calls D St) (x : FormatAccess D) (d : D) (l : LayerBelow) → l ≡ lent_image view (backing x) → (n : ℕ) (mode : PreallocateMode) (result : Result Unit Error)
     → its.grown n mode l (driver x) d result → IsGrownBy view its n mode x (with_driver x d) result
-grown_by {D} view its x d l h n mode result p = λ w.
+grown_by {D} view its x d l h n mode result p = λ w lt.
     with view x d (λ (y : D). its.grown n mode (lent_image view (backing x)) (driver x) y result) (subst (λ (m : LayerBelow). its.grown n mode m (driver x) d result) h p)
 
 pub cut_by : {D St : Type 0} (view : D → View St) (its : Calls D St) (x : FormatAccess D) (d : D) (n : ℕ) (result : Result Unit Error)
     → its.cut n (driver x) d result → IsCutBy view its n x (with_driver x d) result
-cut_by {D} view its x d n result p = λ w. with view x d (λ (y : D). its.cut n (driver x) y result) p
+cut_by {D} view its x d n result p = λ w lt. with view x d (λ (y : D). its.cut n (driver x) y result) p

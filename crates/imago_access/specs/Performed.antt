@@ -10,13 +10,13 @@ use Rattle.imago_access.specs.declared.access.FormatAccess.{FormatAccess}
 use Rattle.imago_access.specs.Calls.{FailsTest}
 use Rattle.imago_access.specs.Chain.{driver, backing, lent_image}
 
--- once its test passed, a growth is one growth by the driver, of that size and mode, over the layer below, and its answer
+-- once its test passed, a growth of a smaller disk is one growth by the driver, of that size and mode, over the layer below, and its answer
 abbrev pub IsGrownBy : {D St : Type 0} → (D → View St) → Calls D St → ℕ → PreallocateMode → FormatAccess D → FormatAccess D → Result Unit Error → Type 0
-IsGrownBy view its n mode old new result = (view (driver old)).abilities.is_writable ≡ true → its.grown n mode (lent_image view (backing old)) (driver old) (driver new) result
+IsGrownBy view its n mode old new result = (view (driver old)).abilities.is_writable ≡ true → (view (driver old)).size < n → its.grown n mode (lent_image view (backing old)) (driver old) (driver new) result
 
--- the same of a cut
+-- the same of a cut of a larger disk
 abbrev pub IsCutBy : {D St : Type 0} → (D → View St) → Calls D St → ℕ → FormatAccess D → FormatAccess D → Result Unit Error → Type 0
-IsCutBy view its n old new result = (view (driver old)).abilities.is_writable ≡ true → its.cut n (driver old) (driver new) result
+IsCutBy view its n old new result = (view (driver old)).abilities.is_writable ≡ true → n < (view (driver old)).size → its.cut n (driver old) (driver new) result
 
 -- a resize is one of them
 pub record IsResizedBy {D St : Type 0} (view : D → View St) (its : Calls D St) (n : ℕ) (mode : PreallocateMode) (old new : FormatAccess D) (result : Result Unit Error) : Type 0 where

@@ -62,8 +62,8 @@ IsResizedLayer _ below new_size old new = ⊥
 pub record IsResize {D St : Type 0} (view : D → View St) (op : Operation) (new_size : ℕ) (effect : Type 0) (old new : FormatAccess D) (result : Result Unit Error) : Type 0 where
   pub tested : (e : Error) → FailsWritable (view (driver old)) e → IsErrOf result e × (new ≡ old)
   pub done : OnOk result effect
-  -- where there is nothing to do it isn't refused, once its test has passed
-  pub idle : (view (driver old)).abilities.is_writable ≡ true → IsIdle op (view (driver old)).size new_size → IsOk result
+  -- where there is nothing to do, nothing is done and nothing refused, once its test has passed
+  pub idle : (view (driver old)).abilities.is_writable ≡ true → IsIdle op (view (driver old)).size new_size → IsOk result × (new ≡ old)
   pub unchanged : OnErr result (IsSameImage view old new)
   -- of the layer itself: what the driver did to it, and, refused, that each place stands where it stood, and no storage was cut
   pub layer : OnOk result (IsResizedLayer op (lent_image view (backing old)).at new_size (view (driver old)) (view (driver new)))

@@ -22,8 +22,8 @@ impl<D: FormatDriverInstance> FormatAccess<D> {
         Ok(())
     }
 
-    /// Grows the disk to that size in bytes, with new bytes as the mode says. Where the disk is as large already, its size
-    /// and bytes stay. It is one growth of the driver's.
+    /// Grows the disk to that size in bytes, with new bytes as the mode says: by one growth of the driver's, which isn't asked
+    /// where the disk is as large already.
     ///
     /// [`Error::ReadOnly`] where the driver isn't writable. Where there is something to do it may also be [`Error::Unsupported`],
     /// [`Error::WrapAround`], [`Error::InvalidData`] or [`Error::NoAccess`], each for a cause that the driver tells,
@@ -43,12 +43,14 @@ impl<D: FormatDriverInstance> FormatAccess<D> {
         ensures nothing_pending { (D.view (driver self.new)).pending ≡ None }
     {
         self.test_writable()?;
+        if new_size <= self.size() {
+            return Ok(());
+        }
         let lower = below(&self.backing);
         self.inner.resize_grow(alloc, lower, new_size, mode)
     }
 
-    /// Cuts the disk to that size in bytes. Where the disk is as small already, its size and bytes stay. It is one cut of the
-    /// driver's.
+    /// Cuts the disk to that size in bytes: by one cut of the driver's, which isn't asked where the disk is as small already.
     ///
     /// The refusals are those of [`resize_grow`](Self::resize_grow). Refused, the disk is as it was.
     ///
@@ -61,6 +63,9 @@ impl<D: FormatDriverInstance> FormatAccess<D> {
         ensures nothing_pending { (D.view (driver self.new)).pending ≡ None }
     {
         self.test_writable()?;
+        if self.size() <= new_size {
+            return Ok(());
+        }
         self.inner.resize_shrink(new_size)
     }
 

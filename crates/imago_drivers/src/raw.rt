@@ -18,7 +18,7 @@ ghost use Rattle.imago_drivers.specs.Done.{HasDone};
 ghost use Rattle.imago_drivers.specs.Calls.{IsDiscard, IsPreparation, IsGrowth, IsShrink};
 ghost use Rattle.imago_drivers.specs.Reasons.{none};
 ghost use Rattle.imago_drivers.specs.RawLaws.{raw_lawful, raw_causes};
-ghost use Rattle.imago_drivers.specs.RawDiscards.{IsPartDiscarded, IsIdleWithoutPart};
+ghost use Rattle.imago_drivers.specs.RawDiscards.{IsPartDiscarded, IsPartZeroed};
 ghost use Rattle.imago_drivers.specs.RawCalls.{HasNoSpecial, IsRawPrepared, IsRawCommitted, IsRawFilled, IsSizeBehind};
 ghost use Rattle.imago_drivers.specs.CallRelations.{any_calls, IsEnsuredInParts};
 ghost use Rattle.imago_drivers.specs.Place.{values};
@@ -129,13 +129,13 @@ impl<S: Storage> FormatDriverInstance for Raw<S> {
       mapped = λ o n self r. IsOk r;
       read_special = λ o n self r. HasNoSpecial n r;
       put = λ index bytes o a b r. IsRangeWrite S.features S.bytes S.fault_count S.work o bytes a.storage b.storage r × (b.size ≡ a.size) × (b.writable ≡ a.writable);
-      zeroed = λ o n a b r. IsIdleWithoutPart (S.features a.storage).zero_align o n a.storage b.storage r × (b.size ≡ a.size) × (b.writable ≡ a.writable);
-      discarded_to_zero = λ o n a b r. IsIdleWithoutPart (S.features a.storage).zero_align o n a.storage b.storage r × (b.size ≡ a.size) × (b.writable ≡ a.writable);
+      zeroed = λ o n a b r. IsPartZeroed S.maintenance S.work (S.features a.storage) o n a.storage b.storage r × (b.size ≡ a.size) × (b.writable ≡ a.writable);
+      discarded_to_zero = λ o n a b r. IsPartZeroed S.maintenance S.work (S.features a.storage) o n a.storage b.storage r × (b.size ≡ a.size) × (b.writable ≡ a.writable);
       discarded_to_any = λ o n a b r. IsPartDiscarded S.maintenance (S.features a.storage).discard_align o n a.storage b.storage r × (b.size ≡ a.size) × (b.writable ≡ a.writable);
       discarded_to_backing = λ o n a b r. HasDone (λ _ _. zeroes) DiscardToBacking o n
           (raw_view (S.features a.storage) (S.fault_count a.storage) (S.bytes a.storage) a.size a.writable)
           (raw_view (S.features b.storage) (S.fault_count b.storage) (S.bytes b.storage) b.size b.writable) r
-          × IsIdleWithoutPart (S.features a.storage).zero_align o n a.storage b.storage r × (b.size ≡ a.size) × (b.writable ≡ a.writable);
+          × IsPartZeroed S.maintenance S.work (S.features a.storage) o n a.storage b.storage r × (b.size ≡ a.size) × (b.writable ≡ a.writable);
       prepared = IsRawPrepared;
       filled = λ m bytes at a b r. IsRawFilled (λ xs o old new result. IsRangeWrite S.features S.bytes S.fault_count S.work o xs old.storage new.storage result × (new.size ≡ old.size) × (new.writable ≡ old.writable)) m bytes at a b r;
       committed = IsRawCommitted;
@@ -423,7 +423,7 @@ fn zero_part<S: Storage>(
     ensures no_shorter { length (S.bytes storage.old) ≤ length (S.bytes storage.new) }
     ensures near { length (S.bytes storage.new)
         ≤ max (length (S.bytes storage.old)) (padded_to (S.features storage.old) offset count) }
-    ensures idle { IsIdleWithoutPart (S.features storage.old).zero_align offset count storage.old storage.new result }
+    ensures performed { IsPartZeroed S.maintenance S.work (S.features storage.old) offset count storage.old storage.new result }
     ensures features { S.features storage.new ≡ S.features storage.old }
     ensures only { IfErr result IsExtRefusal }
     ensures wraps { IsErrOf result Error.WrapAround
