@@ -1,4 +1,5 @@
-//! Laws that follow from the contracts. Their functions do nothing.
+//! Laws that follow from the contracts. Their functions do nothing, but for those of the modules here, which make the calls that
+//! they speak of.
 ghost use Rattle.std.specs.Prelude.{◌≡◌, ℕ, List, IsTrue, true};
 ghost use Rattle.imago_access.specs.declared.run.Call.{Call};
 ghost use Rattle.imago_access.specs.declared.run.Reply.{Reply};
@@ -10,6 +11,8 @@ ghost use Rattle.imago_access.specs.Histories.{IsFlatHistory};
 ghost use Rattle.imago_cow.specs.CowImage.{storage_in};
 ghost use Rattle.imago_vmdk.specs.Image.{is_opened, takes_unknown_keys};
 ghost use Rattle.imago_vmdk.specs.Disk.{described_value};
+
+pub mod round_trip;
 
 use crate::cow::Cow;
 use crate::vmdk::Vmdk;
