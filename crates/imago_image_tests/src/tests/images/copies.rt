@@ -1,9 +1,12 @@
 //! Images over a driver whose writes wait for a commit, each layer copying the one below it at its first write.
 use super::answer::Answer;
+use super::driver;
+use super::driver::Give;
 use super::image::{Call, above, alone, on_two, script};
 use super::runs::run_two;
 use super::set_up::stored;
 use imago_access::access::FormatAccess;
+use imago_storage::error::Error;
 use imago_storage::mem::MemStorage;
 use imago_storage::storage::Storage;
 use imago_test_drivers::copy_once::CopyOnce;
@@ -11,6 +14,8 @@ use std::alloc::Global;
 use std::process::Abort;
 
 const DONE: Answer = Answer::Done;
+
+const NOT_OFFERED: Answer = Answer::Refused(Error::Unsupported);
 
 /// What makes the bytes 1 to 8 of the layer below.
 static COUNTED: [(Call, Answer); 1] = [(Call::Write(0, &[1, 2, 3, 4, 5, 6, 7, 8]), DONE)];
@@ -110,16 +115,68 @@ static LISTED: [(Call, Answer); 6] = [
     (Call::MapData(1, 7, false), Answer::Data(0, 1, 7)),
 ];
 
-/// Runs those calls. Answers whether there was memory for it.
-fn is_listed(rt: &impl Abort, alloc: Global) -> bool {
+/// Runs the calls as a list. Answers whether there was memory for it.
+fn listed_once(rt: &impl Abort, alloc: Global, calls: &[(Call, Answer)]) -> bool {
     let lower = copying(rt, alloc);
-    run_two(rt, alloc, (lower, &COUNTED), copying(rt, alloc), &LISTED)
+    run_two(rt, alloc, (lower, &COUNTED), copying(rt, alloc), calls)
+}
+
+/// Runs the calls as a list.
+fn listed(rt: &impl Abort, alloc: Global, calls: &[(Call, Answer)]) {
+    let done = listed_once(rt, alloc, calls) || listed_once(rt, alloc, calls);
+    assert!(rt; done, "memory was refused twice");
 }
 
 #[test]
 fn a_list_commits_and_cancels(rt: HostRuntime) {
-    let alloc = rt.alloc();
-    assert!(rt; is_listed(&rt, alloc) || is_listed(&rt, alloc));
+    listed(&rt, rt.alloc(), &LISTED);
+}
+
+/// Above the same: the driver offers no zero calls and no discards. An empty range makes none.
+static NOT_GIVEN: [(Call, Answer); 17] = [
+    (Call::Give(Give::EnsureZero, 2, 3), NOT_OFFERED),
+    (Call::Give(Give::DiscardToZero, 2, 3), NOT_OFFERED),
+    (Call::Give(Give::DiscardToAny, 2, 3), NOT_OFFERED),
+    (Call::Give(Give::DiscardToBacking, 2, 3), NOT_OFFERED),
+    (Call::Map(0, 8, "1/0:0x0/ro"), Answer::Length(8)),
+    (Call::Read(0, &[1, 2, 3, 4, 5, 6, 7, 8]), DONE),
+    (Call::Give(Give::EnsureZero, 8, 0), DONE),
+    (Call::Give(Give::DiscardToAny, 8, 0), DONE),
+    // the same once all is copied
+    (Call::Write(3, &[0xaa]), DONE),
+    (Call::Give(Give::EnsureZero, 0, 8), NOT_OFFERED),
+    (Call::Give(Give::DiscardToZero, 0, 8), NOT_OFFERED),
+    (Call::Give(Give::DiscardToAny, 0, 8), NOT_OFFERED),
+    (Call::Give(Give::DiscardToBacking, 0, 8), NOT_OFFERED),
+    (Call::Map(0, 8, "0/0:0x0/rw"), Answer::Length(8)),
+    (Call::Read(0, &[1, 2, 3, 0xaa, 5, 6, 7, 8]), DONE),
+    (Call::Give(Give::DiscardToZero, 8, 0), DONE),
+    (Call::Give(Give::DiscardToBacking, 8, 0), DONE),
+];
+
+/// Above the same: the storage has the bytes of before.
+static NOT_TOUCHED: [(Call, Answer); 7] = [
+    (Call::Give(Give::EnsureZero, 0, 8), NOT_OFFERED),
+    (Call::Give(Give::DiscardToZero, 0, 8), NOT_OFFERED),
+    (Call::Give(Give::DiscardToAny, 0, 8), NOT_OFFERED),
+    (Call::Give(Give::DiscardToBacking, 0, 8), NOT_OFFERED),
+    (Call::Look(driver::Call::Stored(0, 0, &[0x11; 8])), DONE),
+    (
+        Call::Look(driver::Call::StorageLength(0)),
+        Answer::Length(8),
+    ),
+    (Call::ReadBelow(0, &[1, 2, 3, 4, 5, 6, 7, 8]), DONE),
+];
+
+fn check_what_a_driver_does_not_offer_is_refused(rt: &impl Abort, alloc: Global) {
+    on(rt, alloc, &NOT_GIVEN);
+    listed(rt, alloc, &NOT_GIVEN);
+    on(rt, alloc, &NOT_TOUCHED);
+}
+
+#[test]
+fn what_a_driver_does_not_offer_is_refused(rt: HostRuntime) {
+    check_what_a_driver_does_not_offer_is_refused(&rt, rt.alloc());
 }
 
 /// The call, and whether the driver is asked to prepare a mapping for overwriting.

@@ -350,21 +350,25 @@ pub(super) fn make<D: FormatDriverInstance>(
 }
 
 /// Makes the calls, each of which answers like that. One that is refused for memory leaves the size, and is made again.
+/// Answers whether any was.
 pub(super) fn script<D: FormatDriverInstance>(
     rt: &impl Abort,
     alloc: Global,
     image: &mut FormatAccess<D>,
     calls: &[(Call, Answer)],
-) {
+) -> bool {
+    let mut again = false;
     for (i, &(call, expected)) in calls.iter().enumerate() {
         let size = image.size();
         let mut answer = make(rt, alloc, image, call);
         if answer == Answer::Refused(Error::Memory) && answer != expected {
             assert_eq!(rt; image.size(), size);
             answer = make(rt, alloc, image, call);
+            again = true;
         }
         assert_eq!(rt; answer, expected, "call {i}");
     }
+    again
 }
 
 /// An image of a driver with nothing below it.
@@ -384,26 +388,27 @@ pub(super) fn above<D: FormatDriverInstance>(
     }
 }
 
-/// The calls on an image of a driver with nothing below it.
+/// The calls on an image of a driver with nothing below it. Answers whether any was made again.
 pub(super) fn on_driver<D: FormatDriverInstance>(
     rt: &impl Abort,
     alloc: Global,
     driver: D,
     calls: &[(Call, Answer)],
-) {
-    script(rt, alloc, &mut FormatAccess::new(driver), calls);
+) -> bool {
+    script(rt, alloc, &mut FormatAccess::new(driver), calls)
 }
 
-/// The calls on the raw image that a storage is. A storage that is lent can be looked at afterwards.
+/// The calls on the raw image that a storage is. A storage that is lent can be looked at afterwards. Answers whether any call was
+/// made again.
 pub(super) fn on_raw<S: Storage>(
     rt: &impl Abort,
     alloc: Global,
     storage: S,
     writable: bool,
     calls: &[(Call, Answer)],
-) {
+) -> bool {
     let driver = Raw::open_image(storage, writable).expect(rt, "a raw image");
-    on_driver(rt, alloc, driver, calls);
+    on_driver(rt, alloc, driver, calls)
 }
 
 /// The calls on an image of a driver above an image of another one, on which the first calls are made before. Answers

@@ -14,18 +14,19 @@ use std::process::Abort;
 const DONE: Answer = Answer::Done;
 
 /// A storage of 20000 bytes in blocks of 4096.
-pub(super) fn recording(rt: &impl Abort, alloc: Global) -> Recording {
+fn recording(rt: &impl Abort, alloc: Global) -> Recording {
     Recording::new(in_blocks(rt, stored(rt, alloc, &[(20000, 0xa5)]), 4096))
 }
 
-/// The calls on a writable raw image over a storage that records, which is lent to it.
-pub(super) fn on(
-    rt: &impl Abort,
-    alloc: Global,
-    storage: &mut Recording,
-    calls: &[(Call, Answer)],
-) {
-    on_raw(rt, alloc, storage, true, calls);
+/// Makes the calls on a writable raw image over a storage that records, which is lent to it. Where one was refused for memory
+/// they are made on another storage, so that each call is made once. Answers the storage.
+pub(super) fn on(rt: &impl Abort, alloc: Global, calls: &[(Call, Answer)]) -> Recording {
+    let mut storage = recording(rt, alloc);
+    if on_raw(rt, alloc, &mut storage, true, calls) {
+        storage = recording(rt, alloc);
+        assert!(rt; !on_raw(rt, alloc, &mut storage, true, calls), "memory was refused twice");
+    }
+    storage
 }
 
 /// Runs the calls as a list. Answers whether there was memory for it.
@@ -38,27 +39,19 @@ fn run_on(
     run_raw(rt, alloc, storage, true, calls)
 }
 
-/// Whether a call is a resize that is made again.
-fn is_repeated(call: Recorded, last: Option<Recorded>) -> bool {
-    matches!(call, Recorded::Resize(_, _)) && last == Some(call)
+/// The same as a list.
+fn listed(rt: &impl Abort, alloc: Global, calls: &[(Call, Answer)]) -> Recording {
+    let mut storage = recording(rt, alloc);
+    if !run_on(rt, alloc, &mut storage, calls) {
+        storage = recording(rt, alloc);
+        assert!(rt; run_on(rt, alloc, &mut storage, calls), "memory was refused twice");
+    }
+    storage
 }
 
-/// These calls reached the storage. A resize that is refused for memory is made again, and reaches it twice.
+/// These calls reached the storage, and no other.
 pub(super) fn was_reached(rt: &impl Abort, storage: &Recording, expected: &[Recorded]) {
-    let mut repeats: usize = 0;
-    let mut made: usize = 0;
-    let mut last = None;
-    for &call in storage.calls() {
-        if is_repeated(call, last) {
-            repeats = repeats.saturating_add(1);
-        } else {
-            assert_eq!(rt; expected.get(made), Some(&call));
-            made = made.saturating_add(1);
-        }
-        last = Some(call);
-    }
-    assert_eq!(rt; made, expected.len());
-    assert!(rt; repeats <= 1);
+    assert_eq!(rt; storage.calls(), expected);
 }
 
 /// In blocks of 4096: only the aligned part of a range is discarded.
@@ -116,9 +109,7 @@ static REACHED: [Recorded; 10] = [
 ];
 
 fn check_calls_of_a_driver_reach_its_storage(rt: &impl Abort, alloc: Global) {
-    let mut storage = recording(rt, alloc);
-    on(rt, alloc, &mut storage, &CALLS);
-    was_reached(rt, &storage, &REACHED);
+    was_reached(rt, &on(rt, alloc, &CALLS), &REACHED);
 }
 
 #[test]
@@ -143,14 +134,8 @@ static FLUSHED: [Recorded; 4] = [
 #[test]
 fn flushes_of_an_image_and_of_a_run_reach_the_storage(rt: HostRuntime) {
     let alloc = rt.alloc();
-    let mut storage = recording(&rt, alloc);
-    on(&rt, alloc, &mut storage, &FLUSHES);
-    was_reached(&rt, &storage, &FLUSHED);
-    let mut storage = recording(&rt, alloc);
-    assert!(rt;
-        run_on(&rt, alloc, &mut storage, &FLUSHES) || run_on(&rt, alloc, &mut storage, &FLUSHES)
-    );
-    was_reached(&rt, &storage, &FLUSHED);
+    was_reached(&rt, &on(&rt, alloc, &FLUSHES), &FLUSHED);
+    was_reached(&rt, &listed(&rt, alloc, &FLUSHES), &FLUSHED);
 }
 
 /// A write, and what it makes of its storage: the first and the last block are read where they are written in part, and whole
@@ -209,8 +194,7 @@ pub(super) fn holds(rt: &impl Abort, alloc: Global, storage: &Recording, left: &
 
 fn check_an_image_reads_only_blocks_that_are_partly_written(rt: &impl Abort, alloc: Global) {
     for ((call, reached), left) in WRITES.iter().zip(LEFT) {
-        let mut storage = recording(rt, alloc);
-        on(rt, alloc, &mut storage, &[(*call, DONE)]);
+        let storage = on(rt, alloc, &[(*call, DONE)]);
         was_reached(rt, &storage, reached);
         holds(rt, alloc, &storage, &left);
     }

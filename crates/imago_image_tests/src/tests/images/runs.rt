@@ -1,5 +1,6 @@
 //! The same calls as a list for `run`, and the replies.
 use super::answer::{Answer, data, prepared};
+use super::driver::Give;
 use super::image::{Call, above, alone, is_spent, script};
 use super::set_up::{copied, printed, runs};
 use imago_access::access::FormatAccess;
@@ -10,6 +11,16 @@ use imago_storage::error::Error;
 use imago_storage::storage::Storage;
 use std::alloc::Global;
 use std::process::Abort;
+
+/// A call that gives up the data of a range, as `run` takes it.
+fn given(give: Give, offset: u64, length: u64) -> run::Call {
+    match give {
+        Give::EnsureZero => run::Call::WriteZeroes { offset, length },
+        Give::DiscardToZero => run::Call::DiscardToZero { offset, length },
+        Give::DiscardToAny => run::Call::DiscardToAny { offset, length },
+        Give::DiscardToBacking => run::Call::DiscardToBacking { offset, length },
+    }
+}
 
 /// The call, as `run` takes it.
 fn listed(rt: &impl Abort, alloc: Global, call: Call) -> run::Call {
@@ -28,6 +39,7 @@ fn listed(rt: &impl Abort, alloc: Global, call: Call) -> run::Call {
             offset,
             bytes: runs(rt, alloc, &[(count, byte)]),
         },
+        Call::Give(give, offset, count) => given(give, offset, count),
         Call::Map(offset, max_length, _) => run::Call::GetMapping { offset, max_length },
         Call::MapData(offset, length, overwrite) => run::Call::EnsureData {
             offset,

@@ -1,7 +1,7 @@
 //! A failure at each call that a change makes of its storages, with each tear, over each driver: what it leaves, byte for
 //! byte, and that the image goes on from there.
 //!
-//! A new call is a row of `CALLS` or `DRIVER_CALLS`, a new storage one of the forms.
+//! A new call is a row of `CALLS` or `DRIVER_CALLS`, a new storage one of the forms. A row says how many calls it makes.
 use super::answer::Answer;
 use super::driver;
 use super::driver::Give;
@@ -16,6 +16,16 @@ use std::process::Abort;
 
 /// A call, and what it does to the disk.
 type Row = (Call, Effect);
+
+/// How many calls of a storage a row makes, in blocks of 1, of 8 and of 512.
+type Count = (u64, u64, u64);
+
+/// How many it makes of the storage of a raw image, of that of one in pieces or granules, and of a table's first and second
+/// storage.
+type Counts = (Count, Count, Count, Count);
+
+/// A row, and how many calls it makes.
+type Counted = (Call, Effect, Counts);
 
 const DEVICE: Answer = Answer::Refused(Error::Device);
 
@@ -41,6 +51,37 @@ const BEGIN: (u64, u64) = (AT, 70);
 const ZEROES: New = New::Equal(0);
 
 const EES: New = New::Equal(0xee);
+
+const NONE: Count = (0, 0, 0);
+
+const NO_CALLS: Counts = (NONE, NONE, NONE, NONE);
+
+/// A block that is changed in part is read and written. So 1030 bytes from 515 on are one write, or one and two blocks. In
+/// pieces of 256, 256, 256, 256 and 6 bytes, or of 512, 512 and 6, each piece is written so. A table has eight runs that are
+/// written to its first storage in them, and three that stand in the second.
+const WRITE: Counts = ((1, 5, 5), (5, 24, 10), (8, 24, 18), (3, 11, 8));
+
+/// What is aligned is zeroed by one call for each granule, and the rest of both ends is written. A table zeroes its entries
+/// alone.
+const ZEROED: Counts = ((1, 5, 5), (5, 9, 5), NONE, NONE);
+
+/// What is aligned is discarded by one call for each granule, and the rest is left.
+const DISCARDED: Counts = ((1, 1, 1), (3, 3, 1), NONE, NONE);
+
+/// The driver's own call does one granule.
+const ONE_GRANULE: Counts = ((1, 1, 1), (1, 1, 1), NONE, NONE);
+
+/// The first 85 bytes come from the layer below, and are copied.
+const COPIED: Counts = (NONE, NONE, (1, 3, 2), NONE);
+
+/// The first 30 or 70 bytes are written, which end inside a block of 8, too.
+const BEGUN: Counts = ((1, 5, 2), (1, 5, 2), (1, 5, 2), NONE);
+
+/// They are written once these 85 bytes are copied.
+const BEGUN_IN_COPY: Counts = ((1, 5, 2), (1, 5, 2), (2, 8, 4), NONE);
+
+/// They are written once they are copied.
+const COPIED_ALONE: Counts = ((1, 5, 2), (1, 5, 2), (2, 10, 4), NONE);
 
 /// Prepares so many bytes at the range's offset, and writes these into the mapping.
 macro_rules! prepared {
@@ -71,140 +112,179 @@ macro_rules! driver_prepared {
 }
 
 /// The changing calls of an image.
-static CALLS: [Row; 19] = [
+static CALLS: [Counted; 19] = [
     (
         Call::WriteNumbers(AT, COUNT as usize, 101),
         Effect::Changed(How::Done, RANGE, New::Numbers(101)),
+        WRITE,
     ),
     (
         Call::Give(Give::EnsureZero, AT, COUNT),
         Effect::Changed(How::Done, RANGE, ZEROES),
+        ZEROED,
     ),
     (
         Call::Give(Give::DiscardToZero, AT, COUNT),
         Effect::Changed(How::Done, RANGE, ZEROES),
+        ZEROED,
     ),
     (
         Call::Give(Give::DiscardToAny, AT, COUNT),
         Effect::Changed(How::Done, RANGE, New::Unspecified),
+        DISCARDED,
     ),
     (
         Call::Give(Give::DiscardToBacking, AT, COUNT),
         Effect::Changed(How::Partly, RANGE, New::Below),
+        DISCARDED,
     ),
-    (Call::MapData(AT, COUNT, false), Effect::Kept),
+    (Call::MapData(AT, COUNT, false), Effect::Kept, COPIED),
     (
         Call::MapData(AT, COUNT, true),
         Effect::Changed(How::Done, RANGE, New::Unspecified),
+        NO_CALLS,
     ),
     (
         prepared!(COUNT, false, &[0xee; 70], true),
         Effect::Changed(How::Done, BEGIN, EES),
+        BEGUN_IN_COPY,
     ),
     (
         prepared!(COUNT, false, &[0xee; 70], false),
         Effect::Changed(How::Cancelled, BEGIN, EES),
+        BEGUN_IN_COPY,
     ),
     // bytes that aren't written are unspecified then
     (
         prepared!(70, true, &[0xee; 70], true),
         Effect::Changed(How::Overwritten, BEGIN, EES),
+        BEGUN,
     ),
     (
         Call::Grow(2148, PreallocateMode::Zero),
         Effect::Grown(2148, ZEROES),
+        NO_CALLS,
     ),
     (
         Call::Grow(2148, PreallocateMode::None),
         Effect::Grown(2148, New::Unspecified),
+        NO_CALLS,
     ),
     (
         Call::Grow(2148, PreallocateMode::FormatAllocate),
         Effect::Grown(2148, New::Below),
+        NO_CALLS,
     ),
     (
         Call::Grow(2148, PreallocateMode::FullAllocate),
         Effect::Grown(2148, New::Below),
+        NO_CALLS,
     ),
     (
         Call::Grow(2148, PreallocateMode::WriteData),
         Effect::Grown(2148, New::Below),
+        NO_CALLS,
     ),
     (
         Call::Resize(2148, PreallocateMode::Zero),
         Effect::Grown(2148, ZEROES),
+        NO_CALLS,
     ),
-    (Call::Resize(1001, PreallocateMode::Zero), Effect::Cut(1001)),
-    (Call::Shrink(1001), Effect::Cut(1001)),
+    (
+        Call::Resize(1001, PreallocateMode::Zero),
+        Effect::Cut(1001),
+        NO_CALLS,
+    ),
+    (Call::Shrink(1001), Effect::Cut(1001), NO_CALLS),
     (
         Call::Writev(AT, &[0xee; 70]),
         Effect::Changed(How::Done, BEGIN, EES),
+        BEGUN,
     ),
 ];
 
 /// The changing calls of a driver.
-static DRIVER_CALLS: [Row; 16] = [
+static DRIVER_CALLS: [Counted; 16] = [
     (
         Call::Drive(driver::Call::Give(Give::EnsureZero, AT, COUNT)),
         Effect::Changed(How::Done, RANGE, ZEROES),
+        ONE_GRANULE,
     ),
     (
         Call::Drive(driver::Call::Give(Give::DiscardToZero, AT, COUNT)),
         Effect::Changed(How::Done, RANGE, ZEROES),
+        ONE_GRANULE,
     ),
     (
         Call::Drive(driver::Call::Give(Give::DiscardToAny, AT, COUNT)),
         Effect::Changed(How::Done, RANGE, New::Unspecified),
+        ONE_GRANULE,
     ),
     (
         Call::Drive(driver::Call::Give(Give::DiscardToBacking, AT, COUNT)),
         Effect::Changed(How::Partly, RANGE, New::Below),
+        ONE_GRANULE,
     ),
     (
         Call::Drive(driver::Call::MapData(AT, COUNT, false)),
         Effect::Kept,
+        COPIED,
     ),
     (
         Call::Drive(driver::Call::MapData(AT, COUNT, true)),
         Effect::Changed(How::Done, RANGE, New::Unspecified),
+        NO_CALLS,
     ),
     (
         Call::Drive(driver::Call::WriteMapped(AT, &[0xee; 30])),
         Effect::Changed(How::Done, (AT, 30), EES),
+        COPIED_ALONE,
     ),
     (
         driver_prepared!(COUNT, false, &[0xee; 30], true),
         Effect::Changed(How::Done, (AT, 30), EES),
+        BEGUN_IN_COPY,
     ),
     (
         driver_prepared!(COUNT, false, &[0xee; 30], false),
         Effect::Changed(How::Cancelled, (AT, 30), EES),
+        BEGUN_IN_COPY,
     ),
     (
         driver_prepared!(30, true, &[0xee; 30], true),
         Effect::Changed(How::Overwritten, (AT, 30), EES),
+        BEGUN,
     ),
     (
         Call::Drive(driver::Call::Grow(2148, PreallocateMode::Zero)),
         Effect::Grown(2148, ZEROES),
+        NO_CALLS,
     ),
     (
         Call::Drive(driver::Call::Grow(2148, PreallocateMode::None)),
         Effect::Grown(2148, New::Unspecified),
+        NO_CALLS,
     ),
     (
         Call::Drive(driver::Call::Grow(2148, PreallocateMode::FormatAllocate)),
         Effect::Grown(2148, New::Below),
+        NO_CALLS,
     ),
     (
         Call::Drive(driver::Call::Grow(2148, PreallocateMode::FullAllocate)),
         Effect::Grown(2148, New::Below),
+        NO_CALLS,
     ),
     (
         Call::Drive(driver::Call::Grow(2148, PreallocateMode::WriteData)),
         Effect::Grown(2148, New::Below),
+        NO_CALLS,
     ),
-    (Call::Drive(driver::Call::Shrink(1001)), Effect::Cut(1001)),
+    (
+        Call::Drive(driver::Call::Shrink(1001)),
+        Effect::Cut(1001),
+        NO_CALLS,
+    ),
 ];
 
 /// What the image is used for after each refusal.
@@ -310,21 +390,56 @@ fn reached(rt: &impl Abort, alloc: Global, form: Form, row: Row, tear: Tear, sec
     LIMIT
 }
 
-/// Sweeps over the rows with each tear, and with a refused resize.
-fn sweep(rt: &impl Abort, alloc: Global, form: Form, rows: &[Row]) {
-    for &row in rows {
+/// How many calls these are in blocks of that length.
+fn in_blocks((bytes, short, long): Count, align: usize) -> u64 {
+    match align {
+        1 => bytes,
+        8 => short,
+        _ => long,
+    }
+}
+
+/// How many calls of the first storage a row makes, and of the second, if there is one.
+fn calls_of(form: Form, (raw, pieces, first, second): Counts) -> (u64, Option<u64>) {
+    match form.kind {
+        Kind::Raw => (in_blocks(raw, form.align), None),
+        Kind::Choppy(_) | Kind::Granular(_) => (in_blocks(pieces, form.align), None),
+        Kind::Table | Kind::Chain => (
+            in_blocks(first, form.align),
+            Some(in_blocks(second, form.align)),
+        ),
+    }
+}
+
+/// Whether a row resizes the storage. A table has storages of any length.
+fn is_resize(kind: Kind, (_, effect): Row) -> bool {
+    match (kind, effect) {
+        (Kind::Table | Kind::Chain, _) => false,
+        (_, Effect::Grown(_, _) | Effect::Cut(_)) => true,
+        _ => false,
+    }
+}
+
+/// Sweeps over the rows with each tear, and with a refused resize. Each row makes so many calls.
+fn sweep(rt: &impl Abort, alloc: Global, form: Form, rows: &[Counted]) {
+    for (i, &(call, effect, counts)) in rows.iter().enumerate() {
+        let row = (call, effect);
+        let (first, second) = calls_of(form, counts);
         for &tear in &TEARS {
-            reached(rt, alloc, form, row, tear, false);
-            if let Kind::Table | Kind::Chain = form.kind {
-                reached(rt, alloc, form, row, tear, true);
+            let found = reached(rt, alloc, form, row, tear, false);
+            assert_eq!(rt; found, first, "row {i}");
+            if let Some(second) = second {
+                let found = reached(rt, alloc, form, row, tear, true);
+                assert_eq!(rt; found, second, "row {i}");
             }
         }
-        is_refused(rt, alloc, form, row, Fault::Resize);
+        let resizes = is_refused(rt, alloc, form, row, Fault::Resize);
+        assert_eq!(rt; resizes, is_resize(form.kind, row), "row {i}");
     }
 }
 
 /// Sweeps over the rows for storages with that alignment, with and without zero writes.
-fn sweep_both(rt: &impl Abort, alloc: Global, kind: Kind, align: usize, rows: &[Row]) {
+fn sweep_both(rt: &impl Abort, alloc: Global, kind: Kind, align: usize, rows: &[Counted]) {
     for zeroes in [true, false] {
         let form = Form {
             kind,
@@ -449,13 +564,14 @@ fn a_driver_of_a_table_fails_anywhere(rt: HostRuntime) {
 }
 
 /// Makes each call once, and uses the image on. A call that is refused for memory leaves what it may, and succeeds at a second try.
-fn each_once(rt: &impl Abort, alloc: Global, kind: Kind, rows: &[Row]) {
+fn each_once(rt: &impl Abort, alloc: Global, kind: Kind, rows: &[Counted]) {
     let form = Form {
         kind,
         align: 8,
         zeroes: false,
     };
-    for &row in rows {
+    for &(call, effect, _) in rows {
+        let row = (call, effect);
         let mut disk = first_disk(rt, alloc, kind);
         let mut subject = Subject::open(rt, alloc, form, Fault::Never);
         if is_offered(kind, row.0) {
@@ -526,8 +642,8 @@ fn check_a_change_makes_so_many_calls(rt: &impl Abort, alloc: Global) {
             align,
             zeroes: true,
         };
-        let row = *CALLS.get(row).expect(rt, "a row");
-        let found = reached(rt, alloc, form, row, Tear::Odd, false);
+        let (call, effect, _) = *CALLS.get(row).expect(rt, "a row");
+        let found = reached(rt, alloc, form, (call, effect), Tear::Odd, false);
         assert_eq!(rt; found, calls, "{align}");
     }
 }
