@@ -1,4 +1,4 @@
-use Rattle.std.specs.Prelude.{◌≡◌, ℕ, ◌+◌, ◌-◌, ◌<◌, ◌≤◌, ◌⊎◌, true, List, [], ◌∷◌, length, slice_index, EachIndex, Option, Some, None, Result, Ok, Err, IfOk}
+use Rattle.std.specs.Prelude.{◌≡◌, ℕ, ◌+◌, ◌-◌, ◌<◌, ◌≤◌, ◌⊎◌, true, List, [], ◌∷◌, length, slice_index, EachIndex, Option, Some, None, max, Result, Ok, Err, IfOk}
 use Rattle.imago_storage.specs.declared.error.Error.{Error}
 use Rattle.imago_drivers.specs.Reasons.{allowed}
 use Rattle.imago_drivers.specs.View.{View}
@@ -11,6 +11,7 @@ use Rattle.imago_access.specs.Chain.{driver, backing, lent_image}
 use Rattle.imago_access.specs.Calls.{FailsTest}
 use Rattle.imago_access.specs.Resolved.{IsResolved, chain_map_reasons}
 use Rattle.imago_access.specs.Zeroing.{operation_of}
+use Rattle.imago_access.specs.Answered.{IsMapRefusal}
 use Rattle.imago_access.specs.Performed.{Part, IsMadeInParts, IsFirstBy}
 
 -- a call of an image that is one call of its driver, and leaves the layers below as they are
@@ -42,10 +43,11 @@ abbrev pub TriesGranules : {X : Type 0} → OnRange X → Option ℕ → ℕ →
 TriesGranules zero None o n old new = new ≡ old
 TriesGranules zero (Some g) o n old new = (s : ℕ) × (e : ℕ) × IsRoundedFrom g o s × IsRoundedFrom g (o + n) e × (parts : List (ℕ × ℕ)) × AreGranulesBy zero s e parts old new
 
--- a resolved mapping tells all: the first bytes are explicit zeroes, so many; or it is refused, and so is what asked for it
-abbrev pub IsToldByMapping : {D St : Type 0} → (D → View St) → FormatAccess D → ℕ → ℕ → Result ℕ Error → Type 0
-IsToldByMapping view x o n (Ok m) = IsResolved view x o n (M.Zero true) m
-IsToldByMapping view x o n (Err e) = allowed (chain_map_reasons view x o n) e
+-- a resolved mapping tells all: the first bytes are explicit zeroes, so many; or it is refused by a layer that the range reaches, and so is
+-- what asked for it
+abbrev pub IsToldByMapping : {D St : Type 0} → (D → View St) → Calls D St → FormatAccess D → ℕ → ℕ → Result ℕ Error → Type 0
+IsToldByMapping view its x o n (Ok m) = IsResolved view x o n (M.Zero true) m
+IsToldByMapping view its x o n (Err e) = allowed (chain_map_reasons view x o n) e × IsMapRefusal its x o (max n 1) e
 
 -- some zeroes, at most n, are the bytes of one write of the driver, over the layer below
 abbrev pub WritesZeroes : {D St : Type 0} → (D → View St) → Calls D St → ℕ → ℕ → Changing (FormatAccess D) ℕ
@@ -54,7 +56,7 @@ WritesZeroes view its o n old new result =
 
 -- the first of n bytes are zeroed as data: no call, where a mapping tells all, or one write of zeroes
 abbrev pub IsZeroPiece : {D St : Type 0} → (D → View St) → Calls D St → ℕ → ℕ → Changing (FormatAccess D) ℕ
-IsZeroPiece view its o n old new result = ((new ≡ old) × IsToldByMapping view old o n result) ⊎ WritesZeroes view its o n old new result
+IsZeroPiece view its o n old new result = ((new ≡ old) × IsToldByMapping view its old o n result) ⊎ WritesZeroes view its o n old new result
 
 -- a part of a range from o on, behind its first c bytes, by what is made of a range
 abbrev pub behind : {D : Type 0} → (ℕ → ℕ → Changing (FormatAccess D) ℕ) → ℕ → ℕ → Part (FormatAccess D)
