@@ -110,7 +110,7 @@ cause_sub old now short op o n q m E.ForeignMapping sub h k c = absurd c
 cause_sub old now short op o n q m E.Denied sub h k c = absurd c
 cause_sub old now short op o n q m E.NotFound sub h k c = absurd c
 
-copies_sub : (old now : List Origin) (op : Operation) (o n q m p : ℕ) → (slice_get now p ≡ Some Origin.Lower → slice_get old p ≡ Some Origin.Lower) → o ≤ q → q + m ≤ o + n → sparse_copies now op q m p → sparse_copies old op o n p
+pub copies_sub : (old now : List Origin) (op : Operation) (o n q m p : ℕ) → (slice_get now p ≡ Some Origin.Lower → slice_get old p ≡ Some Origin.Lower) → o ≤ q → q + m ≤ o + n → sparse_copies now op q m p → sparse_copies old op o n p
 copies_sub old now Write o n q m p sub h k c = let i = c.0 in let x : o ≤ p = omega (arith, i.0) in let y : p < o + n = omega (arith, i.1) in ((x, y), sub (c.1))
 copies_sub old now Map o n q m p sub h k c = c
 copies_sub old now Read o n q m p sub h k c = c
@@ -172,10 +172,10 @@ commit_done f g count now_count first second table now size s short n (Some w) m
     )
 
 -- a driver with a plan to fail isn't reliable
-pub no_plan : (reliable : Bool) (plan : Option ℕ) → IsTrue (reliable && is_none plan) → {most : ℕ} → plan ≡ Some most → ⊥
-no_plan reliable None e h = let z : ⊥ = cc in z
-no_plan true (Some x) e h = let z : ⊥ = cc in z
-no_plan false (Some x) e h = let z : ⊥ = cc in z
+pub no_plan : (reliable : Bool) (plan : Option ℕ) (other : Bool) → IsTrue (reliable && (is_none plan && other)) → {most : ℕ} → plan ≡ Some most → ⊥
+no_plan reliable None other e h = let z : ⊥ = cc in z
+no_plan true (Some x) other e h = let z : ⊥ = cc in z
+no_plan false (Some x) other e h = let z : ⊥ = cc in z
 
 -- a fault that is counted raises the count, or it stands at its greatest value
 pub rose : (before now faults rest : ℕ) → before ≡ rest + faults → now ≡ min (faults + 1) 18446744073709551615 → RoseOrSaturated before (rest + now)

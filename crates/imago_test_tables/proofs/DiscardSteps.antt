@@ -33,7 +33,7 @@ copies_none table Flush o n p other c = c
 
 -- What a discard promises that gives entries to the layer below: `how` is true of what that layer has.
 module _ (f g : Features) (count : ℕ) (first second : List ℕ) (table now : List Origin) (size : ℕ) (s : Settings) (short : Bool) (waiting : Option Waiting) (o n : ℕ) (op : Operation) (how : (ℕ → Value) → ℕ → Change)
-    (spent : sparse_pending (f.keeps_data && g.keeps_data) first waiting ≡ None) (other : Write ≡ op → ⊥) (part : sparse_answers table op o n o n) (shows : (below : ℕ → Value) (k : ℕ) (v : Value) → how below o k v (below (o + k))) where
+    (spent : sparse_pending (f.keeps_data && g.keeps_data) first waiting ≡ None) (other : Write ≡ op → ⊥) (part : sparse_answers s.fail_granules table op o n o n) (shows : (below : ℕ → Value) (k : ℕ) (v : Value) → how below o k v (below (o + k))) where
   abbrev value_of : (below : ℕ → Value) (p : ℕ) → Option Origin → Value
   value_of below p entry = shown below (entry_place (at_index first second) p entry)
 

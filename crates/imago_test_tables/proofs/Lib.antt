@@ -4,3 +4,4 @@ pub mod SparseSteps
 pub mod CommitSteps
 pub mod PrepareSteps
 pub mod DiscardSteps
+pub mod ZeroSteps

@@ -100,18 +100,36 @@ is_plain table (Grow mode) o n = ⊥
 is_plain table Shrink o n = Unit {0}
 is_plain table Flush o n = ⊥
 
--- A mapping is for entries of one kind; a zero call or discard does the whole range.
-abbrev pub sparse_answers : List Origin → Operation → ℕ → ℕ → ℕ → ℕ → Type 0
-sparse_answers table Map o n q m = (m ≤ n) × IsOneKind table o m
-sparse_answers table Read o n q m = Unit {0}
-sparse_answers table Write o n q m = (m ≤ n) × IsOneKind table o m
-sparse_answers table Zero o n q m = (q ≡ o) × (m ≡ n)
-sparse_answers table DiscardToZero o n q m = (q ≡ o) × (m ≡ n)
-sparse_answers table DiscardToAny o n q m = (q ≡ o) × (m ≡ n)
-sparse_answers table DiscardToBacking o n q m = (q ≡ o) × (m ≡ n)
-sparse_answers table (Grow mode) o n q m = Unit {0}
-sparse_answers table Shrink o n q m = Unit {0}
-sparse_answers table Flush o n q m = Unit {0}
+-- Zero calls and discards do the whole of such a range; zero calls for granules that fail don't.
+abbrev pub is_whole : Bool → List Origin → Operation → ℕ → ℕ → Type 0
+is_whole fails table Map o n = is_plain table Map o n
+is_whole fails table Read o n = is_plain table Read o n
+is_whole fails table Write o n = is_plain table Write o n
+is_whole fails table Zero o n = (fails ≡ false) × is_plain table Zero o n
+is_whole fails table DiscardToZero o n = is_plain table DiscardToZero o n
+is_whole fails table DiscardToAny o n = is_plain table DiscardToAny o n
+is_whole fails table DiscardToBacking o n = is_plain table DiscardToBacking o n
+is_whole fails table (Grow mode) o n = is_plain table (Grow mode) o n
+is_whole fails table Shrink o n = is_plain table Shrink o n
+is_whole fails table Flush o n = is_plain table Flush o n
+
+-- a zero call does the whole range, or nothing where granules fail
+abbrev pub zero_answer : Bool → ℕ → ℕ → ℕ → ℕ → Type 0
+zero_answer true o n q m = (q ≡ o) × (m ≡ 0)
+zero_answer false o n q m = (q ≡ o) × (m ≡ n)
+
+-- A mapping is for entries of one kind; a discard does the whole range.
+abbrev pub sparse_answers : Bool → List Origin → Operation → ℕ → ℕ → ℕ → ℕ → Type 0
+sparse_answers fails table Map o n q m = (m ≤ n) × IsOneKind table o m
+sparse_answers fails table Read o n q m = Unit {0}
+sparse_answers fails table Write o n q m = (m ≤ n) × IsOneKind table o m
+sparse_answers fails table Zero o n q m = zero_answer fails o n q m
+sparse_answers fails table DiscardToZero o n q m = (q ≡ o) × (m ≡ n)
+sparse_answers fails table DiscardToAny o n q m = (q ≡ o) × (m ≡ n)
+sparse_answers fails table DiscardToBacking o n q m = (q ≡ o) × (m ≡ n)
+sparse_answers fails table (Grow mode) o n q m = Unit {0}
+sparse_answers fails table Shrink o n q m = Unit {0}
+sparse_answers fails table Flush o n q m = Unit {0}
 
 -- a write copies bytes into the first storage, whose last block is padded
 abbrev pub sparse_longest : Features → Operation → ℕ → ℕ → ℕ → ℕ
@@ -144,13 +162,17 @@ sparse_pending keeps first (Some w) = Some (record {
   bytes = waiting_byte keeps first w;
 })
 
+-- a disk that refuses nothing by itself
+abbrev pub never_fails : Settings → Bool
+never_fails s = is_none s.fail_commit_after && (if s.fail_granules then false else true)
+
 abbrev pub sparse_view : Features → Features → ℕ → List ℕ → List ℕ → List Origin → ℕ → Settings → Bool → Option Waiting → View ℕ
 sparse_view f g fault_count first second table size s short waiting = record {
   abilities = record {
     format = Format.Raw;
     is_writable = s.writable;
     takes_backing = true;
-    is_reliable = (f.is_reliable && g.is_reliable) && is_none s.fail_commit_after;
+    is_reliable = (f.is_reliable && g.is_reliable) && never_fails s;
     keeps_data = f.keeps_data && g.keeps_data;
     zero_granularity = Some s.granularity;
     offers = sparse_offers short;
@@ -165,8 +187,8 @@ sparse_view f g fault_count first second table size s short waiting = record {
     copies = sparse_copies table;
     no_memory = is_plain table;
     commit_memory = ⊥;
-    whole = is_plain table;
-    answers = sparse_answers table;
+    whole = is_whole s.fail_granules table;
+    answers = sparse_answers s.fail_granules table;
     longest = sparse_longest f;
   };
   pending = sparse_pending (f.keeps_data && g.keeps_data) first waiting;

@@ -21,3 +21,7 @@ first_in d = d.storages.first
 -- the storage of the index 1
 abbrev pub second_in : {S : Type 0} {g : _} {h : _} → Sparse S g h → S
 second_in d = d.storages.second
+
+-- how often something else failed than its storages
+abbrev pub own_faults_of : {S : Type 0} {g : _} {h : _} → Sparse S g h → ℕ
+own_faults_of d = d.storages.faults

@@ -19,7 +19,7 @@ use std::alloc::Global;
 pub(crate) struct Pair<S: Storage> {
     pub(crate) first: S,
     pub(crate) second: S,
-    /// How often something else failed: a read of the layer below, or a commit that is to fail. It saturates.
+    /// How often something else failed: a read of the layer below, or a commit or a granule that is to fail. It saturates.
     pub(crate) faults: u64,
 }
 

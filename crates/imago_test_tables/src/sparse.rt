@@ -39,6 +39,9 @@ pub struct Settings {
     /// Each commit of a write that waits fails as [`Error::Device`] once it has made this many bytes show. `None` lets all
     /// succeed.
     pub fail_commit_after: Option<u64>,
+    /// Whether [`FormatDriverInstance::ensure_zero_mapping`] is for whole granules alone, and each that it is asked for fails as
+    /// [`Error::Device`], with nothing changed.
+    pub fail_granules: bool,
 }
 
 /// A prepared write whose bytes nothing shows yet.
@@ -70,7 +73,7 @@ pub struct Sparse<S: Storage> {
 }
 
 impl<S: Storage> Sparse<S> {
-    ghost use Rattle.imago_test_tables.specs.SparseImage.{table_of, size_of, settings_of, first_in, second_in};
+    ghost use Rattle.imago_test_tables.specs.SparseImage.{table_of, size_of, settings_of, first_in, second_in, own_faults_of};
 
     /// A disk of that size over two storages. There is none where the table is longer than the disk, or the granularity
     /// is 0.
@@ -102,6 +105,13 @@ impl<S: Storage> Sparse<S> {
             waiting: None,
             tickets: 0,
         })
+    }
+
+    /// How often something else failed than its storages: a read of the layer below, a commit or a granule. The number saturates.
+    pub fn faults(&self) -> u64
+        ensures { result ≡ own_faults_of self.now }
+    {
+        self.storages.faults
     }
 
     /// Whether the mapping is the write that waits.
@@ -321,7 +331,14 @@ impl<S: Storage> FormatDriverInstance for Sparse<S> {
         offset: u64,
         count: u64,
     ) -> Result<(u64, u64), Error> {
-        put_part(&mut self.table, offset, count, Origin::Zero)
+        if !self.settings.fail_granules {
+            return put_part(&mut self.table, offset, count, Origin::Zero);
+        }
+        if !has_granule(self.settings.granularity, offset, count) {
+            return Ok((offset, 0));
+        }
+        self.storages.faults = self.storages.faults.saturating_add(1);
+        Err(Error::Device)
     }
 
     fn discard_to_zero(
@@ -493,6 +510,18 @@ impl<S: Storage> FormatDriverInstance for Sparse<S> {
     fn invalidate_cache(&mut self) -> Result<(), Error> {
         self.storages.invalidate_cache()
     }
+}
+
+/// Whether a whole granule lies in a range.
+fn has_granule(granularity: u64, offset: u64, count: u64) -> bool
+    requires { 0 < granularity }
+{
+    let behind = offset % granularity;
+    if behind == 0 {
+        return count >= granularity;
+    }
+    let skipped = granularity - behind;
+    count >= skipped && count - skipped >= granularity
 }
 
 /// The origin of the bytes that a growth adds, if it is offered.

@@ -7,8 +7,10 @@ use imago_drivers::gate::DenyImplicitOpenGate;
 use imago_drivers::raw::{Raw, create_in};
 use imago_storage::error::Error;
 use imago_storage::mem::MemStorage;
+use imago_storage::storage;
 use imago_storage::storage::Storage;
 use imago_test_storages::faulty::Faulty;
+use imago_test_storages::recording::{Recorded, Recording};
 use std::alloc::Global;
 use std::process::Abort;
 
@@ -86,19 +88,29 @@ fn a_storage_that_does_not_grow_is_empty(rt: HostRuntime) {
     check_a_storage_that_does_not_grow_is_empty(&rt, rt.alloc());
 }
 
-/// The size of a new image of 5 bytes that is opened, by a builder that is told to be read-only, and whether it is writable.
-fn opened<S: Storage>(alloc: Global, storage: S) -> Result<(u64, bool), Error> {
-    let builder = Raw::create_builder(storage).size(5);
+/// The size of a new image that is opened, by a builder that is told to be read-only, and whether it is writable.
+fn opened<S: Storage>(
+    alloc: Global,
+    storage: S,
+    size: u64,
+    mode: PreallocateMode,
+) -> Result<(u64, bool), Error> {
+    let builder = Raw::create_builder(storage).size(size).preallocate(mode);
     let gate = DenyImplicitOpenGate::default();
     let image = builder.create_open(alloc, gate, |s| Ok(Raw::builder(s).write(false)))?;
     Ok((image.size(), image.writable()))
 }
 
+/// The same of 5 bytes in memory.
+fn opened_five(rt: &impl Abort, alloc: Global) -> Result<(u64, bool), Error> {
+    opened(alloc, stored(rt, alloc, "a", 3), 5, PreallocateMode::None)
+}
+
 #[test]
 fn a_new_image_is_opened_as_writable(rt: HostRuntime) {
     let alloc = rt.alloc();
-    let answer = match opened(alloc, stored(&rt, alloc, "a", 3)) {
-        Err(Error::Memory) => opened(alloc, stored(&rt, alloc, "a", 3)),
+    let answer = match opened_five(&rt, alloc) {
+        Err(Error::Memory) => opened_five(&rt, alloc),
         answer => answer,
     };
     assert_eq!(rt; answer, Ok((5, true)));
@@ -121,4 +133,115 @@ fn check_a_new_image_without_a_builder_is_not_opened(rt: &impl Abort, alloc: Glo
 #[test]
 fn a_new_image_without_a_builder_is_not_opened(rt: HostRuntime) {
     check_a_new_image_without_a_builder_is_not_opened(&rt, rt.alloc());
+}
+
+/// How an image is created.
+#[derive(Clone, Copy)]
+enum Way {
+    /// In a storage that is there.
+    InPlace,
+    /// By a builder.
+    Built,
+    /// By a builder that opens it, too.
+    Opened,
+}
+
+static WAYS: [Way; 3] = [Way::InPlace, Way::Built, Way::Opened];
+
+/// Creates an image in a lent storage.
+fn make<S: Storage>(
+    alloc: Global,
+    storage: &mut S,
+    way: Way,
+    size: u64,
+    mode: PreallocateMode,
+) -> Result<(), Error> {
+    match way {
+        Way::InPlace => create_in(storage, size, mode),
+        Way::Built => match create(alloc, storage, size, mode) {
+            Ok(_) => Ok(()),
+            Err(refusal) => Err(refusal),
+        },
+        Way::Opened => match opened(alloc, storage, size, mode) {
+            Ok(_) => Ok(()),
+            Err(refusal) => Err(refusal),
+        },
+    }
+}
+
+/// Creates an image of a size in a storage of so many bytes ff, which records its calls. Answers whether there was memory for it.
+fn is_recorded(
+    rt: &impl Abort,
+    alloc: Global,
+    way: Way,
+    (count, size): (usize, u64),
+    mode: PreallocateMode,
+    calls: &[Recorded],
+) -> bool {
+    let mut storage = Recording::new(stored(rt, alloc, "a", count));
+    let made = make(alloc, &mut storage, way, size, mode);
+    if made == Err(Error::Memory) {
+        return false;
+    }
+    assert_eq!(rt; made, Ok(()));
+    assert_eq!(rt; storage.calls(), calls);
+    let zeroes = [0; 5];
+    assert_eq!(rt; Some(storage.as_bytes()), zeroes.get(..size as usize));
+    true
+}
+
+/// The same in each way.
+fn are_recorded(
+    rt: &impl Abort,
+    alloc: Global,
+    sizes: (usize, u64),
+    mode: PreallocateMode,
+    calls: &[Recorded],
+) {
+    for &way in &WAYS {
+        let done = is_recorded(rt, alloc, way, sizes, mode, calls)
+            || is_recorded(rt, alloc, way, sizes, mode, calls);
+        assert!(rt; done, "memory was refused twice");
+    }
+}
+
+/// A mode, and how a storage of that size grows by it.
+static GROWTH: [(PreallocateMode, Recorded); 5] = [
+    (
+        PreallocateMode::None,
+        Recorded::Resize(5, storage::PreallocateMode::None),
+    ),
+    (
+        PreallocateMode::Zero,
+        Recorded::Resize(5, storage::PreallocateMode::Zero),
+    ),
+    (
+        PreallocateMode::FormatAllocate,
+        Recorded::Resize(5, storage::PreallocateMode::Zero),
+    ),
+    (
+        PreallocateMode::FullAllocate,
+        Recorded::Resize(5, storage::PreallocateMode::Allocate),
+    ),
+    (
+        PreallocateMode::WriteData,
+        Recorded::Resize(5, storage::PreallocateMode::WriteData),
+    ),
+];
+
+const EMPTIED: Recorded = Recorded::Resize(0, storage::PreallocateMode::None);
+
+fn check_a_storage_is_emptied_once_and_grown_once(rt: &impl Abort, alloc: Global) {
+    for &(mode, grown) in &GROWTH {
+        are_recorded(rt, alloc, (3, 5), mode, &[EMPTIED, grown]);
+        are_recorded(rt, alloc, (7, 5), mode, &[EMPTIED, grown]);
+        are_recorded(rt, alloc, (0, 5), mode, &[grown]);
+        are_recorded(rt, alloc, (3, 0), mode, &[EMPTIED]);
+        are_recorded(rt, alloc, (0, 0), mode, &[]);
+    }
+}
+
+#[test]
+fn a_storage_is_emptied_once_and_grown_once(rt: HostRuntime) {
+    check_a_storage_is_emptied_once_and_grown_once(&rt, rt.alloc());
 }

@@ -2,12 +2,13 @@
 use super::answer::Answer;
 use super::driver;
 use super::driver::Give;
-use super::image::{Call, on_two};
+use super::image::{Call, alone, on_two, script};
 use super::runs::run_two;
 use super::set_up::stored;
 use imago_drivers::drivers::PreallocateMode;
 use imago_storage::error::Error;
 use imago_storage::mem::MemStorage;
+use imago_storage::storage::Storage;
 use imago_test_tables::sparse::{Settings, Sparse};
 use imago_test_tables::table::Origin;
 use std::alloc::Global;
@@ -30,19 +31,30 @@ fn entries(rt: &impl Abort, alloc: Global, table: &[Origin]) -> Vec<Origin> {
     }
 }
 
-/// A writable disk of that table and size, or none.
+/// Settings of a writable disk.
+const WRITABLE: Settings = Settings {
+    granularity: 4,
+    writable: true,
+    fail_commit_after: None,
+    fail_granules: false,
+};
+
+/// The same, whose commits fail once they have made so many bytes show.
+fn failing_commits(fail_commit_after: Option<u64>) -> Settings {
+    Settings {
+        fail_commit_after,
+        ..WRITABLE
+    }
+}
+
+/// A disk of that table and size, or none.
 fn made(
     rt: &impl Abort,
     alloc: Global,
     table: &[Origin],
     size: u64,
-    (granularity, fail_commit_after): (u64, Option<u64>),
+    settings: Settings,
 ) -> Option<Disk> {
-    let settings = Settings {
-        granularity,
-        writable: true,
-        fail_commit_after,
-    };
     let first = stored(rt, alloc, &[(8, 1)]);
     let second = stored(rt, alloc, &[(8, 2)]);
     Sparse::new(first, second, entries(rt, alloc, table), size, settings)
@@ -50,7 +62,7 @@ fn made(
 
 /// A writable disk of that table and size, which tells the granularity 4.
 fn disk(rt: &impl Abort, alloc: Global, table: &[Origin], size: u64) -> Disk {
-    made(rt, alloc, table, size, (4, None)).expect(rt, "a table that fits")
+    made(rt, alloc, table, size, WRITABLE).expect(rt, "a table that fits")
 }
 
 /// The calls on a disk with nothing below it.
@@ -204,8 +216,12 @@ static PLAIN: [(driver::Call, Answer); 14] = [
 fn check_plain_answers(rt: &impl Abort, alloc: Global) {
     on_table(rt, alloc, (&[FIRST], 1), &PLAIN);
     // neither a granularity of 0, nor a table that is longer than the disk
-    assert!(rt; made(rt, alloc, &[FIRST], 1, (0, None)).is_none());
-    assert!(rt; made(rt, alloc, &[FIRST], 0, (4, None)).is_none());
+    let no_granules = Settings {
+        granularity: 0,
+        ..WRITABLE
+    };
+    assert!(rt; made(rt, alloc, &[FIRST], 1, no_granules).is_none());
+    assert!(rt; made(rt, alloc, &[FIRST], 0, WRITABLE).is_none());
 }
 
 #[test]
@@ -256,7 +272,7 @@ static TORN: [(driver::Call, Answer); 5] = [
 ];
 
 fn check_a_torn_commit_shows_its_first_bytes(rt: &impl Abort, alloc: Global) {
-    let torn = made(rt, alloc, &[NONE; 3], 3, (4, Some(1)));
+    let torn = made(rt, alloc, &[NONE; 3], 3, failing_commits(Some(1)));
     on_disk(rt, alloc, torn.expect(rt, "a table that fits"), &TORN);
 }
 
@@ -267,7 +283,7 @@ fn a_torn_commit_shows_its_first_bytes(rt: HostRuntime) {
 
 /// A disk of that table and of 4 bytes. A commit fails once it has made so many bytes show.
 fn upper(rt: &impl Abort, alloc: Global, table: &[Origin], fail: Option<u64>) -> Disk {
-    made(rt, alloc, table, 4, (4, fail)).expect(rt, "a table that fits")
+    made(rt, alloc, table, 4, failing_commits(fail)).expect(rt, "a table that fits")
 }
 
 /// The calls on an image of such a disk above one of twos. Answers whether there was memory for both.
@@ -424,4 +440,94 @@ fn check_a_disk_whose_places_end_before_its_size(rt: &impl Abort, alloc: Global)
 #[test]
 fn a_disk_whose_places_end_before_its_size(rt: HostRuntime) {
     check_a_disk_whose_places_end_before_its_size(&rt, rt.alloc());
+}
+
+/// A disk of 8 bytes whose whole granules of 4 can't be zeroed: its table, the range that an image of it zeroes, what that
+/// answers, how often the disk fails, and the bytes that are left.
+type Granule = (&'static [Origin], (u64, u64), Answer, u64, &'static [u8]);
+
+static GRANULES: [Granule; 5] = [
+    // zeroes stand round the range: the granule is tried, and the range is written then
+    (
+        &[NONE, FIRST, FIRST, NONE, FIRST, FIRST, FIRST, FIRST],
+        (1, 2),
+        DONE,
+        1,
+        &[0, 0, 0, 0, 1, 1, 1, 1],
+    ),
+    // two granules: the second isn't tried
+    (
+        &[NONE, FIRST, FIRST, FIRST, FIRST, SECOND, NONE, NONE],
+        (1, 5),
+        DONE,
+        1,
+        &[0; 8],
+    ),
+    // data stand before the range, or behind it
+    (
+        &[FIRST, FIRST, FIRST, NONE, FIRST, FIRST, FIRST, FIRST],
+        (1, 2),
+        DONE,
+        0,
+        &[1, 0, 0, 0, 1, 1, 1, 1],
+    ),
+    (
+        &[NONE, FIRST, FIRST, SECOND, FIRST, FIRST, FIRST, FIRST],
+        (1, 2),
+        DONE,
+        0,
+        &[0, 0, 0, 2, 1, 1, 1, 1],
+    ),
+    // a granule in the range is zeroed by the driver's own call
+    (
+        &[FIRST; 8],
+        (1, 7),
+        Answer::Refused(Error::Device),
+        1,
+        &[1; 8],
+    ),
+];
+
+/// Makes the calls on an image of a disk. Answers how often that failed, if no call was made again.
+fn failed_in<S: Storage>(
+    rt: &impl Abort,
+    alloc: Global,
+    disk: Sparse<S>,
+    calls: &[(Call, Answer)],
+) -> Option<u64> {
+    let mut image = alone(disk);
+    if script(rt, alloc, &mut image, calls) {
+        return None;
+    }
+    Some(image.inner().faults())
+}
+
+/// Zeroes the range of a row, and reads what is left. Answers how often the disk failed, if no call was made again.
+fn zeroed_by(rt: &impl Abort, alloc: Global, row: Granule) -> Option<u64> {
+    let (table, (offset, count), answer, _, left) = row;
+    let settings = Settings {
+        fail_granules: true,
+        ..WRITABLE
+    };
+    let disk = made(rt, alloc, table, 8, settings).expect(rt, "a table that fits");
+    let calls = [
+        (Call::Give(Give::EnsureZero, offset, count), answer),
+        (Call::Read(0, left), DONE),
+    ];
+    failed_in(rt, alloc, disk, &calls)
+}
+
+fn check_refusals_of_granules_are_ignored(rt: &impl Abort, alloc: Global) {
+    for &row in &GRANULES {
+        let faults = match zeroed_by(rt, alloc, row) {
+            Some(faults) => faults,
+            None => zeroed_by(rt, alloc, row).expect(rt, "memory for zeroes"),
+        };
+        assert_eq!(rt; faults, row.3);
+    }
+}
+
+#[test]
+fn refusals_of_granules_are_ignored(rt: HostRuntime) {
+    check_refusals_of_granules_are_ignored(&rt, rt.alloc());
 }

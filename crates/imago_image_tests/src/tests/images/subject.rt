@@ -163,6 +163,7 @@ fn sparse<S: Storage>(rt: &impl Abort, first: S, second: S, table: Vec<Origin>) 
         granularity: 64,
         writable: true,
         fail_commit_after: None,
+        fail_granules: false,
     };
     let size = table.len() as u64;
     Sparse::new(first, second, table, size, settings).expect(rt, "a table that fits")

@@ -4,7 +4,7 @@ use super::driver;
 use super::driver::Give;
 use super::image::{Call, on_raw};
 use super::mem::{on_bytes, on_read_only, on_storage};
-use super::reached::{holds, on as on_recording, was_reached};
+use super::reached::{OLD, Row, each_reaches, each_stops};
 use super::set_up::runs;
 use super::zeroes::on_zeroes;
 use imago_storage::error::Error;
@@ -173,32 +173,43 @@ fn what_the_driver_leaves_is_zeroed_as_data(rt: HostRuntime) {
     check_what_the_driver_leaves_is_zeroed_as_data(&rt, rt.alloc());
 }
 
-/// In blocks of 4096: a call, and what it makes of its storage. What is aligned is one call.
-static REACHED: [(Call, &[Recorded]); 7] = [
+/// In blocks of 4096. What is aligned is one call. A storage in memory keeps what is discarded to any.
+static REACHED: [Row; 7] = [
     (
         Call::Give(ZERO, 4096, 8192),
+        DONE,
         &[Recorded::Zero(4096, 8192, ZeroKind::Any)],
+        &[(4096, 0xa5), (8192, 0), (7712, 0xa5)],
     ),
     (
         Call::Give(TO_ZERO, 4096, 8192),
+        DONE,
         &[Recorded::Zero(4096, 8192, ZeroKind::Any)],
+        &[(4096, 0xa5), (8192, 0), (7712, 0xa5)],
     ),
     (
         Call::Give(TO_BACKING, 1000, 9000),
+        DONE,
         &[Recorded::Zero(4096, 4096, ZeroKind::Any)],
+        &[(4096, 0xa5), (4096, 0), (11808, 0xa5)],
     ),
     (
         Call::Give(TO_ANY, 4096, 8192),
+        DONE,
         &[Recorded::Discard(4096, 8192)],
+        &OLD,
     ),
     (
         Call::Give(TO_ANY, 1000, 9000),
+        DONE,
         &[Recorded::Discard(4096, 4096)],
+        &OLD,
     ),
-    (Call::Give(TO_ANY, 1000, 7000), &[]),
+    (Call::Give(TO_ANY, 1000, 7000), DONE, &[], &OLD),
     // what the driver leaves is written
     (
         Call::Give(ZERO, 1000, 9000),
+        DONE,
         &[
             Recorded::Zero(4096, 4096, ZeroKind::Any),
             Recorded::Read(0, 4096),
@@ -206,31 +217,18 @@ static REACHED: [(Call, &[Recorded]); 7] = [
             Recorded::Read(8192, 4096),
             Recorded::Write(8192, 4096),
         ],
+        &[(1000, 0xa5), (9000, 0), (10000, 0xa5)],
     ),
 ];
 
-/// The bytes that each of them leaves. A storage in memory keeps what is discarded to any.
-static LEFT: [[(usize, u8); 3]; 7] = [
-    [(4096, 0xa5), (8192, 0), (7712, 0xa5)],
-    [(4096, 0xa5), (8192, 0), (7712, 0xa5)],
-    [(4096, 0xa5), (4096, 0), (11808, 0xa5)],
-    [(4096, 0xa5), (8192, 0xa5), (7712, 0xa5)],
-    [(4096, 0xa5), (4096, 0xa5), (11808, 0xa5)],
-    [(1000, 0xa5), (7000, 0xa5), (12000, 0xa5)],
-    [(1000, 0xa5), (9000, 0), (10000, 0xa5)],
-];
-
-fn check_zero_writes_and_discards_of_an_image_reach_the_storage(rt: &impl Abort, alloc: Global) {
-    for ((call, reached), left) in REACHED.iter().zip(LEFT) {
-        let storage = on_recording(rt, alloc, &[(*call, DONE)]);
-        was_reached(rt, &storage, reached);
-        holds(rt, alloc, &storage, &left);
-    }
+#[test]
+fn zero_writes_and_discards_of_an_image_reach_the_storage(rt: HostRuntime) {
+    each_reaches(&rt, rt.alloc(), &REACHED);
 }
 
 #[test]
-fn zero_writes_and_discards_of_an_image_reach_the_storage(rt: HostRuntime) {
-    check_zero_writes_and_discards_of_an_image_reach_the_storage(&rt, rt.alloc());
+fn zero_writes_and_discards_stop_where_their_storage_fails(rt: HostRuntime) {
+    each_stops(&rt, rt.alloc(), &REACHED);
 }
 
 const WRAPS: Answer = Answer::Refused(Error::WrapAround);

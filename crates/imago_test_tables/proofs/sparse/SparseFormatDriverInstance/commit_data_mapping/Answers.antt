@@ -60,7 +60,7 @@ returns-clause-call g c =
       framed = commit_framed f h n (g.S.Storage.fault_count s.storages.first + g.S.Storage.fault_count s.storages.second + c.saturating_add-self.result) A B s.table.items _ s.size s.settings s.short m.offset made fill s.waiting None;
       faults = record {
         later = omega (arith, c.saturating_add-self.ensures);
-        reliable = λ e. absurd (no_plan _ s.settings.fail_commit_after e c.in-Some-fail_commit_after.is);
+        reliable = λ e. absurd (no_plan _ s.settings.fail_commit_after _ e c.in-Some-fail_commit_after.is);
         device = λ e. rose n c.saturating_add-self.result s.storages.faults (g.S.Storage.fault_count s.storages.first + g.S.Storage.fault_count s.storages.second) refl c.saturating_add-self.ensures;
       };
       refusals = tt;
