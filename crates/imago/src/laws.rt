@@ -12,6 +12,8 @@ ghost use Rattle.imago_cow.specs.CowImage.{storage_in};
 ghost use Rattle.imago_vmdk.specs.Image.{is_opened, takes_unknown_keys};
 ghost use Rattle.imago_vmdk.specs.Disk.{described_value};
 
+pub mod in_memory;
+pub mod over_null;
 pub mod round_trip;
 
 use crate::cow::Cow;
