@@ -89,10 +89,9 @@ pub part_zeroed : {S : Type 0} (calls : Maintenance S) (work_of : S → IoCount)
 unfolding IsPartZeroed
 part_zeroed calls work_of f mine at n start end old new answer result e part l made told =
     let p : IsAlignedPart f.zero_align at n start end = rw e at part in
-    let whole : HasPartZeroed calls work_of f start (end - start) old new result = record { answer = answer; made = made (omega (arith, l)) (part_fits f.zero_align at n start end p l); passed_on = told } in
-    (
-        λ h. subst (λ (q : ℕ). HasPartZeroed calls work_of f q (aligned_end f.zero_align at n - q) old new result) p.is_start (subst (λ (q : ℕ). HasPartZeroed calls work_of f start (q - start) old new result) p.is_end whole),
-        λ h. absurd (omega (arith, h, l, p.is_start, p.is_end))
+    let whole : HasPartZeroed calls work_of f start (end - start) old new result = record { answer = answer; made = made (omega (arith, l)) (part_fits f.zero_align at n start end p l); passed_on = told } in (
+      λ h. subst (λ (q : ℕ). HasPartZeroed calls work_of f q (aligned_end f.zero_align at n - q) old new result) p.is_start (subst (λ (q : ℕ). HasPartZeroed calls work_of f start (q - start) old new result) p.is_end whole),
+      λ h. absurd (omega (arith, h, l, p.is_start, p.is_end)),
     )
 
 -- a range without an aligned part needs none

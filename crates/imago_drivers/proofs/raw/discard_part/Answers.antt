@@ -37,7 +37,7 @@ pub returns-in_err-discard-clause-refused : goal.returns-in_err-discard-clause-r
 returns-in_err-discard-clause-refused g c =
     let p = err_from_is_err_and c.from_residual.result c.from_residual.ensures.1 in
     let part = outside_part (g.S.Storage.features c.args.storage.now).discard_align c.discard_align-align.result c.args.offset c.args.count c.in-Some.start c.in-Some.end _ _ c.discard_align-align.ensures.value c.in-Some.ensures
-        (omega (arith, c.if-end-start.false)) c.discard.ensures.bytes in
+    (omega (arith, c.if-end-start.false)) c.discard.ensures.bytes in
     let a = c.in-Some.ensures in
     rw p.1 (outside_more c.args.offset c.args.count c.in-Some.start (c.in-Some.end - c.in-Some.start) _ _ a.before (omega (arith, a.before, a.behind, c.if-end-start.false)) part)
 

@@ -1,9 +1,7 @@
 //! What a copy-on-write disk does with its data blocks, which mappings it refuses, and the sizes that it can have.
 use super::call::{Answer, Call, Level, is_spent};
 use super::set_up::{byte_at, equal, numbers, printed};
-use super::subject::{
-    Fault, Image, PLAIN, above, contents_of, created, lent, make_on, storage_of,
-};
+use super::subject::{Fault, Image, PLAIN, above, contents_of, created, lent, make_on, storage_of};
 use imago_access::access::FormatAccess;
 use imago_access::run;
 use imago_access::run::Reply;
