@@ -1,5 +1,5 @@
 use Rattle.std.proofs.Common.{◌≡◌, ℕ, ◌<◌, ◌≤◌, ◌&&◌, inl, inr, true, refl, sym, ap, ◌∙◌, subst, arith, Result, Ok, Err, min, max, length}
-use Rattle.std.specs.Prelude.{IsTrue, IsOk, IfErr, OnOk, OnErr}
+use Rattle.std.specs.Prelude.{IsTrue, IfErr, OnOk, OnErr}
 use Rattle.imago_storage.specs.declared.error.Error.{Error}
 use Rattle.imago_storage.specs.Faults.{CountsFaults}
 use Rattle.imago_drivers.specs.Operation.{Operation, Grow, Shrink, Flush}

@@ -1,9 +1,9 @@
-use Rattle.std.proofs.Common.{◌≡◌, ℕ, ◌+◌, ◌-◌, ◌%◌, ◌^◌, ◌<◌, ◌≤◌, max, arith, inl, inr, true, false, refl}
+use Rattle.std.proofs.Common.{◌≡◌, ℕ, ◌+◌, ◌-◌, ◌%◌, ◌<◌, ◌≤◌, arith, inl, inr, false, refl}
 use Rattle.std.specs.Int.{next_multiple_of}
 use Rattle.imago_storage.specs.declared.error.Error.{Error}
 use Rattle.imago_storage.specs.Features.{Features, AreAlignments, len_align}
-use Rattle.imago_storage.specs.Padding.{Wraps, RangeWraps, padded_end}
-use Rattle.imago_storage.specs.Zeroes.{MayWrap, EdgeWraps, DataWraps}
+use Rattle.imago_storage.specs.Padding.{Wraps}
+use Rattle.imago_storage.specs.Zeroes.{MayWrap}
 use Rattle.imago_storage.proofs.Alignment.{power_positive}
 use Rattle.imago_storage.proofs.Padding.{len_positive, next_below}
 use Rattle.imago_drivers.specs.Operation.{Operation, Map, Read, Write, Zero, DiscardToZero, DiscardToAny, DiscardToBacking, Grow, Shrink, Flush}

@@ -1,4 +1,4 @@
-use Rattle.std.proofs.Common.{◌≡◌, map, length, true, false, ◌∙◌, refl, rules}
+use Rattle.std.proofs.Common.{◌≡◌, true, false, ◌∙◌, refl, rules}
 use Rattle.imago_vmdk.specs.Reading.{is_version}
 use Rattle.imago_vmdk.proofs.Lines.{size_by_survey, gives_size}
 use Rattle.imago_vmdk.proofs.descriptor.disk_size.Goals as goal

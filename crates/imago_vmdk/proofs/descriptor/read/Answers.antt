@@ -1,8 +1,8 @@
-use Rattle.std.proofs.Common.{◌≡◌, Some, Ok, map, length, true, false, rules, ◌∙◌}
+use Rattle.std.proofs.Common.{◌≡◌, Some, map, length, true, false, rules, ◌∙◌}
 use Rattle.std.specs.String.{string_bytes}
 use Rattle.imago_vmdk.specs.Text.{lines_of}
 use Rattle.imago_vmdk.specs.Line.{extent_with}
-use Rattle.imago_vmdk.specs.Reading.{lines_say, extents_of, reading_of, is_length, is_sparse}
+use Rattle.imago_vmdk.specs.Reading.{lines_say, reading_of, is_length, is_sparse}
 use Rattle.imago_vmdk.proofs.Lines.{disk_by_parts, disk_sum, sum_of_views}
 use Rattle.imago_vmdk.proofs.descriptor.read.Goals as goal
 

@@ -1,11 +1,11 @@
-use Rattle.std.proofs.Common.{◌≡◌, ℕ, ◌+◌, List, ◌++◌, ◌∷◌, map, [], option_map, refl, sym, ◌∙◌}
+use Rattle.std.proofs.Common.{ℕ, ◌+◌, List, ◌++◌, map, [], option_map, refl, sym, ◌∙◌}
 use Rattle.std.proofs.lemmas.Result.{err_from_is_err_and}
 use Rattle.std.specs.String.{string_bytes}
 use Rattle.imago_vmdk.specs.declared.line.Line.{Line}
 use Rattle.imago_vmdk.specs.declared.line.Extent.{Extent}
 use Rattle.imago_vmdk.specs.Text.{lines_of, lines_left}
 use Rattle.imago_vmdk.specs.Line.{extent_with, line_with}
-use Rattle.imago_vmdk.specs.Reading.{extents_in, extent_in, extents_of, version_with, size_in}
+use Rattle.imago_vmdk.specs.Reading.{extents_in, extent_in, extents_of, size_in}
 use Rattle.imago_vmdk.proofs.Cuts.{next_line, no_line, fewer_left}
 use Rattle.imago_vmdk.proofs.Lines.{surveyed, onward, fault, counted, starts, done, appended, behind_none, kept_are}
 use Rattle.imago_vmdk.proofs.descriptor.survey_lines.Goals as goal
