@@ -93,8 +93,8 @@ module _ {R : Type 0} (f : R → Features) (bytes : R → List ℕ) (size : R �
         → Succeeds (IsAlignedRequest (f (driver x)) o n × (MayRunOut (f (driver x)).read_memory (length (bytes (driver x))) (o + n) → ⊥)) result
     read_inside law o n result inside room h =
         let s = law x o n result (chain_is_reliable raw_images (λ r. never_fails r) leads_nowhere x) (λ e c. ⊎_elim
-            (λ a. no_cause Read o n refl (λ u. room) e (own_cause raw_images (λ r. never_fails r) leads_nowhere x Read o n e a))
-            (λ a. no_cause Map o n refl (λ u. room) e (own_cause raw_images (λ r. never_fails r) leads_nowhere x Map o n e a)) c) h in
+        (λ a. no_cause Read o n refl (λ u. room) e (own_cause raw_images (λ r. never_fails r) leads_nowhere x Read o n e a))
+        (λ a. no_cause Map o n refl (λ u. room) e (own_cause raw_images (λ r. never_fails r) leads_nowhere x Map o n e a)) c) h in
         record { refusals = s.refusals; sure = λ k. s.sure (own_memory_to_read raw_images (λ r. never_fails r) leads_nowhere x o n inside inside (inside, k.0, k.1)) }
 
     -- a mapping of any range

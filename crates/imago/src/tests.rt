@@ -1,4 +1,6 @@
 //! The first taste that the README gives.
+mod laws;
+
 use crate::format::PreallocateMode;
 use crate::mem::MemStorage;
 use crate::raw::Raw;
