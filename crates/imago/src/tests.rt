@@ -1,4 +1,6 @@
 //! The example that the README gives.
+mod laws;
+
 use crate::format::PreallocateMode;
 use crate::mem::MemStorage;
 use crate::raw::Raw;
