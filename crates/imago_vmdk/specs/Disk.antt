@@ -1,6 +1,6 @@
-use Rattle.std.specs.Prelude.{ℕ, Bool, List, Result, Ok, Err}
+use Rattle.std.specs.Prelude.{ℕ, Bool, List, Result, Ok, Err, slice_index}
 use Rattle.imago_storage.specs.declared.error.Error.{Error}
-use Rattle.imago_drivers.specs.Place.{Place, End, Value, Byte, shown}
+use Rattle.imago_drivers.specs.Place.{Place, Stored, Zeroed, Special, Lower, Refused, End, Value, Byte, shown}
 use Rattle.imago_vmdk.specs.declared.line.Extent.{Extent}
 use Rattle.imago_vmdk.specs.Reading.{reading_of}
 use Rattle.imago_vmdk.specs.Vmdk.{places_from}
@@ -18,3 +18,12 @@ described_place accept bytes p = places_read bytes (reading_of accept (bytes 0))
 -- what a read of each offset gives, whatever lies below
 abbrev pub described_value : Bool → (ℕ → List ℕ) → ℕ → Value
 described_value accept bytes p = shown (λ (q : ℕ). Byte 0) (described_place accept bytes p)
+
+-- a place, where the storages have these bytes
+abbrev pub with_bytes : (ℕ → List ℕ) → Place → Place
+with_bytes bytes (Stored byte storage offset writable) = Stored (slice_index (bytes storage) offset) storage offset writable
+with_bytes bytes (Zeroed explicit) = Zeroed explicit
+with_bytes bytes (Special byte offset) = Special byte offset
+with_bytes bytes (Lower offset writable) = Lower offset writable
+with_bytes bytes (Refused e) = Refused e
+with_bytes bytes End = End

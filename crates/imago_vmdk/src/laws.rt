@@ -8,12 +8,29 @@ ghost use Rattle.imago_vmdk.specs.declared.line.Line.{Line};
 ghost use Rattle.imago_vmdk.specs.Line.{verdict_of};
 ghost use Rattle.imago_vmdk.specs.Reading.{lines_say, reading_of};
 ghost use Rattle.imago_vmdk.specs.Image.{is_opened, takes_unknown_keys};
-ghost use Rattle.imago_vmdk.specs.Disk.{described_value};
+ghost use Rattle.imago_vmdk.specs.Disk.{described_place, described_value, with_bytes};
 ghost use Rattle.imago_drivers.specs.Place.{Value, shown};
 
 use crate::vmdk::Vmdk;
 use imago_drivers::drivers::FormatDriverInstance;
 use imago_storage::storage::Storage;
+
+/// The places of an image whose extents are opened follow from the bytes of its storages: those of the descriptor say which byte of
+/// which storage an offset has.
+pub fn places_of_bytes<S: Storage>(image: &Vmdk<S>)
+    requires { is_opened image.now ≡ true }
+    ensures { (p : ℕ) → (⟦<Vmdk<S> as FormatDriverInstance>⟧.view image.now).place p
+        ≡ described_place (takes_unknown_keys image.now) (⟦<Vmdk<S> as FormatDriverInstance>⟧.view image.now).stores.bytes p }
+{
+    let _ = image;
+}
+
+/// Which byte of which storage an offset has follows from the descriptor's bytes alone: where the other storages have other
+/// bytes, the same places show these.
+pub fn same_stands()
+    ensures { (accept : Bool) (old new : ℕ → List ℕ) (p : ℕ) → new 0 ≡ old 0
+        → described_place accept new p ≡ with_bytes new (described_place accept old p) }
+{}
 
 /// What is read of an image whose extents are opened follows from the bytes of its storages, whatever lies below: those of the
 /// descriptor say which byte of which storage an offset has.
@@ -22,7 +39,7 @@ pub fn disk_of_bytes<S: Storage>(image: &Vmdk<S>)
     ensures { (below : ℕ → Value) (p : ℕ) → shown below ((⟦<Vmdk<S> as FormatDriverInstance>⟧.view image.now).place p)
         ≡ described_value (takes_unknown_keys image.now) (⟦<Vmdk<S> as FormatDriverInstance>⟧.view image.now).stores.bytes p }
 {
-    let _ = image;
+    places_of_bytes(image);
 }
 
 /// The first fault is the answer, whatever stands behind it.

@@ -1,0 +1,4 @@
+pub mod Pieces
+pub mod PieceBytes
+pub mod Copies
+pub mod StoredBytes
