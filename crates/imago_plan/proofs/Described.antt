@@ -1,5 +1,5 @@
 -- Images of one layer, by the bytes of its storages.
-use Rattle.std.proofs.Common.{◌≡◌, ℕ, ◌+◌, ◌<◌, Bool, true, List, map, length, slice_index, get_or, if◌then◌else◌, nat_lt, refl, sym, ap, ◌∙◌, subst, arith}
+use Rattle.std.proofs.Common.{◌≡◌, ℕ, ◌+◌, ◌<◌, Bool, true, List, map, length, slice_index, get_or, if◌then◌else◌, sym, ap, ◌∙◌, subst, arith}
 use Rattle.std.proofs.lemmas.Bool.{lt-ltb}
 use Rattle.std.proofs.lemmas.List.{same_lists, get_or-map, length-map}
 use Rattle.std.proofs.lemmas.List.FromFn.{length-map-range_with_len, get_or-map-range_with_len}
@@ -38,7 +38,7 @@ module _ {D St : Type 0} (view : D → View St) (x : FormatAccess D) (bytes : �
   raw_value size own places top p lt =
       top_value top p ∙ ap (λ (z : Place). shown (λ (q : ℕ). Byte 0) (with_bytes (bytes 0) z)) (places p ∙ ap (λ (b : Bool). if b then Stored (slice_index own p) 0 p true else End) (lt-ltb p size lt))
 
-byte_in : Value → ℕ
+abbrev byte_in : Value → ℕ
 byte_in (Byte b) = b
 byte_in (Unreadable e) = 0
 

@@ -1,5 +1,5 @@
 -- The bytes of pieces are what an image shows.
-use Rattle.std.proofs.Common.{◌≡◌, ℕ, ◌+◌, ◌-◌, ◌<◌, ◌≤◌, ⊎_elim, List, [], ◌∷◌, ◌++◌, map, length, replicate, slice_index, get_or, refl, sym, ap, ◌∙◌, arith}
+use Rattle.std.proofs.Common.{◌≡◌, ℕ, ◌+◌, ◌-◌, ◌<◌, ◌≤◌, ⊎_elim, List, [], ◌∷◌, ◌++◌, map, length, slice_index, get_or, refl, sym, ap, ◌∙◌, arith}
 use Rattle.std.proofs.lemmas.Bool.{cases_lt}
 use Rattle.std.proofs.lemmas.List.{same_lists, get_or-map, get_or_append_left, get_or-append_right, get_or-replicate, length-replicate, map-append, length-append, length-map}
 use Rattle.std.proofs.lemmas.List.FromFn.{length-map-range_with_len, get_or-map-range_with_len}
@@ -8,12 +8,11 @@ use Rattle.imago_access.specs.Disk.{values_from}
 use Rattle.imago_access.specs.Target.{Target}
 use Rattle.imago_access.proofs.DiskLists.{from_at, from_length}
 use Rattle.imago_vmdk.specs.Disk.{with_bytes}
-use Rattle.imago_plan.specs.declared.piece.Location.{Location}
 use Rattle.imago_plan.specs.declared.piece.Source.{Source}
 use Rattle.imago_plan.specs.declared.piece.Source.TheVariants as S
 use Rattle.imago_plan.specs.declared.piece.Piece.{Piece}
 use Rattle.imago_plan.specs.Pieces.{Stands, Covers}
-use Rattle.imago_plan.specs.PieceBytes.{bytes_from, source_bytes, plan_bytes}
+use Rattle.imago_plan.specs.PieceBytes.{source_bytes, plan_bytes}
 use Rattle.imago_plan.specs.StoredBytes.{target_value}
 
 values_append : (V : ℕ → Value) (o a b : ℕ) → values_from V o (a + b) ≡ values_from V o a ++ values_from V (o + a) b

@@ -1,14 +1,14 @@
 -- What a resolved mapping names, as a piece.
-use Rattle.std.proofs.Common.{◌≡◌, ℕ, ◌+◌, ◌-◌, ◌^◌, ◌<◌, ◌≤◌, ◌⊎◌, inl, inr, ⊎_elim, Bool, true, false, Option, Some, None, min, if◌then◌else◌, nat_lt, refl, sym, ap, ◌∙◌, subst, arith}
+use Rattle.std.proofs.Common.{◌≡◌, ℕ, ◌+◌, ◌-◌, ◌^◌, ◌<◌, ◌≤◌, inl, inr, ⊎_elim, Bool, true, false, Some, None, min, if◌then◌else◌, nat_lt, sym, ap, ◌∙◌, subst, arith}
 use Rattle.std.proofs.lemmas.Bool.{cases_lt, lt-ltb, le-ltb}
-use Rattle.imago_drivers.specs.Place.{Place, Stored, End}
+use Rattle.imago_drivers.specs.Place.{Place, End}
 use Rattle.imago_drivers.specs.View.{View}
 use Rattle.imago_access.specs.declared.access.FormatAccess.{FormatAccess, out-FormatAccess, is-FormatAccess', back-FormatAccess-backing}
 use Rattle.imago_access.specs.declared.mapping.Mapping.{Mapping}
 use Rattle.imago_access.specs.declared.mapping.Mapping.TheVariants as M
 use Rattle.imago_access.specs.Chain.{driver}
 use Rattle.imago_access.specs.Resolved.{IsResolved, IsEndOfImage, LeadsTo, LeadsToZero}
-use Rattle.imago_access.specs.Target.{Target, target, target_below, followed, told_depth}
+use Rattle.imago_access.specs.Target.{Target, target, target_below, followed}
 use Rattle.imago_plan.specs.declared.piece.Location.{Location}
 use Rattle.imago_plan.specs.declared.piece.Source.{Source}
 use Rattle.imago_plan.specs.declared.piece.Source.TheVariants as S
@@ -88,4 +88,4 @@ no_source view x o most n (M.Raw layer storage offset w) e r = ⊎_elim
     r.here
 no_source view x o most n (M.Zero explicit) e r = absurd (some_none S.Zero e)
 no_source view x o most n M.Eof e r = inl (end_target view x o (r.eof.0 tt))
-no_source view x o most n (M.Special layer offset) e r = ⊎_elim (λ end. absurd end) (λ h. inr (inl (h.1.0, (offset + 0, h.1.1)))) r.here
+no_source view x o most n (M.Special layer offset) e r = ⊎_elim (λ end. absurd end) (λ h. inr (inl (h.1.0, offset + 0, h.1.1))) r.here

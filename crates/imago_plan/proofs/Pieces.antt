@@ -1,13 +1,12 @@
 -- Pieces behind one another.
-use Rattle.std.proofs.Common.{◌≡◌, ℕ, ◌+◌, ◌-◌, ◌<◌, ◌≤◌, ◌⊎◌, ⊎_elim, ◌&&◌, ◌==◌, Bool, true, false, List, [], ◌∷◌, ◌++◌, refl, sym, ap, ◌∙◌, subst, arith}
+use Rattle.std.proofs.Common.{◌≡◌, ℕ, ◌+◌, ◌-◌, ◌<◌, ◌≤◌, ⊎_elim, ◌&&◌, ◌==◌, true, false, List, [], ◌∷◌, ◌++◌, refl, sym, ap, ◌∙◌, subst, arith}
 use Rattle.std.proofs.lemmas.Bool.{cases_lt, and_parts, eqb-true}
 use Rattle.imago_drivers.specs.Place.{Stored}
 use Rattle.imago_access.specs.Target.{Target}
-use Rattle.imago_plan.specs.declared.piece.Location.{Location}
 use Rattle.imago_plan.specs.declared.piece.Source.{Source}
 use Rattle.imago_plan.specs.declared.piece.Source.TheVariants as S
 use Rattle.imago_plan.specs.declared.piece.Piece.{Piece}
-use Rattle.imago_plan.specs.Pieces.{Stands, IsPieceAt, Covers, goes_on, is_behind, continues, joined, IsMerged, IsPut}
+use Rattle.imago_plan.specs.Pieces.{Stands, IsPieceAt, Covers, goes_on, continues, joined, IsMerged, IsPut}
 
 -- a byte behind that many of a source
 behind_stands : (s r : Source) (n j : ℕ) (t : Target) → goes_on s n r ≡ true → Stands r j t → Stands s (n + j) t

@@ -1,4 +1,4 @@
-use Rattle.std.specs.Prelude.{ℕ, suc, List, []}
+use Rattle.std.specs.Prelude.{ℕ, zero, suc, List, []}
 use Rattle.imago_drivers.specs.Place.{Value, Byte, shown}
 use Rattle.imago_drivers.specs.View.{View}
 use Rattle.imago_access.specs.declared.access.FormatAccess.{FormatAccess, FormatAccess'}
@@ -22,7 +22,7 @@ disk_with view x bytes =
 abbrev mutual
   -- the bytes of the storages of an image, by the layer and the storage's index there
   pub layer_bytes : {D St : Type 0} → (D → View St) → FormatAccess D → ℕ → ℕ → List ℕ
-  layer_bytes view (FormatAccess' inner below) 0 index = (view inner).stores.bytes index
+  layer_bytes view (FormatAccess' inner below) zero index = (view inner).stores.bytes index
   layer_bytes view (FormatAccess' inner below) (suc layer) index = bytes_below view below layer index
 
   pub bytes_below : {D St : Type 0} → (D → View St) → Held-FormatAccess-backing D → ℕ → ℕ → List ℕ

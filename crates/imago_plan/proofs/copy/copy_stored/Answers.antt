@@ -1,4 +1,4 @@
-use Rattle.std.proofs.Common.{◌≡◌, ◌+◌, ℕ, List, arith, rules, subst}
+use Rattle.std.proofs.Common.{◌≡◌, ◌+◌, ℕ, arith, rules, subst}
 use Rattle.imago_plan.specs.PieceBytes.{bytes_at, bytes_from}
 use Rattle.imago_plan.specs.Copies.{IsAppendedOf}
 use Rattle.imago_plan.proofs.Copies.{bytes_at_append, appended_more}

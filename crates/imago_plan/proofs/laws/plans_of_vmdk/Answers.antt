@@ -1,5 +1,4 @@
 use Rattle.std.proofs.Common.{refl, ◌∙◌}
-use Rattle.imago_access.specs.Chain.{driver}
 use Rattle.imago_access.proofs.DiskLists.{same_listed}
 use Rattle.imago_vmdk.specs.Image.{takes_unknown_keys}
 use Rattle.imago_plan.proofs.Described.{described}

@@ -1,5 +1,5 @@
 use Rattle.std.proofs.Common.{refl}
-use Rattle.imago_plan.proofs.Mapped.{mapped_piece, no_source}
+use Rattle.imago_plan.proofs.Mapped.{mapped_piece}
 use Rattle.imago_plan.proofs.plan.next_piece.Goals as goal
 
 pub returns-clause-piece : goal.returns-clause-piece
