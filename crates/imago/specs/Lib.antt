@@ -98,6 +98,12 @@ pub use Rattle.imago_access.specs.Success
 pub use Rattle.imago_access.specs.Alignments
 pub use Rattle.imago_access.specs.Lending
 pub use Rattle.imago_access.specs.ChainLaws
+pub use Rattle.imago_plan.specs.Pieces
+pub use Rattle.imago_plan.specs.PieceBytes
+pub use Rattle.imago_plan.specs.StoredBytes
+pub use Rattle.imago_plan.specs.Copies
+pub use Rattle.imago_plan.specs.Memory
+pub use Rattle.imago_plan.specs.Differences
 -- The types of these items, under their own names; 'Declared' stands before one that a file of definitions above has too.
 pub use Rattle.imago_storage.specs.declared.error.Error as DeclaredError
 pub use Rattle.imago_storage.specs.declared.error.ErrorKind
@@ -126,3 +132,8 @@ pub use Rattle.imago_access.specs.declared.access.FormatAccess
 pub use Rattle.imago_access.specs.declared.mapping.Mapping as DeclaredMapping
 pub use Rattle.imago_access.specs.declared.run.Call
 pub use Rattle.imago_access.specs.declared.run.Reply
+pub use Rattle.imago_plan.specs.declared.piece.Location
+pub use Rattle.imago_plan.specs.declared.piece.Source
+pub use Rattle.imago_plan.specs.declared.piece.Piece
+pub use Rattle.imago_plan.specs.declared.memory.MemorySources
+pub use Rattle.imago_plan.specs.declared.disk.WriteError

@@ -22,6 +22,7 @@ use crate::{FormatAccess, FormatDriverInstance, Storage};
 pub use imago_access::laws as images;
 pub use imago_cow::laws as data_blocks;
 pub use imago_drivers::laws as drivers;
+pub use imago_plan::laws as plans;
 pub use imago_storage::laws as storages;
 pub use imago_vmdk::laws as descriptors;
 

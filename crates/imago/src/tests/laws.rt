@@ -10,8 +10,8 @@ use crate::cow::Cow;
 use crate::error::Error;
 use crate::format::PreallocateMode;
 use crate::laws::{
-    data_blocks, descriptors, drivers, images, in_memory, over_null, round_trip, runs_of_cow,
-    storages, vmdk_disk,
+    data_blocks, descriptors, drivers, images, in_memory, over_null, plans, round_trip,
+    runs_of_cow, storages, vmdk_disk,
 };
 use crate::mem::MemStorage;
 use crate::null::Null;
@@ -41,6 +41,7 @@ fn call_laws_of_raw_images<S: Storage>(raw: &Raw<S>) {
 
 /// The laws of descriptors, and the lines that are written out.
 fn call_laws_of_descriptors() {
+    descriptors::same_stands();
     descriptors::first_fault();
     descriptors::extent_lines();
     descriptors::faulty_extent_lines();
@@ -53,8 +54,10 @@ fn call_laws_of_descriptors() {
 fn call_laws_of_vmdk<S: Storage>(image: &FormatAccess<Vmdk<S>>)
     requires { is_opened (driver image.now) ≡ true }
 {
+    descriptors::places_of_bytes(image.inner());
     descriptors::disk_of_bytes(image.inner());
     vmdk_disk(image);
+    plans::plans_of_vmdk(image);
 }
 
 /// The laws of tables of data blocks.
@@ -93,6 +96,10 @@ fn call_laws_of_images<D: FormatDriverInstance>() {
     images::prepared_writes_succeed::<D>();
     images::commits_succeed::<D>();
     images::flushes_succeed::<D>();
+    plans::plans_show_stored_bytes::<D>();
+    plans::plans_show_the_disk::<D>();
+    plans::differences_of_disks::<D, D>();
+    plans::top_layers_lead_nowhere::<D>();
 }
 
 /// Each law, at the drivers of this library.
@@ -100,6 +107,7 @@ fn call_laws(alloc: Global) -> Result<(), Error> {
     call_laws_of_storages(&Null::new(512));
     call_laws_of_raw_images(&Raw::open_image(MemStorage::new(Vec::new(alloc)), true)?);
     call_laws_of_raw_images(&Raw::open_image(Null::new(512), true)?);
+    plans::plans_of_raw(&FormatAccess::new(Raw::open_image(Null::new(512), true)?));
     call_laws_of_descriptors();
     call_laws_of_tables(&Table::new(alloc, 4)?);
     let cow = Cow::create(alloc, MemStorage::new(Vec::new(alloc)), 4096, 512)?;

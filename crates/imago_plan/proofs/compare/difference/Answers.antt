@@ -1,7 +1,6 @@
-use Rattle.std.proofs.Common.{◌≡◌, ◌≢◌, ◌+◌, ℕ, List, [], Bool, true, arith, rules, slice_index, sym, ap, ◌∙◌, subst}
-use Rattle.imago_plan.specs.declared.piece.Piece.{Piece}
+use Rattle.std.proofs.Common.{◌≡◌, ◌≢◌, ◌+◌, ℕ, List, [], true, arith, rules, slice_index, sym, ap, ◌∙◌}
 use Rattle.imago_plan.specs.PieceBytes.{plan_bytes}
-use Rattle.imago_plan.specs.Differences.{AreSameBefore, GoOnTheSame, IfBoth, GoesOn, left_byte}
+use Rattle.imago_plan.specs.Differences.{AreSameBefore, GoOnTheSame, left_byte}
 use Rattle.imago_plan.proofs.Differences.{both, same_more, same_all, differ_next, none_left}
 use Rattle.imago_plan.proofs.compare.difference.Goals as goal
 

@@ -1,4 +1,3 @@
-use Rattle.std.proofs.Common.{◌≡◌, length}
 use Rattle.imago_plan.specs.Differences.{AreSameBefore}
 use Rattle.imago_plan.proofs.compare.first_difference.Given as goal
 

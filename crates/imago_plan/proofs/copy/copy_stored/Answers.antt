@@ -1,4 +1,4 @@
-use Rattle.std.proofs.Common.{◌≡◌, ◌+◌, ℕ, arith, rules, subst}
+use Rattle.std.proofs.Common.{◌+◌, arith, subst}
 use Rattle.imago_plan.specs.declared.piece.Location.{Location}
 use Rattle.imago_plan.specs.PieceBytes.{bytes_at, bytes_from}
 use Rattle.imago_plan.specs.Copies.{IsAppendedOf}

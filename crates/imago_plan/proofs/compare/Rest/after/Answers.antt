@@ -1,5 +1,4 @@
-use Rattle.std.proofs.Common.{arith, rules, ◌≡◌, ◌-◌, ◌≤◌, ◌∷◌, List}
-use Rattle.imago_plan.specs.Differences.{first_count}
+use Rattle.std.proofs.Common.{rules, ◌-◌, ◌≤◌}
 use Rattle.imago_plan.specs.declared.piece.Piece.{Piece}
 use Rattle.imago_plan.proofs.Differences.{behind_first}
 use Rattle.imago_plan.proofs.compare.Rest.after.Goals as goal

@@ -1,4 +1,4 @@
-use Rattle.std.proofs.Common.{◌≡◌, ◌<◌, ℕ, List, replicate, rules, sym}
+use Rattle.std.proofs.Common.{◌≡◌, ◌<◌, ℕ, replicate, rules, sym}
 use Rattle.imago_plan.specs.PieceBytes.{bytes_from}
 use Rattle.imago_plan.specs.Differences.{HasNext, left_byte}
 use Rattle.imago_plan.proofs.Differences.{if_some, hole_left}
