@@ -5,4 +5,5 @@ use Rattle.std.specs.declared.alloc.Global.{Global}
 -- such storage
 abbrev pub memory_bytes : List (Vec (Vec ℕ Global) Global) → ℕ → ℕ → List ℕ
 memory_bytes layers layer index =
-    slice_index_or (map (λ v. v.items) (slice_index_or (map (λ v. v.items) layers) layer [])) index []
+    let storages = slice_index_or (map (λ v. v.items) layers) layer [] in
+    slice_index_or (map (λ v. v.items) storages) index []

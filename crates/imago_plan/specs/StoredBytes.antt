@@ -23,7 +23,8 @@ abbrev mutual
   -- the bytes of the storages of an image, by the layer and the storage's index there
   pub layer_bytes : {D St : Type 0} → (D → View St) → FormatAccess D → ℕ → ℕ → List ℕ
   layer_bytes view (FormatAccess' inner below) zero index = (view inner).stores.bytes index
-  layer_bytes view (FormatAccess' inner below) (suc layer) index = bytes_below view below layer index
+  layer_bytes view (FormatAccess' inner below) (suc layer) index =
+      bytes_below view below layer index
 
   pub bytes_below : {D St : Type 0} → (D → View St) → Held-FormatAccess-backing D → ℕ → ℕ → List ℕ
   bytes_below view None' layer index = []

@@ -1,5 +1,6 @@
 //! Whether two disks show the same.
-ghost use Rattle.std.specs.Prelude.{◌≡◌, ◌≢◌, ◌+◌, ◌<◌, ◌≤◌, ◌↔◌, ◌⊎◌, ℕ, List, [], IsTrue, true, false};
+ghost use Rattle.std.specs.Prelude.{◌≡◌, ◌≢◌, ◌+◌, ◌<◌, ◌≤◌, ◌↔◌, ◌⊎◌, ℕ, List, []};
+ghost use Rattle.std.specs.Prelude.{IsTrue, true, false};
 ghost use Rattle.std.specs.Prelude.{length, slice_index, IfOk, IfSome, OnOk, MatchOption};
 ghost use Rattle.imago_plan.specs.PieceBytes.{plan_bytes};
 ghost use Rattle.imago_plan.specs.Differences.{IsFirstDifference, IsNextDifference, IfBoth};
@@ -154,7 +155,8 @@ fn first_difference(left: &[u8], right: &[u8]) -> Option<usize>
     None
 }
 
-/// The index of the first of the next bytes of two disks that differs: of as many as each buffer has.
+/// The index of the first of the next bytes of two disks that differs: of as many as each buffer
+/// has.
 fn unequal<S: Sources, T: Sources>(
     left: &Rest<S>,
     right: &Rest<T>,
@@ -221,9 +223,10 @@ fn same_next<S: Sources, T: Sources>(
 /// from these sources. Past the end of the shorter disk it is zero.
 ///
 /// What is known to be zero in both is passed over, and all else is compared by way of the buffers,
-/// a part at a time. What a source refuses is passed on. [`InvalidInput`](io::ErrorKind::InvalidInput) is an empty
-/// buffer; an empty piece, or one that passes the greatest offset of its storage, as no plan has it;
-/// or a disk that passes the greatest offset.
+/// a part at a time. What a source refuses is passed on.
+/// [`InvalidInput`](io::ErrorKind::InvalidInput) is an empty buffer; an empty piece, or one that
+/// passes the greatest offset of its storage, as no plan has it; or a disk that passes the greatest
+/// offset.
 pub fn difference<S: Sources, T: Sources>(
     left: &S,
     left_pieces: &[Piece],

@@ -41,9 +41,9 @@ impl From<io::Error> for WriteError {
     }
 }
 
-/// Puts the disk of an image into a target. The bytes of its storages are those of the sources, from
-/// which they are read by way of the buffer. The driver's own storages are not read, so these may be
-/// empty.
+/// Puts the disk of an image into a target. The bytes of its storages are those of the sources,
+/// from which they are read by way of the buffer. The image's own storages are not read for it, so
+/// these may be empty.
 ///
 /// The refusals are those of [`plan`] and [`copy`]; refused by `copy`, some of the disk was put in.
 pub fn write_disk<D: FormatDriverInstance, S: Sources, T: Target>(
@@ -63,8 +63,8 @@ pub fn write_disk<D: FormatDriverInstance, S: Sources, T: Target>(
     Ok(())
 }
 
-/// Puts the disk that a VMDK descriptor describes into a target, as [`write_disk`] does. The sources
-/// have the image's descriptor, where it is known what they have.
+/// Puts the disk that a VMDK descriptor describes into a target, as [`write_disk`] does. The
+/// sources have the image's descriptor, where it is known what they have.
 pub fn write_described_disk<S: Storage, F: Sources, T: Target>(
     alloc: Global,
     image: &FormatAccess<Vmdk<S>>,

@@ -38,9 +38,9 @@ pub fn plans_show_the_disk<D: FormatDriverInstance>()
     plans_show_stored_bytes::<D>();
 }
 
-/// Whatever bytes the storages of two images have: where the bytes of their plans differ first, there
-/// their disks differ first, and where these are the same, the disks are. Past the end of a disk it is
-/// zero.
+/// Whatever bytes the storages of two images have: where the bytes of their plans differ first,
+/// there their disks differ first, and where these are the same, the disks are. Past the end of a
+/// disk it is zero.
 pub fn differences_of_disks<D: FormatDriverInstance, E: FormatDriverInstance>()
     ensures { (x : FormatAccess D) (y : FormatAccess E) (left right : List Piece)
         (on_left on_right : ℕ → ℕ → List ℕ) (found : Option ℕ)

@@ -1,8 +1,8 @@
 //! Where the bytes of an image's disk stand, and their way to another place.
 //!
 //! [`plan`] lists the pieces of a disk: zeroes, or bytes of one storage. [`copy`] moves their bytes
-//! to a target, [`disk`] does both, and [`compare`] tells where two disks differ. The bytes are read
-//! from [`Sources`](copy::Sources): files, or [`memory`]. A plan is right whatever these hold.
+//! to a target, [`disk`] does both, and [`compare`] tells where two disks differ. The bytes are
+//! read from [`Sources`](copy::Sources): files, or [`memory`]. A plan is right whatever these hold.
 #![tactic(auto)]
 
 pub mod compare;

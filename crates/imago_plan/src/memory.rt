@@ -5,8 +5,8 @@ use crate::copy::{Sources, Target};
 use crate::piece::Location;
 use std::io::{self, ErrorKind};
 
-/// Storages in memory: of each layer, from the top on, those of its driver by their index. A read of
-/// one that isn't there is refused as [`ErrorKind::NotFound`].
+/// Storages in memory: of each layer, from the top on, those of its driver by their index. A read
+/// of one that isn't there is refused as [`ErrorKind::NotFound`].
 #[derive(Drop)]
 pub struct MemorySources {
     layers: Vec<Vec<Vec<u8>>>,

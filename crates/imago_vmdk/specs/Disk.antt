@@ -1,6 +1,7 @@
 use Rattle.std.specs.Prelude.{ℕ, Bool, List, Result, Ok, Err, slice_index}
 use Rattle.imago_storage.specs.declared.error.Error.{Error}
-use Rattle.imago_drivers.specs.Place.{Place, Stored, Zeroed, Special, Lower, Refused, End, Value, Byte, shown}
+use Rattle.imago_drivers.specs.Place.{Place, Stored, Zeroed, Special, Lower, Refused, End}
+use Rattle.imago_drivers.specs.Place.{Value, Byte, shown}
 use Rattle.imago_vmdk.specs.declared.line.Extent.{Extent}
 use Rattle.imago_vmdk.specs.Reading.{reading_of}
 use Rattle.imago_vmdk.specs.Vmdk.{places_from}
@@ -21,7 +22,8 @@ described_value accept bytes p = shown (λ (q : ℕ). Byte 0) (described_place a
 
 -- a place, where the storages have these bytes
 abbrev pub with_bytes : (ℕ → List ℕ) → Place → Place
-with_bytes bytes (Stored byte storage offset writable) = Stored (slice_index (bytes storage) offset) storage offset writable
+with_bytes bytes (Stored byte storage offset writable) =
+    Stored (slice_index (bytes storage) offset) storage offset writable
 with_bytes bytes (Zeroed explicit) = Zeroed explicit
 with_bytes bytes (Special byte offset) = Special byte offset
 with_bytes bytes (Lower offset writable) = Lower offset writable

@@ -15,18 +15,19 @@ use crate::vmdk::Vmdk;
 use imago_drivers::drivers::FormatDriverInstance;
 use imago_storage::storage::Storage;
 
-/// The places of an image whose extents are opened follow from the bytes of its storages: those of the descriptor say which byte of
-/// which storage an offset has.
+/// The places of an image whose extents are opened follow from the bytes of its storages: those of
+/// the descriptor say which byte of which storage an offset has.
 pub fn places_of_bytes<S: Storage>(image: &Vmdk<S>)
     requires { is_opened image.now ≡ true }
-    ensures { (p : ℕ) → (⟦<Vmdk<S> as FormatDriverInstance>⟧.view image.now).place p
-        ≡ described_place (takes_unknown_keys image.now) (⟦<Vmdk<S> as FormatDriverInstance>⟧.view image.now).stores.bytes p }
+    ensures { let vmdk = ⟦<Vmdk<S> as FormatDriverInstance>⟧.view image.now in
+        (p : ℕ)
+        → vmdk.place p ≡ described_place (takes_unknown_keys image.now) vmdk.stores.bytes p }
 {
     let _ = image;
 }
 
-/// Which byte of which storage an offset has follows from the descriptor's bytes alone: where the other storages have other
-/// bytes, the same places show these.
+/// Which byte of which storage an offset has follows from the descriptor's bytes alone: where the
+/// other storages have other bytes, the same places show these.
 pub fn same_stands()
     ensures { (accept : Bool) (old new : ℕ → List ℕ) (p : ℕ) → new 0 ≡ old 0
         → described_place accept new p ≡ with_bytes new (described_place accept old p) }
