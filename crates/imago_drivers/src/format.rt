@@ -5,7 +5,7 @@
 pub enum Format {
     /// A disk that is its storage.
     Raw,
-    /// QEMU's copy-on-write format, which has no driver here.
+    /// QEMU's copy-on-write format.
     Qcow2,
     /// VMware's virtual disks.
     Vmdk,

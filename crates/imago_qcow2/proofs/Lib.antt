@@ -1,0 +1,3 @@
+pub mod NumberSteps
+pub mod HeaderSteps
+pub mod TableSteps

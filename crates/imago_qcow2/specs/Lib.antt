@@ -1,3 +1,9 @@
 pub mod Numbers
 pub mod Entry
 pub mod Header
+pub mod Tables
+pub mod Opening
+pub mod Qcow2
+pub mod Qcow2Laws
+pub mod Qcow2Calls
+pub mod Qcow2Image

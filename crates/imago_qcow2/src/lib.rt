@@ -5,7 +5,7 @@
 
 pub mod entry;
 pub mod header;
-
+mod map;
 mod number;
-
-
+pub mod qcow2;
+mod table;
