@@ -1,3 +1,6 @@
 pub mod NumberSteps
 pub mod HeaderSteps
 pub mod TableSteps
+pub mod MapSteps
+pub mod HeldSteps
+pub mod ReadSteps
