@@ -7,3 +7,5 @@ pub mod Qcow2
 pub mod Qcow2Laws
 pub mod Qcow2Calls
 pub mod Qcow2Image
+pub mod Qcow2BuilderParts
+pub mod Qcow2Builder

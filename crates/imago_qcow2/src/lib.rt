@@ -8,4 +8,5 @@ pub mod header;
 mod map;
 mod number;
 pub mod qcow2;
+mod qcow2_builder;
 mod table;

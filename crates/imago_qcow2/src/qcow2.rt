@@ -19,6 +19,7 @@ use crate::entry::{GuestCluster, cluster_in};
 use crate::header::{HEADER, Header, cluster_of_bits, read_header};
 use crate::map::{goes_on, mapping_of};
 use crate::number::number32;
+pub use crate::qcow2_builder::Qcow2OpenBuilder;
 use crate::table::{HeldTable, Tables, entry_at, read_tables};
 use imago_drivers::drivers::{
     Format, FormatDriverInstance, PreallocateMode, PreparedDataMapping, ShallowMapping,
