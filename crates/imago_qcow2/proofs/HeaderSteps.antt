@@ -1,24 +1,28 @@
+-- The headers of two lists of bytes that begin alike.
 use Rattle.std.proofs.Common.{◌≡◌, ℕ, ◌+◌, ◌*◌, ◌/◌, ◌^◌, ◌<◌, ◌≤◌, ◌⊎◌, inl, inr, List, length, Result, Ok, Err, refl, sym, ap, ◌∙◌, arith}
 use Rattle.std.specs.Prelude.{slice_index, IfOk, IfErr}
 use Rattle.imago_storage.specs.declared.error.Error.{Error}
 use Rattle.imago_storage.specs.Bytes.{IsReadAt}
 use Rattle.imago_qcow2.specs.declared.header.Header.{Header}
 use Rattle.imago_qcow2.specs.Numbers.{be32, be64}
-use Rattle.imago_qcow2.specs.Header.{magic_fault, features_of, support_fault, bounds_fault, added_fault, name_fault, size_fault, table_fault, header_of, IsSound}
-use Rattle.imago_qcow2.proofs.NumberSteps.{read32, read64}
+use Rattle.imago_qcow2.specs.Header.{magic_fault, features_of, support_fault, bounds_fault, added_fault, name_fault, size_fault, table_fault, own_length, header_of, IsSound}
+use Rattle.imago_qcow2.proofs.NumberSteps.{range32, range64}
 
-module _ (bytes head : List ℕ) (r : IsReadAt bytes 0 head) (l : 112 ≤ length head) where
+module _ (bytes head : List ℕ) (same : (i : ℕ) → i < 112 → slice_index head i ≡ slice_index bytes i) where
+  moved : (i : ℕ) → i < 112 → slice_index head (0 + i) ≡ slice_index bytes (0 + i)
+  moved i h = let e : 0 + i ≡ i = omega arith in rw e (same i h)
+
   pub same32 : (i : ℕ) → i + 4 ≤ 112 → be32 head i ≡ be32 bytes i
-  same32 i h = let e : 0 + i ≡ i = omega arith in read32 bytes head 0 r i (omega (arith, h, l)) ∙ ap (be32 bytes) e
+  same32 i h = let e : 0 + i ≡ i = omega arith in let x = range32 head bytes 0 112 moved i h in rw e at x
 
   pub same64 : (i : ℕ) → i + 8 ≤ 112 → be64 head i ≡ be64 bytes i
-  same64 i h = let e : 0 + i ≡ i = omega arith in read64 bytes head 0 r i (omega (arith, h, l)) ∙ ap (be64 bytes) e
+  same64 i h = let e : 0 + i ≡ i = omega arith in let x = range64 head bytes 0 112 moved i h in rw e at x
 
   pub same8 : slice_index head 104 ≡ slice_index bytes 104
-  same8 = r 104 (omega (arith, l))
+  same8 = same 104 (omega arith)
 
   pub header_same : (file : ℕ) → header_of head file ≡ header_of bytes file
-  unfolding header_of magic_fault features_of support_fault bounds_fault added_fault name_fault size_fault table_fault
+  unfolding header_of own_length magic_fault features_of support_fault bounds_fault added_fault name_fault size_fault table_fault
   header_same file =
       let a = same32 0 (omega arith) in
       let b = same32 4 (omega arith) in
@@ -34,9 +38,14 @@ module _ (bytes head : List ℕ) (r : IsReadAt bytes 0 head) (l : 112 ≤ length
       let m = same64 72 (omega arith) in
       rw (a, b, c, d, e, f, g, h, i, j, k, m, same8) refl
 
+  own_same : own_length head ≡ own_length bytes
+  unfolding own_length
+  own_same = let a = same32 4 (omega arith) in let b = same32 100 (omega arith) in rw (a, b) refl
+
   pub sound_same : (file : ℕ) (h : Header) → IsSound head file h → IsSound bytes file h
   sound_same file h s = record {
     version = s.version ∙ same32 4 (omega arith);
+    own = s.own ∙ own_same;
     bits = s.bits ∙ same32 20 (omega arith);
     size = s.size ∙ same64 24 (omega arith);
     start = s.start ∙ same64 40 (omega arith);
@@ -59,3 +68,7 @@ is_ok (Err r) y e = tt
 pub is_err : (P : Error → Type 0) (x y : Result Header Error) → x ≡ y → IfErr x (λ r. (y ≡ Err r) ⊎ P r)
 is_err P (Ok h) y e = tt
 is_err P (Err r) y e = inl (sym e)
+
+-- what was read of a file's begin begins like it
+pub head_same : (bytes head : List ℕ) → IsReadAt bytes 0 head → 112 ≤ length head → (i : ℕ) → i < 112 → slice_index head i ≡ slice_index bytes i
+head_same bytes head r l i h = let e : 0 + i ≡ i = omega arith in r i (omega (arith, h, l)) ∙ ap (slice_index bytes) e

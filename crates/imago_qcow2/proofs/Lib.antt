@@ -4,3 +4,5 @@ pub mod TableSteps
 pub mod MapSteps
 pub mod HeldSteps
 pub mod ReadSteps
+pub mod BackingSteps
+pub mod DiskSteps

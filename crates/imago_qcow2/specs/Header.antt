@@ -55,6 +55,10 @@ unfoldable pub table_fault : List ℕ → ℕ → ℕ → Result (Unit {0}) Erro
 table_fault head file cluster =
     if not (nat_eq (be64 head 40 % cluster) 0) || (nat_lt file (be32 head 36 * 8) || nat_lt (file - be32 head 36 * 8) (be64 head 40)) then Err Error.InvalidData else Ok tt
 
+-- how long the header is by its own words, in bytes; version 2 doesn't say
+unfoldable pub own_length : List ℕ → ℕ
+own_length head = if nat_lt (be32 head 4) 3 then 72 else be32 head 100
+
 -- what the header of a file of that length says, or its first fault
 unfoldable pub header_of : List ℕ → ℕ → Result Header Error
 header_of head file =
@@ -67,6 +71,7 @@ header_of head file =
     (and_then (table_fault head file (2 ^ be32 head 20))
     (Ok (record {
       version = be32 head 4;
+      own_length = own_length head;
       cluster_bits = be32 head 20;
       size = be64 head 24;
       l1_start = be64 head 40;
@@ -78,6 +83,7 @@ header_of head file =
 -- What holds of a header that has no fault.
 pub record IsSound (head : List ℕ) (file : ℕ) (h : Header) : Type 0 where
   pub version : h.version ≡ be32 head 4
+  pub own : h.own_length ≡ own_length head
   pub bits : h.cluster_bits ≡ be32 head 20
   pub size : h.size ≡ be64 head 24
   pub start : h.l1_start ≡ be64 head 40

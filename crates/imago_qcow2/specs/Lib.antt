@@ -2,7 +2,9 @@ pub mod Numbers
 pub mod Entry
 pub mod Header
 pub mod Tables
+pub mod Backing
 pub mod Opening
+pub mod Disk
 pub mod Qcow2
 pub mod Qcow2Laws
 pub mod Qcow2Calls

@@ -1,7 +1,7 @@
 //! The header of an image's file.
 ghost use Rattle.std.specs.Prelude.{◌≡◌, ◌≤◌, ◌<◌, ◌^◌, ◌+◌, ◌*◌, ◌/◌, length, OnOk, IfOk};
 ghost use Rattle.imago_qcow2.specs.Numbers.{be32, be64};
-ghost use Rattle.imago_qcow2.specs.Header.{features_of, magic_fault, support_fault, added_fault, bounds_fault, table_fault, size_fault, name_fault, header_of, IsSound};
+ghost use Rattle.imago_qcow2.specs.Header.{features_of, own_length, magic_fault, support_fault, added_fault, bounds_fault, table_fault, size_fault, name_fault, header_of, IsSound};
 
 use crate::number::{number32, number64};
 use imago_storage::error::Error;
@@ -13,6 +13,8 @@ pub(crate) const HEADER: usize = 112;
 #[derive(Clone, Copy, Debug, PartialEq, Eq)]
 pub struct Header {
     pub(crate) version: u32,
+    /// The header's own length in bytes.
+    pub(crate) own_length: u32,
     /// The base 2 logarithm of a cluster's length in bytes.
     pub(crate) cluster_bits: u32,
     /// The disk's size in bytes.
@@ -49,6 +51,18 @@ fn features(head: &[u8]) -> u64
         return 0;
     }
     number64(head, 72)
+}
+
+/// The header's own length in bytes.
+#[tactic(auto, unfolding(crate::specs::Header::own_length))]
+fn own_length_of(head: &[u8]) -> u32
+    requires { 112 ≤ length head.now }
+    ensures { result ≡ own_length head.now }
+{
+    if number32(head, 4) < 3 {
+        return 72;
+    }
+    number32(head, 100)
 }
 
 /// Which part of what the image needs isn't offered: another version, encryption, or an incompatible feature but bit 0, that the
@@ -185,6 +199,7 @@ pub(crate) fn read_header(head: &[u8], file: u64) -> Result<Header, Error>
     check_table(head, file, cluster)?;
     Ok(Header {
         version: number32(head, 4),
+        own_length: own_length_of(head),
         cluster_bits,
         size: number64(head, 24),
         l1_start: number64(head, 40),

@@ -3,8 +3,10 @@
 //! [`qcow2`] has the driver, [`header`] what a file's header says, and [`entry`] what the entries of its tables say.
 #![tactic(auto)]
 
+mod backing;
 pub mod entry;
 pub mod header;
+pub mod laws;
 mod map;
 mod number;
 pub mod qcow2;

@@ -7,20 +7,22 @@ ghost use Rattle.imago_drivers.specs.Mapping.{Names};
 ghost use Rattle.imago_drivers.specs.Place.{Refused};
 ghost use Rattle.imago_drivers.specs.Reasons.{allowed};
 ghost use Rattle.imago_qcow2.specs.Numbers.{be32, be64};
-ghost use Rattle.imago_qcow2.specs.Header.{header_of, IsSound};
+ghost use Rattle.imago_qcow2.specs.Header.{own_length, header_of, IsSound};
 ghost use Rattle.imago_qcow2.specs.Entry.{version_of, cluster_length, disk_size, cluster_of, qcow2_place};
 ghost use Rattle.imago_qcow2.specs.Tables.{AreHeld};
-ghost use Rattle.imago_qcow2.specs.Opening.{header_reasons, open_reasons, probe_of, probe_reasons_of};
+ghost use Rattle.imago_qcow2.specs.Backing.{IsBackingName, IsFormatName, extensions_end, format_of, extension_reasons};
+ghost use Rattle.imago_qcow2.specs.Opening.{read_reasons, header_reasons, open_reasons, probe_of, probe_reasons_of};
 ghost use Rattle.imago_qcow2.specs.Qcow2.{qcow2_view};
 ghost use Rattle.imago_qcow2.specs.Qcow2Calls.{qcow2_calls};
 ghost use Rattle.imago_qcow2.specs.Qcow2Laws.{qcow2_lawful, qcow2_causes};
 
+use crate::backing::find_format;
 use crate::entry::{GuestCluster, cluster_in};
 use crate::header::{HEADER, Header, cluster_of_bits, read_header};
 use crate::map::{goes_on, mapping_of};
 use crate::number::number32;
 pub use crate::qcow2_builder::Qcow2OpenBuilder;
-use crate::table::{HeldTable, Tables, entry_at, read_tables};
+use crate::table::{HeldTable, Tables, entry_at, read_bytes, read_tables};
 use imago_drivers::drivers::{
     Format, FormatDriverInstance, PreallocateMode, PreparedDataMapping, ShallowMapping,
 };
@@ -40,6 +42,8 @@ use std::fmt::{self, Display, Formatter, Write};
 pub struct Qcow2<S: Storage> {
     storage: S,
     version: u32,
+    /// The length of the header in bytes.
+    header_length: u32,
     /// A cluster's length in bytes.
     cluster: u64,
     /// The disk's size in bytes.
@@ -50,6 +54,7 @@ pub struct Qcow2<S: Storage> {
     name_length: u32,
     tables: Tables,
     ghost version_is: { version ≡ version_of (S.bytes storage) },
+    ghost header_length_is: { header_length ≡ own_length (S.bytes storage) },
     ghost cluster_is: { cluster ≡ cluster_length (S.bytes storage) },
     ghost size_is: { size ≡ disk_size (S.bytes storage) },
     ghost name_start_is: { name_start ≡ be64 (S.bytes storage) 8 },
@@ -125,12 +130,58 @@ impl<S: Storage> Qcow2<S> {
         Ok(Qcow2 {
             storage,
             version: header.version,
+            header_length: header.own_length,
             cluster,
             size: header.size,
             name_start: header.name_start,
             name_length: header.name_length,
             tables,
         })
+    }
+
+    /// The name of the backing file, as it stands in the file, where there is one. It is in the caller's hands to open it, and to lay its
+    /// image below. [`Error::Memory`] is no room for the name; what the storage is refused for is passed on.
+    pub fn backing_file(&self, alloc: Global) -> Result<Option<Vec<u8>>, Error>
+        ensures name { IfOk result (IsBackingName (S.bytes (storage_in self.now))) }
+        ensures refusals { IfErr result
+            (allowed
+            (read_reasons (S.features (storage_in self.now)) (be64 (S.bytes (storage_in self.now)) 8)
+            (be32 (S.bytes (storage_in self.now)) 16))) }
+    {
+        if self.name_start == 0 {
+            return Ok(None);
+        }
+        let count = self.name_length as u64;
+        Ok(Some(read_bytes(&self.storage, alloc, self.name_start, count)?))
+    }
+
+    /// The name of the backing file's format, as the header extension for it has it, where there is one.
+    ///
+    /// [`Error::InvalidData`] is a header extension that passes the first cluster, or begin of the backing file's name;
+    /// [`Error::Memory`] no room for the name. What the storage is refused for is passed on.
+    pub fn backing_format(&self, alloc: Global) -> Result<Option<Vec<u8>>, Error>
+        ensures name { IfOk result (IsFormatName (S.bytes (storage_in self.now))) }
+        ensures refusals { IfErr result
+            (λ e. (format_of (S.bytes (storage_in self.now)) ≡ Err e)
+            ⊎ allowed (extension_reasons (S.features (storage_in self.now)) (cluster_length (S.bytes (storage_in self.now)))) e) }
+    {
+        let end = self.extensions_end();
+        let found = find_format(&self.storage, alloc, self.header_length as u64, end)?;
+        let Some((at, count)) = found else {
+            return Ok(None);
+        };
+        Ok(Some(read_bytes(&self.storage, alloc, at, count)?))
+    }
+
+    /// Where header extensions end in the file, in bytes.
+    fn extensions_end(&self) -> u64
+        ensures value { result ≡ extensions_end (S.bytes self.now.storage) }
+        ensures inside { result ≤ self.now.cluster }
+    {
+        if self.name_start == 0 {
+            return self.cluster;
+        }
+        self.cluster.min(self.name_start)
     }
 
     /// What the guest cluster at that offset of the disk is, and how many bytes from there on stand in such guest clusters: the rest of
