@@ -1,5 +1,5 @@
 -- Header extensions, one after the other.
-use Rattle.std.proofs.Common.{zero, suc, ◌≡◌, ℕ, ◌+◌, ◌-◌, ◌<◌, ◌≤◌, ◌⊎◌, inl, inr, true, false, nat_lt, nat_eq, cond, List, length, Option, Some, None, Result, Ok, Err, refl, sym, ap, ◌∙◌, arith}
+use Rattle.std.proofs.Common.{zero, suc, ◌≡◌, ℕ, ◌+◌, ◌-◌, ◌<◌, ◌≤◌, true, false, nat_lt, nat_eq, List, Option, Some, None, Result, Ok, Err, refl, sym, ap, ◌∙◌, arith}
 use Rattle.std.specs.Prelude.{if◌then◌else◌}
 use Rattle.std.specs.Int.{next_multiple_of}
 use Rattle.std.proofs.lemmas.Bool.Decides.{nat_tests}
@@ -23,10 +23,10 @@ module _ (bytes : List ℕ) (end : ℕ) where
   steps_free (suc a) zero at h k = let t : nat_lt at end ≡ false = grind (arith, nat_tests) in rw t refl
   steps_free (suc a) (suc b) at h k =
       ap (λ (x : Result (Option (ℕ × ℕ)) Error). if nat_lt at end then
-        (if nat_lt (end - at) (8 + be32 bytes (at + 4)) then Err Error.InvalidData else
-        (if nat_eq (be32 bytes at) 0 then Ok None else
-        (if nat_eq (be32 bytes at) 3799591626 then Ok (Some (at + 8, be32 bytes (at + 4))) else x)))
-        else Ok None)
+      (if nat_lt (end - at) (8 + be32 bytes (at + 4)) then Err Error.InvalidData else
+      (if nat_eq (be32 bytes at) 0 then Ok None else
+      (if nat_eq (be32 bytes at) 3799591626 then Ok (Some (at + 8, be32 bytes (at + 4))) else x)))
+      else Ok None)
       (steps_free a b (next at) (omega (arith, h)) (omega (arith, k)))
 
   one_step : (at : ℕ) → format_from bytes at end ≡ format_by (suc (end - at)) bytes at end

@@ -1,22 +1,20 @@
 -- Two files with the same header and tables.
-use Rattle.std.proofs.Common.{◌≡◌, ℕ, ◌+◌, ◌-◌, ◌*◌, ◌/◌, ◌%◌, ◌^◌, ◌<◌, ◌≤◌, ⊎_elim, List, length, refl, sym, ap, ◌∙◌, arith}
+use Rattle.std.proofs.Common.{◌≡◌, ℕ, ◌+◌, ◌*◌, ◌/◌, ◌%◌, ◌^◌, ◌<◌, ◌≤◌, ⊎_elim, List, length, refl, sym, ap, ◌∙◌, arith}
 use Rattle.std.specs.Prelude.{slice_index}
-use Rattle.std.specs.Int.{div_ceil}
 use Rattle.std.proofs.lemmas.Bool.{cases_lt}
 use Rattle.std.proofs.lemmas.Grind.{div_ceil_times}
 use Rattle.std.proofs.lemmas.Nat.{div_below}
 use Rattle.std.proofs.Math.Nat.{div-div-eq-div-mul, mul-pos, mod-lt}
-use Rattle.imago_drivers.specs.Place.{Place, End}
 use Rattle.imago_qcow2.specs.declared.entry.L2Table.{L2Table}
 use Rattle.imago_qcow2.specs.declared.entry.L2Table.TheVariants as T
 use Rattle.imago_qcow2.specs.declared.entry.GuestCluster.{GuestCluster}
 use Rattle.imago_qcow2.specs.declared.entry.GuestCluster.TheVariants as C
-use Rattle.imago_qcow2.specs.Numbers.{be32, be64}
+use Rattle.imago_qcow2.specs.Numbers.{be64}
 use Rattle.imago_qcow2.specs.Entry.{version_of, disk_size, l1_start, cluster_length, per_table, table_in_entry, cluster_in_entry, l1_entry, table_of, cluster_by, cluster_of, place_by, qcow2_place}
 use Rattle.imago_qcow2.specs.Header.{header_of}
 use Rattle.imago_qcow2.specs.Opening.{table_count}
 use Rattle.imago_qcow2.specs.Qcow2Laws.{place_in, place_out}
-use Rattle.imago_qcow2.specs.Disk.{AreSameBytes, HaveSameTables, StandsAlike}
+use Rattle.imago_qcow2.specs.Disk.{HaveSameTables, StandsAlike}
 use Rattle.imago_qcow2.proofs.NumberSteps.{range32, range64}
 use Rattle.imago_qcow2.proofs.HeaderSteps.{header_same}
 
@@ -82,7 +80,7 @@ module _ (a b : List ℕ) (same : HaveSameTables a b) where
       let here : qcow2_place a p ≡ place_by a (p % c) p (cluster_of a (p / c)) = place_in a p h in
       let there : qcow2_place b p ≡ place_by b (p % cluster_length b) p (cluster_of b (p / cluster_length b)) = place_in b p (omega (arith, h, same_size)) in
       let both : place_by b (p % c) p (cluster_of a (p / c)) ≡ place_by b (p % cluster_length b) p (cluster_of b (p / cluster_length b)) =
-        ap (place_by b (p % c) p) (same_cluster_of (p / c) inside eight) ∙ ap (λ x. place_by b (p % x) p (cluster_of b (p / x))) same_cluster in
+      ap (place_by b (p % c) p) (same_cluster_of (p / c) inside eight) ∙ ap (λ x. place_by b (p % x) p (cluster_of b (p / x))) same_cluster in
       rw (here, there, ← both) (alike_by (p % c) p (cluster_of a (p / c)))
 
   alike_out : (p : ℕ) → disk_size a ≤ p → StandsAlike (qcow2_place a p) (qcow2_place b p)

@@ -1,6 +1,5 @@
 -- Places of the disk, and how mappings name them.
-use Rattle.std.proofs.Common.{◌≡◌, ℕ, ◌+◌, ◌-◌, ◌*◌, ◌/◌, ◌%◌, ◌<◌, ◌≤◌, ◌⊎◌, ⊎_elim, inl, inr, true, false, List, Some, refl, sym, ap, ◌∙◌, arith, min}
-use Rattle.std.specs.Prelude.{slice_get, slice_index}
+use Rattle.std.proofs.Common.{◌≡◌, ℕ, ◌+◌, ◌-◌, ◌*◌, ◌/◌, ◌%◌, ◌<◌, ◌≤◌, ◌⊎◌, ⊎_elim, inl, inr, List, refl, sym, ap, ◌∙◌, arith, min}
 use Rattle.std.proofs.lemmas.Nat.{div-add-mod', div-mul-add, mod-mul-add}
 use Rattle.std.proofs.lemmas.Bool.{cases_lt}
 use Rattle.std.proofs.Math.Nat.{mod-lt}
@@ -11,9 +10,9 @@ use Rattle.imago_drivers.specs.Place.{Place, Stored, Zeroed, Special, Lower, Ref
 use Rattle.imago_drivers.specs.Mapping.{IsRight, Names, IsEof}
 use Rattle.imago_qcow2.specs.declared.entry.GuestCluster.{GuestCluster}
 use Rattle.imago_qcow2.specs.declared.entry.GuestCluster.TheVariants as C
-use Rattle.imago_qcow2.specs.Entry.{version_of, cluster_length, disk_size, cluster_of, place_by, qcow2_place}
+use Rattle.imago_qcow2.specs.Entry.{cluster_length, disk_size, cluster_of, place_by, qcow2_place}
 use Rattle.imago_qcow2.specs.Qcow2.{IsLongest, IsOneMapping}
-use Rattle.imago_qcow2.specs.Qcow2Laws.{place_in, place_out, from_size}
+use Rattle.imago_qcow2.specs.Qcow2Laws.{place_in, place_out}
 
 module _ (block : ℕ) (positive : 0 < block) where
   pub rest_small : (p : ℕ) → p % block < block
@@ -108,7 +107,7 @@ module _ (bytes : List ℕ) (c size o : ℕ) (positive : 0 < c) (is_c : c ≡ cl
   place_of k i is near under =
       let e : qcow2_place bytes (o + i) ≡ place_by bytes ((o + i) % cluster_length bytes) (o + i) (cluster_of bytes ((o + i) / cluster_length bytes)) = place_in bytes (o + i) (omega (arith, under, is_size)) in
       let f : qcow2_place bytes (o + i) ≡ place_by bytes ((o + i) % c) (o + i) (cluster_of bytes ((o + i) / c)) =
-        e ∙ ap (λ x. place_by bytes ((o + i) % x) (o + i) (cluster_of bytes ((o + i) / x))) (sym is_c) in
+      e ∙ ap (λ x. place_by bytes ((o + i) % x) (o + i) (cluster_of bytes ((o + i) / x))) (sym is_c) in
       f ∙ ap (place_by bytes ((o + i) % c) (o + i)) is
       ∙ rest_free bytes ((o + i) % c) (o % c + i) (o + i) k (λ at e. same_rest c positive o i (near at e))
 
@@ -150,24 +149,24 @@ longest_of place size o n most known m mapping is some firsts within ends =
       asked = omega (arith, within, is);
       inside = omega (arith, within, is);
       ends = ⊎_elim
-        (λ all. ⊎_elim (λ l. inl (omega (arith, all, is, l))) (λ l. inr (inl (omega (arith, all, is, l)))) (cases_lt n (size - o)))
-        (λ no. inr (inr (λ other first there. no (names_same other mapping (place o) (place (o + m)) m first named there))))
-        ends;
+          (λ all. ⊎_elim (λ l. inl (omega (arith, all, is, l))) (λ l. inr (inl (omega (arith, all, is, l)))) (cases_lt n (size - o)))
+          (λ no. inr (inr (λ other first there. no (names_same other mapping (place o) (place (o + m)) m first named there))))
+          ends;
     }
 
 -- one mapping that names a range is no longer than the longest one
 pub whole_longest : (place : ℕ → Place) (size o n m : ℕ) → IsOneMapping place size o n → IsLongest place size o n m → n ≤ m
 whole_longest place size o n m one longest = ⊎_elim
     (λ short. absurd (⊎_elim
-      (λ e. omega (arith, e, short))
-      (λ other. ⊎_elim
-        (λ e. omega (arith, e, short, one.0))
-        (λ no.
-        let e : o + 0 ≡ o = omega arith in
-        let x : Names (one.1.0) 0 (place (o + 0)) = one.1.1 0 (omega (arith, short)) in
-        no (one.1.0) (rw e at x) (one.1.1 m short))
-        other)
-      longest.ends))
+    (λ e. omega (arith, e, short))
+    (λ other. ⊎_elim
+    (λ e. omega (arith, e, short, one.0))
+    (λ no.
+    let e : o + 0 ≡ o = omega arith in
+    let x : Names (one.1.0) 0 (place (o + 0)) = one.1.1 0 (omega (arith, short)) in
+    no (one.1.0) (rw e at x) (one.1.1 m short))
+    other)
+    longest.ends))
     (λ enough. enough)
     (cases_lt m n)
 

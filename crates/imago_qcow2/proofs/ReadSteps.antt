@@ -1,5 +1,5 @@
 -- Reads of the file, and why they are refused.
-use Rattle.std.proofs.Common.{◌≡◌, ℕ, ◌+◌, ◌<◌, ◌≤◌, ◌⊎◌, ⊎_elim, inl, inr, false, List, length, Result, Ok, Err, refl, ap, ◌∙◌, arith}
+use Rattle.std.proofs.Common.{◌≡◌, ℕ, ◌+◌, ◌<◌, ◌≤◌, ⊎_elim, false, List, length, Result, Ok, Err, refl, ap, ◌∙◌, arith}
 use Rattle.std.specs.Prelude.{IfErr, IsErrOf}
 use Rattle.imago_storage.specs.declared.error.Error.{Error}
 use Rattle.imago_storage.specs.Error.{IsExtRefusal}
@@ -27,9 +27,11 @@ read_refused f bytes s at n (Ok x) h only device wraps memory = tt
 read_refused f bytes s at n (Err e) h only device wraps memory =
     let z : s ≡ 0 = omega (arith, h) in
     one_of e (allowed (stored_read_reasons (qcow2_view f bytes) s at n)) only
-    (λ x. let v : Wraps f at n = wraps (ap Err x) in (refl,
+    (λ x. let v : Wraps f at n = wraps (ap Err x) in (
+      refl,
       (λ o stand. let here : PlacesStandAt (qcow2_place bytes) 0 at n o = rw z at stand in record { from = o; count = n; above = omega arith; below = omega arith; wraps = (at, here, v) }),
-      v))
+      v,
+    ))
     (λ x. device (ap Err x))
     (λ x o stand no. let here : PlacesStandAt (qcow2_place bytes) 0 at n o = rw z at stand in let t = no at here in t.1 (memory (ap Err x) t.0))
 

@@ -1,5 +1,5 @@
 -- L2 tables that are loaded, one after the other.
-use Rattle.std.proofs.Common.{zero, suc, ◌≡◌, ℕ, ◌+◌, ◌*◌, ◌<◌, ◌≤◌, ⊎_elim, inl, inr, List, [], ◌∷◌, ◌++◌, length, length-append, false, Option, Some, None, refl, sym, ap, ◌∙◌, arith}
+use Rattle.std.proofs.Common.{zero, suc, ◌≡◌, ℕ, ◌+◌, ◌*◌, ◌<◌, ◌≤◌, ⊎_elim, inr, List, [], ◌∷◌, ◌++◌, length, length-append, false, Option, Some, None, refl, ap, ◌∙◌, arith}
 use Rattle.std.specs.Prelude.{slice_get, IfSome}
 use Rattle.std.specs.declared.vec.Vec.{Vec}
 use Rattle.std.specs.declared.alloc.Global.{Global}
@@ -86,11 +86,11 @@ held_more bytes l1 old new t keeps h last i = ⊎_elim
     let e : slice_get (l1 ++ t ∷ []) i ≡ slice_get l1 i = get_left l1 (t ∷ []) i below in
     rw e (held_by bytes (cluster_length bytes) old new (table_of bytes i) (slice_get l1 i) keeps (h i)))
     (λ above. ⊎_elim
-      (λ e. last_is bytes (cluster_length bytes) (table_of bytes (length l1)) (table_of bytes i) new (slice_get (l1 ++ t ∷ []) i) t
-        (ap (slice_get (l1 ++ t ∷ [])) e ∙ there_last l1 t) (ap (table_of bytes) e) last)
-      (λ apart. past_is bytes (cluster_length bytes) (table_of bytes i) new (slice_get (l1 ++ t ∷ []) i)
-        (slice_get_past (l1 ++ t ∷ []) i (let l = length-append l1 (t ∷ []) in omega (arith, l, above, apart))))
-      (cases_eq i (length l1)))
+    (λ e. last_is bytes (cluster_length bytes) (table_of bytes (length l1)) (table_of bytes i) new (slice_get (l1 ++ t ∷ []) i) t
+    (ap (slice_get (l1 ++ t ∷ [])) e ∙ there_last l1 t) (ap (table_of bytes) e) last)
+    (λ apart. past_is bytes (cluster_length bytes) (table_of bytes i) new (slice_get (l1 ++ t ∷ []) i)
+    (slice_get_past (l1 ++ t ∷ []) i (let l = length-append l1 (t ∷ []) in omega (arith, l, above, apart))))
+    (cases_eq i (length l1)))
     (cases_lt i (length l1))
 
 -- L1 entry i, from what was read of the L1 table

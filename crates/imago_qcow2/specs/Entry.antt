@@ -1,4 +1,5 @@
-use Rattle.std.specs.Prelude.{ℕ, ◌+◌, ◌-◌, ◌*◌, ◌%◌, ◌/◌, ◌^◌, ◌<◌, Bool, true, false, ◌||◌, not, List, length, slice_index, if◌then◌else◌, nat_lt, nat_eq}
+use Rattle.std.specs.Prelude.{ℕ, ◌+◌, ◌-◌, ◌*◌, ◌%◌, ◌/◌, ◌^◌, true, false, ◌||◌, not}
+use Rattle.std.specs.Prelude.{List, length, slice_index, if◌then◌else◌, nat_lt, nat_eq}
 use Rattle.imago_storage.specs.declared.error.Error.{Error}
 use Rattle.imago_drivers.specs.Place.{Place, Stored, Zeroed, Special, Lower, Refused, End}
 use Rattle.imago_qcow2.specs.declared.entry.L2Table.{L2Table}
@@ -31,22 +32,27 @@ low entry = entry % 72057594037927936
 abbrev pub high : ℕ → ℕ
 high entry = entry / 72057594037927936
 
--- What an L1 entry says of its L2 table, in a file of that length: bits 0 to 8 and 56 to 62 are reserved, bit 63 says nothing here,
--- and the bits between are the table's offset, which lies on a cluster's bounds. The whole table lies in the file.
+-- What an L1 entry says of its L2 table, in a file of that length: bits 0 to 8 and 56 to 62 are
+-- reserved, bit 63 says nothing here, and the bits between are the table's offset, which lies on a
+-- cluster's bounds. The whole table lies in the file.
 unfoldable pub table_in_entry : ℕ → ℕ → ℕ → L2Table
 table_in_entry file cluster entry =
-    if not (nat_eq (high entry % 128) 0) || not (nat_eq (low entry % cluster) 0) then L2Table.Invalid else
+    if not (nat_eq (high entry % 128) 0)
+    || not (nat_eq (low entry % cluster) 0) then L2Table.Invalid else
     (if nat_eq (low entry) 0 then L2Table.Absent else
     (if nat_lt file (low entry + cluster) then L2Table.Invalid else L2Table.Stored (low entry)))
 
--- What an L2 entry says of its guest cluster: bit 62 is set for a compressed one; bits 1 to 8 and 56 to 61 are reserved, and bit 63 says
--- nothing here; bit 0 says in version 3 that the guest cluster is zero, and is reserved in version 2; the other bits are the
--- offset of the cluster in the file, on a cluster's bounds.
+-- What an L2 entry says of its guest cluster: bit 62 is set for a compressed one; bits 1 to 8 and
+-- 56 to 61 are reserved, and bit 63 says nothing here; bit 0 says in version 3 that the guest
+-- cluster is zero, and is reserved in version 2; the other bits are the offset of the cluster in
+-- the file, on a cluster's bounds.
 unfoldable pub cluster_in_entry : ℕ → ℕ → ℕ → GuestCluster
 cluster_in_entry version cluster entry =
     if nat_eq (high entry / 64 % 2) 1 then GuestCluster.Compressed else
-    (if not (nat_eq (high entry % 64) 0) || not (nat_eq ((low entry - low entry % 2) % cluster) 0) then GuestCluster.Invalid else
-    (if nat_eq (low entry % 2) 1 then (if nat_lt version 3 then GuestCluster.Invalid else GuestCluster.Zero) else
+    (if not (nat_eq (high entry % 64) 0)
+    || not (nat_eq ((low entry - low entry % 2) % cluster) 0) then GuestCluster.Invalid else
+    (if nat_eq (low entry % 2) 1 then
+    (if nat_lt version 3 then GuestCluster.Invalid else GuestCluster.Zero) else
     (if nat_eq (low entry) 0 then GuestCluster.Absent else GuestCluster.Stored (low entry))))
 
 -- L1 entry i, and the L2 table that it says
@@ -56,10 +62,13 @@ l1_entry bytes i = be64 bytes (l1_start bytes + 8 * i)
 abbrev pub table_of : List ℕ → ℕ → L2Table
 table_of bytes i = table_in_entry (length bytes) (cluster_length bytes) (l1_entry bytes i)
 
--- guest cluster k by its L2 table: what its entry there says; absent without a table, and invalid with an invalid one
+-- guest cluster k by its L2 table: what its entry there says; absent without a table, and invalid
+-- with an invalid one
 abbrev pub cluster_by : List ℕ → ℕ → L2Table → GuestCluster
 cluster_by bytes k T.Absent = GuestCluster.Absent
-cluster_by bytes k (T.Stored table) = cluster_in_entry (version_of bytes) (cluster_length bytes) (be64 bytes (table + 8 * (k % per_table bytes)))
+cluster_by bytes k (T.Stored table) =
+    cluster_in_entry (version_of bytes) (cluster_length bytes)
+    (be64 bytes (table + 8 * (k % per_table bytes)))
 cluster_by bytes k T.Invalid = GuestCluster.Invalid
 
 -- what guest cluster k is
@@ -70,7 +79,8 @@ cluster_of bytes k = cluster_by bytes k (table_of bytes (k / per_table bytes))
 abbrev pub place_by : List ℕ → ℕ → ℕ → GuestCluster → Place
 place_by bytes rest p C.Absent = Lower p false
 place_by bytes rest p C.Zero = Zeroed true
-place_by bytes rest p (C.Stored start) = Stored (slice_index bytes (start + rest)) 0 (start + rest) false
+place_by bytes rest p (C.Stored start) =
+    Stored (slice_index bytes (start + rest)) 0 (start + rest) false
 place_by bytes rest p C.Compressed = Special 0 p
 place_by bytes rest p C.Invalid = Refused Error.InvalidData
 

@@ -1,12 +1,14 @@
-use Rattle.std.specs.Prelude.{◌≡◌, ℕ, ◌+◌, ◌-◌, ◌<◌, ◌≤◌, ◌⊎◌, Bool, true, false, List, length, None}
+use Rattle.std.specs.Prelude.{◌≡◌, ℕ, ◌+◌, ◌-◌, ◌<◌, ◌≤◌, ◌⊎◌, Bool, true, false, List, length}
+use Rattle.std.specs.Prelude.{None}
 use Rattle.imago_storage.specs.declared.error.Error.{Error}
 use Rattle.imago_storage.specs.declared.error.Error.TheVariants as E
 use Rattle.imago_storage.specs.Features.{Features, IsAlignedRequest, MayRunOut}
 use Rattle.imago_storage.specs.Padding.{Wraps}
 use Rattle.imago_drivers.specs.declared.format.Format.TheVariants as Format
 use Rattle.imago_drivers.specs.declared.mapping.ShallowMapping.{ShallowMapping}
-use Rattle.imago_drivers.specs.Operation.{Operation, Map, Read, Write, Zero, DiscardToZero, DiscardToAny, DiscardToBacking, Grow, Shrink, Flush}
-use Rattle.imago_drivers.specs.Place.{Place, Special, Refused, IsIn, PlacesStandAt}
+use Rattle.imago_drivers.specs.Operation.{Operation, Map, Read, Write, Zero, DiscardToZero}
+use Rattle.imago_drivers.specs.Operation.{DiscardToAny, DiscardToBacking, Grow, Shrink, Flush}
+use Rattle.imago_drivers.specs.Place.{Place, Special, IsIn, PlacesStandAt}
 use Rattle.imago_drivers.specs.Mapping.{Names}
 use Rattle.imago_drivers.specs.Laws.{IsRefusedIn}
 use Rattle.imago_drivers.specs.Ranges.{HasWrappingPart}
@@ -14,22 +16,28 @@ use Rattle.imago_drivers.specs.Causes.{Causes}
 use Rattle.imago_drivers.specs.View.{View}
 use Rattle.imago_qcow2.specs.Entry.{disk_size, qcow2_place}
 
--- A mapping of m bytes is the longest one at o where n are asked for: it goes as far as is asked for, or as the disk does, or it is one
--- byte too short for no mapping, since none names the place at o and the one behind these bytes.
+-- A mapping of m bytes is the longest one at o where n are asked for: it goes as far as is asked
+-- for, or as the disk does, or it is one byte too short for no mapping, since none names the place
+-- at o and the one behind these bytes.
 pub record IsLongest (place : ℕ → Place) (size o n m : ℕ) : Type 0 where
   pub asked : m ≤ n
   pub inside : m ≤ size - o
-  pub ends : (m ≡ n) ⊎ (m ≡ size - o) ⊎ ((mapping : ShallowMapping) → Names mapping 0 (place o) → Names mapping m (place (o + m)) → ⊥)
+  pub ends : (m ≡ n) ⊎ (m ≡ size - o)
+      ⊎ ((mapping : ShallowMapping) → Names mapping 0 (place o) → Names mapping m (place (o + m))
+      → ⊥)
 
 -- a place of the range is compressed
 abbrev pub IsCompressedIn : (ℕ → Place) → ℕ → ℕ → Type 0
 IsCompressedIn place o n = (p : ℕ) × IsIn o n p × ((b : ℕ) × (x : ℕ) × (place p ≡ Special b x))
 
--- a range of places that stand in the file one after the other, where a request for them wraps around
+-- a range of places that stand in the file one after the other, where a request for them wraps
+-- around
 abbrev pub ReadWraps : Features → (ℕ → Place) → ℕ → ℕ → Type 0
-ReadWraps f place from count = (start : ℕ) × PlacesStandAt place 0 start count from × Wraps f start count
+ReadWraps f place from count = (start : ℕ) × PlacesStandAt place 0 start count from
+    × Wraps f start count
 
--- A mapping or a read is refused for an invalid entry, and a read for a compressed cluster and for a wrap-around at the file.
+-- A mapping or a read is refused for an invalid entry, and a read for a compressed cluster and for
+-- a wrap-around at the file.
 abbrev pub qcow2_cause : Features → (ℕ → Place) → Causes
 qcow2_cause f place Map o n E.InvalidData = IsRefusedIn place o n Error.InvalidData
 qcow2_cause f place Read o n E.InvalidData = IsRefusedIn place o n Error.InvalidData
@@ -37,9 +45,11 @@ qcow2_cause f place Read o n E.Unsupported = IsCompressedIn place o n
 qcow2_cause f place Read o n E.WrapAround = HasWrappingPart (ReadWraps f place) o n
 qcow2_cause f place _ o n _ = ⊥
 
--- a read takes none where the places stand in the file in one piece, the request there is aligned, and the storage takes none for it
+-- a read takes none where the places stand in the file in one piece, the request there is aligned,
+-- and the storage takes none for it
 abbrev pub ReadTakesNone : Features → ℕ → (ℕ → Place) → ℕ → ℕ → Type 0
-ReadTakesNone f file place o n = (start : ℕ) → PlacesStandAt place 0 start n o → IsAlignedRequest f start n × (MayRunOut f.read_memory file (start + n) → ⊥)
+ReadTakesNone f file place o n = (start : ℕ) → PlacesStandAt place 0 start n o
+    → IsAlignedRequest f start n × (MayRunOut f.read_memory file (start + n) → ⊥)
 
 abbrev pub qcow2_no_memory : Features → ℕ → (ℕ → Place) → Operation → ℕ → ℕ → Type 0
 qcow2_no_memory f file place Read o n = ReadTakesNone f file place o n
@@ -52,7 +62,8 @@ qcow2_answers place size _ o n q m = Unit {0}
 
 -- one mapping names the whole range, which lies in the disk
 abbrev pub IsOneMapping : (ℕ → Place) → ℕ → ℕ → ℕ → Type 0
-IsOneMapping place size o n = (o + n ≤ size) × ((mapping : ShallowMapping) × ((i : ℕ) → i < n → Names mapping i (place (o + i))))
+IsOneMapping place size o n = (o + n ≤ size)
+    × ((mapping : ShallowMapping) × ((i : ℕ) → i < n → Names mapping i (place (o + i))))
 
 abbrev pub qcow2_whole : (ℕ → Place) → ℕ → Operation → ℕ → ℕ → Type 0
 qcow2_whole place size Read o n = IsOneMapping place size o n

@@ -12,7 +12,8 @@ use imago_storage::ext::StorageExt;
 use imago_storage::storage::Storage;
 use std::alloc::Global;
 
-/// The type of the header extension at that offset of the file, and the length of what it holds, in bytes.
+/// The type of the header extension at that offset of the file, and the length of what it holds, in
+/// bytes.
 fn extension_at<S: Storage>(storage: &S, alloc: Global, at: u64) -> Result<(u32, u64), Error>
     ensures kind { IfOk result (λ r. r.0 ≡ be32 (S.bytes storage.now) at) }
     ensures count { IfOk result (λ r. r.1 ≡ be32 (S.bytes storage.now) (at + 4)) }
@@ -24,8 +25,8 @@ fn extension_at<S: Storage>(storage: &S, alloc: Global, at: u64) -> Result<(u32,
     Ok((number32(&head, 0), number32(&head, 4) as u64))
 }
 
-/// Where the name of the backing file's format begins in the file, and its length in bytes. Header extensions stand from the offset
-/// on, and don't pass the end.
+/// Where the name of the backing file's format begins in the file, and its length in bytes. Header
+/// extensions stand from the offset on, and don't pass the end.
 pub(crate) fn find_format<S: Storage>(
     storage: &S,
     alloc: Global,
@@ -38,7 +39,8 @@ pub(crate) fn find_format<S: Storage>(
     ensures inside { IfOk result (λ o. IfSome o (λ p. p.0 + p.1 ≤ end)) }
     ensures refusals { IfErr result
         (λ e. (format_from (S.bytes storage.now) start end ≡ Err e)
-        ⊎ allowed (extension_reasons (S.features storage.now) (cluster_length (S.bytes storage.now))) e) }
+        ⊎ allowed
+        (extension_reasons (S.features storage.now) (cluster_length (S.bytes storage.now))) e) }
 {
     let mut at = start;
     while at < end {

@@ -1,7 +1,9 @@
 //! The header of an image's file.
 ghost use Rattle.std.specs.Prelude.{◌≡◌, ◌≤◌, ◌<◌, ◌^◌, ◌+◌, ◌*◌, ◌/◌, length, OnOk, IfOk};
 ghost use Rattle.imago_qcow2.specs.Numbers.{be32, be64};
-ghost use Rattle.imago_qcow2.specs.Header.{features_of, own_length, magic_fault, support_fault, added_fault, bounds_fault, table_fault, size_fault, name_fault, header_of, IsSound};
+ghost use Rattle.imago_qcow2.specs.Header.{features_of, own_length, magic_fault, support_fault};
+ghost use Rattle.imago_qcow2.specs.Header.{added_fault, bounds_fault, table_fault, size_fault};
+ghost use Rattle.imago_qcow2.specs.Header.{name_fault, header_of, IsSound};
 
 use crate::number::{number32, number64};
 use imago_storage::error::Error;
@@ -65,8 +67,9 @@ fn own_length_of(head: &[u8]) -> u32
     number32(head, 100)
 }
 
-/// Which part of what the image needs isn't offered: another version, encryption, or an incompatible feature but bit 0, that the
-/// image wasn't closed, and bit 3, that compressed clusters aren't deflated.
+/// Which part of what the image needs isn't offered: another version, encryption, or an
+/// incompatible feature but bit 0, that the image wasn't closed, and bit 3, that compressed
+/// clusters aren't deflated.
 #[tactic(auto, unfolding(crate::specs::Header::support_fault))]
 fn check_support(head: &[u8]) -> Result<(), Error>
     requires { 112 ≤ length head.now }

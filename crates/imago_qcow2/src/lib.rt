@@ -1,6 +1,7 @@
 //! The driver of qcow2 images of versions 2 and 3, read-only.
 //!
-//! [`qcow2`] has the driver, [`header`] what a file's header says, and [`entry`] what the entries of its tables say.
+//! [`qcow2`] has the driver, [`header`] what a file's header says, and [`entry`] what the entries
+//! of its tables say.
 #![tactic(auto)]
 
 mod backing;

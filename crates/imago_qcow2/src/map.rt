@@ -9,16 +9,18 @@ use crate::entry::GuestCluster;
 use imago_drivers::drivers::ShallowMapping;
 use imago_storage::error::Error;
 
-/// The mapping of places from that offset of the disk on, of which the first is the `rest`-th of its guest cluster. Refused, it
-/// is [`Error::InvalidData`]: the guest cluster's entry is invalid.
+/// The mapping of places from that offset of the disk on, of which the first is the `rest`-th of
+/// its guest cluster. Refused, it is [`Error::InvalidData`]: the guest cluster's entry is invalid.
 pub(crate) fn mapping_of(
     cluster: GuestCluster,
     rest: u64,
     offset: u64,
 ) -> Result<ShallowMapping, Error>
     requires small { (at : ℕ) → cluster ≡ GuestCluster.Stored at → at + rest < 2 ^ 64 }
-    ensures names { (bytes : _) (i : ℕ) → IfOk result (λ m. Names m i (place_by bytes (rest + i) (offset + i) cluster)) }
-    ensures refused { IfErr result (λ e. (e ≡ Error.InvalidData) × (cluster ≡ GuestCluster.Invalid)) }
+    ensures names { (bytes : _) (i : ℕ)
+        → IfOk result (λ m. Names m i (place_by bytes (rest + i) (offset + i) cluster)) }
+    ensures refused { IfErr result
+        (λ e. (e ≡ Error.InvalidData) × (cluster ≡ GuestCluster.Invalid)) }
 {
     match cluster {
         GuestCluster::Absent => Ok(ShallowMapping::Indirect {
@@ -46,7 +48,8 @@ fn is_behind(first: u64, by: u64, next: u64) -> bool
 
 /// Whether the first mapping, `by` bytes further on, is the next one.
 pub(crate) fn goes_on(first: ShallowMapping, by: u64, next: ShallowMapping) -> bool
-    ensures yes { result ≡ true → (i : ℕ) (place : Place) → Names next i place → Names first (by + i) place }
+    ensures yes { result ≡ true → (i : ℕ) (place : Place) → Names next i place
+        → Names first (by + i) place }
     ensures no { result ≡ false → (place : Place) → Names next 0 place → Names first by place → ⊥ }
 {
     match first {

@@ -1,5 +1,6 @@
 //! The driver of qcow2 images.
-ghost use Rattle.std.specs.Prelude.{◌≡◌, ℕ, ◌+◌, ◌-◌, ◌*◌, ◌/◌, ◌%◌, ◌^◌, ◌<◌, ◌≤◌, ◌⊎◌, length, true, false, IsErrOf, IfErr, IfOk, OnOk, IsOk, Ok, Err};
+ghost use Rattle.std.specs.Prelude.{◌≡◌, ℕ, ◌+◌, ◌-◌, ◌*◌, ◌/◌, ◌%◌, ◌^◌, ◌<◌, ◌≤◌, ◌⊎◌, length};
+ghost use Rattle.std.specs.Prelude.{true, false, IsErrOf, IfErr, IfOk, OnOk, IsOk, Ok, Err};
 ghost use Rattle.imago_storage.specs.declared.error.Error.{Error};
 ghost use Rattle.imago_storage.specs.Error.{IsExtRefusal};
 ghost use Rattle.imago_drivers.specs.Commit.{IsCommit, IsCancel};
@@ -8,10 +9,13 @@ ghost use Rattle.imago_drivers.specs.Place.{Refused};
 ghost use Rattle.imago_drivers.specs.Reasons.{allowed};
 ghost use Rattle.imago_qcow2.specs.Numbers.{be32, be64};
 ghost use Rattle.imago_qcow2.specs.Header.{own_length, header_of, IsSound};
-ghost use Rattle.imago_qcow2.specs.Entry.{version_of, cluster_length, disk_size, cluster_of, qcow2_place};
+ghost use Rattle.imago_qcow2.specs.Entry.{version_of, cluster_length, disk_size, cluster_of};
+ghost use Rattle.imago_qcow2.specs.Entry.{qcow2_place};
 ghost use Rattle.imago_qcow2.specs.Tables.{AreHeld};
-ghost use Rattle.imago_qcow2.specs.Backing.{IsBackingName, IsFormatName, extensions_end, format_of, extension_reasons};
-ghost use Rattle.imago_qcow2.specs.Opening.{read_reasons, header_reasons, open_reasons, probe_of, probe_reasons_of};
+ghost use Rattle.imago_qcow2.specs.Backing.{IsBackingName, IsFormatName, extensions_end, format_of};
+ghost use Rattle.imago_qcow2.specs.Backing.{extension_reasons};
+ghost use Rattle.imago_qcow2.specs.Opening.{read_reasons, header_reasons, open_reasons, probe_of};
+ghost use Rattle.imago_qcow2.specs.Opening.{probe_reasons_of};
 ghost use Rattle.imago_qcow2.specs.Qcow2.{qcow2_view};
 ghost use Rattle.imago_qcow2.specs.Qcow2Calls.{qcow2_calls};
 ghost use Rattle.imago_qcow2.specs.Qcow2Laws.{qcow2_lawful, qcow2_causes};
@@ -35,9 +39,10 @@ use std::fmt::{self, Display, Formatter, Write};
 
 /// The disk of a qcow2 file. It can't be written to.
 ///
-/// It follows from the bytes of the file alone, and from the layer below where a guest cluster has no data. Header and tables are
-/// read when the image is opened; each L2 table is kept once, also where several L1 entries name it. Compressed clusters are
-/// mapped as special, and a read of them is [`Error::Unsupported`].
+/// It follows from the bytes of the file alone, and from the layer below where a guest cluster has
+/// no data. Header and tables are read when the image is opened; each L2 table is kept once, also
+/// where several L1 entries name it. Compressed clusters are mapped as special, and a read of them
+/// is [`Error::Unsupported`].
 #[derive(Drop)]
 pub struct Qcow2<S: Storage> {
     storage: S,
@@ -93,16 +98,19 @@ impl<S: Storage> Qcow2<S> {
 
     /// Opens the image whose file the storage is.
     ///
-    /// [`Error::Unsupported`] is an image that is to be written, before anything else. Then the header is looked at. The
-    /// first of these is the answer: [`Error::InvalidData`], the file is no qcow2 image; [`Error::Unsupported`], it has another
-    /// version than 2 and 3, is encrypted, or needs what isn't offered, such as an external data file, extended L2 entries, or
-    /// a repair; [`Error::InvalidData`], a number of the header is out of the format's bounds, or the L1 table is too small for
-    /// the disk, off a cluster's bounds, or not wholly in the file. [`Error::Device`], [`Error::Memory`] and
-    /// [`Error::WrapAround`] are passed on from the storage. [`Error::Memory`] is also no room for the tables.
+    /// [`Error::Unsupported`] is an image that is to be written, before anything else. Then the
+    /// header is looked at. The first of these is the answer: [`Error::InvalidData`], the file is
+    /// no qcow2 image; [`Error::Unsupported`], it has another version than 2 and 3, is encrypted,
+    /// or needs what isn't offered, such as an external data file, extended L2 entries, or a
+    /// repair; [`Error::InvalidData`], a number of the header is out of the format's bounds, or the
+    /// L1 table is too small for the disk, off a cluster's bounds, or not wholly in the file.
+    /// [`Error::Device`], [`Error::Memory`] and [`Error::WrapAround`] are passed on from the
+    /// storage. [`Error::Memory`] is also no room for the tables.
     pub fn open_image(alloc: Global, storage: S, writable: bool) -> Result<Self, Error>
         ensures read_only { writable ≡ true → result ≡ Err Error.Unsupported }
         ensures opened { IfOk result
-            (λ d. (storage_in d ≡ «storage») × IsOk (header_of (S.bytes storage) (length (S.bytes storage)))) }
+            (λ d. (storage_in d ≡ «storage»)
+            × IsOk (header_of (S.bytes storage) (length (S.bytes storage)))) }
         ensures refused { writable ≡ false
             → IfErr result
             (λ e. (header_of (S.bytes storage) (length (S.bytes storage)) ≡ Err e)
@@ -117,7 +125,8 @@ impl<S: Storage> Qcow2<S> {
     /// Opens the image.
     pub(crate) fn open_read_only(alloc: Global, storage: S) -> Result<Self, Error>
         ensures opened { IfOk result
-            (λ d. (storage_in d ≡ «storage») × IsOk (header_of (S.bytes storage) (length (S.bytes storage)))) }
+            (λ d. (storage_in d ≡ «storage»)
+            × IsOk (header_of (S.bytes storage) (length (S.bytes storage)))) }
         ensures refused { IfErr result
             (λ e. (header_of (S.bytes storage) (length (S.bytes storage)) ≡ Err e)
             ⊎ allowed (open_reasons (S.features storage) (S.bytes storage)) e) }
@@ -139,13 +148,15 @@ impl<S: Storage> Qcow2<S> {
         })
     }
 
-    /// The name of the backing file, as it stands in the file, where there is one. It is in the caller's hands to open it, and to lay its
-    /// image below. [`Error::Memory`] is no room for the name; what the storage is refused for is passed on.
+    /// The name of the backing file, as it stands in the file, where there is one. It is in the
+    /// caller's hands to open it, and to lay its image below. [`Error::Memory`] is no room for the
+    /// name; what the storage is refused for is passed on.
     pub fn backing_file(&self, alloc: Global) -> Result<Option<Vec<u8>>, Error>
         ensures name { IfOk result (IsBackingName (S.bytes (storage_in self.now))) }
         ensures refusals { IfErr result
             (allowed
-            (read_reasons (S.features (storage_in self.now)) (be64 (S.bytes (storage_in self.now)) 8)
+            (read_reasons (S.features (storage_in self.now))
+            (be64 (S.bytes (storage_in self.now)) 8)
             (be32 (S.bytes (storage_in self.now)) 16))) }
     {
         if self.name_start == 0 {
@@ -155,15 +166,18 @@ impl<S: Storage> Qcow2<S> {
         Ok(Some(read_bytes(&self.storage, alloc, self.name_start, count)?))
     }
 
-    /// The name of the backing file's format, as the header extension for it has it, where there is one.
+    /// The name of the backing file's format, as the header extension for it has it, where there is
+    /// one.
     ///
-    /// [`Error::InvalidData`] is a header extension that passes the first cluster, or begin of the backing file's name;
-    /// [`Error::Memory`] no room for the name. What the storage is refused for is passed on.
+    /// [`Error::InvalidData`] is a header extension that passes the first cluster, or begin of the
+    /// backing file's name; [`Error::Memory`] no room for the name. What the storage is refused for
+    /// is passed on.
     pub fn backing_format(&self, alloc: Global) -> Result<Option<Vec<u8>>, Error>
         ensures name { IfOk result (IsFormatName (S.bytes (storage_in self.now))) }
         ensures refusals { IfErr result
             (λ e. (format_of (S.bytes (storage_in self.now)) ≡ Err e)
-            ⊎ allowed (extension_reasons (S.features (storage_in self.now)) (cluster_length (S.bytes (storage_in self.now)))) e) }
+            ⊎ allowed (extension_reasons (S.features (storage_in self.now))
+            (cluster_length (S.bytes (storage_in self.now)))) e) }
     {
         let end = self.extensions_end();
         let found = find_format(&self.storage, alloc, self.header_length as u64, end)?;
@@ -184,8 +198,9 @@ impl<S: Storage> Qcow2<S> {
         self.cluster.min(self.name_start)
     }
 
-    /// What the guest cluster at that offset of the disk is, and how many bytes from there on stand in such guest clusters: the rest of
-    /// its own, or, where its L2 table is absent or invalid, the rest of those that this table would have been for.
+    /// What the guest cluster at that offset of the disk is, and how many bytes from there on stand
+    /// in such guest clusters: the rest of its own, or, where its L2 table is absent or invalid,
+    /// the rest of those that this table would have been for.
     fn cluster_at(&self, offset: u64) -> (GuestCluster, u64)
         requires { offset < self.now.size }
         ensures same { (i : ℕ)
@@ -203,28 +218,35 @@ impl<S: Storage> Qcow2<S> {
             HeldTable::Loaded(number) => {
                 let index = offset / cluster % (cluster / 8);
                 let entry = entry_at(&self.tables.l2, number, index);
-                (cluster_in(self.version, cluster, entry), cluster - offset % cluster)
+                (
+                    cluster_in(self.version, cluster, entry),
+                    cluster - offset % cluster,
+                )
             }
             HeldTable::Invalid => (GuestCluster::Invalid, span - offset % span),
         }
     }
 
-    /// The mapping of the places from that offset of the disk on, and of how many it is known: at least one.
+    /// The mapping of the places from that offset of the disk on, and of how many it is known: at
+    /// least one.
     fn part_at(&self, offset: u64) -> Result<(ShallowMapping, u64), Error>
         requires { offset < self.now.size }
         ensures names { IfOk result
-            (λ r. (i : ℕ) → i < r.1 → Names r.0 i (qcow2_place (S.bytes self.now.storage) (offset + i))) }
+            (λ r. (i : ℕ) → i < r.1
+            → Names r.0 i (qcow2_place (S.bytes self.now.storage) (offset + i))) }
         ensures some { IfOk result (λ r. 0 < r.1) }
         ensures inside { IfOk result (λ r. offset + r.1 ≤ self.now.size) }
         ensures only { IfErr result (λ e. e ≡ Error.InvalidData) }
-        ensures refused { IfErr result (λ e. qcow2_place (S.bytes self.now.storage) offset ≡ Refused e) }
+        ensures refused { IfErr result
+            (λ e. qcow2_place (S.bytes self.now.storage) offset ≡ Refused e) }
     {
         let (cluster, same) = self.cluster_at(offset);
         let mapping = mapping_of(cluster, offset % self.cluster, offset)?;
         Ok((mapping, same.min(self.size - offset)))
     }
 
-    /// How many places from that offset of the disk on the mapping names, up to `most` of them. It is known of the first ones.
+    /// How many places from that offset of the disk on the mapping names, up to `most` of them. It
+    /// is known of the first ones.
     fn longest(&self, mapping: ShallowMapping, offset: u64, known: u64, most: u64) -> u64
         requires names { (i : ℕ)
             → i < known
@@ -236,7 +258,8 @@ impl<S: Storage> Qcow2<S> {
             → Names mapping i (qcow2_place (S.bytes self.now.storage) (offset + i)) }
         ensures most { result ≤ most }
         ensures ends { (result ≡ most)
-            ⊎ (Names mapping result (qcow2_place (S.bytes self.now.storage) (offset + result)) → ⊥) }
+            ⊎ (Names mapping result (qcow2_place (S.bytes self.now.storage) (offset + result))
+            → ⊥) }
     {
         let mut count = known;
         while count < most {
@@ -435,9 +458,11 @@ impl<S: Storage> FormatDriverInstance for Qcow2<S> {
     }
 
     fn commit_data_mapping(&mut self, mapping: PreparedDataMapping<()>) -> Result<(), Error>
-        ensures call { IsCommit ⟦<Qcow2<S> as FormatDriverInstance>⟧.view self.old self.new mapping result }
+        ensures call { IsCommit ⟦<Qcow2<S> as FormatDriverInstance>⟧.view self.old self.new mapping
+            result }
         ensures untouched { self.new ≡ self.old }
-        ensures performed { ⟦<Qcow2<S> as FormatDriverInstance>⟧.calls.committed mapping self.old self.new result }
+        ensures performed { ⟦<Qcow2<S> as FormatDriverInstance>⟧.calls.committed mapping self.old
+            self.new result }
     {
         match mapping.into_state() {
             None => Ok(()),
@@ -446,9 +471,11 @@ impl<S: Storage> FormatDriverInstance for Qcow2<S> {
     }
 
     fn cancel_data_mapping(&mut self, mapping: PreparedDataMapping<()>)
-        ensures call { IsCancel ⟦<Qcow2<S> as FormatDriverInstance>⟧.view self.old self.new mapping }
+        ensures call { IsCancel ⟦<Qcow2<S> as FormatDriverInstance>⟧.view self.old self.new
+            mapping }
         ensures untouched { self.new ≡ self.old }
-        ensures performed { ⟦<Qcow2<S> as FormatDriverInstance>⟧.calls.cancelled mapping self.old self.new }
+        ensures performed { ⟦<Qcow2<S> as FormatDriverInstance>⟧.calls.cancelled mapping self.old
+            self.new }
     {
         let _ = mapping.into_state();
     }

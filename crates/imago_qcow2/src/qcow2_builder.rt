@@ -16,8 +16,8 @@ use std::alloc::Global;
 
 /// Opens a qcow2 image by its options.
 ///
-/// An image that is to be written is [`Error::Unsupported`], before anything else. The backing file isn't opened: who opens it
-/// lays its image below.
+/// An image that is to be written is [`Error::Unsupported`], before anything else. The backing file
+/// isn't opened: who opens it lays its image below.
 #[derive(Drop)]
 pub struct Qcow2OpenBuilder<S>(FormatDriverBuilderBase<S>);
 
@@ -42,11 +42,14 @@ impl<S: Storage> Qcow2<S> {
 impl<S: Storage> Qcow2OpenBuilder<S> {
     ghost use Rattle.imago_qcow2.specs.Qcow2BuilderParts.{qcow2_settings};
 
-    /// Opens the image by a gate that is lent. It is asked once for the storage of a path, and not for one that was handed in; it is as it
-    /// was where the image is to be written.
+    /// Opens the image by a gate that is lent. It is asked once for the storage of a path, and not
+    /// for one that was handed in; it is as it was where the image is to be written.
     fn open_by<G: ImplicitOpenGate<S>>(self, alloc: Global, gate: &mut G) -> Result<Qcow2<S>, Error>
-        ensures opened { IsQcow2OpeningBy S.bytes S.features G.opened (qcow2_settings self) gate.old gate.new result }
-        ensures image { IfOk result (λ r. IsImageOf G.opened gate.old (qcow2_settings self) S.bytes S.features (⟦<Qcow2<S> as FormatDriverInstance>⟧.view r)) }
+        ensures opened { IsQcow2OpeningBy S.bytes S.features G.opened
+            (qcow2_settings self) gate.old gate.new result }
+        ensures image { IfOk result (λ r. IsImageOf G.opened gate.old
+            (qcow2_settings self) S.bytes S.features
+            (⟦<Qcow2<S> as FormatDriverInstance>⟧.view r)) }
     {
         let Qcow2OpenBuilder(base) = self;
         if base.get_writable() {
@@ -68,7 +71,8 @@ impl<S: Storage> FormatDriverBuilder<S> for Qcow2OpenBuilder<S> {
 
     ghost settings = { qcow2_settings };
 
-    ghost opens = { λ Gate opened gate b result. IsQcow2Opening S.bytes S.features opened gate (qcow2_settings b) result };
+    ghost opens = { λ Gate opened gate b result. IsQcow2Opening S.bytes S.features opened gate
+        (qcow2_settings b) result };
 
     fn new(image: S) -> Self {
         Qcow2OpenBuilder(FormatDriverBuilderBase::new(image))

@@ -1,5 +1,6 @@
 //! The tables of an image, as they are in memory.
-ghost use Rattle.std.specs.Prelude.{◌≡◌, ℕ, ◌+◌, ◌*◌, ◌/◌, ◌%◌, ◌^◌, ◌<◌, ◌≤◌, ◌++◌, ◌∷◌, [], length, slice_get, Some, Ok, OnOk, IfOk, IfErr, IfSome};
+ghost use Rattle.std.specs.Prelude.{◌≡◌, ℕ, ◌+◌, ◌*◌, ◌/◌, ◌%◌, ◌^◌, ◌<◌, ◌≤◌, ◌++◌, ◌∷◌, []};
+ghost use Rattle.std.specs.Prelude.{length, slice_get, Some, Ok, OnOk, IfOk, IfErr, IfSome};
 ghost use Rattle.std.specs.Int.{div_ceil};
 ghost use Rattle.imago_storage.specs.Bytes.{IsReadAt};
 ghost use Rattle.imago_drivers.specs.Reasons.{allowed};
@@ -60,7 +61,8 @@ pub(crate) fn read_bytes<S: Storage>(
     Ok(bytes)
 }
 
-/// The number of the L2 table at that offset of the file. It is read, unless another L1 entry named it before.
+/// The number of the L2 table at that offset of the file. It is read, unless another L1 entry named
+/// it before.
 fn load<S: Storage>(
     storage: &S,
     alloc: Global,
@@ -70,7 +72,8 @@ fn load<S: Storage>(
 ) -> Result<usize, Error>
     requires known { AreKnown (S.bytes storage.now) cluster loaded.old }
     ensures known { OnOk result (AreKnown (S.bytes storage.now) cluster loaded.new) }
-    ensures loaded { IfOk result (λ n. IsLoaded (S.bytes storage.now) cluster loaded.new.tables.items n at) }
+    ensures loaded { IfOk result
+        (λ n. IsLoaded (S.bytes storage.now) cluster loaded.new.tables.items n at) }
     ensures kept { OnOk result (KeepsLoaded loaded.old.tables.items loaded.new.tables.items) }
     ensures refusals { IfErr result (allowed (read_reasons (S.features storage.now) at cluster)) }
 {
@@ -97,7 +100,8 @@ fn hold<S: Storage>(
     ensures held { IfOk result (IsHeld (S.bytes storage.now) cluster loaded.new.tables.items says) }
     ensures kept { OnOk result (KeepsLoaded loaded.old.tables.items loaded.new.tables.items) }
     ensures refusals { IfErr result
-        (λ e. (at : ℕ) × (says ≡ L2Table.Stored at) × allowed (read_reasons (S.features storage.now) at cluster) e) }
+        (λ e. (at : ℕ) × (says ≡ L2Table.Stored at)
+        × allowed (read_reasons (S.features storage.now) at cluster) e) }
 {
     match says {
         L2Table::Absent => Ok(HeldTable::Absent),
@@ -122,9 +126,11 @@ fn hold_all<S: Storage>(
     requires read { IsReadAt (S.bytes storage.now) (l1_start (S.bytes storage.now)) entries.now }
     requires whole { length entries.now ≡ 8 * table_count (S.bytes storage.now) }
     requires known { AreKnown (S.bytes storage.now) cluster loaded.old }
-    ensures held { IfOk result (λ v. AreHeld (S.bytes storage.now) v.items loaded.new.tables.items) }
+    ensures held { IfOk result
+        (λ v. AreHeld (S.bytes storage.now) v.items loaded.new.tables.items) }
     ensures all { IfOk result (λ v. length v.items ≡ table_count (S.bytes storage.now)) }
-    ensures refusals { IfErr result (allowed (tables_reasons (S.features storage.now) (S.bytes storage.now))) }
+    ensures refusals { IfErr result
+        (allowed (tables_reasons (S.features storage.now) (S.bytes storage.now))) }
 {
     let mut l1 = Vec::new(alloc);
     for i in 0..entries.len() / 8 {
@@ -134,7 +140,8 @@ fn hold_all<S: Storage>(
     Ok(l1)
 }
 
-/// Reads the L1 table of a file of that length, of so many entries from `start` on, and the L2 tables that it names.
+/// Reads the L1 table of a file of that length, of so many entries from `start` on, and the L2
+/// tables that it names.
 pub(crate) fn read_tables<S: Storage>(
     storage: &S,
     alloc: Global,
@@ -152,7 +159,8 @@ pub(crate) fn read_tables<S: Storage>(
     requires inside { start + 8 * count ≤ file }
     ensures held { IfOk result (λ t. AreHeld (S.bytes storage.now) t.l1.items t.l2.items) }
     ensures all { IfOk result (λ t. length t.l1.items ≡ count) }
-    ensures refusals { IfErr result (allowed (tables_reasons (S.features storage.now) (S.bytes storage.now))) }
+    ensures refusals { IfErr result
+        (allowed (tables_reasons (S.features storage.now) (S.bytes storage.now))) }
 {
     let entries = read_bytes(storage, alloc, start, 8 * count)?;
     let mut loaded = Loaded {
@@ -167,7 +175,8 @@ pub(crate) fn read_tables<S: Storage>(
 /// The entry at that index of the L2 table that is loaded under that number.
 pub(crate) fn entry_at(l2: &[Vec<u8>], number: usize, index: u64) -> u64
     requires loaded { number < length l2.now }
-    requires within { IfSome (slice_get l2.now number) (λ table. 8 * index + 8 ≤ length table.items) }
+    requires within { IfSome (slice_get l2.now number)
+        (λ table. 8 * index + 8 ≤ length table.items) }
     ensures { IfSome (slice_get l2.now number) (λ table. result ≡ be64 table.items (8 * index)) }
 {
     number64(&l2[number], (8 * index) as usize)

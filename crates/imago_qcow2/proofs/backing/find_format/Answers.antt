@@ -1,4 +1,4 @@
-use Rattle.std.proofs.Common.{◌≡◌, ◌+◌, ◌<◌, ◌≤◌, ◌-◌, inl, inr, sym, ap, ◌∙◌, arith}
+use Rattle.std.proofs.Common.{◌+◌, inl, inr, sym, ap, ◌∙◌, arith}
 use Rattle.std.proofs.lemmas.Result.{err_from_is_err_and}
 use Rattle.imago_qcow2.specs.Entry.{cluster_length}
 use Rattle.imago_qcow2.proofs.BackingSteps.{too_long, none_left, found_here, goes_on, none_past, inside_refused}
@@ -32,7 +32,7 @@ loop-at-preserved g c =
     let B = g.S.Storage.bytes c.args.storage.now in
     let x = c.in_ok-kind in
     goes_on B c.args.end c.loop-at.at x.kind x.count x.ensures.kind x.ensures.count c.loop-at-test.true (c.loop-at.at + (8 + c.next_multiple_of.result)) (ap (λ y. c.loop-at.at + (8 + y)) c.next_multiple_of.ensures.value)
-      (omega (arith, c.if-end-at.false)) c.if-kind-eq0.false c.if-kind.false ∙ c.loop-at.invariant
+    (omega (arith, c.if-end-at.false)) c.if-kind-eq0.false c.if-kind.false ∙ c.loop-at.invariant
 
 pub returns-clause-found : goal.returns-clause-found
 returns-clause-found g c = sym c.loop-at.invariant ∙ none_past (g.S.Storage.bytes c.args.storage.now) c.args.end c.loop-at.at (omega (arith, c.loop-at-test.false))

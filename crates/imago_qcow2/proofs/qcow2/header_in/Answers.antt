@@ -1,4 +1,4 @@
-use Rattle.std.proofs.Common.{rules, ◌≡◌, ◌+◌, ◌≤◌, arith, ◌∙◌, length}
+use Rattle.std.proofs.Common.{rules, ◌≤◌, ◌∙◌, length}
 use Rattle.imago_drivers.specs.Reasons.{allowed}
 use Rattle.imago_qcow2.specs.Opening.{header_reasons}
 use Rattle.imago_storage.specs.Bytes.{IsReadAt}

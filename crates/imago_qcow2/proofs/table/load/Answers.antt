@@ -1,4 +1,4 @@
-use Rattle.std.proofs.Common.{◌≡◌, ◌≤◌, length, arith}
+use Rattle.std.proofs.Common.{◌≡◌, length, arith}
 use Rattle.imago_qcow2.proofs.TableSteps.{there_kept, loaded_last, known_more, known_at}
 use Rattle.imago_qcow2.proofs.table.load.Goals as goal
 

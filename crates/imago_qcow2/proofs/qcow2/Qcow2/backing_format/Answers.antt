@@ -1,7 +1,7 @@
-use Rattle.std.proofs.Common.{◌≡◌, ◌+◌, ◌≤◌, inl, inr, sym, ap, ◌∙◌, Ok, Err, Some, None, arith, length, ⊎_elim}
+use Rattle.std.proofs.Common.{◌≡◌, inl, inr, sym, ap, ◌∙◌, Ok, Some, ⊎_elim}
 use Rattle.std.proofs.lemmas.Result.{err_from_is_err_and}
 use Rattle.imago_qcow2.specs.Backing.{format_of}
-use Rattle.imago_qcow2.proofs.BackingSteps.{inside_refused, format_here}
+use Rattle.imago_qcow2.proofs.BackingSteps.{format_here}
 use Rattle.imago_qcow2.proofs.qcow2.Qcow2.backing_format.Goals as goal
 
 pub returns-in_err-found-clause-refusals : goal.returns-in_err-found-clause-refusals

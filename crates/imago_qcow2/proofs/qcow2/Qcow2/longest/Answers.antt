@@ -1,5 +1,4 @@
-use Rattle.std.proofs.Common.{◌≡◌, ◌+◌, ◌<◌, ◌≤◌, inr, arith}
-use Rattle.imago_drivers.specs.Mapping.{Names}
+use Rattle.std.proofs.Common.{◌+◌, inr, arith}
 use Rattle.imago_qcow2.specs.Entry.{qcow2_place}
 use Rattle.imago_qcow2.proofs.MapSteps.{names_more, names_first}
 use Rattle.imago_qcow2.proofs.qcow2.Qcow2.longest.Goals as goal

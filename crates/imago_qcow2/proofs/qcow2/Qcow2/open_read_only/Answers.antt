@@ -1,4 +1,4 @@
-use Rattle.std.proofs.Common.{◌≡◌, ◌+◌, ◌*◌, ◌/◌, ◌^◌, ◌<◌, ◌≤◌, arith}
+use Rattle.std.proofs.Common.{◌*◌, ◌/◌, ◌^◌, ◌≤◌, arith}
 use Rattle.imago_qcow2.proofs.HeldSteps.{enough, span_positive}
 use Rattle.imago_qcow2.proofs.qcow2.Qcow2.open_read_only.Goals as goal
 

@@ -1,6 +1,5 @@
-use Rattle.std.proofs.Common.{◌≡◌, ◌+◌, ◌-◌, ◌<◌, ◌≤◌, min, arith}
+use Rattle.std.proofs.Common.{◌≡◌, ◌-◌, ◌<◌, min, arith}
 use Rattle.imago_qcow2.specs.Entry.{qcow2_place, disk_size}
-use Rattle.imago_qcow2.specs.Qcow2.{IsLongest}
 use Rattle.imago_qcow2.proofs.MapSteps.{right_inside, longest_of, whole_longest, asked_for}
 use Rattle.imago_qcow2.proofs.qcow2.Qcow2FormatDriverInstance.get_mapping.Goals as goal
 
@@ -11,7 +10,7 @@ returns-clause-right g c =
     let m = c.in_ok-mapping in
     let inside : c.args.offset < s.size = omega (arith, c.if-offset-self.false) in
     right_inside place c.args.offset c.args.max_length m.known c.longest.result m.mapping m.ensures.some m.ensures.names c.longest.ensures.names
-      (asked_for place c.args.offset s.size c.args.max_length c.min-most.result m.known c.longest.result m.mapping inside c.min-most.ensures m.ensures.some m.ensures.names c.longest.ensures.ends)
+    (asked_for place c.args.offset s.size c.args.max_length c.min-most.result m.known c.longest.result m.mapping inside c.min-most.ensures m.ensures.some m.ensures.names c.longest.ensures.ends)
 
 pub returns-clause-part : goal.returns-clause-part
 returns-clause-part g c =

@@ -1,4 +1,4 @@
-use Rattle.std.proofs.Common.{rules, ◌≡◌, ◌≤◌, ◌∙◌, length}
+use Rattle.std.proofs.Common.{rules, ◌≤◌, ◌∙◌, length}
 use Rattle.imago_storage.specs.Bytes.{IsReadAt}
 use Rattle.imago_qcow2.proofs.ReadSteps.{probe_same}
 use Rattle.imago_qcow2.proofs.qcow2.Qcow2FormatDriverInstance.probe.Goals as goal
