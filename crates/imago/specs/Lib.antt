@@ -1,3 +1,5 @@
+-- The disk of a chain of qcow2 files.
+pub mod Qcow2Chain
 -- The definitions that the contracts of the re-exported items cite.
 pub use Rattle.imago_storage.specs.Error
 pub use Rattle.imago_storage.specs.Bytes
@@ -60,6 +62,19 @@ pub use Rattle.imago_vmdk.specs.VmdkBuilderParts
 pub use Rattle.imago_vmdk.specs.VmdkBuilder
 pub use Rattle.imago_vmdk.specs.Opened as ExtentsOpened
 pub use Rattle.imago_vmdk.specs.Disk as VmdkDisk
+pub use Rattle.imago_qcow2.specs.Numbers as BigEndian
+pub use Rattle.imago_qcow2.specs.Header as Qcow2Header
+pub use Rattle.imago_qcow2.specs.Entry as Qcow2Entry
+pub use Rattle.imago_qcow2.specs.Tables as Qcow2Tables
+pub use Rattle.imago_qcow2.specs.Backing as Qcow2Backing
+pub use Rattle.imago_qcow2.specs.Opening as Qcow2Opening
+pub use Rattle.imago_qcow2.specs.Disk as Qcow2Disk
+pub use Rattle.imago_qcow2.specs.Qcow2
+pub use Rattle.imago_qcow2.specs.Qcow2Laws
+pub use Rattle.imago_qcow2.specs.Qcow2Calls
+pub use Rattle.imago_qcow2.specs.Qcow2Image
+pub use Rattle.imago_qcow2.specs.Qcow2BuilderParts
+pub use Rattle.imago_qcow2.specs.Qcow2Builder
 pub use Rattle.imago_cow.specs.Free as FreeDataBlocks
 pub use Rattle.imago_cow.specs.Table as DataBlocks
 pub use Rattle.imago_cow.specs.TableView as DataBlocksView
@@ -123,6 +138,10 @@ pub use Rattle.imago_drivers.specs.declared.builder.FormatDriverBuilderBase
 pub use Rattle.imago_drivers.specs.declared.builder.FormatCreateBuilderBase
 pub use Rattle.imago_vmdk.specs.declared.line.Extent
 pub use Rattle.imago_vmdk.specs.declared.vmdk.Vmdk as DeclaredVmdk
+pub use Rattle.imago_qcow2.specs.declared.entry.L2Table
+pub use Rattle.imago_qcow2.specs.declared.entry.GuestCluster
+pub use Rattle.imago_qcow2.specs.declared.header.Header as DeclaredQcow2Header
+pub use Rattle.imago_qcow2.specs.declared.qcow2.Qcow2 as DeclaredQcow2
 pub use Rattle.imago_cow.specs.declared.table.GuestBlock
 pub use Rattle.imago_cow.specs.declared.table.WithoutData
 pub use Rattle.imago_cow.specs.declared.cow.Cow as DeclaredCow

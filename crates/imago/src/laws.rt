@@ -11,18 +11,21 @@ ghost use Rattle.imago_access.specs.Histories.{IsFlatHistory};
 ghost use Rattle.imago_cow.specs.CowImage.{storage_in};
 ghost use Rattle.imago_vmdk.specs.Image.{is_opened, takes_unknown_keys};
 ghost use Rattle.imago_vmdk.specs.Disk.{described_value};
+ghost use Rattle.imago.specs.Qcow2Chain.{files_of, files_value};
 
 pub mod in_memory;
 pub mod over_null;
 pub mod round_trip;
 
 use crate::cow::Cow;
+use crate::qcow2::Qcow2;
 use crate::vmdk::Vmdk;
 use crate::{FormatAccess, FormatDriverInstance, Storage};
 pub use imago_access::laws as images;
 pub use imago_cow::laws as data_blocks;
 pub use imago_drivers::laws as drivers;
 pub use imago_plan::laws as plans;
+pub use imago_qcow2::laws as qcow2_files;
 pub use imago_storage::laws as storages;
 pub use imago_vmdk::laws as descriptors;
 
@@ -34,6 +37,15 @@ pub fn vmdk_disk<S: Storage>(image: &FormatAccess<Vmdk<S>>)
         ≡ described_value (takes_unknown_keys (driver image.now)) (⟦<Vmdk<S> as FormatDriverInstance>⟧.view (driver image.now)).stores.bytes p }
 {
     imago_vmdk::laws::disk_of_bytes(image.inner());
+}
+
+/// What a read of an image gives whose drivers are qcow2 ones, through its whole chain, follows from the bytes of its files alone: each
+/// file says of an offset that a byte of its own stands there, a zero, or what the next file says.
+pub fn qcow2_disk<S: Storage>(image: &FormatAccess<Qcow2<S>>)
+    ensures { (p : ℕ) → disk_value ⟦<Qcow2<S> as FormatDriverInstance>⟧.view image.now p
+        ≡ files_value (files_of (λ d. (⟦<Qcow2<S> as FormatDriverInstance>⟧.view d).stores.bytes 0) image.now) p }
+{
+    let _ = image;
 }
 
 /// A run of calls on a copy-on-write disk, over any layers below, is a history of one flat list if the storage keeps data,

@@ -2,7 +2,7 @@
 //!
 //! A [`Storage`] holds bytes, a driver shows a disk that stands in storages, and a [`FormatAccess`] reads and writes the
 //! disk of a driver and of the images below it. Names and modules are those of the Rust crate imago; everything here but
-//! [`laws`] is defined in `imago_storage`, `imago_drivers`, `imago_vmdk`, `imago_cow`,
+//! [`laws`] is defined in `imago_storage`, `imago_drivers`, `imago_vmdk`, `imago_qcow2`, `imago_cow`,
 //! `imago_access` and `imago_plan`, and their documentation says what each item does.
 //!
 //! A contract over these items names what it needs by this crate alone: definitions as `Rattle.imago.specs.Bytes.{splice}`, and
@@ -26,6 +26,7 @@ pub use imago_drivers::builder::{
 pub use imago_drivers::drivers::{FormatDriverInstance, PreparedDataMapping, ShallowMapping};
 pub use imago_drivers::gate::{DenyImplicitOpenGate, ImplicitOpenGate, PermissiveImplicitOpenGate};
 pub use imago_drivers::{builder, drivers, gate, layer, raw, stored};
+pub use imago_qcow2::qcow2;
 pub use imago_storage::ext::StorageExt;
 pub use imago_storage::{align, error, ext, mem, null};
 pub use imago_vmdk::vmdk;

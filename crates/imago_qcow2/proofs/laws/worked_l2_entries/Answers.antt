@@ -1,0 +1,18 @@
+use Rattle.std.proofs.Common.{refl}
+use Rattle.imago_qcow2.specs.Entry.{cluster_in_entry}
+use Rattle.imago_qcow2.proofs.laws.worked_l2_entries.Goals as goal
+
+pub returns : goal.returns
+unfolding cluster_in_entry
+returns c = record {
+  stored = refl;
+  not_allocated = refl;
+  copied_bit_alone = refl;
+  zero = refl;
+  zero_with_a_cluster = refl;
+  zero_in_version_2 = refl;
+  compressed = refl;
+  unaligned = refl;
+  in_clusters_of_512 = refl;
+  reserved_bit = refl;
+}

@@ -1,0 +1,13 @@
+use Rattle.std.proofs.Common.{◌-◌, ℕ, ◌+◌, ◌<◌, ◌≤◌}
+use Rattle.imago_drivers.specs.Mapping.{Names}
+use Rattle.imago_qcow2.specs.Entry.{qcow2_place}
+use Rattle.imago_qcow2.proofs.qcow2.Qcow2.longest.Given as goal
+
+abbrev pub invariant-loop-count : goal.invariant-loop-count
+invariant-loop-count g l = record {
+  names : (i : ℕ) → i < l.count → Names l.mapping i (qcow2_place (g.S.Storage.bytes l.self.storage) (l.offset + i));
+  fits : l.offset + l.count ≤ l.self.size;
+}
+
+abbrev pub decreases-loop-count : goal.decreases-loop-count
+decreases-loop-count g l = l.most - l.count

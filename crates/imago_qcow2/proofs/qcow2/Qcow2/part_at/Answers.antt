@@ -1,0 +1,13 @@
+use Rattle.std.proofs.Common.{◌+◌, ◌<◌, arith}
+use Rattle.imago_qcow2.proofs.MapSteps.{place_of}
+use Rattle.imago_qcow2.proofs.qcow2.Qcow2.part_at.Goals as goal
+
+pub returns-clause-names : goal.returns-clause-names
+returns-clause-names g c = λ i h.
+    let s = c.args.self.now in
+    let B = g.S.Storage.bytes s.storage in
+    let r = c.cluster_at-cluster in
+    let near : i < r.result.1 = omega (arith, h, c.min.ensures) in
+    let under : c.args.offset + i < s.size = omega (arith, h, c.min.ensures, c.requires) in
+    rw (place_of B s.cluster s.size c.args.offset (omega (arith, s.least)) s.cluster_is s.size_is r.result.0 i (r.ensures.same i near) (λ at e. omega (arith, near, (r.ensures.stored at e).1)) under)
+    (c.in_ok-mapping.ensures.names B i)

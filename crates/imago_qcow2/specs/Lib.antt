@@ -1,0 +1,13 @@
+pub mod Numbers
+pub mod Entry
+pub mod Header
+pub mod Tables
+pub mod Backing
+pub mod Opening
+pub mod Disk
+pub mod Qcow2
+pub mod Qcow2Laws
+pub mod Qcow2Calls
+pub mod Qcow2Image
+pub mod Qcow2BuilderParts
+pub mod Qcow2Builder

@@ -1,0 +1,72 @@
+use Rattle.std.specs.Prelude.{◌≡◌, ℕ, ◌+◌, ◌*◌, ◌<◌, ◌⊎◌, Bool, false, ◌&&◌, ◌||◌, List}
+use Rattle.std.specs.Prelude.{length, nat_eq, IsOk}
+use Rattle.std.specs.Int.{div_ceil}
+use Rattle.imago_storage.specs.declared.error.Error.{Error}
+use Rattle.imago_storage.specs.Features.{Features, IsAlignedRequest, MayRunOut}
+use Rattle.imago_storage.specs.Padding.{Wraps}
+use Rattle.imago_drivers.specs.Reasons.{Reasons, none}
+use Rattle.imago_qcow2.specs.declared.entry.L2Table.{L2Table}
+use Rattle.imago_qcow2.specs.Numbers.{be32}
+use Rattle.imago_qcow2.specs.Header.{header_of}
+use Rattle.imago_qcow2.specs.Entry.{disk_size, cluster_length, per_table, l1_start, table_of}
+
+-- why n bytes of the file can't be read into memory that is taken for them
+abbrev pub read_reasons : Features → ℕ → ℕ → Reasons
+read_reasons f at n = record none {
+  cause = λ e. (e ≡ Error.WrapAround) × Wraps f at n;
+  device =
+      f.is_reliable ≡ false;
+  memory = Unit {0};
+}
+
+-- why the header can't be read, into memory that it needs not be taken for
+abbrev pub header_reasons : Features → List ℕ → Reasons
+header_reasons f bytes = record (read_reasons f 0 112) {
+  memory = IsAlignedRequest f 0 112
+      → MayRunOut f.read_memory (length bytes) (0 + 112);
+}
+
+-- how many L2 tables a disk has
+abbrev pub table_count : List ℕ → ℕ
+table_count bytes = div_ceil (disk_size bytes) (per_table bytes * cluster_length bytes)
+
+-- a request for a table's bytes passes the greatest offset once it is padded: for those of the L1
+-- table, or of an L2 table that it names
+abbrev pub TablesWrap : Features → List ℕ → Type 0
+TablesWrap f bytes = Wraps f (l1_start bytes) (8 * table_count bytes)
+    ⊎ ((i : ℕ) × (at : ℕ) × (i < table_count bytes) × (table_of bytes i ≡ L2Table.Stored at)
+    × Wraps f at (cluster_length bytes))
+
+-- why the tables can't be read into memory
+abbrev pub tables_reasons : Features → List ℕ → Reasons
+tables_reasons f bytes = record none {
+  cause = λ e. (e ≡ Error.WrapAround) × TablesWrap f bytes;
+  device = f.is_reliable ≡ false;
+  memory = Unit {0};
+}
+
+-- Why an image isn't opened whose header has no fault, or can't be read: a request that wraps
+-- around, for the header or, where it has no fault, for a table; a device that isn't reliable; or
+-- memory, for the tables, for the header where the storage takes some, or to tell the storage's
+-- length.
+abbrev pub open_reasons : Features → List ℕ → Reasons
+open_reasons f bytes = record none {
+  cause = λ e. (e ≡ Error.WrapAround)
+      × (Wraps f 0 112 ⊎ (IsOk (header_of bytes (length bytes)) × TablesWrap f bytes));
+  device = f.is_reliable ≡ false;
+  memory = IsOk (header_of bytes (length bytes))
+      ⊎ (IsAlignedRequest f 0 112 → MayRunOut f.read_memory (length bytes) (0 + 112))
+      ⊎ MayRunOut f.other_memory 0 0;
+}
+
+-- whether a file that begins so looks like an image: the magic number, and a version that is known
+unfoldable pub probe_of : List ℕ → Bool
+probe_of bytes = nat_eq (be32 bytes 0) 1363560955
+    && (nat_eq (be32 bytes 4) 2 || nat_eq (be32 bytes 4) 3)
+
+-- why the file can't be read for that
+abbrev pub probe_reasons_of : Features → List ℕ → Reasons
+probe_reasons_of f bytes = record (read_reasons f 0 8) {
+  memory = IsAlignedRequest f 0 8
+      → MayRunOut f.read_memory (length bytes) (0 + 8);
+}

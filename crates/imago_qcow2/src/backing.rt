@@ -1,0 +1,60 @@
+//! What an image says of its backing file.
+ghost use Rattle.std.specs.Prelude.{◌≡◌, ℕ, ◌+◌, ◌<◌, ◌≤◌, ◌⊎◌, IfOk, IfErr, IfSome, Ok, Err};
+ghost use Rattle.imago_drivers.specs.Reasons.{allowed};
+ghost use Rattle.imago_qcow2.specs.Numbers.{be32};
+ghost use Rattle.imago_qcow2.specs.Entry.{cluster_length};
+ghost use Rattle.imago_qcow2.specs.Opening.{read_reasons};
+ghost use Rattle.imago_qcow2.specs.Backing.{format_from, extension_reasons};
+
+use crate::number::number32;
+use imago_storage::error::Error;
+use imago_storage::ext::StorageExt;
+use imago_storage::storage::Storage;
+use std::alloc::Global;
+
+/// The type of the header extension at that offset of the file, and the length of what it holds, in
+/// bytes.
+fn extension_at<S: Storage>(storage: &S, alloc: Global, at: u64) -> Result<(u32, u64), Error>
+    ensures kind { IfOk result (λ r. r.0 ≡ be32 (S.bytes storage.now) at) }
+    ensures count { IfOk result (λ r. r.1 ≡ be32 (S.bytes storage.now) (at + 4)) }
+    ensures small { IfOk result (λ r. r.1 < 4294967296) }
+    ensures refusals { IfErr result (allowed (read_reasons (S.features storage.now) at 8)) }
+{
+    let mut head = [0u8; 8];
+    storage.read(alloc, &mut head, at)?;
+    Ok((number32(&head, 0), number32(&head, 4) as u64))
+}
+
+/// Where the name of the backing file's format begins in the file, and its length in bytes. Header
+/// extensions stand from the offset on, and don't pass the end.
+pub(crate) fn find_format<S: Storage>(
+    storage: &S,
+    alloc: Global,
+    start: u64,
+    end: u64,
+) -> Result<Option<(u64, u64)>, Error>
+    requires most { end ≤ 2097152 }
+    requires inside { end ≤ cluster_length (S.bytes storage.now) }
+    ensures found { IfOk result (λ o. format_from (S.bytes storage.now) start end ≡ Ok o) }
+    ensures inside { IfOk result (λ o. IfSome o (λ p. p.0 + p.1 ≤ end)) }
+    ensures refusals { IfErr result
+        (λ e. (format_from (S.bytes storage.now) start end ≡ Err e)
+        ⊎ allowed
+        (extension_reasons (S.features storage.now) (cluster_length (S.bytes storage.now))) e) }
+{
+    let mut at = start;
+    while at < end {
+        let (kind, count) = extension_at(storage, alloc, at)?;
+        if end - at < 8 + count {
+            return Err(Error::InvalidData);
+        }
+        if kind == 0 {
+            return Ok(None);
+        }
+        if kind == 3799591626 {
+            return Ok(Some((at + 8, count)));
+        }
+        at += 8 + count.next_multiple_of(8);
+    }
+    Ok(None)
+}

@@ -1,0 +1,78 @@
+//! What the entries of an image's tables say.
+ghost use Rattle.std.specs.Prelude.{◌≡◌, ℕ, ◌^◌, ◌<◌};
+ghost use Rattle.imago_qcow2.specs.Entry.{table_in_entry, cluster_in_entry};
+
+/// What an entry of the L1 table says of its L2 table.
+#[derive(Clone, Copy, Debug, PartialEq, Eq)]
+pub enum L2Table {
+    /// There is none: its guest clusters lead to the layer below.
+    Absent,
+    /// It stands at that offset of the file, in bytes.
+    Stored(u64),
+    /// The entry is invalid, and so are its guest clusters.
+    Invalid,
+}
+
+/// What an entry of an L2 table says of its guest cluster.
+#[derive(Clone, Copy, Debug, PartialEq, Eq)]
+pub enum GuestCluster {
+    /// It leads to the layer below.
+    Absent,
+    /// It is an explicit zero.
+    Zero,
+    /// It stands at that offset of the file, in bytes.
+    Stored(u64),
+    /// It is compressed.
+    Compressed,
+    /// The entry is invalid.
+    Invalid,
+}
+
+/// What an L1 entry says, in a file of that length whose clusters have that length.
+#[tactic(auto, unfolding(crate::specs::Entry::table_in_entry))]
+pub(crate) fn table_in(file: u64, cluster: u64, entry: u64) -> L2Table
+    requires positive { 0 < cluster }
+    requires most { cluster < 4294967296 }
+    ensures { result ≡ table_in_entry file cluster entry }
+{
+    let low = entry % 72057594037927936;
+    let high = entry / 72057594037927936;
+    if high % 128 != 0 || low % cluster != 0 {
+        return L2Table::Invalid;
+    }
+    if low == 0 {
+        return L2Table::Absent;
+    }
+    if file < low + cluster {
+        return L2Table::Invalid;
+    }
+    L2Table::Stored(low)
+}
+
+/// What an L2 entry says, in an image of that version whose clusters have that length.
+#[tactic(auto, unfolding(crate::specs::Entry::cluster_in_entry))]
+pub(crate) fn cluster_in(version: u32, cluster: u64, entry: u64) -> GuestCluster
+    requires { 0 < cluster }
+    ensures says { result ≡ cluster_in_entry version cluster entry }
+    ensures small { (at : ℕ) → result ≡ GuestCluster.Stored at → at < 2 ^ 56 }
+{
+    let low = entry % 72057594037927936;
+    let high = entry / 72057594037927936;
+    if high / 64 % 2 == 1 {
+        return GuestCluster::Compressed;
+    }
+    if high % 64 != 0 || (low - low % 2) % cluster != 0 {
+        return GuestCluster::Invalid;
+    }
+    if low % 2 == 1 {
+        return if version < 3 {
+            GuestCluster::Invalid
+        } else {
+            GuestCluster::Zero
+        };
+    }
+    if low == 0 {
+        return GuestCluster::Absent;
+    }
+    GuestCluster::Stored(low)
+}

@@ -1,0 +1,61 @@
+//! Laws of disks, and what the definitions give for entries that are written out. The functions do
+//! nothing; their contracts are proved.
+ghost use Rattle.std.specs.Prelude.{◌≡◌, ℕ, ◌≤◌, List, length};
+ghost use Rattle.imago_drivers.specs.Place.{Value, shown};
+ghost use Rattle.imago_qcow2.specs.Header.{header_of};
+ghost use Rattle.imago_qcow2.specs.declared.entry.L2Table.{L2Table};
+ghost use Rattle.imago_qcow2.specs.declared.entry.GuestCluster.{GuestCluster};
+ghost use Rattle.imago_qcow2.specs.Entry.{cluster_length, cluster_in_entry, table_in_entry};
+ghost use Rattle.imago_qcow2.specs.Entry.{qcow2_place};
+ghost use Rattle.imago_qcow2.specs.Disk.{HaveSameTables, StandsAlike};
+
+use crate::qcow2::Qcow2;
+use imago_drivers::drivers::FormatDriverInstance;
+use imago_storage::storage::Storage;
+
+/// What is read of an image follows from the bytes of its file, and from the layer below where
+/// these lead there.
+pub fn disk_of_bytes<S: Storage>(image: &Qcow2<S>)
+    ensures { (below : ℕ → Value) (p : ℕ)
+        → shown below ((⟦<Qcow2<S> as FormatDriverInstance>⟧.view image.now).place p)
+        ≡ shown below
+        (qcow2_place ((⟦<Qcow2<S> as FormatDriverInstance>⟧.view image.now).stores.bytes 0) p) }
+{
+    let _ = image;
+}
+
+/// Where the bytes of a disk stand follows from the header and the tables of its file alone:
+/// another file that has the same ones says the same, whatever its clusters hold, and is an image
+/// too.
+pub fn same_tables_stand_alike()
+    ensures header { (a b : List ℕ) → HaveSameTables a b → header_of b (length b)
+        ≡ header_of a (length a) }
+    ensures places { (a b : List ℕ) → HaveSameTables a b → 8 ≤ cluster_length a → (p : ℕ)
+        → StandsAlike (qcow2_place a p) (qcow2_place b p) }
+{}
+
+/// What entries of L2 tables say: in version 3 and in clusters of 64 KiB, unless the name says
+/// else.
+pub fn worked_l2_entries()
+    ensures stored { cluster_in_entry 3 65536 9223372036855103488 ≡ GuestCluster.Stored 327680 }
+    ensures not_allocated { cluster_in_entry 3 65536 0 ≡ GuestCluster.Absent }
+    ensures copied_bit_alone { cluster_in_entry 3 65536 9223372036854775808 ≡ GuestCluster.Absent }
+    ensures zero { cluster_in_entry 3 65536 1 ≡ GuestCluster.Zero }
+    ensures zero_with_a_cluster { cluster_in_entry 3 65536 327681 ≡ GuestCluster.Zero }
+    ensures zero_in_version_2 { cluster_in_entry 2 65536 1 ≡ GuestCluster.Invalid }
+    ensures compressed { cluster_in_entry 3 65536 4611686018427715875 ≡ GuestCluster.Compressed }
+    ensures unaligned { cluster_in_entry 3 65536 328192 ≡ GuestCluster.Invalid }
+    ensures in_clusters_of_512 { cluster_in_entry 3 512 328192 ≡ GuestCluster.Stored 328192 }
+    ensures reserved_bit { cluster_in_entry 3 65536 72057594038255616 ≡ GuestCluster.Invalid }
+{}
+
+/// What entries of an L1 table say, in clusters of 64 KiB: in a file of 1 MiB, and of the table's
+/// end.
+pub fn worked_l1_entries()
+    ensures stored { table_in_entry 1048576 65536 9223372036854972416 ≡ L2Table.Stored 196608 }
+    ensures absent { table_in_entry 1048576 65536 0 ≡ L2Table.Absent }
+    ensures low_bit { table_in_entry 1048576 65536 196609 ≡ L2Table.Invalid }
+    ensures high_bit { table_in_entry 1048576 65536 144115188076052480 ≡ L2Table.Invalid }
+    ensures to_the_end { table_in_entry 262144 65536 196608 ≡ L2Table.Stored 196608 }
+    ensures past_the_end { table_in_entry 262143 65536 196608 ≡ L2Table.Invalid }
+{}

@@ -1,0 +1,15 @@
+//! The driver of qcow2 images of versions 2 and 3, read-only.
+//!
+//! [`qcow2`] has the driver, [`header`] what a file's header says, and [`entry`] what the entries
+//! of its tables say.
+#![tactic(auto)]
+
+mod backing;
+pub mod entry;
+pub mod header;
+pub mod laws;
+mod map;
+mod number;
+pub mod qcow2;
+mod qcow2_builder;
+mod table;

@@ -1,0 +1,528 @@
+//! The driver of qcow2 images.
+ghost use Rattle.std.specs.Prelude.{◌≡◌, ℕ, ◌+◌, ◌-◌, ◌*◌, ◌/◌, ◌%◌, ◌^◌, ◌<◌, ◌≤◌, ◌⊎◌, length};
+ghost use Rattle.std.specs.Prelude.{true, false, IsErrOf, IfErr, IfOk, OnOk, IsOk, Ok, Err};
+ghost use Rattle.imago_storage.specs.declared.error.Error.{Error};
+ghost use Rattle.imago_storage.specs.Error.{IsExtRefusal};
+ghost use Rattle.imago_drivers.specs.Commit.{IsCommit, IsCancel};
+ghost use Rattle.imago_drivers.specs.Mapping.{Names};
+ghost use Rattle.imago_drivers.specs.Place.{Refused};
+ghost use Rattle.imago_drivers.specs.Reasons.{allowed};
+ghost use Rattle.imago_qcow2.specs.Numbers.{be32, be64};
+ghost use Rattle.imago_qcow2.specs.Header.{own_length, header_of, IsSound};
+ghost use Rattle.imago_qcow2.specs.Entry.{version_of, cluster_length, disk_size, cluster_of};
+ghost use Rattle.imago_qcow2.specs.Entry.{qcow2_place};
+ghost use Rattle.imago_qcow2.specs.Tables.{AreHeld};
+ghost use Rattle.imago_qcow2.specs.Backing.{IsBackingName, IsFormatName, extensions_end, format_of};
+ghost use Rattle.imago_qcow2.specs.Backing.{extension_reasons};
+ghost use Rattle.imago_qcow2.specs.Opening.{read_reasons, header_reasons, open_reasons, probe_of};
+ghost use Rattle.imago_qcow2.specs.Opening.{probe_reasons_of};
+ghost use Rattle.imago_qcow2.specs.Qcow2.{qcow2_view};
+ghost use Rattle.imago_qcow2.specs.Qcow2Calls.{qcow2_calls};
+ghost use Rattle.imago_qcow2.specs.Qcow2Laws.{qcow2_lawful, qcow2_causes};
+
+use crate::backing::find_format;
+use crate::entry::{GuestCluster, cluster_in};
+use crate::header::{HEADER, Header, cluster_of_bits, read_header};
+use crate::map::{goes_on, mapping_of};
+use crate::number::number32;
+pub use crate::qcow2_builder::Qcow2OpenBuilder;
+use crate::table::{HeldTable, Tables, entry_at, read_bytes, read_tables};
+use imago_drivers::drivers::{
+    Format, FormatDriverInstance, PreallocateMode, PreparedDataMapping, ShallowMapping,
+};
+use imago_drivers::layer::LowerLayer;
+use imago_storage::error::Error;
+use imago_storage::ext::StorageExt;
+use imago_storage::storage::Storage;
+use std::alloc::Global;
+use std::fmt::{self, Display, Formatter, Write};
+
+/// The disk of a qcow2 file. It can't be written to.
+///
+/// It follows from the bytes of the file alone, and from the layer below where a guest cluster has
+/// no data. Header and tables are read when the image is opened; each L2 table is kept once, also
+/// where several L1 entries name it. Compressed clusters are mapped as special, and a read of them
+/// is [`Error::Unsupported`].
+#[derive(Drop)]
+pub struct Qcow2<S: Storage> {
+    storage: S,
+    version: u32,
+    /// The length of the header in bytes.
+    header_length: u32,
+    /// A cluster's length in bytes.
+    cluster: u64,
+    /// The disk's size in bytes.
+    size: u64,
+    /// Where the backing file's name begins in the file, in bytes; 0 where there is none.
+    name_start: u64,
+    /// The name's length in bytes.
+    name_length: u32,
+    tables: Tables,
+    ghost version_is: { version ≡ version_of (S.bytes storage) },
+    ghost header_length_is: { header_length ≡ own_length (S.bytes storage) },
+    ghost cluster_is: { cluster ≡ cluster_length (S.bytes storage) },
+    ghost size_is: { size ≡ disk_size (S.bytes storage) },
+    ghost name_start_is: { name_start ≡ be64 (S.bytes storage) 8 },
+    ghost name_length_is: { name_length ≡ be32 (S.bytes storage) 16 },
+    ghost least: { 512 ≤ cluster },
+    ghost most: { cluster ≤ 2097152 },
+    ghost covers: { size ≤ length tables.l1.items * (cluster / 8 * cluster) },
+    ghost held: { ∥ AreHeld (S.bytes storage) tables.l1.items tables.l2.items ∥₁ },
+}
+
+/// What the header of a storage of that length says.
+fn header_in<S: Storage>(storage: &S, alloc: Global, file: u64) -> Result<Header, Error>
+    ensures header { IfOk result (λ h. header_of (S.bytes storage.now) file ≡ Ok h) }
+    ensures sound { IfOk result (λ h. IsSound (S.bytes storage.now) file h) }
+    ensures refusals { IfErr result
+        (λ e. (header_of (S.bytes storage.now) file ≡ Err e)
+        ⊎ allowed (header_reasons (S.features storage.now) (S.bytes storage.now)) e) }
+{
+    let mut head = [0u8; HEADER];
+    storage.read(alloc, &mut head, 0)?;
+    read_header(&head, file)
+}
+
+/// Whether a storage has the magic number, and a version that is known.
+#[tactic(auto, unfolding(crate::specs::Opening::probe_of))]
+fn is_recognized(head: &[u8]) -> bool
+    requires { 8 ≤ length head.now }
+    ensures { result ≡ probe_of head.now }
+{
+    let version = number32(head, 4);
+    number32(head, 0) == 1363560955 && (version == 2 || version == 3)
+}
+
+impl<S: Storage> Qcow2<S> {
+    ghost use Rattle.imago_qcow2.specs.Qcow2Image.{storage_in};
+
+    /// Opens the image whose file the storage is.
+    ///
+    /// [`Error::Unsupported`] is an image that is to be written, before anything else. Then the
+    /// header is looked at. The first of these is the answer: [`Error::InvalidData`], the file is
+    /// no qcow2 image; [`Error::Unsupported`], it has another version than 2 and 3, is encrypted,
+    /// or needs what isn't offered, such as an external data file, extended L2 entries, or a
+    /// repair; [`Error::InvalidData`], a number of the header is out of the format's bounds, or the
+    /// L1 table is too small for the disk, off a cluster's bounds, or not wholly in the file.
+    /// [`Error::Device`], [`Error::Memory`] and [`Error::WrapAround`] are passed on from the
+    /// storage. [`Error::Memory`] is also no room for the tables.
+    pub fn open_image(alloc: Global, storage: S, writable: bool) -> Result<Self, Error>
+        ensures read_only { writable ≡ true → result ≡ Err Error.Unsupported }
+        ensures opened { IfOk result
+            (λ d. (storage_in d ≡ «storage»)
+            × IsOk (header_of (S.bytes storage) (length (S.bytes storage)))) }
+        ensures refused { writable ≡ false
+            → IfErr result
+            (λ e. (header_of (S.bytes storage) (length (S.bytes storage)) ≡ Err e)
+            ⊎ allowed (open_reasons (S.features storage) (S.bytes storage)) e) }
+    {
+        if writable {
+            return Err(Error::Unsupported);
+        }
+        Qcow2::open_read_only(alloc, storage)
+    }
+
+    /// Opens the image.
+    pub(crate) fn open_read_only(alloc: Global, storage: S) -> Result<Self, Error>
+        ensures opened { IfOk result
+            (λ d. (storage_in d ≡ «storage»)
+            × IsOk (header_of (S.bytes storage) (length (S.bytes storage)))) }
+        ensures refused { IfErr result
+            (λ e. (header_of (S.bytes storage) (length (S.bytes storage)) ≡ Err e)
+            ⊎ allowed (open_reasons (S.features storage) (S.bytes storage)) e) }
+    {
+        let file = storage.size()?;
+        let header = header_in(&storage, alloc, file)?;
+        let cluster = cluster_of_bits(header.cluster_bits);
+        let count = header.size.div_ceil(cluster / 8 * cluster);
+        let tables = read_tables(&storage, alloc, header.l1_start, count, cluster, file)?;
+        Ok(Qcow2 {
+            storage,
+            version: header.version,
+            header_length: header.own_length,
+            cluster,
+            size: header.size,
+            name_start: header.name_start,
+            name_length: header.name_length,
+            tables,
+        })
+    }
+
+    /// The name of the backing file, as it stands in the file, where there is one. It is in the
+    /// caller's hands to open it, and to lay its image below. [`Error::Memory`] is no room for the
+    /// name; what the storage is refused for is passed on.
+    pub fn backing_file(&self, alloc: Global) -> Result<Option<Vec<u8>>, Error>
+        ensures name { IfOk result (IsBackingName (S.bytes (storage_in self.now))) }
+        ensures refusals { IfErr result
+            (allowed
+            (read_reasons (S.features (storage_in self.now))
+            (be64 (S.bytes (storage_in self.now)) 8)
+            (be32 (S.bytes (storage_in self.now)) 16))) }
+    {
+        if self.name_start == 0 {
+            return Ok(None);
+        }
+        let count = self.name_length as u64;
+        Ok(Some(read_bytes(&self.storage, alloc, self.name_start, count)?))
+    }
+
+    /// The name of the backing file's format, as the header extension for it has it, where there is
+    /// one.
+    ///
+    /// [`Error::InvalidData`] is a header extension that passes the first cluster, or begin of the
+    /// backing file's name; [`Error::Memory`] no room for the name. What the storage is refused for
+    /// is passed on.
+    pub fn backing_format(&self, alloc: Global) -> Result<Option<Vec<u8>>, Error>
+        ensures name { IfOk result (IsFormatName (S.bytes (storage_in self.now))) }
+        ensures refusals { IfErr result
+            (λ e. (format_of (S.bytes (storage_in self.now)) ≡ Err e)
+            ⊎ allowed (extension_reasons (S.features (storage_in self.now))
+            (cluster_length (S.bytes (storage_in self.now)))) e) }
+    {
+        let end = self.extensions_end();
+        let found = find_format(&self.storage, alloc, self.header_length as u64, end)?;
+        let Some((at, count)) = found else {
+            return Ok(None);
+        };
+        Ok(Some(read_bytes(&self.storage, alloc, at, count)?))
+    }
+
+    /// Where header extensions end in the file, in bytes.
+    fn extensions_end(&self) -> u64
+        ensures value { result ≡ extensions_end (S.bytes self.now.storage) }
+        ensures inside { result ≤ self.now.cluster }
+    {
+        if self.name_start == 0 {
+            return self.cluster;
+        }
+        self.cluster.min(self.name_start)
+    }
+
+    /// What the guest cluster at that offset of the disk is, and how many bytes from there on stand
+    /// in such guest clusters: the rest of its own, or, where its L2 table is absent or invalid,
+    /// the rest of those that this table would have been for.
+    fn cluster_at(&self, offset: u64) -> (GuestCluster, u64)
+        requires { offset < self.now.size }
+        ensures same { (i : ℕ)
+            → i < result.1
+            → cluster_of (S.bytes self.now.storage) ((offset + i) / self.now.cluster) ≡ result.0 }
+        ensures some { 0 < result.1 }
+        ensures stored { (at : ℕ)
+            → result.0 ≡ GuestCluster.Stored at
+            → (at < 2 ^ 56) × (result.1 ≡ self.now.cluster - offset % self.now.cluster) }
+    {
+        let cluster = self.cluster;
+        let span = cluster / 8 * cluster;
+        match self.tables.l1[(offset / span) as usize] {
+            HeldTable::Absent => (GuestCluster::Absent, span - offset % span),
+            HeldTable::Loaded(number) => {
+                let index = offset / cluster % (cluster / 8);
+                let entry = entry_at(&self.tables.l2, number, index);
+                (
+                    cluster_in(self.version, cluster, entry),
+                    cluster - offset % cluster,
+                )
+            }
+            HeldTable::Invalid => (GuestCluster::Invalid, span - offset % span),
+        }
+    }
+
+    /// The mapping of the places from that offset of the disk on, and of how many it is known: at
+    /// least one.
+    fn part_at(&self, offset: u64) -> Result<(ShallowMapping, u64), Error>
+        requires { offset < self.now.size }
+        ensures names { IfOk result
+            (λ r. (i : ℕ) → i < r.1
+            → Names r.0 i (qcow2_place (S.bytes self.now.storage) (offset + i))) }
+        ensures some { IfOk result (λ r. 0 < r.1) }
+        ensures inside { IfOk result (λ r. offset + r.1 ≤ self.now.size) }
+        ensures only { IfErr result (λ e. e ≡ Error.InvalidData) }
+        ensures refused { IfErr result
+            (λ e. qcow2_place (S.bytes self.now.storage) offset ≡ Refused e) }
+    {
+        let (cluster, same) = self.cluster_at(offset);
+        let mapping = mapping_of(cluster, offset % self.cluster, offset)?;
+        Ok((mapping, same.min(self.size - offset)))
+    }
+
+    /// How many places from that offset of the disk on the mapping names, up to `most` of them. It
+    /// is known of the first ones.
+    fn longest(&self, mapping: ShallowMapping, offset: u64, known: u64, most: u64) -> u64
+        requires names { (i : ℕ)
+            → i < known
+            → Names mapping i (qcow2_place (S.bytes self.now.storage) (offset + i)) }
+        requires known { offset + known ≤ self.now.size }
+        requires most { offset + most ≤ self.now.size }
+        ensures names { (i : ℕ)
+            → i < result
+            → Names mapping i (qcow2_place (S.bytes self.now.storage) (offset + i)) }
+        ensures most { result ≤ most }
+        ensures ends { (result ≡ most)
+            ⊎ (Names mapping result (qcow2_place (S.bytes self.now.storage) (offset + result))
+            → ⊥) }
+    {
+        let mut count = known;
+        while count < most {
+            let Ok((next, more)) = self.part_at(offset + count) else {
+                return count;
+            };
+            if !goes_on(mapping, count, next) {
+                return count;
+            }
+            count += more;
+        }
+        most
+    }
+}
+
+impl<S: Storage> Display for Qcow2<S> {
+    fn fmt<W: Write>(&self, f: &mut Formatter<W>) -> fmt::Result {
+        write!(f, "qcow2[{}]", self.storage)
+    }
+}
+
+impl<S: Storage> FormatDriverInstance for Qcow2<S> {
+    type Storage = S;
+
+    type State = ();
+
+    ghost view = { λ d. qcow2_view (S.features d.storage) (S.bytes d.storage) };
+
+    ghost recognizes = { probe_of };
+
+    ghost probe_reasons = { λ s. probe_reasons_of (S.features s) (S.bytes s) };
+
+    ghost calls = { qcow2_calls (λ d. S.features d.storage) (λ d. S.bytes d.storage) };
+
+    ghost lawful = { λ d. qcow2_lawful (S.features d.storage) (S.bytes d.storage) };
+
+    ghost causes_lawful = { λ d. qcow2_causes (S.features d.storage) (S.bytes d.storage) };
+
+    fn format(&self) -> Format {
+        Format::Qcow2
+    }
+
+    fn size(&self) -> u64 {
+        self.size
+    }
+
+    fn zero_granularity(&self) -> Option<u64> {
+        None
+    }
+
+    fn writable(&self) -> bool {
+        false
+    }
+
+    fn takes_backing(&self) -> bool {
+        true
+    }
+
+    fn has_prepared(&self) -> bool {
+        false
+    }
+
+    fn probe(alloc: Global, storage: &S) -> Result<bool, Error> {
+        let mut head = [0u8; 8];
+        storage.read(alloc, &mut head, 0)?;
+        Ok(is_recognized(&head))
+    }
+
+    fn collect_storage_dependencies(&self, alloc: Global) -> Result<Vec<&S>, Error> {
+        let mut storages = Vec::new(alloc);
+        storages.push(&self.storage)?;
+        Ok(storages)
+    }
+
+    fn storage_count(&self) -> usize {
+        1
+    }
+
+    fn storage(&self, index: usize) -> Option<&S> {
+        if index == 0 {
+            Some(&self.storage)
+        } else {
+            None
+        }
+    }
+
+    fn get_mapping(&self, offset: u64, max_length: u64) -> Result<(ShallowMapping, u64), Error> {
+        if offset >= self.size {
+            return Ok((ShallowMapping::Eof, 0));
+        }
+        let (mapping, known) = self.part_at(offset)?;
+        let most = max_length.min(self.size - offset);
+        Ok((mapping, self.longest(mapping, offset, known, most)))
+    }
+
+    fn read_mapped(
+        &self,
+        alloc: Global,
+        _storage: usize,
+        buf: &mut [u8],
+        offset: u64,
+    ) -> Result<(), Error> {
+        self.storage.read(alloc, buf, offset)
+    }
+
+    fn readv_special(&self, _alloc: Global, buf: &mut [u8], _offset: u64) -> Result<(), Error> {
+        if buf.is_empty() {
+            return Ok(());
+        }
+        Err(Error::Unsupported)
+    }
+
+    fn write_mapped(
+        &mut self,
+        _alloc: Global,
+        _storage: usize,
+        _source: &[u8],
+        _offset: u64,
+    ) -> Result<(), Error>
+        ensures unsupported { IsErrOf result Error.Unsupported }
+        ensures untouched { self.new ≡ self.old }
+    {
+        Err(Error::Unsupported)
+    }
+
+    fn ensure_zero_mapping(
+        &mut self,
+        _alloc: Global,
+        _offset: u64,
+        _count: u64,
+    ) -> Result<(u64, u64), Error>
+        ensures unsupported { IsErrOf result Error.Unsupported }
+        ensures untouched { self.new ≡ self.old }
+    {
+        Err(Error::Unsupported)
+    }
+
+    fn discard_to_zero(
+        &mut self,
+        _alloc: Global,
+        _offset: u64,
+        _count: u64,
+    ) -> Result<(u64, u64), Error>
+        ensures unsupported { IsErrOf result Error.Unsupported }
+        ensures untouched { self.new ≡ self.old }
+    {
+        Err(Error::Unsupported)
+    }
+
+    fn discard_to_any(
+        &mut self,
+        _alloc: Global,
+        _offset: u64,
+        _count: u64,
+    ) -> Result<(u64, u64), Error>
+        ensures unsupported { IsErrOf result Error.Unsupported }
+        ensures untouched { self.new ≡ self.old }
+    {
+        Err(Error::Unsupported)
+    }
+
+    fn discard_to_backing(
+        &mut self,
+        _alloc: Global,
+        _offset: u64,
+        _count: u64,
+    ) -> Result<(u64, u64), Error>
+        ensures unsupported { IsErrOf result Error.Unsupported }
+        ensures untouched { self.new ≡ self.old }
+    {
+        Err(Error::Unsupported)
+    }
+
+    fn prepare_data_mapping<B: LowerLayer>(
+        &mut self,
+        _alloc: Global,
+        _below: Option<&B>,
+        _offset: u64,
+        _count: u64,
+        _overwrite: bool,
+    ) -> Result<PreparedDataMapping<()>, Error>
+        ensures unsupported { IsErrOf result Error.Unsupported }
+        ensures untouched { self.new ≡ self.old }
+    {
+        Err(Error::Unsupported)
+    }
+
+    fn write_prepared(
+        &mut self,
+        _alloc: Global,
+        _mapping: &PreparedDataMapping<()>,
+        _source: &[u8],
+        _at: u64,
+    ) -> Result<(), Error> {
+        Err(Error::ForeignMapping)
+    }
+
+    fn commit_data_mapping(&mut self, mapping: PreparedDataMapping<()>) -> Result<(), Error>
+        ensures call { IsCommit ⟦<Qcow2<S> as FormatDriverInstance>⟧.view self.old self.new mapping
+            result }
+        ensures untouched { self.new ≡ self.old }
+        ensures performed { ⟦<Qcow2<S> as FormatDriverInstance>⟧.calls.committed mapping self.old
+            self.new result }
+    {
+        match mapping.into_state() {
+            None => Ok(()),
+            Some(()) => Err(Error::ForeignMapping),
+        }
+    }
+
+    fn cancel_data_mapping(&mut self, mapping: PreparedDataMapping<()>)
+        ensures call { IsCancel ⟦<Qcow2<S> as FormatDriverInstance>⟧.view self.old self.new
+            mapping }
+        ensures untouched { self.new ≡ self.old }
+        ensures performed { ⟦<Qcow2<S> as FormatDriverInstance>⟧.calls.cancelled mapping self.old
+            self.new }
+    {
+        let _ = mapping.into_state();
+    }
+
+    fn ensure_data_mapping<B: LowerLayer>(
+        &mut self,
+        _alloc: Global,
+        _below: Option<&B>,
+        _offset: u64,
+        _count: u64,
+        _overwrite: bool,
+    ) -> Result<(usize, u64, u64), Error>
+        ensures unsupported { IsErrOf result Error.Unsupported }
+        ensures untouched { self.new ≡ self.old }
+    {
+        Err(Error::Unsupported)
+    }
+
+    fn resize_grow<B: LowerLayer>(
+        &mut self,
+        _alloc: Global,
+        _below: Option<&B>,
+        _new_size: u64,
+        _mode: PreallocateMode,
+    ) -> Result<(), Error>
+        ensures unsupported { IsErrOf result Error.Unsupported }
+        ensures untouched { self.new ≡ self.old }
+    {
+        Err(Error::Unsupported)
+    }
+
+    fn resize_shrink(&mut self, _new_size: u64) -> Result<(), Error>
+        ensures unsupported { IsErrOf result Error.Unsupported }
+        ensures untouched { self.new ≡ self.old }
+    {
+        Err(Error::Unsupported)
+    }
+
+    fn flush(&mut self) -> Result<(), Error> {
+        Ok(())
+    }
+
+    fn sync(&mut self) -> Result<(), Error> {
+        Ok(())
+    }
+
+    fn invalidate_cache(&mut self) -> Result<(), Error> {
+        Ok(())
+    }
+}
