@@ -1,11 +1,11 @@
-//! The program `imago-img`: what disk images in files are, where their bytes stand, and their way into raw files.
+//! The program `imago-img`: what disk images in files are, where their bytes stand, and their way
+//! into raw files.
 #![tactic(auto)]
 
 use imago_img_parts::run::run;
 use imago_img_parts::system::System;
-use std::io;
 use std::process::ExitCode;
-use std::env;
+use std::{env, io};
 
 fn main(rt: HostRuntime) -> ExitCode {
     let mut output = io::writer(&rt);

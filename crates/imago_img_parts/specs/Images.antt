@@ -1,5 +1,4 @@
-use Rattle.std.specs.Prelude.{◌≡◌, ℕ, Bool, true, false, not, List, [], ◌∷◌, map, length, Option, Some, None, Result, Ok, Err, IfSome}
-use Rattle.std.specs.List.{All}
+use Rattle.std.specs.Prelude.{◌≡◌, ℕ, Bool, true, false, not, List, [], ◌∷◌, map, length, Ok}
 use Rattle.imago_drivers.specs.Place.{Byte}
 use Rattle.imago_access.specs.Disk.{values_from}
 use Rattle.imago_vmdk.specs.declared.line.Extent.{Extent}
@@ -8,6 +7,8 @@ use Rattle.imago_vmdk.specs.Reading.{reading_of}
 use Rattle.imago_vmdk.specs.Disk.{described_value}
 use Rattle.imago_plan.specs.declared.piece.Piece.{Piece}
 use Rattle.imago_plan.specs.PieceBytes.{bytes_at, plan_bytes}
+use Rattle.imago_img_parts.specs.declared.text.ImageFormat.{ImageFormat}
+use Rattle.imago_img_parts.specs.declared.text.ImageFormat.TheVariants.{Raw, Vmdk}
 use Rattle.imago_img_parts.specs.Names.{stays_below, path_beside}
 
 -- the names of FLAT extents, in order
@@ -21,7 +22,8 @@ flat_names (Extent.Flat sectors name offset writable ∷ extents) = name ∷ fla
 abbrev pub storage_paths : List ℕ → List (List ℕ) → List (List ℕ)
 storage_paths path names = path ∷ map (path_beside path) names
 
--- Whatever the storages' bytes are, those of the pieces are the disk that this descriptor describes.
+-- Whatever the storages' bytes are, those of the pieces are the disk that this descriptor
+-- describes.
 abbrev pub ShowsDescribed : Bool → List ℕ → ℕ → List Piece → Type 0
 ShowsDescribed accept text size pieces =
     (bytes : ℕ → ℕ → List ℕ) → bytes 0 0 ≡ text
@@ -29,8 +31,25 @@ ShowsDescribed accept text size pieces =
 
 -- Whatever the storage's bytes are, those of the pieces are the first of them.
 abbrev pub ShowsRaw : ℕ → List Piece → Type 0
-ShowsRaw size pieces = (bytes : ℕ → ℕ → List ℕ) → plan_bytes bytes pieces ≡ bytes_at (bytes 0 0) 0 size
+ShowsRaw size pieces = (bytes : ℕ → ℕ → List ℕ) → plan_bytes bytes pieces
+    ≡ bytes_at (bytes 0 0) 0 size
 
--- no name leads out of the descriptor's folder, unless that is permitted
+-- no name leads out of the folder
+abbrev pub AllStayBelow : List (List ℕ) → Type 0
+AllStayBelow [] = Unit {0}
+AllStayBelow (name ∷ names) = (stays_below name ≡ true) × AllStayBelow names
+
+-- the same, unless that is permitted
 abbrev pub AreLetThrough : Bool → List (List ℕ) → Type 0
-AreLetThrough allow names = allow ≡ false → All (λ name. stays_below name ≡ true) names
+AreLetThrough allow names = allow ≡ false → AllStayBelow names
+
+-- An image of that path, which has that text, is opened as one of that format: of that size, in the
+-- files of these paths, and as these pieces.
+abbrev pub IsImageOf : Bool → Bool → List ℕ → List ℕ → ImageFormat → ℕ → List (List ℕ) → List Piece
+    → Type 0
+IsImageOf strict allow path text Raw size paths pieces = (size ≡ length text) × (paths ≡ path ∷ [])
+    × ShowsRaw size pieces
+IsImageOf strict allow path text Vmdk size paths pieces =
+    (extents : List (Extent (List ℕ))) × (reading_of (not strict) text ≡ Ok (extents, size))
+    × (paths ≡ storage_paths path (flat_names extents)) × AreLetThrough allow (flat_names extents)
+    × ShowsDescribed (not strict) text size pieces

@@ -11,10 +11,12 @@ abbrev pub none_leads_out : List (List ℕ) → Bool
 none_leads_out [] = true
 none_leads_out (part ∷ parts) = not (leads_out part) && none_leads_out parts
 
--- a name of a file in the folder that it is taken in, or below: by its text, whatever links are there
+-- a name of a file in the folder that it is taken in, or below: by its text, whatever links are
+-- there
 abbrev pub stays_below : List ℕ → Bool
 stays_below name = none_leads_out (path_components name)
 
--- the path that a name stands for which a file has: in that file's folder, unless it begins at the root
+-- the path that a name stands for which a file has: in that file's folder, unless it begins at the
+-- root
 abbrev pub path_beside : List ℕ → List ℕ → List ℕ
 path_beside file name = path_join (unwrap_or (path_parent file) []) name

@@ -13,8 +13,8 @@ use std::io::{self, Write};
 /// The longest line that is shown, in bytes.
 const SHOWN: usize = 200;
 
-/// Tells each fault of an image, and whether there is none: lines of a descriptor that can't be meant, and extents that their files
-/// don't hold.
+/// Tells each fault of an image, and whether there is none: lines of a descriptor that can't be
+/// meant, and extents that their files don't hold.
 pub fn check<H: Host, W: Write>(
     host: &H,
     path: &str,
@@ -67,13 +67,19 @@ fn check_vmdk<H: Host, W: Write>(
 /// What is wrong with a descriptor none of whose lines is at fault.
 fn whole_fault(cause: Error) -> &'static str {
     match cause {
-        Error::InvalidData => "no descriptor has that length, or its disk's size passes the greatest offset",
+        Error::InvalidData =>
+            "no descriptor has that length, or its disk's size passes the greatest offset",
         _ => "no line says one of the versions 1 to 3, or the file begins as a sparse image",
     }
 }
 
 /// Tells the lines of a descriptor that can't be meant, and how many there are.
-fn check_lines<W: Write>(path: &str, accept_unknown_keys: bool, text: &[u8], output: &mut W) -> io::Result<u64> {
+fn check_lines<W: Write>(
+    path: &str,
+    accept_unknown_keys: bool,
+    text: &[u8],
+    output: &mut W,
+) -> io::Result<u64> {
     let mut number: u64 = 0;
     let mut faults: u64 = 0;
     for line in text.split(|byte| *byte == b'\n') {
@@ -86,13 +92,22 @@ fn check_lines<W: Write>(path: &str, accept_unknown_keys: bool, text: &[u8], out
     Ok(faults)
 }
 
-fn tell_line<W: Write>(path: &str, number: u64, line: &[u8], cause: Error, output: &mut W) -> io::Result<()> {
+fn tell_line<W: Write>(
+    path: &str,
+    number: u64,
+    line: &[u8],
+    cause: Error,
+    output: &mut W,
+) -> io::Result<()> {
     let reason = match cause {
         Error::InvalidData => "can't be meant",
         _ => "isn't supported",
     };
     match str::from_utf8(line) {
-        Ok(line) if line.len() <= SHOWN => writeln!(output, "{path:?}, line {number}: {line:?} {reason}"),
+        Ok(line) if line.len() <= SHOWN => writeln!(
+            output,
+            "{path:?}, line {number}: {line:?} {reason}"
+        ),
         Ok(_) => writeln!(output, "{path:?}, line {number}: {reason}"),
         Err(_) => writeln!(output, "{path:?}, line {number}: isn't UTF-8"),
     }

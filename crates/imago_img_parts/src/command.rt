@@ -30,9 +30,15 @@ pub enum Command<'a> {
     /// Tells the commands.
     Help,
     /// Tells what an image is.
-    Info { path: &'a str, json: bool },
+    Info {
+        path: &'a str,
+        json: bool,
+    },
     /// Tells where the bytes of an image's disk stand.
-    Map { path: &'a str, json: bool },
+    Map {
+        path: &'a str,
+        json: bool,
+    },
     /// Writes an image's disk to a raw file.
     Convert {
         from: &'a str,
@@ -47,7 +53,9 @@ pub enum Command<'a> {
         quiet: bool,
     },
     /// Tells the faults of an image.
-    Check { path: &'a str },
+    Check {
+        path: &'a str,
+    },
 }
 
 /// The options of a command line.
@@ -163,7 +171,8 @@ fn cut_first(words: &[String]) -> (Option<&str>, &[String]) {
     }
 }
 
-/// What the words of a command line ask for, behind the program's name, and how images are to be opened.
+/// What the words of a command line ask for, behind the program's name, and how images are to be
+/// opened.
 pub fn command_of<'a>(words: &'a [String]) -> Result<(Command<'a>, Opening), Misuse> {
     let Some((name, behind)) = words.split_first() else {
         return Err(Misuse::NoCommand);
@@ -187,7 +196,10 @@ fn named_command<'a>(
     paths: Paths<'a>,
 ) -> Result<Command<'a>, Misuse> {
     let Options {
-        json, force, quiet, ..
+        json,
+        force,
+        quiet,
+        ..
     } = options;
     let command = match (name, paths.first, paths.second) {
         ("info", Some(path), None) if !force && !quiet => Command::Info { path, json },

@@ -7,7 +7,8 @@ use crate::opened::{OpenedImage, test_files};
 /// How much of each is read at a time, in bytes.
 const CHUNK: usize = 1048576;
 
-/// The first offset at which the disks of two images differ, if they do. Behind the end of the shorter one all is 0.
+/// The first offset at which the disks of two images differ, if they do. Behind the end of the
+/// shorter one all is 0.
 pub fn first_difference<H: Host>(
     host: &H,
     first: &OpenedImage,

@@ -1,9 +1,9 @@
 //! An image's disk, written to a raw file.
-ghost use Rattle.std.specs.Prelude.{map, OnOk};
+ghost use Rattle.std.specs.Prelude.{◌≡◌, map, OnOk, OnErr, IsOk};
 ghost use Rattle.std.specs.String.{string_bytes};
 ghost use Rattle.imago_plan.specs.Copies.{IsAppendedOf};
 ghost use Rattle.imago_plan.specs.PieceBytes.{plan_bytes};
-ghost use Rattle.imago_img_parts.specs.Files.{storages_in};
+ghost use Rattle.imago_img_parts.specs.Files.{storages_in, IsMade, piece_contents};
 
 use crate::failure::{Failure, Reason};
 use crate::host::{FileKind, FileStatus, Host};
@@ -19,15 +19,21 @@ const CHUNK: usize = 1048576;
 
 /// Writes the disk of an image to a file of that path. What is zero there stays a hole.
 ///
-/// The path may be taken only where what it leads to is to be replaced, and never by a file of the image. The files of the image
-/// are looked at before the new one is made. Refused, no file was made or changed.
+/// The path may be taken only where what it leads to is to be replaced, and never by a file of the
+/// image. The files of the image are looked at before the new one is made. Refused, no file was
+/// made or changed.
 pub fn convert<H: Host>(
     host: &mut H,
     image: &OpenedImage,
     to: &str,
     replace: bool,
     show: bool,
-) -> Result<(), Failure> {
+) -> Result<(), Failure>
+    ensures made { OnOk result (IsMade (H.contents host.old) (H.contents host.new) to.now
+        (piece_contents (storages_in H.contents host.old (map string_bytes image.now.paths.items))
+        image.now.pieces.items)) }
+    ensures refused { OnErr result (H.contents host.new ≡ H.contents host.old) }
+{
     test_target(&*host, image, to, replace)?;
     let alloc = host.alloc();
     let target = Failure::or_system(alloc, to, host.create(to, image.size, replace))?;
@@ -42,7 +48,12 @@ fn fill_shown<H: Host>(
     target: H::Target,
     to: &str,
     show: bool,
-) -> (H::Target, Result<(), Failure>) {
+) -> (H::Target, Result<(), Failure>)
+    ensures { OnOk result.1
+        (IsAppendedOf (storages_in H.contents host.now (map string_bytes image.now.paths.items))
+        (H.Target.contents target) (H.Target.contents result.0)
+        (λ bytes. plan_bytes bytes image.now.pieces.items)) }
+{
     let mut target = Progress::new(target, host, show, image.size);
     let filled = fill(host, image, &mut target, to);
     (target.into_target(), filled)
@@ -55,8 +66,10 @@ fn fill<H: Host, T: Target>(
     target: &mut T,
     to: &str,
 ) -> Result<(), Failure>
-    ensures { OnOk result (IsAppendedOf (storages_in H.contents host.now (map string_bytes image.now.paths.items))
-        (T.contents target.old) (T.contents target.new) (λ bytes. plan_bytes bytes image.now.pieces.items)) }
+    ensures { OnOk result
+        (IsAppendedOf (storages_in H.contents host.now (map string_bytes image.now.paths.items))
+        (T.contents target.old) (T.contents target.new)
+        (λ bytes. plan_bytes bytes image.now.pieces.items)) }
 {
     let mut buf = vec![in host.alloc(); 0u8; CHUNK]?;
     let sources = FileSources::new(host, &image.paths);
@@ -75,13 +88,18 @@ fn end<H: Host>(
     target: H::Target,
     to: &str,
     filled: Result<(), Failure>,
-) -> Result<(), Failure> {
+) -> Result<(), Failure>
+    ensures made { OnOk result
+        (IsMade (H.contents host.old) (H.contents host.new) to.now (H.Target.contents target)) }
+    ensures done { OnOk result (IsOk filled) }
+    ensures refused { OnErr result (H.contents host.new ≡ H.contents host.old) }
+{
     if filled.is_err() {
         host.abandon(target);
         return filled;
     }
     let alloc = host.alloc();
-    Failure::or_system(alloc, to, host.finish(target))
+    Failure::or_system(alloc, to, host.finish(to, target))
 }
 
 /// Whether the disk of an image may be written to a file of that path.

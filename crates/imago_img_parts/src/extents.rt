@@ -52,7 +52,8 @@ impl<'a> Folder<'a> {
         })
     }
 
-    /// Whether a link leads a path out of the folder, where that isn't permitted. A path that leads nowhere doesn't.
+    /// Whether a link leads a path out of the folder, where that isn't permitted. A path that leads
+    /// nowhere doesn't.
     pub fn leaves<H: Host>(&self, host: &H, path: &str) -> io::Result<bool> {
         let Some(bounds) = &self.bounds else {
             return Ok(false);
@@ -65,11 +66,7 @@ impl<'a> Folder<'a> {
     }
 
     /// What is found under the name of an extent.
-    pub fn find<H: Host>(
-        &self,
-        host: &H,
-        name: &str,
-    ) -> Result<ExtentFile, Failure> {
+    pub fn find<H: Host>(&self, host: &H, name: &str) -> Result<ExtentFile, Failure> {
         if self.bounds.is_some() && !stays_below(name) {
             return Ok(ExtentFile::Outside);
         }
@@ -102,7 +99,8 @@ pub fn bytes_of(sectors: u64) -> u64 {
     sectors.saturating_mul(512)
 }
 
-/// Tells what is wrong with the file of a FLAT extent that ends there in it, if anything is. Bytes behind the file's end read as 0.
+/// Tells what is wrong with the file of a FLAT extent that ends there in it, if anything is. Bytes
+/// behind the file's end read as 0.
 pub fn tell_fault<W: Write>(
     output: &mut W,
     start: &str,

@@ -8,11 +8,11 @@ use imago_storage::mem::MemStorage;
 use imago_storage::storage::StorageOpenOptions;
 use std::alloc::Global;
 
-/// A gate that lets names through which lead to files in the descriptor's folder or below, and others only where they are permitted:
-/// one that isn't let through is [`Error::Denied`].
+/// A gate that lets names through which lead to files in the descriptor's folder or below, and
+/// others only where they are permitted: one that isn't let through is [`Error::Denied`].
 ///
-/// It opens empty storages: where the bytes of a disk stand doesn't depend on what its extents hold, so no file is opened until its
-/// bytes are wanted.
+/// It opens empty storages: where the bytes of a disk stand doesn't depend on what its extents
+/// hold, so no file is opened until its bytes are wanted.
 #[derive(Clone, Copy)]
 pub struct FolderGate {
     /// Whether names that lead elsewhere are let through.
@@ -35,7 +35,11 @@ impl ImplicitOpenGate<MemStorage> for FolderGate {
 
     ghost opened = { IsFolderOpening };
 
-    fn open_storage(&mut self, alloc: Global, opts: StorageOpenOptions) -> Result<MemStorage, Error> {
+    fn open_storage(
+        &mut self,
+        alloc: Global,
+        opts: StorageOpenOptions,
+    ) -> Result<MemStorage, Error> {
         let Some(name) = opts.get_filename() else {
             return Err(Error::NotFound);
         };

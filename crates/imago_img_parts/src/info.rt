@@ -22,7 +22,8 @@ struct Report {
     extents: Vec<Found>,
 }
 
-/// Tells the format, the size and the extents of an image, and warns of extents that their files don't hold.
+/// Tells the format, the size and the extents of an image, and warns of extents that their files
+/// don't hold.
 pub fn info<H: Host, W: Write, E: Write>(
     host: &H,
     path: &str,
@@ -92,8 +93,16 @@ fn print_text<W: Write>(path: &str, report: &Report, output: &mut W) -> io::Resu
     writeln!(output, "size: {} bytes", report.size)?;
     for (extent, _) in &report.extents {
         match extent {
-            Extent::Zero { sectors } => writeln!(output, "extent: ZERO, {} bytes", bytes_of(*sectors))?,
-            Extent::NoAccess { sectors } => writeln!(output, "extent: NOACCESS, {} bytes", bytes_of(*sectors))?,
+            Extent::Zero { sectors } => writeln!(
+                output,
+                "extent: ZERO, {} bytes",
+                bytes_of(*sectors)
+            )?,
+            Extent::NoAccess { sectors } => writeln!(
+                output,
+                "extent: NOACCESS, {} bytes",
+                bytes_of(*sectors)
+            )?,
             Extent::Flat {
                 sectors,
                 name,
@@ -101,7 +110,10 @@ fn print_text<W: Write>(path: &str, report: &Report, output: &mut W) -> io::Resu
                 ..
             } => {
                 let (count, offset) = (bytes_of(*sectors), bytes_of(*offset));
-                writeln!(output, "extent: FLAT, {count} bytes from {offset} of {name:?}")?;
+                writeln!(
+                    output,
+                    "extent: FLAT, {count} bytes from {offset} of {name:?}"
+                )?;
             }
         }
     }
@@ -116,7 +128,8 @@ fn print_json<H: Host, W: Write>(
 ) -> io::Result<()> {
     let path = quoted(host.alloc(), path)?;
     let (format, size) = (report.format.name(), report.size);
-    write!(output, "{{ \"filename\": {path}, \"format\": \"{format}\", \"virtual-size\": {size}, \"extents\": [")?;
+    write!(output, "{{ \"filename\": {path}, \"format\": \"{format}\"")?;
+    write!(output, ", \"virtual-size\": {size}, \"extents\": [")?;
     let mut start = "";
     for found in &report.extents {
         write!(output, "{start}")?;
@@ -128,17 +141,27 @@ fn print_json<H: Host, W: Write>(
 
 fn print_extent<H: Host, W: Write>(host: &H, found: &Found, output: &mut W) -> io::Result<()> {
     let (extent, file) = found;
+    let kind = match extent {
+        Extent::Zero { .. } => "ZERO",
+        Extent::NoAccess { .. } => "NOACCESS",
+        Extent::Flat { .. } => "FLAT",
+    };
     let length = bytes_of(extent.sectors());
-    match extent {
-        Extent::Zero { .. } => write!(output, "\n{{ \"type\": \"ZERO\", \"length\": {length} }}"),
-        Extent::NoAccess { .. } => write!(output, "\n{{ \"type\": \"NOACCESS\", \"length\": {length} }}"),
-        Extent::Flat { name, offset, .. } => {
-            let (name, offset) = (quoted(host.alloc(), name)?, bytes_of(*offset));
-            write!(output, "\n{{ \"type\": \"FLAT\", \"length\": {length}, \"filename\": {name}, \"offset\": {offset}, \"file-length\": ")?;
-            match file {
-                Some(ExtentFile::Length(length)) => write!(output, "{length} }}"),
-                _ => write!(output, "null }}"),
-            }
-        }
+    write!(output, "\n{{ \"type\": \"{kind}\", \"length\": {length}")?;
+    if let Extent::Flat { name, offset, .. } = extent {
+        let (name, offset) = (quoted(host.alloc(), name)?, bytes_of(*offset));
+        write!(output, ", \"filename\": {name}, \"offset\": {offset}")?;
+    }
+    if let Some(file) = file {
+        print_length(file, output)?;
+    }
+    write!(output, " }}")
+}
+
+/// Prints how long the file of an extent is, if it is known.
+fn print_length<W: Write>(file: &ExtentFile, output: &mut W) -> io::Result<()> {
+    match file {
+        ExtentFile::Length(length) => write!(output, ", \"file-length\": {length}"),
+        _ => write!(output, ", \"file-length\": null"),
     }
 }

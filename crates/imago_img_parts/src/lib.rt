@@ -1,7 +1,8 @@
-//! All of the program `imago-img` but its `main`: what a disk image in files is, where its bytes stand, and their way into a raw
-//! file.
+//! All of the program `imago-img` but its `main`: what a disk image in files is, where its bytes
+//! stand, and their way into a raw file.
 //!
-//! The commands find files by a [`Host`](host::Host): the program takes [`System`](system::System), tests have one in memory.
+//! The commands find files by a [`Host`](host::Host): the program takes [`System`](system::System),
+//! tests have one in memory.
 #![tactic(auto)]
 
 mod check;

@@ -31,7 +31,8 @@ struct Printer<'a, W> {
     is_first: bool,
 }
 
-/// Tells where the bytes of an image's disk stand, and which are zero. Holes of the files are told as zero.
+/// Tells where the bytes of an image's disk stand, and which are zero. Holes of the files are told
+/// as zero.
 pub fn map<H: Host, W: Write>(
     host: &H,
     image: &OpenedImage,
@@ -79,9 +80,10 @@ fn print_image<H: Host, W: Write>(
                 place: None,
             })?,
             Source::Stored(from) => {
-                if let (Some(path), Some(name)) =
-                    (image.paths.get(from.storage), printed.get(from.storage))
-                {
+                if let (Some(path), Some(name)) = (
+                    image.paths.get(from.storage),
+                    printed.get(from.storage),
+                ) {
                     print_stored(host, path, name, piece, from, printer)?;
                 }
             }
@@ -115,7 +117,8 @@ fn print_stored<H: Host, W: Write>(
     Ok(())
 }
 
-/// How many bytes from the offset on are in one hole of a file, or come before its next one; and whether they do. There is at least one.
+/// How many bytes from the offset on are in one hole of a file, or come before its next one; and
+/// whether they do. There is at least one.
 fn run_at<H: Host>(host: &H, path: &str, offset: u64, most: u64) -> (u64, bool)
     requires { 0 < most }
     ensures some { 0 < result.0 }
@@ -136,7 +139,11 @@ impl<'a, W: Write> Printer<'a, W> {
         if self.json {
             write!(self.output, "[")
         } else {
-            writeln!(self.output, "{:<20} {:<20} {:<4} {:<20} file", "start", "length", "kind", "offset")
+            writeln!(
+                self.output,
+                "{:<20} {:<20} {:<4} {:<20} file",
+                "start", "length", "kind", "offset"
+            )
         }
     }
 
@@ -166,7 +173,10 @@ fn print_line<W: Write>(output: &mut W, run: Run<'_>) -> io::Result<()> {
     let kind = if run.is_data { "data" } else { "zero" };
     match run.place {
         Some((file, offset)) => {
-            writeln!(output, "{start:<20} {length:<20} {kind:<4} {offset:<20} {file}")
+            writeln!(
+                output,
+                "{start:<20} {length:<20} {kind:<4} {offset:<20} {file}"
+            )
         }
         None => writeln!(output, "{start:<20} {length:<20} {kind}"),
     }
@@ -178,7 +188,11 @@ fn print_object<W: Write>(output: &mut W, run: Run<'_>) -> io::Result<()> {
     let (data, zero) = (run.is_data, !run.is_data);
     write!(
         output,
-        "{{ \"start\": {start}, \"length\": {length}, \"depth\": {depth}, \"present\": true, \"zero\": {zero}, \"data\": {data}"
+        "{{ \"start\": {start}, \"length\": {length}, \"depth\": {depth}"
+    )?;
+    write!(
+        output,
+        ", \"present\": true, \"zero\": {zero}, \"data\": {data}"
     )?;
     if let Some((file, offset)) = run.place {
         write!(output, ", \"offset\": {offset}, \"filename\": {file}")?;

@@ -1,7 +1,9 @@
 //! Names of files in a descriptor.
 ghost use Rattle.std.specs.Prelude.{◌≡◌, IfOk};
 ghost use Rattle.std.specs.String.{string_bytes};
-ghost use Rattle.imago_img_parts.specs.Names.{leads_out as part_leads_out, stays_below as name_stays_below, path_beside as path_beside_file};
+ghost use Rattle.imago_img_parts.specs.Names.{leads_out as part_leads_out};
+ghost use Rattle.imago_img_parts.specs.Names.{stays_below as name_stays_below};
+ghost use Rattle.imago_img_parts.specs.Names.{path_beside as path_beside_file};
 
 use std::alloc::{AllocError, Global};
 use std::path::Path;
@@ -13,8 +15,8 @@ fn leads_out(part: &str) -> bool
     part == ".." || part == "/"
 }
 
-/// Whether a name leads to a file in the folder that it is taken in, or below: by its text, it doesn't begin at the root, and no part
-/// of it is `..`.
+/// Whether a name leads to a file in the folder that it is taken in, or below: by its text, it
+/// doesn't begin at the root, and no part of it is `..`.
 pub fn stays_below(name: &str) -> bool
     ensures { result ≡ name_stays_below name.now }
 {
@@ -26,7 +28,8 @@ pub fn stays_below(name: &str) -> bool
     true
 }
 
-/// The path that a name stands for in the folder of that file. A name that begins at the root stands for itself.
+/// The path that a name stands for in the folder of that file. A name that begins at the root
+/// stands for itself.
 pub fn path_beside(alloc: Global, file: &str, name: &str) -> Result<String, AllocError>
     ensures { IfOk result (λ path. string_bytes path ≡ path_beside_file file.now name.now) }
 {

@@ -1,5 +1,6 @@
 //! Images in files, opened.
-ghost use Rattle.std.specs.Prelude.{◌≡◌, ℕ, ◌⊎◌, List, not, map, length, Ok, IfOk, IfSome};
+ghost use Rattle.std.specs.Prelude.{◌≡◌, ℕ, List, not, true, map, length, replicate, Ok, IfOk};
+ghost use Rattle.std.specs.Prelude.{IfSome};
 ghost use Rattle.std.specs.String.{string_bytes};
 ghost use Rattle.imago_vmdk.specs.declared.line.Extent.{Extent};
 ghost use Rattle.imago_vmdk.specs.Line.{extent_with};
@@ -7,7 +8,8 @@ ghost use Rattle.std.specs.List.{sum_by};
 ghost use Rattle.imago_access.specs.Chain.{driver};
 ghost use Rattle.imago_vmdk.specs.Image.{is_opened, takes_unknown_keys, descriptor_in, extents_in};
 ghost use Rattle.imago_vmdk.specs.Reading.{reading_of, size_of};
-ghost use Rattle.imago_img_parts.specs.Images.{flat_names, storage_paths as paths_of, ShowsDescribed, ShowsRaw, AreLetThrough};
+ghost use Rattle.imago_img_parts.specs.Images.{flat_names, storage_paths as paths_of};
+ghost use Rattle.imago_img_parts.specs.Images.{ShowsDescribed, ShowsRaw, AreLetThrough, IsImageOf};
 
 use crate::extents::Folder;
 use crate::failure::{Failure, Reason};
@@ -50,7 +52,8 @@ pub struct OpenedImage {
     pub size: u64,
     /// Where the disk's bytes stand.
     pub pieces: Vec<Piece>,
-    /// The files of its storages, by their indices: the image's own first, then those of the FLAT extents in order.
+    /// The files of its storages, by their indices: the image's own first, then those of the FLAT
+    /// extents in order.
     pub paths: Vec<String>,
 }
 
@@ -60,7 +63,8 @@ fn storage_paths(
     path: &str,
     extents: &[Extent<String>],
 ) -> Result<Vec<String>, AllocError>
-    ensures { IfOk result (λ paths. map string_bytes paths.items ≡ paths_of path.now (flat_names (map (extent_with string_bytes) extents.now))) }
+    ensures { IfOk result (λ paths. map string_bytes paths.items
+        ≡ paths_of path.now (flat_names (map (extent_with string_bytes) extents.now))) }
 {
     let mut paths = Vec::new(alloc);
     paths.push(String::from_str(alloc, path)?)?;
@@ -72,8 +76,8 @@ fn storage_paths(
     Ok(paths)
 }
 
-/// The format of an image: the one that is said, or else told from its first bytes. Only where it is said to be raw is a sparse VMDK
-/// image taken as its bytes are.
+/// The format of an image: the one that is said, or else told from its first bytes. Only where it
+/// is said to be raw is a sparse VMDK image taken as its bytes are.
 pub fn format_of<H: Host>(host: &H, path: &str, how: Opening) -> Result<ImageFormat, Failure> {
     match how.format {
         Some(ImageFormat::Raw) => Ok(ImageFormat::Raw),
@@ -83,10 +87,15 @@ pub fn format_of<H: Host>(host: &H, path: &str, how: Opening) -> Result<ImageFor
 }
 
 /// Opens the image of that file. The files of its extents are named, and not opened.
-pub fn open<H: Host>(host: &H, path: &str, how: Opening) -> Result<OpenedImage, Failure> {
+pub fn open<H: Host>(host: &H, path: &str, how: Opening) -> Result<OpenedImage, Failure>
+    ensures { IfOk result
+        (λ image. (text : List ℕ) × IfSome (H.contents host.now) (λ files. text ≡ files path.now)
+        × IsImageOf how.strict how.allow_outside path.now text image.format image.size
+        (map string_bytes image.paths.items) image.pieces.items) }
+{
     let length = file_status(host, path)?.length;
     match format_of(host, path, how)? {
-        ImageFormat::Raw => open_raw(host.alloc(), path, length),
+        ImageFormat::Raw => open_raw(host.alloc(), path, length, how),
         ImageFormat::Vmdk => open_vmdk(host, path, length, how),
     }
 }
@@ -101,7 +110,11 @@ fn planned_raw(alloc: Global, size: u64) -> Result<Vec<Piece>, Error>
 }
 
 /// The raw image of a file of that length.
-fn open_raw(alloc: Global, path: &str, size: u64) -> Result<OpenedImage, Failure> {
+fn open_raw(alloc: Global, path: &str, size: u64, how: Opening) -> Result<OpenedImage, Failure>
+    ensures { (text : List ℕ) → length text ≡ size
+        → IfOk result (λ image. IsImageOf how.strict how.allow_outside path.now text image.format
+        image.size (map string_bytes image.paths.items) image.pieces.items) }
+{
     let pieces = Failure::or_image(alloc, path, planned_raw(alloc, size))?;
     Ok(OpenedImage {
         format: ImageFormat::Raw,
@@ -115,11 +128,17 @@ fn open_raw(alloc: Global, path: &str, size: u64) -> Result<OpenedImage, Failure
 fn open_vmdk<H: Host>(
     host: &H,
     path: &str,
-    length: u64,
+    count: u64,
     how: Opening,
-) -> Result<OpenedImage, Failure> {
+) -> Result<OpenedImage, Failure>
+    ensures { IfOk result (λ image. (text : List ℕ)
+        × IfSome (H.contents host.now)
+        (λ files. length (files path.now) ≡ count → text ≡ files path.now)
+        × IsImageOf how.strict how.allow_outside path.now text image.format image.size
+        (map string_bytes image.paths.items) image.pieces.items) }
+{
     let alloc = host.alloc();
-    let text = descriptor_text(host, path, length)?;
+    let text = descriptor_text(host, path, count)?;
     let said = descriptor::read(alloc, !how.strict, &text);
     let extents = Failure::or_image(alloc, path, said)?.extents;
     let (size, pieces) = match planned_vmdk(alloc, text, how) {
@@ -139,7 +158,8 @@ fn open_vmdk<H: Host>(
 /// The size of the disk that a descriptor describes, in bytes, and where its bytes stand.
 fn planned_vmdk(alloc: Global, text: Vec<u8>, how: Opening) -> Result<(u64, Vec<Piece>), Error>
     ensures shows { IfOk result (λ r. ShowsDescribed (not how.strict) text.items r.0 r.1.items) }
-    ensures names { IfOk result (λ r. (extents : List (Extent (List ℕ))) × (reading_of (not how.strict) text.items ≡ Ok (extents, r.0))
+    ensures names { IfOk result (λ r. (extents : List (Extent (List ℕ)))
+        × (reading_of (not how.strict) text.items ≡ Ok (extents, r.0))
         × AreLetThrough how.allow_outside (flat_names extents)) }
 {
     let image = opened_vmdk(alloc, text, how)?;
@@ -156,16 +176,20 @@ fn opened_vmdk(
 ) -> Result<FormatAccess<Vmdk<MemStorage>>, Error>
     ensures opened { IfOk result (λ x. is_opened (driver x) ≡ true) }
     ensures keys { IfOk result (λ x. takes_unknown_keys (driver x) ≡ not how.strict) }
-    ensures text { IfOk result (λ x. ⟦<MemStorage as Storage>⟧.bytes (descriptor_in (driver x)) ≡ text.items) }
-    ensures reading { IfOk result (λ x. reading_of (not how.strict) text.items ≡ Ok (extents_in (driver x), sum_by size_of (extents_in (driver x)))) }
-    ensures names { IfOk result (λ x. AreLetThrough how.allow_outside (flat_names (extents_in (driver x)))) }
+    ensures text { IfOk result
+        (λ x. ⟦<MemStorage as Storage>⟧.bytes (descriptor_in (driver x)) ≡ text.items) }
+    ensures reading { IfOk result (λ x. reading_of (not how.strict) text.items
+        ≡ Ok (extents_in (driver x), sum_by size_of (extents_in (driver x)))) }
+    ensures names { IfOk result
+        (λ x. AreLetThrough how.allow_outside (flat_names (extents_in (driver x)))) }
 {
     let builder = Vmdk::builder(MemStorage::new(text)).accept_unknown_keys(!how.strict);
     let image = builder.open(alloc, FolderGate::new(how.allow_outside))?;
     Ok(FormatAccess::new(image))
 }
 
-/// Tells why a descriptor with those extents isn't opened: with the first name that isn't let through, where that is why.
+/// Tells why a descriptor with those extents isn't opened: with the first name that isn't let
+/// through, where that is why.
 fn not_planned(alloc: Global, path: &str, extents: &[Extent<String>], cause: Error) -> Failure {
     if cause == Error::Denied {
         for extent in extents {

@@ -1,5 +1,5 @@
 //! The program, over any host.
-ghost use Rattle.std.specs.Prelude.{◌≤◌};
+ghost use Rattle.std.specs.Prelude.{◌≡◌, ◌≤◌};
 
 use crate::check::check;
 use crate::command::{Command, HELP, command_of};
@@ -13,6 +13,7 @@ use crate::opened::{OpenedImage, Opening, open};
 use std::io::{self, BufWriter, Write};
 
 /// What a command comes to.
+#[derive(Clone, Copy)]
 enum Outcome {
     /// Done, the same, in order.
     Fine,
@@ -20,8 +21,8 @@ enum Outcome {
     Unlike,
 }
 
-/// Does what the words of a command line ask for, which don't include the program's name, and gives the exit status. What it is
-/// refused for is told in one line of the errors.
+/// Does what the words of a command line ask for, which don't include the program's name, and gives
+/// the exit status. What it is refused for is told in one line of the errors.
 pub fn run<H: Host, W: Write, E: Write>(
     host: &mut H,
     words: &[String],
@@ -148,7 +149,10 @@ fn tell_difference<W: Write>(
 ) -> io::Result<()> {
     if first.size != second.size {
         let (one, other) = (first.size, second.size);
-        writeln!(output, "The sizes differ: {one} and {other} bytes; what lacks is taken as 0.")?;
+        writeln!(
+            output,
+            "The sizes differ: {one} and {other} bytes; what lacks is taken as 0."
+        )?;
     }
     match found {
         None => writeln!(output, "Images are identical."),

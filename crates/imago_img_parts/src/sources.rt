@@ -9,7 +9,8 @@ use imago_plan::piece::Location;
 use std::cell::Cell;
 use std::io::{self, ErrorKind};
 
-/// The storages of an image's one layer: files by their indices. Each is opened when its turn comes.
+/// The storages of an image's one layer: files by their indices. Each is opened when its turn
+/// comes.
 #[derive(Drop)]
 pub struct FileSources<'a, H> {
     host: &'a H,

@@ -12,7 +12,9 @@ use std::os::unix::fs::{FileExt, FileTypeExt, MetadataExt};
 
 /// What `lseek` looks for: the file's end, data, or a hole.
 const SEEK_END: i32 = 2;
+
 const SEEK_DATA: i32 = 3;
+
 const SEEK_HOLE: i32 = 4;
 
 /// The least run of zeroes that stays a hole, in bytes.
@@ -108,7 +110,8 @@ fn seek(file: &File, offset: u64, what: i32) -> Option<u64> {
     u64::try_from(found).ok()
 }
 
-/// How many bytes from the offset on are known to be in one hole, or behind the file's end: at most that many.
+/// How many bytes from the offset on are known to be in one hole, or behind the file's end: at most
+/// that many.
 fn hole_in(file: &File, offset: u64, most: u64) -> u64
     ensures { result ≤ most }
 {
@@ -231,7 +234,7 @@ impl<'a> Host for System<'a> {
         }
     }
 
-    fn finish(&mut self, target: NewFile) -> io::Result<()> {
+    fn finish(&mut self, _path: &str, target: NewFile) -> io::Result<()> {
         let Some(replaced) = &target.replaced else {
             return Ok(());
         };

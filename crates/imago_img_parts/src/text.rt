@@ -1,4 +1,5 @@
 //! What an image file begins with, and the text of a descriptor.
+ghost use Rattle.std.specs.Prelude.{◌≡◌, length, IfOk, IfSome};
 
 use crate::failure::{Failure, Reason};
 use crate::host::{FileKind, FileStatus, Host};
@@ -33,7 +34,10 @@ const SPARSE: &[u8; 4] = b"KDMV";
 const LONGEST_TEXT: u64 = 2097152;
 
 /// What the file is. Only a regular file or a block device has a disk's bytes.
-pub fn file_status<H: Host>(host: &H, path: &str) -> Result<FileStatus, Failure> {
+pub fn file_status<H: Host>(host: &H, path: &str) -> Result<FileStatus, Failure>
+    ensures { IfOk result
+        (λ s. IfSome (H.contents host.now) (λ files. s.length ≡ length (files path.now))) }
+{
     let status = Failure::or_system(host.alloc(), path, host.status(path))?;
     if status.kind == FileKind::Other {
         return Err(Failure::of_file(host.alloc(), path, Reason::NotAFile));
@@ -41,12 +45,9 @@ pub fn file_status<H: Host>(host: &H, path: &str) -> Result<FileStatus, Failure>
     Ok(status)
 }
 
-/// The format of an image by the bytes that its file begins with: a VMDK image begins with a descriptor. A sparse VMDK image is refused,
-/// however long it is.
-pub fn guessed_format<H: Host>(
-    host: &H,
-    path: &str,
-) -> Result<ImageFormat, Failure> {
+/// The format of an image by the bytes that its file begins with: a VMDK image begins with a
+/// descriptor. A sparse VMDK image is refused, however long it is.
+pub fn guessed_format<H: Host>(host: &H, path: &str) -> Result<ImageFormat, Failure> {
     let mut head = [0u8; 21];
     Failure::or_system(host.alloc(), path, host.read_at(path, &mut head, 0))?;
     if head.starts_with(SPARSE) {
@@ -58,16 +59,16 @@ pub fn guessed_format<H: Host>(
     Ok(ImageFormat::Raw)
 }
 
-/// The text of a descriptor. A file that is too long for one is [`Error::InvalidData`], and isn't read.
-pub fn descriptor_text<H: Host>(
-    host: &H,
-    path: &str,
-    length: u64,
-) -> Result<Vec<u8>, Failure> {
-    if length > LONGEST_TEXT {
+/// The text of a descriptor. A file that is too long for one is [`Error::InvalidData`], and isn't
+/// read.
+pub fn descriptor_text<H: Host>(host: &H, path: &str, count: u64) -> Result<Vec<u8>, Failure>
+    ensures { IfOk result (λ text. IfSome (H.contents host.now)
+        (λ files. length (files path.now) ≡ count → text.items ≡ files path.now)) }
+{
+    if count > LONGEST_TEXT {
         return Err(Failure::of_file(host.alloc(), path, Reason::Image(Error::InvalidData)));
     }
-    let mut text = vec![in host.alloc(); 0u8; length as usize]?;
+    let mut text = vec![in host.alloc(); 0u8; count as usize]?;
     Failure::or_system(host.alloc(), path, host.read_at(path, &mut text, 0))?;
     Ok(text)
 }

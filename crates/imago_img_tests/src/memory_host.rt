@@ -1,5 +1,7 @@
 //! A host whose files are in memory.
-ghost use Rattle.std.specs.Prelude.{◌≡◌, ◌≤◌, None};
+ghost use Rattle.std.specs.Prelude.{◌≡◌, ◌≤◌, ◌+◌, Some, IfOk, MatchOption, replicate, length};
+ghost use Rattle.std.specs.Prelude.{slice_index};
+ghost use Rattle.imago_plan.specs.PieceBytes.{bytes_at};
 
 use imago_img_parts::host::{FileKind, FileStatus, Host};
 use imago_plan::copy::Target;
@@ -28,6 +30,8 @@ struct MemoryFile {
     path: String,
     bytes: Vec<u8>,
     nature: Nature,
+    /// Its number.
+    inode: u64,
 }
 
 /// Files in memory, in the folder `/images`.
@@ -52,12 +56,11 @@ pub struct MemoryTarget {
     appends: u64,
 }
 
-fn not_found() -> io::Error {
-    io::Error::from(ErrorKind::NotFound)
-}
-
 impl MemoryHost {
-    /// No files. Something may be put into a new one that many times, and then it gets its path or doesn't.
+    ghost use Rattle.imago_img_tests.specs.Memory.{bytes_under};
+
+    /// No files. Something may be put into a new one that many times, and then it gets its path or
+    /// doesn't.
     pub fn new(alloc: Global, appends: u64, finishes: bool) -> Self {
         MemoryHost {
             alloc,
@@ -73,10 +76,12 @@ impl MemoryHost {
         let mut kept = Vec::new(self.alloc);
         kept.extend_from_slice(bytes)?;
         let path = String::from_str(self.alloc, path)?;
+        let inode = self.files.len() as u64;
         self.files.push(MemoryFile {
             path,
             bytes: kept,
             nature,
+            inode,
         })?;
         Ok(())
     }
@@ -93,25 +98,30 @@ impl MemoryHost {
 
     /// The bytes of a file, if there is one.
     pub fn bytes(&self, path: &str) -> Option<&[u8]> {
-        let file = self.files.get(self.position(path)?)?;
-        Some(&file.bytes)
+        match self.file(path) {
+            Ok(file) => Some(&file.bytes),
+            Err(_) => None,
+        }
     }
 
-    /// The place of a file among the others.
-    fn position(&self, path: &str) -> Option<usize> {
-        self.files
-            .iter()
-            .position(|file| file.path.as_str() == path)
-    }
-
-    fn file(&self, path: &str) -> io::Result<&MemoryFile> {
-        let position = self.position(path).ok_or(not_found())?;
-        self.files.get(position).ok_or(not_found())
+    /// The file of that path.
+    fn file(&self, path: &str) -> io::Result<&MemoryFile>
+        ensures { IfOk result
+            (λ file. bytes_under self.now.files.items path.now ≡ file.now.bytes.items) }
+    {
+        for file in &self.files {
+            if file.path.as_str() == path {
+                return Ok(file);
+            }
+        }
+        Err(io::Error::from(ErrorKind::NotFound))
     }
 }
 
 /// Fills the buffer with bytes from the offset on, with 0 behind their end.
-fn read_padded(bytes: &[u8], buf: &mut [u8], offset: u64) {
+fn read_padded(bytes: &[u8], buf: &mut [u8], offset: u64)
+    ensures { buf.new ≡ bytes_at bytes.now «offset» (length buf.new) }
+{
     let start = offset.min(bytes.len() as u64) as usize;
     let source = &bytes[start..];
     let count = source.len().min(buf.len());
@@ -119,27 +129,51 @@ fn read_padded(bytes: &[u8], buf: &mut [u8], offset: u64) {
     buf[count..].fill(0);
 }
 
-/// How many of the bytes from the offset on are 0 or not, and at most that many. Behind their end all are.
-fn run_of(bytes: &[u8], offset: u64, most: u64, zero: bool) -> u64
+/// How many of the bytes from the offset on are 0: at most that many. Behind their end all are.
+fn zeroes_at(bytes: &[u8], offset: u64, most: u64) -> u64
+    ensures within { result ≤ most }
+    ensures zero { bytes_at bytes.now «offset» result ≡ replicate result 0 }
+{
+    let mut count = 0;
+    while count < most {
+        match byte_at(bytes, offset, count) {
+            Some(0) => count += 1,
+            Some(_) => return count,
+            None => return most,
+        }
+    }
+    count
+}
+
+/// How many of the bytes from the offset on come before the next 0: at most that many.
+fn others_at(bytes: &[u8], offset: u64, most: u64) -> u64
     ensures { result ≤ most }
 {
-    if bytes.len() as u64 <= offset {
-        return if zero { most } else { 0 };
-    }
     let mut count = 0;
-    for byte in &bytes[offset as usize..] {
-        if (*byte == 0) != zero || count == most {
-            return count;
+    while count < most {
+        match byte_at(bytes, offset, count) {
+            Some(0) | None => return count,
+            Some(_) => count += 1,
         }
-        count += 1;
     }
-    if zero { most } else { count }
+    count
+}
+
+/// The byte that many behind the offset, if there is one.
+fn byte_at(bytes: &[u8], offset: u64, count: u64) -> Option<u8>
+    ensures { MatchOption result (length bytes.now ≤ offset + count)
+        (λ byte. byte ≡ slice_index bytes.now (offset + count)) }
+{
+    let index = usize::try_from(offset.checked_add(count)?).ok()?;
+    bytes.get(index).copied()
 }
 
 impl Host for MemoryHost {
+    ghost use Rattle.imago_img_tests.specs.Memory.{bytes_under};
+
     type Target = MemoryTarget;
 
-    ghost contents = { λ _. None };
+    ghost contents = { λ host. Some (bytes_under host.files.items) };
 
     fn alloc(&self) -> Global {
         self.alloc
@@ -156,7 +190,7 @@ impl Host for MemoryHost {
             kind,
             length: file.bytes.len() as u64,
             device: 1,
-            inode: self.position(path).unwrap_or(0) as u64,
+            inode: file.inode,
         })
     }
 
@@ -171,14 +205,14 @@ impl Host for MemoryHost {
 
     fn hole_at(&self, path: &str, offset: u64, most: u64) -> u64 {
         match self.bytes(path) {
-            Some(bytes) => run_of(bytes, offset, most, true),
+            Some(bytes) => zeroes_at(bytes, offset, most),
             None => 0,
         }
     }
 
     fn data_at(&self, path: &str, offset: u64, most: u64) -> u64 {
         match self.bytes(path) {
-            Some(bytes) => run_of(bytes, offset, most, false),
+            Some(bytes) => others_at(bytes, offset, most),
             None => 0,
         }
     }
@@ -200,7 +234,7 @@ impl Host for MemoryHost {
     fn end_progress(&self) {}
 
     fn create(&mut self, path: &str, _size: u64, replace: bool) -> io::Result<MemoryTarget> {
-        if !replace && self.position(path).is_some() {
+        if !replace && self.file(path).is_ok() {
             return Err(io::Error::from(ErrorKind::AlreadyExists));
         }
         Ok(MemoryTarget {
@@ -210,19 +244,19 @@ impl Host for MemoryHost {
         })
     }
 
-    fn finish(&mut self, target: MemoryTarget) -> io::Result<()> {
+    fn finish(&mut self, _path: &str, target: MemoryTarget) -> io::Result<()> {
         let MemoryTarget { path, bytes, .. } = target;
         if !self.finishes {
             return Err(io::Error::from(ErrorKind::PermissionDenied));
         }
-        if let Some(position) = self.position(&path) {
-            self.files.remove(position);
-        }
-        self.files.push(MemoryFile {
+        let file = MemoryFile {
             path,
             bytes,
             nature: Nature::Plain,
-        })?;
+            inode: self.files.len() as u64,
+        };
+        // The first one of a path counts.
+        self.files.insert(0, file)?;
         Ok(())
     }
 
@@ -243,7 +277,7 @@ impl MemoryTarget {
 }
 
 impl Target for MemoryTarget {
-    ghost contents = { λ _. None };
+    ghost contents = { λ target. Some target.bytes.items };
 
     fn append(&mut self, source: &[u8]) -> io::Result<()> {
         self.take_append()?;

@@ -85,7 +85,12 @@ static FILES: [FileRow; 22] = [
         b"# Disk DescriptorFile\nversion=1\nRW x FLAT \"a.bin\" 0\nRW 1 SPARSE \"a.bin\"\n\xff\n",
         Nature::Plain,
     ),
-    ("later.vmdk", 0, b"# Disk DescriptorFile\nversion=4\n", Nature::Plain),
+    (
+        "later.vmdk",
+        0,
+        b"# Disk DescriptorFile\nversion=4\n",
+        Nature::Plain,
+    ),
     ("sparse.vmdk", 0, b"KDMV\x01\x00\x00\x00", Nature::Plain),
     ("long.vmdk", 0, b"# Disk DescriptorFile", Nature::Plain),
     ("plain.raw", 2, b"hello", Nature::Plain),
