@@ -2,3 +2,5 @@ pub mod Pieces
 pub mod PieceBytes
 pub mod Copies
 pub mod StoredBytes
+pub mod Memory
+pub mod Differences

@@ -1,5 +1,5 @@
 //! The bytes of pieces, moved to a target.
-ghost use Rattle.std.specs.Prelude.{◌≡◌, ◌<◌, ◌≤◌, ℕ, List, Option, IfOk, IfSome, OnOk};
+ghost use Rattle.std.specs.Prelude.{◌≡◌, ◌+◌, ◌<◌, ◌≤◌, ℕ, List, Option, IfOk, IfSome, OnOk};
 ghost use Rattle.std.specs.Prelude.{length, replicate};
 ghost use Rattle.imago_plan.specs.PieceBytes.{bytes_from, piece_bytes, plan_bytes};
 ghost use Rattle.imago_plan.specs.Copies.{IsAppended, IsAppendedOf};
@@ -41,9 +41,19 @@ pub trait Target {
             (IsAppended (contents self.old) (contents self.new) (replicate count 0)) };
 }
 
-/// The refusal of an empty buffer, and of a range that passes the greatest offset.
-fn invalid_input() -> io::Error {
+/// The refusal of an empty buffer or piece, and of a range that passes the greatest offset.
+pub(crate) fn invalid_input() -> io::Error {
     io::Error::from(ErrorKind::InvalidInput)
+}
+
+/// The place that many bytes behind that one.
+pub(crate) fn moved(from: Location, count: u64) -> io::Result<Location>
+    ensures { IfOk result (λ r. r ≡ record from { offset = from.offset + count }) }
+{
+    match from.offset.checked_add(count) {
+        Some(offset) => Ok(Location { offset, ..from }),
+        None => Err(invalid_input()),
+    }
 }
 
 /// Copies the first of the bytes from there on, and answers how many.
@@ -89,10 +99,7 @@ fn copy_stored<S: Sources, T: Target>(
 {
     let mut done: u64 = 0;
     while done < count {
-        let Some(offset) = from.offset.checked_add(done) else {
-            return Err(invalid_input());
-        };
-        let rest = Location { offset, ..from };
+        let rest = moved(from, done)?;
         done += copy_first(sources, target, rest, count - done, buf)?;
     }
     Ok(())

@@ -1,5 +1,5 @@
 //! Laws of plans. The functions do nothing; their contracts are proved.
-ghost use Rattle.std.specs.Prelude.{◌≡◌, ℕ, List, true, false, map};
+ghost use Rattle.std.specs.Prelude.{◌≡◌, ℕ, List, Option, true, false, map};
 ghost use Rattle.imago_drivers.specs.Place.{Byte};
 ghost use Rattle.imago_access.specs.declared.access.FormatAccess.{FormatAccess};
 ghost use Rattle.imago_access.specs.Chain.{driver};
@@ -10,6 +10,7 @@ ghost use Rattle.imago_vmdk.specs.Disk.{described_value};
 ghost use Rattle.imago_plan.specs.declared.piece.Piece.{Piece};
 ghost use Rattle.imago_plan.specs.Pieces.{IsPlan};
 ghost use Rattle.imago_plan.specs.PieceBytes.{bytes_at, plan_bytes};
+ghost use Rattle.imago_plan.specs.Differences.{IsFirstDifference, IsFirstDifferentValue};
 ghost use Rattle.imago_plan.specs.StoredBytes.{disk_with, layer_bytes};
 
 use imago_access::access::FormatAccess;
@@ -35,6 +36,21 @@ pub fn plans_show_the_disk<D: FormatDriverInstance>()
 {
     imago_access::laws::reads_show_targets::<D>();
     plans_show_stored_bytes::<D>();
+}
+
+/// Whatever bytes the storages of two images have: where the bytes of their plans differ first, there
+/// their disks differ first, and where these are the same, the disks are. Past the end of a disk it is
+/// zero.
+pub fn differences_of_disks<D: FormatDriverInstance, E: FormatDriverInstance>()
+    ensures { (x : FormatAccess D) (y : FormatAccess E) (left right : List Piece)
+        (on_left on_right : ℕ → ℕ → List ℕ) (found : Option ℕ)
+        → IsPlan D.view x left
+        → IsPlan E.view y right
+        → IsFirstDifference (plan_bytes on_left left) (plan_bytes on_right right) found
+        → IsFirstDifferentValue (disk_with D.view x on_left) (disk_with E.view y on_right) found }
+{
+    plans_show_stored_bytes::<D>();
+    plans_show_stored_bytes::<E>();
 }
 
 /// Where a driver takes no layer below, each offset of its image leads where the driver has it.

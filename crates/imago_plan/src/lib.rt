@@ -1,11 +1,14 @@
 //! Where the bytes of an image's disk stand, and their way to another place.
 //!
 //! [`plan`] lists the pieces of a disk: zeroes, or bytes of one storage. [`copy`] moves their bytes
-//! to a target. A program that keeps its storages in files asks for the plan, and moves the bytes
-//! itself: the plan is right whatever the files hold.
+//! to a target, [`disk`] does both, and [`compare`] tells where two disks differ. The bytes are read
+//! from [`Sources`](copy::Sources): files, or [`memory`]. A plan is right whatever these hold.
 #![tactic(auto)]
 
+pub mod compare;
 pub mod copy;
+pub mod disk;
 pub mod laws;
+pub mod memory;
 pub mod piece;
 pub mod plan;

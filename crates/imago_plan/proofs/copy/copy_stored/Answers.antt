@@ -1,4 +1,5 @@
 use Rattle.std.proofs.Common.{◌≡◌, ◌+◌, ℕ, arith, rules, subst}
+use Rattle.imago_plan.specs.declared.piece.Location.{Location}
 use Rattle.imago_plan.specs.PieceBytes.{bytes_at, bytes_from}
 use Rattle.imago_plan.specs.Copies.{IsAppendedOf}
 use Rattle.imago_plan.proofs.Copies.{bytes_at_append, appended_more}
@@ -9,7 +10,6 @@ loop-done-preserved g c =
     let l = c.loop-done in
     let from = c.args.from in
     let n = c.in_ok-done.field-0 in
-    let is : c.in-Some.offset ≡ from.offset + l.done = search rules in
     let files = g.S.Sources.contents c.args.sources.now in
     let mid = g.T.Target.contents l.target in
     let new = g.T.Target.contents c.copy_first.new.target in
@@ -17,5 +17,5 @@ loop-done-preserved g c =
       within = omega (arith, c.in_ok-done.ensures.some.1, l.invariant.within);
       appended = appended_more files _ mid new (λ bs. bytes_from bs from l.done) (λ bs. bytes_at (bs from.layer from.storage) (from.offset + l.done) n) _
           (λ bs. bytes_at_append (bs from.layer from.storage) from.offset l.done n) l.invariant.appended
-          (subst (λ (z : ℕ). IsAppendedOf files mid new (λ bs. bytes_at (bs from.layer from.storage) z n)) is c.in_ok-done.ensures.appended);
+          (subst (λ (z : Location). IsAppendedOf files mid new (λ bs. bytes_from bs z n)) c.in_ok-rest.ensures c.in_ok-done.ensures.appended);
     }
