@@ -1,1 +1,2 @@
 mod LetThrough
+mod Files

@@ -4,7 +4,7 @@ use crate::extents::{Folder, bytes_of, tell_fault};
 use crate::failure::Failure;
 use crate::host::Host;
 use crate::opened::{Opening, format_of};
-use crate::text::{ImageFormat, descriptor_text, file_status};
+use crate::text::{ImageFormat, descriptor_text, file_status, read_start};
 use imago_storage::error::Error;
 use imago_vmdk::descriptor::{self, Descriptor};
 use imago_vmdk::line::{Extent, verdict};
@@ -24,7 +24,7 @@ pub fn check<H: Host, W: Write>(
     let length = file_status(host, path)?.length;
     let faults = match format_of(host, path, how)? {
         ImageFormat::Raw => {
-            test_read(host, path)?;
+            read_start(host, path, &mut [0u8; 1])?;
             0
         }
         ImageFormat::Vmdk => check_vmdk(host, path, length, how, output)?,
@@ -36,11 +36,6 @@ pub fn check<H: Host, W: Write>(
     };
     told.map_err(Failure::Output)?;
     Ok(faults == 0)
-}
-
-/// Refuses a file whose first byte can't be read.
-fn test_read<H: Host>(host: &H, path: &str) -> Result<(), Failure> {
-    Failure::or_system(host.alloc(), path, host.read_at(path, &mut [0u8; 1], 0))
 }
 
 /// Tells the faults of a descriptor, and how many there are.

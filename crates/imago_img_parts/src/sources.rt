@@ -46,11 +46,13 @@ impl<'a, H: Host> Sources for FileSources<'a, H> {
         let Some(path) = self.paths.get(from.storage) else {
             return Err(io::Error::from(ErrorKind::NotFound));
         };
-        let read = self.host.read_at(path, buf, from.offset);
-        if read.is_err() {
-            self.failed.set(Some(from.storage));
+        match self.host.read_at(path, buf, from.offset) {
+            Ok(()) => Ok(()),
+            Err(cause) => {
+                self.failed.set(Some(from.storage));
+                Err(cause)
+            }
         }
-        read
     }
 
     fn hole_at(&self, from: Location, most: u64) -> u64 {

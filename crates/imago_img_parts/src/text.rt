@@ -1,5 +1,6 @@
 //! What an image file begins with, and the text of a descriptor.
-ghost use Rattle.std.specs.Prelude.{◌≡◌, length, IfOk, IfSome};
+ghost use Rattle.std.specs.Prelude.{◌≡◌, length, IfOk, IfSome, OnOk};
+ghost use Rattle.imago_plan.specs.PieceBytes.{bytes_at};
 
 use crate::failure::{Failure, Reason};
 use crate::host::{FileKind, FileStatus, Host};
@@ -49,7 +50,7 @@ pub fn file_status<H: Host>(host: &H, path: &str) -> Result<FileStatus, Failure>
 /// descriptor. A sparse VMDK image is refused, however long it is.
 pub fn guessed_format<H: Host>(host: &H, path: &str) -> Result<ImageFormat, Failure> {
     let mut head = [0u8; 21];
-    Failure::or_system(host.alloc(), path, host.read_at(path, &mut head, 0))?;
+    read_start(host, path, &mut head)?;
     if head.starts_with(SPARSE) {
         return Err(Failure::of_file(host.alloc(), path, Reason::Sparse));
     }
@@ -57,6 +58,24 @@ pub fn guessed_format<H: Host>(host: &H, path: &str) -> Result<ImageFormat, Fail
         return Ok(ImageFormat::Vmdk);
     }
     Ok(ImageFormat::Raw)
+}
+
+/// Fills the buffer with the first bytes of a file, and with 0 past its end.
+pub fn read_start<H: Host>(host: &H, path: &str, buf: &mut [u8]) -> Result<(), Failure>
+    ensures { OnOk result (IfSome (H.contents host.now)
+        (λ files. buf.new ≡ bytes_at (files path.now) 0 (length buf.new))) }
+{
+    Failure::or_system(host.alloc(), path, host.read_at(path, buf, 0))
+}
+
+/// Fills the buffer with a file that has that many bytes, and so does the buffer.
+fn read_whole<H: Host>(host: &H, path: &str, buf: &mut [u8], count: u64) -> Result<(), Failure>
+    requires { length buf.old ≡ count }
+    ensures { OnOk result (IfSome (H.contents host.now)
+        (λ files. length (files path.now) ≡ count → buf.new ≡ files path.now)) }
+{
+    read_start(host, path, buf)?;
+    Ok(())
 }
 
 /// The text of a descriptor. A file that is too long for one is [`Error::InvalidData`], and isn't
@@ -69,6 +88,6 @@ pub fn descriptor_text<H: Host>(host: &H, path: &str, count: u64) -> Result<Vec<
         return Err(Failure::of_file(host.alloc(), path, Reason::Image(Error::InvalidData)));
     }
     let mut text = vec![in host.alloc(); 0u8; count as usize]?;
-    Failure::or_system(host.alloc(), path, host.read_at(path, &mut text, 0))?;
+    read_whole(host, path, &mut text, count)?;
     Ok(text)
 }
