@@ -1,4 +1,5 @@
 //! The command line.
+ghost use Rattle.std.specs.Prelude.{◌≤◌, length};
 
 use crate::failure::Misuse;
 use crate::opened::Opening;
@@ -164,7 +165,9 @@ fn scan<'a>(words: &'a [String]) -> Result<(Options, Paths<'a>), Misuse> {
 }
 
 /// The first word, if there is one, and those behind it.
-fn cut_first(words: &[String]) -> (Option<&str>, &[String]) {
+fn cut_first(words: &[String]) -> (Option<&str>, &[String])
+    ensures { length result.1.now ≤ length words.now }
+{
     match words.split_first() {
         Some((first, behind)) => (Some(first.as_str()), behind),
         None => (None, words),
