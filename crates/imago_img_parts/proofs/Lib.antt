@@ -1,0 +1,2 @@
+mod LetThrough
+mod Files

@@ -1,0 +1,4 @@
+pub mod Names
+pub mod Gate
+pub mod Files
+pub mod Images

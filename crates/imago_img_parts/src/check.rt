@@ -1,0 +1,137 @@
+//! Whether an image is in order.
+
+use crate::extents::{Folder, bytes_of, tell_fault};
+use crate::failure::Failure;
+use crate::host::Host;
+use crate::opened::{Opening, format_of};
+use crate::text::{ImageFormat, descriptor_text, file_status, read_start};
+use imago_storage::error::Error;
+use imago_vmdk::descriptor::{self, Descriptor};
+use imago_vmdk::line::{Extent, verdict};
+use std::io::{self, Write};
+
+/// The longest line that is shown, in bytes.
+const SHOWN: usize = 200;
+
+/// Tells each fault of an image, and whether there is none: lines of a descriptor that can't be
+/// meant, and extents that their files don't hold.
+pub fn check<H: Host, W: Write>(
+    host: &H,
+    path: &str,
+    how: Opening,
+    output: &mut W,
+) -> Result<bool, Failure> {
+    let length = file_status(host, path)?.length;
+    let faults = match format_of(host, path, how)? {
+        ImageFormat::Raw => {
+            read_start(host, path, &mut [0u8; 1])?;
+            0
+        }
+        ImageFormat::Vmdk => check_vmdk(host, path, length, how, output)?,
+    };
+    let told = match faults {
+        0 => writeln!(output, "No faults were found."),
+        1 => writeln!(output, "1 fault was found."),
+        _ => writeln!(output, "{faults} faults were found."),
+    };
+    told.map_err(Failure::Output)?;
+    Ok(faults == 0)
+}
+
+/// Tells the faults of a descriptor, and how many there are.
+fn check_vmdk<H: Host, W: Write>(
+    host: &H,
+    path: &str,
+    length: u64,
+    how: Opening,
+    output: &mut W,
+) -> Result<u64, Failure> {
+    let text = descriptor_text(host, path, length)?;
+    let faults = check_lines(path, !how.strict, &text, output).map_err(Failure::Output)?;
+    match descriptor::read(host.alloc(), !how.strict, &text) {
+        Ok(described) => check_extents(host, path, &described, how, output),
+        Err(Error::Memory) => Err(Failure::Memory),
+        Err(cause) if faults == 0 => {
+            writeln!(output, "{path:?}: {}", whole_fault(cause)).map_err(Failure::Output)?;
+            Ok(1)
+        }
+        Err(_) => Ok(faults),
+    }
+}
+
+/// What is wrong with a descriptor none of whose lines is at fault.
+fn whole_fault(cause: Error) -> &'static str {
+    match cause {
+        Error::InvalidData =>
+            "no descriptor has that length, or its disk's size passes the greatest offset",
+        _ => "no line says one of the versions 1 to 3, or the file begins as a sparse image",
+    }
+}
+
+/// Tells the lines of a descriptor that can't be meant, and how many there are.
+fn check_lines<W: Write>(
+    path: &str,
+    accept_unknown_keys: bool,
+    text: &[u8],
+    output: &mut W,
+) -> io::Result<u64> {
+    let mut number: u64 = 0;
+    let mut faults: u64 = 0;
+    for line in text.split(|byte| *byte == b'\n') {
+        number = number.saturating_add(1);
+        if let Err(cause) = verdict(accept_unknown_keys, line) {
+            faults = faults.saturating_add(1);
+            tell_line(path, number, line, cause, output)?;
+        }
+    }
+    Ok(faults)
+}
+
+fn tell_line<W: Write>(
+    path: &str,
+    number: u64,
+    line: &[u8],
+    cause: Error,
+    output: &mut W,
+) -> io::Result<()> {
+    let reason = match cause {
+        Error::InvalidData => "can't be meant",
+        _ => "isn't supported",
+    };
+    match str::from_utf8(line) {
+        Ok(line) if line.len() <= SHOWN => writeln!(
+            output,
+            "{path:?}, line {number}: {line:?} {reason}"
+        ),
+        Ok(_) => writeln!(output, "{path:?}, line {number}: {reason}"),
+        Err(_) => writeln!(output, "{path:?}, line {number}: isn't UTF-8"),
+    }
+}
+
+/// Tells the extents of a descriptor that their files don't hold, and how many there are.
+fn check_extents<H: Host, W: Write>(
+    host: &H,
+    path: &str,
+    described: &Descriptor,
+    how: Opening,
+    output: &mut W,
+) -> Result<u64, Failure> {
+    let folder = Folder::of(host, path, how.allow_outside)?;
+    let mut faults: u64 = 0;
+    for extent in &described.extents {
+        if let Extent::Flat {
+            sectors,
+            name,
+            offset,
+            ..
+        } = extent
+        {
+            let file = folder.find(host, name)?;
+            let end = bytes_of(*offset).saturating_add(bytes_of(*sectors));
+            if tell_fault(output, "", name, end, &file).map_err(Failure::Output)? {
+                faults = faults.saturating_add(1);
+            }
+        }
+    }
+    Ok(faults)
+}

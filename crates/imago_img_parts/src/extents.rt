@@ -1,0 +1,128 @@
+//! The files that extents stand in, as they are found.
+
+use crate::failure::Failure;
+use crate::host::{FileKind, Host};
+use crate::name::{path_beside, stays_below};
+use std::io::{self, ErrorKind, Write};
+use std::path::Path;
+
+/// What is found under the name of an extent.
+#[derive(Drop)]
+pub enum ExtentFile {
+    /// A file of that many bytes.
+    Length(u64),
+    /// The name leads out of the descriptor's folder, and isn't looked at.
+    Outside,
+    /// What has no bytes at offsets.
+    NotAFile,
+    /// What the system answers.
+    Refused(io::Error),
+}
+
+/// The descriptor's folder, and whether files outside are looked at.
+#[derive(Drop)]
+pub struct Folder<'a> {
+    /// The descriptor's path.
+    descriptor: &'a str,
+    /// The folder's path without links, where only files in it are looked at.
+    bounds: Option<String>,
+}
+
+impl<'a> Folder<'a> {
+    /// The folder of a descriptor.
+    pub fn of<H: Host>(
+        host: &H,
+        descriptor: &'a str,
+        allow_outside: bool,
+    ) -> Result<Self, Failure> {
+        if allow_outside {
+            return Ok(Folder {
+                descriptor,
+                bounds: None,
+            });
+        }
+        let folder = match Path::new(descriptor).parent() {
+            Some(folder) if !folder.as_str().is_empty() => folder.as_str(),
+            _ => ".",
+        };
+        let real = Failure::or_system(host.alloc(), folder, host.real_path(folder))?;
+        Ok(Folder {
+            descriptor,
+            bounds: Some(real),
+        })
+    }
+
+    /// Whether a link leads a path out of the folder, where that isn't permitted. A path that leads
+    /// nowhere doesn't.
+    pub fn leaves<H: Host>(&self, host: &H, path: &str) -> io::Result<bool> {
+        let Some(bounds) = &self.bounds else {
+            return Ok(false);
+        };
+        match host.real_path(path) {
+            Ok(real) => Ok(!Path::new(&real).starts_with(bounds.as_str())),
+            Err(cause) if cause.kind() == ErrorKind::NotFound => Ok(false),
+            Err(cause) => Err(cause),
+        }
+    }
+
+    /// What is found under the name of an extent.
+    pub fn find<H: Host>(&self, host: &H, name: &str) -> Result<ExtentFile, Failure> {
+        if self.bounds.is_some() && !stays_below(name) {
+            return Ok(ExtentFile::Outside);
+        }
+        let path = path_beside(host.alloc(), self.descriptor, name)?;
+        match self.leaves(host, &path) {
+            Ok(false) => Ok(found(host, &path)),
+            Ok(true) => Ok(ExtentFile::Outside),
+            Err(cause) => Ok(ExtentFile::Refused(cause)),
+        }
+    }
+}
+
+/// What is found under a path. A file whose first byte can't be read is refused.
+fn found<H: Host>(host: &H, path: &str) -> ExtentFile {
+    let status = match host.status(path) {
+        Ok(status) => status,
+        Err(cause) => return ExtentFile::Refused(cause),
+    };
+    if status.kind == FileKind::Other {
+        return ExtentFile::NotAFile;
+    }
+    match host.read_at(path, &mut [0u8; 1], 0) {
+        Ok(()) => ExtentFile::Length(status.length),
+        Err(cause) => ExtentFile::Refused(cause),
+    }
+}
+
+/// How many bytes that many sectors have.
+pub fn bytes_of(sectors: u64) -> u64 {
+    sectors.saturating_mul(512)
+}
+
+/// Tells what is wrong with the file of a FLAT extent that ends there in it, if anything is. Bytes
+/// behind the file's end read as 0.
+pub fn tell_fault<W: Write>(
+    output: &mut W,
+    start: &str,
+    name: &str,
+    end: u64,
+    file: &ExtentFile,
+) -> io::Result<bool> {
+    match file {
+        ExtentFile::Length(length) if end <= *length => return Ok(false),
+        ExtentFile::Length(length) => writeln!(
+            output,
+            "{start}{name:?}: {length} bytes, and its extent ends at {end}: what lacks reads as 0"
+        )?,
+        ExtentFile::Outside => writeln!(
+            output,
+            "{start}{name:?}: not in the descriptor's folder; --allow-outside permits it"
+        )?,
+        ExtentFile::NotAFile => writeln!(
+            output,
+            "{start}{name:?}: neither a regular file nor a block device"
+        )?,
+        ExtentFile::Refused(cause) => writeln!(output, "{start}{name:?}: {cause}")?,
+    }
+    Ok(true)
+}

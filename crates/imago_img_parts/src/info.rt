@@ -1,0 +1,167 @@
+//! What an image is.
+
+use crate::extents::{ExtentFile, Folder, bytes_of, tell_fault};
+use crate::failure::Failure;
+use crate::host::Host;
+use crate::json::quoted;
+use crate::opened::{Opening, format_of};
+use crate::text::{ImageFormat, descriptor_text, file_status};
+use imago_vmdk::descriptor;
+use imago_vmdk::line::Extent;
+use std::io::{self, Write};
+
+/// An extent, and what is found under its name if it has one.
+type Found = (Extent<String>, Option<ExtentFile>);
+
+/// What an image is.
+#[derive(Drop)]
+struct Report {
+    format: ImageFormat,
+    /// The disk's size in bytes.
+    size: u64,
+    extents: Vec<Found>,
+}
+
+/// Tells the format, the size and the extents of an image, and warns of extents that their files
+/// don't hold.
+pub fn info<H: Host, W: Write, E: Write>(
+    host: &H,
+    path: &str,
+    how: Opening,
+    json: bool,
+    output: &mut W,
+    warnings: &mut E,
+) -> Result<(), Failure> {
+    let report = report_on(host, path, how)?;
+    warn(&report, warnings);
+    let printed = if json {
+        print_json(host, path, &report, output)
+    } else {
+        print_text(path, &report, output)
+    };
+    printed.map_err(Failure::Output)
+}
+
+/// Looks at an image, and for the files of its extents.
+fn report_on<H: Host>(host: &H, path: &str, how: Opening) -> Result<Report, Failure> {
+    let length = file_status(host, path)?.length;
+    let format = format_of(host, path, how)?;
+    let mut report = Report {
+        format,
+        size: length,
+        extents: Vec::new(host.alloc()),
+    };
+    if format == ImageFormat::Vmdk {
+        let text = descriptor_text(host, path, length)?;
+        let said = descriptor::read(host.alloc(), !how.strict, &text);
+        let described = Failure::or_image(host.alloc(), path, said)?;
+        report.size = described.size;
+        let folder = Folder::of(host, path, how.allow_outside)?;
+        for extent in described.extents {
+            let file = match &extent {
+                Extent::Flat { name, .. } => Some(folder.find(host, name)?),
+                _ => None,
+            };
+            report.extents.push((extent, file))?;
+        }
+    }
+    Ok(report)
+}
+
+/// Warns of extents that their files don't hold. That it can't be told is no failure.
+fn warn<E: Write>(report: &Report, warnings: &mut E) {
+    for (extent, file) in &report.extents {
+        if let (
+            Extent::Flat {
+                sectors,
+                name,
+                offset,
+                ..
+            },
+            Some(file),
+        ) = (extent, file)
+        {
+            let end = bytes_of(*offset).saturating_add(bytes_of(*sectors));
+            let _ = tell_fault(warnings, "imago-img: warning: ", name, end, file);
+        }
+    }
+}
+
+fn print_text<W: Write>(path: &str, report: &Report, output: &mut W) -> io::Result<()> {
+    writeln!(output, "image: {path:?}")?;
+    writeln!(output, "format: {}", report.format.name())?;
+    writeln!(output, "size: {} bytes", report.size)?;
+    for (extent, _) in &report.extents {
+        match extent {
+            Extent::Zero { sectors } => writeln!(
+                output,
+                "extent: ZERO, {} bytes",
+                bytes_of(*sectors)
+            )?,
+            Extent::NoAccess { sectors } => writeln!(
+                output,
+                "extent: NOACCESS, {} bytes",
+                bytes_of(*sectors)
+            )?,
+            Extent::Flat {
+                sectors,
+                name,
+                offset,
+                ..
+            } => {
+                let (count, offset) = (bytes_of(*sectors), bytes_of(*offset));
+                writeln!(
+                    output,
+                    "extent: FLAT, {count} bytes from {offset} of {name:?}"
+                )?;
+            }
+        }
+    }
+    Ok(())
+}
+
+fn print_json<H: Host, W: Write>(
+    host: &H,
+    path: &str,
+    report: &Report,
+    output: &mut W,
+) -> io::Result<()> {
+    let path = quoted(host.alloc(), path)?;
+    let (format, size) = (report.format.name(), report.size);
+    write!(output, "{{ \"filename\": {path}, \"format\": \"{format}\"")?;
+    write!(output, ", \"virtual-size\": {size}, \"extents\": [")?;
+    let mut start = "";
+    for found in &report.extents {
+        write!(output, "{start}")?;
+        print_extent(host, found, output)?;
+        start = ",";
+    }
+    writeln!(output, "] }}")
+}
+
+fn print_extent<H: Host, W: Write>(host: &H, found: &Found, output: &mut W) -> io::Result<()> {
+    let (extent, file) = found;
+    let kind = match extent {
+        Extent::Zero { .. } => "ZERO",
+        Extent::NoAccess { .. } => "NOACCESS",
+        Extent::Flat { .. } => "FLAT",
+    };
+    let length = bytes_of(extent.sectors());
+    write!(output, "\n{{ \"type\": \"{kind}\", \"length\": {length}")?;
+    if let Extent::Flat { name, offset, .. } = extent {
+        let (name, offset) = (quoted(host.alloc(), name)?, bytes_of(*offset));
+        write!(output, ", \"filename\": {name}, \"offset\": {offset}")?;
+    }
+    if let Some(file) = file {
+        print_length(file, output)?;
+    }
+    write!(output, " }}")
+}
+
+/// Prints how long the file of an extent is, if it is known.
+fn print_length<W: Write>(file: &ExtentFile, output: &mut W) -> io::Result<()> {
+    match file {
+        ExtentFile::Length(length) => write!(output, ", \"file-length\": {length}"),
+        _ => write!(output, ", \"file-length\": null"),
+    }
+}

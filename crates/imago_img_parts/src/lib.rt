@@ -1,0 +1,25 @@
+//! All of the program `imago-img` but its `main`: what a disk image in files is, where its bytes
+//! stand, and their way into a raw file.
+//!
+//! The commands find files by a [`Host`](host::Host): the program takes [`System`](system::System),
+//! tests have one in memory.
+#![tactic(auto)]
+
+mod check;
+mod command;
+mod compare;
+mod convert;
+mod extents;
+mod failure;
+pub mod gate;
+pub mod host;
+mod info;
+mod json;
+mod map;
+pub mod name;
+mod opened;
+mod progress;
+pub mod run;
+mod sources;
+pub mod system;
+mod text;

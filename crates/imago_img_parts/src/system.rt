@@ -1,0 +1,282 @@
+//! The system's files.
+ghost use Rattle.std.specs.Prelude.{◌≤◌, None};
+
+use crate::host::{FileKind, FileStatus, Host};
+use imago_plan::copy::Target;
+use std::alloc::Global;
+use std::cell::Cell;
+use std::fs::{self, File, Metadata, OpenOptions};
+use std::io::{self, IsTerminal};
+use std::os::fd::AsRawFd;
+use std::os::unix::fs::{FileExt, FileTypeExt, MetadataExt};
+
+/// What `lseek` looks for: the file's end, data, or a hole.
+const SEEK_END: i32 = 2;
+
+const SEEK_DATA: i32 = 3;
+
+const SEEK_HOLE: i32 = 4;
+
+/// The least run of zeroes that stays a hole, in bytes.
+const BLOCK: usize = 4096;
+
+/// What the path of a file that is to replace another one ends in, until it does.
+const UNFINISHED: &str = ".imago-img-unfinished";
+
+/// The system's files. One that was read stays open until another one is.
+#[derive(Drop)]
+pub struct System<'a> {
+    runtime: &'a HostRuntime,
+    last: Cell<Option<OpenFile>>,
+    /// Whether the standard error is a terminal.
+    has_terminal: bool,
+}
+
+/// A file that is open, and its path.
+#[derive(Drop)]
+struct OpenFile {
+    path: String,
+    file: File,
+}
+
+/// A file that is being made.
+#[derive(Drop)]
+pub struct NewFile {
+    file: File,
+    /// Its path.
+    path: String,
+    /// The path that it is to have, if it is to replace what has that one.
+    replaced: Option<String>,
+    /// How much is written.
+    at: u64,
+}
+
+impl<'a> System<'a> {
+    /// The files of that runtime.
+    pub fn new(runtime: &'a HostRuntime) -> Self {
+        System {
+            runtime,
+            last: Cell::new(None),
+            has_terminal: runtime.stderr().is_terminal(),
+        }
+    }
+
+    /// The file of a path, open: the one that was kept, if it is that.
+    fn open(&self, path: &str) -> io::Result<OpenFile> {
+        match self.last.take() {
+            Some(open) if open.path.as_str() == path => Ok(open),
+            _ => Ok(OpenFile {
+                path: String::from_str(self.runtime.alloc(), path)?,
+                file: File::open(self.runtime, path)?,
+            }),
+        }
+    }
+
+    /// Keeps a file for the next read.
+    fn keep(&self, open: OpenFile) {
+        self.last.set(Some(open));
+    }
+}
+
+/// What a file is by its attributes.
+fn kind_of(metadata: &Metadata) -> FileKind {
+    let kind = metadata.file_type();
+    if kind.is_file() {
+        FileKind::Regular
+    } else if kind.is_block_device() {
+        FileKind::BlockDevice
+    } else {
+        FileKind::Other
+    }
+}
+
+/// Fills the buffer with a file's bytes from the offset on, with 0 past its end.
+fn read_padded(file: &File, buf: &mut [u8], offset: u64) -> io::Result<()> {
+    let mut done: usize = 0;
+    while done < buf.len() {
+        let count = file.read_at(&mut buf[done..], offset.wrapping_add(done as u64))?;
+        if count == 0 {
+            buf[done..].fill(0);
+            return Ok(());
+        }
+        done += count;
+    }
+    Ok(())
+}
+
+/// The offset that `lseek` finds, if it finds one.
+fn seek(file: &File, offset: u64, what: i32) -> Option<u64> {
+    let found = libc::lseek(file.as_raw_fd(), offset.cast_signed(), what);
+    u64::try_from(found).ok()
+}
+
+/// How many bytes from the offset on are known to be in one hole, or behind the file's end: at most
+/// that many.
+fn hole_in(file: &File, offset: u64, most: u64) -> u64
+    ensures { result ≤ most }
+{
+    if let Some(data) = seek(file, offset, SEEK_DATA) {
+        return most.min(data.saturating_sub(offset));
+    }
+    // No data follows, or it can't be told.
+    let in_hole = seek(file, offset, SEEK_HOLE) == Some(offset);
+    let behind_end = seek(file, 0, SEEK_END).is_some_and(|end| end <= offset);
+    if in_hole || behind_end { most } else { 0 }
+}
+
+/// Writes those blocks of the data that aren't zero, in as few calls as there are runs of them.
+fn write_blocks(file: &File, source: &[u8], offset: u64) -> io::Result<()> {
+    let mut begin = 0;
+    let mut end = 0;
+    while end < source.len() {
+        let next = end + (source.len() - end).min(BLOCK);
+        if is_zero(&source[end..next]) {
+            file.write_all_at(&source[begin..end], offset.wrapping_add(begin as u64))?;
+            begin = next;
+        }
+        end = next;
+    }
+    file.write_all_at(&source[begin..end], offset.wrapping_add(begin as u64))
+}
+
+/// Whether all bytes are 0.
+#[inline(never)]
+fn is_zero(bytes: &[u8]) -> bool {
+    let mut all = 0;
+    for byte in bytes {
+        all |= *byte;
+    }
+    all == 0
+}
+
+impl<'a> Host for System<'a> {
+    type Target = NewFile;
+
+    ghost contents = { λ _. None };
+
+    fn alloc(&self) -> Global {
+        self.runtime.alloc()
+    }
+
+    fn status(&self, path: &str) -> io::Result<FileStatus> {
+        let metadata = fs::metadata(self.runtime, path)?;
+        let kind = kind_of(&metadata);
+        let mut length = metadata.len();
+        if kind == FileKind::BlockDevice {
+            let file = File::open(self.runtime, path)?;
+            length = seek(&file, 0, SEEK_END).unwrap_or(0);
+        }
+        Ok(FileStatus {
+            kind,
+            length,
+            device: metadata.dev(),
+            inode: metadata.ino(),
+        })
+    }
+
+    fn read_at(&self, path: &str, buf: &mut [u8], offset: u64) -> io::Result<()> {
+        let open = self.open(path)?;
+        read_padded(&open.file, buf, offset)?;
+        self.keep(open);
+        Ok(())
+    }
+
+    fn hole_at(&self, path: &str, offset: u64, most: u64) -> u64 {
+        let Ok(open) = self.open(path) else {
+            return 0;
+        };
+        let hole = hole_in(&open.file, offset, most);
+        self.keep(open);
+        hole
+    }
+
+    fn data_at(&self, path: &str, offset: u64, most: u64) -> u64 {
+        let Ok(open) = self.open(path) else {
+            return 0;
+        };
+        let hole = seek(&open.file, offset, SEEK_HOLE);
+        self.keep(open);
+        most.min(hole.unwrap_or(0).saturating_sub(offset))
+    }
+
+    fn real_path(&self, path: &str) -> io::Result<String> {
+        Ok(fs::canonicalize(self.runtime, path)?.into_string())
+    }
+
+    // That something can't be shown is no failure of the copy.
+    fn show_progress(&self, done: u64, total: u64, hundredths: u64) {
+        if self.has_terminal {
+            let _ = eprint!(self.runtime; "\r{done} of {total} bytes ({hundredths} %)");
+        }
+    }
+
+    fn end_progress(&self) {
+        if self.has_terminal {
+            let _ = eprintln!(self.runtime);
+        }
+    }
+
+    fn create(&mut self, path: &str, size: u64, replace: bool) -> io::Result<NewFile> {
+        let target = if replace && fs::exists(self.runtime, path)? {
+            let replaced = self.real_path(path)?;
+            let path = format!(in self.alloc(); "{replaced}{UNFINISHED}")?;
+            self.create_new(path, Some(replaced))?
+        } else {
+            let path = String::from_str(self.alloc(), path)?;
+            self.create_new(path, None)?
+        };
+        match target.file.set_len(size) {
+            Ok(()) => Ok(target),
+            Err(cause) => {
+                self.abandon(target);
+                Err(cause)
+            }
+        }
+    }
+
+    fn finish(&mut self, _path: &str, target: NewFile) -> io::Result<()> {
+        let Some(replaced) = &target.replaced else {
+            return Ok(());
+        };
+        let renamed = fs::rename(self.runtime, &target.path, replaced);
+        if renamed.is_err() {
+            self.abandon(target);
+        }
+        renamed
+    }
+
+    fn abandon(&mut self, target: NewFile) {
+        let _ = fs::remove_file(self.runtime, &target.path);
+    }
+}
+
+impl<'a> System<'a> {
+    /// Makes a file under a path that is free.
+    fn create_new(&self, path: String, replaced: Option<String>) -> io::Result<NewFile> {
+        let file = OpenOptions::new()
+            .write(true)
+            .create_new(true)
+            .open(self.runtime, &path)?;
+        Ok(NewFile {
+            file,
+            path,
+            replaced,
+            at: 0,
+        })
+    }
+}
+
+impl Target for NewFile {
+    ghost contents = { λ _. None };
+
+    fn append(&mut self, source: &[u8]) -> io::Result<()> {
+        write_blocks(&self.file, source, self.at)?;
+        self.at = self.at.wrapping_add(source.len() as u64);
+        Ok(())
+    }
+
+    fn append_zeroes(&mut self, count: u64) -> io::Result<()> {
+        self.at = self.at.wrapping_add(count);
+        Ok(())
+    }
+}
