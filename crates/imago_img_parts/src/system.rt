@@ -6,16 +6,8 @@ use imago_plan::copy::Target;
 use std::alloc::Global;
 use std::cell::Cell;
 use std::fs::{self, File, Metadata, OpenOptions};
-use std::io::{self, IsTerminal};
-use std::os::fd::AsRawFd;
+use std::io::{self, IsTerminal, Seek, SeekFrom};
 use std::os::unix::fs::{FileExt, FileTypeExt, MetadataExt};
-
-/// What `lseek` looks for: the file's end, data, or a hole.
-const SEEK_END: i32 = 2;
-
-const SEEK_DATA: i32 = 3;
-
-const SEEK_HOLE: i32 = 4;
 
 /// The least run of zeroes that stays a hole, in bytes.
 const BLOCK: usize = 4096;
@@ -104,24 +96,31 @@ fn read_padded(file: &File, buf: &mut [u8], offset: u64) -> io::Result<()> {
     Ok(())
 }
 
-/// The offset that `lseek` finds, if it finds one.
-fn seek(file: &File, offset: u64, what: i32) -> Option<u64> {
-    let found = libc::lseek(file.as_raw_fd(), offset.cast_signed(), what);
-    u64::try_from(found).ok()
-}
-
-/// How many bytes from the offset on are known to be in one hole, or behind the file's end: at most
-/// that many.
-fn hole_in(file: &File, offset: u64, most: u64) -> u64
+/// How many bytes from the offset on are known to be behind the file's end, and so zero: at most
+/// that many. The holes inside a file can't be told.
+fn behind_end(file: &File, offset: u64, most: u64) -> u64
     ensures { result ≤ most }
 {
-    if let Some(data) = seek(file, offset, SEEK_DATA) {
-        return most.min(data.saturating_sub(offset));
+    match file.metadata() {
+        Ok(metadata) if metadata.is_file() && metadata.len() <= offset => most,
+        _ => 0,
     }
-    // No data follows, or it can't be told.
-    let in_hole = seek(file, offset, SEEK_HOLE) == Some(offset);
-    let behind_end = seek(file, 0, SEEK_END).is_some_and(|end| end <= offset);
-    if in_hole || behind_end { most } else { 0 }
+}
+
+/// How many bytes from the offset on come before the file's end: at most that many. The end of what
+/// is no regular file can't be told so.
+fn before_end(file: &File, offset: u64, most: u64) -> u64
+    ensures { result ≤ most }
+{
+    match file.metadata() {
+        Ok(metadata) if metadata.is_file() => most.min(metadata.len().saturating_sub(offset)),
+        _ => most,
+    }
+}
+
+/// How many bytes a device has; 0 where it can't be told.
+fn device_length(mut file: File) -> u64 {
+    file.seek(SeekFrom::End(0)).unwrap_or(0)
 }
 
 /// Writes those blocks of the data that aren't zero, in as few calls as there are runs of them.
@@ -163,8 +162,7 @@ impl<'a> Host for System<'a> {
         let kind = kind_of(&metadata);
         let mut length = metadata.len();
         if kind == FileKind::BlockDevice {
-            let file = File::open(self.runtime, path)?;
-            length = seek(&file, 0, SEEK_END).unwrap_or(0);
+            length = device_length(File::open(self.runtime, path)?);
         }
         Ok(FileStatus {
             kind,
@@ -185,18 +183,18 @@ impl<'a> Host for System<'a> {
         let Ok(open) = self.open(path) else {
             return 0;
         };
-        let hole = hole_in(&open.file, offset, most);
+        let behind = behind_end(&open.file, offset, most);
         self.keep(open);
-        hole
+        behind
     }
 
     fn data_at(&self, path: &str, offset: u64, most: u64) -> u64 {
         let Ok(open) = self.open(path) else {
             return 0;
         };
-        let hole = seek(&open.file, offset, SEEK_HOLE);
+        let before = before_end(&open.file, offset, most);
         self.keep(open);
-        most.min(hole.unwrap_or(0).saturating_sub(offset))
+        before
     }
 
     fn real_path(&self, path: &str) -> io::Result<String> {

@@ -1,0 +1,121 @@
+//! The calls of `include/imago.h`. Nothing compares these declarations with those of `crates/imago_c`, but the examples that run.
+
+/// `struct imago_extent`.
+#[repr(C)]
+#[derive(Clone, Copy, Debug, Default, PartialEq, Eq)]
+pub struct Record {
+    pub sectors: u64,
+    pub offset: u64,
+    pub name_start: u64,
+    pub name_length: u64,
+    pub kind: u32,
+    pub writable: u32,
+}
+
+/// `struct imago_extent_counts`.
+#[repr(C)]
+#[derive(Clone, Copy, Debug, Default, PartialEq, Eq)]
+pub struct Counts {
+    pub extents: u64,
+    pub names: u64,
+}
+
+/// `struct imago_piece`.
+#[repr(C)]
+#[derive(Clone, Copy, Debug, Default, PartialEq, Eq)]
+pub struct Piece {
+    pub at: u64,
+    pub count: u64,
+    pub file: u64,
+    pub offset: u64,
+}
+
+unsafe extern "C" {
+    fn imago_script(
+        text: *const u8,
+        text_length: usize,
+        output: *mut u8,
+        output_length: usize,
+        printed: *mut usize,
+    ) -> u32;
+
+    fn imago_vmdk_probe(text: *const u8, text_length: usize) -> bool;
+
+    fn imago_vmdk_size(text: *const u8, text_length: usize, accept: bool, size: *mut u64) -> u32;
+
+    fn imago_vmdk_extents(
+        text: *const u8,
+        text_length: usize,
+        accept: bool,
+        extents: *mut Record,
+        extents_length: usize,
+        names: *mut u8,
+        names_length: usize,
+        counts: *mut Counts,
+    ) -> u32;
+
+    fn imago_vmdk_plan(
+        text: *const u8,
+        text_length: usize,
+        accept: bool,
+        pieces: *mut Piece,
+        pieces_length: usize,
+        count: *mut u64,
+    ) -> u32;
+}
+
+/// Answers the status, and how many bytes are printed.
+pub fn script(text: &[u8], output: &mut [u8]) -> (u32, usize) {
+    let mut printed = 0;
+    // SAFETY: each pointer and length are those of a slice that is borrowed for the call, and no call requires more.
+    let code = unsafe {
+        imago_script(text.as_ptr(), text.len(), output.as_mut_ptr(), output.len(), &mut printed)
+    };
+    (code, printed)
+}
+
+pub fn vmdk_probe(text: &[u8]) -> bool {
+    // SAFETY: as above.
+    unsafe { imago_vmdk_probe(text.as_ptr(), text.len()) }
+}
+
+pub fn vmdk_size(text: &[u8], accept: bool, size: &mut u64) -> u32 {
+    // SAFETY: as above.
+    unsafe { imago_vmdk_size(text.as_ptr(), text.len(), accept, size) }
+}
+
+pub fn vmdk_extents(
+    text: &[u8],
+    accept: bool,
+    extents: &mut [Record],
+    names: &mut [u8],
+    counts: &mut Counts,
+) -> u32 {
+    // SAFETY: as above.
+    unsafe {
+        imago_vmdk_extents(
+            text.as_ptr(),
+            text.len(),
+            accept,
+            extents.as_mut_ptr(),
+            extents.len(),
+            names.as_mut_ptr(),
+            names.len(),
+            counts,
+        )
+    }
+}
+
+pub fn vmdk_plan(text: &[u8], accept: bool, pieces: &mut [Piece], count: &mut u64) -> u32 {
+    // SAFETY: as above.
+    unsafe {
+        imago_vmdk_plan(
+            text.as_ptr(),
+            text.len(),
+            accept,
+            pieces.as_mut_ptr(),
+            pieces.len(),
+            count,
+        )
+    }
+}
