@@ -1,0 +1,3 @@
+pub mod ReadOnly
+pub mod BehindHeader
+pub mod BehindHeaderLaws

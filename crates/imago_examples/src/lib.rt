@@ -1,0 +1,6 @@
+//! A storage and a driver of one's own over `imago`, whole and proved: what `docs/USING.md`
+//! explains.
+#![tactic(auto)]
+
+pub mod behind_header;
+pub mod read_only;
