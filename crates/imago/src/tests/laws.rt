@@ -10,11 +10,12 @@ use crate::cow::Cow;
 use crate::error::Error;
 use crate::format::PreallocateMode;
 use crate::laws::{
-    data_blocks, descriptors, drivers, images, in_memory, over_null, plans, round_trip,
-    runs_of_cow, storages, vmdk_disk,
+    data_blocks, descriptors, drivers, images, in_memory, over_null, plans, qcow2_disk,
+    qcow2_files, round_trip, runs_of_cow, storages, vmdk_disk,
 };
 use crate::mem::MemStorage;
 use crate::null::Null;
+use crate::qcow2::Qcow2;
 use crate::raw::Raw;
 use crate::vmdk::Vmdk;
 use crate::{DenyImplicitOpenGate, FormatAccess, FormatDriverInstance, Storage};
@@ -58,6 +59,15 @@ fn call_laws_of_vmdk<S: Storage>(image: &FormatAccess<Vmdk<S>>)
     descriptors::disk_of_bytes(image.inner());
     vmdk_disk(image);
     plans::plans_of_vmdk(image);
+}
+
+/// The laws of qcow2 images.
+fn call_laws_of_qcow2<S: Storage>(image: &FormatAccess<Qcow2<S>>) {
+    qcow2_files::same_tables_stand_alike();
+    qcow2_files::worked_l2_entries();
+    qcow2_files::worked_l1_entries();
+    qcow2_files::disk_of_bytes(image.inner());
+    qcow2_disk(image);
 }
 
 /// The laws of tables of data blocks.
@@ -125,6 +135,17 @@ fn call_laws_at_an_opened_image(alloc: Global) -> Result<(), Error> {
     let mut vmdk = Vmdk::open_image(alloc, MemStorage::new(text), false)?;
     vmdk.open_implicit_dependencies_gated(alloc, &mut DenyImplicitOpenGate::default())?;
     call_laws_of_vmdk(&FormatAccess::new(vmdk));
+    Ok(())
+}
+
+/// The laws of qcow2 images, at one of version 2, in clusters of 512 bytes, whose disk has no byte.
+fn call_laws_at_a_qcow2_image(alloc: Global) -> Result<(), Error> {
+    let mut file = vec![in alloc; 0u8; 512]?;
+    file[..4].copy_from_slice(b"QFI\xfb");
+    file[7] = 2;
+    file[23] = 9;
+    let image = Qcow2::open_image(alloc, MemStorage::new(file), false)?;
+    call_laws_of_qcow2(&FormatAccess::new(image));
     Ok(())
 }
 
@@ -215,6 +236,7 @@ fn call_behind_growth(alloc: Global) -> Result<(), Error> {
 fn laws_are_called_at_their_types(rt: HostRuntime) -> Result<(), Fail> {
     call_laws(rt.alloc())?;
     call_laws_at_an_opened_image(rt.alloc())?;
+    call_laws_at_a_qcow2_image(rt.alloc())?;
     Ok(())
 }
 
