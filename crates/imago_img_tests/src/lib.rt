@@ -1,0 +1,6 @@
+//! Tests of the program `imago-img`, over a host whose files are in memory.
+#![tactic(auto)]
+
+pub mod memory_host;
+#[cfg(test)]
+mod tests;

@@ -1,0 +1,5 @@
+//! Command lines over files in memory: what each prints, its status, and the file that it makes.
+
+mod commands;
+mod refusals;
+mod set_up;

@@ -1,0 +1,90 @@
+//! What each command prints, and the file that it makes.
+
+use super::set_up::{Case, check_cases};
+
+/// Command lines that are done.
+static CASES: [Case; 7] = [
+    Case {
+        words: "info disk.vmdk",
+        appends: 0,
+        finishes: true,
+        status: 0,
+        output: "image: \"disk.vmdk\"\nformat: vmdk\nsize: 2048 bytes\n\
+            extent: FLAT, 512 bytes from 0 of \"a.bin\"\nextent: ZERO, 1024 bytes\n\
+            extent: FLAT, 512 bytes from 512 of \"parts/b.bin\"\n",
+        errors: "imago-img: warning: \"a.bin\": 6 bytes, and its extent ends at 512: what lacks reads as 0\n\
+            imago-img: warning: \"parts/b.bin\": 515 bytes, and its extent ends at 1024: what lacks reads as 0\n",
+        written: None,
+    },
+    Case {
+        words: "map --json disk.vmdk",
+        appends: 0,
+        finishes: true,
+        status: 0,
+        output: "[{ \"start\": 0, \"length\": 3, \"depth\": 0, \"present\": true, \"zero\": true, \"data\": false, \"offset\": 0, \"filename\": \"a.bin\"},\n\
+            { \"start\": 3, \"length\": 3, \"depth\": 0, \"present\": true, \"zero\": false, \"data\": true, \"offset\": 3, \"filename\": \"a.bin\"},\n\
+            { \"start\": 6, \"length\": 506, \"depth\": 0, \"present\": true, \"zero\": true, \"data\": false, \"offset\": 6, \"filename\": \"a.bin\"},\n\
+            { \"start\": 512, \"length\": 1024, \"depth\": 0, \"present\": true, \"zero\": true, \"data\": false},\n\
+            { \"start\": 1536, \"length\": 3, \"depth\": 0, \"present\": true, \"zero\": false, \"data\": true, \"offset\": 512, \"filename\": \"parts/b.bin\"},\n\
+            { \"start\": 1539, \"length\": 509, \"depth\": 0, \"present\": true, \"zero\": true, \"data\": false, \"offset\": 515, \"filename\": \"parts/b.bin\"}]\n",
+        errors: "",
+        written: None,
+    },
+    Case {
+        words: "convert disk.vmdk out.raw",
+        appends: 99,
+        finishes: true,
+        status: 0,
+        output: "",
+        errors: "",
+        written: Some((2048, &[(3, b"abc"), (1536, b"xyz")])),
+    },
+    Case {
+        words: "convert -f raw disk.vmdk out.raw",
+        appends: 99,
+        finishes: true,
+        status: 0,
+        output: "",
+        errors: "",
+        written: Some((
+            105,
+            &[(
+                0,
+                b"# Disk DescriptorFile\nversion=1\nencoding=\"UTF-8\"\nRW 1 FLAT \"a.bin\" 0\nRW 2 ZERO\nRW 1 FLAT \"parts/b.bin\" 1\n",
+            )],
+        )),
+    },
+    Case {
+        words: "convert --allow-outside outside.vmdk out.raw",
+        appends: 99,
+        finishes: true,
+        status: 0,
+        output: "",
+        errors: "",
+        written: Some((512, &[(0, b"top")])),
+    },
+    Case {
+        words: "convert disk.dev out.raw",
+        appends: 99,
+        finishes: true,
+        status: 0,
+        output: "",
+        errors: "",
+        written: Some((4, &[(1, b"dev")])),
+    },
+    Case {
+        words: "check disk.vmdk",
+        appends: 0,
+        finishes: true,
+        status: 1,
+        output: "\"a.bin\": 6 bytes, and its extent ends at 512: what lacks reads as 0\n\
+            \"parts/b.bin\": 515 bytes, and its extent ends at 1024: what lacks reads as 0\n2 faults were found.\n",
+        errors: "",
+        written: None,
+    },
+];
+
+#[test]
+fn commands_print_and_make_what_they_should(rt: HostRuntime) {
+    check_cases(&rt, rt.alloc(), &CASES);
+}
