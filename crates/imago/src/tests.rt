@@ -1,6 +1,5 @@
 //! The example that the README gives.
 mod laws;
-mod plans;
 
 use crate::format::PreallocateMode;
 use crate::mem::MemStorage;
