@@ -5,7 +5,7 @@ use Rattle.std.specs.Int.{next_multiple_of}
 use Rattle.imago_storage.specs.Features.{Features, ZeroSupport, AsData, MayBeUnsupported, AreAlignments, IsAlignedRequest, IsAlignedTo, len_align}
 use Rattle.imago_storage.specs.Padding.{padded_length, padded_end, Wraps, aligned_start, aligned_end, RangeWraps, IsAlignedPart}
 use Rattle.imago_storage.specs.Zeroes.{DataWraps, EdgeWraps, MayWrap, FitsZeroes, IsHead}
-use Rattle.imago_storage.proofs.Alignment.{power_positive, multiple_add, multiple_of_multiple}
+use Rattle.imago_storage.proofs.Alignment.{power_positive, multiple_add, multiple_of_multiple, multiple_sub}
 use Rattle.imago_storage.proofs.Padding.{len_positive, len_whole, next_whole_zero, next_multiple, next_below}
 
 -- a request behind whole blocks ends where the whole does
@@ -58,6 +58,19 @@ piece_aligned f at n done k a start whole fits ends which more = elim which [
     ends = omega (arith, ends, more);
   }
 ]
+
+-- a piece of a whole number of blocks is aligned, the last one too
+pub piece_in_whole : (f : Features) (at n done k : ℕ) → AreAlignments f → at % f.req_align ≡ 0
+    → done % len_align f ≡ 0 → done + k ≤ n → at + n < 2 ^ 64
+    → (k % len_align f ≡ 0) ⊎ (k ≡ n - done) → n % len_align f ≡ 0 → IsAlignedRequest f (at + done) k
+piece_in_whole f at n done k a start whole fits ends which all = record {
+  start = multiple_add f.req_align at done start (multiple_of_multiple f.req_align (len_align f) done whole (len_whole f a));
+  whole = elim which [
+    | inl full ↦ full
+    | inr last ↦ rw last (multiple_sub (len_align f) n done all whole)
+  ];
+  ends = omega (arith, ends, fits);
+}
 
 -- where the last piece fits, so does the range
 pub last_fits : (f : Features) (at n done k : ℕ) → AreAlignments f → at % f.req_align ≡ 0 → done % len_align f ≡ 0 → done + k ≡ n → 0 < k

@@ -95,19 +95,7 @@ pub(crate) fn padded_request<S: Storage>(storage: &S, offset: u64, count: u64) -
 }
 
 /// The start and end of the aligned part of a range, which is empty where it ends by its start. `None` where the
-/// range's end, or its start rounded up, passes `u64::MAX`.
-pub fn aligned_part(align: u64, offset: u64, count: u64) -> Option<(u64, u64)>
-    requires { 0 < align }
-    ensures { MatchOption result (RangeWraps align offset count)
-        (λ p. IsAlignedPart align offset count p.0 p.1) }
-{
-    let range_end = offset.checked_add(count)?;
-    let start = offset.checked_next_multiple_of(align)?;
-    Some((start, range_end - range_end % align))
-}
-
-/// The start and end of the aligned part of a range, as [`aligned_part`] answers them. An alignment of a storage is a
-/// power of two, and by that no division is needed.
+/// range's end, or its start rounded up, passes `u64::MAX`. An alignment is a power of two, so no division is needed.
 pub fn aligned_blocks(align: u64, offset: u64, count: u64) -> Option<(u64, u64)>
     requires { IsPowerOfTwo align }
     ensures { MatchOption result (RangeWraps align offset count)

@@ -34,7 +34,8 @@ pub struct MemStorage {
     ghost zero_whole: { zero_align % req_align ≡ 0 },
 }
 
-/// Adds zeroes up to that length.
+/// Adds zeroes up to that length. Room is asked for as a `Vec` does, for twice the bytes or more, so that many small
+/// growths take linear time; where that is refused, exactly the new bytes are asked for.
 fn grow(bytes: &mut Vec<u8>, len: u64) -> Result<(), Error>
     ensures ok { OnOk result (bytes.new.items ≡ bytes.old.items ++ replicate (len - length bytes.old.items) 0) }
     ensures err { OnErr result (bytes.new.items ≡ bytes.old.items) }
@@ -43,6 +44,10 @@ fn grow(bytes: &mut Vec<u8>, len: u64) -> Result<(), Error>
 {
     if len <= bytes.len() as u64 {
         return Ok(());
+    }
+    let more = len as usize - bytes.len();
+    if bytes.reserve(more).is_err() {
+        bytes.reserve_exact(more)?;
     }
     bytes.resize(len as usize, 0)?;
     Ok(())

@@ -9,7 +9,9 @@ ghost use Rattle.imago_storage.specs.IoCount.{AddsAtMost, IsWriteWork, IsEdgedWo
 ghost use Rattle.imago_storage.specs.Padding.{padded_end, Wraps, IsAlignedPart};
 ghost use Rattle.imago_storage.specs.Zeroes.{HasZeroed, ZeroedPart, EdgeWraps, DataWraps, IsZeroCall, IsPartAndEdges};
 
-use crate::align::{aligned_blocks, head_length, length_align, padded_request, zero_align};
+use crate::align::{
+    aligned_blocks, head_length, length_align, padded_request, remainder, zero_align,
+};
 use crate::error::Error;
 use crate::request::write_parts;
 use crate::storage::{Storage, ZERO_PIECE, ZeroKind, zero_buffer};
@@ -215,7 +217,7 @@ fn zero_part<S: Storage>(
     }
 }
 
-/// Writes that many zeroes out of a buffer of zeroes, with a block for what isn't aligned.
+/// Writes that many zeroes out of a buffer of zeroes, with a block of the storage where they aren't aligned.
 fn zero_from<S: Storage>(
     storage: &mut S,
     zeroes: &[u8],
@@ -225,7 +227,8 @@ fn zero_from<S: Storage>(
 ) -> Result<(), Error>
     requires zeroes { zeroes.now ≡ replicate (length zeroes.now) 0 }
     requires enough { count ≤ length zeroes.now }
-    requires block { length block.old ≡ len_align (S.features storage.old) }
+    requires block { IsAlignedRequest (S.features storage.old) offset count
+        ⊎ (length block.old ≡ len_align (S.features storage.old)) }
     ensures written { ZeroedPart (S.features storage.old) (S.bytes storage.old) offset count (S.bytes storage.new)
         result }
     ensures wraps { IsErrOf result Error.WrapAround ↔ Wraps (S.features storage.old) offset count }
@@ -243,14 +246,16 @@ fn zero_from<S: Storage>(
     write_by(storage, block, &zeroes[..count as usize], offset)
 }
 
-/// Writes a range as [`write_any`](crate::request::write_any) does, with a block that is there already.
+/// Writes a range as [`write_any`](crate::request::write_any) does, with a block that is there already where the range
+/// isn't aligned.
 fn write_by<S: Storage>(
     storage: &mut S,
     block: &mut [u8],
     source: &[u8],
     offset: u64,
 ) -> Result<(), Error>
-    requires { length block.old ≡ len_align (S.features storage.old) }
+    requires { IsAlignedRequest (S.features storage.old) offset (length source.now)
+        ⊎ (length block.old ≡ len_align (S.features storage.old)) }
     ensures empty { length source.now ≡ 0 → IsOk result × (storage.new ≡ storage.old) }
     ensures written { 0 < length source.now
         → WriteOutcome (S.features storage.old).keeps_data (S.bytes storage.old)
@@ -284,7 +289,8 @@ fn write_by<S: Storage>(
 }
 
 /// Writes zeroes as data: up to the first multiple of the request alignment, where the range doesn't start at one,
-/// and then in whole pieces, all from one buffer. All memory is asked for before the first write.
+/// and then in whole pieces, all from one buffer. All memory is asked for before the first write; a range that is
+/// aligned needs no block beside the zeroes.
 fn zero_as_data<S: Storage>(
     storage: &mut S,
     alloc: Global,
@@ -307,9 +313,14 @@ fn zero_as_data<S: Storage>(
         → storage.new ≡ storage.old }
     ensures work { IsEdgedWork 2 (len_align (S.features storage.old)) (zero_piece (S.features storage.old)) count (S.work storage.old) (S.work storage.new) }
 {
-    let piece = length_align(&*storage).max(ZERO_PIECE);
-    let mut stock = zero_stock(&*storage, alloc, piece.min(count))?;
+    let align = length_align(&*storage);
+    let piece = align.max(ZERO_PIECE);
     let first = head_length(&*storage, offset, count);
+    if first == 0 && remainder(count, align) == 0 {
+        let zeroes = zero_buffer(alloc, piece.min(count) as usize)?;
+        return zero_pieces(storage, &zeroes, &mut [], piece, offset, count);
+    }
+    let mut stock = zero_stock(&*storage, alloc, piece.min(count))?;
     if first == 0 {
         return zero_pieces(
             storage,
@@ -345,7 +356,8 @@ fn zero_pieces<S: Storage>(
 ) -> Result<(), Error>
     requires zeroes { zeroes.now ≡ replicate (length zeroes.now) 0 }
     requires enough { min piece count ≤ length zeroes.now }
-    requires block { length block.old ≡ len_align (S.features storage.old) }
+    requires block { (count % len_align (S.features storage.old) ≡ 0)
+        ⊎ (length block.old ≡ len_align (S.features storage.old)) }
     requires positive { 0 < piece }
     requires whole { piece % len_align (S.features storage.old) ≡ 0 }
     requires start { offset % (S.features storage.old).req_align ≡ 0 }

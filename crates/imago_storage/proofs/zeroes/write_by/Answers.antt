@@ -1,4 +1,4 @@
-use Rattle.std.proofs.Common.{arith, ◌≡◌, ◌+◌, ◌<◌, length, refl}
+use Rattle.std.proofs.Common.{arith, inl, inr, ◌≡◌, ◌+◌, ◌<◌, length, refl}
 use Rattle.imago_storage.specs.Padding.{padded_end, IsPaddedRequest}
 use Rattle.imago_storage.proofs.Outcomes.{WriteOutcome_unchanged}
 use Rattle.imago_storage.proofs.Writes.{splice_is_part, part_no_shorter}
@@ -21,4 +21,4 @@ write_parts-requires g c =
     let f = g.S.Storage.features c.args.storage.now in
     let q : IsPaddedRequest f c.args.offset (length c.args.source.now) c.in-Some.start c.in-Some.len = rw (c.in-Some.start-is, c.in-Some.len-is) c.in-Some.ensures in
     let some : 0 < length c.args.source.now = grind (arith, c.if-is_empty.false, c.is_empty.ensures) in
-    record { lawful = g.met.S.Storage.lawful c.args.storage.now; is_block = c.requires; some = some; padded = q }
+    record { lawful = g.met.S.Storage.lawful c.args.storage.now; is_block = elim c.requires [ inl aligned ↦ absurd (grind (arith, q.same_start aligned, q.same_len aligned, c.else-start-offset)) | inr b ↦ b ]; some = some; padded = q }

@@ -13,25 +13,48 @@ use Rattle.imago_storage.proofs.zeroes.zero_as_data.Goals as goal
 pub returns-in_err-stock-clause-written : goal.returns-in_err-stock-clause-written
 returns-in_err-stock-clause-written g c =
     let f = g.S.Storage.features c.args.storage.now in
-    let p = err_from_is_err_and c.from_residual.result c.from_residual.ensures.1 in
+    let p = err_from_is_err_and c.from_residual-in_err-stock.result c.from_residual-in_err-stock.ensures.1 in
     HasZeroed_unchanged f _ _ _ _ _ (len_positive f (g.met.S.Storage.lawful c.args.storage.now)) p.1
 
 pub zero_pieces-requires-clause-whole : goal.zero_pieces-requires-clause-whole
 zero_pieces-requires-clause-whole g c =
     let f = g.S.Storage.features c.args.storage.now in
-    rw (c.max-piece.ensures, c.length_align.ensures.value) (piece_whole (len_align f) (align_power f (g.met.S.Storage.lawful c.args.storage.now)))
+    rw (c.max-piece.ensures, c.length_align-align.ensures.value) (piece_whole (len_align f) (align_power f (g.met.S.Storage.lawful c.args.storage.now)))
 
-pub returns-then-first-eq0-clause-wraps : goal.returns-then-first-eq0-clause-wraps
-returns-then-first-eq0-clause-wraps g c = λ wraps.
+pub returns-in_err-zeroes-clause-written : goal.returns-in_err-zeroes-clause-written
+returns-in_err-zeroes-clause-written g c =
+    let f = g.S.Storage.features c.args.storage.now in
+    let p = err_from_is_err_and c.from_residual.result c.from_residual.ensures.1 in
+    HasZeroed_unchanged f _ _ _ _ _ (len_positive f (g.met.S.Storage.lawful c.args.storage.now)) p.1
+
+pub zero_pieces-requires-then-first-eq0-2-clause-whole : goal.zero_pieces-requires-then-first-eq0-2-clause-whole
+zero_pieces-requires-then-first-eq0-2-clause-whole g c =
+    let f = g.S.Storage.features c.args.storage.now in
+    rw (c.max-piece.ensures, c.length_align-align.ensures.value) (piece_whole (len_align f) (align_power f (g.met.S.Storage.lawful c.args.storage.now)))
+
+pub returns-then-remainder-eq0-clause-wraps : goal.returns-then-remainder-eq0-clause-wraps
+returns-then-remainder-eq0-clause-wraps g c = λ wraps.
     let f = g.S.Storage.features c.args.storage.now in
     let starts = c.head_length-first.ensures.none c.if-first-eq0.true in
     (data_from_start f c.args.offset c.args.count (g.met.S.Storage.lawful c.args.storage.now) starts).0 (c.zero_pieces.ensures.wraps wraps)
 
-pub returns-then-first-eq0-clause-fits : goal.returns-then-first-eq0-clause-fits
-returns-then-first-eq0-clause-fits g c =
+pub returns-then-remainder-eq0-clause-fits : goal.returns-then-remainder-eq0-clause-fits
+returns-then-remainder-eq0-clause-fits g c =
     let f = g.S.Storage.features c.args.storage.now in
     let starts = c.head_length-first.ensures.none c.if-first-eq0.true in
     OnOk_map _ (data_from_start f c.args.offset c.args.count (g.met.S.Storage.lawful c.args.storage.now) starts).1 c.zero_pieces.ensures.fits
+
+pub returns-then-first-eq0-2-clause-wraps : goal.returns-then-first-eq0-2-clause-wraps
+returns-then-first-eq0-2-clause-wraps g c = λ wraps.
+    let f = g.S.Storage.features c.args.storage.now in
+    let starts = c.head_length-first.ensures.none c.if-first-eq0-2.true in
+    (data_from_start f c.args.offset c.args.count (g.met.S.Storage.lawful c.args.storage.now) starts).0 (c.zero_pieces-then-first-eq0-2.ensures.wraps wraps)
+
+pub returns-then-first-eq0-2-clause-fits : goal.returns-then-first-eq0-2-clause-fits
+returns-then-first-eq0-2-clause-fits g c =
+    let f = g.S.Storage.features c.args.storage.now in
+    let starts = c.head_length-first.ensures.none c.if-first-eq0-2.true in
+    OnOk_map _ (data_from_start f c.args.offset c.args.count (g.met.S.Storage.lawful c.args.storage.now) starts).1 c.zero_pieces-then-first-eq0-2.ensures.fits
 
 pub returns-in_err-zero_from-clause-written : goal.returns-in_err-zero_from-clause-written
 returns-in_err-zero_from-clause-written g c =
@@ -59,7 +82,7 @@ returns-then-first-count-clause-fits g c =
 pub zero_pieces-requires-2-clause-whole : goal.zero_pieces-requires-2-clause-whole
 zero_pieces-requires-2-clause-whole g c =
     let f = g.S.Storage.features c.args.storage.now in
-    rw (c.in_ok-zero_from.ensures.features, c.max-piece.ensures, c.length_align.ensures.value) (piece_whole (len_align f) (align_power f (g.met.S.Storage.lawful c.args.storage.now)))
+    rw (c.in_ok-zero_from.ensures.features, c.max-piece.ensures, c.length_align-align.ensures.value) (piece_whole (len_align f) (align_power f (g.met.S.Storage.lawful c.args.storage.now)))
 
 pub zero_pieces-requires-2-clause-start : goal.zero_pieces-requires-2-clause-start
 zero_pieces-requires-2-clause-start g c =
@@ -122,7 +145,7 @@ returns-clause-work g c =
     let f = g.S.Storage.features c.args.storage.now in
     let lawful = g.met.S.Storage.lawful c.args.storage.now in
     let h = c.head_length-first.ensures.some (omega arith) in
-    let piece : c.max-piece.result ≡ zero_piece f = rw (c.max-piece.ensures, c.length_align.ensures.value) refl in
+    let piece : c.max-piece.result ≡ zero_piece f = rw (c.max-piece.ensures, c.length_align-align.ensures.value) refl in
     edge_then_pieces (len_align f) (zero_piece f) c.args.count c.head_length-first.result h.within
     (write_loose f c.args.offset c.head_length-first.result lawful c.in_ok-zero_from.ensures.work)
     (rw (c.in_ok-zero_from.ensures.features, piece) at c.zero_pieces-2.ensures.work)

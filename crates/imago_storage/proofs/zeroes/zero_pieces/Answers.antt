@@ -5,7 +5,7 @@ use Rattle.imago_storage.proofs.Alignment.{multiple_add}
 use Rattle.imago_storage.proofs.Outcomes.{CountsFaults_ok, CountsFaults_then, RequestMayRunOut_more, same_refusal, not_refused}
 use Rattle.imago_storage.proofs.Work.{write_loose, edged_none, edged_next, edged_within}
 use Rattle.imago_storage.proofs.ZeroRanges.{ZeroedPart_next, ZeroedPart_longer, HasZeroed_refused}
-use Rattle.imago_storage.proofs.ZeroWraps.{piece_wraps, piece_aligned, last_fits, piece_kind}
+use Rattle.imago_storage.proofs.ZeroWraps.{piece_wraps, piece_aligned, piece_in_whole, last_fits, piece_kind}
 use Rattle.imago_storage.proofs.zeroes.zero_pieces.Goals as goal
 
 pub returns-in_err-zero_from-clause-written : goal.returns-in_err-zero_from-clause-written
@@ -15,6 +15,18 @@ returns-in_err-zero_from-clause-written g c =
     let more : 0 < c.min-next.result = omega arith in
     let step = ZeroedPart_next f _ _ _ c.args.offset c.loop-done.done c.min-next.result _ more c.loop-done.invariant.zeroed (rw c.loop-done.invariant.features at c.zero_from.ensures.written) in
     HasZeroed_refused f _ _ c.args.offset (c.loop-done.done + c.min-next.result) c.args.offset c.args.count _ _ _ _ step c.in_err-zero_from.was p.1 (omega arith) (omega arith)
+
+pub zero_from-requires-clause-block : goal.zero_from-requires-clause-block
+zero_from-requires-clause-block g c =
+    let f = g.S.Storage.features c.args.storage.now in
+    let lawful = g.met.S.Storage.lawful c.args.storage.now in
+    let left : c.loop-done.done ≢ c.args.count = omega arith in
+    let whole : c.loop-done.done % len_align f ≡ 0 = elim c.loop-done.invariant.whole [ inl w ↦ w | inr e ↦ absurd (left e) ] in
+    let kind : (c.min-next.result % len_align f ≡ 0) ⊎ (c.min-next.result ≡ c.args.count - c.loop-done.done) = rw c.min-next.ensures (piece_kind (len_align f) c.args.piece (c.args.count - c.loop-done.done) c.requires.whole) in
+    rw c.loop-done.invariant.features (elim c.requires.block [
+      | inl all ↦ inl (piece_in_whole f c.args.offset c.args.count c.loop-done.done c.min-next.result lawful c.requires.start whole (omega arith) c.requires.ends kind all)
+      | inr is_block ↦ inr (search rules)
+    ])
 
 pub returns-in_err-zero_from-clause-wraps : goal.returns-in_err-zero_from-clause-wraps
 returns-in_err-zero_from-clause-wraps g c = λ wraps.
