@@ -3,7 +3,8 @@ use Rattle.std.specs.Int.{next_multiple_of}
 use Rattle.imago_storage.specs.Features.{Features, AreAlignments, len_align}
 use Rattle.imago_storage.specs.Padding.{IsPaddedRequest}
 
--- A request of any alignment, which is written or read as a part of a first block and then from the next block's start on.
+-- A request of any alignment, which is written or read as a part of a first block and then from the
+-- next block's start on.
 pub record IsInParts (f : Features) (block at n start len : ℕ) : Type 0 where
   pub lawful : AreAlignments f
   pub is_block : block ≡ len_align f

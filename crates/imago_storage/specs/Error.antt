@@ -1,6 +1,10 @@
 use Rattle.std.specs.Prelude.{◌≡◌, ◌⊎◌}
 use Rattle.imago_storage.specs.declared.error.Error.{Error}
-use Rattle.imago_storage.specs.declared.error.Error.TheVariants.{ReadOnly, BeyondDisk, RangeOverflow, WrapAround, InvalidData, Unsupported, NoAccess, Device, Memory, ForeignMapping, Denied, NotFound}
+use Rattle.imago_storage.specs.declared.error.Error.TheVariants.{ReadOnly, BeyondDisk}
+use Rattle.imago_storage.specs.declared.error.Error.TheVariants.{RangeOverflow, WrapAround}
+use Rattle.imago_storage.specs.declared.error.Error.TheVariants.{InvalidData, Unsupported, NoAccess}
+use Rattle.imago_storage.specs.declared.error.Error.TheVariants.{Device, Memory, ForeignMapping}
+use Rattle.imago_storage.specs.declared.error.Error.TheVariants.{Denied, NotFound}
 use Rattle.imago_storage.specs.declared.error.ErrorKind.{ErrorKind}
 use Rattle.imago_storage.specs.declared.error.ErrorKind.TheVariants as Kind
 
@@ -27,7 +31,8 @@ IsDeviceOrMemory e = (e ≡ Device) ⊎ (e ≡ Memory)
 abbrev pub IsPureRefusal : Error → Type 0
 IsPureRefusal e = (e ≡ Unsupported) ⊎ (e ≡ Device) ⊎ (e ≡ Memory)
 
--- What telling which name a relative one stands for is refused for: also a name that isn't there, isn't one, or mustn't be seen.
+-- What telling which name a relative one stands for is refused for: also a name that isn't there,
+-- isn't one, or mustn't be seen.
 abbrev pub IsNameRefusal : Error → Type 0
 IsNameRefusal e = IsPureRefusal e ⊎ (e ≡ NotFound) ⊎ (e ≡ InvalidData) ⊎ (e ≡ Denied)
 

@@ -52,7 +52,8 @@ pub record Features : Type 0 where
   pub resize_memory : MemoryUse
   pub other_memory : MemoryUse
 
--- The alignments are powers of two, and those of zero writes and discards are multiples of that of requests.
+-- The alignments are powers of two, and those of zero writes and discards are multiples of that of
+-- requests.
 pub record AreAlignments (f : Features) : Type 0 where
   pub mem : IsPowerOfTwo f.mem_align
   pub req : IsPowerOfTwo f.req_align

@@ -3,7 +3,8 @@ use Rattle.imago_storage.specs.Powers.{IsAlignment, power_of_two}
 use Rattle.std.proofs.Math.Nat.{mod_self}
 use Rattle.imago_storage.specs.Features.{Features, InPlace, AsData, Never, ForGrowth, AreAlignments}
 
--- Bytes in memory: kept, never failing, and refused for memory only where they grow, with nothing changed.
+-- Bytes in memory: kept, never failing, and refused for memory only where they grow, with nothing
+-- changed.
 abbrev pub mem_features : Option (List ℕ) → ℕ → ℕ → ℕ → Features
 mem_features name mem req zeroed = record {
   filename = name;
@@ -27,7 +28,8 @@ mem_features name mem req zeroed = record {
   other_memory = Never;
 }
 
-pub mem_lawful : (name : Option (List ℕ)) (mem req zeroed : ℕ) → IsAlignment mem → IsAlignment req → IsAlignment zeroed → zeroed % req ≡ 0
+pub mem_lawful : (name : Option (List ℕ)) (mem req zeroed : ℕ) → IsAlignment mem → IsAlignment req
+    → IsAlignment zeroed → zeroed % req ≡ 0
     → AreAlignments (mem_features name mem req zeroed)
 mem_lawful name mem req zeroed a b c whole = record {
   mem = power_of_two mem a;
@@ -38,7 +40,8 @@ mem_lawful name mem req zeroed a b c whole = record {
   discard_whole = mod_self req;
 }
 
--- Zeroes of any length: nothing is kept, nothing fails, no call takes memory but allocated zeroes, which are data.
+-- Zeroes of any length: nothing is kept, nothing fails, no call takes memory but allocated zeroes,
+-- which are data.
 abbrev pub null_features : Features
 null_features = record {
   filename = None;
@@ -63,4 +66,11 @@ null_features = record {
 }
 
 pub null_lawful : AreAlignments null_features
-null_lawful = record { mem = (0, refl); req = (0, refl); zero = (0, refl); discard = (0, refl); zero_whole = refl; discard_whole = refl }
+null_lawful = record {
+  mem = (0, refl);
+  req = (0, refl);
+  zero = (0, refl);
+  discard = (0, refl);
+  zero_whole = refl;
+  discard_whole = refl;
+}

@@ -10,4 +10,5 @@ features_of s = mem_features (option_map string_bytes s.name) s.mem_align s.req_
 
 -- its alignments are lawful
 pub alignments_of : (s : MemStorage) → AreAlignments (features_of s)
-alignments_of s = mem_lawful (option_map string_bytes s.name) s.mem_align s.req_align s.zero_align s.mem_power s.req_power s.zero_power s.zero_whole
+alignments_of s = mem_lawful (option_map string_bytes s.name) s.mem_align s.req_align s.zero_align
+    s.mem_power s.req_power s.zero_power s.zero_whole

@@ -41,4 +41,9 @@ abbrev pub no_open_options : OpenOptions
 no_open_options = record { filename = None; writable = false; direct = false }
 
 abbrev pub no_create_options : CreateOptions
-no_create_options = record { to_open = no_open_options; size = 0; mode = Mode.None; overwrite = false }
+no_create_options = record {
+  to_open = no_open_options;
+  size = 0;
+  mode = Mode.None;
+  overwrite = false;
+}

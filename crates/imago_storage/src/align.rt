@@ -48,8 +48,8 @@ pub fn discard_align<S: Storage>(storage: &S) -> u64
     storage.discard_align() as u64
 }
 
-/// What a number is more than the last multiple of an alignment: its low digits. Alignments are powers of two, so no
-/// division is needed.
+/// What a number is more than the last multiple of an alignment: its low digits. Alignments are
+/// powers of two, so no division is needed.
 pub(crate) fn remainder(number: u64, align: u64) -> u64
     requires { IsPowerOfTwo align }
     ensures value { result ≡ number % align }
@@ -61,13 +61,14 @@ pub(crate) fn remainder(number: u64, align: u64) -> u64
 /// The first multiple of an alignment from a number on. `None` where it passes `u64::MAX`.
 fn rounded_up(number: u64, align: u64) -> Option<u64>
     requires { IsPowerOfTwo align }
-    ensures { SomeIff result (next_multiple_of number align < 2 ^ 64) (next_multiple_of number align) }
+    ensures { SomeIff result (next_multiple_of number align < 2 ^ 64)
+        (next_multiple_of number align) }
 {
     number.checked_add(remainder(align - remainder(number, align), align))
 }
 
-/// The start and length of the range from the offset rounded down, of a multiple that covers the request. `None` where
-/// its end passes `u64::MAX`.
+/// The start and length of the range from the offset rounded down, of a multiple that covers the
+/// request. `None` where its end passes `u64::MAX`.
 fn padded_range(request: u64, multiple: u64, offset: u64, count: u64) -> Option<(u64, u64)>
     requires request { IsPowerOfTwo request }
     requires multiple { IsPowerOfTwo multiple }
@@ -94,8 +95,9 @@ pub(crate) fn padded_request<S: Storage>(storage: &S, offset: u64, count: u64) -
     padded_range(request, multiple, offset, count)
 }
 
-/// The start and end of the aligned part of a range, which is empty where it ends by its start. `None` where the
-/// range's end, or its start rounded up, passes `u64::MAX`. An alignment is a power of two, so no division is needed.
+/// The start and end of the aligned part of a range, which is empty where it ends by its start.
+/// `None` where the range's end, or its start rounded up, passes `u64::MAX`. An alignment is a
+/// power of two, so no division is needed.
 pub fn aligned_blocks(align: u64, offset: u64, count: u64) -> Option<(u64, u64)>
     requires { IsPowerOfTwo align }
     ensures { MatchOption result (RangeWraps align offset count)
@@ -106,7 +108,8 @@ pub fn aligned_blocks(align: u64, offset: u64, count: u64) -> Option<(u64, u64)>
     Some((start, range_end - remainder(range_end, align)))
 }
 
-/// How many bytes of a range stand before its first multiple of the request alignment. 0 where it starts on one.
+/// How many bytes of a range stand before its first multiple of the request alignment. 0 where it
+/// starts on one.
 pub(crate) fn head_length<S: Storage>(storage: &S, offset: u64, count: u64) -> u64
     requires { 0 < count }
     ensures none { result ≡ 0 → offset % (S.features storage.now).req_align ≡ 0 }

@@ -18,7 +18,8 @@ pub enum Error {
     /// The end of a guest range passes the greatest offset, `u64::MAX`, in a zero write or discard.
     #[error("the end of the range passes the greatest possible offset")]
     RangeOverflow,
-    /// A range at a storage, also once it is padded or rounded up to an alignment, passes `u64::MAX`.
+    /// A range at a storage, also once it is padded or rounded up to an alignment, passes
+    /// `u64::MAX`.
     #[error("the request wraps around at the end of the storage's address space")]
     WrapAround,
     /// A descriptor, or an offset that it names, is at fault.

@@ -27,10 +27,14 @@ impl<S: Storage> Storage for &mut S {
       resized = λ n mode a b r. S.maintenance.resized n mode a.now b.now r;
       counted = λ at buf a b r. S.maintenance.counted at buf a.now b.now r;
       zeroed_in_place = λ kind at n a b r. S.maintenance.zeroed_in_place kind at n a.now b.now r;
-      zeroed = λ kind at n a b r. IsZeroCall S.maintenance S.work (S.features a.now) kind at n a.now b.now r;
+      zeroed = λ kind at n a b r. IsZeroCall S.maintenance S.work (S.features a.now) kind at n a.now
+          b.now r;
     } };
 
-    ghost openings = { record no_openings { made = IsMade S.openings; resolved = λ s. S.openings.resolved s.now } };
+    ghost openings = { record no_openings {
+      made = IsMade S.openings;
+      resolved = λ s. S.openings.resolved s.now;
+    } };
 
     ghost lawful = { λ s. S.lawful s.now };
 

@@ -1,7 +1,8 @@
 //! Storages, and requests of any alignment on them.
 //!
-//! A storage is a list of bytes behind an interface of aligned calls, [`storage::Storage`]. [`ext::StorageExt`] makes
-//! any range of it readable and writable, and says what a refused call leaves.
+//! A storage is a list of bytes behind an interface of aligned calls, [`storage::Storage`].
+//! [`ext::StorageExt`] makes any range of it readable and writable, and says what a refused call
+//! leaves.
 #![tactic(auto)]
 
 pub mod align;

@@ -1,5 +1,7 @@
 //! A storage in memory.
-ghost use Rattle.std.specs.Prelude.{◌≡◌, ◌≢◌, ℕ, ◌≤◌, ◌<◌, ◌+◌, ◌-◌, ◌%◌, ◌^◌, Bool, true, false, IsTrue, replicate, length, List, ◌++◌, Option, None, Some, OnOk, OnErr, IfOk, IfErr, IsOk, option_map};
+ghost use Rattle.std.specs.Prelude.{◌≡◌, ◌≢◌, ℕ, ◌≤◌, ◌<◌, ◌+◌, ◌-◌, ◌%◌, ◌^◌, Bool, true, false};
+ghost use Rattle.std.specs.Prelude.{IsTrue, replicate, length, List, ◌++◌, Option, None, Some};
+ghost use Rattle.std.specs.Prelude.{OnOk, OnErr, IfOk, IfErr, IsOk, option_map};
 ghost use Rattle.imago_storage.specs.Powers.{IsAlignment};
 ghost use Rattle.std.specs.Option.{option_copied};
 ghost use Rattle.std.specs.String.{string_bytes};
@@ -18,9 +20,9 @@ use crate::storage::{
 use std::alloc::Global;
 use std::fmt;
 
-/// Bytes in memory. The storage keeps what is written and never fails; a growth is filled with zeroes, and is
-/// refused as [`Error::Memory`], with nothing changed, where there is no memory for it. No call inside the length
-/// takes memory.
+/// Bytes in memory. The storage keeps what is written and never fails; a growth is filled with
+/// zeroes, and is refused as [`Error::Memory`], with nothing changed, where there is no memory for
+/// it. No call inside the length takes memory.
 #[derive(Drop)]
 pub struct MemStorage {
     name: Option<String>,
@@ -34,10 +36,12 @@ pub struct MemStorage {
     ghost zero_whole: { zero_align % req_align ≡ 0 },
 }
 
-/// Adds zeroes up to that length. Room is asked for as a `Vec` does, for twice the bytes or more, so that many small
-/// growths take linear time; where that is refused, exactly the new bytes are asked for.
+/// Adds zeroes up to that length. Room is asked for as a `Vec` does, for twice the bytes or more,
+/// so that many small growths take linear time; where that is refused, exactly the new bytes are
+/// asked for.
 fn grow(bytes: &mut Vec<u8>, len: u64) -> Result<(), Error>
-    ensures ok { OnOk result (bytes.new.items ≡ bytes.old.items ++ replicate (len - length bytes.old.items) 0) }
+    ensures ok { OnOk result
+        (bytes.new.items ≡ bytes.old.items ++ replicate (len - length bytes.old.items) 0) }
     ensures err { OnErr result (bytes.new.items ≡ bytes.old.items) }
     ensures memory { IfErr result (λ e. e ≡ Error.Memory) }
     ensures inside { len ≤ length bytes.old.items → IsOk result }
@@ -124,7 +128,8 @@ impl MemStorage {
     /// A storage of these bytes with that file name, all alignments 1.
     pub fn named(name: String, bytes: Vec<u8>) -> Self
         ensures bytes { ⟦<MemStorage as Storage>⟧.bytes result ≡ bytes.items }
-        ensures features { ⟦<MemStorage as Storage>⟧.features result ≡ mem_features (Some (string_bytes name)) 1 1 1 }
+        ensures features { ⟦<MemStorage as Storage>⟧.features result
+            ≡ mem_features (Some (string_bytes name)) 1 1 1 }
     {
         MemStorage {
             name: Some(name),
@@ -135,23 +140,28 @@ impl MemStorage {
         }
     }
 
-    /// Sets both `mem_align` and `req_align`, and with them `zero_align`. [`is_alignment`](crate::storage::is_alignment) tests
-    /// what is required.
+    /// Sets both `mem_align` and `req_align`, and with them `zero_align`.
+    /// [`is_alignment`](crate::storage::is_alignment) tests what is required.
     pub fn with_align(self, align: usize) -> Self
         requires { IsAlignment align }
-        ensures bytes { ⟦<MemStorage as Storage>⟧.bytes result ≡ ⟦<MemStorage as Storage>⟧.bytes self }
-        ensures features { ⟦<MemStorage as Storage>⟧.features result ≡ mem_features (⟦<MemStorage as Storage>⟧.features self).filename align align align }
+        ensures bytes { ⟦<MemStorage as Storage>⟧.bytes result ≡ ⟦<MemStorage as Storage>⟧.bytes
+            self }
+        ensures features { ⟦<MemStorage as Storage>⟧.features result
+            ≡ mem_features (⟦<MemStorage as Storage>⟧.features self).filename align align align }
     {
         self.with_aligns(align, align)
     }
 
-    /// Sets `mem_align` and `req_align`, and `zero_align` to the latter. [`is_alignment`](crate::storage::is_alignment) of
-    /// each tests what is required.
+    /// Sets `mem_align` and `req_align`, and `zero_align` to the latter.
+    /// [`is_alignment`](crate::storage::is_alignment) of each tests what is required.
     pub fn with_aligns(self, mem_align: usize, req_align: usize) -> Self
         requires mem { IsAlignment mem_align }
         requires req { IsAlignment req_align }
-        ensures bytes { ⟦<MemStorage as Storage>⟧.bytes result ≡ ⟦<MemStorage as Storage>⟧.bytes self }
-        ensures features { ⟦<MemStorage as Storage>⟧.features result ≡ mem_features (⟦<MemStorage as Storage>⟧.features self).filename mem_align req_align req_align }
+        ensures bytes { ⟦<MemStorage as Storage>⟧.bytes result ≡ ⟦<MemStorage as Storage>⟧.bytes
+            self }
+        ensures features { ⟦<MemStorage as Storage>⟧.features result
+            ≡ mem_features (⟦<MemStorage as Storage>⟧.features self).filename mem_align req_align
+            req_align }
     {
         let MemStorage {
             name,
@@ -173,8 +183,10 @@ impl MemStorage {
     pub fn with_zero_align(mut self, zero_align: usize) -> Self
         requires power { IsAlignment zero_align }
         requires whole { zero_align % (⟦<MemStorage as Storage>⟧.features self).req_align ≡ 0 }
-        ensures bytes { ⟦<MemStorage as Storage>⟧.bytes result ≡ ⟦<MemStorage as Storage>⟧.bytes self }
-        ensures features { ⟦<MemStorage as Storage>⟧.features result ≡ record (⟦<MemStorage as Storage>⟧.features self)
+        ensures bytes { ⟦<MemStorage as Storage>⟧.bytes result ≡ ⟦<MemStorage as Storage>⟧.bytes
+            self }
+        ensures features { ⟦<MemStorage as Storage>⟧.features result
+            ≡ record (⟦<MemStorage as Storage>⟧.features self)
             { zero_align = zero_align } }
     {
         self.zero_align = zero_align;
@@ -218,7 +230,8 @@ impl fmt::Display for MemStorage {
 impl Storage for MemStorage {
     ghost bytes = { λ s. s.bytes.items };
 
-    ghost features = { λ s. mem_features (option_map string_bytes s.name) s.mem_align s.req_align s.zero_align };
+    ghost features = { λ s. mem_features (option_map string_bytes s.name) s.mem_align s.req_align
+        s.zero_align };
 
     ghost fault_count = { λ _. 0 };
 
@@ -228,7 +241,8 @@ impl Storage for MemStorage {
 
     ghost openings = { no_openings };
 
-    ghost lawful = { λ s. mem_lawful (option_map string_bytes s.name) s.mem_align s.req_align s.zero_align s.mem_power s.req_power s.zero_power s.zero_whole };
+    ghost lawful = { λ s. mem_lawful (option_map string_bytes s.name) s.mem_align s.req_align
+        s.zero_align s.mem_power s.req_power s.zero_power s.zero_whole };
 
     fn open(opts: StorageOpenOptions) -> Result<Self, Error> {
         let _ = opts;

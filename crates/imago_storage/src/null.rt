@@ -12,8 +12,9 @@ use crate::storage::{
 use std::alloc::Global;
 use std::fmt;
 
-/// Zeroes of any length, up to `u64::MAX` bytes. Nothing that is written is kept; writes raise the length to their
-/// end. No call fails, and none takes memory but zero writes that are to be allocated, which are made as data.
+/// Zeroes of any length, up to `u64::MAX` bytes. Nothing that is written is kept; writes raise the
+/// length to their end. No call fails, and none takes memory but zero writes that are to be
+/// allocated, which are made as data.
 #[derive(Drop)]
 pub struct Null {
     size: u64,
@@ -45,7 +46,9 @@ impl Storage for Null {
 
     ghost work = { λ _. no_work };
 
-    ghost maintenance = { record no_maintenance { resized = resizes_bytes (λ s. replicate s.size 0) } };
+    ghost maintenance = { record no_maintenance {
+      resized = resizes_bytes (λ s. replicate s.size 0);
+    } };
 
     ghost openings = { no_openings };
 

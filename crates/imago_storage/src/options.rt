@@ -1,8 +1,11 @@
-//! What storages are asked for: options to open or create one with, and how bytes are allocated or zeroed.
+//! What storages are asked for: options to open or create one with, and how bytes are allocated or
+//! zeroed.
 ghost use Rattle.std.specs.Prelude.{◌≡◌, Option, Some, IfSome, option_map};
 ghost use Rattle.std.specs.Option.{option_copied};
 ghost use Rattle.std.specs.String.{string_bytes};
-ghost use Rattle.imago_storage.specs.Options.{OpenOptions, CreateOptions, open_options, opening_options, create_options, no_open_options, no_create_options};
+ghost use Rattle.imago_storage.specs.Options.{OpenOptions, CreateOptions, open_options};
+ghost use Rattle.imago_storage.specs.Options.{opening_options, create_options, no_open_options};
+ghost use Rattle.imago_storage.specs.Options.{no_create_options};
 
 /// How new bytes of a storage that grows are allocated, and what they read as.
 #[derive(Clone, Copy, Debug, PartialEq, Eq)]
@@ -34,7 +37,8 @@ pub struct StorageOpenOptions {
     pub(crate) direct: bool,
 }
 
-/// Parameters from which a storage can be created. The file name is one of the options to open it with.
+/// Parameters from which a storage can be created. The file name is one of the options to open it
+/// with.
 #[derive(Drop)]
 pub struct StorageCreateOptions {
     pub(crate) open_opts: StorageOpenOptions,
@@ -57,7 +61,8 @@ impl StorageOpenOptions {
 
     /// Sets the name of the file to open.
     pub fn filename(mut self, filename: String) -> Self
-        ensures { open_options result ≡ record (open_options self) { filename = Some (string_bytes filename) } }
+        ensures { open_options result
+            ≡ record (open_options self) { filename = Some (string_bytes filename) } }
     {
         self.filename = Some(filename);
         self
@@ -119,8 +124,10 @@ impl StorageCreateOptions {
 
     /// Sets the name of the file to create.
     pub fn filename(self, filename: String) -> Self
-        ensures { create_options result ≡ record (create_options self)
-            { to_open = record (create_options self).to_open { filename = Some (string_bytes filename) } } }
+        ensures { create_options result ≡ record (create_options self) {
+          to_open = record
+              (create_options self).to_open { filename = Some (string_bytes filename) };
+        } }
     {
         self.modify_open_opts(|opts| opts.filename(filename))
     }

@@ -1,5 +1,6 @@
 //! Reads, writes and discards of any range.
-ghost use Rattle.std.specs.Prelude.{◌≡◌, ◌+◌, ◌-◌, ◌<◌, ◌≤◌, ◌*◌, length, min, false, OnOk, IfErr, IsErrOf};
+ghost use Rattle.std.specs.Prelude.{◌≡◌, ◌+◌, ◌-◌, ◌<◌, ◌≤◌, ◌*◌, length, min, false, OnOk, IfErr};
+ghost use Rattle.std.specs.Prelude.{IsErrOf};
 ghost use Rattle.std.specs.Int.{next_multiple_of};
 ghost use Rattle.imago_storage.specs.Blocks.{IsInParts, IsInBlocks};
 ghost use Rattle.imago_storage.specs.Bytes.{splice, zero_extended, WriteOutcome, IsReadAt};
@@ -18,8 +19,8 @@ use std::alloc::Global;
 /// How many blocks the padded range of a read may have to be read by way of one buffer.
 const BOUNCED_BLOCKS: u64 = 2;
 
-/// Reads a range: as it is where it is aligned, by way of a buffer of the padded range where that is one block or two,
-/// and else in up to three parts.
+/// Reads a range: as it is where it is aligned, by way of a buffer of the padded range where that
+/// is one block or two, and else in up to three parts.
 #[tactic(auto, using(std::proofs::lemmas::List::places))]
 pub(crate) fn read_any<S: Storage>(
     storage: &S,
@@ -27,7 +28,8 @@ pub(crate) fn read_any<S: Storage>(
     buf: &mut [u8],
     offset: u64,
 ) -> Result<(), Error>
-    ensures { IsRangeRead (S.features storage.now) (S.bytes storage.now) offset (length buf.old) buf.new result }
+    ensures { IsRangeRead (S.features storage.now) (S.bytes storage.now) offset (length buf.old)
+        buf.new result }
 {
     if buf.is_empty() {
         return Ok(());
@@ -48,8 +50,8 @@ pub(crate) fn read_any<S: Storage>(
     read_parts(storage, &mut block, buf, offset, start, len)
 }
 
-/// Reads three blocks or more of which the first or the last one isn't read whole: a part of the first block, and then
-/// from a block's start on.
+/// Reads three blocks or more of which the first or the last one isn't read whole: a part of the
+/// first block, and then from a block's start on.
 fn read_parts<S: Storage>(
     storage: &S,
     block: &mut [u8],
@@ -58,7 +60,8 @@ fn read_parts<S: Storage>(
     start: u64,
     len: u64,
 ) -> Result<(), Error>
-    requires parts { IsInParts (S.features storage.now) (length block.old) offset (length buf.old) start len }
+    requires parts { IsInParts (S.features storage.now) (length block.old) offset (length buf.old)
+        start len }
     requires long { 2 * length block.old < len }
     ensures bytes { OnOk result (IsReadAt (S.bytes storage.now) offset buf.new) }
     ensures only { IfErr result IsDeviceOrMemory }
@@ -74,7 +77,8 @@ fn read_parts<S: Storage>(
     read_blocks(storage, block, rest, start + align as u64)
 }
 
-/// Reads from a block's start on: whole blocks straight into the buffer, then a part of the last one.
+/// Reads from a block's start on: whole blocks straight into the buffer, then a part of the last
+/// one.
 fn read_blocks<S: Storage>(
     storage: &S,
     block: &mut [u8],
@@ -122,7 +126,8 @@ pub(crate) fn write_any<S: Storage>(
     source: &[u8],
     offset: u64,
 ) -> Result<(), Error>
-    ensures { IsRangeWrite S.features S.bytes S.fault_count S.work offset source.now storage.old storage.new result }
+    ensures { IsRangeWrite S.features S.bytes S.fault_count S.work offset source.now storage.old
+        storage.new result }
 {
     if source.is_empty() {
         return Ok(());
@@ -138,7 +143,8 @@ pub(crate) fn write_any<S: Storage>(
     write_parts(storage, &mut block, source, offset, start, len)
 }
 
-/// Writes a request that isn't aligned: a first block of which it leaves a part, and then from a block's start on.
+/// Writes a request that isn't aligned: a first block of which it leaves a part, and then from a
+/// block's start on.
 pub(crate) fn write_parts<S: Storage>(
     storage: &mut S,
     block: &mut [u8],
@@ -147,12 +153,14 @@ pub(crate) fn write_parts<S: Storage>(
     start: u64,
     len: u64,
 ) -> Result<(), Error>
-    requires { IsInParts (S.features storage.old) (length block.old) offset (length source.now) start len }
+    requires { IsInParts (S.features storage.old) (length block.old) offset (length source.now)
+        start len }
     ensures written { WriteOutcome (S.features storage.old).keeps_data (S.bytes storage.old)
         (splice (zero_extended (S.bytes storage.old) (start + len)) offset source.now)
         (S.bytes storage.new) result }
     ensures features { S.features storage.new ≡ S.features storage.old }
-    ensures work { AddsAtMost 2 (min (2 * length block.old) len) 3 len (S.work storage.old) (S.work storage.new) }
+    ensures work { AddsAtMost 2 (min (2 * length block.old) len) 3 len (S.work storage.old)
+        (S.work storage.new) }
     ensures memory { IsErrOf result Error.Memory
         → RequestMayRunOut (S.features storage.old) (length (S.bytes storage.old)) (start + len) }
     ensures only { IfErr result IsDeviceOrMemory }
@@ -187,7 +195,8 @@ fn write_blocks<S: Storage>(
         start source.now)
         (S.bytes storage.new) result }
     ensures features { S.features storage.new ≡ S.features storage.old }
-    ensures work { AddsAtMost 1 (length block.old) 2 (next_multiple_of (length source.now) (length block.old))
+    ensures work { AddsAtMost 1 (length block.old) 2
+        (next_multiple_of (length source.now) (length block.old))
         (S.work storage.old) (S.work storage.new) }
     ensures memory { IsErrOf result Error.Memory
         → RequestMayRunOut (S.features storage.old) (length (S.bytes storage.old))
@@ -222,7 +231,8 @@ fn update_block<S: Storage>(
         source.now)
         (S.bytes storage.new) result }
     ensures features { S.features storage.new ≡ S.features storage.old }
-    ensures work { AddsAtMost 1 (length block.old) 1 (length block.old) (S.work storage.old) (S.work storage.new) }
+    ensures work { AddsAtMost 1 (length block.old) 1 (length block.old) (S.work storage.old)
+        (S.work storage.new) }
     ensures memory { IsErrOf result Error.Memory
         → RequestMayRunOut (S.features storage.old) (length (S.bytes storage.old))
         (start + length block.old) }
@@ -237,7 +247,8 @@ fn update_block<S: Storage>(
 
 /// Discards the aligned part of a range, if it has one. A discard that isn't offered is no refusal.
 pub(crate) fn discard_any<S: Storage>(storage: &mut S, offset: u64, count: u64) -> Result<(), Error>
-    ensures { IsRangeDiscard S.features S.bytes S.fault_count S.maintenance offset count storage.old storage.new result }
+    ensures { IsRangeDiscard S.features S.bytes S.fault_count S.maintenance offset count storage.old
+        storage.new result }
 {
     let align = discard_align(&*storage);
     let Some((start, end)) = aligned_blocks(align, offset, count) else {

@@ -1,13 +1,19 @@
 //! Zero writes of any range.
-ghost use Rattle.std.specs.Prelude.{◌≡◌, ◌≢◌, ℕ, ◌+◌, ◌-◌, ◌%◌, ◌<◌, ◌≤◌, ◌⊎◌, ◌^◌, length, max, min, replicate, OnOk, IfOk, IfErr, IsErrOf, IsOk, Ok, List, ◌↔◌};
+ghost use Rattle.std.specs.Prelude.{◌≡◌, ◌≢◌, ℕ, ◌+◌, ◌-◌, ◌%◌, ◌<◌, ◌≤◌, ◌⊎◌, ◌^◌, length, max};
+ghost use Rattle.std.specs.Prelude.{min, replicate, OnOk, IfOk, IfErr, IsErrOf, IsOk, Ok, List};
+ghost use Rattle.std.specs.Prelude.{◌↔◌};
 ghost use Rattle.imago_storage.specs.Bytes.{splice, zero_extended, WriteOutcome};
 ghost use Rattle.imago_storage.specs.Calls.{IsRangeZeroing, ShowsNoChange};
 ghost use Rattle.imago_storage.specs.Error.{IsExtRefusal, IsPureRefusal, IsZeroRefusal};
 ghost use Rattle.imago_storage.specs.Faults.{CountsFaults};
-ghost use Rattle.imago_storage.specs.Features.{InPlace, AsData, MayRunOut, MayBeUnsupported, IsAlignedRequest, IsAlignedTo, RequestMayRunOut, ZeroesMayRunOut, len_align, zero_piece, zero_support};
+ghost use Rattle.imago_storage.specs.Features.{InPlace, AsData, MayRunOut, MayBeUnsupported};
+ghost use Rattle.imago_storage.specs.Features.{IsAlignedRequest, IsAlignedTo, RequestMayRunOut};
+ghost use Rattle.imago_storage.specs.Features.{ZeroesMayRunOut, len_align, zero_piece};
+ghost use Rattle.imago_storage.specs.Features.{zero_support};
 ghost use Rattle.imago_storage.specs.IoCount.{AddsAtMost, IsWriteWork, IsEdgedWork};
 ghost use Rattle.imago_storage.specs.Padding.{padded_end, Wraps, IsAlignedPart};
-ghost use Rattle.imago_storage.specs.Zeroes.{HasZeroed, ZeroedPart, EdgeWraps, DataWraps, IsZeroCall, IsPartAndEdges};
+ghost use Rattle.imago_storage.specs.Zeroes.{HasZeroed, ZeroedPart, EdgeWraps, DataWraps};
+ghost use Rattle.imago_storage.specs.Zeroes.{IsZeroCall, IsPartAndEdges};
 
 use crate::align::{
     aligned_blocks, head_length, length_align, padded_request, remainder, zero_align,
@@ -36,9 +42,9 @@ fn zero_stock<S: Storage>(storage: &S, alloc: Global, count: u64) -> Result<Zero
     Ok(ZeroStock { zeroes, block })
 }
 
-/// Zeroes a range: its part that is aligned to the zero alignment by a zero write of the storage, and what stands
-/// before and behind it as data; the whole range as data where it has no such part, or where the storage refuses
-/// that zero write as unsupported.
+/// Zeroes a range: its part that is aligned to the zero alignment by a zero write of the storage,
+/// and what stands before and behind it as data; the whole range as data where it has no such part,
+/// or where the storage refuses that zero write as unsupported.
 pub(crate) fn zero_any<S: Storage>(
     storage: &mut S,
     alloc: Global,
@@ -46,7 +52,8 @@ pub(crate) fn zero_any<S: Storage>(
     count: u64,
     kind: ZeroKind,
 ) -> Result<(), Error>
-    ensures { IsRangeZeroing S.features S.bytes S.fault_count S.work S.maintenance kind (zero_support (S.features storage.old) kind) offset count storage.old storage.new result }
+    ensures { IsRangeZeroing S.features S.bytes S.fault_count S.work S.maintenance kind
+        (zero_support (S.features storage.old) kind) offset count storage.old storage.new result }
 {
     if count == 0 {
         return Ok(());
@@ -70,7 +77,8 @@ fn zero_range<S: Storage>(
 ) -> Result<(), Error>
     requires part { IsAlignedPart (S.features storage.old).zero_align offset count start end }
     requires some { 0 < count }
-    ensures { IsRangeZeroing S.features S.bytes S.fault_count S.work S.maintenance kind (zero_support (S.features storage.old) kind) offset count storage.old storage.new result }
+    ensures { IsRangeZeroing S.features S.bytes S.fault_count S.work S.maintenance kind
+        (zero_support (S.features storage.old) kind) offset count storage.old storage.new result }
 {
     if end <= start {
         return zero_as_data(storage, alloc, offset, count);
@@ -82,8 +90,9 @@ fn zero_range<S: Storage>(
     }
 }
 
-/// Zeroes the aligned part of a range by a zero write of the storage, and then its edges as data. Where that zero
-/// write is refused as unsupported, so is this, with bytes and the count of faults as they were.
+/// Zeroes the aligned part of a range by a zero write of the storage, and then its edges as data.
+/// Where that zero write is refused as unsupported, so is this, with bytes and the count of faults
+/// as they were.
 fn zero_part_and_edges<S: Storage>(
     storage: &mut S,
     alloc: Global,
@@ -95,9 +104,11 @@ fn zero_part_and_edges<S: Storage>(
 ) -> Result<(), Error>
     requires part { IsAlignedPart (S.features storage.old).zero_align offset count start end }
     requires some { start < end }
-    ensures written { HasZeroed (S.features storage.old) (S.bytes storage.old) offset count (S.bytes storage.new)
+    ensures written { HasZeroed (S.features storage.old) (S.bytes storage.old) offset count
+        (S.bytes storage.new)
         result }
-    ensures wraps { IsErrOf result Error.WrapAround → EdgeWraps (S.features storage.old) offset count }
+    ensures wraps { IsErrOf result Error.WrapAround
+        → EdgeWraps (S.features storage.old) offset count }
     ensures fits { OnOk result (¬ EdgeWraps (S.features storage.old) offset count) }
     ensures offered { IsErrOf result Error.Unsupported
         → MayBeUnsupported (zero_support (S.features storage.old) kind)
@@ -122,7 +133,8 @@ fn zero_part_and_edges<S: Storage>(
     ensures unchanged { IsErrOf result Error.Unsupported
         → ShowsNoChange S.features S.bytes S.fault_count storage.old storage.new }
     ensures performed { ((storage.new ≡ storage.old) × IsErrOf result Error.Memory)
-        ⊎ IsPartAndEdges S.maintenance S.work (S.features storage.old) kind offset count start end storage.old
+        ⊎ IsPartAndEdges S.maintenance S.work (S.features storage.old) kind offset count start end
+        storage.old
         storage.new result }
 {
     if start == offset && end == offset + count {
@@ -143,7 +155,8 @@ fn zero_part_and_edges<S: Storage>(
     )
 }
 
-/// Zeroes as data what stands before and behind the aligned part of a range, which is zeroed already.
+/// Zeroes as data what stands before and behind the aligned part of a range, which is zeroed
+/// already.
 fn zero_edges<S: Storage>(
     storage: &mut S,
     zeroes: &[u8],
@@ -162,7 +175,8 @@ fn zero_edges<S: Storage>(
         → HasZeroed {T = Unit {0}} (S.features storage.old) old start (end - start)
         (S.bytes storage.old) (Ok tt)
         → HasZeroed (S.features storage.old) old offset count (S.bytes storage.new) result }
-    ensures wraps { IsErrOf result Error.WrapAround → EdgeWraps (S.features storage.old) offset count }
+    ensures wraps { IsErrOf result Error.WrapAround
+        → EdgeWraps (S.features storage.old) offset count }
     ensures fits { OnOk result (¬ EdgeWraps (S.features storage.old) offset count) }
     ensures features { S.features storage.new ≡ S.features storage.old }
     ensures only { IfErr result IsExtRefusal }
@@ -171,7 +185,8 @@ fn zero_edges<S: Storage>(
     ensures memory { IsErrOf result Error.Memory
         → RequestMayRunOut (S.features storage.old) (length (S.bytes storage.old))
         (offset + count + (len_align (S.features storage.old) - 1)) }
-    ensures work { IsEdgedWork 2 (len_align (S.features storage.old)) (zero_piece (S.features storage.old))
+    ensures work { IsEdgedWork 2 (len_align (S.features storage.old))
+        (zero_piece (S.features storage.old))
         (start - offset + (offset + count - end)) (S.work storage.old) (S.work storage.new) }
 {
     zero_from(storage, zeroes, block, offset, start - offset)?;
@@ -187,7 +202,8 @@ fn zero_part<S: Storage>(
     kind: ZeroKind,
 ) -> Result<(), Error>
     requires { IsAlignedTo (S.features storage.old).zero_align offset count }
-    ensures written { HasZeroed (S.features storage.old) (S.bytes storage.old) offset count (S.bytes storage.new)
+    ensures written { HasZeroed (S.features storage.old) (S.bytes storage.old) offset count
+        (S.bytes storage.new)
         result }
     ensures offered { IsErrOf result Error.Unsupported
         → MayBeUnsupported (zero_support (S.features storage.old) kind)
@@ -204,11 +220,13 @@ fn zero_part<S: Storage>(
         → MayRunOut (S.features storage.old).zero_memory (length (S.bytes storage.old))
         (offset + count) }
     ensures early { IsErrOf result Error.Memory
-        → (¬ ZeroesMayRunOut (S.features storage.old) (length (S.bytes storage.old)) (offset + count))
+        → (¬ ZeroesMayRunOut (S.features storage.old) (length (S.bytes storage.old))
+        (offset + count))
         → ShowsNoChange S.features S.bytes S.fault_count storage.old storage.new }
     ensures unchanged { IsErrOf result Error.Unsupported
         → ShowsNoChange S.features S.bytes S.fault_count storage.old storage.new }
-    ensures performed { IsZeroCall S.maintenance S.work (S.features storage.old) kind offset count storage.old
+    ensures performed { IsZeroCall S.maintenance S.work (S.features storage.old) kind offset count
+        storage.old
         storage.new result }
 {
     match kind {
@@ -217,7 +235,8 @@ fn zero_part<S: Storage>(
     }
 }
 
-/// Writes that many zeroes out of a buffer of zeroes, with a block of the storage where they aren't aligned.
+/// Writes that many zeroes out of a buffer of zeroes, with a block of the storage where they aren't
+/// aligned.
 fn zero_from<S: Storage>(
     storage: &mut S,
     zeroes: &[u8],
@@ -229,7 +248,8 @@ fn zero_from<S: Storage>(
     requires enough { count ≤ length zeroes.now }
     requires block { IsAlignedRequest (S.features storage.old) offset count
         ⊎ (length block.old ≡ len_align (S.features storage.old)) }
-    ensures written { ZeroedPart (S.features storage.old) (S.bytes storage.old) offset count (S.bytes storage.new)
+    ensures written { ZeroedPart (S.features storage.old) (S.bytes storage.old) offset count
+        (S.bytes storage.new)
         result }
     ensures wraps { IsErrOf result Error.WrapAround ↔ Wraps (S.features storage.old) offset count }
     ensures features { S.features storage.new ≡ S.features storage.old }
@@ -239,15 +259,16 @@ fn zero_from<S: Storage>(
     ensures memory { IsErrOf result Error.Memory
         → RequestMayRunOut (S.features storage.old) (length (S.bytes storage.old))
         (offset + count + (len_align (S.features storage.old) - 1)) }
-    ensures work { IsWriteWork (S.features storage.old) offset count (S.work storage.old) (S.work storage.new) }
+    ensures work { IsWriteWork (S.features storage.old) offset count (S.work storage.old)
+        (S.work storage.new) }
     ensures direct { IsAlignedRequest (S.features storage.old) offset count
         → AddsAtMost 0 0 1 count (S.work storage.old) (S.work storage.new) }
 {
     write_by(storage, block, &zeroes[..count as usize], offset)
 }
 
-/// Writes a range as [`write_any`](crate::request::write_any) does, with a block that is there already where the range
-/// isn't aligned.
+/// Writes a range as [`write_any`](crate::request::write_any) does, with a block that is there
+/// already where the range isn't aligned.
 fn write_by<S: Storage>(
     storage: &mut S,
     block: &mut [u8],
@@ -264,7 +285,8 @@ fn write_by<S: Storage>(
         (padded_end (S.features storage.old) offset (length source.now)))
         offset source.now)
         (S.bytes storage.new) result }
-    ensures wraps { IsErrOf result Error.WrapAround ↔ Wraps (S.features storage.old) offset (length source.now) }
+    ensures wraps { IsErrOf result Error.WrapAround
+        ↔ Wraps (S.features storage.old) offset (length source.now) }
     ensures features { S.features storage.new ≡ S.features storage.old }
     ensures only { IfErr result IsExtRefusal }
     ensures cause { CountsFaults (S.features storage.old).is_reliable (S.fault_count storage.old)
@@ -272,7 +294,8 @@ fn write_by<S: Storage>(
     ensures memory { IsErrOf result Error.Memory
         → RequestMayRunOut (S.features storage.old) (length (S.bytes storage.old))
         (padded_end (S.features storage.old) offset (length source.now)) }
-    ensures work { IsWriteWork (S.features storage.old) offset (length source.now) (S.work storage.old) (S.work storage.new) }
+    ensures work { IsWriteWork (S.features storage.old) offset (length source.now)
+        (S.work storage.old) (S.work storage.new) }
     ensures direct { IsAlignedRequest (S.features storage.old) offset (length source.now)
         → AddsAtMost 0 0 1 (length source.now) (S.work storage.old) (S.work storage.new) }
 {
@@ -288,9 +311,9 @@ fn write_by<S: Storage>(
     write_parts(storage, block, source, offset, start, len)
 }
 
-/// Writes zeroes as data: up to the first multiple of the request alignment, where the range doesn't start at one,
-/// and then in whole pieces, all from one buffer. All memory is asked for before the first write; a range that is
-/// aligned needs no block beside the zeroes.
+/// Writes zeroes as data: up to the first multiple of the request alignment, where the range
+/// doesn't start at one, and then in whole pieces, all from one buffer. All memory is asked for
+/// before the first write; a range that is aligned needs no block beside the zeroes.
 fn zero_as_data<S: Storage>(
     storage: &mut S,
     alloc: Global,
@@ -299,9 +322,11 @@ fn zero_as_data<S: Storage>(
 ) -> Result<(), Error>
     requires some { 0 < count }
     requires ends { offset + count < 2 ^ 64 }
-    ensures written { HasZeroed (S.features storage.old) (S.bytes storage.old) offset count (S.bytes storage.new)
+    ensures written { HasZeroed (S.features storage.old) (S.bytes storage.old) offset count
+        (S.bytes storage.new)
         result }
-    ensures wraps { IsErrOf result Error.WrapAround → DataWraps (S.features storage.old) offset count }
+    ensures wraps { IsErrOf result Error.WrapAround
+        → DataWraps (S.features storage.old) offset count }
     ensures fits { OnOk result (¬ DataWraps (S.features storage.old) offset count) }
     ensures features { S.features storage.new ≡ S.features storage.old }
     ensures only { IfErr result IsExtRefusal }
@@ -311,7 +336,8 @@ fn zero_as_data<S: Storage>(
         → (¬ RequestMayRunOut (S.features storage.old) (length (S.bytes storage.old))
         (offset + count + (len_align (S.features storage.old) - 1)))
         → storage.new ≡ storage.old }
-    ensures work { IsEdgedWork 2 (len_align (S.features storage.old)) (zero_piece (S.features storage.old)) count (S.work storage.old) (S.work storage.new) }
+    ensures work { IsEdgedWork 2 (len_align (S.features storage.old))
+        (zero_piece (S.features storage.old)) count (S.work storage.old) (S.work storage.new) }
 {
     let align = length_align(&*storage);
     let piece = align.max(ZERO_PIECE);
@@ -345,7 +371,8 @@ fn zero_as_data<S: Storage>(
     )
 }
 
-/// Writes zeroes as data from a multiple of the request alignment on, in pieces from a buffer of zeroes.
+/// Writes zeroes as data from a multiple of the request alignment on, in pieces from a buffer of
+/// zeroes.
 fn zero_pieces<S: Storage>(
     storage: &mut S,
     zeroes: &[u8],
@@ -363,7 +390,8 @@ fn zero_pieces<S: Storage>(
     requires start { offset % (S.features storage.old).req_align ≡ 0 }
     requires some { 0 < count }
     requires ends { offset + count < 2 ^ 64 }
-    ensures written { HasZeroed (S.features storage.old) (S.bytes storage.old) offset count (S.bytes storage.new)
+    ensures written { HasZeroed (S.features storage.old) (S.bytes storage.old) offset count
+        (S.bytes storage.new)
         result }
     ensures wraps { IsErrOf result Error.WrapAround → Wraps (S.features storage.old) offset count }
     ensures fits { OnOk result (¬ Wraps (S.features storage.old) offset count) }
@@ -374,7 +402,8 @@ fn zero_pieces<S: Storage>(
     ensures memory { IsErrOf result Error.Memory
         → RequestMayRunOut (S.features storage.old) (length (S.bytes storage.old))
         (offset + count + (len_align (S.features storage.old) - 1)) }
-    ensures work { IsEdgedWork 1 (len_align (S.features storage.old)) piece count (S.work storage.old) (S.work storage.new) }
+    ensures work { IsEdgedWork 1 (len_align (S.features storage.old)) piece count
+        (S.work storage.old) (S.work storage.new) }
 {
     let mut done = 0;
     while done < count {

@@ -1,4 +1,5 @@
-//! Tests: storages, and requests of any alignment on them. What tests share stands in `imago_test_storages`,
+//! Tests: storages, and requests of any alignment on them. What tests share stands in
+//! `imago_test_storages`,
 //! `imago_test_drivers` and `imago_test_tables`; nothing else is here.
 #![tactic(auto)]
 

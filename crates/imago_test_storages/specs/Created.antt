@@ -5,7 +5,8 @@ use Rattle.imago_storage.specs.Options.{OpenOptions, CreateOptions}
 use Rattle.imago_storage.specs.Openings.{Openings}
 
 -- by a name: so many zeroes; without one nothing is found
-abbrev pub IsByName : {S : Type 0} → (S → List ℕ) → (List ℕ → ℕ) → Option (List ℕ) → Result S Error → Type 0
+abbrev pub IsByName : {S : Type 0} → (S → List ℕ) → (List ℕ → ℕ) → Option (List ℕ) → Result S Error
+    → Type 0
 IsByName bytes size (Some name) (Ok s) = bytes s ≡ replicate (size name) 0
 IsByName bytes size (Some name) (Err e) = ⊥
 IsByName bytes size None (Ok s) = ⊥

@@ -1,4 +1,6 @@
-use Rattle.std.specs.Prelude.{◌≡◌, ℕ, ◌+◌, ◌-◌, ◌%◌, ◌<◌, ◌≤◌, Bool, true, false, cond, List, length, slice_index, if◌then◌else◌, nat_eq, nat_lt, max, Option, Some, None, Result, Err}
+use Rattle.std.specs.Prelude.{◌≡◌, ℕ, ◌+◌, ◌-◌, ◌%◌, ◌<◌, ◌≤◌, Bool, true, false, cond, List}
+use Rattle.std.specs.Prelude.{length, slice_index, if◌then◌else◌, nat_eq, nat_lt, max, Option, Some}
+use Rattle.std.specs.Prelude.{None, Result, Err}
 use Rattle.imago_storage.specs.declared.error.Error.{Error}
 use Rattle.imago_storage.specs.declared.error.Error.TheVariants.{Unsupported}
 use Rattle.imago_storage.specs.declared.options.ZeroKind.{ZeroKind}
@@ -30,8 +32,16 @@ features_outside f mem req zeroed = mem_features f.filename mem req zeroed
 abbrev pub IsPlain : Features → Type 0
 IsPlain f = f ≡ mem_features f.filename 1 1 1
 
-pub faulty_lawful : (zero_writes : Bool) (f : Features) → AreAlignments f → AreAlignments (faulty_features zero_writes f)
-faulty_lawful zero_writes f l = record { mem = l.mem; req = l.req; zero = l.zero; discard = l.discard; zero_whole = l.zero_whole; discard_whole = l.discard_whole }
+pub faulty_lawful : (zero_writes : Bool) (f : Features) → AreAlignments f
+    → AreAlignments (faulty_features zero_writes f)
+faulty_lawful zero_writes f l = record {
+  mem = l.mem;
+  req = l.req;
+  zero = l.zero;
+  discard = l.discard;
+  zero_whole = l.zero_whole;
+  discard_whole = l.discard_whole;
+}
 
 -- a zero write that the storage doesn't offer: nothing is changed or counted
 abbrev pub IsNotZeroed : {S : Type 0} → ZeroKind → ℕ → ℕ → S → S → Result (Unit {0}) Error → Type 0
@@ -51,14 +61,18 @@ has_grown All = true
 has_grown (First n) = true
 has_grown Odd = true
 
--- Of the n bytes from the offset on those at the places that the tear says are new, and all others are as they were.
-pub record IsTorn (tear : Tear) (old : List ℕ) (at n : ℕ) (new : ℕ → ℕ) (now : List ℕ) : Type 0 where
-  pub inside : (k : ℕ) → k < n → slice_index now (at + k) ≡ (if is_new tear k then new k else slice_index old (at + k))
-  pub before : (p : ℕ) → p < at → slice_index now p ≡ slice_index old p
-  pub behind : (p : ℕ) → at + n ≤ p → slice_index now p ≡ slice_index old p
+-- Of the n bytes from the offset on those at the places that the tear says are new, and all others
+-- are as they were.
+pub record IsTorn (tear : Tear) (old : List ℕ) (at n : ℕ) (new : ℕ → ℕ) (now : List ℕ) : Type 0
+  where
+    pub inside : (k : ℕ) → k < n → slice_index now (at + k)
+        ≡ (if is_new tear k then new k else slice_index old (at + k))
+    pub before : (p : ℕ) → p < at → slice_index now p ≡ slice_index old p
+    pub behind : (p : ℕ) → at + n ≤ p → slice_index now p ≡ slice_index old p
 
 -- What a refused request leaves: these bytes, and the old length or that of a success.
-pub record IsTornRequest (tear : Tear) (old : List ℕ) (at n : ℕ) (new : ℕ → ℕ) (now : List ℕ) : Type 0 where
+pub record IsTornRequest (tear : Tear) (old : List ℕ) (at n : ℕ) (new : ℕ → ℕ) (now : List ℕ) : Type
+    0 where
   pub torn : IsTorn tear old at n new now
   pub len : length now ≡ (if has_grown tear then max (length old) (at + n) else length old)
 

@@ -17,7 +17,8 @@ refusing_resizes s count = record s { plan = record s.plan { resizes = count } }
 
 -- the same storage, with the call refused that comes after so many
 abbrev pub armed_at : Faulty → ℕ → Tear → Faulty
-armed_at s pass tear = record s { plan = record s.plan { armed = Some (record { pass = pass; tear = tear }) } }
+armed_at s pass tear = record
+    s { plan = record s.plan { armed = Some (record { pass = pass; tear = tear }) } }
 
 -- the same storage, with each shared read refused or none
 abbrev pub failing_reads : Faulty → Bool → Faulty

@@ -22,5 +22,13 @@ abbrev pub IsBeside : {S : Type 0} → S → List ℕ → List ℕ → Type 0
 IsBeside storage relative name = name ≡ codes "beside/" ++ relative
 
 -- its alignments are lawful
-pub recording_lawful : (as_data no_discards : Bool) (f : Features) → AreAlignments f → AreAlignments (recording_features as_data no_discards f)
-recording_lawful as_data no_discards f l = record { mem = l.mem; req = l.req; zero = l.zero; discard = l.discard; zero_whole = l.zero_whole; discard_whole = l.discard_whole }
+pub recording_lawful : (as_data no_discards : Bool) (f : Features) → AreAlignments f
+    → AreAlignments (recording_features as_data no_discards f)
+recording_lawful as_data no_discards f l = record {
+  mem = l.mem;
+  req = l.req;
+  zero = l.zero;
+  discard = l.discard;
+  zero_whole = l.zero_whole;
+  discard_whole = l.discard_whole;
+}

@@ -18,7 +18,8 @@ use imago_storage::storage::{
 use std::alloc::Global;
 use std::fmt;
 
-/// Pure reads by exclusive calls and pure writes, and the bytes of each, refused ones too. The numbers saturate.
+/// Pure reads by exclusive calls and pure writes, and the bytes of each, refused ones too. The
+/// numbers saturate.
 #[derive(Clone, Copy, Debug, PartialEq, Eq, Drop)]
 pub struct Counts {
     /// The reads.
@@ -55,8 +56,10 @@ pub struct Counting {
 impl Counting {
     /// That storage, with nothing counted yet.
     pub fn new(inner: MemStorage) -> Self
-        ensures bytes { ⟦<Counting as Storage>⟧.bytes result ≡ ⟦<MemStorage as Storage>⟧.bytes inner }
-        ensures features { ⟦<Counting as Storage>⟧.features result ≡ ⟦<MemStorage as Storage>⟧.features inner }
+        ensures bytes { ⟦<Counting as Storage>⟧.bytes result ≡ ⟦<MemStorage as Storage>⟧.bytes
+            inner }
+        ensures features { ⟦<Counting as Storage>⟧.features result
+            ≡ ⟦<MemStorage as Storage>⟧.features inner }
         ensures work { ⟦<Counting as Storage>⟧.work result ≡ no_work }
     {
         Counting {
@@ -116,8 +119,10 @@ impl Storage for Counting {
       synced = λ a b r. ⟦<MemStorage as Storage>⟧.maintenance.synced a.inner b.inner r;
       invalidated = λ a b r. ⟦<MemStorage as Storage>⟧.maintenance.invalidated a.inner b.inner r;
       settled = λ a b r. ⟦<MemStorage as Storage>⟧.maintenance.settled a.inner b.inner r;
-      discarded = λ at n a b r. ⟦<MemStorage as Storage>⟧.maintenance.discarded at n a.inner b.inner r;
-      resized = λ n mode a b r. ⟦<MemStorage as Storage>⟧.maintenance.resized n mode a.inner b.inner r;
+      discarded = λ at n a b r. ⟦<MemStorage as Storage>⟧.maintenance.discarded at n a.inner b.inner
+          r;
+      resized = λ n mode a b r. ⟦<MemStorage as Storage>⟧.maintenance.resized n mode a.inner b.inner
+          r;
       counted = IsAnyRead;
       zeroed_in_place = IsAnyZeroing;
       zeroed = IsNoZeroing;
@@ -170,11 +175,16 @@ impl Storage for Counting {
     }
 
     fn pure_readv_mut(&mut self, buf: &mut [u8], offset: u64) -> Result<(), Error>
-        requires { IsAlignedRequest (⟦<Counting as Storage>⟧.features self.old) offset (length buf.old) }
-        ensures bytes { OnOk result (IsReadAt (⟦<Counting as Storage>⟧.bytes self.old) offset buf.new) }
-        ensures unchanged { ⟦<Counting as Storage>⟧.bytes self.new ≡ ⟦<Counting as Storage>⟧.bytes self.old }
-        ensures features { ⟦<Counting as Storage>⟧.features self.new ≡ ⟦<Counting as Storage>⟧.features self.old }
-        ensures counted { ⟦<Counting as Storage>⟧.work self.new ≡ after_read (length buf.old) (⟦<Counting as Storage>⟧.work
+        requires { IsAlignedRequest (⟦<Counting as Storage>⟧.features self.old) offset
+            (length buf.old) }
+        ensures bytes { OnOk result
+            (IsReadAt (⟦<Counting as Storage>⟧.bytes self.old) offset buf.new) }
+        ensures unchanged { ⟦<Counting as Storage>⟧.bytes self.new ≡ ⟦<Counting as Storage>⟧.bytes
+            self.old }
+        ensures features { ⟦<Counting as Storage>⟧.features self.new
+            ≡ ⟦<Counting as Storage>⟧.features self.old }
+        ensures counted { ⟦<Counting as Storage>⟧.work self.new ≡ after_read (length buf.old)
+            (⟦<Counting as Storage>⟧.work
             self.old) }
         ensures only { IfErr result IsDeviceOrMemory }
         ensures cause { CountsFaults (⟦<Counting as Storage>⟧.features self.old).is_reliable
@@ -190,7 +200,8 @@ impl Storage for Counting {
     }
 
     fn pure_writev(&mut self, source: &[u8], offset: u64) -> Result<(), Error>
-        requires { IsAlignedRequest (⟦<Counting as Storage>⟧.features self.old) offset (length source.now) }
+        requires { IsAlignedRequest (⟦<Counting as Storage>⟧.features self.old) offset
+            (length source.now) }
         ensures written { WriteOutcome (⟦<Counting as Storage>⟧.features self.old).keeps_data
             (⟦<Counting as Storage>⟧.bytes self.old)
             (splice (⟦<Counting as Storage>⟧.bytes self.old) offset source.now)
@@ -202,7 +213,8 @@ impl Storage for Counting {
         ensures atomic { IsTrue (⟦<Counting as Storage>⟧.features self.old).atomic
             → OnErr result (⟦<Counting as Storage>⟧.bytes self.new ≡ ⟦<Counting as Storage>⟧.bytes
             self.old) }
-        ensures features { ⟦<Counting as Storage>⟧.features self.new ≡ ⟦<Counting as Storage>⟧.features self.old }
+        ensures features { ⟦<Counting as Storage>⟧.features self.new
+            ≡ ⟦<Counting as Storage>⟧.features self.old }
         ensures counted { ⟦<Counting as Storage>⟧.work self.new ≡ after_write (length source.now)
             (⟦<Counting as Storage>⟧.work self.old) }
         ensures only { IfErr result IsDeviceOrMemory }

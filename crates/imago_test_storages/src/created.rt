@@ -13,8 +13,8 @@ use imago_storage::storage::{
 use std::alloc::Global;
 use std::fmt;
 
-/// Zeroes that are created by a name and a size, or opened by a name: as many as the name has bytes. Without a name it is
-/// [`Error::NotFound`].
+/// Zeroes that are created by a name and a size, or opened by a name: as many as the name has
+/// bytes. Without a name it is [`Error::NotFound`].
 #[derive(Drop)]
 pub struct Created {
     inner: Null,

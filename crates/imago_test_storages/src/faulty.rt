@@ -1,5 +1,7 @@
 //! A storage whose device fails when it is told to.
-ghost use Rattle.std.specs.Prelude.{◌≡◌, ◌+◌, ◌^◌, ◌<◌, ◌≤◌, ◌%◌, ◌∷◌, ℕ, [], List, length, max, slice_index, if◌then◌else◌, Bool, true, false, None, Some, OnOk, OnErr, IfErr, IsErrOf, IsOk, refl};
+ghost use Rattle.std.specs.Prelude.{◌≡◌, ◌+◌, ◌^◌, ◌<◌, ◌≤◌, ◌%◌, ◌∷◌, ℕ, [], List, length, max};
+ghost use Rattle.std.specs.Prelude.{slice_index, if◌then◌else◌, Bool, true, false, None, Some};
+ghost use Rattle.std.specs.Prelude.{OnOk, OnErr, IfErr, IsErrOf, IsOk, refl};
 ghost use Rattle.imago_storage.specs.Bytes.{splice};
 ghost use Rattle.imago_storage.specs.Faults.{RoseOrSaturated};
 ghost use Rattle.imago_storage.specs.Features.{Features};
@@ -8,7 +10,10 @@ ghost use Rattle.imago_storage.specs.Maintenance.{IsAnyRead, IsAnyZeroing};
 ghost use Rattle.imago_storage.specs.Mem.{mem_lawful};
 ghost use Rattle.imago_storage.specs.Openings.{no_openings};
 ghost use Rattle.imago_storage.specs.Powers.{IsAlignment};
-ghost use Rattle.imago_test_storages.specs.Faulty.{faulty_features, features_inside, features_outside, IsPlain, IsNotZeroed, faulty_lawful, is_new, has_grown, IsTornRequest, no_faults, refused_next, after_call};
+ghost use Rattle.imago_test_storages.specs.Faulty.{faulty_features, features_inside};
+ghost use Rattle.imago_test_storages.specs.Faulty.{features_outside, IsPlain, IsNotZeroed};
+ghost use Rattle.imago_test_storages.specs.Faulty.{faulty_lawful, is_new, has_grown, IsTornRequest};
+ghost use Rattle.imago_test_storages.specs.Faulty.{no_faults, refused_next, after_call};
 
 use imago_storage::error::Error;
 use imago_storage::mem::MemStorage;
@@ -18,7 +23,8 @@ use imago_storage::storage::{
 use std::alloc::Global;
 use std::fmt;
 
-/// Which bytes of a refused write or zero write are new already. The places of a request are counted from 0.
+/// Which bytes of a refused write or zero write are new already. The places of a request are
+/// counted from 0.
 #[derive(Clone, Copy, Debug, PartialEq, Eq, Drop)]
 pub enum Tear {
     /// None, and the length is as it was.
@@ -110,7 +116,8 @@ fn lengthen(inner: &mut MemStorage, len: u64) -> Result<(), Error>
         (length (⟦<MemStorage as Storage>⟧.bytes inner.old)) len) }
     ensures unchanged { OnErr result
         (⟦<MemStorage as Storage>⟧.bytes inner.new ≡ ⟦<MemStorage as Storage>⟧.bytes inner.old) }
-    ensures features { ⟦<MemStorage as Storage>⟧.features inner.new ≡ ⟦<MemStorage as Storage>⟧.features inner.old }
+    ensures features { ⟦<MemStorage as Storage>⟧.features inner.new
+        ≡ ⟦<MemStorage as Storage>⟧.features inner.old }
     ensures memory { IfErr result (λ e. e ≡ Error.Memory) }
     ensures inside { len ≤ length (⟦<MemStorage as Storage>⟧.bytes inner.old) → IsOk result }
 {
@@ -128,9 +135,11 @@ fn put(inner: &mut MemStorage, at: u64, byte: u8)
     requires plain { IsPlain (⟦<MemStorage as Storage>⟧.features inner.old) }
     requires inside { at < length (⟦<MemStorage as Storage>⟧.bytes inner.old) }
     requires ends { at + 1 < 2 ^ 64 }
-    ensures bytes { ⟦<MemStorage as Storage>⟧.bytes inner.new ≡ splice (⟦<MemStorage as Storage>⟧.bytes inner.old) at
+    ensures bytes { ⟦<MemStorage as Storage>⟧.bytes inner.new
+        ≡ splice (⟦<MemStorage as Storage>⟧.bytes inner.old) at
         (byte ∷ []) }
-    ensures features { ⟦<MemStorage as Storage>⟧.features inner.new ≡ ⟦<MemStorage as Storage>⟧.features inner.old }
+    ensures features { ⟦<MemStorage as Storage>⟧.features inner.new
+        ≡ ⟦<MemStorage as Storage>⟧.features inner.old }
 {
     let _ = inner.pure_writev(&[byte], at);
 }
@@ -145,7 +154,8 @@ fn put_if_new(inner: &mut MemStorage, tear: Tear, offset: u64, place: u64, byte:
         inner.old) (offset + place) (byte ∷ []) }
     ensures stays { is_new tear place ≡ false
         → ⟦<MemStorage as Storage>⟧.bytes inner.new ≡ ⟦<MemStorage as Storage>⟧.bytes inner.old }
-    ensures features { ⟦<MemStorage as Storage>⟧.features inner.new ≡ ⟦<MemStorage as Storage>⟧.features inner.old }
+    ensures features { ⟦<MemStorage as Storage>⟧.features inner.new
+        ≡ ⟦<MemStorage as Storage>⟧.features inner.old }
 {
     if takes(tear, place) {
         put(inner, offset + place, byte);
@@ -161,9 +171,11 @@ fn tear_write(inner: &mut MemStorage, source: &[u8], offset: u64, tear: Tear) ->
         (λ k. slice_index source.now k) (⟦<MemStorage as Storage>⟧.bytes inner.new)) }
     ensures unchanged { OnErr result
         (⟦<MemStorage as Storage>⟧.bytes inner.new ≡ ⟦<MemStorage as Storage>⟧.bytes inner.old) }
-    ensures features { ⟦<MemStorage as Storage>⟧.features inner.new ≡ ⟦<MemStorage as Storage>⟧.features inner.old }
+    ensures features { ⟦<MemStorage as Storage>⟧.features inner.new
+        ≡ ⟦<MemStorage as Storage>⟧.features inner.old }
     ensures memory { IfErr result (λ e. e ≡ Error.Memory) }
-    ensures inside { offset + length source.now ≤ length (⟦<MemStorage as Storage>⟧.bytes inner.old) → IsOk result }
+    ensures inside { offset + length source.now ≤ length (⟦<MemStorage as Storage>⟧.bytes inner.old)
+        → IsOk result }
 {
     if !grows(tear) {
         return Ok(());
@@ -184,9 +196,11 @@ fn tear_zeroes(inner: &mut MemStorage, offset: u64, count: u64, tear: Tear) -> R
         (⟦<MemStorage as Storage>⟧.bytes inner.new)) }
     ensures unchanged { OnErr result
         (⟦<MemStorage as Storage>⟧.bytes inner.new ≡ ⟦<MemStorage as Storage>⟧.bytes inner.old) }
-    ensures features { ⟦<MemStorage as Storage>⟧.features inner.new ≡ ⟦<MemStorage as Storage>⟧.features inner.old }
+    ensures features { ⟦<MemStorage as Storage>⟧.features inner.new
+        ≡ ⟦<MemStorage as Storage>⟧.features inner.old }
     ensures memory { IfErr result (λ e. e ≡ Error.Memory) }
-    ensures inside { offset + count ≤ length (⟦<MemStorage as Storage>⟧.bytes inner.old) → IsOk result }
+    ensures inside { offset + count ≤ length (⟦<MemStorage as Storage>⟧.bytes inner.old)
+        → IsOk result }
 {
     if !grows(tear) {
         return Ok(());
@@ -198,9 +212,9 @@ fn tear_zeroes(inner: &mut MemStorage, offset: u64, count: u64, tear: Tear) -> R
     Ok(())
 }
 
-/// Bytes in memory behind a device that fails when it is told to. It keeps what is written, isn't reliable, and a refused
-/// write may leave a part of its bytes. What it counts as a call is an exclusive pure read, a pure write, a pure zero
-/// write and a pure discard.
+/// Bytes in memory behind a device that fails when it is told to. It keeps what is written, isn't
+/// reliable, and a refused write may leave a part of its bytes. What it counts as a call is an
+/// exclusive pure read, a pure write, a pure zero write and a pure discard.
 #[derive(Drop)]
 pub struct Faulty {
     inner: MemStorage,
@@ -217,7 +231,8 @@ pub struct Faulty {
 }
 
 impl Faulty {
-    ghost use Rattle.imago_test_storages.specs.FaultyPlan.{plan_of, not_zeroing, refusing_resizes, armed_at, failing_reads};
+    ghost use Rattle.imago_test_storages.specs.FaultyPlan.{plan_of, not_zeroing, refusing_resizes};
+    ghost use Rattle.imago_test_storages.specs.FaultyPlan.{armed_at, failing_reads};
 
     /// That storage, with a device that doesn't fail yet.
     pub fn new(inner: MemStorage) -> Self
@@ -261,8 +276,9 @@ impl Faulty {
         self.plan.resizes = count;
     }
 
-    /// The next `pass` calls go through, and the one after is [`Error::Device`] and leaves what the tear says. A growth that
-    /// it lacks the memory for is [`Error::Memory`] in its place, with nothing changed.
+    /// The next `pass` calls go through, and the one after is [`Error::Device`] and leaves what the
+    /// tear says. A growth that it lacks the memory for is [`Error::Memory`] in its place, with
+    /// nothing changed.
     pub fn arm(&mut self, pass: u64, tear: Tear)
         ensures { self.new ≡ armed_at self.old pass tear }
     {
@@ -319,7 +335,9 @@ impl fmt::Display for Faulty {
 impl Storage for Faulty {
     ghost bytes = { λ s. ⟦<MemStorage as Storage>⟧.bytes s.inner };
 
-    ghost features = { λ s. faulty_features s.zero_writes (features_outside (⟦<MemStorage as Storage>⟧.features s.inner) s.mem_align s.req_align s.zero_align) };
+    ghost features = { λ s. faulty_features s.zero_writes
+        (features_outside (⟦<MemStorage as Storage>⟧.features s.inner) s.mem_align s.req_align
+        s.zero_align) };
 
     ghost fault_count = { λ s. s.plan.faults };
 
@@ -331,7 +349,8 @@ impl Storage for Faulty {
       invalidated = λ a b r. ⟦<MemStorage as Storage>⟧.maintenance.invalidated a.inner b.inner r;
       settled = λ a b r. ⟦<MemStorage as Storage>⟧.maintenance.settled a.inner b.inner r;
       discarded = λ _ _ a b _. b.inner ≡ a.inner;
-      resized = λ n mode a b r. ⟦<MemStorage as Storage>⟧.maintenance.resized n mode a.inner b.inner r;
+      resized = λ n mode a b r. ⟦<MemStorage as Storage>⟧.maintenance.resized n mode a.inner b.inner
+          r;
       counted = IsAnyRead;
       zeroed_in_place = IsAnyZeroing;
       zeroed = IsNotZeroed;
@@ -339,7 +358,10 @@ impl Storage for Faulty {
 
     ghost openings = { no_openings };
 
-    ghost lawful = { λ s. faulty_lawful s.zero_writes (features_outside (⟦<MemStorage as Storage>⟧.features s.inner) s.mem_align s.req_align s.zero_align) (mem_lawful (⟦<MemStorage as Storage>⟧.features s.inner).filename s.mem_align s.req_align s.zero_align s.mem_power s.req_power s.zero_power s.zero_whole) };
+    ghost lawful = { λ s. faulty_lawful s.zero_writes
+        (features_outside (⟦<MemStorage as Storage>⟧.features s.inner) s.mem_align s.req_align
+        s.zero_align) (mem_lawful (⟦<MemStorage as Storage>⟧.features s.inner).filename s.mem_align
+        s.req_align s.zero_align s.mem_power s.req_power s.zero_power s.zero_whole) };
 
     fn open(opts: StorageOpenOptions) -> Result<Self, Error> {
         let _ = opts;

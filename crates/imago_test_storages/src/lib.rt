@@ -1,7 +1,8 @@
-//! Storages for tests: one that fails where a test says so, one that counts what reaches it, one that records it, one that can be
-//! created, and zeroes in blocks.
+//! Storages for tests: one that fails where a test says so, one that counts what reaches it, one
+//! that records it, one that can be created, and zeroes in blocks.
 //!
-//! They keep the laws of a storage by proof, so that a test of what stands above them tests that alone.
+//! They keep the laws of a storage by proof, so that a test of what stands above them tests that
+//! alone.
 #![tactic(auto)]
 
 pub mod counting;

@@ -4,7 +4,8 @@ ghost use Rattle.imago_storage.specs.IoCount.{no_work};
 ghost use Rattle.imago_storage.specs.Maintenance.{IsAnyRead, IsAnyZeroing, IsNoZeroing};
 ghost use Rattle.imago_storage.specs.MemParts.{alignments_of};
 ghost use Rattle.imago_storage.specs.Openings.{no_openings};
-ghost use Rattle.imago_test_storages.specs.Recording.{zeroing, discarding, recording_features, recording_lawful, IsBeside};
+ghost use Rattle.imago_test_storages.specs.Recording.{zeroing, discarding, recording_features};
+ghost use Rattle.imago_test_storages.specs.Recording.{recording_lawful, IsBeside};
 
 use imago_storage::error::Error;
 use imago_storage::mem::MemStorage;
@@ -71,8 +72,8 @@ impl Log {
     }
 }
 
-/// Bytes in memory, and a record of the first 16 calls that reach them by an exclusive borrow, refused ones too. A relative
-/// name is put behind `beside/`.
+/// Bytes in memory, and a record of the first 16 calls that reach them by an exclusive borrow,
+/// refused ones too. A relative name is put behind `beside/`.
 #[derive(Drop)]
 pub struct Recording {
     inner: MemStorage,
@@ -85,8 +86,10 @@ pub struct Recording {
 impl Recording {
     /// That storage, with nothing recorded yet.
     pub fn new(inner: MemStorage) -> Self
-        ensures bytes { ⟦<Recording as Storage>⟧.bytes result ≡ ⟦<MemStorage as Storage>⟧.bytes inner }
-        ensures features { ⟦<Recording as Storage>⟧.features result ≡ ⟦<MemStorage as Storage>⟧.features inner }
+        ensures bytes { ⟦<Recording as Storage>⟧.bytes result ≡ ⟦<MemStorage as Storage>⟧.bytes
+            inner }
+        ensures features { ⟦<Recording as Storage>⟧.features result
+            ≡ ⟦<MemStorage as Storage>⟧.features inner }
     {
         Recording {
             inner,
@@ -97,10 +100,13 @@ impl Recording {
         }
     }
 
-    /// Zero writes in place are [`Error::Unsupported`] from now on, so that both pure zero writes are made as data.
+    /// Zero writes in place are [`Error::Unsupported`] from now on, so that both pure zero writes
+    /// are made as data.
     pub fn with_zeroes_as_data(mut self) -> Self
-        ensures bytes { ⟦<Recording as Storage>⟧.bytes result ≡ ⟦<Recording as Storage>⟧.bytes self }
-        ensures features { ⟦<Recording as Storage>⟧.features result ≡ zeroing (⟦<Recording as Storage>⟧.features self) }
+        ensures bytes { ⟦<Recording as Storage>⟧.bytes result ≡ ⟦<Recording as Storage>⟧.bytes
+            self }
+        ensures features { ⟦<Recording as Storage>⟧.features result
+            ≡ zeroing (⟦<Recording as Storage>⟧.features self) }
     {
         self.zeroes_as_data = true;
         self
@@ -108,8 +114,10 @@ impl Recording {
 
     /// Pure discards are [`Error::Unsupported`] from now on.
     pub fn without_discards(mut self) -> Self
-        ensures bytes { ⟦<Recording as Storage>⟧.bytes result ≡ ⟦<Recording as Storage>⟧.bytes self }
-        ensures features { ⟦<Recording as Storage>⟧.features result ≡ discarding (⟦<Recording as Storage>⟧.features self) }
+        ensures bytes { ⟦<Recording as Storage>⟧.bytes result ≡ ⟦<Recording as Storage>⟧.bytes
+            self }
+        ensures features { ⟦<Recording as Storage>⟧.features result
+            ≡ discarding (⟦<Recording as Storage>⟧.features self) }
     {
         self.no_discards = true;
         self
@@ -127,8 +135,10 @@ impl Recording {
 
     /// Forgets the calls so far.
     pub fn clear(&mut self)
-        ensures bytes { ⟦<Recording as Storage>⟧.bytes self.new ≡ ⟦<Recording as Storage>⟧.bytes self.old }
-        ensures features { ⟦<Recording as Storage>⟧.features self.new ≡ ⟦<Recording as Storage>⟧.features self.old }
+        ensures bytes { ⟦<Recording as Storage>⟧.bytes self.new ≡ ⟦<Recording as Storage>⟧.bytes
+            self.old }
+        ensures features { ⟦<Recording as Storage>⟧.features self.new
+            ≡ ⟦<Recording as Storage>⟧.features self.old }
     {
         self.log.count = 0;
         self.shared.set(Log::new());
@@ -151,7 +161,8 @@ impl fmt::Display for Recording {
 impl Storage for Recording {
     ghost bytes = { λ s. ⟦<MemStorage as Storage>⟧.bytes s.inner };
 
-    ghost features = { λ s. recording_features s.zeroes_as_data s.no_discards (⟦<MemStorage as Storage>⟧.features s.inner) };
+    ghost features = { λ s. recording_features s.zeroes_as_data s.no_discards
+        (⟦<MemStorage as Storage>⟧.features s.inner) };
 
     ghost fault_count = { λ _. 0 };
 
@@ -163,7 +174,8 @@ impl Storage for Recording {
       invalidated = λ a b r. ⟦<MemStorage as Storage>⟧.maintenance.invalidated a.inner b.inner r;
       settled = λ a b r. ⟦<MemStorage as Storage>⟧.maintenance.settled a.inner b.inner r;
       discarded = λ _ _ a b _. b.inner ≡ a.inner;
-      resized = λ n mode a b r. ⟦<MemStorage as Storage>⟧.maintenance.resized n mode a.inner b.inner r;
+      resized = λ n mode a b r. ⟦<MemStorage as Storage>⟧.maintenance.resized n mode a.inner b.inner
+          r;
       counted = IsAnyRead;
       zeroed_in_place = IsAnyZeroing;
       zeroed = IsNoZeroing;
@@ -171,7 +183,8 @@ impl Storage for Recording {
 
     ghost openings = { record no_openings { resolved = IsBeside } };
 
-    ghost lawful = { λ s. recording_lawful s.zeroes_as_data s.no_discards (⟦<MemStorage as Storage>⟧.features s.inner) (alignments_of s.inner) };
+    ghost lawful = { λ s. recording_lawful s.zeroes_as_data s.no_discards
+        (⟦<MemStorage as Storage>⟧.features s.inner) (alignments_of s.inner) };
 
     fn open(opts: StorageOpenOptions) -> Result<Self, Error> {
         let _ = opts;

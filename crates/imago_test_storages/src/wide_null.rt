@@ -13,7 +13,8 @@ use imago_storage::storage::{
 use std::alloc::Global;
 use std::fmt;
 
-/// A [`Null`] whose alignments are all 4096, so that the last block of one as long as can be doesn't end within `u64`.
+/// A [`Null`] whose alignments are all 4096, so that the last block of one as long as can be
+/// doesn't end within `u64`.
 #[derive(Drop)]
 pub struct WideNull {
     inner: Null,

@@ -112,7 +112,8 @@ fn pure_read<S: Storage>(
     Ok(())
 }
 
-/// Reads bytes by one call through an exclusive borrow, and sees that they are those that are expected.
+/// Reads bytes by one call through an exclusive borrow, and sees that they are those that are
+/// expected.
 fn pure_read_mut<S: Storage>(
     rt: &impl Abort,
     alloc: Global,

@@ -17,7 +17,8 @@ fn size_of<S: Storage>(storage: Result<S, Error>) -> Result<u64, Error> {
     storage?.size()
 }
 
-/// Without a name such a storage isn't opened but refused so, and it is created as it is expected to be.
+/// Without a name such a storage isn't opened but refused so, and it is created as it is expected
+/// to be.
 fn is_created<S: Storage>(
     rt: &impl Abort,
     alloc: Global,

@@ -1,6 +1,7 @@
 //! Scripts: calls on a storage, with what each has to answer and to leave.
 //!
-//! A test's run refuses one request for memory at most. So what is refused is made again, and has its memory then.
+//! A test's run refuses one request for memory at most. So what is refused is made again, and has
+//! its memory then.
 use super::make::Told;
 use super::set_up::{copied, is_old_or_new, owned, runs, same, total};
 use super::subject::{Kind, Subject};
@@ -117,7 +118,8 @@ pub(super) fn check_all(rt: &impl Abort, alloc: Global, scripts: &[Script]) {
     }
 }
 
-/// Where a script stands: its storage, what was armed last, and how often the device has failed in an exclusive call.
+/// Where a script stands: its storage, what was armed last, and how often the device has failed in
+/// an exclusive call.
 #[derive(Drop)]
 struct State {
     subject: Subject,
@@ -146,7 +148,8 @@ impl State {
         }
     }
 
-    /// Makes a call. Where it is refused for memory, each byte is old or new, and the next try has its memory.
+    /// Makes a call. Where it is refused for memory, each byte is old or new, and the next try has
+    /// its memory.
     fn make(
         &mut self,
         rt: &impl Abort,

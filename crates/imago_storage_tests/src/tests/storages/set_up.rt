@@ -3,7 +3,8 @@ use std::alloc::Global;
 use std::fmt::{Debug, Display};
 use std::process::Abort;
 
-/// A value is the one that is expected. A call of this costs less proof than the macro in its place.
+/// A value is the one that is expected. A call of this costs less proof than the macro in its
+/// place.
 pub(super) fn same<T: PartialEq + Debug>(rt: &impl Abort, found: &T, expected: &T) {
     assert_eq!(rt; found, expected);
 }

@@ -1,4 +1,5 @@
-//! The storages that scripts are made on. Each function names the types of one, so that the proofs of the tests stay short.
+//! The storages that scripts are made on. Each function names the types of one, so that the proofs
+//! of the tests stay short.
 use super::make::{Told, make};
 use super::script::{Call, NAME};
 use imago_storage::mem::MemStorage;
@@ -118,7 +119,8 @@ impl Subject {
         }
     }
 
-    /// How often the device has failed in an exclusive call, or what is expected where it isn't counted.
+    /// How often the device has failed in an exclusive call, or what is expected where it isn't
+    /// counted.
     pub(super) fn faults(&self, expected: u64) -> u64 {
         match self {
             Subject::Faulty(storage) | Subject::LentFaulty(storage) => storage.faults(),

@@ -7,7 +7,8 @@ use imago_test_storages::faulty::Tear;
 use std::alloc::Global;
 use std::process::Abort;
 
-/// The length of the storage, and the range that is changed. It begins and ends inside a block of 8 and of 512.
+/// The length of the storage, and the range that is changed. It begins and ends inside a block of 8
+/// and of 512.
 const SIZE: usize = 2048;
 
 const OFFSET: usize = 515;
@@ -54,8 +55,8 @@ fn make_for_sure(
     }
 }
 
-/// Makes the change with a failure at that call, and answers whether it was refused. Once the device has failed, it is
-/// made again and succeeds.
+/// Makes the change with a failure at that call, and answers whether it was refused. Once the
+/// device has failed, it is made again and succeeds.
 fn is_refused(
     rt: &impl Abort,
     alloc: Global,
@@ -121,12 +122,14 @@ fn bytes(rt: &impl Abort, alloc: Global, written: Option<bool>) -> (Vec<u8>, Vec
     (before, after)
 }
 
-/// A change, the storage that it is made on, whether it writes bytes, zeroes or nothing, and how many calls it makes over blocks of
+/// A change, the storage that it is made on, whether it writes bytes, zeroes or nothing, and how
+/// many calls it makes over blocks of
 /// 1, of 8 and of 512 bytes.
 ///
-/// In blocks of 1 byte a change makes one call. In others a block is read and written at each end, and the blocks between
-/// are written. Without zero writes what stands before the first block is written as data, and what follows: both
-/// read and write a block, and the second one writes whole blocks too.
+/// In blocks of 1 byte a change makes one call. In others a block is read and written at each end,
+/// and the blocks between are written. Without zero writes what stands before the first block is
+/// written as data, and what follows: both read and write a block, and the second one writes whole
+/// blocks too.
 static CHANGES: [(Kind, Call, Option<bool>, [u64; 3]); 8] = [
     (
         Kind::Faulty,
