@@ -62,29 +62,44 @@ pub(crate) fn zero_any<S: Storage>(
     let Some((start, end)) = aligned_blocks(align, offset, count) else {
         return Err(Error::WrapAround);
     };
-    zero_range(storage, alloc, offset, count, start, end, kind)
+    let range = ZeroRange {
+        offset,
+        count,
+        start,
+        end,
+    };
+    zero_range(storage, alloc, range, kind)
 }
 
-/// Zeroes a range whose aligned part stands from `start` to `end`.
-fn zero_range<S: Storage>(
-    storage: &mut S,
-    alloc: Global,
+/// A range, and its part from `start` to `end` that is aligned for zero writes. The part is empty
+/// where it ends by its start. All in bytes.
+#[derive(Clone, Copy)]
+struct ZeroRange {
     offset: u64,
     count: u64,
     start: u64,
     end: u64,
+}
+
+/// Zeroes a range that isn't empty.
+fn zero_range<S: Storage>(
+    storage: &mut S,
+    alloc: Global,
+    range: ZeroRange,
     kind: ZeroKind,
 ) -> Result<(), Error>
-    requires part { IsAlignedPart (S.features storage.old).zero_align offset count start end }
-    requires some { 0 < count }
+    requires part { IsAlignedPart (S.features storage.old).zero_align range.offset range.count
+        range.start range.end }
+    requires some { 0 < range.count }
     ensures { IsRangeZeroing S.features S.bytes S.fault_count S.work S.maintenance kind
-        (zero_support (S.features storage.old) kind) offset count storage.old storage.new result }
+        (zero_support (S.features storage.old) kind) range.offset range.count storage.old
+        storage.new result }
 {
-    if end <= start {
-        return zero_as_data(storage, alloc, offset, count);
+    if range.end <= range.start {
+        return zero_as_data(storage, alloc, range.offset, range.count);
     }
-    match zero_part_and_edges(storage, alloc, offset, count, start, end, kind) {
-        Err(Error::Unsupported) => zero_as_data(storage, alloc, offset, count),
+    match zero_part_and_edges(storage, alloc, range, kind) {
+        Err(Error::Unsupported) => zero_as_data(storage, alloc, range.offset, range.count),
         Err(refusal) => Err(refusal),
         Ok(()) => Ok(()),
     }
@@ -96,63 +111,55 @@ fn zero_range<S: Storage>(
 fn zero_part_and_edges<S: Storage>(
     storage: &mut S,
     alloc: Global,
-    offset: u64,
-    count: u64,
-    start: u64,
-    end: u64,
+    range: ZeroRange,
     kind: ZeroKind,
 ) -> Result<(), Error>
-    requires part { IsAlignedPart (S.features storage.old).zero_align offset count start end }
-    requires some { start < end }
-    ensures written { HasZeroed (S.features storage.old) (S.bytes storage.old) offset count
+    requires part { IsAlignedPart (S.features storage.old).zero_align range.offset range.count
+        range.start range.end }
+    requires some { range.start < range.end }
+    ensures written { HasZeroed (S.features storage.old) (S.bytes storage.old) range.offset
+        range.count
         (S.bytes storage.new)
         result }
     ensures wraps { IsErrOf result Error.WrapAround
-        → EdgeWraps (S.features storage.old) offset count }
-    ensures fits { OnOk result (¬ EdgeWraps (S.features storage.old) offset count) }
+        → EdgeWraps (S.features storage.old) range.offset range.count }
+    ensures fits { OnOk result (¬ EdgeWraps (S.features storage.old) range.offset range.count) }
     ensures offered { IsErrOf result Error.Unsupported
         → MayBeUnsupported (zero_support (S.features storage.old) kind)
-        (S.features storage.old).mem_align (end - start) }
+        (S.features storage.old).mem_align (range.end - range.start) }
     ensures refused { zero_support (S.features storage.old) kind ≡ AsData
-        → (end - start) % (S.features storage.old).mem_align ≢ 0
+        → (range.end - range.start) % (S.features storage.old).mem_align ≢ 0
         → IsErrOf result Error.Unsupported ⊎ IsErrOf result Error.Memory }
     ensures features { S.features storage.new ≡ S.features storage.old }
     ensures only { IfErr result IsZeroRefusal }
     ensures cause { CountsFaults (S.features storage.old).is_reliable (S.fault_count storage.old)
         (S.fault_count storage.new) result }
     ensures memory { IsErrOf result Error.Memory
-        → start ≡ offset
-        → end ≡ offset + count
+        → range.start ≡ range.offset
+        → range.end ≡ range.offset + range.count
         → zero_support (S.features storage.old) kind ≡ InPlace
         → MayRunOut (S.features storage.old).zero_memory (length (S.bytes storage.old))
-        (offset + count) }
+        (range.offset + range.count) }
     ensures early { IsErrOf result Error.Memory
         → (¬ ZeroesMayRunOut (S.features storage.old) (length (S.bytes storage.old))
-        (offset + count + (len_align (S.features storage.old) - 1)))
+        (range.offset + range.count + (len_align (S.features storage.old) - 1)))
         → ShowsNoChange S.features S.bytes S.fault_count storage.old storage.new }
     ensures unchanged { IsErrOf result Error.Unsupported
         → ShowsNoChange S.features S.bytes S.fault_count storage.old storage.new }
     ensures performed { ((storage.new ≡ storage.old) × IsErrOf result Error.Memory)
-        ⊎ IsPartAndEdges S.maintenance S.work (S.features storage.old) kind offset count start end
+        ⊎ IsPartAndEdges S.maintenance S.work (S.features storage.old) kind range.offset range.count
+        range.start range.end
         storage.old
         storage.new result }
 {
-    if start == offset && end == offset + count {
-        return zero_part(storage, alloc, start, end - start, kind);
+    if range.start == range.offset && range.end == range.offset + range.count {
+        return zero_part(storage, alloc, range.start, range.end - range.start, kind);
     }
     // all memory is asked for before anything is written
-    let edge = (start - offset).max(offset + count - end);
+    let edge = (range.start - range.offset).max(range.offset + range.count - range.end);
     let mut stock = zero_stock(&*storage, alloc, edge)?;
-    zero_part(storage, alloc, start, end - start, kind)?;
-    zero_edges(
-        storage,
-        &stock.zeroes,
-        &mut stock.block,
-        offset,
-        count,
-        start,
-        end,
-    )
+    zero_part(storage, alloc, range.start, range.end - range.start, kind)?;
+    zero_edges(storage, &stock.zeroes, &mut stock.block, range)
 }
 
 /// Zeroes as data what stands before and behind the aligned part of a range, which is zeroed
@@ -161,36 +168,50 @@ fn zero_edges<S: Storage>(
     storage: &mut S,
     zeroes: &[u8],
     block: &mut [u8],
-    offset: u64,
-    count: u64,
-    start: u64,
-    end: u64,
+    range: ZeroRange,
 ) -> Result<(), Error>
-    requires part { IsAlignedPart (S.features storage.old).zero_align offset count start end }
-    requires some { start < end }
+    requires part { IsAlignedPart (S.features storage.old).zero_align range.offset range.count
+        range.start range.end }
+    requires some { range.start < range.end }
     requires zeroes { zeroes.now ≡ replicate (length zeroes.now) 0 }
-    requires enough { max (start - offset) (offset + count - end) ≤ length zeroes.now }
+    requires enough { max (range.start - range.offset) (range.offset + range.count - range.end)
+        ≤ length zeroes.now }
     requires block { length block.old ≡ len_align (S.features storage.old) }
     ensures written { (old : List ℕ)
-        → HasZeroed {T = Unit {0}} (S.features storage.old) old start (end - start)
+        → HasZeroed {T = Unit {0}} (S.features storage.old) old range.start
+        (range.end - range.start)
         (S.bytes storage.old) (Ok tt)
-        → HasZeroed (S.features storage.old) old offset count (S.bytes storage.new) result }
+        → HasZeroed (S.features storage.old) old range.offset range.count (S.bytes storage.new)
+        result }
     ensures wraps { IsErrOf result Error.WrapAround
-        → EdgeWraps (S.features storage.old) offset count }
-    ensures fits { OnOk result (¬ EdgeWraps (S.features storage.old) offset count) }
+        → EdgeWraps (S.features storage.old) range.offset range.count }
+    ensures fits { OnOk result (¬ EdgeWraps (S.features storage.old) range.offset range.count) }
     ensures features { S.features storage.new ≡ S.features storage.old }
     ensures only { IfErr result IsExtRefusal }
     ensures cause { CountsFaults (S.features storage.old).is_reliable (S.fault_count storage.old)
         (S.fault_count storage.new) result }
     ensures memory { IsErrOf result Error.Memory
         → RequestMayRunOut (S.features storage.old) (length (S.bytes storage.old))
-        (offset + count + (len_align (S.features storage.old) - 1)) }
+        (range.offset + range.count + (len_align (S.features storage.old) - 1)) }
     ensures work { IsEdgedWork 2 (len_align (S.features storage.old))
         (zero_piece (S.features storage.old))
-        (start - offset + (offset + count - end)) (S.work storage.old) (S.work storage.new) }
+        (range.start - range.offset + (range.offset + range.count - range.end)) (S.work storage.old)
+        (S.work storage.new) }
 {
-    zero_from(storage, zeroes, block, offset, start - offset)?;
-    zero_from(storage, zeroes, block, end, offset + count - end)
+    zero_from(
+        storage,
+        zeroes,
+        block,
+        range.offset,
+        range.start - range.offset,
+    )?;
+    zero_from(
+        storage,
+        zeroes,
+        block,
+        range.end,
+        range.offset + range.count - range.end,
+    )
 }
 
 /// Zeroes an aligned range by the storage's zero write of that kind.

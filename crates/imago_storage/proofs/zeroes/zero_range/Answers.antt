@@ -6,24 +6,24 @@ use Rattle.imago_storage.proofs.ZeroWraps.{fits_without_part, fits_by_edges, fit
 use Rattle.imago_storage.proofs.ZeroCalls.{has_part, has_no_part, part_then_data, part_and_edges}
 use Rattle.imago_storage.proofs.zeroes.zero_range.Goals as goal
 
-pub returns-then-end-start : goal.returns-then-end-start
-returns-then-end-start g c =
+pub returns-then-range : goal.returns-then-range
+returns-then-range g c =
     let e = c.zero_as_data.ensures in
     let p = c.requires.part in
     record {
       empty = λ none. absurd (omega (arith, none, c.requires.some));
       written = λ some. e.written;
       wraps = λ some w. absurd (range_fits _ _ _ _ _ p w);
-      may_wrap = λ w. wrap_without_part _ _ _ _ _ _ p c.requires.some c.if-end-start.true (e.wraps w);
-      fits = λ some. OnOk_map _ (fits_without_part _ _ _ _ _ _ p c.if-end-start.true) e.fits;
+      may_wrap = λ w. wrap_without_part _ _ _ _ _ _ p c.requires.some c.if-range.true (e.wraps w);
+      fits = λ some. OnOk_map _ (fits_without_part _ _ _ _ _ _ p c.if-range.true) e.fits;
       features = e.features;
       only = e.only;
       cause = e.cause;
       memory = λ m aligned in_place.
           let same = part_of_aligned _ _ _ _ _ (power_positive _ (g.met.S.Storage.lawful c.args.storage.now).zero) c.requires.some aligned p in
-          absurd (omega (arith, same.0, same.1, c.if-end-start.true, c.requires.some));
+          absurd (omega (arith, same.0, same.1, c.if-range.true, c.requires.some));
       early = λ m none. shows_same _ _ _ _ _ (e.early m (λ may. none (inl may)));
-      performed = λ some fits. inr (inr (inr (λ has. has_no_part (g.S.Storage.features c.args.storage.now) _ _ _ _ p c.if-end-start.true has, e.work)));
+      performed = λ some fits. inr (inr (inr (λ has. has_no_part (g.S.Storage.features c.args.storage.now) _ _ _ _ p c.if-range.true has, e.work)));
     }
 
 pub returns-in-Err-Unsupported : goal.returns-in-Err-Unsupported
