@@ -6,7 +6,8 @@ use Rattle.imago_storage.specs.Bytes.{SameOutside}
 use Rattle.imago_storage.specs.Error.{IsDeviceOrMemory, IsPureRefusal, IsExtRefusal}
 use Rattle.imago_storage.specs.Faults.{CountsFaults}
 use Rattle.imago_storage.specs.Features.{Features, ZeroSupport, InPlace, AsData, IsAlignedRequest}
-use Rattle.imago_storage.specs.Features.{IsAlignedTo, MayRunOut, MayBeUnsupported, RequestMayRunOut}
+use Rattle.imago_storage.specs.Features.{IsAlignedTo, MayRunOut, OthersMayRunOut, MayBeUnsupported}
+use Rattle.imago_storage.specs.Features.{RequestMayRunOut}
 use Rattle.imago_storage.specs.Features.{ZeroesMayRunOut, len_align}
 use Rattle.imago_storage.specs.IoCount.{IoCount, IsWriteWork, AddsAtMost}
 use Rattle.imago_storage.specs.Maintenance.{Maintenance, IsDiscarded}
@@ -102,7 +103,7 @@ pub record IsRangeDiscard {S : Type 0} (features_of : S → Features) (bytes_of 
   pub features : features_of new ≡ features_of old
   pub only : IfErr result IsExtRefusal
   pub cause : CountsFaults (features_of old).is_reliable (faults_of old) (faults_of new) result
-  pub memory : IsErrOf result Error.Memory → MayRunOut (features_of old).other_memory 0 0
+  pub memory : IsErrOf result Error.Memory → OthersMayRunOut (features_of old)
 
 -- An aligned zero write of that kind, in place or else as data, by how the storage zeroes.
 pub record IsPureZeroing {S : Type 0} (features_of : S → Features) (bytes_of : S → List ℕ)
@@ -137,5 +138,5 @@ pub record IsMaintained {S : Type 0} (features_of : S → Features) (bytes_of : 
   pub features : features_of new ≡ features_of old
   pub only : IfErr result IsDeviceOrMemory
   pub cause : CountsFaults (features_of old).is_reliable (faults_of old) (faults_of new) result
-  pub memory : IsErrOf result Error.Memory → MayRunOut (features_of old).other_memory 0 0
+  pub memory : IsErrOf result Error.Memory → OthersMayRunOut (features_of old)
   pub performed : relation old new result

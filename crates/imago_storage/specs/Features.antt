@@ -96,6 +96,10 @@ pub record MayBeUnsupported (z : ZeroSupport) (mem_align n : ℕ) : Type 0 where
 abbrev pub RequestMayRunOut : Features → ℕ → ℕ → Type 0
 RequestMayRunOut f len end = MayRunOut f.read_memory len end ⊎ MayRunOut f.write_memory len end
 
+-- a call that is no read, write, zero write or resize may run out of memory
+abbrev pub OthersMayRunOut : Features → Type 0
+OthersMayRunOut f = MayRunOut f.other_memory 0 0
+
 -- a zero write up to that end may do so, with its reads and writes
 abbrev pub ZeroesMayRunOut : Features → ℕ → ℕ → Type 0
 ZeroesMayRunOut f len end = RequestMayRunOut f len end ⊎ MayRunOut f.zero_memory len end

@@ -10,7 +10,7 @@ ghost use Rattle.imago_storage.specs.Error.{IsDeviceOrMemory, IsNameRefusal, IsP
 ghost use Rattle.imago_storage.specs.Faults.{CountsFaults};
 ghost use Rattle.imago_storage.specs.Features.{Features, InPlace, MayRunOut, zero_support};
 ghost use Rattle.imago_storage.specs.Features.{zero_piece, AreAlignments, IsAlignedRequest};
-ghost use Rattle.imago_storage.specs.Features.{IsAlignedTo};
+ghost use Rattle.imago_storage.specs.Features.{IsAlignedTo, OthersMayRunOut};
 ghost use Rattle.imago_storage.specs.Powers.{IsAlignment};
 ghost use Rattle.imago_storage.specs.IoCount.{IoCount, AddsAtMost, IsInPieces};
 ghost use Rattle.imago_storage.specs.Maintenance.{Maintenance};
@@ -25,7 +25,7 @@ use std::alloc::Global;
 use std::fmt::Display;
 
 /// The size up to which zeroes are written as data in one piece, in bytes.
-pub(crate) const ZERO_PIECE: u64 = 1048576;
+pub const ZERO_PIECE: u64 = 1048576;
 
 /// Whether that number can be an alignment: a power of two. It tests what constructors require of
 /// theirs.
@@ -37,7 +37,7 @@ pub fn is_alignment(align: usize) -> bool
 }
 
 /// That many zero bytes. Refused, it is [`Error::Memory`].
-pub(crate) fn zero_buffer(alloc: Global, count: usize) -> Result<Vec<u8>, Error>
+pub fn zero_buffer(alloc: Global, count: usize) -> Result<Vec<u8>, Error>
     ensures zeroes { IfOk result (λ v. v.items ≡ replicate count 0) }
     ensures memory { IfErr result (λ e. e ≡ Error.Memory) }
 {
@@ -116,7 +116,7 @@ pub trait Storage: Display + Drop + Sized {
         ensures only { IfErr result IsDeviceOrMemory }
         ensures device { IsErrOf result Error.Device → (features self.now).is_reliable ≡ false }
         ensures memory { IsErrOf result Error.Memory
-            → MayRunOut (features self.now).other_memory 0 0 };
+            → OthersMayRunOut (features self.now) };
 
     /// The name of a storage that is given relative to this one, as `open` takes it. A storage
     /// whose names aren't relative to one another answers [`Error::Unsupported`]; one that knows
@@ -301,7 +301,7 @@ pub trait Storage: Display + Drop + Sized {
             (fault_count self.new)
             result }
         ensures memory { IsErrOf result Error.Memory
-            → MayRunOut (features self.old).other_memory 0 0 }
+            → OthersMayRunOut (features self.old) }
         ensures performed { maintenance.discarded offset count self.old self.new result };
 
     /// Writes what the storage buffers. No byte changes.
