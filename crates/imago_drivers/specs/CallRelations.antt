@@ -22,7 +22,8 @@ OnRange Self = ℕ → ℕ → Changing Self (ℕ × ℕ)
 abbrev pub Preparing : Type 0 → Type 0 → Type 1
 Preparing Self St = LayerBelow → ℕ → ℕ → Bool → Changing Self (PreparedDataMapping St)
 
--- A data mapping over the layer below, by the same: it answers the storage, the offset there and the length.
+-- A data mapping over the layer below, by the same: it answers the storage, the offset there and
+-- the length.
 abbrev pub Ensuring : Type 0 → Type 1
 Ensuring Self = LayerBelow → ℕ → ℕ → Bool → Changing Self (ℕ × ℕ × ℕ)
 
@@ -30,14 +31,19 @@ abbrev pub Committing : Type 0 → Type 0 → Type 1
 Committing Self St = PreparedDataMapping St → Changing Self (Unit {0})
 
 -- A data mapping that is a preparing and a commit.
-abbrev pub IsEnsuredInParts : {Self St : Type 0} → Preparing Self St → Committing Self St → Ensuring Self
+abbrev pub IsEnsuredInParts : {Self St : Type 0} → Preparing Self St → Committing Self St
+    → Ensuring Self
 IsEnsuredInParts {Self} {St} prepared committed below o n overwrite old new (Ok r) =
-    (m : PreparedDataMapping St) × (mid : Self) × prepared below o n overwrite old mid (Ok m) × committed m mid new (Ok tt) × (r.0 ≡ m.storage) × (r.1 ≡ m.offset) × (r.2 ≡ m.length)
-IsEnsuredInParts {Self} {St} prepared committed below o n overwrite old new (Err e) = prepared below o n overwrite old new (Err e)
-    ⊎ ((m : PreparedDataMapping St) × (mid : Self) × prepared below o n overwrite old mid (Ok m) × committed m mid new (Err e))
+    (m : PreparedDataMapping St) × (mid : Self) × prepared below o n overwrite old mid (Ok m)
+    × committed m mid new (Ok tt) × (r.0 ≡ m.storage) × (r.1 ≡ m.offset) × (r.2 ≡ m.length)
+IsEnsuredInParts {Self} {St} prepared committed below o n overwrite old new (Err e) = prepared below
+    o n overwrite old new (Err e)
+    ⊎ ((m : PreparedDataMapping St) × (mid : Self) × prepared below o n overwrite old mid (Ok m)
+    × committed m mid new (Err e))
 
--- What each call of a driver is. Nothing but the call itself gives its relation over a driver that isn't known: so over any driver a call
--- that is promised by its relation was made, once, with these arguments, and its answer is the one that is told.
+-- What each call of a driver is. Nothing but the call itself gives its relation over a driver that
+-- isn't known: so over any driver a call that is promised by its relation was made, once, with
+-- these arguments, and its answer is the one that is told.
 pub record Calls (Self St : Type 0) : Type 1 where
   -- where the bytes of a range stand, by its offset and the length that is asked for
   pub mapped : ℕ → ℕ → Asking Self (ShallowMapping × ℕ)
@@ -50,14 +56,16 @@ pub record Calls (Self St : Type 0) : Type 1 where
   pub discarded_to_zero : OnRange Self
   pub discarded_to_any : OnRange Self
   pub discarded_to_backing : OnRange Self
-  -- a mapping is prepared, filled with bytes from a place of it on, and committed or cancelled; or it is ensured, which may be a
-  -- preparing and a commit
+  -- a mapping is prepared, filled with bytes from a place of it on, and committed or cancelled; or
+  -- it is ensured, which may be a preparing and a commit
   pub prepared : Preparing Self St
   pub filled : PreparedDataMapping St → List ℕ → ℕ → Changing Self (Unit {0})
   pub committed : Committing Self St
   pub cancelled : PreparedDataMapping St → Self → Self → Type 0
   pub ensured : Ensuring Self
-  pub by_parts : (below : LayerBelow) (o n : ℕ) (overwrite : Bool) (old new : Self) (result : Result (ℕ × ℕ × ℕ) Error) → IsEnsuredInParts prepared committed below o n overwrite old new result → ensured below o n overwrite old new result
+  pub by_parts : (below : LayerBelow) (o n : ℕ) (overwrite : Bool) (old new : Self)
+      (result : Result (ℕ × ℕ × ℕ) Error) → IsEnsuredInParts prepared committed below o n overwrite
+      old new result → ensured below o n overwrite old new result
   -- to that size; a growth in that mode, over the layer below
   pub grown : ℕ → PreallocateMode → LayerBelow → Changing Self (Unit {0})
   pub cut : ℕ → Changing Self (Unit {0})

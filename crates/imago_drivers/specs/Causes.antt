@@ -1,10 +1,12 @@
 use Rattle.std.specs.Prelude.{ℕ, ◌+◌, ◌<◌, ◌≤◌, ◌⊎◌}
 use Rattle.imago_storage.specs.declared.error.Error.{Error}
-use Rattle.imago_drivers.specs.Operation.{Operation, Map, Read, Write, Zero, DiscardToZero, DiscardToAny, DiscardToBacking, Grow, Shrink, Flush}
+use Rattle.imago_drivers.specs.Operation.{Operation, Map, Read, Write, Zero, DiscardToZero}
+use Rattle.imago_drivers.specs.Operation.{DiscardToAny, DiscardToBacking, Grow, Shrink, Flush}
 use Rattle.imago_drivers.specs.Place.{IsIn}
 use Rattle.imago_drivers.specs.LayerBelow.{LayerBelow}
 
--- A driver's own causes: the refusals that an operation on a range may meet; for a resize the new size and 0.
+-- A driver's own causes: the refusals that an operation on a range may meet; for a resize the new
+-- size and 0.
 abbrev pub Causes : Type 1
 Causes = Operation → ℕ → ℕ → Error → Type 0
 
@@ -12,14 +14,20 @@ Causes = Operation → ℕ → ℕ → Error → Type 0
 abbrev pub Copies : Type 1
 Copies = Operation → ℕ → ℕ → ℕ → Type 0
 
--- the causes of a call that is lent a layer: the driver's own, and those of a read of what the call copies
+-- the causes of a call that is lent a layer: the driver's own, and those of a read of what the call
+-- copies
 abbrev pub CauseOver : Causes → Copies → LayerBelow → Operation → ℕ → ℕ → Error → Type 0
-CauseOver cause copies l op o n e = cause op o n e ⊎ ((q : ℕ) × (m : ℕ) × (0 < m) × ((p : ℕ) → IsIn q m p → copies op o n p) × l.cause q m e)
+CauseOver cause copies l op o n e = cause op o n e
+    ⊎ ((q : ℕ) × (m : ℕ) × (0 < m) × ((p : ℕ) → IsIn q m p → copies op o n p) × l.cause q m e)
 
--- The part of c bytes from o on is done: for any range that holds it, a cause for a part of that range was one for it before.
-pub record IsSettled (of : Operation → Type 0) (old new : Causes) (copies now_copies : Copies) (o c : ℕ) : Type 0 where
-  pub causes : (op : Operation) (a n q m : ℕ) (e : Error) → of op → a ≤ o → o + c ≤ a + n → a ≤ q → q + m ≤ a + n → new op q m e → old op a n e
-  pub copied : (op : Operation) (a n q m p : ℕ) → of op → a ≤ o → o + c ≤ a + n → a ≤ q → q + m ≤ a + n → now_copies op q m p → copies op a n p
+-- The part of c bytes from o on is done: for any range that holds it, a cause for a part of that
+-- range was one for it before.
+pub record IsSettled (of : Operation → Type 0) (old new : Causes) (copies now_copies : Copies)
+    (o c : ℕ) : Type 0 where
+  pub causes : (op : Operation) (a n q m : ℕ) (e : Error) → of op → a ≤ o → o + c ≤ a + n → a ≤ q
+      → q + m ≤ a + n → new op q m e → old op a n e
+  pub copied : (op : Operation) (a n q m p : ℕ) → of op → a ≤ o → o + c ≤ a + n → a ≤ q
+      → q + m ≤ a + n → now_copies op q m p → copies op a n p
 
 -- the operation is one on a range of places: neither a resize nor a flush
 abbrev pub IsOnRange : Operation → Type 0

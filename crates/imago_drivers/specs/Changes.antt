@@ -1,4 +1,5 @@
-use Rattle.std.specs.Prelude.{◌≡◌, ℕ, ◌+◌, ◌<◌, ◌≤◌, ◌⊎◌, Bool, true, List, slice_index, if◌then◌else◌}
+use Rattle.std.specs.Prelude.{◌≡◌, ℕ, ◌+◌, ◌<◌, ◌≤◌, ◌⊎◌, Bool, true, List, slice_index}
+use Rattle.std.specs.Prelude.{if◌then◌else◌}
 use Rattle.imago_drivers.specs.Place.{Value, Byte}
 
 -- how the k-th place of a range changes: its old value and its new one

@@ -1,7 +1,8 @@
 use Rattle.std.specs.Prelude.{◌≡◌, ◌≢◌, ℕ, ◌+◌, ◌<◌, ◌≤◌, ◌⊎◌, Bool, true, false, Some, slice_index}
 use Rattle.imago_storage.specs.declared.error.Error.{Error}
 use Rattle.imago_storage.specs.declared.error.Error.TheVariants as E
-use Rattle.imago_drivers.specs.Operation.{Operation, Map, Read, Write, Zero, DiscardToZero, DiscardToAny, DiscardToBacking, Grow, Shrink, Flush}
+use Rattle.imago_drivers.specs.Operation.{Operation, Map, Read, Write, Zero, DiscardToZero}
+use Rattle.imago_drivers.specs.Operation.{DiscardToAny, DiscardToBacking, Grow, Shrink, Flush}
 use Rattle.imago_drivers.specs.Place.{Place, Stored, Special, Lower, Refused, End, IsIn}
 use Rattle.imago_drivers.specs.View.{View}
 
@@ -10,15 +11,19 @@ pub record IsLawful {St : Type 0} (v : View St) : Type 0 where
   -- a place after an end is an end, and nothing stands past the size
   pub ends : (p q : ℕ) → p ≤ q → v.place p ≡ End → v.place q ≡ End
   pub bounded : (p : ℕ) → v.size ≤ p → v.place p ≡ End
-  -- a stored byte is that of the driver's storage there, and a special byte what the driver gives there
-  pub stored : (p b s o : ℕ) (w : Bool) → v.place p ≡ Stored b s o w → (s < v.stores.count) × (slice_index (v.stores.bytes s) o ≡ b)
+  -- a stored byte is that of the driver's storage there, and a special byte what the driver gives
+  -- there
+  pub stored : (p b s o : ℕ) (w : Bool) → v.place p ≡ Stored b s o w → (s < v.stores.count)
+      × (slice_index (v.stores.bytes s) o ≡ b)
   pub special : (p b o : ℕ) → v.place p ≡ Special b o → v.special o ≡ b
   -- a place leads to the layer below only where the driver takes one
   pub lower : (p q : ℕ) (w : Bool) → v.place p ≡ Lower q w → v.abilities.takes_backing ≡ true
   -- no place shares the storage byte of a writable one
-  pub own : (p q b c s o : ℕ) (w : Bool) → v.place p ≡ Stored b s o true → v.place q ≡ Stored c s o w → p ≡ q
+  pub own : (p q b c s o : ℕ) (w : Bool) → v.place p ≡ Stored b s o true
+      → v.place q ≡ Stored c s o w → p ≡ q
   -- a place is refused as invalid data or as barred from access
-  pub refused : (p : ℕ) (e : Error) → v.place p ≡ Refused e → (e ≡ Error.InvalidData) ⊎ (e ≡ Error.NoAccess)
+  pub refused : (p : ℕ) (e : Error) → v.place p ≡ Refused e → (e ≡ Error.InvalidData)
+      ⊎ (e ≡ Error.NoAccess)
   pub granularity : v.abilities.zero_granularity ≢ Some 0
   pub blocks : v.abilities.block ≢ 0
 
@@ -46,10 +51,14 @@ CauseBound v op o n E.InvalidData = IsRefusedIn v.place o n Error.InvalidData
 CauseBound v op o n E.NoAccess = IsRefusedIn v.place o n Error.NoAccess
 CauseBound v op o n _ = ⊥
 
--- The laws of a driver's causes: one for a part of a range is one for the whole, and the layer below is copied only by a
--- driver that takes one.
+-- The laws of a driver's causes: one for a part of a range is one for the whole, and the layer
+-- below is copied only by a driver that takes one.
 pub record AreCauses {St : Type 0} (v : View St) : Type 0 where
-  pub part : (op : Operation) (o n q m : ℕ) (e : Error) → o ≤ q → q + m ≤ o + n → v.limits.cause op q m e → v.limits.cause op o n e
-  pub part_copied : (op : Operation) (o n q m p : ℕ) → o ≤ q → q + m ≤ o + n → v.limits.copies op q m p → v.limits.copies op o n p
-  pub bound : (op : Operation) (o n : ℕ) (e : Error) → v.limits.cause op o n e → CauseBound v op o n e
-  pub lends : (op : Operation) (o n p : ℕ) → v.limits.copies op o n p → v.abilities.takes_backing ≡ true
+  pub part : (op : Operation) (o n q m : ℕ) (e : Error) → o ≤ q → q + m ≤ o + n
+      → v.limits.cause op q m e → v.limits.cause op o n e
+  pub part_copied : (op : Operation) (o n q m p : ℕ) → o ≤ q → q + m ≤ o + n
+      → v.limits.copies op q m p → v.limits.copies op o n p
+  pub bound : (op : Operation) (o n : ℕ) (e : Error) → v.limits.cause op o n e
+      → CauseBound v op o n e
+  pub lends : (op : Operation) (o n p : ℕ) → v.limits.copies op o n p → v.abilities.takes_backing
+      ≡ true

@@ -19,7 +19,13 @@ pub record LayerBelow : Type 1 where
 
 -- no layer below, which is a layer of no size
 abbrev pub no_layer : LayerBelow
-no_layer = record { size = 0; at = λ _. Byte 0; is_reliable = true; cause = λ _ _ _. ⊥; no_memory = λ _ _. Unit {0} }
+no_layer = record {
+  size = 0;
+  at = λ _. Byte 0;
+  is_reliable = true;
+  cause = λ _ _ _. ⊥;
+  no_memory = λ _ _. Unit {0};
+}
 
 -- the layer that a call is lent, if any
 abbrev pub lent : {B : Type 0} → (B → LayerBelow) → Option (Bor B) → LayerBelow
@@ -37,14 +43,19 @@ ReadBound at o n E.InvalidData = IsUnreadableIn at o n Error.InvalidData
 ReadBound at o n E.NoAccess = IsUnreadableIn at o n Error.NoAccess
 ReadBound at o n _ = ⊥
 
--- What holds of each layer below: it is zero past its size, and a cause for a part of a range is one for the whole.
+-- What holds of each layer below: it is zero past its size, and a cause for a part of a range is
+-- one for the whole.
 pub record IsLayerBelow (l : LayerBelow) : Type 0 where
   pub past : (p : ℕ) → l.size ≤ p → l.at p ≡ Byte 0
   pub part : (o n q m : ℕ) (e : Error) → o ≤ q → q + m ≤ o + n → l.cause q m e → l.cause o n e
   pub bound : (o n : ℕ) (e : Error) → l.cause o n e → ReadBound l.at o n e
 
 pub no_layer_lawful : IsLayerBelow no_layer
-no_layer_lawful = record { past = λ p h. refl; part = λ o n q m e h k c. c; bound = λ o n e c. absurd c }
+no_layer_lawful = record {
+  past = λ p h. refl;
+  part = λ o n q m e h k c. c;
+  bound = λ o n e c. absurd c;
+}
 
 -- why a read of a layer below may be refused
 abbrev pub below_reasons : LayerBelow → ℕ → ℕ → Reasons

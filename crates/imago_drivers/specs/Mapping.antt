@@ -6,7 +6,8 @@ use Rattle.imago_drivers.specs.declared.mapping.ShallowMapping.TheVariants as M
 
 -- the mapping names that place as the i-th from where it was asked for
 abbrev pub Names : ShallowMapping → ℕ → Place → Type 0
-Names (M.Raw storage offset writable) i place = (b : ℕ) × (place ≡ Stored b storage (offset + i) writable)
+Names (M.Raw storage offset writable) i place = (b : ℕ)
+    × (place ≡ Stored b storage (offset + i) writable)
 Names (M.Indirect offset writable) i place = place ≡ Lower (offset + i) writable
 Names (M.Zero explicit) i place = place ≡ Zeroed explicit
 Names M.Eof i place = ⊥

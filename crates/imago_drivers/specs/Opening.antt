@@ -4,7 +4,8 @@ use Rattle.imago_storage.specs.declared.error.Error.TheVariants.{Denied}
 use Rattle.imago_storage.specs.Options.{OpenOptions}
 use Rattle.imago_storage.specs.Openings.{Openings}
 
--- What an opening by a gate is: a relation of the options, the gate before, the gate after, and the answer.
+-- What an opening by a gate is: a relation of the options, the gate before, the gate after, and the
+-- answer.
 abbrev pub Opening : Type 0 → Type 0 → Type 1
 Opening Gate S = OpenOptions → Gate → Gate → Result S Error → Type 0
 

@@ -8,7 +8,8 @@ pub data Value : Type 0 where
 
 -- what stands at an offset of a layer
 pub data Place : Type 0 where
-  -- a byte that stands in a storage of the driver: the byte, the storage's index, the offset there, and whether it may be written there
+  -- a byte that stands in a storage of the driver: the byte, the storage's index, the offset there,
+  -- and whether it may be written there
   Stored : ℕ → ℕ → ℕ → Bool → Place
   -- a zero that stands in no storage, explicit or not
   Zeroed : Bool → Place
@@ -44,25 +45,32 @@ HasValues at o buffer = (k : ℕ) → k < length buffer → at (o + k) ≡ Byte 
 
 -- the n bytes of that storage from the offset on are what stands at the places from o on
 abbrev pub PlacesStandAt : (ℕ → Place) → ℕ → ℕ → ℕ → ℕ → Type 0
-PlacesStandAt place storage offset n o = (i : ℕ) → i < n → (b : ℕ) × (w : Bool) × (place (o + i) ≡ Stored b storage (offset + i) w)
+PlacesStandAt place storage offset n o = (i : ℕ) → i < n → (b : ℕ) × (w : Bool)
+    × (place (o + i) ≡ Stored b storage (offset + i) w)
 
 -- the n special bytes from the offset on are what stands at the places from o on
 abbrev pub PlacesAreSpecialAt : (ℕ → Place) → ℕ → ℕ → ℕ → Type 0
-PlacesAreSpecialAt place offset n o = (i : ℕ) → i < n → (b : ℕ) × (place (o + i) ≡ Special b (offset + i))
+PlacesAreSpecialAt place offset n o = (i : ℕ) → i < n → (b : ℕ)
+    × (place (o + i) ≡ Special b (offset + i))
 
 -- each of the n bytes of that storage from the offset on is a writable place's
 abbrev pub BytesAreWritable : (ℕ → Place) → ℕ → ℕ → ℕ → Type 0
-BytesAreWritable place storage offset n = (i : ℕ) → i < n → (p : ℕ) × (b : ℕ) × (place p ≡ Stored b storage (offset + i) true)
+BytesAreWritable place storage offset n = (i : ℕ) → i < n → (p : ℕ) × (b : ℕ)
+    × (place p ≡ Stored b storage (offset + i) true)
 
 -- the places from o on are writable, and stand in that storage from the offset on
 abbrev pub PlacesAreWritableAt : (ℕ → Place) → ℕ → ℕ → ℕ → ℕ → Type 0
-PlacesAreWritableAt place storage offset n o = (i : ℕ) → i < n → (b : ℕ) × (place (o + i) ≡ Stored b storage (offset + i) true)
+PlacesAreWritableAt place storage offset n o = (i : ℕ) → i < n → (b : ℕ)
+    × (place (o + i) ≡ Stored b storage (offset + i) true)
 
 -- one of the n bytes of that storage from the offset on is no writable place's
 abbrev pub HasStranger : (ℕ → Place) → ℕ → ℕ → ℕ → Type 0
-HasStranger place storage offset n = (i : ℕ) × (i < n) × ((p b : ℕ) → place p ≡ Stored b storage (offset + i) true → ⊥)
+HasStranger place storage offset n = (i : ℕ) × (i < n)
+    × ((p b : ℕ) → place p ≡ Stored b storage (offset + i) true → ⊥)
 
--- Each stored place keeps where it stands and its mark; where the storages keep data, all places are as they were.
+-- Each stored place keeps where it stands and its mark; where the storages keep data, all places
+-- are as they were.
 pub record SamePlaces (keeps_data : Bool) (old new : ℕ → Place) : Type 0 where
-  pub stored : (p b s f : ℕ) (w : Bool) → old p ≡ Stored b s f w → (c : ℕ) × (new p ≡ Stored c s f w)
+  pub stored : (p b s f : ℕ) (w : Bool) → old p ≡ Stored b s f w → (c : ℕ)
+      × (new p ≡ Stored c s f w)
   pub same : IsTrue keeps_data → (p : ℕ) → new p ≡ old p

@@ -14,8 +14,10 @@ pub record IsPartAlignedTo (align o n part_start part_length : ℕ) : Type 0 whe
   pub len : part_length ≡ aligned_end align o n - aligned_start align o
   pub start : 0 < part_length → part_start ≡ aligned_start align o
 
--- The n bytes from the offset on are those, or, where the change was torn, each maybe its old one; all others are as they were.
+-- The n bytes from the offset on are those, or, where the change was torn, each maybe its old one;
+-- all others are as they were.
 pub record HasBytes (torn : Bool) (at n : ℕ) (byte : ℕ → ℕ) (old now : List ℕ) : Type 0 where
-  pub inside : (k : ℕ) → k < n → (slice_index now (at + k) ≡ byte k) ⊎ ((torn ≡ true) × (slice_index now (at + k) ≡ slice_index old (at + k)))
+  pub inside : (k : ℕ) → k < n → (slice_index now (at + k) ≡ byte k)
+      ⊎ ((torn ≡ true) × (slice_index now (at + k) ≡ slice_index old (at + k)))
   pub before : (p : ℕ) → p < at → slice_index now p ≡ slice_index old p
   pub behind : (p : ℕ) → at + n ≤ p → slice_index now p ≡ slice_index old p

@@ -1,6 +1,8 @@
-use Rattle.std.specs.Prelude.{◌≡◌, ℕ, ◌+◌, ◌-◌, ◌≤◌, Bool, true, false, List, length, slice_index, if◌then◌else◌, nat_lt, min, None}
+use Rattle.std.specs.Prelude.{◌≡◌, ℕ, ◌+◌, ◌-◌, ◌≤◌, Bool, true, false, List, length, slice_index}
+use Rattle.std.specs.Prelude.{if◌then◌else◌, nat_lt, min, None}
 use Rattle.imago_storage.specs.declared.error.Error.TheVariants as E
-use Rattle.imago_storage.specs.Features.{Features, InPlace, MayRunOut, IsAlignedRequest, IsAlignedTo}
+use Rattle.imago_storage.specs.Features.{Features, InPlace, MayRunOut, OthersMayRunOut}
+use Rattle.imago_storage.specs.Features.{IsAlignedRequest, IsAlignedTo}
 use Rattle.imago_storage.specs.Padding.{Wraps}
 use Rattle.imago_storage.specs.Zeroes.{MayWrap}
 use Rattle.imago_storage.specs.declared.options.PreallocateMode.{PreallocateMode}
@@ -8,7 +10,8 @@ use Rattle.imago_storage.specs.declared.options.PreallocateMode.TheVariants as S
 use Rattle.imago_drivers.specs.declared.format.PreallocateMode.{PreallocateMode as ImageMode}
 use Rattle.imago_drivers.specs.declared.format.PreallocateMode.TheVariants as Mode
 use Rattle.imago_drivers.specs.declared.format.Format.TheVariants as Format
-use Rattle.imago_drivers.specs.Operation.{Operation, Map, Read, Write, Zero, DiscardToZero, DiscardToAny, DiscardToBacking, Grow, Shrink, Flush}
+use Rattle.imago_drivers.specs.Operation.{Operation, Map, Read, Write, Zero, DiscardToZero}
+use Rattle.imago_drivers.specs.Operation.{DiscardToAny, DiscardToBacking, Grow, Shrink, Flush}
 use Rattle.imago_drivers.specs.Place.{Place, Stored, End}
 use Rattle.imago_drivers.specs.Causes.{Causes}
 use Rattle.imago_drivers.specs.Ranges.{HasWrappingPart, IsPartAlignedTo}
@@ -57,20 +60,25 @@ pub record IsZeroedInPlace (f : Features) (size len o n : ℕ) : Type 0 where
   pub in_place : f.zeroes ≡ InPlace
   pub no_growth : MayRunOut f.zero_memory len (o + n) → ⊥
 
--- an operation on a raw image over a storage of `len` bytes that takes no memory: aligned, inside, and none by the storage
+-- an operation on a raw image over a storage of `len` bytes that takes no memory: aligned, inside,
+-- and none by the storage
 abbrev pub raw_no_memory : Features → ℕ → ℕ → Operation → ℕ → ℕ → Type 0
 raw_no_memory f size len Map o n = Unit {0}
-raw_no_memory f size len Read o n = (o + n ≤ size) × IsAlignedRequest f o n × (MayRunOut f.read_memory len (o + n) → ⊥)
-raw_no_memory f size len Write o n = (o + n ≤ size) × IsAlignedRequest f o n × (MayRunOut f.write_memory len (o + n) → ⊥)
+raw_no_memory f size len Read o n = (o + n ≤ size) × IsAlignedRequest f o n
+    × (MayRunOut f.read_memory len (o + n) → ⊥)
+raw_no_memory f size len Write o n = (o + n ≤ size) × IsAlignedRequest f o n
+    × (MayRunOut f.write_memory len (o + n) → ⊥)
 raw_no_memory f size len Zero o n = IsZeroedInPlace f size len o n
 raw_no_memory f size len DiscardToZero o n = IsZeroedInPlace f size len o n
-raw_no_memory f size len DiscardToAny o n = (o + n ≤ size) × IsAlignedTo f.discard_align o n × (MayRunOut f.other_memory 0 0 → ⊥)
+raw_no_memory f size len DiscardToAny o n = (o + n ≤ size) × IsAlignedTo f.discard_align o n
+    × (OthersMayRunOut f → ⊥)
 raw_no_memory f size len DiscardToBacking o n = IsZeroedInPlace f size len o n
 raw_no_memory f size len (Grow mode) o n = MayRunOut f.resize_memory len o → ⊥
 raw_no_memory f size len Shrink o n = MayRunOut f.resize_memory len o → ⊥
-raw_no_memory f size len Flush o n = MayRunOut f.other_memory 0 0 → ⊥
+raw_no_memory f size len Flush o n = OthersMayRunOut f → ⊥
 
--- an operation on that range of a raw image is done at once: inside the disk, and aligned where it zeroes or discards
+-- an operation on that range of a raw image is done at once: inside the disk, and aligned where it
+-- zeroes or discards
 abbrev pub raw_whole : Features → ℕ → Operation → ℕ → ℕ → Type 0
 raw_whole f size Map o n = o + n ≤ size
 raw_whole f size Read o n = o + n ≤ size
@@ -83,8 +91,8 @@ raw_whole f size (Grow mode) o n = Unit {0}
 raw_whole f size Shrink o n = Unit {0}
 raw_whole f size Flush o n = Unit {0}
 
--- how long an operation on a raw image may make its storage: written and zeroed ranges are padded, and a growth makes it as
--- long as the new size
+-- how long an operation on a raw image may make its storage: written and zeroed ranges are padded,
+-- and a growth makes it as long as the new size
 abbrev pub raw_longest : Features → Operation → ℕ → ℕ → ℕ
 raw_longest f Map o n = 0
 raw_longest f Read o n = 0
@@ -105,7 +113,8 @@ storage_mode_of Mode.FormatAllocate = StorageMode.Zero
 storage_mode_of Mode.FullAllocate = StorageMode.Allocate
 storage_mode_of Mode.WriteData = StorageMode.WriteData
 
--- which part of a range an operation on a raw image does: the mapped rest of the disk, or the aligned part
+-- which part of a range an operation on a raw image does: the mapped rest of the disk, or the
+-- aligned part
 abbrev pub raw_answers : Features → ℕ → Operation → ℕ → ℕ → ℕ → ℕ → Type 0
 raw_answers f size Map o n q m = m ≡ min n (size - o)
 raw_answers f size Write o n q m = m ≡ n

@@ -14,7 +14,15 @@ pub record Reasons : Type 1 where
 
 -- no refusal at all
 abbrev pub none : Reasons
-none = record { read_only = ⊥; beyond_disk = ⊥; range_overflow = ⊥; cause = λ _. ⊥; device = ⊥; memory = ⊥; foreign_mapping = ⊥ }
+none = record {
+  read_only = ⊥;
+  beyond_disk = ⊥;
+  range_overflow = ⊥;
+  cause = λ _. ⊥;
+  device = ⊥;
+  memory = ⊥;
+  foreign_mapping = ⊥;
+}
 
 -- that refusal has one of these reasons; no call of a driver answers the last two
 abbrev pub allowed : Reasons → Error → Type 0

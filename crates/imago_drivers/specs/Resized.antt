@@ -19,11 +19,15 @@ grown_into Mode.WriteData takes_backing below p w = w ≡ given_back takes_backi
 abbrev pub IsListed : {St : Type 0} → View St → Type 0
 IsListed v = (p : ℕ) → p < v.size → v.place p ≡ End → ⊥
 
--- A growth: the size is the larger one, old places show what they showed, and new ones what the mode says.
-pub record IsGrown {St : Type 0} (mode : PreallocateMode) (below : ℕ → Value) (new_size : ℕ) (old new : View St) : Type 0 where
+-- A growth: the size is the larger one, old places show what they showed, and new ones what the
+-- mode says.
+pub record IsGrown {St : Type 0} (mode : PreallocateMode) (below : ℕ → Value) (new_size : ℕ)
+    (old new : View St) : Type 0 where
   pub size : new.size ≡ max old.size new_size
-  pub kept : IsTrue old.abilities.keeps_data → (p : ℕ) → p < old.size → values below new.place p ≡ values below old.place p
-  pub added : IsTrue old.abilities.keeps_data → (p : ℕ) → old.size ≤ p → p < new_size → grown_into mode old.abilities.takes_backing below p (values below new.place p)
+  pub kept : IsTrue old.abilities.keeps_data → (p : ℕ) → p < old.size → values below new.place p
+      ≡ values below old.place p
+  pub added : IsTrue old.abilities.keeps_data → (p : ℕ) → old.size ≤ p → p < new_size
+      → grown_into mode old.abilities.takes_backing below p (values below new.place p)
   -- no place becomes an end, and a list as long as the disk stays so
   pub ends : (p : ℕ) → p < old.size → new.place p ≡ End → old.place p ≡ End
   pub listed : IsListed old → IsListed new
@@ -31,7 +35,8 @@ pub record IsGrown {St : Type 0} (mode : PreallocateMode) (below : ℕ → Value
 -- A cut: the size is the smaller one, and the places below it show what they showed.
 pub record IsCut {St : Type 0} (new_size : ℕ) (old new : View St) : Type 0 where
   pub size : new.size ≡ min old.size new_size
-  pub kept : IsTrue old.abilities.keeps_data → (below : ℕ → Value) (p : ℕ) → p < new.size → values below new.place p ≡ values below old.place p
+  pub kept : IsTrue old.abilities.keeps_data → (below : ℕ → Value) (p : ℕ) → p < new.size
+      → values below new.place p ≡ values below old.place p
   pub ends : (p : ℕ) → p < new.size → new.place p ≡ End → old.place p ≡ End
 
 -- A refused resize left everything, and cut no storage.

@@ -1,8 +1,10 @@
 use Rattle.std.specs.Prelude.{ℕ, ◌+◌, ◌^◌, ◌≤◌, max}
 use Rattle.imago_storage.specs.Features.{Features, len_align}
-use Rattle.imago_drivers.specs.Operation.{Operation, Map, Read, Write, Zero, DiscardToZero, DiscardToAny, DiscardToBacking, Grow, Shrink, Flush}
+use Rattle.imago_drivers.specs.Operation.{Operation, Map, Read, Write, Zero, DiscardToZero}
+use Rattle.imago_drivers.specs.Operation.{DiscardToAny, DiscardToBacking, Grow, Shrink, Flush}
 
--- The range ends at least one alignment before the greatest offset, so nothing of it wraps around when it is padded.
+-- The range ends at least one alignment before the greatest offset, so nothing of it wraps around
+-- when it is padded.
 abbrev pub HasRoom : Features → ℕ → ℕ → Type 0
 HasRoom f o n = o + n + max (len_align f) f.zero_align ≤ 2 ^ 64
 

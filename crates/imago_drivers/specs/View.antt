@@ -22,13 +22,15 @@ pub record Abilities : Type 0 where
   -- moves none but those of its range
   pub block : ℕ
 
--- A driver's storages: how many there are, and of each, by its index, the bytes and what never changes in it.
+-- A driver's storages: how many there are, and of each, by its index, the bytes and what never
+-- changes in it.
 pub record Stores : Type 0 where
   pub count : ℕ
   pub bytes : ℕ → List ℕ
   pub features : ℕ → Features
 
--- What a driver's calls may meet, take and do, by their operation and range; for a resize the new size and 0.
+-- What a driver's calls may meet, take and do, by their operation and range; for a resize the new
+-- size and 0.
 pub record Limits : Type 1 where
   -- the refusals that are the driver's own
   pub cause : Causes
@@ -45,7 +47,8 @@ pub record Limits : Type 1 where
   -- how long, in bytes, the storage of that index may become, where it isn't as long already
   pub longest : Operation → ℕ → ℕ → ℕ → ℕ
 
--- A driver as its callers see it: a layer, which is a size and what stands at each offset, and what its calls may do.
+-- A driver as its callers see it: a layer, which is a size and what stands at each offset, and what
+-- its calls may do.
 pub record View (St : Type 0) : Type 1 where
   pub abilities : Abilities
   -- the disk's size, in bytes

@@ -3,7 +3,10 @@ ghost use Rattle.std.specs.Prelude.{◌≡◌, Some, None, IfOk, IfErr, IsOk, op
 ghost use Rattle.std.specs.Option.{option_copied};
 ghost use Rattle.std.specs.String.{string_bytes};
 ghost use Rattle.imago_storage.specs.Options.{open_options};
-ghost use Rattle.imago_drivers.specs.Builder.{OpenSettings, CreateSettings, HandedIn, AtPath, unset, unsized, image_path, storage_options, IsImageStorage, ImageOpening, ImageCreation, IsImageOf};
+ghost use Rattle.imago_drivers.specs.Builder.{OpenSettings, CreateSettings, HandedIn, AtPath};
+ghost use Rattle.imago_drivers.specs.Builder.{unset, unsized, image_path, storage_options};
+ghost use Rattle.imago_drivers.specs.Builder.{IsImageStorage, ImageOpening, ImageCreation};
+ghost use Rattle.imago_drivers.specs.Builder.{IsImageOf};
 ghost use Rattle.imago_drivers.specs.declared.format.Format.{Format as ImageFormat};
 ghost use Rattle.imago_drivers.specs.BuilderBase.{open_settings, create_settings};
 
@@ -16,8 +19,9 @@ use std::alloc::Global;
 
 /// Prepares the opening of an image: its options are set one by one, and then it is opened.
 ///
-/// An image is that of a storage which is handed in, or of the one under a path, which a gate opens. It isn't writable
-/// unless that is set. A builder of one format may have more options than these.
+/// An image is that of a storage which is handed in, or of the one under a path, which a gate
+/// opens. It isn't writable unless that is set. A builder of one format may have more options than
+/// these.
 pub trait FormatDriverBuilder<S: Storage>: Drop + Sized {
     /// The driver of the opened image.
     type Format: FormatDriverInstance<Storage = S>;
@@ -46,17 +50,20 @@ pub trait FormatDriverBuilder<S: Storage>: Drop + Sized {
     fn write(self, writable: bool) -> Self
         ensures { settings result ≡ record (settings self) { writable = writable } };
 
-    /// Sets the options that storages are opened with. Their file name and whether they are writable don't count: both are set
-    /// for each storage.
+    /// Sets the options that storages are opened with. Their file name and whether they are
+    /// writable don't count: both are set for each storage.
     fn storage_open_options(self, options: StorageOpenOptions) -> Self
-        ensures { settings result ≡ record (settings self) { options = Some (open_options options) } };
+        ensures { settings result
+            ≡ record (settings self) { options = Some (open_options options) } };
 
-    /// Opens the image. The gate is asked for the storage of a path, and not for one that was handed in. What the gate, the
-    /// storage or the driver refuses is passed on, and lets a storage that was handed in go.
+    /// Opens the image. The gate is asked for the storage of a path, and not for one that was
+    /// handed in. What the gate, the storage or the driver refuses is passed on, and lets a storage
+    /// that was handed in go.
     fn open<G: ImplicitOpenGate<S>>(self, alloc: Global, gate: G) -> Result<Self::Format, Error>
         ensures opened { opens _ G.opened gate self result }
         ensures format { IfOk result (λ r. (Self.Format.view r).abilities.format ≡ FORMAT) }
-        ensures image { IfOk result (λ r. IsImageOf G.opened gate (settings self) S.bytes S.features (Self.Format.view r)) };
+        ensures image { IfOk result (λ r. IsImageOf G.opened gate (settings self) S.bytes S.features
+            (Self.Format.view r)) };
 
     /// The path of the image, or the name of the storage that was handed in, if it has one.
     fn get_image_path(&self) -> Option<&str>
@@ -71,8 +78,9 @@ pub trait FormatDriverBuilder<S: Storage>: Drop + Sized {
         ensures { option_map (λ o. open_options o.now) result ≡ (settings self.now).options };
 }
 
-/// Prepares the creation of an image: its options are set one by one, and then it is made in a storage that was handed in.
-/// What that storage had is given up. A builder of one format may also open what it creates, by a call of its own.
+/// Prepares the creation of an image: its options are set one by one, and then it is made in a
+/// storage that was handed in. What that storage had is given up. A builder of one format may also
+/// open what it creates, by a call of its own.
 pub trait FormatCreateBuilder<S: Storage>: Drop + Sized {
     /// What opens the created image.
     type DriverBuilder: FormatDriverBuilder<S>;
@@ -98,7 +106,8 @@ pub trait FormatCreateBuilder<S: Storage>: Drop + Sized {
     fn preallocate(self, prealloc_mode: PreallocateMode) -> Self
         ensures { settings result ≡ record (settings self) { mode = prealloc_mode } };
 
-    /// Creates the image, and gives its storage back. What is refused is passed on, and lets the storage go.
+    /// Creates the image, and gives its storage back. What is refused is passed on, and lets the
+    /// storage go.
     fn create(self, alloc: Global) -> Result<S, Error>
         ensures { creates self result };
 
@@ -120,7 +129,8 @@ enum StorageOrPath<S> {
     Path(String),
 }
 
-/// What every builder that opens an image has: its storage or path, whether it is writable, and options.
+/// What every builder that opens an image has: its storage or path, whether it is writable, and
+/// options.
 #[derive(Drop)]
 pub struct FormatDriverBuilderBase<S> {
     image: StorageOrPath<S>,
@@ -160,7 +170,8 @@ impl<S: Storage> FormatDriverBuilderBase<S> {
 
     /// Sets the options that storages are opened with.
     pub fn set_storage_open_options(&mut self, options: StorageOpenOptions)
-        ensures { open_settings self.new ≡ record (open_settings self.old) { options = Some (open_options options) } }
+        ensures { open_settings self.new
+            ≡ record (open_settings self.old) { options = Some (open_options options) } }
     {
         self.storage_opts = Some(options);
     }
@@ -189,10 +200,11 @@ impl<S: Storage> FormatDriverBuilderBase<S> {
         self.storage_opts.as_ref()
     }
 
-    /// Options to open a storage with: a copy of the set ones, or new ones, and writable as the image is. Refused, it is
-    /// [`Error::Memory`], which only the copy of a file name takes.
+    /// Options to open a storage with: a copy of the set ones, or new ones, and writable as the
+    /// image is. Refused, it is [`Error::Memory`], which only the copy of a file name takes.
     pub fn make_storage_opts(&self, alloc: Global) -> Result<StorageOpenOptions, Error>
-        ensures made { IfOk result (λ o. open_options o ≡ storage_options (open_settings self.now)) }
+        ensures made { IfOk result
+            (λ o. open_options o ≡ storage_options (open_settings self.now)) }
         ensures memory { IfErr result (λ e. e ≡ Error.Memory) }
         ensures unnamed { (storage_options (open_settings self.now)).filename ≡ None → IsOk result }
     {
@@ -207,8 +219,8 @@ impl<S: Storage> FormatDriverBuilderBase<S> {
         Ok(opts.filename(String::from_str(alloc, name)?))
     }
 
-    /// The storage of the image: the one that was handed in, or the one that the gate opens for the path. What the gate refuses
-    /// is passed on. It takes no memory beside the gate's.
+    /// The storage of the image: the one that was handed in, or the one that the gate opens for the
+    /// path. What the gate refuses is passed on. It takes no memory beside the gate's.
     pub fn open_image<G: ImplicitOpenGate<S>>(self, alloc: Global, gate: &mut G) -> Result<S, Error>
         ensures { IsImageStorage G.opened (open_settings self) gate.old gate.new result }
     {
@@ -227,7 +239,8 @@ impl<S: Storage> FormatDriverBuilderBase<S> {
     }
 }
 
-/// What every builder that creates an image has: its storage, the disk's size in bytes, and how it is allocated.
+/// What every builder that creates an image has: its storage, the disk's size in bytes, and how it
+/// is allocated.
 #[derive(Drop)]
 pub struct FormatCreateBuilderBase<S> {
     image: S,
@@ -256,7 +269,8 @@ impl<S: Storage> FormatCreateBuilderBase<S> {
 
     /// Sets how the disk is allocated.
     pub fn set_preallocate(&mut self, prealloc_mode: PreallocateMode)
-        ensures { create_settings self.new ≡ record (create_settings self.old) { mode = prealloc_mode } }
+        ensures { create_settings self.new
+            ≡ record (create_settings self.old) { mode = prealloc_mode } }
     {
         self.prealloc_mode = prealloc_mode;
     }

@@ -1,10 +1,14 @@
 //! The interface of a format driver.
-ghost use Rattle.std.specs.Prelude.{◌≡◌, ℕ, ◌+◌, ◌<◌, ◌≤◌, ◌⊎◌, ◌↔◌, ◌&&◌, Option, None, Bool, true, false, List, length, slice_index, slice_get, EachIndex, OnOk, OnErr, IfOk, IfErr, IfSome, IsOk, IsTrue, IsErrOf, MatchOption, is_some};
+ghost use Rattle.std.specs.Prelude.{◌≡◌, ℕ, ◌+◌, ◌<◌, ◌≤◌, ◌⊎◌, ◌↔◌, ◌&&◌, Option, None, Bool};
+ghost use Rattle.std.specs.Prelude.{true, false, List, length, slice_index, slice_get, EachIndex};
+ghost use Rattle.std.specs.Prelude.{OnOk, OnErr, IfOk, IfErr, IfSome, IsOk, IsTrue, IsErrOf};
+ghost use Rattle.std.specs.Prelude.{MatchOption, is_some};
 ghost use Rattle.imago_storage.specs.Error.{IsExtRefusal};
 ghost use Rattle.imago_storage.specs.Bytes.{IsReadAt};
 ghost use Rattle.imago_storage.specs.Faults.{CountsFaults};
 ghost use Rattle.imago_drivers.specs.Parts.{storage_of, offset_of, length_of};
-ghost use Rattle.imago_drivers.specs.Operation.{Map, Read, Write, Zero, DiscardToZero, DiscardToAny, DiscardToBacking};
+ghost use Rattle.imago_drivers.specs.Operation.{Map, Read, Write, Zero, DiscardToZero};
+ghost use Rattle.imago_drivers.specs.Operation.{DiscardToAny, DiscardToBacking};
 ghost use Rattle.imago_drivers.specs.Place.{Refused, values, PlacesStandAt, BytesAreWritable};
 ghost use Rattle.imago_drivers.specs.Outside.{StaysOutside};
 ghost use Rattle.imago_drivers.specs.Reasons.{Reasons, allowed, none};
@@ -12,15 +16,21 @@ ghost use Rattle.imago_drivers.specs.LayerBelow.{lent};
 ghost use Rattle.imago_drivers.specs.Causes.{IsSettled, IsOnRange, AddsNone};
 ghost use Rattle.imago_drivers.specs.Pending.{ShowsRound};
 ghost use Rattle.imago_drivers.specs.View.{View};
-ghost use Rattle.imago_drivers.specs.Changes.{IsChanged, zeroes, unspecified, overwritten, to_backing};
+ghost use Rattle.imago_drivers.specs.Changes.{IsChanged, zeroes, unspecified, overwritten};
+ghost use Rattle.imago_drivers.specs.Changes.{to_backing};
 ghost use Rattle.imago_drivers.specs.Frame.{IsKind, IsFramed, IsUnchanged, ReachesNoMore};
 ghost use Rattle.imago_drivers.specs.Mapping.{IsRight};
-ghost use Rattle.imago_drivers.specs.Done.{HasDone, map_reasons, stored_read_reasons, special_read_reasons, stored_write_reasons, mapping_write_reasons, range_reasons, lending_reasons, driver_reasons};
-ghost use Rattle.imago_drivers.specs.Prepared.{IsPrepared, IsForeignWrite, IsFor, IsPut, IsWritten, IsDataMapping};
+ghost use Rattle.imago_drivers.specs.Done.{HasDone, map_reasons, stored_read_reasons};
+ghost use Rattle.imago_drivers.specs.Done.{special_read_reasons, stored_write_reasons};
+ghost use Rattle.imago_drivers.specs.Done.{mapping_write_reasons, range_reasons, lending_reasons};
+ghost use Rattle.imago_drivers.specs.Done.{driver_reasons};
+ghost use Rattle.imago_drivers.specs.Prepared.{IsPrepared, IsForeignWrite, IsFor, IsPut, IsWritten};
+ghost use Rattle.imago_drivers.specs.Prepared.{IsDataMapping};
 ghost use Rattle.imago_drivers.specs.Commit.{IsCommit, IsCancel};
 ghost use Rattle.imago_drivers.specs.Lengths.{GrowTo, GrowAt};
 ghost use Rattle.imago_drivers.specs.CallRelations.{Calls};
-ghost use Rattle.imago_drivers.specs.Calls.{IsZeroCall, IsDiscard, IsPreparation, IsGrowth, IsShrink, IsFlush};
+ghost use Rattle.imago_drivers.specs.Calls.{IsZeroCall, IsDiscard, IsPreparation, IsGrowth};
+ghost use Rattle.imago_drivers.specs.Calls.{IsShrink, IsFlush};
 ghost use Rattle.imago_drivers.specs.Laws.{IsLawful, AreCauses};
 
 pub use crate::format::{Format, PreallocateMode};
@@ -31,17 +41,20 @@ use imago_storage::storage::Storage;
 use std::alloc::Global;
 use std::fmt::Display;
 
-/// A driver of an image format: it shows a disk, and maps each range of it to where its bytes stand.
+/// A driver of an image format: it shows a disk, and maps each range of it to where its bytes
+/// stand.
 ///
-/// Offsets, lengths and sizes are in bytes. Over a driver that isn't known changing calls may be made only on a writable
-/// one, while no prepared mapping with state waits to be spent, and inside the disk; an image tests this before it calls
-/// its driver. A driver's own calls may ask for less: those of a raw image don't ask whether it is writable. A refused
-/// call of a driver that can't be written to leaves it as it was. Calls that are lent the layer below only read it.
+/// Offsets, lengths and sizes are in bytes. Over a driver that isn't known changing calls may be
+/// made only on a writable one, while no prepared mapping with state waits to be spent, and inside
+/// the disk; an image tests this before it calls its driver. A driver's own calls may ask for less:
+/// those of a raw image don't ask whether it is writable. A refused call of a driver that can't be
+/// written to leaves it as it was. Calls that are lent the layer below only read it.
 ///
-/// A refused call answers [`Error::Device`] only where a device failed: in an exclusive call the count of faults shows
-/// it. It answers [`Error::Memory`] where memory was refused, [`Error::BeyondDisk`] where the driver's list of places
-/// ends inside the range, and [`Error::WrapAround`], [`Error::InvalidData`], [`Error::NoAccess`] and
-/// [`Error::Unsupported`] only where it is a cause of the call.
+/// A refused call answers [`Error::Device`] only where a device failed: in an exclusive call the
+/// count of faults shows it. It answers [`Error::Memory`] where memory was refused,
+/// [`Error::BeyondDisk`] where the driver's list of places ends inside the range, and
+/// [`Error::WrapAround`], [`Error::InvalidData`], [`Error::NoAccess`] and [`Error::Unsupported`]
+/// only where it is a cause of the call.
 ///
 /// What lies outside a call's range, and in no block with one of its bytes, keeps where it stands,
 /// and not its value alone, also where the call is refused. A driver says how large its blocks are.
@@ -61,8 +74,9 @@ pub trait FormatDriverInstance: Display + Drop {
     /// Why it may be refused to tell whether a storage has an image of the format.
     ghost probe_reasons: { Self.Storage → Reasons };
 
-    /// What each call is. Over a driver that isn't known nothing but the call itself gives its relation: so what promises it made the
-    /// call, once, with these arguments, and tells its answer.
+    /// What each call is. Over a driver that isn't known nothing but the call itself gives its
+    /// relation: so what promises it made the call, once, with these arguments, and tells its
+    /// answer.
     ghost calls: { Calls Self Self.State };
 
     /// The image's format.
@@ -121,12 +135,14 @@ pub trait FormatDriverInstance: Display + Drop {
             (Self.Storage.bytes s.now ≡ (view self.now).stores.bytes index) ×
             (Self.Storage.features s.now ≡ (view self.now).stores.features index)) };
 
-    /// What the bytes from the offset on are, and how many of them. The length may pass `max_length`; it is 0 only at
-    /// the end, or where `max_length` is. A place that may not be read is answered by its refusal. The place at the
-    /// offset is always looked at, also where `max_length` is 0.
+    /// What the bytes from the offset on are, and how many of them. The length may pass
+    /// `max_length`; it is 0 only at the end, or where `max_length` is. A place that may not be
+    /// read is answered by its refusal. The place at the offset is always looked at, also where
+    /// `max_length` is 0.
     fn get_mapping(&self, offset: u64, max_length: u64) -> Result<(ShallowMapping, u64), Error>
         ensures right { IfOk result (λ r. IsRight (view self.now).place offset max_length r.0 r.1) }
-        ensures part { IfOk result (λ r. (view self.now).limits.answers Map offset max_length offset r.1) }
+        ensures part { IfOk result (λ r. (view self.now).limits.answers Map offset max_length offset
+            r.1) }
         ensures whole { (view self.now).limits.whole Read offset max_length
             → IfOk result (λ r. max_length ≤ r.1) }
         ensures refused_place { IfErr result
@@ -135,8 +151,8 @@ pub trait FormatDriverInstance: Display + Drop {
         ensures refusals { IfErr result (allowed (map_reasons (view self.now) offset max_length)) }
         ensures answered { calls.mapped offset max_length self.now result };
 
-    /// Fills the buffer with bytes of a storage, as a mapping names them, with 0 past its end. Refused, the buffer is
-    /// unspecified.
+    /// Fills the buffer with bytes of a storage, as a mapping names them, with 0 past its end.
+    /// Refused, the buffer is unspecified.
     fn read_mapped(
         &self,
         alloc: Global,
@@ -145,18 +161,24 @@ pub trait FormatDriverInstance: Display + Drop {
         offset: u64,
     ) -> Result<(), Error>
         requires { storage < (view self.now).stores.count }
-        ensures bytes { OnOk result (IsReadAt ((view self.now).stores.bytes storage) offset buf.new) }
-        ensures refusals { IfErr result (allowed (stored_read_reasons (view self.now) storage offset (length buf.old))) }
+        ensures bytes { OnOk result
+            (IsReadAt ((view self.now).stores.bytes storage) offset buf.new) }
+        ensures refusals { IfErr result
+            (allowed (stored_read_reasons (view self.now) storage offset (length buf.old))) }
         ensures answered { calls.read storage offset (length buf.old) self.now result };
 
-    /// Fills the buffer with special bytes, as a mapping names them. Refused, the buffer is unspecified.
+    /// Fills the buffer with special bytes, as a mapping names them. Refused, the buffer is
+    /// unspecified.
     fn readv_special(&self, alloc: Global, buf: &mut [u8], offset: u64) -> Result<(), Error>
         ensures bytes { OnOk result
-            (EachIndex buf.new (λ k. slice_index buf.new k ≡ (view self.now).special (offset + k))) }
-        ensures refusals { IfErr result (allowed (special_read_reasons (view self.now) offset (length buf.old))) }
+            (EachIndex buf.new (λ k. slice_index buf.new k ≡ (view self.now).special
+            (offset + k))) }
+        ensures refusals { IfErr result
+            (allowed (special_read_reasons (view self.now) offset (length buf.old))) }
         ensures answered { calls.read_special offset (length buf.old) self.now result };
 
-    /// Writes bytes of a storage that a mapping names as writable. Refused, each place of the range is old or new.
+    /// Writes bytes of a storage that a mapping names as writable. Refused, each place of the range
+    /// is old or new.
     fn write_mapped(
         &mut self,
         alloc: Global,
@@ -167,7 +189,8 @@ pub trait FormatDriverInstance: Display + Drop {
         requires writable { (view self.old).abilities.is_writable ≡ true }
         requires spent { (view self.old).pending ≡ None }
         requires known { storage < (view self.old).stores.count }
-        requires mapped { BytesAreWritable (view self.old).place storage offset (length source.now) }
+        requires mapped { BytesAreWritable (view self.old).place storage offset
+            (length source.now) }
         ensures written { OnOk result
             (IsPut storage offset source.now false (view self.old).abilities.keeps_data
             (view self.old).place (view self.new).place) }
@@ -181,16 +204,18 @@ pub trait FormatDriverInstance: Display + Drop {
             (view self.old).limits.copies (view self.new).limits.copies o (length source.now)) }
         ensures reaches { ReachesNoMore (view self.old) (view self.new) }
         ensures nothing_pending { (view self.new).pending ≡ None }
-        ensures lengths { GrowAt storage offset (length source.now) (view self.old).stores (view self.new).stores }
+        ensures lengths { GrowAt storage offset (length source.now) (view self.old).stores
+            (view self.new).stores }
         ensures framed { IsFramed (view self.old) (view self.new) }
-        ensures faults { CountsFaults (view self.old).abilities.is_reliable (view self.old).fault_count
+        ensures faults { CountsFaults (view self.old).abilities.is_reliable
+            (view self.old).fault_count
             (view self.new).fault_count result }
         ensures refusals { IfErr result
             (allowed (stored_write_reasons (view self.old) storage offset (length source.now))) }
         ensures performed { calls.put storage source.now offset self.old self.new result };
 
-    /// Makes a part of the range explicit zeroes, and answers its offset and length: as much as the driver can at once,
-    /// maybe nothing. Refused, each byte of the range is as it was or zero.
+    /// Makes a part of the range explicit zeroes, and answers its offset and length: as much as the
+    /// driver can at once, maybe nothing. Refused, each byte of the range is as it was or zero.
     fn ensure_zero_mapping(
         &mut self,
         alloc: Global,
@@ -203,8 +228,8 @@ pub trait FormatDriverInstance: Display + Drop {
         ensures call { IsZeroCall Zero offset count (view self.old) (view self.new) result }
         ensures performed { calls.zeroed offset count self.old self.new result };
 
-    /// Gives up the data of a part of the range, which reads as zeroes afterwards, and answers its offset and length.
-    /// Refused, each byte of the range is as it was or zero.
+    /// Gives up the data of a part of the range, which reads as zeroes afterwards, and answers its
+    /// offset and length. Refused, each byte of the range is as it was or zero.
     fn discard_to_zero(
         &mut self,
         alloc: Global,
@@ -214,11 +239,12 @@ pub trait FormatDriverInstance: Display + Drop {
         requires writable { (view self.old).abilities.is_writable ≡ true }
         requires spent { (view self.old).pending ≡ None }
         requires inside { offset + count ≤ (view self.old).size }
-        ensures call { IsZeroCall DiscardToZero offset count (view self.old) (view self.new) result }
+        ensures call { IsZeroCall DiscardToZero offset count (view self.old) (view self.new)
+            result }
         ensures performed { calls.discarded_to_zero offset count self.old self.new result };
 
-    /// Gives up the data of a part of the range, whose bytes are unspecified afterwards, and answers its offset and
-    /// length. Refused, the range is unspecified.
+    /// Gives up the data of a part of the range, whose bytes are unspecified afterwards, and
+    /// answers its offset and length. Refused, the range is unspecified.
     fn discard_to_any(
         &mut self,
         alloc: Global,
@@ -228,11 +254,13 @@ pub trait FormatDriverInstance: Display + Drop {
         requires writable { (view self.old).abilities.is_writable ≡ true }
         requires spent { (view self.old).pending ≡ None }
         requires inside { offset + count ≤ (view self.old).size }
-        ensures call { IsDiscard (λ _ _. unspecified) DiscardToAny offset count (view self.old) (view self.new) result }
+        ensures call { IsDiscard (λ _ _. unspecified) DiscardToAny offset count (view self.old)
+            (view self.new) result }
         ensures performed { calls.discarded_to_any offset count self.old self.new result };
 
-    /// Gives up the data of a part of the range, whose bytes are as they were or those of the layer below afterwards,
-    /// and answers its offset and length. So are those of the range where it is refused.
+    /// Gives up the data of a part of the range, whose bytes are as they were or those of the layer
+    /// below afterwards, and answers its offset and length. So are those of the range where it is
+    /// refused.
     fn discard_to_backing(
         &mut self,
         alloc: Global,
@@ -242,12 +270,14 @@ pub trait FormatDriverInstance: Display + Drop {
         requires writable { (view self.old).abilities.is_writable ≡ true }
         requires spent { (view self.old).pending ≡ None }
         requires inside { offset + count ≤ (view self.old).size }
-        ensures call { IsDiscard (to_backing (view self.old).abilities.takes_backing) DiscardToBacking offset count (view self.old) (view self.new) result }
+        ensures call { IsDiscard (to_backing (view self.old).abilities.takes_backing)
+            DiscardToBacking offset count (view self.old) (view self.new) result }
         ensures performed { calls.discarded_to_backing offset count self.old self.new result };
 
-    /// Prepares the writing of data at the offset: the mapping holds at least 1 byte and at most `count`, none for 0.
-    /// No place changes. The mapping is written by [`write_prepared`](Self::write_prepared), and spent by commit or
-    /// cancel. Without `overwrite` the bytes that it stands for begin as the disk's. Refused, nothing is prepared.
+    /// Prepares the writing of data at the offset: the mapping holds at least 1 byte and at most
+    /// `count`, none for 0. No place changes. The mapping is written by
+    /// [`write_prepared`](Self::write_prepared), and spent by commit or cancel. Without `overwrite`
+    /// the bytes that it stands for begin as the disk's. Refused, nothing is prepared.
     fn prepare_data_mapping<B: LowerLayer>(
         &mut self,
         alloc: Global,
@@ -263,14 +293,18 @@ pub trait FormatDriverInstance: Display + Drop {
             (λ m. IsPrepared offset count overwrite
             (values (lent B.as_layer_below below.entry).at (view self.old).place)
             (view self.old) (view self.new) m) }
-        ensures call { IsPreparation (lent B.as_layer_below below.entry) offset count (view self.old) (view self.new) result }
-        ensures performed { calls.prepared (lent B.as_layer_below below.entry) offset count overwrite self.old self.new result };
+        ensures call { IsPreparation (lent B.as_layer_below below.entry) offset count
+            (view self.old) (view self.new) result }
+        ensures performed { calls.prepared (lent B.as_layer_below below.entry) offset count
+            overwrite self.old self.new result };
 
-    /// Writes data into a prepared mapping, from its `at`-th byte on: to the places that it stands for, or, with a
-    /// state, to the bytes that wait for commit. Refused, each of these is old or new.
+    /// Writes data into a prepared mapping, from its `at`-th byte on: to the places that it stands
+    /// for, or, with a state, to the bytes that wait for commit. Refused, each of these is old or
+    /// new.
     ///
-    /// [`Error::ForeignMapping`] is a mapping with a state that isn't the one prepared here, or one without that has a
-    /// byte of no writable place, or any where the driver isn't writable; nothing changed.
+    /// [`Error::ForeignMapping`] is a mapping with a state that isn't the one prepared here, or one
+    /// without that has a byte of no writable place, or any where the driver isn't writable;
+    /// nothing changed.
     fn write_prepared(
         &mut self,
         alloc: Global,
@@ -279,10 +313,13 @@ pub trait FormatDriverInstance: Display + Drop {
         at: u64,
     ) -> Result<(), Error>
         requires { at + length source.now ≤ length_of mapping.now }
-        ensures foreign { IsErrOf result Error.ForeignMapping ↔ IsForeignWrite (view self.old) mapping.now }
+        ensures foreign { IsErrOf result Error.ForeignMapping
+            ↔ IsForeignWrite (view self.old) mapping.now }
         ensures untouched { IsErrOf result Error.ForeignMapping → self.new ≡ self.old }
-        ensures written { OnOk result (IsWritten false (view self.old) (view self.new) mapping.now at source.now) }
-        ensures torn { OnErr result (IsWritten true (view self.old) (view self.new) mapping.now at source.now) }
+        ensures written { OnOk result
+            (IsWritten false (view self.old) (view self.new) mapping.now at source.now) }
+        ensures torn { OnErr result
+            (IsWritten true (view self.old) (view self.new) mapping.now at source.now) }
         ensures round { IsTrue (view self.old).abilities.keeps_data
             → (below : _)
             → ShowsRound (values below (view self.old).place) (view self.old).pending
@@ -293,18 +330,22 @@ pub trait FormatDriverInstance: Display + Drop {
             → IsSettled IsOnRange (view self.old).limits.cause (view self.new).limits.cause
             (view self.old).limits.copies (view self.new).limits.copies o (length source.now)) }
         ensures reaches { ReachesNoMore (view self.old) (view self.new) }
-        ensures lengths { GrowAt (storage_of mapping.now) (offset_of mapping.now + at) (length source.now) (view self.old).stores (view self.new).stores }
+        ensures lengths { GrowAt (storage_of mapping.now) (offset_of mapping.now + at)
+            (length source.now) (view self.old).stores (view self.new).stores }
         ensures framed { IsFramed (view self.old) (view self.new) }
-        ensures faults { CountsFaults (view self.old).abilities.is_reliable (view self.old).fault_count
+        ensures faults { CountsFaults (view self.old).abilities.is_reliable
+            (view self.old).fault_count
             (view self.new).fault_count result }
         ensures refusals { IfErr result
             (allowed (mapping_write_reasons (view self.old) mapping.now at (length source.now))) }
         ensures performed { calls.filled mapping.now source.now at self.old self.new result };
 
-    /// Spends a prepared mapping: what was written into it shows from now on. Without a state nothing changes.
+    /// Spends a prepared mapping: what was written into it shows from now on. Without a state
+    /// nothing changes.
     ///
-    /// [`Error::ForeignMapping`] is a mapping with a state that isn't the one prepared here; nothing changed. Any other
-    /// refusal leaves each of its places old or as prepared, and nothing prepared.
+    /// [`Error::ForeignMapping`] is a mapping with a state that isn't the one prepared here;
+    /// nothing changed. Any other refusal leaves each of its places old or as prepared, and nothing
+    /// prepared.
     fn commit_data_mapping(
         &mut self,
         mapping: PreparedDataMapping<Self::State>,
@@ -312,15 +353,16 @@ pub trait FormatDriverInstance: Display + Drop {
         ensures call { IsCommit view self.old self.new mapping result }
         ensures performed { calls.committed mapping self.old self.new result };
 
-    /// Spends a prepared mapping, and forgets what was written into one with a state: the disk is as it was. A foreign
-    /// mapping changes nothing.
+    /// Spends a prepared mapping, and forgets what was written into one with a state: the disk is
+    /// as it was. A foreign mapping changes nothing.
     fn cancel_data_mapping(&mut self, mapping: PreparedDataMapping<Self::State>)
         ensures call { IsCancel view self.old self.new mapping }
         ensures performed { calls.cancelled mapping self.old self.new };
 
-    /// Maps a part of the range, from the offset on, to bytes of a storage that may be written, and answers the
-    /// storage, the offset there and the length: at least 1 and at most `count`, 0 for 0. With `overwrite` that part is
-    /// unspecified afterwards, and, refused, the range. By default a mapping is prepared and committed.
+    /// Maps a part of the range, from the offset on, to bytes of a storage that may be written, and
+    /// answers the storage, the offset there and the length: at least 1 and at most `count`, 0 for
+    /// 0. With `overwrite` that part is unspecified afterwards, and, refused, the range. By default
+    /// a mapping is prepared and committed.
     fn ensure_data_mapping<B: LowerLayer>(
         &mut self,
         alloc: Global,
@@ -332,7 +374,8 @@ pub trait FormatDriverInstance: Display + Drop {
         requires writable { (view self.old).abilities.is_writable ≡ true }
         requires spent { (view self.old).pending ≡ None }
         requires inside { offset + count ≤ (view self.old).size }
-        ensures mapped { IfOk result (λ r. IsDataMapping offset count r.0 r.1 r.2 (view self.old) (view self.new)) }
+        ensures mapped { IfOk result (λ r. IsDataMapping offset count r.0 r.1 r.2 (view self.old)
+            (view self.new)) }
         ensures done { IsTrue (view self.old).abilities.keeps_data
             → IfOk result
             (λ r. IsChanged offset r.2 (overwritten overwrite)
@@ -351,7 +394,8 @@ pub trait FormatDriverInstance: Display + Drop {
             (view self.new).place }
         ensures reaches { ReachesNoMore (view self.old) (view self.new) }
         ensures nothing_pending { (view self.new).pending ≡ None }
-        ensures lengths { GrowTo ((view self.old).limits.longest Write offset count) (view self.old).stores (view self.new).stores }
+        ensures lengths { GrowTo ((view self.old).limits.longest Write offset count)
+            (view self.old).stores (view self.new).stores }
         ensures framed { IsFramed (view self.old) (view self.new) }
         ensures faults { CountsFaults
             ((view self.old).abilities.is_reliable &&
@@ -361,7 +405,8 @@ pub trait FormatDriverInstance: Display + Drop {
             (allowed
             (lending_reasons (view self.old) (lent B.as_layer_below below.entry) Write
             offset count)) }
-        ensures performed { calls.ensured (lent B.as_layer_below below.entry) offset count overwrite self.old self.new result }
+        ensures performed { calls.ensured (lent B.as_layer_below below.entry) offset count overwrite
+            self.old self.new result }
     {
         let mapping = self.prepare_data_mapping(alloc, below, offset, count, overwrite)?;
         let (storage, start, length) = (mapping.storage(), mapping.offset(), mapping.length());
@@ -369,8 +414,8 @@ pub trait FormatDriverInstance: Display + Drop {
         Ok((storage, start, length))
     }
 
-    /// Grows the disk to that size, with new bytes as the mode says. Where the disk is as large already, its size and
-    /// bytes stay, and it isn't refused. Refused, the disk is as it was.
+    /// Grows the disk to that size, with new bytes as the mode says. Where the disk is as large
+    /// already, its size and bytes stay, and it isn't refused. Refused, the disk is as it was.
     fn resize_grow<B: LowerLayer>(
         &mut self,
         alloc: Global,
@@ -380,11 +425,13 @@ pub trait FormatDriverInstance: Display + Drop {
     ) -> Result<(), Error>
         requires writable { (view self.old).abilities.is_writable ≡ true }
         requires spent { (view self.old).pending ≡ None }
-        ensures call { IsGrowth mode (lent B.as_layer_below below.entry) new_size (view self.old) (view self.new) result }
-        ensures performed { calls.grown new_size mode (lent B.as_layer_below below.entry) self.old self.new result };
+        ensures call { IsGrowth mode (lent B.as_layer_below below.entry) new_size (view self.old)
+            (view self.new) result }
+        ensures performed { calls.grown new_size mode (lent B.as_layer_below below.entry) self.old
+            self.new result };
 
-    /// Cuts the disk to that size. Where the disk is as small already, its size and bytes stay, and it isn't refused.
-    /// Refused, the disk is as it was.
+    /// Cuts the disk to that size. Where the disk is as small already, its size and bytes stay, and
+    /// it isn't refused. Refused, the disk is as it was.
     fn resize_shrink(&mut self, new_size: u64) -> Result<(), Error>
         requires writable { (view self.old).abilities.is_writable ≡ true }
         requires spent { (view self.old).pending ≡ None }

@@ -15,8 +15,8 @@ pub enum Format {
 
 /// What the new bytes of an image that grows show, and how they are allocated.
 ///
-/// The last three modes show the layer below at the same offsets: zeroes past its end, where there is none, or where
-/// the driver takes none.
+/// The last three modes show the layer below at the same offsets: zeroes past its end, where there
+/// is none, or where the driver takes none.
 #[derive(Clone, Copy, Debug, PartialEq, Eq)]
 pub enum PreallocateMode {
     /// New bytes are unspecified.

@@ -1,5 +1,6 @@
 //! What may be opened for an image.
-ghost use Rattle.std.specs.Prelude.{◌≡◌, ◌++◌, ◌∷◌, [], ℕ, List, OnOk, OnErr, IfErr, IsOk, MatchOption};
+ghost use Rattle.std.specs.Prelude.{◌≡◌, ◌++◌, ◌∷◌, [], ℕ, List, OnOk, OnErr, IfErr, IsOk};
+ghost use Rattle.std.specs.Prelude.{MatchOption};
 ghost use Rattle.std.specs.Option.{option_copied};
 ghost use Rattle.std.specs.String.{string_bytes};
 ghost use Rattle.imago_storage.specs.Options.{open_options};
@@ -12,11 +13,11 @@ use std::collections::{BTreeMap, VecDeque};
 
 /// Decides which storages are opened for an image, and opens them.
 ///
-/// A builder asks a gate for each storage that it wasn't handed. The gate is told the options, which name the storage;
-/// it may refuse, or open another one. What it refuses for is passed on.
+/// A builder asks a gate for each storage that it wasn't handed. The gate is told the options,
+/// which name the storage; it may refuse, or open another one. What it refuses for is passed on.
 pub trait ImplicitOpenGate<S: Storage>: Drop {
-    /// What an opening is: a relation of the options, the gate before, the gate after, and the answer. Over a gate that
-    /// isn't known nothing but the call itself gives it.
+    /// What an opening is: a relation of the options, the gate before, the gate after, and the
+    /// answer. Over a gate that isn't known nothing but the call itself gives it.
     ghost opened: { Opening Self S };
 
     /// Opens a storage as the options ask, or refuses to.
@@ -47,7 +48,8 @@ impl<S: Storage> ImplicitOpenGate<S> for DenyImplicitOpenGate {
 
 /// A gate that opens each storage by [`Storage::open`], whose refusals it passes on.
 ///
-/// An image then decides by itself what is opened, so only images that are trusted should be opened with it.
+/// An image then decides by itself what is opened, so only images that are trusted should be opened
+/// with it.
 #[derive(Clone, Copy, Debug, Default)]
 pub struct PermissiveImplicitOpenGate(());
 
@@ -59,11 +61,11 @@ impl<S: Storage> ImplicitOpenGate<S> for PermissiveImplicitOpenGate {
     }
 }
 
-/// Storages by their names, each of which is handed out once. Of those that share a name the first added is handed
-/// out first.
+/// Storages by their names, each of which is handed out once. Of those that share a name the first
+/// added is handed out first.
 ///
-/// A name that no storage is left of is forgotten. Such a name, and options without a name, are [`Error::NotFound`]. The other
-/// options aren't looked at.
+/// A name that no storage is left of is forgotten. Such a name, and options without a name, are
+/// [`Error::NotFound`]. The other options aren't looked at.
 #[derive(Drop)]
 pub struct NamedGate<S> {
     alloc: Global,
@@ -71,7 +73,8 @@ pub struct NamedGate<S> {
 }
 
 impl<S: Storage> NamedGate<S> {
-    ghost use Rattle.imago_drivers.specs.NamedGate.{storages_named, KeepsOtherNames, HasRoomFor, IsForgotten, first_of};
+    ghost use Rattle.imago_drivers.specs.NamedGate.{storages_named, KeepsOtherNames, HasRoomFor};
+    ghost use Rattle.imago_drivers.specs.NamedGate.{IsForgotten, first_of};
 
     /// No storages. It takes no memory.
     pub fn new(alloc: Global) -> Self
@@ -83,12 +86,14 @@ impl<S: Storage> NamedGate<S> {
         }
     }
 
-    /// Adds a storage, behind those of the same name. Where memory is refused, the storage is given back, and the gate
-    /// has what it had. Where the name has room for one more, none is asked for.
+    /// Adds a storage, behind those of the same name. Where memory is refused, the storage is given
+    /// back, and the gate has what it had. Where the name has room for one more, none is asked for.
     pub fn add(&mut self, name: String, storage: S) -> Result<(), S>
         ensures added { OnOk result
-            (storages_named self.new (string_bytes name) ≡ storages_named self.old (string_bytes name) ++ storage ∷ []) }
-        ensures refused { OnErr result (storages_named self.new (string_bytes name) ≡ storages_named self.old (string_bytes name)) }
+            (storages_named self.new (string_bytes name) ≡ storages_named self.old
+            (string_bytes name) ++ storage ∷ []) }
+        ensures refused { OnErr result (storages_named self.new (string_bytes name)
+            ≡ storages_named self.old (string_bytes name)) }
         ensures room { HasRoomFor self.old (string_bytes name) → IsOk result }
         ensures given_back { IfErr result (λ s. s ≡ storage) }
         ensures others { KeepsOtherNames self.old self.new (string_bytes name) }

@@ -1,8 +1,9 @@
 //! The interface of a format driver, and the driver of raw images.
 //!
-//! A driver shows a disk: a layer of places, each a byte of one of its storages, a zero, a special byte, or what the
-//! layer below has there. [`drivers::FormatDriverInstance`] says what each of its calls does to that layer, and what a
-//! refused one leaves. [`raw::Raw`] is the driver whose disk is its storage.
+//! A driver shows a disk: a layer of places, each a byte of one of its storages, a zero, a special
+//! byte, or what the layer below has there. [`drivers::FormatDriverInstance`] says what each of its
+//! calls does to that layer, and what a refused one leaves. [`raw::Raw`] is the driver whose disk
+//! is its storage.
 #![tactic(auto)]
 
 pub mod builder;

@@ -39,8 +39,8 @@ pub enum ShallowMapping {
     },
 }
 
-/// Where the data of a range is to be written: bytes of a storage of the driver, which show their data at once, or,
-/// with a state, from commit on.
+/// Where the data of a range is to be written: bytes of a storage of the driver, which show their
+/// data at once, or, with a state, from commit on.
 ///
 /// It can't be dropped: it has to be spent by
 /// [`commit_data_mapping`](crate::drivers::FormatDriverInstance::commit_data_mapping) or
@@ -53,7 +53,8 @@ pub struct PreparedDataMapping<St> {
 }
 
 impl<St> PreparedDataMapping<St> {
-    /// Bytes that are mapped already: data written there shows at once, and there is nothing to commit.
+    /// Bytes that are mapped already: data written there shows at once, and there is nothing to
+    /// commit.
     pub fn existing(storage: usize, offset: u64, count: u64) -> Self
         ensures storage { storage_of result ≡ «storage» }
         ensures offset { offset_of result ≡ «offset» }

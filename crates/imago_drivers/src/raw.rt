@@ -1,12 +1,14 @@
 //! The driver of raw images.
-ghost use Rattle.std.specs.Prelude.{◌≡◌, ℕ, ◌+◌, ◌^◌, ◌<◌, ◌≤◌, ◌⊎◌, max, length, slice_index, IsTrue, IfOk, IfErr, OnOk, OnErr, IsOk, IsErrOf, Ok, true, false};
+ghost use Rattle.std.specs.Prelude.{◌≡◌, ℕ, ◌+◌, ◌^◌, ◌<◌, ◌≤◌, ◌⊎◌, max, length, slice_index};
+ghost use Rattle.std.specs.Prelude.{IsTrue, IfOk, IfErr, OnOk, OnErr, IsOk, IsErrOf, Ok, true};
+ghost use Rattle.std.specs.Prelude.{false};
 ghost use Rattle.std.specs.String.{string_bytes};
 ghost use Rattle.imago_storage.specs.Bytes.{SameOutside};
 ghost use Rattle.imago_storage.specs.Calls.{IsRangeWrite};
 ghost use Rattle.imago_storage.specs.declared.options.PreallocateMode.TheVariants as StorageMode;
 ghost use Rattle.imago_storage.specs.Error.{IsDeviceOrMemory, IsExtRefusal};
 ghost use Rattle.imago_storage.specs.Faults.{CountsFaults};
-ghost use Rattle.imago_storage.specs.Features.{InPlace, MayRunOut, IsAlignedTo};
+ghost use Rattle.imago_storage.specs.Features.{InPlace, MayRunOut, OthersMayRunOut, IsAlignedTo};
 ghost use Rattle.imago_storage.specs.Zeroes.{MayWrap};
 ghost use Rattle.imago_drivers.specs.Outside.{StaysOutside};
 ghost use Rattle.imago_drivers.specs.Raw.{raw_place, raw_view, storage_mode_of};
@@ -20,7 +22,8 @@ ghost use Rattle.imago_drivers.specs.Calls.{IsDiscard, IsPreparation, IsGrowth, 
 ghost use Rattle.imago_drivers.specs.Reasons.{none};
 ghost use Rattle.imago_drivers.specs.RawLaws.{raw_lawful, raw_causes};
 ghost use Rattle.imago_drivers.specs.RawDiscards.{IsPartDiscarded, IsPartZeroed};
-ghost use Rattle.imago_drivers.specs.RawCalls.{HasNoSpecial, IsRawPrepared, IsRawCommitted, IsRawFilled, IsSizeBehind};
+ghost use Rattle.imago_drivers.specs.RawCalls.{HasNoSpecial, IsRawPrepared, IsRawCommitted};
+ghost use Rattle.imago_drivers.specs.RawCalls.{IsRawFilled, IsSizeBehind};
 ghost use Rattle.imago_drivers.specs.CallRelations.{any_calls, IsEnsuredInParts};
 ghost use Rattle.imago_drivers.specs.Place.{values};
 ghost use Rattle.imago_drivers.specs.Prepared.{IsPrepared};
@@ -41,8 +44,8 @@ use std::fmt::{self, Display, Formatter, Write};
 
 /// A disk whose bytes are those of its storage.
 ///
-/// The disk's size is the storage's length when the image was opened. The storage may be longer afterwards, since
-/// writes are padded to its alignment; it is zero from the disk's size on.
+/// The disk's size is the storage's length when the image was opened. The storage may be longer
+/// afterwards, since writes are padded to its alignment; it is zero from the disk's size on.
 #[derive(Drop)]
 pub struct Raw<S: Storage> {
     storage: S,
@@ -50,22 +53,23 @@ pub struct Raw<S: Storage> {
     writable: bool,
     ghost fits: { size < 2 ^ 64 },
     ghost bounded: { size ≤ length (S.bytes storage) },
-    ghost zero_behind: { IsTrue (S.features storage).keeps_data → (p : ℕ) → size ≤ p → slice_index (S.bytes storage) p ≡ 0 },
+    ghost zero_behind: { IsTrue (S.features storage).keeps_data → (p : ℕ) → size ≤ p
+        → slice_index (S.bytes storage) p ≡ 0 },
 }
 
 impl<S: Storage> Raw<S> {
     ghost use Rattle.imago_drivers.specs.RawBuilder.{IsRawOpeningByPath};
     ghost use Rattle.imago_drivers.specs.RawImage.{storage_in, size_of, writability_of};
 
-    /// Opens the image that the storage is: a disk of the storage's length. It answers [`Error::Device`] and
-    /// [`Error::Memory`] where the storage's size does.
+    /// Opens the image that the storage is: a disk of the storage's length. It answers
+    /// [`Error::Device`] and [`Error::Memory`] where the storage's size does.
     pub fn open_image(storage: S, writable: bool) -> Result<Self, Error>
         ensures opened { IfOk result
             (λ r. (storage_in r ≡ «storage») × (size_of r ≡ length (S.bytes storage)) ×
             (writability_of r ≡ «writable»)) }
         ensures only { IfErr result IsDeviceOrMemory }
         ensures device { IsErrOf result Error.Device → (S.features storage).is_reliable ≡ false }
-        ensures memory { IsErrOf result Error.Memory → MayRunOut (S.features storage).other_memory 0 0 }
+        ensures memory { IsErrOf result Error.Memory → OthersMayRunOut (S.features storage) }
     {
         let size = storage.size()?;
         Ok(Raw {
@@ -75,10 +79,11 @@ impl<S: Storage> Raw<S> {
         })
     }
 
-    /// Opens the image in the storage of that name, by [`Storage::open`]. What that, or the storage's size, is refused
-    /// for is passed on.
+    /// Opens the image in the storage of that name, by [`Storage::open`]. What that, or the
+    /// storage's size, is refused for is passed on.
     pub fn open_path(path: String, writable: bool) -> Result<Self, Error>
-        ensures { IsRawOpeningByPath S.openings S.bytes S.features (string_bytes path) writable result }
+        ensures { IsRawOpeningByPath S.openings S.bytes S.features (string_bytes path) writable
+            result }
     {
         let options = StorageOpenOptions::new().filename(path).write(writable);
         Raw::open_image(S::open(options)?, writable)
@@ -120,7 +125,8 @@ impl<S: Storage> FormatDriverInstance for Raw<S> {
 
     type State = ();
 
-    ghost view = { λ r. raw_view (S.features r.storage) (S.fault_count r.storage) (S.bytes r.storage) r.size r.writable };
+    ghost view = { λ r. raw_view (S.features r.storage) (S.fault_count r.storage)
+        (S.bytes r.storage) r.size r.writable };
 
     ghost recognizes = { λ _. true };
 
@@ -129,32 +135,50 @@ impl<S: Storage> FormatDriverInstance for Raw<S> {
     ghost calls = { record any_calls {
       mapped = λ o n self r. IsOk r;
       read_special = λ o n self r. HasNoSpecial n r;
-      put = λ index bytes o a b r. IsRangeWrite S.features S.bytes S.fault_count S.work o bytes a.storage b.storage r × (b.size ≡ a.size) × (b.writable ≡ a.writable);
-      zeroed = λ o n a b r. IsPartZeroed S.maintenance S.work (S.features a.storage) o n a.storage b.storage r × (b.size ≡ a.size) × (b.writable ≡ a.writable);
-      discarded_to_zero = λ o n a b r. IsPartZeroed S.maintenance S.work (S.features a.storage) o n a.storage b.storage r × (b.size ≡ a.size) × (b.writable ≡ a.writable);
-      discarded_to_any = λ o n a b r. IsPartDiscarded S.maintenance (S.features a.storage).discard_align o n a.storage b.storage r × (b.size ≡ a.size) × (b.writable ≡ a.writable);
+      put = λ index bytes o a b r. IsRangeWrite S.features S.bytes S.fault_count S.work o bytes
+          a.storage b.storage r × (b.size ≡ a.size) × (b.writable ≡ a.writable);
+      zeroed = λ o n a b r. IsPartZeroed S.maintenance S.work (S.features a.storage) o n a.storage
+          b.storage r × (b.size ≡ a.size) × (b.writable ≡ a.writable);
+      discarded_to_zero = λ o n a b r. IsPartZeroed S.maintenance S.work (S.features a.storage) o n
+          a.storage b.storage r × (b.size ≡ a.size) × (b.writable ≡ a.writable);
+      discarded_to_any = λ o n a b r. IsPartDiscarded S.maintenance
+          (S.features a.storage).discard_align o n a.storage b.storage r × (b.size ≡ a.size)
+          × (b.writable ≡ a.writable);
       discarded_to_backing = λ o n a b r. HasDone (λ _ _. zeroes) DiscardToBacking o n
-          (raw_view (S.features a.storage) (S.fault_count a.storage) (S.bytes a.storage) a.size a.writable)
-          (raw_view (S.features b.storage) (S.fault_count b.storage) (S.bytes b.storage) b.size b.writable) r
-          × IsPartZeroed S.maintenance S.work (S.features a.storage) o n a.storage b.storage r × (b.size ≡ a.size) × (b.writable ≡ a.writable);
+          (raw_view (S.features a.storage) (S.fault_count a.storage) (S.bytes a.storage) a.size
+          a.writable)
+          (raw_view (S.features b.storage) (S.fault_count b.storage) (S.bytes b.storage) b.size
+          b.writable) r
+          × IsPartZeroed S.maintenance S.work (S.features a.storage) o n a.storage b.storage r
+          × (b.size ≡ a.size) × (b.writable ≡ a.writable);
       prepared = IsRawPrepared;
-      filled = λ m bytes at a b r. IsRawFilled (λ xs o old new result. IsRangeWrite S.features S.bytes S.fault_count S.work o xs old.storage new.storage result × (new.size ≡ old.size) × (new.writable ≡ old.writable)) m bytes at a b r;
+      filled = λ m bytes at a b r. IsRawFilled
+          (λ xs o old new result. IsRangeWrite S.features S.bytes S.fault_count S.work o xs
+          old.storage new.storage result × (new.size ≡ old.size) × (new.writable ≡ old.writable)) m
+          bytes at a b r;
       committed = IsRawCommitted;
       cancelled = λ m a b. b ≡ a;
       ensured = IsEnsuredInParts IsRawPrepared IsRawCommitted;
       by_parts = λ below o n overwrite a b r h. h;
       grown = λ n mode below a b r. (n ≤ a.size → (b ≡ a) × (r ≡ Ok tt))
-          × (a.size < n → S.maintenance.resized n (storage_mode_of mode) a.storage b.storage r × IsSizeBehind a.size n b.size r × (b.writable ≡ a.writable));
+          × (a.size < n → S.maintenance.resized n (storage_mode_of mode) a.storage b.storage r
+          × IsSizeBehind a.size n b.size r × (b.writable ≡ a.writable));
       cut = λ n a b r. (a.size ≤ n → (b ≡ a) × (r ≡ Ok tt))
-          × (n < a.size → S.maintenance.resized n StorageMode.None a.storage b.storage r × IsSizeBehind a.size n b.size r × (b.writable ≡ a.writable));
-      flushed = λ a b r. S.maintenance.flushed a.storage b.storage r × (b.size ≡ a.size) × (b.writable ≡ a.writable);
-      synced = λ a b r. S.maintenance.synced a.storage b.storage r × (b.size ≡ a.size) × (b.writable ≡ a.writable);
-      invalidated = λ a b r. S.maintenance.invalidated a.storage b.storage r × (b.size ≡ a.size) × (b.writable ≡ a.writable);
+          × (n < a.size → S.maintenance.resized n StorageMode.None a.storage b.storage r
+          × IsSizeBehind a.size n b.size r × (b.writable ≡ a.writable));
+      flushed = λ a b r. S.maintenance.flushed a.storage b.storage r × (b.size ≡ a.size)
+          × (b.writable ≡ a.writable);
+      synced = λ a b r. S.maintenance.synced a.storage b.storage r × (b.size ≡ a.size)
+          × (b.writable ≡ a.writable);
+      invalidated = λ a b r. S.maintenance.invalidated a.storage b.storage r × (b.size ≡ a.size)
+          × (b.writable ≡ a.writable);
     } };
 
-    ghost lawful = { λ d. raw_lawful (S.features d.storage) (S.fault_count d.storage) (S.bytes d.storage) d.size d.writable };
+    ghost lawful = { λ d. raw_lawful (S.features d.storage) (S.fault_count d.storage)
+        (S.bytes d.storage) d.size d.writable };
 
-    ghost causes_lawful = { λ d. raw_causes (S.features d.storage) (S.fault_count d.storage) (S.bytes d.storage) d.size d.writable };
+    ghost causes_lawful = { λ d. raw_causes (S.features d.storage) (S.fault_count d.storage)
+        (S.bytes d.storage) d.size d.writable };
 
     fn format(&self) -> Format {
         Format::Raw
@@ -281,7 +305,8 @@ impl<S: Storage> FormatDriverInstance for Raw<S> {
         ensures zeroed { HasDone (λ _ _. zeroes) DiscardToBacking offset count
             (⟦<Raw<S> as FormatDriverInstance>⟧.view self.old)
             (⟦<Raw<S> as FormatDriverInstance>⟧.view self.new) result }
-        ensures performed { ⟦<Raw<S> as FormatDriverInstance>⟧.calls.discarded_to_backing offset count self.old
+        ensures performed { ⟦<Raw<S> as FormatDriverInstance>⟧.calls.discarded_to_backing offset
+            count self.old
             self.new result }
     {
         // No layer stands below: what is given back to it is zero.
@@ -297,11 +322,19 @@ impl<S: Storage> FormatDriverInstance for Raw<S> {
         _overwrite: bool,
     ) -> Result<PreparedDataMapping<()>, Error>
         requires inside { offset + count ≤ (⟦<Raw<S> as FormatDriverInstance>⟧.view self.old).size }
-        ensures prepared { IfOk result (λ m. IsPrepared offset count _overwrite (values (lent B.as_layer_below _below.entry).at (⟦<Raw<S> as FormatDriverInstance>⟧.view self.old).place) (⟦<Raw<S> as FormatDriverInstance>⟧.view self.old) (⟦<Raw<S> as FormatDriverInstance>⟧.view self.new) m) }
-        ensures call { IsPreparation (lent B.as_layer_below _below.entry) offset count (⟦<Raw<S> as FormatDriverInstance>⟧.view self.old) (⟦<Raw<S> as FormatDriverInstance>⟧.view self.new) result }
+        ensures prepared { IfOk result
+            (λ m. IsPrepared offset count _overwrite
+            (values (lent B.as_layer_below _below.entry).at
+            (⟦<Raw<S> as FormatDriverInstance>⟧.view self.old).place)
+            (⟦<Raw<S> as FormatDriverInstance>⟧.view self.old)
+            (⟦<Raw<S> as FormatDriverInstance>⟧.view self.new) m) }
+        ensures call { IsPreparation (lent B.as_layer_below _below.entry) offset count
+            (⟦<Raw<S> as FormatDriverInstance>⟧.view self.old)
+            (⟦<Raw<S> as FormatDriverInstance>⟧.view self.new) result }
         ensures untouched { self.new ≡ self.old }
         ensures never_refused { IsOk result }
-        ensures performed { ⟦<Raw<S> as FormatDriverInstance>⟧.calls.prepared (lent B.as_layer_below _below.entry) offset count _overwrite self.old self.new result }
+        ensures performed { ⟦<Raw<S> as FormatDriverInstance>⟧.calls.prepared
+            (lent B.as_layer_below _below.entry) offset count _overwrite self.old self.new result }
     {
         Ok(PreparedDataMapping::existing(0, offset, count))
     }
@@ -335,8 +368,10 @@ impl<S: Storage> FormatDriverInstance for Raw<S> {
     }
 
     fn commit_data_mapping(&mut self, mapping: PreparedDataMapping<()>) -> Result<(), Error>
-        ensures call { IsCommit ⟦<Raw<S> as FormatDriverInstance>⟧.view self.old self.new mapping result }
-        ensures performed { ⟦<Raw<S> as FormatDriverInstance>⟧.calls.committed mapping self.old self.new result }
+        ensures call { IsCommit ⟦<Raw<S> as FormatDriverInstance>⟧.view self.old self.new mapping
+            result }
+        ensures performed { ⟦<Raw<S> as FormatDriverInstance>⟧.calls.committed mapping self.old
+            self.new result }
     {
         match mapping.into_state() {
             None => Ok(()),
@@ -346,7 +381,8 @@ impl<S: Storage> FormatDriverInstance for Raw<S> {
 
     fn cancel_data_mapping(&mut self, mapping: PreparedDataMapping<()>)
         ensures call { IsCancel ⟦<Raw<S> as FormatDriverInstance>⟧.view self.old self.new mapping }
-        ensures performed { ⟦<Raw<S> as FormatDriverInstance>⟧.calls.cancelled mapping self.old self.new }
+        ensures performed { ⟦<Raw<S> as FormatDriverInstance>⟧.calls.cancelled mapping self.old
+            self.new }
     {
         let _ = mapping.into_state();
     }
@@ -362,7 +398,9 @@ impl<S: Storage> FormatDriverInstance for Raw<S> {
             (⟦<Raw<S> as FormatDriverInstance>⟧.view self.old)
             (⟦<Raw<S> as FormatDriverInstance>⟧.view self.new) result }
         ensures exact { (⟦<Raw<S> as FormatDriverInstance>⟧.view self.old).size < new_size
-            → OnOk result (length ((⟦<Raw<S> as FormatDriverInstance>⟧.view self.new).stores.bytes 0) ≡ new_size) }
+            → OnOk result
+            (length ((⟦<Raw<S> as FormatDriverInstance>⟧.view self.new).stores.bytes 0)
+            ≡ new_size) }
         ensures performed { ⟦<Raw<S> as FormatDriverInstance>⟧.calls.grown new_size mode
             (lent B.as_layer_below _below.entry) self.old self.new result }
     {
@@ -378,8 +416,11 @@ impl<S: Storage> FormatDriverInstance for Raw<S> {
         ensures call { IsShrink new_size (⟦<Raw<S> as FormatDriverInstance>⟧.view self.old)
             (⟦<Raw<S> as FormatDriverInstance>⟧.view self.new) result }
         ensures exact { new_size < (⟦<Raw<S> as FormatDriverInstance>⟧.view self.old).size
-            → OnOk result (length ((⟦<Raw<S> as FormatDriverInstance>⟧.view self.new).stores.bytes 0) ≡ new_size) }
-        ensures performed { ⟦<Raw<S> as FormatDriverInstance>⟧.calls.cut new_size self.old self.new result }
+            → OnOk result
+            (length ((⟦<Raw<S> as FormatDriverInstance>⟧.view self.new).stores.bytes 0)
+            ≡ new_size) }
+        ensures performed { ⟦<Raw<S> as FormatDriverInstance>⟧.calls.cut new_size self.old self.new
+            result }
     {
         if self.size <= new_size {
             return Ok(());
@@ -411,8 +452,10 @@ fn zero_part<S: Storage>(
     count: u64,
 ) -> Result<(u64, u64), Error>
     requires { offset + count < 2 ^ 64 }
-    ensures part { IfOk result (λ r. IsPartAlignedTo (S.features storage.old).zero_align offset count r.0 r.1) }
-    ensures inside { IfOk result (λ r. (r.1 ≡ 0) ⊎ ((offset ≤ r.0) × (r.0 + r.1 ≤ offset + count))) }
+    ensures part { IfOk result (λ r. IsPartAlignedTo (S.features storage.old).zero_align offset
+        count r.0 r.1) }
+    ensures inside { IfOk result (λ r. (r.1 ≡ 0)
+        ⊎ ((offset ≤ r.0) × (r.0 + r.1 ≤ offset + count))) }
     ensures whole { IsAlignedTo (S.features storage.old).zero_align offset count
         → IfOk result (λ r. (r.0 ≡ offset) × (r.1 ≡ count)) }
     ensures zeroed { IsTrue (S.features storage.old).keeps_data
@@ -427,7 +470,8 @@ fn zero_part<S: Storage>(
     ensures no_shorter { length (S.bytes storage.old) ≤ length (S.bytes storage.new) }
     ensures near { length (S.bytes storage.new)
         ≤ max (length (S.bytes storage.old)) (padded_to (S.features storage.old) offset count) }
-    ensures performed { IsPartZeroed S.maintenance S.work (S.features storage.old) offset count storage.old storage.new result }
+    ensures performed { IsPartZeroed S.maintenance S.work (S.features storage.old) offset count
+        storage.old storage.new result }
     ensures features { S.features storage.new ≡ S.features storage.old }
     ensures only { IfErr result IsExtRefusal }
     ensures wraps { IsErrOf result Error.WrapAround
@@ -455,13 +499,17 @@ fn zero_part<S: Storage>(
 /// Discards the part of a range that is aligned to the storage's discard alignment, and answers it.
 fn discard_part<S: Storage>(storage: &mut S, offset: u64, count: u64) -> Result<(u64, u64), Error>
     requires { offset + count < 2 ^ 64 }
-    ensures part { IfOk result (λ r. IsPartAlignedTo (S.features storage.old).discard_align offset count r.0 r.1) }
-    ensures inside { IfOk result (λ r. (r.1 ≡ 0) ⊎ ((offset ≤ r.0) × (r.0 + r.1 ≤ offset + count))) }
+    ensures part { IfOk result (λ r. IsPartAlignedTo (S.features storage.old).discard_align offset
+        count r.0 r.1) }
+    ensures inside { IfOk result (λ r. (r.1 ≡ 0)
+        ⊎ ((offset ≤ r.0) × (r.0 + r.1 ≤ offset + count))) }
     ensures whole { IsAlignedTo (S.features storage.old).discard_align offset count
         → IfOk result (λ r. (r.0 ≡ offset) × (r.1 ≡ count)) }
-    ensures discarded { IfOk result (λ r. SameOutside r.0 r.1 (S.bytes storage.old) (S.bytes storage.new)) }
+    ensures discarded { IfOk result
+        (λ r. SameOutside r.0 r.1 (S.bytes storage.old) (S.bytes storage.new)) }
     ensures same_length { length (S.bytes storage.new) ≡ length (S.bytes storage.old) }
-    ensures refused { OnErr result (SameOutside offset count (S.bytes storage.old) (S.bytes storage.new)) }
+    ensures refused { OnErr result
+        (SameOutside offset count (S.bytes storage.old) (S.bytes storage.new)) }
     ensures outside { (size : ℕ)
         → StaysOutside (S.features storage.old).keeps_data 1 offset count
         (raw_place size (S.bytes storage.old)) (raw_place size (S.bytes storage.new)) }
@@ -469,8 +517,9 @@ fn discard_part<S: Storage>(storage: &mut S, offset: u64, count: u64) -> Result<
     ensures only { IfErr result IsDeviceOrMemory }
     ensures cause { CountsFaults (S.features storage.old).is_reliable (S.fault_count storage.old)
         (S.fault_count storage.new) result }
-    ensures memory { IsErrOf result Error.Memory → MayRunOut (S.features storage.old).other_memory 0 0 }
-    ensures performed { IsPartDiscarded S.maintenance (S.features storage.old).discard_align offset count storage.old storage.new result }
+    ensures memory { IsErrOf result Error.Memory → OthersMayRunOut (S.features storage.old) }
+    ensures performed { IsPartDiscarded S.maintenance (S.features storage.old).discard_align offset
+        count storage.old storage.new result }
 {
     let align = discard_align(&*storage);
     let Some((start, end)) = aligned_blocks(align, offset, count) else {

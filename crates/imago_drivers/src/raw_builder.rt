@@ -1,9 +1,13 @@
 //! Builders of raw images.
-ghost use Rattle.std.specs.Prelude.{◌≡◌, ◌≤◌, ◌⊎◌, [], length, true, IsTrue, OnOk, OnErr, IfOk, IfErr};
+ghost use Rattle.std.specs.Prelude.{◌≡◌, ◌≤◌, ◌⊎◌, [], length, true, IsTrue, OnOk, OnErr, IfOk};
+ghost use Rattle.std.specs.Prelude.{IfErr};
 ghost use Rattle.std.specs.String.{string_bytes};
 ghost use Rattle.imago_drivers.specs.declared.format.Format.TheVariants as ImageFormat;
 ghost use Rattle.imago_drivers.specs.Builder.{HandedIn, AtPath, unset, unsized};
-ghost use Rattle.imago_drivers.specs.RawBuilder.{IsRawOpening, IsRawOpeningBy, IsRawCreation, IsRawCreatedOpen, IsNewDisk, IsEmptiedBy, IsMadeIn, MayEmptyingBeRefused, MayCreationBeRefused};
+ghost use Rattle.imago_drivers.specs.RawBuilder.{IsRawOpening, IsRawOpeningBy, IsRawCreation};
+ghost use Rattle.imago_drivers.specs.RawBuilder.{IsRawCreatedOpen, IsNewDisk, IsEmptiedBy};
+ghost use Rattle.imago_drivers.specs.RawBuilder.{IsMadeIn, MayEmptyingBeRefused};
+ghost use Rattle.imago_drivers.specs.RawBuilder.{MayCreationBeRefused};
 
 use crate::builder::{
     FormatCreateBuilder, FormatCreateBuilderBase, FormatDriverBuilder, FormatDriverBuilderBase,
@@ -52,9 +56,11 @@ impl<S: Storage> Raw<S> {
 impl<S: Storage> RawOpenBuilder<S> {
     ghost use Rattle.imago_drivers.specs.RawBuilderParts.{raw_open_settings};
 
-    /// Opens the image by a gate that is lent. The gate isn't asked where a storage was handed in, and is else asked once.
+    /// Opens the image by a gate that is lent. The gate isn't asked where a storage was handed in,
+    /// and is else asked once.
     fn open_by<G: ImplicitOpenGate<S>>(self, alloc: Global, gate: &mut G) -> Result<Raw<S>, Error>
-        ensures { IsRawOpeningBy S.bytes S.features G.opened (raw_open_settings self) gate.old gate.new result }
+        ensures { IsRawOpeningBy S.bytes S.features G.opened (raw_open_settings self) gate.old
+            gate.new result }
     {
         let RawOpenBuilder(base) = self;
         let writable = base.get_writable();
@@ -74,7 +80,8 @@ impl<S: Storage> FormatDriverBuilder<S> for RawOpenBuilder<S> {
 
     ghost settings = { raw_open_settings };
 
-    ghost opens = { λ Gate opened gate b result. IsRawOpening S.bytes S.features opened gate (raw_open_settings b) result };
+    ghost opens = { λ Gate opened gate b result. IsRawOpening S.bytes S.features opened gate
+        (raw_open_settings b) result };
 
     fn new(image: S) -> Self {
         RawOpenBuilder(FormatDriverBuilderBase::new(image))
@@ -120,7 +127,8 @@ impl<S: Storage> FormatCreateBuilder<S> for RawCreateBuilder<S> {
 
     ghost settings = { raw_create_settings };
 
-    ghost creates = { λ b result. IsRawCreation S.bytes S.features S.fault_count S.maintenance (raw_create_settings b) result };
+    ghost creates = { λ b result. IsRawCreation S.bytes S.features S.fault_count S.maintenance
+        (raw_create_settings b) result };
 
     fn new(image: S) -> Self {
         RawCreateBuilder(FormatCreateBuilderBase::new(image))
@@ -157,8 +165,9 @@ impl<S: Storage> FormatCreateBuilder<S> for RawCreateBuilder<S> {
 impl<S: Storage> RawCreateBuilder<S> {
     ghost use Rattle.imago_drivers.specs.RawBuilderParts.{raw_open_settings, raw_create_settings};
 
-    /// Creates the image and opens it, always as writable, by the builder that `f` makes of its emptied storage. The image
-    /// then grows to the size. What `f`, the gate or the storage refuses is passed on, and lets the storage go.
+    /// Creates the image and opens it, always as writable, by the builder that `f` makes of its
+    /// emptied storage. The image then grows to the size. What `f`, the gate or the storage refuses
+    /// is passed on, and lets the storage go.
     pub fn create_open<G: ImplicitOpenGate<S>, F: FnOnce(S) -> Result<RawOpenBuilder<S>, Error>>(
         self,
         alloc: Global,
@@ -166,11 +175,15 @@ impl<S: Storage> RawCreateBuilder<S> {
         f: F,
     ) -> Result<Raw<S>, Error>
         requires { F.IsAlwaysCallable f }
-        ensures created { IsRawCreatedOpen S.bytes S.features S.fault_count S.maintenance ⟦<Raw<S> as FormatDriverInstance>⟧.view
-            ⟦<Raw<S> as FormatDriverInstance>⟧.calls raw_open_settings G.opened gate (F.post f) (raw_create_settings self) result }
-        ensures writable { IfOk result (λ r. (⟦<Raw<S> as FormatDriverInstance>⟧.view r).abilities.is_writable ≡ true) }
+        ensures created { IsRawCreatedOpen S.bytes S.features S.fault_count S.maintenance ⟦<Raw<S>
+            as FormatDriverInstance>⟧.view
+            ⟦<Raw<S> as FormatDriverInstance>⟧.calls raw_open_settings G.opened gate (F.post f)
+            (raw_create_settings self) result }
+        ensures writable { IfOk result
+            (λ r. (⟦<Raw<S> as FormatDriverInstance>⟧.view r).abilities.is_writable ≡ true) }
         ensures sized { IfOk result
-            (λ r. (raw_create_settings self).size ≤ (⟦<Raw<S> as FormatDriverInstance>⟧.view r).size) }
+            (λ r. (raw_create_settings self).size
+            ≤ (⟦<Raw<S> as FormatDriverInstance>⟧.view r).size) }
     {
         let RawCreateBuilder(base) = self;
         let size = base.get_size();
@@ -184,19 +197,24 @@ impl<S: Storage> RawCreateBuilder<S> {
     }
 }
 
-/// Makes a new raw image of that size in bytes in a lent storage. What the storage had is given up: it is emptied, and
-/// then grows to the size, so that its bytes are zero unless the mode leaves them unspecified.
+/// Makes a new raw image of that size in bytes in a lent storage. What the storage had is given up:
+/// it is emptied, and then grows to the size, so that its bytes are zero unless the mode leaves
+/// them unspecified.
 ///
-/// [`Error::Unsupported`] is a storage that can't be resized; [`Error::Device`] and [`Error::Memory`] are passed on. Refused,
-/// the storage is as it was, or empty.
+/// [`Error::Unsupported`] is a storage that can't be resized; [`Error::Device`] and
+/// [`Error::Memory`] are passed on. Refused, the storage is as it was, or empty.
 pub fn create_in<S: Storage>(storage: &mut S, size: u64, mode: PreallocateMode) -> Result<(), Error>
     ensures created { OnOk result (IsNewDisk size mode (S.bytes storage.new)) }
     ensures performed { IsMadeIn S.bytes S.maintenance size mode storage.old storage.new result }
-    ensures refused { OnErr result ((S.bytes storage.new ≡ S.bytes storage.old) ⊎ (S.bytes storage.new ≡ [])) }
+    ensures refused { OnErr result ((S.bytes storage.new ≡ S.bytes storage.old)
+        ⊎ (S.bytes storage.new ≡ [])) }
     ensures features { S.features storage.new ≡ S.features storage.old }
     ensures faults { S.fault_count storage.old ≤ S.fault_count storage.new }
-    ensures reliable { IsTrue (S.features storage.old).is_reliable → S.fault_count storage.new ≡ S.fault_count storage.old }
-    ensures refusals { IfErr result (MayCreationBeRefused (S.features storage.old) (S.fault_count storage.old) (length (S.bytes storage.old)) size) }
+    ensures reliable { IsTrue (S.features storage.old).is_reliable → S.fault_count storage.new
+        ≡ S.fault_count storage.old }
+    ensures refusals { IfErr result
+        (MayCreationBeRefused (S.features storage.old) (S.fault_count storage.old)
+        (length (S.bytes storage.old)) size) }
 {
     empty(storage)?;
     if size == 0 {
@@ -212,8 +230,11 @@ fn empty<S: Storage>(storage: &mut S) -> Result<(), Error>
     ensures refused { OnErr result (S.bytes storage.new ≡ S.bytes storage.old) }
     ensures features { S.features storage.new ≡ S.features storage.old }
     ensures faults { S.fault_count storage.old ≤ S.fault_count storage.new }
-    ensures reliable { IsTrue (S.features storage.old).is_reliable → S.fault_count storage.new ≡ S.fault_count storage.old }
-    ensures refusals { IfErr result (MayEmptyingBeRefused (S.features storage.old) (S.fault_count storage.old) (length (S.bytes storage.old))) }
+    ensures reliable { IsTrue (S.features storage.old).is_reliable → S.fault_count storage.new
+        ≡ S.fault_count storage.old }
+    ensures refusals { IfErr result
+        (MayEmptyingBeRefused (S.features storage.old) (S.fault_count storage.old)
+        (length (S.bytes storage.old))) }
 {
     if Storage::size(&*storage)? == 0 {
         return Ok(());

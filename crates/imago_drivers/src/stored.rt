@@ -1,5 +1,6 @@
 //! Bytes of a storage, for drivers whose places stand in one.
-ghost use Rattle.std.specs.Prelude.{◌≡◌, ◌+◌, ◌≤◌, max, length, slice_index, IsTrue, IsOk, IfErr, OnOk, OnErr, IsErrOf, true, false};
+ghost use Rattle.std.specs.Prelude.{◌≡◌, ◌+◌, ◌≤◌, max, length, slice_index, IsTrue, IsOk, IfErr};
+ghost use Rattle.std.specs.Prelude.{OnOk, OnErr, IsErrOf, true, false};
 ghost use Rattle.imago_storage.specs.Error.{IsExtRefusal};
 ghost use Rattle.imago_storage.specs.Calls.{IsRangeWrite};
 ghost use Rattle.imago_storage.specs.Faults.{CountsFaults};
@@ -13,20 +14,23 @@ use imago_storage::ext::StorageExt;
 use imago_storage::storage::Storage;
 use std::alloc::Global;
 
-/// Writes bytes of a storage, at its `offset`-th byte. Where the storage keeps data: refused, each byte of the range is
-/// old or new; no byte outside the range changes, and what is added behind it is zero. The storage becomes no shorter,
-/// and, where it grows, no longer than the padded end of the range, less than one alignment past it.
+/// Writes bytes of a storage, at its `offset`-th byte. Where the storage keeps data: refused, each
+/// byte of the range is old or new; no byte outside the range changes, and what is added behind it
+/// is zero. The storage becomes no shorter, and, where it grows, no longer than the padded end of
+/// the range, less than one alignment past it.
 ///
-/// It is refused as [`StorageExt::write`] is: [`Error::WrapAround`] where a request of the storage's alignment around the
-/// range would end past `u64::MAX`, [`Error::Memory`] only where the storage takes memory or the range isn't aligned, and
-/// [`Error::Device`] only where a device failed. It is that one write: no other call is made of the storage.
+/// It is refused as [`StorageExt::write`] is: [`Error::WrapAround`] where a request of the
+/// storage's alignment around the range would end past `u64::MAX`, [`Error::Memory`] only where the
+/// storage takes memory or the range isn't aligned, and [`Error::Device`] only where a device
+/// failed. It is that one write: no other call is made of the storage.
 pub fn write_bytes<S: Storage>(
     storage: &mut S,
     alloc: Global,
     source: &[u8],
     offset: u64,
 ) -> Result<(), Error>
-    ensures call { IsRangeWrite S.features S.bytes S.fault_count S.work offset source.now storage.old storage.new result }
+    ensures call { IsRangeWrite S.features S.bytes S.fault_count S.work offset source.now
+        storage.old storage.new result }
     ensures empty { length source.now ≡ 0 → IsOk result }
     ensures written { IsTrue (S.features storage.old).keeps_data
         → OnOk result
