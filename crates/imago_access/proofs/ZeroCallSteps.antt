@@ -1,13 +1,13 @@
-use Rattle.std.proofs.Common.{◌≡◌, ℕ, ◌+◌, ◌-◌, ◌<◌, ◌≤◌, inl, inr, List, [], ◌∷◌, refl, Result, Ok}
+use Rattle.std.proofs.Common.{◌≡◌, ℕ, ◌+◌, ◌-◌, ◌<◌, ◌≤◌, ◌⊎◌, inl, inr, List, [], ◌∷◌, refl, subst, ap, arith, Result, Ok, Err}
 use Rattle.std.specs.Prelude.{IfOk}
 use Rattle.imago_storage.specs.declared.error.Error.{Error}
 use Rattle.imago_drivers.specs.View.{View}
 use Rattle.imago_drivers.specs.LayerBelow.{LayerBelow}
-use Rattle.imago_drivers.specs.CallRelations.{Changing, OnRange}
+use Rattle.imago_drivers.specs.CallRelations.{Calls, Changing, OnRange}
 use Rattle.imago_access.specs.declared.access.FormatAccess.{FormatAccess}
 use Rattle.imago_access.specs.Chain.{driver, backing, lent_image}
 use Rattle.imago_access.specs.Lending.{with_driver}
-use Rattle.imago_access.specs.ZeroCalls.{OnDriver, AreGranulesBy}
+use Rattle.imago_access.specs.ZeroCalls.{OnDriver, AreGranulesBy, IsZeroPiece, LacksZeroes}
 use Rattle.imago_access.proofs.Images.{backing_with}
 use Rattle.imago_access.proofs.MadeSteps.{by_driver}
 
@@ -37,3 +37,21 @@ module _ {X : Type 0} (zero : OnRange X) (s e : ℕ) (old : X) where
 pub on_driver : {D St T : Type 0} (view : D → View St) (x : FormatAccess D) (d : D) (l : LayerBelow) → l ≡ lent_image view (backing x) → (made : LayerBelow → Changing D T) (result : Result T Error)
     → made l (driver x) d result → OnDriver (made (lent_image view (backing x))) x (with_driver x d) result
 on_driver view x d l e made result h = (by_driver view x d l e (λ m a b. made m a b result) h, backing_with x d)
+
+-- a piece that is done doesn't lack zeroes
+pub piece_done : {D St : Type 0} (view : D → View St) (its : Calls D St) (o n : ℕ) (old new : FormatAccess D) (z k : ℕ)
+    → IsZeroPiece view its o n old new (Ok k) ⊎ ((z ≡ 0) × LacksZeroes {T = ℕ} view o n old new (Ok k)) → IsZeroPiece view its o n old new (Ok k)
+piece_done view its o n old new z k (inl piece) = piece
+piece_done view its o n old new z k (inr (_, (_, refused, _))) = absurd cc
+
+-- what lacks zeroes for the rest of a range, where nothing was changed before, lacks them for the range
+pub lacks_rest : {D St : Type 0} (view : D → View St) (o n c : ℕ) (old mid new : FormatAccess D) (e : Error) → mid ≡ old → c ≤ n
+    → LacksZeroes {T = ℕ} view (o + c) (n - c) mid new (Err e) → LacksZeroes {T = Unit {0}} view o n old new (Err e)
+lacks_rest {D} view o n c old mid new e same le h =
+    lacking (subst (λ (m : FormatAccess D). LacksZeroes {T = ℕ} view (o + c) (n - c) m new (Err e)) same h)
+  where
+    memory : (x : Error) (r : Result ℕ Error) → r ≡ Err x → r ≡ Err Error.Memory → x ≡ Error.Memory
+    memory x r q m = cc
+
+    lacking : LacksZeroes {T = ℕ} view (o + c) (n - c) old new (Err e) → LacksZeroes {T = Unit {0}} view o n old new (Err e)
+    lacking (is, out, (p, inside, more)) = (is, ap Err (memory e _ refl out), (p, (omega (arith, inside.0), omega (arith, inside.1, le)), more))

@@ -1,6 +1,7 @@
 use Rattle.std.specs.Prelude.{◌≡◌, ℕ, ◌+◌, ◌-◌, ◌<◌, ◌≤◌, ◌⊎◌, true, List, [], ◌∷◌, length, slice_index, EachIndex, Option, Some, None, max, Result, Ok, Err, IfOk}
 use Rattle.imago_storage.specs.declared.error.Error.{Error}
 use Rattle.imago_drivers.specs.Reasons.{allowed}
+use Rattle.imago_drivers.specs.Place.{Place, Zeroed, IsIn}
 use Rattle.imago_drivers.specs.View.{View}
 use Rattle.imago_drivers.specs.CallRelations.{Calls, Changing, OnRange}
 use Rattle.imago_access.specs.declared.access.FormatAccess.{FormatAccess}
@@ -62,9 +63,23 @@ IsZeroPiece view its o n old new result = ((new ≡ old) × IsToldByMapping view
 abbrev pub behind : {D : Type 0} → (ℕ → ℕ → Changing (FormatAccess D) ℕ) → ℕ → ℕ → Part (FormatAccess D)
 behind made o n c = made (o + c) (n - c)
 
--- A range is zeroed as data, piece after piece; or there is no memory for the zeroes, and no call.
+-- bytes that are all 0
+abbrev pub AreNull : List ℕ → Type 0
+AreNull bytes = EachIndex bytes (λ k. slice_index bytes k ≡ 0)
+
+-- one of the n places from o on is no explicit zero
+abbrev pub HasMoreThanZeroes : (ℕ → Place) → ℕ → ℕ → Type 0
+HasMoreThanZeroes place o n = (p : ℕ) × IsIn o n p × (place p ≡ Zeroed true → ⊥)
+
+-- there is no memory for zeroes that have to be written, and no call
+abbrev pub LacksZeroes : {D St T : Type 0} → (D → View St) → ℕ → ℕ → Changing (FormatAccess D) T
+LacksZeroes view o n old new result = (new ≡ old) × (result ≡ Err Error.Memory)
+    × HasMoreThanZeroes (view (driver old)).place o n
+
+-- A range is zeroed as data, piece after piece; or zeroes have to be written, and there is no memory for them.
 abbrev pub IsZeroedAsData : {D St : Type 0} → (D → View St) → Calls D St → ℕ → ℕ → Changing (FormatAccess D) Unit
-IsZeroedAsData view its o n old new result = ((new ≡ old) × (result ≡ Err Error.Memory)) ⊎ ((parts : List ℕ) × IsMadeInParts (behind (IsZeroPiece view its) o n) n 0 parts old new result)
+IsZeroedAsData view its o n old new result = LacksZeroes view o n old new result
+    ⊎ ((parts : List ℕ) × IsMadeInParts (behind (IsZeroPiece view its) o n) n 0 parts old new result)
 
 -- What the driver's own call left of a range is zeroed: by granules as far as that goes, whose refusal is told to nobody, then as data.
 -- There is no call where nothing is left.

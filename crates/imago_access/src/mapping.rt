@@ -1,5 +1,6 @@
 //! What a range of an image is, resolved through its layers.
-ghost use Rattle.std.specs.Prelude.{◌↔◌, IsTrue, Some};
+ghost use Rattle.std.specs.Prelude.{◌≡◌, ◌↔◌, IsTrue, Some, true};
+ghost use Rattle.imago_access.specs.declared.mapping.Mapping.TheVariants as M;
 ghost use Rattle.imago_access.specs.Text.{mapping_text};
 ghost use Rattle.imago_access.specs.Resolved.{IsEndOfImage};
 
@@ -41,6 +42,13 @@ impl Mapping {
         ensures { IsTrue result ↔ IsEndOfImage self.now }
     {
         matches!(self, Mapping::Eof)
+    }
+
+    /// Whether the range is explicit zeroes: those of the top layer, which stand in no storage.
+    pub(crate) fn is_explicit_zero(&self) -> bool
+        ensures { IsTrue result ↔ (self.now ≡ M.Zero true) }
+    {
+        matches!(self, Mapping::Zero { explicit: true })
     }
 }
 

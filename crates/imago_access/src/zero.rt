@@ -1,11 +1,11 @@
 //! Zeroing ranges of an image.
-ghost use Rattle.std.specs.Prelude.{◌≡◌, ℕ, ◌+◌, ◌-◌, ◌<◌, ◌≤◌, ◌^◌, None, true, List, IsTrue, IfOk, IfErr, IsOk, length, slice_index, EachIndex};
+ghost use Rattle.std.specs.Prelude.{◌≡◌, ℕ, ◌+◌, ◌-◌, ◌<◌, ◌≤◌, ◌^◌, None, true, List, IsTrue, IfOk, IfErr, OnOk, IsOk, ◌⊎◌, length, slice_index, EachIndex};
 ghost use Rattle.imago_drivers.specs.Operation.{Zero, DiscardToZero};
 ghost use Rattle.imago_drivers.specs.LayerBelow.{lent};
 ghost use Rattle.imago_drivers.specs.Place.{Byte};
 ghost use Rattle.imago_access.specs.Chain.{driver, backing, disk_value, lent_image, as_layer_below};
 ghost use Rattle.imago_access.specs.Calls.{IsTested};
-ghost use Rattle.imago_access.specs.ZeroCalls.{OnDriver, zero_by, AreGranulesBy, IsRoundedFrom, TriesGranules, IsZeroPiece, IsZeroedAsData, IsGapZeroed, IsNextZeroed, AllZeroedBy, IsZeroedBy};
+ghost use Rattle.imago_access.specs.ZeroCalls.{OnDriver, zero_by, AreGranulesBy, IsRoundedFrom, TriesGranules, IsZeroPiece, IsZeroedAsData, IsGapZeroed, IsNextZeroed, AllZeroedBy, IsZeroedBy, LacksZeroes, AreNull};
 ghost use Rattle.imago_access.specs.Performed.{IsFirstBy};
 ghost use Rattle.imago_access.specs.declared.zero.ZeroCall.TheVariants as Call;
 ghost use Rattle.imago_access.specs.Zeroing.{operation_of, AreZero, IsPartlyZeroed, Carries, HasZeroed, HasZeroedPart, IsZeroedByDriver, IsZeroWrite, data_reasons, zero_reasons};
@@ -15,10 +15,8 @@ use crate::mapping::Mapping;
 use crate::write::write_first;
 use imago_drivers::drivers::FormatDriverInstance;
 use imago_storage::error::Error;
+use imago_storage::storage::{ZERO_PIECE, zero_buffer};
 use std::alloc::Global;
-
-/// The most zeroes that are written as data at once, in bytes.
-const ZERO_PIECE: u64 = 1048576;
 
 /// Which call of the driver zeroes what it can.
 #[derive(Clone, Copy)]
@@ -160,51 +158,57 @@ impl<D: FormatDriverInstance> FormatAccess<D> {
         write_first(&mut self.inner, alloc, below(&self.backing), zeroes, offset)
     }
 
-    /// Zeroes the first bytes of a range, and answers how many these are: what maps as explicit zeroes already, or what one
-    /// write of these zeroes puts there.
+    /// Zeroes the first bytes of a range, and answers how many these are: what maps as explicit zeroes
+    /// already, or what one write of zeroes puts there. The zeroes are taken at the first place that
+    /// has to be written, so where there are none nothing is written yet.
     fn zero_first(
         &mut self,
         alloc: Global,
-        zeroes: &[u8],
+        zeroes: &mut Vec<u8>,
         offset: u64,
         count: u64,
     ) -> Result<u64, Error>
         requires some { 0 < count }
-        requires stock { 0 < length zeroes.now }
-        requires zeroes { EachIndex zeroes.now (λ k. slice_index zeroes.now k ≡ 0) }
+        requires zeroes { AreNull zeroes.old.items }
         requires writable { (D.view (driver self.old)).abilities.is_writable ≡ true }
         requires spent { (D.view (driver self.old)).pending ≡ None }
         requires inside { offset + count ≤ (D.view (driver self.old)).size }
         requires fits { offset + count < 2 ^ 64 }
         ensures some { IfOk result (λ n. (0 < n) × (n ≤ count)) }
-        ensures zeroed { HasZeroed D.view offset count (λ n. n) (data_reasons D.view self.old offset count)
-            self.old self.new result }
-        ensures performed { IsZeroPiece D.view D.calls offset count self.old self.new result }
+        ensures zeroes { AreNull zeroes.new.items }
+        ensures lazy { length zeroes.new.items ≡ 0
+            → (length zeroes.old.items ≡ 0) × (self.new ≡ self.old) }
+        ensures zeroed { HasZeroed D.view offset count (λ n. n)
+            (data_reasons D.view self.old offset count) self.old self.new result }
+        ensures performed { IsZeroPiece D.view D.calls offset count self.old self.new result
+            ⊎ ((length zeroes.old.items ≡ 0) × LacksZeroes D.view offset count self.old self.new result) }
     {
         let (mapping, length) = self.get_mapping(offset, count)?;
-        if let Mapping::Zero { explicit: true } = mapping {
+        if mapping.is_explicit_zero() {
             return Ok(length);
         }
+        take_zeroes(alloc, zeroes, count)?;
         let piece = piece_of(length, count, zeroes.len() as u64);
         let written = self.write_zero_piece(alloc, &zeroes[..piece as usize], offset)?;
         Ok(written as u64)
     }
 
-    /// Zeroes a range by writes of zeroes, but for what is an explicit zero already.
+    /// Zeroes a range by writes of zeroes, but for what is an explicit zero already. A range that is
+    /// explicit zeroes takes no memory.
     fn zero_as_data(&mut self, alloc: Global, offset: u64, count: u64) -> Result<(), Error>
         requires some { 0 < count }
         requires writable { (D.view (driver self.old)).abilities.is_writable ≡ true }
         requires spent { (D.view (driver self.old)).pending ≡ None }
         requires inside { offset + count ≤ (D.view (driver self.old)).size }
         requires fits { offset + count < 2 ^ 64 }
-        ensures zeroed { HasZeroed D.view offset count (λ u. count) (data_reasons D.view self.old offset count)
-            self.old self.new result }
+        ensures zeroed { HasZeroed D.view offset count (λ u. count)
+            (data_reasons D.view self.old offset count) self.old self.new result }
         ensures performed { IsZeroedAsData D.view D.calls offset count self.old self.new result }
     {
-        let zeroes = zero_bytes(alloc, count.min(ZERO_PIECE) as usize)?;
+        let mut zeroes = Vec::new(alloc);
         let mut done: u64 = 0;
         while done < count {
-            done += self.zero_first(alloc, &zeroes, offset + done, count - done)?;
+            done += self.zero_first(alloc, &mut zeroes, offset + done, count - done)?;
         }
         Ok(())
     }
@@ -352,11 +356,18 @@ fn piece_of(mapped: u64, count: u64, most: u64) -> u64
     mapped.min(most)
 }
 
-/// A buffer of that many zeroes. Refused, it is [`Error::Memory`].
-pub(crate) fn zero_bytes(alloc: Global, count: usize) -> Result<Vec<u8>, Error>
-    ensures len { IfOk result (λ v. length v.items ≡ count) }
-    ensures zeroes { IfOk result (λ v. EachIndex v.items (λ k. slice_index v.items k ≡ 0)) }
-    ensures memory { IfErr result (λ e. e ≡ Error.Memory) }
+/// Takes zeroes to write from, at most one piece, where none are taken yet. Refused, it is
+/// [`Error::Memory`], and there are none.
+fn take_zeroes(alloc: Global, zeroes: &mut Vec<u8>, count: u64) -> Result<(), Error>
+    requires some { 0 < count }
+    requires zeroes { AreNull zeroes.old.items }
+    ensures zeroes { AreNull zeroes.new.items }
+    ensures some { OnOk result (0 < length zeroes.new.items) }
+    ensures refused { IfErr result
+        (λ e. (e ≡ Error.Memory) × (length zeroes.old.items ≡ 0)) }
 {
-    Ok(vec![in alloc; 0u8; count]?)
+    if zeroes.is_empty() {
+        *zeroes = zero_buffer(alloc, count.min(ZERO_PIECE) as usize)?;
+    }
+    Ok(())
 }

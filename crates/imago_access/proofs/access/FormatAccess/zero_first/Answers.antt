@@ -1,4 +1,4 @@
-use Rattle.std.proofs.Common.{Bool, arith, subst, length-take}
+use Rattle.std.proofs.Common.{◌≡◌, true, arith, subst, length-take}
 use Rattle.std.proofs.lemmas.Result.{err_from_is_err_and}
 use Rattle.imago_access.specs.declared.mapping.Mapping.{Mapping}
 use Rattle.imago_access.specs.Resolved.{IsResolved}
@@ -6,13 +6,15 @@ use Rattle.imago_access.proofs.ZeroSteps.{zero_mapped, explicit_alone}
 use Rattle.imago_access.proofs.ZeroLoops.{zero_already, piece_refused}
 use Rattle.imago_access.proofs.access.FormatAccess.zero_first.Goals as goal
 
-pub returns-in-Zero-true-clause-zeroed : goal.returns-in-Zero-true-clause-zeroed
-returns-in-Zero-true-clause-zeroed g c =
+pub returns-then-is_explicit_zero-clause-zeroed : goal.returns-then-is_explicit_zero-clause-zeroed
+returns-then-is_explicit_zero-clause-zeroed g c =
     let v = g.D.FormatDriverInstance.view in
     let m = c.in_ok-mapping in
+    let is : m.mapping ≡ Mapping.Zero true = c.is_explicit_zero.ensures.0 c.if-is_explicit_zero.true in
+    let right = subst (λ (k : Mapping). IsResolved v c.args.self.now c.args.offset c.args.count k m.length) is m.ensures.right in
     zero_already v c.args.self.now c.args.offset c.args.count (g.met.D.FormatDriverInstance.causes_lawful _) c.requires.spent _ m.length
-    (zero_mapped v c.args.self.now c.args.offset c.args.count m.length c.in-Zero-true.explicit (subst (λ (k : Mapping). IsResolved v c.args.self.now c.args.offset c.args.count k m.length) c.in-Zero-true.is m.ensures.right))
-    (explicit_alone v c.args.self.now c.args.offset c.args.count m.length (subst (λ (b : Bool). IsResolved v c.args.self.now c.args.offset c.args.count (Mapping.Zero b) m.length) c.in-Zero-true.explicit-test (subst (λ (k : Mapping). IsResolved v c.args.self.now c.args.offset c.args.count k m.length) c.in-Zero-true.is m.ensures.right)))
+    (zero_mapped v c.args.self.now c.args.offset c.args.count m.length true right)
+    (explicit_alone v c.args.self.now c.args.offset c.args.count m.length right)
 
 pub returns-in_err-written-clause-zeroed : goal.returns-in_err-written-clause-zeroed
 returns-in_err-written-clause-zeroed g c =
