@@ -1,7 +1,8 @@
 use Rattle.std.specs.Prelude.{◌≡◌, ℕ, ◌<◌, ◌≤◌, ◌⊎◌}
 use Rattle.imago_storage.specs.Features.{Features}
 use Rattle.imago_drivers.specs.View.{View}
-use Rattle.imago_access.specs.declared.access.FormatAccess.{FormatAccess, FormatAccess', Held-FormatAccess-backing, None', Some'}
+use Rattle.imago_access.specs.declared.access.FormatAccess.{FormatAccess, FormatAccess'}
+use Rattle.imago_access.specs.declared.access.FormatAccess.{Held-FormatAccess-backing, None', Some'}
 use Rattle.imago_access.specs.declared.alignments.Alignment.{Alignment}
 use Rattle.imago_access.specs.declared.alignments.Alignment.TheVariants as A
 
@@ -18,9 +19,11 @@ abbrev mutual
   -- a storage of the top layer, or of a layer below, has that alignment
   pub has_align : {D St : Type 0} → (D → View St) → (Features → ℕ) → FormatAccess D → ℕ → Type 0
   has_align view of (FormatAccess' inner below) align =
-      HasStorage of (view inner).stores.features (view inner).stores.count align ⊎ has_align_below view of below align
+      HasStorage of (view inner).stores.features (view inner).stores.count align
+      ⊎ has_align_below view of below align
 
-  pub has_align_below : {D St : Type 0} → (D → View St) → (Features → ℕ) → Held-FormatAccess-backing D → ℕ → Type 0
+  pub has_align_below : {D St : Type 0} → (D → View St) → (Features → ℕ)
+      → Held-FormatAccess-backing D → ℕ → Type 0
   has_align_below view of None' align = ⊥
   has_align_below view of (Some' k x) align = has_align view of x align
 

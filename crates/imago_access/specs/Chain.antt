@@ -1,4 +1,5 @@
-use Rattle.std.specs.Prelude.{◌≡◌, ℕ, ◌+◌, ◌-◌, ◌<◌, ◌≤◌, ◌⊎◌, ◌&&◌, Bool, true, Option, Some, None, min}
+use Rattle.std.specs.Prelude.{◌≡◌, ℕ, ◌+◌, ◌-◌, ◌<◌, ◌≤◌, ◌⊎◌, ◌&&◌, Bool, true, Option, Some, None}
+use Rattle.std.specs.Prelude.{min}
 use Rattle.std.specs.declared.boxed.Box.{Box}
 use Rattle.std.specs.declared.alloc.Global.{Global}
 use Rattle.imago_storage.specs.declared.error.Error.{Error}
@@ -7,9 +8,12 @@ use Rattle.imago_drivers.specs.Place.{Value, Byte, Place, Lower, shown}
 use Rattle.imago_drivers.specs.LayerBelow.{LayerBelow, no_layer, below_reasons}
 use Rattle.imago_drivers.specs.Reasons.{Reasons}
 use Rattle.imago_drivers.specs.View.{View}
-use Rattle.imago_access.specs.declared.access.FormatAccess.{FormatAccess, FormatAccess', Held-FormatAccess-backing, None', Some', out-FormatAccess}
+use Rattle.imago_access.specs.declared.access.FormatAccess.{FormatAccess, FormatAccess'}
+use Rattle.imago_access.specs.declared.access.FormatAccess.{Held-FormatAccess-backing, None', Some'}
+use Rattle.imago_access.specs.declared.access.FormatAccess.{out-FormatAccess}
 
--- An image is a chain of layers: each has a driver, and the next one below it. What a driver is to its callers is its view.
+-- An image is a chain of layers: each has a driver, and the next one below it. What a driver is to
+-- its callers is its view.
 
 -- the driver of an image
 abbrev pub driver : {D : Type 0} → FormatAccess D → D
@@ -24,9 +28,11 @@ abbrev pub backing : {D : Type 0} → FormatAccess D → Option (FormatAccess D)
 backing {D} x = unboxed (out-FormatAccess D x).backing
 
 abbrev mutual
-  -- what a read of each offset of an image gives: each place of the top layer, over what the layers below it show
+  -- what a read of each offset of an image gives: each place of the top layer, over what the layers
+  -- below it show
   pub disk_value : {D St : Type 0} → (D → View St) → FormatAccess D → ℕ → Value
-  disk_value view (FormatAccess' inner below) p = shown (value_below view below) ((view inner).place p)
+  disk_value view (FormatAccess' inner below) p = shown (value_below view below)
+      ((view inner).place p)
 
   pub value_below : {D St : Type 0} → (D → View St) → Held-FormatAccess-backing D → ℕ → Value
   value_below view None' p = Byte 0
@@ -35,7 +41,8 @@ abbrev mutual
 abbrev mutual
   -- no device of any layer fails
   pub is_reliable : {D St : Type 0} → (D → View St) → FormatAccess D → Bool
-  is_reliable view (FormatAccess' inner below) = (view inner).abilities.is_reliable && is_reliable_below view below
+  is_reliable view (FormatAccess' inner below) = (view inner).abilities.is_reliable
+      && is_reliable_below view below
 
   pub is_reliable_below : {D St : Type 0} → (D → View St) → Held-FormatAccess-backing D → Bool
   is_reliable_below view None' = true
@@ -43,15 +50,20 @@ abbrev mutual
 
 -- the m offsets of the layer below from q on are reached from offsets of the range of n from o on
 abbrev pub IsReached : (ℕ → Place) → ℕ → ℕ → ℕ → ℕ → Type 0
-IsReached place o n q m = (i : ℕ) → i < m → (k : ℕ) × (k < n) × (w : Bool) × (place (o + k) ≡ Lower (q + i) w)
+IsReached place o n q m = (i : ℕ) → i < m → (k : ℕ) × (k < n) × (w : Bool)
+    × (place (o + k) ≡ Lower (q + i) w)
 
 abbrev mutual
   -- a cause of refusal for that range at the top, or, for what is reached there, at a layer below
-  pub chain_cause : {D St : Type 0} → (D → View St) → FormatAccess D → Operation → ℕ → ℕ → Error → Type 0
+  pub chain_cause : {D St : Type 0} → (D → View St) → FormatAccess D → Operation → ℕ → ℕ → Error
+      → Type 0
   chain_cause view (FormatAccess' inner below) op o n e =
-      (view inner).limits.cause op o n e ⊎ ((q : ℕ) × (m : ℕ) × (0 < m) × IsReached (view inner).place o n q m × cause_below view below op q m e)
+      (view inner).limits.cause op o n e
+      ⊎ ((q : ℕ) × (m : ℕ) × (0 < m) × IsReached (view inner).place o n q m
+      × cause_below view below op q m e)
 
-  pub cause_below : {D St : Type 0} → (D → View St) → Held-FormatAccess-backing D → Operation → ℕ → ℕ → Error → Type 0
+  pub cause_below : {D St : Type 0} → (D → View St) → Held-FormatAccess-backing D → Operation → ℕ
+      → ℕ → Error → Type 0
   cause_below view None' op q m e = ⊥
   cause_below view (Some' k x) op q m e = chain_cause view x op q m e
 
@@ -59,24 +71,31 @@ abbrev mutual
   -- each driver maps the whole of that range at once, and takes no memory to read it
   pub chain_no_memory : {D St : Type 0} → (D → View St) → FormatAccess D → ℕ → ℕ → Type 0
   chain_no_memory view (FormatAccess' inner below) o n =
-      (view inner).limits.whole Read o n × (view inner).limits.no_memory Read o n × ((q : ℕ) → IsReached (view inner).place o n q n → no_memory_below view below q n)
+      (view inner).limits.whole Read o n × (view inner).limits.no_memory Read o n
+      × ((q : ℕ) → IsReached (view inner).place o n q n → no_memory_below view below q n)
 
-  pub no_memory_below : {D St : Type 0} → (D → View St) → Held-FormatAccess-backing D → ℕ → ℕ → Type 0
+  pub no_memory_below : {D St : Type 0} → (D → View St) → Held-FormatAccess-backing D → ℕ → ℕ
+      → Type 0
   no_memory_below view None' q n = Unit {0}
   no_memory_below view (Some' k x) q n = chain_no_memory view x q n
 
 abbrev mutual
-  -- a driver may take memory to read a part of that range: the one at the top, or, for what is reached there, one of a layer below
+  -- a driver may take memory to read a part of that range: the one at the top, or, for what is
+  -- reached there, one of a layer below
   pub may_take_memory : {D St : Type 0} → (D → View St) → FormatAccess D → ℕ → ℕ → Type 0
   may_take_memory view (FormatAccess' inner below) o n =
-      ((q : ℕ) × (m : ℕ) × (0 < m) × (o ≤ q) × (q + m ≤ o + n) × ((view inner).limits.no_memory Read q m → ⊥))
-      ⊎ ((q : ℕ) × (m : ℕ) × (0 < m) × IsReached (view inner).place o n q m × may_take_memory_below view below q m)
+      ((q : ℕ) × (m : ℕ) × (0 < m) × (o ≤ q) × (q + m ≤ o + n)
+      × ((view inner).limits.no_memory Read q m → ⊥))
+      ⊎ ((q : ℕ) × (m : ℕ) × (0 < m) × IsReached (view inner).place o n q m
+      × may_take_memory_below view below q m)
 
-  pub may_take_memory_below : {D St : Type 0} → (D → View St) → Held-FormatAccess-backing D → ℕ → ℕ → Type 0
+  pub may_take_memory_below : {D St : Type 0} → (D → View St) → Held-FormatAccess-backing D → ℕ → ℕ
+      → Type 0
   may_take_memory_below view None' q m = ⊥
   may_take_memory_below view (Some' k x) q m = may_take_memory view x q m
 
--- none takes memory: each driver maps the whole at once and takes none for it, or none does for any part
+-- none takes memory: each driver maps the whole at once and takes none for it, or none does for any
+-- part
 abbrev pub takes_no_memory : {D St : Type 0} → (D → View St) → FormatAccess D → ℕ → ℕ → Type 0
 takes_no_memory view x o n = chain_no_memory view x o n ⊎ (may_take_memory view x o n → ⊥)
 
@@ -84,7 +103,8 @@ takes_no_memory view x o n = chain_no_memory view x o n ⊎ (may_take_memory vie
 abbrev pub inside_part : ℕ → ℕ → ℕ → ℕ
 inside_part size o n = min n (size - o)
 
--- a read of that range takes no memory: none of it lies inside the disk, or no driver takes any for what does
+-- a read of that range takes no memory: none of it lies inside the disk, or no driver takes any for
+-- what does
 abbrev pub no_memory_to_read : {D St : Type 0} → (D → View St) → FormatAccess D → ℕ → ℕ → Type 0
 no_memory_to_read view x o n =
     let m = inside_part (view (driver x)).size o n in (m ≡ 0) ⊎ takes_no_memory view x o m

@@ -1,4 +1,5 @@
-use Rattle.std.specs.Prelude.{◌≡◌, ◌≢◌, ℕ, ◌≤◌, ◌⊎◌, ◌&&◌, not, Bool, true, false, List, ◌∷◌, length, take, map}
+use Rattle.std.specs.Prelude.{◌≡◌, ◌≢◌, ℕ, ◌≤◌, ◌⊎◌, ◌&&◌, not, Bool, true, false, List, ◌∷◌}
+use Rattle.std.specs.Prelude.{length, take, map}
 use Rattle.imago_storage.specs.declared.error.Error.{Error}
 use Rattle.imago_drivers.specs.declared.format.PreallocateMode.{PreallocateMode}
 use Rattle.imago_drivers.specs.declared.format.PreallocateMode.TheVariants as Mode
@@ -7,7 +8,8 @@ use Rattle.imago_access.specs.declared.run.Call.{Call}
 use Rattle.imago_access.specs.declared.run.Call.TheVariants as C
 use Rattle.imago_access.specs.declared.run.Reply.{Reply}
 use Rattle.imago_access.specs.declared.run.Reply.TheVariants as R
-use Rattle.imago_access.specs.Disk.{splice, zeroed, filled_in, IsTestRefusal, IsEndRefusal, extended}
+use Rattle.imago_access.specs.Disk.{splice, zeroed, filled_in, IsTestRefusal, IsEndRefusal}
+use Rattle.imago_access.specs.Disk.{extended}
 use Rattle.imago_access.specs.Writing.{shown_length}
 use Rattle.imago_access.specs.Runs.{told_prepared}
 use Rattle.imago_access.specs.Histories.{IsFlatStep}
@@ -28,14 +30,18 @@ IsOfNoneOrRefused xs o n r = (n ≡ 0) ⊎ IsRefusedByTest xs o n r
 abbrev pub IsTestRefusalIfRefused : List Value → ℕ → ℕ → Reply → Type 0
 IsTestRefusalIfRefused xs o n r = (e : Error) → r ≡ R.Refused e → IsTestRefusal xs o n e
 
--- The reply says what the list is afterwards: all but a write or zero write that is refused past its tests, a growth without preallocation,
--- a mapping that may be overwritten and isn't filled, and a discard to any or to backing that isn't refused by its tests. A mapping or
--- such a discard of no bytes changes nothing.
+-- The reply says what the list is afterwards: all but a write or zero write that is refused past
+-- its tests, a growth without preallocation, a mapping that may be overwritten and isn't filled,
+-- and a discard to any or to backing that isn't refused by its tests. A mapping or such a discard
+-- of no bytes changes nothing.
 abbrev pub IsDetermined : List Value → Call → Reply → Type 0
 IsDetermined xs (C.Write o bytes) r = IsTestRefusalIfRefused xs o (length bytes.items) r
-IsDetermined xs (C.EnsureData o n overwrite) r = overwrite ≡ true → (n ≡ 0) ⊎ ((e : Error) × (r ≡ R.Refused e) × IsTestRefusal xs o n e)
+IsDetermined xs (C.EnsureData o n overwrite) r = overwrite ≡ true → (n ≡ 0)
+    ⊎ ((e : Error) × (r ≡ R.Refused e) × IsTestRefusal xs o n e)
 IsDetermined xs (C.Prepared o n overwrite bytes commit) r =
-    ((m : ℕ × Bool) → r ≡ told_prepared m → ((overwrite && not m.1) ≡ false) ⊎ (shown_length commit m ≤ length bytes.items)) × ((n ≡ 0) ⊎ IsTestRefusalIfRefused xs o n r)
+    ((m : ℕ × Bool) → r ≡ told_prepared m → ((overwrite && not m.1) ≡ false)
+    ⊎ (shown_length commit m ≤ length bytes.items))
+    × ((n ≡ 0) ⊎ IsTestRefusalIfRefused xs o n r)
 IsDetermined xs (C.WriteZeroes o n) r = (e : Error) → r ≡ R.Refused e → IsEndRefusal xs o n e
 IsDetermined xs (C.DiscardToZero o n) r = (e : Error) → r ≡ R.Refused e → IsEndRefusal xs o n e
 IsDetermined xs (C.DiscardToAny o n) r = IsOfNoneOrRefused xs o n r
@@ -62,7 +68,8 @@ if_done (R.Prepared count nonblocking) ys xs = xs
 
 -- the list after a write through a prepared mapping
 abbrev pub if_prepared : Reply → Bool → ℕ → List ℕ → List Value → List Value
-if_prepared (R.Prepared c nonblocking) commit o bytes xs = filled_in xs o (shown_length commit (c, nonblocking)) bytes
+if_prepared (R.Prepared c nonblocking) commit o bytes xs = filled_in xs o
+    (shown_length commit (c, nonblocking)) bytes
 if_prepared R.Done commit o bytes xs = xs
 if_prepared (R.Refused e) commit o bytes xs = xs
 if_prepared (R.Data read) commit o bytes xs = xs
@@ -91,22 +98,26 @@ after below C.InvalidateCache r xs = xs
 
 -- each call is determined, on the list that stands at its point of the run
 abbrev pub AreDetermined : (ℕ → Value) → List Value → List Call → List Reply → Type 0
-AreDetermined below xs (call ∷ calls) (reply ∷ replies) = IsDetermined xs call reply × AreDetermined below (after below call reply xs) calls replies
+AreDetermined below xs (call ∷ calls) (reply ∷ replies) = IsDetermined xs call reply
+    × AreDetermined below (after below call reply xs) calls replies
 AreDetermined below xs calls replies = Unit {0}
 
 -- the list after calls that are determined: each successful one applied, in order
 abbrev pub after_all : (ℕ → Value) → List Call → List Reply → List Value → List Value
-after_all below (call ∷ calls) (reply ∷ replies) xs = after_all below calls replies (after below call reply xs)
+after_all below (call ∷ calls) (reply ∷ replies) xs = after_all below calls replies
+    (after below call reply xs)
 after_all below calls replies xs = xs
 
 -- each call, with its reply, takes the list that stands at its point of the run to the one after it
 abbrev pub AllFit : (ℕ → Value) → List Value → List Call → List Reply → Type 0
-AllFit below xs (call ∷ calls) (reply ∷ replies) = let ys = after below call reply xs in IsFlatStep below xs call reply ys × AllFit below ys calls replies
+AllFit below xs (call ∷ calls) (reply ∷ replies) = let ys = after below call reply xs in
+    IsFlatStep below xs call reply ys × AllFit below ys calls replies
 AllFit below xs calls replies = Unit {0}
 
--- Calls and replies on one list, each of which is determined: the list at the end is the first one with each successful call
--- applied, in order, and each reply is that of a step from the list as it stands then: a read, a size and a mapping answer it, and
--- what a call changes lies in it.
-pub record IsFlatRun (below : ℕ → Value) (xs : List Value) (calls : List Call) (replies : List Reply) (zs : List Value) : Type 0 where
+-- Calls and replies on one list, each of which is determined: the list at the end is the first one
+-- with each successful call applied, in order, and each reply is that of a step from the list as it
+-- stands then: a read, a size and a mapping answer it, and what a call changes lies in it.
+pub record IsFlatRun (below : ℕ → Value) (xs : List Value) (calls : List Call)
+    (replies : List Reply) (zs : List Value) : Type 0 where
   pub list_after : zs ≡ after_all below calls replies xs
   pub replies_fit : AllFit below xs calls replies

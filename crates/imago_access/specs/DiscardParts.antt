@@ -19,10 +19,16 @@ DoesNoMore discard o n old new result = (q : ℕ) × discard o n old new (Ok (q,
 
 -- the driver is asked for them, and its refusal is passed on
 abbrev pub IsRefusedBy : {D : Type 0} → OnRange D → ℕ → ℕ → D → D → Result Unit Error → Type 0
-IsRefusedBy discard o n old new result = (e : Error) × discard o n old new (Err e) × (result ≡ Err e)
+IsRefusedBy discard o n old new result = (e : Error) × discard o n old new (Err e)
+    × (result ≡ Err e)
 
--- The driver's discards of what is left of the n bytes from o on, one after another: these are the parts that it answered, of which
--- none is empty, and what is left then begins behind each. Where nothing is left, or the driver does nothing more, that is a success.
-abbrev pub IsDiscardedInParts : {D : Type 0} → OnRange D → ℕ → ℕ → List (ℕ × ℕ) → D → D → Result Unit Error → Type 0
-IsDiscardedInParts discard o n [] old new result = HasNothingLeft n old new result ⊎ ((0 < n) × (DoesNoMore discard o n old new result ⊎ IsRefusedBy discard o n old new result))
-IsDiscardedInParts {D} discard o n ((q, m) ∷ parts) old new result = (0 < n) × (0 < m) × (mid : D) × discard o n old mid (Ok (q, m)) × IsDiscardedInParts discard (q + m) (o + n - (q + m)) parts mid new result
+-- The driver's discards of what is left of the n bytes from o on, one after another: these are the
+-- parts that it answered, of which none is empty, and what is left then begins behind each. Where
+-- nothing is left, or the driver does nothing more, that is a success.
+abbrev pub IsDiscardedInParts : {D : Type 0} → OnRange D → ℕ → ℕ → List (ℕ × ℕ) → D → D
+    → Result Unit Error → Type 0
+IsDiscardedInParts discard o n [] old new result = HasNothingLeft n old new result
+    ⊎ ((0 < n) × (DoesNoMore discard o n old new result ⊎ IsRefusedBy discard o n old new result))
+IsDiscardedInParts {D} discard o n ((q, m) ∷ parts) old new result = (0 < n) × (0 < m) × (mid : D)
+    × discard o n old mid (Ok (q, m)) × IsDiscardedInParts discard (q + m) (o + n - (q + m)) parts
+    mid new result

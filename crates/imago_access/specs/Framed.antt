@@ -4,8 +4,8 @@ use Rattle.imago_drivers.specs.Lengths.{AreNoShorter}
 use Rattle.imago_drivers.specs.View.{View}
 use Rattle.imago_drivers.specs.Frame.{IsKind}
 
--- What no call but a resize changes in the layer of an image: what its driver is good for, and its size; no place becomes an end, and
--- no storage becomes shorter.
+-- What no call but a resize changes in the layer of an image: what its driver is good for, and its
+-- size; no place becomes an end, and no storage becomes shorter.
 pub record StaysFramed {St : Type 0} (old new : View St) : Type 0 where
   pub kind : IsKind old new
   pub size : new.size ≡ old.size

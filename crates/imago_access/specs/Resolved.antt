@@ -16,23 +16,29 @@ IsEndOfImage (M.Raw layer storage offset writable) = ⊥
 IsEndOfImage (M.Zero explicit) = ⊥
 IsEndOfImage (M.Special layer offset) = ⊥
 
--- zeroes of no storage: as the top layer has them, or unallocated ones: those of a layer below, or where a layer below ends
--- or is missing
+-- zeroes of no storage: as the top layer has them, or unallocated ones: those of a layer below, or
+-- where a layer below ends or is missing
 abbrev pub LeadsToZero : Bool → Target → Type 0
 LeadsToZero explicit t =
     ((t.place ≡ Zeroed explicit) × (t.depth ≡ 0))
-    ⊎ (((v : Bool) × (t.place ≡ Zeroed v) × (0 < t.depth) × (explicit ≡ false)) ⊎ ((t.place ≡ End) × (0 < t.depth) × (explicit ≡ false)))
+    ⊎ (((v : Bool) × (t.place ≡ Zeroed v) × (0 < t.depth) × (explicit ≡ false))
+    ⊎ ((t.place ≡ End) × (0 < t.depth) × (explicit ≡ false)))
 
--- the mapping names, as its i-th offset, where that target is; it is writable if each reference on the way is, and the place
+-- the mapping names, as its i-th offset, where that target is; it is writable if each reference on
+-- the way is, and the place
 abbrev pub LeadsTo : Mapping → ℕ → Target → Type 0
 LeadsTo (M.Raw layer storage offset writable) i t =
-    (layer ≡ told_depth t.depth) × ((b : ℕ) × (v : Bool) × (t.place ≡ Stored b storage (offset + i) v) × (writable ≡ (t.writable && v)))
+    (layer ≡ told_depth t.depth)
+    × ((b : ℕ) × (v : Bool) × (t.place ≡ Stored b storage (offset + i) v)
+    × (writable ≡ (t.writable && v)))
 LeadsTo (M.Zero explicit) i t = LeadsToZero explicit t
 LeadsTo M.Eof i t = ⊥
-LeadsTo (M.Special layer offset) i t = (layer ≡ told_depth t.depth) × ((b : ℕ) × (t.place ≡ Special b (offset + i)))
+LeadsTo (M.Special layer offset) i t = (layer ≡ told_depth t.depth)
+    × ((b : ℕ) × (t.place ≡ Special b (offset + i)))
 
 -- A mapping of n bytes is the right answer for an image at o, where at most so many were asked for.
-pub record IsResolved {D St : Type 0} (view : D → View St) (x : FormatAccess D) (o most : ℕ) (m : Mapping) (n : ℕ) : Type 0 where
+pub record IsResolved {D St : Type 0} (view : D → View St) (x : FormatAccess D) (o most : ℕ)
+    (m : Mapping) (n : ℕ) : Type 0 where
   -- each of its offsets leads to what it names
   pub leads : (i : ℕ) → i < n → LeadsTo m i (target view x (o + i))
   -- so does the first one, also where nothing was asked for
@@ -46,6 +52,10 @@ pub record IsResolved {D St : Type 0} (view : D → View St) (x : FormatAccess D
   -- a place that may not be read is answered by its refusal
   pub no_refusal : (e : Error) → (view (driver x)).place o ≡ Refused e → ⊥
 
--- why a mapping of an image may be refused: it takes no memory, and looks at the offset asked for, also where nothing more is
+-- why a mapping of an image may be refused: it takes no memory, and looks at the offset asked for,
+-- also where nothing more is
 abbrev pub chain_map_reasons : {D St : Type 0} → (D → View St) → FormatAccess D → ℕ → ℕ → Reasons
-chain_map_reasons view x o n = record none { cause = chain_cause view x Map o (max n 1); device = is_reliable view x ≡ false }
+chain_map_reasons view x o n = record none {
+  cause = chain_cause view x Map o (max n 1);
+  device = is_reliable view x ≡ false;
+}

@@ -1,7 +1,8 @@
 use Rattle.std.specs.Prelude.{ℕ, ◌+◌, ◌-◌, ◌^◌, ◌&&◌, Bool, true, min}
 use Rattle.imago_drivers.specs.Place.{Place, Stored, Zeroed, Special, Lower, Refused, End}
 use Rattle.imago_drivers.specs.View.{View}
-use Rattle.imago_access.specs.declared.access.FormatAccess.{FormatAccess, FormatAccess', Held-FormatAccess-backing, None', Some'}
+use Rattle.imago_access.specs.declared.access.FormatAccess.{FormatAccess, FormatAccess'}
+use Rattle.imago_access.specs.declared.access.FormatAccess.{Held-FormatAccess-backing, None', Some'}
 
 -- Where an offset of an image leads, once each reference to the layer below is followed.
 pub record Target : Type 0 where
@@ -20,7 +21,8 @@ target_here p = record { depth = 0; writable = true; place = p }
 -- where a place leads, over a layer below whose offsets lead there
 abbrev pub followed : (ℕ → Target) → Place → Target
 followed below (Lower offset writable) = deeper 1 writable (below offset)
-followed below (Stored byte storage offset writable) = target_here (Stored byte storage offset writable)
+followed below (Stored byte storage offset writable) = target_here
+    (Stored byte storage offset writable)
 followed below (Zeroed explicit) = target_here (Zeroed explicit)
 followed below (Special byte offset) = target_here (Special byte offset)
 followed below (Refused e) = target_here (Refused e)
@@ -28,7 +30,8 @@ followed below End = target_here End
 
 abbrev mutual
   pub target : {D St : Type 0} → (D → View St) → FormatAccess D → ℕ → Target
-  target view (FormatAccess' inner below) p = followed (target_below view below) ((view inner).place p)
+  target view (FormatAccess' inner below) p = followed (target_below view below)
+      ((view inner).place p)
 
   pub target_below : {D St : Type 0} → (D → View St) → Held-FormatAccess-backing D → ℕ → Target
   target_below view None' p = target_here End

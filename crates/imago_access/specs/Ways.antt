@@ -1,4 +1,5 @@
-use Rattle.std.specs.Prelude.{◌≡◌, ℕ, ◌+◌, ◌<◌, ◌≤◌, ◌↔◌, ◌&&◌, Bool, false, None, nat_eq, if◌then◌else◌}
+use Rattle.std.specs.Prelude.{◌≡◌, ℕ, ◌+◌, ◌<◌, ◌≤◌, ◌↔◌, ◌&&◌, Bool, false, None, nat_eq}
+use Rattle.std.specs.Prelude.{if◌then◌else◌}
 use Rattle.imago_storage.specs.declared.error.Error.{Error}
 use Rattle.imago_drivers.specs.Operation.{Operation}
 use Rattle.imago_drivers.specs.Place.{Place, Refused, End}
@@ -9,7 +10,8 @@ use Rattle.imago_drivers.specs.declared.mapping.ShallowMapping.TheVariants as S
 use Rattle.imago_access.specs.declared.access.FormatAccess.{FormatAccess}
 use Rattle.imago_access.specs.declared.chain.Way.{Way}
 use Rattle.imago_access.specs.declared.mapping.Mapping.{Mapping}
-use Rattle.imago_access.specs.Chain.{driver, backing, disk_value, is_reliable, chain_cause, chain_no_memory, may_take_memory}
+use Rattle.imago_access.specs.Chain.{driver, backing, disk_value, is_reliable, chain_cause}
+use Rattle.imago_access.specs.Chain.{chain_no_memory, may_take_memory}
 use Rattle.imago_access.specs.Target.{target, deeper, told_depth}
 
 -- the mapping names that place as its i-th one, or it is the end
@@ -20,7 +22,8 @@ NamesOrEnds (S.Indirect offset writable) i place = Names (S.Indirect offset writ
 NamesOrEnds (S.Zero explicit) i place = Names (S.Zero explicit) i place
 NamesOrEnds (S.Special offset) i place = Names (S.Special offset) i place
 
--- A mapping of the first n bytes of a range of places, where the end goes on to the end of the range.
+-- A mapping of the first n bytes of a range of places, where the end goes on to the end of the
+-- range.
 pub record IsPart (place : ℕ → Place) (p most : ℕ) (m : ShallowMapping) (n : ℕ) : Type 0 where
   pub names : (i : ℕ) → i < n → NamesOrEnds m i (place (p + i))
   pub eof : IsEof m ↔ (place p ≡ End)
@@ -33,19 +36,25 @@ abbrev pub part_length : ShallowMapping → ℕ → ℕ → ℕ
 part_length S.Eof n most = most
 part_length _ n most = n
 
--- The range of x from o on leads, over so many layers, to that one from `at` on, for its first `left` bytes.
-pub record LeadsDown {D St : Type 0} (view : D → View St) (x : FormatAccess D) (o most : ℕ) (layer : FormatAccess D) (hops at left : ℕ) (w : Bool) : Type 0 where
-  pub targets : (i : ℕ) → i < left → target view x (o + i) ≡ deeper hops w (target view layer (at + i))
+-- The range of x from o on leads, over so many layers, to that one from `at` on, for its first
+-- `left` bytes.
+pub record LeadsDown {D St : Type 0} (view : D → View St) (x : FormatAccess D) (o most : ℕ)
+    (layer : FormatAccess D) (hops at left : ℕ) (w : Bool) : Type 0 where
+  pub targets : (i : ℕ) → i < left
+      → target view x (o + i) ≡ deeper hops w (target view layer (at + i))
   pub shows : (i : ℕ) → i < left → disk_value view x (o + i) ≡ disk_value view layer (at + i)
-  pub causes : (op : Operation) (i m : ℕ) (e : Error) → 0 < m → i + m ≤ left → chain_cause view layer op (at + i) m e → chain_cause view x op (o + i) m e
-  pub memory : (i m : ℕ) → 0 < m → i + m ≤ left → may_take_memory view layer (at + i) m → may_take_memory view x (o + i) m
+  pub causes : (op : Operation) (i m : ℕ) (e : Error) → 0 < m → i + m ≤ left
+      → chain_cause view layer op (at + i) m e → chain_cause view x op (o + i) m e
+  pub memory : (i m : ℕ) → 0 < m → i + m ≤ left → may_take_memory view layer (at + i) m
+      → may_take_memory view x (o + i) m
   pub reliable : is_reliable view layer ≡ false → is_reliable view x ≡ false
   pub within : left ≤ most
   pub empty : left ≡ 0 → most ≡ 0
   pub whole : chain_no_memory view x o most → (left ≡ most) × chain_no_memory view layer at left
   -- at the top nothing has changed; below it, the top has a reference at o
   pub top : hops ≡ 0 → (layer ≡ x) × (at ≡ o)
-  pub below : 0 < hops → ((view (driver x)).place o ≡ End → ⊥) × ((e : Error) → (view (driver x)).place o ≡ Refused e → ⊥)
+  pub below : 0 < hops → ((view (driver x)).place o ≡ End → ⊥)
+      × ((e : Error) → (view (driver x)).place o ≡ Refused e → ⊥)
 
 -- a mapping that isn't followed any more
 abbrev pub IsBottom : {D : Type 0} → ShallowMapping → FormatAccess D → Type 0
@@ -53,7 +62,8 @@ IsBottom (S.Indirect offset writable) x = backing x ≡ None
 IsBottom _ x = Unit {0}
 
 -- The range of x from o on leads down to that layer, whose driver maps the way's bytes so.
-pub record HasLanded {D St : Type 0} (view : D → View St) (x : FormatAccess D) (o most : ℕ) (layer : FormatAccess D) (way : Way) (m : ShallowMapping) : Type 0 where
+pub record HasLanded {D St : Type 0} (view : D → View St) (x : FormatAccess D) (o most : ℕ)
+    (layer : FormatAccess D) (way : Way) (m : ShallowMapping) : Type 0 where
   pub hops : ℕ
   pub depth : way.depth ≡ told_depth hops
   pub leads : LeadsDown view x o most layer hops way.offset way.length way.writable
@@ -62,7 +72,8 @@ pub record HasLanded {D St : Type 0} (view : D → View St) (x : FormatAccess D)
 
 -- what the way and the driver's mapping come to
 abbrev pub resolved_mapping : Way → ShallowMapping → Mapping
-resolved_mapping way (S.Raw storage offset writable) = Mapping.Raw way.depth storage offset (way.writable && writable)
+resolved_mapping way (S.Raw storage offset writable) = Mapping.Raw way.depth storage offset
+    (way.writable && writable)
 resolved_mapping way (S.Indirect offset writable) = Mapping.Zero false
 resolved_mapping way (S.Zero explicit) = Mapping.Zero (explicit && nat_eq way.depth 0)
 resolved_mapping way S.Eof = if nat_eq way.depth 0 then Mapping.Eof else Mapping.Zero false

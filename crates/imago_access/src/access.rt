@@ -8,10 +8,12 @@ ghost use Rattle.imago_access.specs.Lending.{LendsDriver};
 use imago_drivers::drivers::FormatDriverInstance;
 use std::fmt::{self, Display, Formatter, Write};
 
-/// An image: a driver, and the image below it, if there is one. Offsets, lengths and sizes are in bytes.
+/// An image: a driver, and the image below it, if there is one. Offsets, lengths and sizes are in
+/// bytes.
 ///
-/// Letting it go flushes nothing: what is to last is flushed or synced before. Calls that change the disk, but for those that
-/// write, commit or cancel a prepared mapping, require that none waits.
+/// Letting it go flushes nothing: what is to last is flushed or synced before. Calls that change
+/// the disk, but for those that write, commit or cancel a prepared mapping, require that none
+/// waits.
 pub struct FormatAccess<D> {
     pub(crate) inner: D,
     pub(crate) backing: Option<Box<FormatAccess<D>>>,
@@ -75,7 +77,8 @@ impl<D: FormatDriverInstance> FormatAccess<D> {
         &self.inner
     }
 
-    /// The driver, to be changed. What is left behind the reference is the image's driver from then on.
+    /// The driver, to be changed. What is left behind the reference is the image's driver from then
+    /// on.
     pub fn inner_mut(&mut self) -> &mut D
         ensures* writes_back { sem 𝓛 (LendsDriver D.row self.entry result) }
         ensures value { result.now ≡ driver self.old }

@@ -28,7 +28,8 @@ fn storage_align<D: FormatDriverInstance>(driver: &D, index: usize, which: Align
 /// The greatest of that alignment over the driver's storages, and 1 where it has none.
 fn driver_align<D: FormatDriverInstance>(driver: &D, which: Alignment) -> usize
     ensures { IsGreatest
-        (HasStorage (align_of which) (D.view driver.now).stores.features (D.view driver.now).stores.count)
+        (HasStorage (align_of which) (D.view driver.now).stores.features
+        (D.view driver.now).stores.count)
         result }
 {
     let mut greatest: usize = 1;
@@ -54,19 +55,20 @@ impl<D: FormatDriverInstance> FormatAccess<D> {
         }
     }
 
-    /// The greatest request alignment over all storages of all layers, in bytes, and 1 where there is none. It takes
-    /// no memory.
+    /// The greatest request alignment over all storages of all layers, in bytes, and 1 where there
+    /// is none. It takes no memory.
     ///
-    /// A request that comes to a storage with offset and length that are multiples of it, and a length that is one of
-    /// [`mem_align`](Self::mem_align) too, is aligned there, whichever storage it is. Any other may be padded.
+    /// A request that comes to a storage with offset and length that are multiples of it, and a
+    /// length that is one of [`mem_align`](Self::mem_align) too, is aligned there, whichever
+    /// storage it is. Any other may be padded.
     pub fn req_align(&self) -> usize
         ensures { IsGreatest (has_align D.view (λ f. f.req_align) self.now) result }
     {
         self.greatest_align(Alignment::Request)
     }
 
-    /// The greatest memory alignment over all storages of all layers, in bytes, and 1 where there is none. It takes
-    /// no memory.
+    /// The greatest memory alignment over all storages of all layers, in bytes, and 1 where there
+    /// is none. It takes no memory.
     ///
     /// The length of a request that is aligned at every storage is a multiple of it and of
     /// [`req_align`](Self::req_align).

@@ -1,5 +1,6 @@
 //! The way of a range down the layers of an image.
-ghost use Rattle.std.specs.Prelude.{◌≡◌, ◌+◌, ◌-◌, ◌^◌, ◌<◌, ◌≤◌, ◌⊎◌, ◌&&◌, ℕ, Err, IfOk, IfErr, min, max};
+ghost use Rattle.std.specs.Prelude.{◌≡◌, ◌+◌, ◌-◌, ◌^◌, ◌<◌, ◌≤◌, ◌⊎◌, ◌&&◌, ℕ, Err, IfOk, IfErr};
+ghost use Rattle.std.specs.Prelude.{min, max};
 ghost use Rattle.imago_drivers.specs.Operation.{Map, Read};
 ghost use Rattle.imago_drivers.specs.Place.{Refused, Unreadable};
 ghost use Rattle.imago_drivers.specs.Mapping.{IsRight};
@@ -9,7 +10,8 @@ ghost use Rattle.imago_access.specs.Chain.{driver, backing, disk_value, chain_no
 ghost use Rattle.imago_access.specs.Resolved.{IsResolved, IsEndOfImage, chain_map_reasons};
 ghost use Rattle.imago_access.specs.Lengths.{IsOwnLength, IsResolvedLength, IsFullLength};
 ghost use Rattle.imago_access.specs.Answered.{IsOwnMapping, Maps, IsMapRefusal, Lands};
-ghost use Rattle.imago_access.specs.Ways.{IsPart, HasLanded, part_length, resolved_mapping, resolved_length};
+ghost use Rattle.imago_access.specs.Ways.{IsPart, HasLanded, part_length, resolved_mapping};
+ghost use Rattle.imago_access.specs.Ways.{resolved_length};
 
 use crate::access::FormatAccess;
 use crate::mapping::Mapping;
@@ -17,7 +19,8 @@ use imago_drivers::drivers::FormatDriverInstance;
 use imago_drivers::mapping::ShallowMapping;
 use imago_storage::error::Error;
 
-/// Where a range has led so far: how deep, to which offset and length there, and whether it may be written there.
+/// Where a range has led so far: how deep, to which offset and length there, and whether it may be
+/// written there.
 #[derive(Clone, Copy)]
 pub(crate) struct Way {
     pub(crate) depth: usize,
@@ -101,27 +104,30 @@ fn part_of(mapping: ShallowMapping, count: u64, max_length: u64) -> u64
 }
 
 impl<D: FormatDriverInstance> FormatAccess<D> {
-    /// What the bytes from the offset on are for the driver alone, and how many of them: at most `max_length`, and 0
-    /// only at the end, or where `max_length` is.
+    /// What the bytes from the offset on are for the driver alone, and how many of them: at most
+    /// `max_length`, and 0 only at the end, or where `max_length` is.
     ///
-    /// It takes no memory. [`Error::InvalidData`] and [`Error::NoAccess`] are answered for an offset that may not be
-    /// read. A refusal is what the driver answered for that range.
+    /// It takes no memory. [`Error::InvalidData`] and [`Error::NoAccess`] are answered for an
+    /// offset that may not be read. A refusal is what the driver answered for that range.
     pub fn get_shallow_mapping(
         &self,
         offset: u64,
         max_length: u64,
     ) -> Result<(ShallowMapping, u64), Error>
-        ensures right { IfOk result (λ r. IsRight (D.view (driver self.now)).place offset max_length r.0 r.1) }
+        ensures right { IfOk result (λ r. IsRight (D.view (driver self.now)).place offset max_length
+            r.0 r.1) }
         ensures within { IfOk result (λ r. r.1 ≤ max_length) }
         ensures part { IfOk result
-            (λ r. (n : ℕ) × (D.view (driver self.now)).limits.answers Map offset max_length offset n ×
+            (λ r. (n : ℕ) × (D.view (driver self.now)).limits.answers Map offset max_length offset n
+            ×
             (r.1 ≡ min n max_length)) }
         ensures whole { (D.view (driver self.now)).limits.whole Read offset max_length
             → IfOk result (λ r. r.1 ≡ max_length) }
         ensures refused_place { IfErr result
             (λ e. (e ≡ Error.InvalidData) ⊎ (e ≡ Error.NoAccess)
             → (D.view (driver self.now)).place offset ≡ Refused e) }
-        ensures refusals { IfErr result (allowed (map_reasons (D.view (driver self.now)) offset max_length)) }
+        ensures refusals { IfErr result
+            (allowed (map_reasons (D.view (driver self.now)) offset max_length)) }
         ensures answered { IsOwnMapping D.calls (driver self.now) offset max_length result }
     {
         let (mapping, count) = self.inner.get_mapping(offset, max_length)?;
@@ -130,36 +136,45 @@ impl<D: FormatDriverInstance> FormatAccess<D> {
 
     /// The same, with the end going on to the end of the range.
     fn map_part(&self, offset: u64, max_length: u64) -> Result<(ShallowMapping, u64), Error>
-        ensures part { IfOk result (λ r. IsPart (D.view (driver self.now)).place offset max_length r.0 r.1) }
-        ensures length { IfOk result (λ r. IsOwnLength (D.view (driver self.now)) offset max_length r.1) }
+        ensures part { IfOk result
+            (λ r. IsPart (D.view (driver self.now)).place offset max_length r.0 r.1) }
+        ensures length { IfOk result
+            (λ r. IsOwnLength (D.view (driver self.now)) offset max_length r.1) }
         ensures whole { (D.view (driver self.now)).limits.whole Read offset max_length
             → IfOk result (λ r. r.1 ≡ max_length) }
         ensures refused_place { IfErr result
             (λ e. (e ≡ Error.InvalidData) ⊎ (e ≡ Error.NoAccess)
             → (D.view (driver self.now)).place offset ≡ Refused e) }
-        ensures refusals { IfErr result (allowed (map_reasons (D.view (driver self.now)) offset max_length)) }
-        ensures asked { IfOk result (λ r. Maps D.calls (driver self.now) offset max_length r.0 r.1) }
-        ensures answered { IfErr result (λ e. D.calls.mapped offset max_length (driver self.now) (Err e)) }
+        ensures refusals { IfErr result
+            (allowed (map_reasons (D.view (driver self.now)) offset max_length)) }
+        ensures asked { IfOk result
+            (λ r. Maps D.calls (driver self.now) offset max_length r.0 r.1) }
+        ensures answered { IfErr result (λ e. D.calls.mapped offset max_length (driver self.now)
+            (Err e)) }
     {
         let (mapping, count) = self.get_shallow_mapping(offset, max_length)?;
         Ok((mapping, part_of(mapping, count, max_length)))
     }
 
-    /// Follows a range down to the layer that its first bytes stand in, with that driver's mapping of them. It asks each
-    /// driver for at least one byte.
+    /// Follows a range down to the layer that its first bytes stand in, with that driver's mapping
+    /// of them. It asks each driver for at least one byte.
     pub(crate) fn descend(
         &self,
         offset: u64,
         max_length: u64,
     ) -> Result<(&FormatAccess<D>, Way, ShallowMapping), Error>
         requires { 0 < max_length }
-        ensures landed { IfOk result (λ r. HasLanded D.view self.now offset max_length r.0.now r.1 r.2) }
-        ensures length { IfOk result (λ r. IsResolvedLength D.view self.now offset max_length r.1.length) }
+        ensures landed { IfOk result
+            (λ r. HasLanded D.view self.now offset max_length r.0.now r.1 r.2) }
+        ensures length { IfOk result
+            (λ r. IsResolvedLength D.view self.now offset max_length r.1.length) }
         ensures refused_place { IfErr result
             (λ e. (e ≡ Error.InvalidData) ⊎ (e ≡ Error.NoAccess)
             → disk_value D.view self.now offset ≡ Unreadable e) }
-        ensures refusals { IfErr result (allowed (chain_map_reasons D.view self.now offset max_length)) }
-        ensures asked { IfOk result (λ r. Lands D.calls self.now offset max_length r.0.now r.2 r.1.length) }
+        ensures refusals { IfErr result
+            (allowed (chain_map_reasons D.view self.now offset max_length)) }
+        ensures asked { IfOk result
+            (λ r. Lands D.calls self.now offset max_length r.0.now r.2 r.1.length) }
         ensures answered { IfErr result (IsMapRefusal D.calls self.now offset max_length) }
     {
         let mut layer = self;
@@ -184,16 +199,18 @@ impl<D: FormatDriverInstance> FormatAccess<D> {
         }
     }
 
-    /// What the bytes from the offset on are, resolved through the layers, and how many of them: at most `max_length`,
-    /// and 0 only at the end of the image, or where `max_length` is. Also there the mapping is that of the offset.
+    /// What the bytes from the offset on are, resolved through the layers, and how many of them: at
+    /// most `max_length`, and 0 only at the end of the image, or where `max_length` is. Also there
+    /// the mapping is that of the offset.
     ///
-    /// What the top layer leaves to a layer below that ends before, or to none, is an unallocated zero. The
-    /// mapping is as long as the drivers on the way map at once.
+    /// What the top layer leaves to a layer below that ends before, or to none, is an unallocated
+    /// zero. The mapping is as long as the drivers on the way map at once.
     ///
-    /// [`Error::InvalidData`] and [`Error::NoAccess`] are answered for an offset that may not be read. [`Error::Unsupported`] and
-    /// [`Error::WrapAround`] are answered only for a cause that a driver on the way tells, and [`Error::Device`] only where a
-    /// device of the chain isn't reliable. It takes no memory. A refusal is, by its own name, what the driver of a layer answered
-    /// that the range reaches, for that range there.
+    /// [`Error::InvalidData`] and [`Error::NoAccess`] are answered for an offset that may not be
+    /// read. [`Error::Unsupported`] and [`Error::WrapAround`] are answered only for a cause that a
+    /// driver on the way tells, and [`Error::Device`] only where a device of the chain isn't
+    /// reliable. It takes no memory. A refusal is, by its own name, what the driver of a layer
+    /// answered that the range reaches, for that range there.
     pub fn get_mapping(&self, offset: u64, max_length: u64) -> Result<(Mapping, u64), Error>
         ensures right { IfOk result (λ r. IsResolved D.view self.now offset max_length r.0 r.1) }
         ensures length { IfOk result (λ r. IsFullLength D.view self.now offset max_length r.0 r.1) }
@@ -202,7 +219,8 @@ impl<D: FormatDriverInstance> FormatAccess<D> {
         ensures refused_place { IfErr result
             (λ e. (e ≡ Error.InvalidData) ⊎ (e ≡ Error.NoAccess)
             → disk_value D.view self.now offset ≡ Unreadable e) }
-        ensures refusals { IfErr result (allowed (chain_map_reasons D.view self.now offset max_length)) }
+        ensures refusals { IfErr result
+            (allowed (chain_map_reasons D.view self.now offset max_length)) }
         ensures answered { IfErr result (IsMapRefusal D.calls self.now offset (max max_length 1)) }
     {
         let (_layer, way, mapping) = self.descend(offset, max_length.max(1))?;

@@ -32,7 +32,8 @@ impl<D: FormatDriverInstance> FormatAccess<D> {
         requires spent { (D.view (driver self.old)).pending ≡ None }
         requires inside { offset + count ≤ (D.view (driver self.old)).size }
         ensures loosened { HasLoosenedPart D.view call offset count self.old self.new result }
-        ensures performed { discard_by D.calls call offset count (driver self.old) (driver self.new) result }
+        ensures performed { discard_by D.calls call offset count (driver self.old) (driver self.new)
+            result }
     {
         match call {
             DiscardCall::ToAny => self.inner.discard_to_any(alloc, offset, count),
@@ -54,7 +55,9 @@ impl<D: FormatDriverInstance> FormatAccess<D> {
         requires fits { offset + count < 2 ^ 64 }
         ensures empty { count ≡ 0 → IsOk result × (self.new ≡ self.old) }
         ensures loosened { HasLoosened D.view call offset count self.old self.new result }
-        ensures performed { (parts : List (ℕ × ℕ)) × IsDiscardedInParts (discard_by D.calls call) offset count parts (driver self.old) (driver self.new) result }
+        ensures performed { (parts : List (ℕ × ℕ))
+            × IsDiscardedInParts (discard_by D.calls call) offset count parts (driver self.old)
+            (driver self.new) result }
     {
         let mut done: u64 = 0;
         while done < count {
@@ -82,15 +85,18 @@ impl<D: FormatDriverInstance> FormatAccess<D> {
         self.discard_range(alloc, call, offset, count)
     }
 
-    /// Gives up the data of a range, as far as the driver can. Its bytes are unspecified afterwards, also where it is refused; all
-    /// others are as they were. Nothing below the top layer changes.
+    /// Gives up the data of a range, as far as the driver can. Its bytes are unspecified
+    /// afterwards, also where it is refused; all others are as they were. Nothing below the top
+    /// layer changes.
     ///
-    /// [`Error::ReadOnly`] where the driver isn't writable, then [`Error::RangeOverflow`] where the range's end passes `u64::MAX`,
-    /// then [`Error::BeyondDisk`] where it passes the disk's size, also for no bytes; nothing changed.
-    /// [`Error::Unsupported`] where the driver offers no such discards. An empty range that passes these tests makes no call of the
-    /// driver, and isn't refused.
+    /// [`Error::ReadOnly`] where the driver isn't writable, then [`Error::RangeOverflow`] where the
+    /// range's end passes `u64::MAX`, then [`Error::BeyondDisk`] where it passes the disk's size,
+    /// also for no bytes; nothing changed. [`Error::Unsupported`] where the driver offers no such
+    /// discards. An empty range that passes these tests makes no call of the driver, and isn't
+    /// refused.
     ///
-    /// No prepared mapping may wait, which [`has_prepared`](FormatDriverInstance::has_prepared) of the driver tells.
+    /// No prepared mapping may wait, which [`has_prepared`](FormatDriverInstance::has_prepared) of
+    /// the driver tells.
     pub fn discard_to_any(&mut self, alloc: Global, offset: u64, count: u64) -> Result<(), Error>
         requires { (D.view (driver self.old)).pending ≡ None }
         ensures { IsImageDiscard D.view D.calls Call.ToAny self.old self.new offset count result }
@@ -98,12 +104,14 @@ impl<D: FormatDriverInstance> FormatAccess<D> {
         self.discard(alloc, DiscardCall::ToAny, offset, count)
     }
 
-    /// Gives up the data of a range, as far as the driver can: each byte of it is as it was, or that of the layer below at the same
-    /// offset, zero where there is none; also where it is refused. All others are as they were.
+    /// Gives up the data of a range, as far as the driver can: each byte of it is as it was, or
+    /// that of the layer below at the same offset, zero where there is none; also where it is
+    /// refused. All others are as they were.
     ///
     /// The refusals are those of [`discard_to_any`](Self::discard_to_any).
     ///
-    /// No prepared mapping may wait, which [`has_prepared`](FormatDriverInstance::has_prepared) of the driver tells.
+    /// No prepared mapping may wait, which [`has_prepared`](FormatDriverInstance::has_prepared) of
+    /// the driver tells.
     pub fn discard_to_backing(
         &mut self,
         alloc: Global,
@@ -111,7 +119,8 @@ impl<D: FormatDriverInstance> FormatAccess<D> {
         count: u64,
     ) -> Result<(), Error>
         requires { (D.view (driver self.old)).pending ≡ None }
-        ensures { IsImageDiscard D.view D.calls Call.ToBacking self.old self.new offset count result }
+        ensures { IsImageDiscard D.view D.calls Call.ToBacking self.old self.new offset count
+            result }
     {
         self.discard(alloc, DiscardCall::ToBacking, offset, count)
     }

@@ -8,7 +8,8 @@ use imago_drivers::drivers::FormatDriverInstance;
 use imago_storage::error::Error;
 
 impl<D: FormatDriverInstance> FormatAccess<D> {
-    /// Writes what the driver and its storages buffer. The disk stays as it is, also where it is refused.
+    /// Writes what the driver and its storages buffer. The disk stays as it is, also where it is
+    /// refused.
     pub fn flush(&mut self) -> Result<(), Error>
         ensures { IsFlushed D.view D.calls.flushed self.old self.new result }
     {
@@ -22,7 +23,8 @@ impl<D: FormatDriverInstance> FormatAccess<D> {
         self.inner.sync()
     }
 
-    /// Drops what the driver and its storages cache. The disk stays as it is, also where it is refused.
+    /// Drops what the driver and its storages cache. The disk stays as it is, also where it is
+    /// refused.
     pub fn invalidate_cache(&mut self) -> Result<(), Error>
         ensures { IsFlushed D.view D.calls.invalidated self.old self.new result }
     {

@@ -1,5 +1,6 @@
 //! Data mappings of an image.
-ghost use Rattle.std.specs.Prelude.{◌≡◌, ℕ, ◌+◌, ◌≤◌, ◌↔◌, None, true, false, length, IsTrue, IfOk, IfErr, OnOk, OnErr, IsErrOf};
+ghost use Rattle.std.specs.Prelude.{◌≡◌, ℕ, ◌+◌, ◌≤◌, ◌↔◌, None, true, false, length, IsTrue, IfOk};
+ghost use Rattle.std.specs.Prelude.{IfErr, OnOk, OnErr, IsErrOf};
 ghost use Rattle.imago_storage.specs.Faults.{CountsFaults};
 ghost use Rattle.imago_drivers.specs.Operation.{Write};
 ghost use Rattle.imago_drivers.specs.Causes.{IsSettled, IsOnRange};
@@ -9,7 +10,8 @@ ghost use Rattle.imago_drivers.specs.Parts.{storage_of, offset_of, length_of};
 ghost use Rattle.imago_drivers.specs.Pending.{ShowsRound};
 ghost use Rattle.imago_drivers.specs.Reasons.{allowed};
 ghost use Rattle.imago_drivers.specs.Done.{mapping_write_reasons};
-ghost use Rattle.imago_drivers.specs.Prepared.{IsPrepared, IsDataMapping, IsFor, IsForeignWrite, IsWritten};
+ghost use Rattle.imago_drivers.specs.Prepared.{IsPrepared, IsDataMapping, IsFor, IsForeignWrite};
+ghost use Rattle.imago_drivers.specs.Prepared.{IsWritten};
 ghost use Rattle.imago_drivers.specs.Commit.{IsCommit, IsCancel};
 ghost use Rattle.imago_access.specs.Chain.{driver, backing, disk_value};
 ghost use Rattle.imago_access.specs.Calls.{IsEnsured, IsPreparing, IsKept};
@@ -22,14 +24,16 @@ use imago_storage::error::Error;
 use std::alloc::Global;
 
 impl<D: FormatDriverInstance> FormatAccess<D> {
-    /// Maps a part of the range, from the offset on, to bytes of a storage that may be written, and answers the
-    /// storage's index, the offset there and the length: at least 1 and at most `count`, 0 for 0. With `overwrite` that
-    /// part is unspecified afterwards.
+    /// Maps a part of the range, from the offset on, to bytes of a storage that may be written, and
+    /// answers the storage's index, the offset there and the length: at least 1 and at most
+    /// `count`, 0 for 0. With `overwrite` that part is unspecified afterwards.
     ///
-    /// [`Error::ReadOnly`] where the driver isn't writable, then [`Error::BeyondDisk`] where the range passes the
-    /// disk's size. Refused, the disk is as it was, or, with `overwrite`, the range is unspecified.
+    /// [`Error::ReadOnly`] where the driver isn't writable, then [`Error::BeyondDisk`] where the
+    /// range passes the disk's size. Refused, the disk is as it was, or, with `overwrite`, the
+    /// range is unspecified.
     ///
-    /// No prepared mapping may wait, which [`has_prepared`](FormatDriverInstance::has_prepared) of the driver tells.
+    /// No prepared mapping may wait, which [`has_prepared`](FormatDriverInstance::has_prepared) of
+    /// the driver tells.
     pub fn ensure_data_mapping(
         &mut self,
         alloc: Global,
@@ -44,7 +48,8 @@ impl<D: FormatDriverInstance> FormatAccess<D> {
         ensures call { IsEnsured D.view self.old self.new offset count overwrite result }
         ensures lengths { GrowTo ((D.view (driver self.old)).limits.longest Write offset count)
             (D.view (driver self.old)).stores (D.view (driver self.new)).stores }
-        ensures performed { IsEnsuredBy D.view D.calls self.old self.new offset count overwrite result }
+        ensures performed { IsEnsuredBy D.view D.calls self.old self.new offset count overwrite
+            result }
     {
         self.test_range(offset, count)?;
         let lower = below(&self.backing);
@@ -52,14 +57,16 @@ impl<D: FormatDriverInstance> FormatAccess<D> {
             .ensure_data_mapping(alloc, lower, offset, count, overwrite)
     }
 
-    /// Prepares the writing of data at the offset: the mapping holds at least 1 byte and at most `count`, none for 0. The
-    /// disk stays as it is. The mapping is written by [`write_prepared`](Self::write_prepared), and spent by commit or
-    /// cancel. Without `overwrite` the bytes that it stands for begin as the disk's.
+    /// Prepares the writing of data at the offset: the mapping holds at least 1 byte and at most
+    /// `count`, none for 0. The disk stays as it is. The mapping is written by
+    /// [`write_prepared`](Self::write_prepared), and spent by commit or cancel. Without `overwrite`
+    /// the bytes that it stands for begin as the disk's.
     ///
-    /// [`Error::ReadOnly`] where the driver isn't writable, then [`Error::BeyondDisk`] where the range passes the
-    /// disk's size. Refused, nothing is prepared.
+    /// [`Error::ReadOnly`] where the driver isn't writable, then [`Error::BeyondDisk`] where the
+    /// range passes the disk's size. Refused, nothing is prepared.
     ///
-    /// No prepared mapping may wait, which [`has_prepared`](FormatDriverInstance::has_prepared) of the driver tells.
+    /// No prepared mapping may wait, which [`has_prepared`](FormatDriverInstance::has_prepared) of
+    /// the driver tells.
     pub fn prepare_data_mapping(
         &mut self,
         alloc: Global,
@@ -72,7 +79,8 @@ impl<D: FormatDriverInstance> FormatAccess<D> {
             (λ m. IsPrepared offset count overwrite (disk_value D.view self.old)
             (D.view (driver self.old)) (D.view (driver self.new)) m) }
         ensures call { IsPreparing D.view self.old self.new offset count result }
-        ensures performed { IsPreparedBy D.view D.calls self.old self.new offset count overwrite result }
+        ensures performed { IsPreparedBy D.view D.calls self.old self.new offset count overwrite
+            result }
     {
         self.test_range(offset, count)?;
         let lower = below(&self.backing);
@@ -80,8 +88,8 @@ impl<D: FormatDriverInstance> FormatAccess<D> {
             .prepare_data_mapping(alloc, lower, offset, count, overwrite)
     }
 
-    /// Writes data into a prepared mapping, from its `at`-th byte on: to the bytes that it stands for, or, with a
-    /// state, to those that wait for commit. Refused, each of these is old or new.
+    /// Writes data into a prepared mapping, from its `at`-th byte on: to the bytes that it stands
+    /// for, or, with a state, to those that wait for commit. Refused, each of these is old or new.
     ///
     /// [`Error::ForeignMapping`] is a mapping that isn't this image's; nothing changed.
     pub fn write_prepared(
@@ -92,8 +100,10 @@ impl<D: FormatDriverInstance> FormatAccess<D> {
         at: u64,
     ) -> Result<(), Error>
         requires { at + length source.now ≤ length_of mapping.now }
-        ensures foreign { IsErrOf result Error.ForeignMapping ↔ IsForeignWrite (D.view (driver self.old)) mapping.now }
-        ensures untouched { IsErrOf result Error.ForeignMapping → driver self.new ≡ driver self.old }
+        ensures foreign { IsErrOf result Error.ForeignMapping
+            ↔ IsForeignWrite (D.view (driver self.old)) mapping.now }
+        ensures untouched { IsErrOf result Error.ForeignMapping
+            → driver self.new ≡ driver self.old }
         ensures written { OnOk result
             (IsWritten false (D.view (driver self.old)) (D.view (driver self.new)) mapping.now at
             source.now) }
@@ -124,15 +134,18 @@ impl<D: FormatDriverInstance> FormatAccess<D> {
             (allowed
             (mapping_write_reasons (D.view (driver self.old)) mapping.now at
             (length source.now))) }
-        ensures performed { D.calls.filled mapping.now source.now at (driver self.old) (driver self.new) result }
+        ensures performed { D.calls.filled mapping.now source.now at (driver self.old)
+            (driver self.new) result }
     {
         self.inner.write_prepared(alloc, mapping, source, at)
     }
 
-    /// Spends a prepared mapping: what was written into it shows from now on. Without a state nothing changes.
+    /// Spends a prepared mapping: what was written into it shows from now on. Without a state
+    /// nothing changes.
     ///
-    /// [`Error::ForeignMapping`] is a mapping with a state that isn't this image's; nothing changed. Any other refusal
-    /// leaves each of its bytes old or as prepared, and nothing prepared.
+    /// [`Error::ForeignMapping`] is a mapping with a state that isn't this image's; nothing
+    /// changed. Any other refusal leaves each of its bytes old or as prepared, and nothing
+    /// prepared.
     pub fn commit_data_mapping(
         &mut self,
         mapping: PreparedDataMapping<D::State>,
@@ -146,8 +159,8 @@ impl<D: FormatDriverInstance> FormatAccess<D> {
         self.inner.commit_data_mapping(mapping)
     }
 
-    /// Spends a prepared mapping, and forgets what was written into one with a state: the disk is as it was. A foreign
-    /// mapping changes nothing.
+    /// Spends a prepared mapping, and forgets what was written into one with a state: the disk is
+    /// as it was. A foreign mapping changes nothing.
     pub fn cancel_data_mapping(&mut self, mapping: PreparedDataMapping<D::State>)
         ensures cancel { IsCancel D.view (driver self.old) (driver self.new) mapping }
         ensures performed { D.calls.cancelled mapping (driver self.old) (driver self.new) }

@@ -1,11 +1,14 @@
 //! Reading an image.
-ghost use Rattle.std.specs.Prelude.{◌≡◌, ◌+◌, ◌<◌, ◌≤◌, ℕ, length, take, slice_index, EachIndex, IfOk, IfErr, IsOk, OnOk};
+ghost use Rattle.std.specs.Prelude.{◌≡◌, ◌+◌, ◌<◌, ◌≤◌, ℕ, length, take, slice_index, EachIndex};
+ghost use Rattle.std.specs.Prelude.{IfOk, IfErr, IsOk, OnOk};
 ghost use Rattle.imago_drivers.specs.Place.{HasValues};
 ghost use Rattle.imago_drivers.specs.Reasons.{allowed};
-ghost use Rattle.imago_access.specs.Chain.{disk_value, chain_no_memory, inside_part, as_layer_below, read_reasons};
+ghost use Rattle.imago_access.specs.Chain.{disk_value, chain_no_memory, inside_part};
+ghost use Rattle.imago_access.specs.Chain.{as_layer_below, read_reasons};
 ghost use Rattle.imago_access.specs.ChainLaws.{image_is_layer};
 ghost use Rattle.imago_access.specs.Answered.{IsNamedRead, IsFirstRead, IsReadBy};
-ghost use Rattle.imago_access.specs.Named.{IsKnown, IsNamedAt, own_values, named_read_reasons, chunk_read_reasons};
+ghost use Rattle.imago_access.specs.Named.{IsKnown, IsNamedAt, own_values, named_read_reasons};
+ghost use Rattle.imago_access.specs.Named.{chunk_read_reasons};
 
 use crate::access::FormatAccess;
 use imago_drivers::drivers::FormatDriverInstance;
@@ -14,7 +17,8 @@ use imago_drivers::mapping::ShallowMapping;
 use imago_storage::error::Error;
 use std::alloc::Global;
 
-/// Fills the buffer with the bytes that a driver's mapping names: zeroes for what stands in no storage.
+/// Fills the buffer with the bytes that a driver's mapping names: zeroes for what stands in no
+/// storage.
 fn read_named<D: FormatDriverInstance>(
     inner: &D,
     alloc: Global,
@@ -26,7 +30,8 @@ fn read_named<D: FormatDriverInstance>(
         ((at : ℕ)
         → IsNamedAt (D.view inner.now).place «mapping» at (length buf.old)
         → HasValues (own_values (D.view inner.now).place) at buf.new) }
-    ensures refusals { IfErr result (allowed (named_read_reasons (D.view inner.now) «mapping» (length buf.old))) }
+    ensures refusals { IfErr result
+        (allowed (named_read_reasons (D.view inner.now) «mapping» (length buf.old))) }
     ensures answered { IsNamedRead D.calls inner.now «mapping» (length buf.old) result }
 {
     match mapping {
@@ -62,14 +67,17 @@ fn part_inside(size: u64, offset: u64, count: usize) -> usize
 }
 
 impl<D: FormatDriverInstance> FormatAccess<D> {
-    /// Reads the first bytes of a range, as many as one mapping is for, and answers how many these are.
+    /// Reads the first bytes of a range, as many as one mapping is for, and answers how many these
+    /// are.
     fn read_chunk(&self, alloc: Global, buf: &mut [u8], offset: u64) -> Result<usize, Error>
         requires { 0 < length buf.old }
         ensures some { IfOk result (λ n. (0 < n) × (n ≤ length buf.new)) }
-        ensures bytes { IfOk result (λ n. HasValues (disk_value D.view self.now) offset (take n buf.new)) }
+        ensures bytes { IfOk result
+            (λ n. HasValues (disk_value D.view self.now) offset (take n buf.new)) }
         ensures whole { chain_no_memory D.view self.now offset (length buf.old)
             → IfOk result (λ n. n ≡ length buf.old) }
-        ensures refusals { IfErr result (allowed (chunk_read_reasons D.view self.now offset (length buf.old))) }
+        ensures refusals { IfErr result
+            (allowed (chunk_read_reasons D.view self.now offset (length buf.old))) }
         ensures answered { IsFirstRead D.calls self.now offset (length buf.old) result }
     {
         let (layer, way, mapping) = self.descend(offset, buf.len() as u64)?;
@@ -82,7 +90,8 @@ impl<D: FormatDriverInstance> FormatAccess<D> {
     fn read_range(&self, alloc: Global, buf: &mut [u8], offset: u64) -> Result<(), Error>
         ensures bytes { OnOk result (HasValues (disk_value D.view self.now) offset buf.new) }
         ensures empty { length buf.old ≡ 0 → IsOk result }
-        ensures refusals { IfErr result (allowed (read_reasons D.view self.now offset (length buf.old))) }
+        ensures refusals { IfErr result
+            (allowed (read_reasons D.view self.now offset (length buf.old))) }
         ensures answered { IsReadBy D.view D.calls self.now offset (length buf.old) result }
     {
         let size = self.inner.size();
@@ -95,19 +104,22 @@ impl<D: FormatDriverInstance> FormatAccess<D> {
         Ok(())
     }
 
-    /// Fills the buffer with the disk's bytes from the offset on, with 0 past its end. Refused, the buffer is
-    /// unspecified. The disk stays as it is.
+    /// Fills the buffer with the disk's bytes from the offset on, with 0 past its end. Refused, the
+    /// buffer is unspecified. The disk stays as it is.
     ///
-    /// It is refused where a byte that it reads can't be read: [`Error::InvalidData`], [`Error::NoAccess`],
-    /// [`Error::WrapAround`] and [`Error::Unsupported`] as the layers' drivers say, [`Error::Device`] only where a
-    /// device of the chain isn't reliable, [`Error::Memory`] only where a driver takes memory. A read of no bytes is never refused.
+    /// It is refused where a byte that it reads can't be read: [`Error::InvalidData`],
+    /// [`Error::NoAccess`], [`Error::WrapAround`] and [`Error::Unsupported`] as the layers' drivers
+    /// say, [`Error::Device`] only where a device of the chain isn't reliable, [`Error::Memory`]
+    /// only where a driver takes memory. A read of no bytes is never refused.
     ///
-    /// The range is read part after part, up to the end of the disk. A refusal is, by its own name, what the driver of a layer
-    /// answered that the next part reaches, to the mapping of that part or to the read of what it maps.
+    /// The range is read part after part, up to the end of the disk. A refusal is, by its own name,
+    /// what the driver of a layer answered that the next part reaches, to the mapping of that part
+    /// or to the read of what it maps.
     pub fn read(&self, alloc: Global, buf: &mut [u8], offset: u64) -> Result<(), Error>
         ensures bytes { OnOk result (HasValues (disk_value D.view self.now) offset buf.new) }
         ensures empty { length buf.old ≡ 0 → IsOk result }
-        ensures refusals { IfErr result (allowed (read_reasons D.view self.now offset (length buf.old))) }
+        ensures refusals { IfErr result
+            (allowed (read_reasons D.view self.now offset (length buf.old))) }
         ensures answered { IsReadBy D.view D.calls self.now offset (length buf.old) result }
     {
         self.read_range(alloc, buf, offset)
@@ -117,7 +129,8 @@ impl<D: FormatDriverInstance> FormatAccess<D> {
     pub fn readv(&self, alloc: Global, buf: &mut [u8], offset: u64) -> Result<(), Error>
         ensures bytes { OnOk result (HasValues (disk_value D.view self.now) offset buf.new) }
         ensures empty { length buf.old ≡ 0 → IsOk result }
-        ensures refusals { IfErr result (allowed (read_reasons D.view self.now offset (length buf.old))) }
+        ensures refusals { IfErr result
+            (allowed (read_reasons D.view self.now offset (length buf.old))) }
         ensures answered { IsReadBy D.view D.calls self.now offset (length buf.old) result }
     {
         self.read(alloc, buf, offset)

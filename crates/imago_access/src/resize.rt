@@ -2,7 +2,8 @@
 ghost use Rattle.std.specs.Prelude.{◌≡◌, None, true, IfErr, OnOk};
 ghost use Rattle.imago_drivers.specs.Operation.{Grow, Shrink};
 ghost use Rattle.imago_access.specs.Chain.{driver};
-ghost use Rattle.imago_access.specs.Sizes.{FailsWritable, IsResize, IsResizeTo, HasGrown, HasShrunk};
+ghost use Rattle.imago_access.specs.Sizes.{FailsWritable, IsResize, IsResizeTo, HasGrown};
+ghost use Rattle.imago_access.specs.Sizes.{HasShrunk};
 ghost use Rattle.imago_access.specs.Performed.{IsGrownBy, IsCutBy, IsResizedBy};
 
 use crate::access::{FormatAccess, below};
@@ -22,14 +23,17 @@ impl<D: FormatDriverInstance> FormatAccess<D> {
         Ok(())
     }
 
-    /// Grows the disk to that size in bytes, with new bytes as the mode says: by one growth of the driver's, which isn't asked
-    /// where the disk is as large already.
+    /// Grows the disk to that size in bytes, with new bytes as the mode says: by one growth of the
+    /// driver's, which isn't asked where the disk is as large already.
     ///
-    /// [`Error::ReadOnly`] where the driver isn't writable. Where there is something to do it may also be [`Error::Unsupported`],
-    /// [`Error::WrapAround`], [`Error::InvalidData`] or [`Error::NoAccess`], each for a cause that the driver tells,
-    /// [`Error::Device`] where a device failed, and [`Error::Memory`] where the driver takes memory. Refused, the disk is as it was.
+    /// [`Error::ReadOnly`] where the driver isn't writable. Where there is something to do it may
+    /// also be [`Error::Unsupported`], [`Error::WrapAround`], [`Error::InvalidData`] or
+    /// [`Error::NoAccess`], each for a cause that the driver tells, [`Error::Device`] where a
+    /// device failed, and [`Error::Memory`] where the driver takes memory. Refused, the disk is as
+    /// it was.
     ///
-    /// No prepared mapping may wait, which [`has_prepared`](FormatDriverInstance::has_prepared) of the driver tells.
+    /// No prepared mapping may wait, which [`has_prepared`](FormatDriverInstance::has_prepared) of
+    /// the driver tells.
     pub fn resize_grow(
         &mut self,
         alloc: Global,
@@ -37,7 +41,8 @@ impl<D: FormatDriverInstance> FormatAccess<D> {
         mode: PreallocateMode,
     ) -> Result<(), Error>
         requires { (D.view (driver self.old)).pending ≡ None }
-        ensures resized { IsResize D.view (Grow mode) new_size (HasGrown D.view mode new_size self.old self.new)
+        ensures resized { IsResize D.view (Grow mode) new_size
+            (HasGrown D.view mode new_size self.old self.new)
             self.old self.new result }
         ensures performed { IsGrownBy D.view D.calls new_size mode self.old self.new result }
         ensures nothing_pending { (D.view (driver self.new)).pending ≡ None }
@@ -50,14 +55,18 @@ impl<D: FormatDriverInstance> FormatAccess<D> {
         self.inner.resize_grow(alloc, lower, new_size, mode)
     }
 
-    /// Cuts the disk to that size in bytes: by one cut of the driver's, which isn't asked where the disk is as small already.
+    /// Cuts the disk to that size in bytes: by one cut of the driver's, which isn't asked where the
+    /// disk is as small already.
     ///
-    /// The refusals are those of [`resize_grow`](Self::resize_grow). Refused, the disk is as it was.
+    /// The refusals are those of [`resize_grow`](Self::resize_grow). Refused, the disk is as it
+    /// was.
     ///
-    /// No prepared mapping may wait, which [`has_prepared`](FormatDriverInstance::has_prepared) of the driver tells.
+    /// No prepared mapping may wait, which [`has_prepared`](FormatDriverInstance::has_prepared) of
+    /// the driver tells.
     pub fn resize_shrink(&mut self, new_size: u64) -> Result<(), Error>
         requires { (D.view (driver self.old)).pending ≡ None }
-        ensures resized { IsResize D.view Shrink new_size (HasShrunk D.view new_size self.old self.new) self.old
+        ensures resized { IsResize D.view Shrink new_size
+            (HasShrunk D.view new_size self.old self.new) self.old
             self.new result }
         ensures performed { IsCutBy D.view D.calls new_size self.old self.new result }
         ensures nothing_pending { (D.view (driver self.new)).pending ≡ None }
@@ -69,11 +78,14 @@ impl<D: FormatDriverInstance> FormatAccess<D> {
         self.inner.resize_shrink(new_size)
     }
 
-    /// Cuts the disk to that size in bytes, or grows it to that size, with new bytes as the mode says.
+    /// Cuts the disk to that size in bytes, or grows it to that size, with new bytes as the mode
+    /// says.
     ///
-    /// The refusals are those of [`resize_grow`](Self::resize_grow). Refused, the disk is as it was.
+    /// The refusals are those of [`resize_grow`](Self::resize_grow). Refused, the disk is as it
+    /// was.
     ///
-    /// No prepared mapping may wait, which [`has_prepared`](FormatDriverInstance::has_prepared) of the driver tells.
+    /// No prepared mapping may wait, which [`has_prepared`](FormatDriverInstance::has_prepared) of
+    /// the driver tells.
     pub fn resize(
         &mut self,
         alloc: Global,

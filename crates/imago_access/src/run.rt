@@ -1,9 +1,11 @@
 //! Lists of calls on an image.
-ghost use Rattle.std.specs.Prelude.{◌≡◌, ◌<◌, ◌++◌, List, length, None, IsTrue, IfOk, IfErr, OnOk, OnErr};
+ghost use Rattle.std.specs.Prelude.{◌≡◌, ◌<◌, ◌++◌, List, length, None, IsTrue, IfOk, IfErr, OnOk};
+ghost use Rattle.std.specs.Prelude.{OnErr};
 ghost use Rattle.imago_access.specs.declared.run.Reply.{Reply};
 ghost use Rattle.imago_access.specs.Chain.{driver};
 ghost use Rattle.imago_access.specs.Disk.{disk, backed_value};
-ghost use Rattle.imago_access.specs.Runs.{reply_of, told_done, told_data, told_prepared, IsBufferRead, IsStep, IsRun};
+ghost use Rattle.imago_access.specs.Runs.{reply_of, told_done, told_data, told_prepared};
+ghost use Rattle.imago_access.specs.Runs.{IsBufferRead, IsStep, IsRun};
 ghost use Rattle.imago_access.specs.Histories.{IsFlatHistory};
 
 use crate::access::FormatAccess;
@@ -66,8 +68,9 @@ pub enum Call {
         /// Whether what is mapped may show anything.
         overwrite: bool,
     },
-    /// [`FormatAccess::prepare_data_mapping`], then one [`FormatAccess::write_prepared`] of as many bytes as fit, and
-    /// [`FormatAccess::commit_data_mapping`] or [`FormatAccess::cancel_data_mapping`]. A refused write cancels.
+    /// [`FormatAccess::prepare_data_mapping`], then one [`FormatAccess::write_prepared`] of as many
+    /// bytes as fit, and [`FormatAccess::commit_data_mapping`] or
+    /// [`FormatAccess::cancel_data_mapping`]. A refused write cancels.
     Prepared {
         /// Where the range begins.
         offset: u64,
@@ -132,7 +135,8 @@ pub enum Reply {
         /// How long it is.
         length: u64,
     },
-    /// Where the data of a range stand: the storage's index in the top driver, and the offset there.
+    /// Where the data of a range stand: the storage's index in the top driver, and the offset
+    /// there.
     DataMapped {
         /// The storage's index.
         storage: usize,
@@ -145,7 +149,8 @@ pub enum Reply {
     Prepared {
         /// How long it was: at least 1 and at most what was asked for, 0 for 0.
         length: u64,
-        /// Whether there was nothing to commit, so that what was written shows, also where it was cancelled.
+        /// Whether there was nothing to commit, so that what was written shows, also where it was
+        /// cancelled.
         nonblocking: bool,
     },
     /// It was refused.
@@ -265,10 +270,13 @@ fn step<D: FormatDriverInstance>(alloc: Global, image: &mut FormatAccess<D>, cal
     }
 }
 
-/// Makes the calls in order, and appends one reply for each. A refused call is a reply too, and the run goes on.
+/// Makes the calls in order, and appends one reply for each. A refused call is a reply too, and the
+/// run goes on.
 ///
-/// Room for all replies is taken first: [`Error::Memory`] where there is none, and then nothing changed. No prepared mapping may wait
-/// before, which [`has_prepared`](FormatDriverInstance::has_prepared) of the driver tells, and none does afterwards.
+/// Room for all replies is taken first: [`Error::Memory`] where there is none, and then nothing
+/// changed. No prepared mapping may wait before, which
+/// [`has_prepared`](FormatDriverInstance::has_prepared) of the driver tells, and none does
+/// afterwards.
 pub fn run<D: FormatDriverInstance>(
     alloc: Global,
     image: &mut FormatAccess<D>,
@@ -282,8 +290,10 @@ pub fn run<D: FormatDriverInstance>(
     ensures history { IsTrue (D.view (driver image.old)).abilities.keeps_data
         → OnOk result
         ((rs : List Reply) × (replies.new.items ≡ replies.old.items ++ rs) × IsFlatHistory
-        (backed_value D.view image.old) (disk D.view image.old) calls.now rs (disk D.view image.new)) }
-    ensures refused { OnErr result ((replies.new.items ≡ replies.old.items) × (image.new ≡ image.old)) }
+        (backed_value D.view image.old) (disk D.view image.old) calls.now rs
+        (disk D.view image.new)) }
+    ensures refused { OnErr result ((replies.new.items ≡ replies.old.items)
+        × (image.new ≡ image.old)) }
     ensures memory { IfErr result (λ e. e ≡ Error.Memory) }
     ensures spent { (D.view (driver image.new)).pending ≡ None }
 {

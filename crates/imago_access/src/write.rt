@@ -1,13 +1,16 @@
 //! Writing to an image.
-ghost use Rattle.std.specs.Prelude.{◌≡◌, ◌+◌, ◌^◌, ◌<◌, ◌≤◌, None, true, is_none, length, IfOk, IsOk};
+ghost use Rattle.std.specs.Prelude.{◌≡◌, ◌+◌, ◌^◌, ◌<◌, ◌≤◌, None, true, is_none, length, IfOk};
+ghost use Rattle.std.specs.Prelude.{IsOk};
 ghost use Rattle.imago_drivers.specs.Operation.{Write};
 ghost use Rattle.imago_drivers.specs.LayerBelow.{lent};
 ghost use Rattle.imago_drivers.specs.Place.{values};
 ghost use Rattle.imago_drivers.specs.Parts.{length_of, state_of};
 ghost use Rattle.imago_access.specs.Chain.{driver};
 ghost use Rattle.imago_access.specs.Calls.{IsTested, IsWrite, IsMappedWrite};
-ghost use Rattle.imago_access.specs.Performed.{IsFilledBy, IsThroughBy, IsFirstBy, AllWrittenBy, IsWrittenBy, IsMappedBy};
-ghost use Rattle.imago_access.specs.Writing.{CommitMayTakeMemory, WasPrepared, HasFilled, HasMapped, HasWritten, HasWrittenAll};
+ghost use Rattle.imago_access.specs.Performed.{IsFilledBy, IsThroughBy, IsFirstBy, AllWrittenBy};
+ghost use Rattle.imago_access.specs.Performed.{IsWrittenBy, IsMappedBy};
+ghost use Rattle.imago_access.specs.Writing.{CommitMayTakeMemory, WasPrepared, HasFilled};
+ghost use Rattle.imago_access.specs.Writing.{HasMapped, HasWritten, HasWrittenAll};
 
 use crate::access::{FormatAccess, below};
 use imago_drivers::drivers::{FormatDriverInstance, PreparedDataMapping};
@@ -15,8 +18,8 @@ use imago_drivers::layer::LowerLayer;
 use imago_storage::error::Error;
 use std::alloc::Global;
 
-/// Prepares a mapping of the range's first bytes, at most `count`, and writes what fits of the source to it. Where that is refused,
-/// the mapping is cancelled.
+/// Prepares a mapping of the range's first bytes, at most `count`, and writes what fits of the
+/// source to it. Where that is refused, the mapping is cancelled.
 fn fill_mapping<D: FormatDriverInstance, B: LowerLayer>(
     inner: &mut D,
     alloc: Global,
@@ -30,10 +33,13 @@ fn fill_mapping<D: FormatDriverInstance, B: LowerLayer>(
     requires spent { (D.view inner.old).pending ≡ None }
     requires inside { offset + count ≤ (D.view inner.old).size }
     ensures prepared { IfOk result
-        (λ m. WasPrepared D.view (values (lent B.as_layer_below below.entry).at (D.view inner.old).place)
+        (λ m. WasPrepared D.view
+        (values (lent B.as_layer_below below.entry).at (D.view inner.old).place)
         inner.old offset count overwrite (length_of m, is_none (state_of m))) }
-    ensures filled { HasFilled (lent B.as_layer_below below.entry) (D.view inner.old) (D.view inner.new) offset count overwrite source.now result }
-    ensures performed { IsFilledBy D.calls (lent B.as_layer_below below.entry) offset count overwrite source.now inner.old inner.new result }
+    ensures filled { HasFilled (lent B.as_layer_below below.entry) (D.view inner.old)
+        (D.view inner.new) offset count overwrite source.now result }
+    ensures performed { IsFilledBy D.calls (lent B.as_layer_below below.entry) offset count
+        overwrite source.now inner.old inner.new result }
 {
     let mapping = inner.prepare_data_mapping(alloc, below, offset, count, overwrite)?;
     let fitting = source.len().min(mapping.length() as usize);
@@ -44,8 +50,8 @@ fn fill_mapping<D: FormatDriverInstance, B: LowerLayer>(
     Ok(mapping)
 }
 
-/// Writes what fits of the source through one mapping, which is committed or cancelled then, and answers how long it was, and whether
-/// it had no state.
+/// Writes what fits of the source through one mapping, which is committed or cancelled then, and
+/// answers how long it was, and whether it had no state.
 fn write_through<D: FormatDriverInstance, B: LowerLayer>(
     inner: &mut D,
     alloc: Global,
@@ -62,8 +68,11 @@ fn write_through<D: FormatDriverInstance, B: LowerLayer>(
     ensures told { IfOk result
         (WasPrepared D.view (values (lent B.as_layer_below below.entry).at (D.view inner.old).place)
         inner.old offset count overwrite) }
-    ensures mapped { HasMapped (lent B.as_layer_below below.entry) (CommitMayTakeMemory D.view inner.old) (D.view inner.old) (D.view inner.new) offset count overwrite source.now commit result }
-    ensures performed { IsThroughBy D.calls (lent B.as_layer_below below.entry) offset count overwrite source.now commit inner.old inner.new result }
+    ensures mapped { HasMapped (lent B.as_layer_below below.entry)
+        (CommitMayTakeMemory D.view inner.old) (D.view inner.old) (D.view inner.new) offset count
+        overwrite source.now commit result }
+    ensures performed { IsThroughBy D.calls (lent B.as_layer_below below.entry) offset count
+        overwrite source.now commit inner.old inner.new result }
 {
     let mapping = fill_mapping(inner, alloc, below, offset, count, overwrite, source)?;
     let answer = (mapping.length(), mapping.is_nonblocking());
@@ -87,9 +96,11 @@ pub(crate) fn write_first<D: FormatDriverInstance, B: LowerLayer>(
     requires writable { (D.view inner.old).abilities.is_writable ≡ true }
     requires spent { (D.view inner.old).pending ≡ None }
     requires inside { offset + length source.now ≤ (D.view inner.old).size }
-    ensures written { HasWritten (lent B.as_layer_below below.entry) (CommitMayTakeMemory D.view inner.old) (D.view inner.old) (D.view inner.new) offset
+    ensures written { HasWritten (lent B.as_layer_below below.entry)
+        (CommitMayTakeMemory D.view inner.old) (D.view inner.old) (D.view inner.new) offset
         source.now result }
-    ensures performed { IsFirstBy D.calls (lent B.as_layer_below below.entry) offset source.now inner.old inner.new result }
+    ensures performed { IsFirstBy D.calls (lent B.as_layer_below below.entry) offset source.now
+        inner.old inner.new result }
 {
     let (count, _) = write_through(
         inner,
@@ -117,9 +128,11 @@ fn write_all<D: FormatDriverInstance, B: LowerLayer>(
     requires inside { offset + length source.now ≤ (D.view inner.old).size }
     requires fits { offset + length source.now < 2 ^ 64 }
     ensures empty { length source.now ≡ 0 → IsOk result × (inner.new ≡ inner.old) }
-    ensures written { HasWrittenAll (lent B.as_layer_below below.entry) (CommitMayTakeMemory D.view inner.old) (D.view inner.old) (D.view inner.new) offset
+    ensures written { HasWrittenAll (lent B.as_layer_below below.entry)
+        (CommitMayTakeMemory D.view inner.old) (D.view inner.old) (D.view inner.new) offset
         source.now result }
-    ensures performed { AllWrittenBy D.calls (lent B.as_layer_below below.entry) offset source.now inner.old inner.new result }
+    ensures performed { AllWrittenBy D.calls (lent B.as_layer_below below.entry) offset source.now
+        inner.old inner.new result }
 {
     let mut done: usize = 0;
     while done < source.len() {
@@ -129,7 +142,8 @@ fn write_all<D: FormatDriverInstance, B: LowerLayer>(
 }
 
 impl<D: FormatDriverInstance> FormatAccess<D> {
-    /// The tests of a write or a mapping, in their order: the driver is writable, and the range lies in the disk.
+    /// The tests of a write or a mapping, in their order: the driver is writable, and the range
+    /// lies in the disk.
     pub(crate) fn test_range(&self, offset: u64, count: u64) -> Result<(), Error>
         ensures { IsTested (D.view (driver self.now)) Write offset count result }
     {
@@ -143,8 +157,9 @@ impl<D: FormatDriverInstance> FormatAccess<D> {
         Ok(())
     }
 
-    /// Prepares a mapping of the range's first bytes, writes what fits of the source to it, and commits or cancels it. It answers how
-    /// long the mapping was, and whether it had no state. The tests are those of [`write`](Self::write).
+    /// Prepares a mapping of the range's first bytes, writes what fits of the source to it, and
+    /// commits or cancels it. It answers how long the mapping was, and whether it had no state. The
+    /// tests are those of [`write`](Self::write).
     pub(crate) fn write_mapping(
         &mut self,
         alloc: Global,
@@ -155,8 +170,10 @@ impl<D: FormatDriverInstance> FormatAccess<D> {
         commit: bool,
     ) -> Result<(u64, bool), Error>
         requires { (D.view (driver self.old)).pending ≡ None }
-        ensures mapped { IsMappedWrite D.view self.old self.new offset count overwrite source.now commit result }
-        ensures performed { IsMappedBy D.view D.calls self.old self.new offset count overwrite source.now commit result }
+        ensures mapped { IsMappedWrite D.view self.old self.new offset count overwrite source.now
+            commit result }
+        ensures performed { IsMappedBy D.view D.calls self.old self.new offset count overwrite
+            source.now commit result }
     {
         self.test_range(offset, count)?;
         let lower = below(&self.backing);
@@ -174,12 +191,13 @@ impl<D: FormatDriverInstance> FormatAccess<D> {
 
     /// Writes the bytes at the offset. Nothing below the top layer changes.
     ///
-    /// [`Error::ReadOnly`] where the driver isn't writable, then [`Error::BeyondDisk`] where the range passes the
-    /// disk's size, also for no bytes; nothing changed. Any other refusal is that of a call of the driver, and leaves each
-    /// byte of the range old or new, and all others as they were. A write of no bytes that passes these tests does nothing,
-    /// and isn't refused.
+    /// [`Error::ReadOnly`] where the driver isn't writable, then [`Error::BeyondDisk`] where the
+    /// range passes the disk's size, also for no bytes; nothing changed. Any other refusal is that
+    /// of a call of the driver, and leaves each byte of the range old or new, and all others as
+    /// they were. A write of no bytes that passes these tests does nothing, and isn't refused.
     ///
-    /// No prepared mapping may wait, which [`has_prepared`](FormatDriverInstance::has_prepared) of the driver tells.
+    /// No prepared mapping may wait, which [`has_prepared`](FormatDriverInstance::has_prepared) of
+    /// the driver tells.
     pub fn write(&mut self, alloc: Global, source: &[u8], offset: u64) -> Result<(), Error>
         requires { (D.view (driver self.old)).pending ≡ None }
         ensures written { IsWrite D.view self.old self.new offset source.now result }
@@ -191,7 +209,8 @@ impl<D: FormatDriverInstance> FormatAccess<D> {
 
     /// The same as [`write`](Self::write).
     ///
-    /// No prepared mapping may wait, which [`has_prepared`](FormatDriverInstance::has_prepared) of the driver tells.
+    /// No prepared mapping may wait, which [`has_prepared`](FormatDriverInstance::has_prepared) of
+    /// the driver tells.
     pub fn writev(&mut self, alloc: Global, source: &[u8], offset: u64) -> Result<(), Error>
         requires { (D.view (driver self.old)).pending ≡ None }
         ensures written { IsWrite D.view self.old self.new offset source.now result }

@@ -1,14 +1,20 @@
 //! Zeroing ranges of an image.
-ghost use Rattle.std.specs.Prelude.{◌≡◌, ℕ, ◌+◌, ◌-◌, ◌/◌, ◌<◌, ◌≤◌, ◌^◌, None, true, List, IsTrue, IfOk, IfErr, OnOk, IsOk, ◌⊎◌, length, slice_index, EachIndex};
+ghost use Rattle.std.specs.Prelude.{◌≡◌, ℕ, ◌+◌, ◌-◌, ◌/◌, ◌<◌, ◌≤◌, ◌^◌, None, true, List, IsTrue};
+ghost use Rattle.std.specs.Prelude.{IfOk, IfErr, OnOk, IsOk, ◌⊎◌, length, slice_index, EachIndex};
 ghost use Rattle.imago_drivers.specs.Operation.{Zero, DiscardToZero};
 ghost use Rattle.imago_drivers.specs.LayerBelow.{lent};
 ghost use Rattle.imago_drivers.specs.Place.{Byte};
 ghost use Rattle.imago_access.specs.Chain.{driver, backing, disk_value, lent_image, as_layer_below};
 ghost use Rattle.imago_access.specs.Calls.{IsTested};
-ghost use Rattle.imago_access.specs.ZeroCalls.{OnDriver, zero_by, AreGranulesBy, IsRoundedFrom, TriesGranules, IsZeroPiece, IsZeroedAsData, IsGapZeroed, IsNextZeroed, AllZeroedBy, IsZeroedBy, LacksZeroes, AreNull};
+ghost use Rattle.imago_access.specs.ZeroCalls.{OnDriver, zero_by, AreGranulesBy, IsRoundedFrom};
+ghost use Rattle.imago_access.specs.ZeroCalls.{TriesGranules, IsZeroPiece, IsZeroedAsData};
+ghost use Rattle.imago_access.specs.ZeroCalls.{IsGapZeroed, IsNextZeroed, AllZeroedBy, IsZeroedBy};
+ghost use Rattle.imago_access.specs.ZeroCalls.{LacksZeroes, AreNull};
 ghost use Rattle.imago_access.specs.Performed.{IsFirstBy};
 ghost use Rattle.imago_access.specs.declared.zero.ZeroCall.TheVariants as Call;
-ghost use Rattle.imago_access.specs.Zeroing.{operation_of, AreZero, IsPartlyZeroed, Carries, HasZeroed, HasZeroedPart, IsZeroedByDriver, IsZeroWrite, data_reasons, zero_reasons};
+ghost use Rattle.imago_access.specs.Zeroing.{operation_of, AreZero, IsPartlyZeroed, Carries};
+ghost use Rattle.imago_access.specs.Zeroing.{HasZeroed, HasZeroedPart, IsZeroedByDriver};
+ghost use Rattle.imago_access.specs.Zeroing.{IsZeroWrite, data_reasons, zero_reasons};
 
 use crate::access::{FormatAccess, below};
 use crate::mapping::Mapping;
@@ -39,7 +45,8 @@ impl<D: FormatDriverInstance> FormatAccess<D> {
         requires writable { (D.view (driver self.old)).abilities.is_writable ≡ true }
         requires spent { (D.view (driver self.old)).pending ≡ None }
         requires inside { offset + count ≤ (D.view (driver self.old)).size }
-        ensures zeroed { HasZeroedPart D.view (operation_of call) offset count self.old self.new result }
+        ensures zeroed { HasZeroedPart D.view (operation_of call) offset count self.old self.new
+            result }
         ensures performed { zero_by D.calls call offset count self.old self.new result }
     {
         match call {
@@ -63,8 +70,8 @@ impl<D: FormatDriverInstance> FormatAccess<D> {
         true
     }
 
-    /// Where the whole granules of a range begin: rounded down where what stands before the range in its first granule
-    /// maps as zero, rounded up where not.
+    /// Where the whole granules of a range begin: rounded down where what stands before the range
+    /// in its first granule maps as zero, rounded up where not.
     fn first_granule(&self, granule: u64, offset: u64) -> u64
         requires some { 0 < granule }
         requires fits { offset < 2 ^ 64 }
@@ -80,8 +87,8 @@ impl<D: FormatDriverInstance> FormatAccess<D> {
         start.saturating_add(granule)
     }
 
-    /// Where the whole granules of a range end: rounded up, but for the disk's end, where what stands behind the range in
-    /// its last granule maps as zero, rounded down where not.
+    /// Where the whole granules of a range end: rounded up, but for the disk's end, where what
+    /// stands behind the range in its last granule maps as zero, rounded down where not.
     fn last_granule(&self, granule: u64, end: u64) -> u64
         requires some { 0 < granule }
         requires inside { end ≤ (D.view (driver self.now)).size }
@@ -120,8 +127,8 @@ impl<D: FormatDriverInstance> FormatAccess<D> {
         }
     }
 
-    /// Zeroes whole granules of a range where the driver has a granularity. A granule that begins before the range, or ends behind
-    /// it, is zeroed where it maps as zero there.
+    /// Zeroes whole granules of a range where the driver has a granularity. A granule that begins
+    /// before the range, or ends behind it, is zeroed where it maps as zero there.
     fn try_granules(&mut self, alloc: Global, offset: u64, count: u64)
         requires some { 0 < count }
         requires writable { (D.view (driver self.old)).abilities.is_writable ≡ true }
@@ -139,7 +146,8 @@ impl<D: FormatDriverInstance> FormatAccess<D> {
         }
     }
 
-    /// Writes the first of these zeroes at the offset, as many as one mapping holds, and answers how many these are.
+    /// Writes the first of these zeroes at the offset, as many as one mapping holds, and answers
+    /// how many these are.
     fn write_zero_piece(
         &mut self,
         alloc: Global,
@@ -161,9 +169,9 @@ impl<D: FormatDriverInstance> FormatAccess<D> {
         write_first(&mut self.inner, alloc, below(&self.backing), zeroes, offset)
     }
 
-    /// Zeroes the first bytes of a range, and answers how many these are: what maps as explicit zeroes
-    /// already, or what one write of zeroes puts there. The zeroes are taken at the first place that
-    /// has to be written, so where there are none nothing is written yet.
+    /// Zeroes the first bytes of a range, and answers how many these are: what maps as explicit
+    /// zeroes already, or what one write of zeroes puts there. The zeroes are taken at the first
+    /// place that has to be written, so where there are none nothing is written yet.
     fn zero_first(
         &mut self,
         alloc: Global,
@@ -184,7 +192,8 @@ impl<D: FormatDriverInstance> FormatAccess<D> {
         ensures zeroed { HasZeroed D.view offset count (λ n. n)
             (data_reasons D.view self.old offset count) self.old self.new result }
         ensures performed { IsZeroPiece D.view D.calls offset count self.old self.new result
-            ⊎ ((length zeroes.old.items ≡ 0) × LacksZeroes D.view offset count self.old self.new result) }
+            ⊎ ((length zeroes.old.items ≡ 0)
+            × LacksZeroes D.view offset count self.old self.new result) }
     {
         let (mapping, length) = self.get_mapping(offset, count)?;
         if mapping.is_explicit_zero() {
@@ -196,8 +205,8 @@ impl<D: FormatDriverInstance> FormatAccess<D> {
         Ok(written as u64)
     }
 
-    /// Zeroes a range by writes of zeroes, but for what is an explicit zero already. A range that is
-    /// explicit zeroes takes no memory.
+    /// Zeroes a range by writes of zeroes, but for what is an explicit zero already. A range that
+    /// is explicit zeroes takes no memory.
     fn zero_as_data(&mut self, alloc: Global, offset: u64, count: u64) -> Result<(), Error>
         requires some { 0 < count }
         requires writable { (D.view (driver self.old)).abilities.is_writable ≡ true }
@@ -216,14 +225,16 @@ impl<D: FormatDriverInstance> FormatAccess<D> {
         Ok(())
     }
 
-    /// Zeroes what the driver's own call left of a range: by whole granules as far as that goes, then as data.
+    /// Zeroes what the driver's own call left of a range: by whole granules as far as that goes,
+    /// then as data.
     fn fill_zeroes(&mut self, alloc: Global, offset: u64, count: u64) -> Result<(), Error>
         requires writable { (D.view (driver self.old)).abilities.is_writable ≡ true }
         requires spent { (D.view (driver self.old)).pending ≡ None }
         requires inside { offset + count ≤ (D.view (driver self.old)).size }
         requires fits { offset + count < 2 ^ 64 }
         ensures empty { count ≡ 0 → IsOk result × (self.new ≡ self.old) }
-        ensures zeroed { HasZeroed D.view offset count (λ u. count) (data_reasons D.view self.old offset count)
+        ensures zeroed { HasZeroed D.view offset count (λ u. count)
+            (data_reasons D.view self.old offset count)
             self.old self.new result }
         ensures performed { IsGapZeroed D.view D.calls offset count self.old self.new result }
     {
@@ -234,8 +245,8 @@ impl<D: FormatDriverInstance> FormatAccess<D> {
         self.zero_as_data(alloc, offset, count)
     }
 
-    /// Zeroes the first bytes of a range, and answers how many these are: the part that the driver's own call zeroes, with what
-    /// stands before it, or all where that call does nothing.
+    /// Zeroes the first bytes of a range, and answers how many these are: the part that the
+    /// driver's own call zeroes, with what stands before it, or all where that call does nothing.
     fn zero_next(
         &mut self,
         alloc: Global,
@@ -292,8 +303,9 @@ impl<D: FormatDriverInstance> FormatAccess<D> {
 }
 
 impl<D: FormatDriverInstance> FormatAccess<D> {
-    /// The tests of a zero write or discard, in their order: the driver is writable, the range's end is within `u64`, and the range
-    /// lies in the disk. They are the same for all of these calls.
+    /// The tests of a zero write or discard, in their order: the driver is writable, the range's
+    /// end is within `u64`, and the range lies in the disk. They are the same for all of these
+    /// calls.
     pub(crate) fn test_end(&self, offset: u64, count: u64) -> Result<(), Error>
         ensures { IsTested (D.view (driver self.now)) Zero offset count result }
     {
@@ -309,16 +321,19 @@ impl<D: FormatDriverInstance> FormatAccess<D> {
         Ok(())
     }
 
-    /// Zeroes a range. The driver zeroes what it can by itself; what it leaves is zeroed in whole granules where the driver has a
-    /// granularity and the rest of a granule is zero already, and else written as zeroes, but for what is an explicit zero.
-    /// Nothing below the top layer changes.
+    /// Zeroes a range. The driver zeroes what it can by itself; what it leaves is zeroed in whole
+    /// granules where the driver has a granularity and the rest of a granule is zero already, and
+    /// else written as zeroes, but for what is an explicit zero. Nothing below the top layer
+    /// changes.
     ///
-    /// [`Error::ReadOnly`] where the driver isn't writable, then [`Error::RangeOverflow`] where the range's end passes `u64::MAX`,
-    /// then [`Error::BeyondDisk`] where it passes the disk's size, also for no bytes; nothing changed.
-    /// [`Error::Unsupported`] where the driver offers no zero writes. Any refusal leaves each byte of the range as it was or zero,
-    /// and all others as they were. An empty range that passes these tests makes no call of the driver, and isn't refused.
+    /// [`Error::ReadOnly`] where the driver isn't writable, then [`Error::RangeOverflow`] where the
+    /// range's end passes `u64::MAX`, then [`Error::BeyondDisk`] where it passes the disk's size,
+    /// also for no bytes; nothing changed. [`Error::Unsupported`] where the driver offers no zero
+    /// writes. Any refusal leaves each byte of the range as it was or zero, and all others as they
+    /// were. An empty range that passes these tests makes no call of the driver, and isn't refused.
     ///
-    /// No prepared mapping may wait, which [`has_prepared`](FormatDriverInstance::has_prepared) of the driver tells.
+    /// No prepared mapping may wait, which [`has_prepared`](FormatDriverInstance::has_prepared) of
+    /// the driver tells.
     pub fn write_zeroes(&mut self, alloc: Global, offset: u64, count: u64) -> Result<(), Error>
         requires { (D.view (driver self.old)).pending ≡ None }
         ensures zeroed { IsZeroWrite D.view Zero self.old self.new offset count result }
@@ -329,10 +344,12 @@ impl<D: FormatDriverInstance> FormatAccess<D> {
         self.zero_range(alloc, ZeroCall::EnsureZero, offset, count)
     }
 
-    /// Gives up the data of a range, which reads as zeroes afterwards. What the driver doesn't discard by itself is zeroed as
-    /// [`write_zeroes`](Self::write_zeroes) does. The refusals, and what they leave, are the same too.
+    /// Gives up the data of a range, which reads as zeroes afterwards. What the driver doesn't
+    /// discard by itself is zeroed as [`write_zeroes`](Self::write_zeroes) does. The refusals, and
+    /// what they leave, are the same too.
     ///
-    /// No prepared mapping may wait, which [`has_prepared`](FormatDriverInstance::has_prepared) of the driver tells.
+    /// No prepared mapping may wait, which [`has_prepared`](FormatDriverInstance::has_prepared) of
+    /// the driver tells.
     pub fn discard_to_zero(&mut self, alloc: Global, offset: u64, count: u64) -> Result<(), Error>
         requires { (D.view (driver self.old)).pending ≡ None }
         ensures zeroed { IsZeroWrite D.view DiscardToZero self.old self.new offset count result }
@@ -344,7 +361,8 @@ impl<D: FormatDriverInstance> FormatAccess<D> {
     }
 }
 
-/// How much of a range is written at once: what one mapping is for, or, at an end, what was asked for, up to so many zeroes.
+/// How much of a range is written at once: what one mapping is for, or, at an end, what was asked
+/// for, up to so many zeroes.
 fn piece_of(mapped: u64, count: u64, most: u64) -> u64
     requires some { 0 < count }
     requires stock { 0 < most }
