@@ -1,3 +1,4 @@
+pub mod BlockSteps
 pub mod FreeSteps
 pub mod TableSteps
 pub mod WholeSteps

@@ -26,26 +26,26 @@ fn grow_with<S: Storage, B: LowerLayer>(
     below: Option<&B>,
     growth: Growth,
 ) -> Result<(), Error>
-    requires positive { 0 < growth.block }
+    requires positive { 0 < growth.block.length }
     requires grows { growth.size < growth.new_size }
-    requires exact { IsExact growth.size growth.block (entries_of table.old) }
+    requires exact { IsExact growth.size growth.block.length (entries_of table.old) }
     requires spent { held_of table.old ≡ None }
-    requires addressed { count_of table.old * growth.block < 2 ^ 64 }
+    requires addressed { count_of table.old * growth.block.length < 2 ^ 64 }
     requires some { growth.mode ≢ PreallocateMode.None }
     ensures grown { OnOk result
         (IsGrowth growth.mode (lent B.as_layer_below below.entry) growth.new_size
-        (cow_view (S.features storage.old) (S.fault_count storage.old + faults.old) (S.bytes storage.old) growth.size growth.block (entries_of table.old) (count_of table.old) None)
-        (cow_view (S.features storage.old) (S.fault_count storage.new + faults.new) (S.bytes storage.new) growth.new_size growth.block (entries_of table.new) (count_of table.new) None) (Ok tt)) }
+        (cow_view (S.features storage.old) (S.fault_count storage.old + faults.old) (S.bytes storage.old) growth.size growth.block.length (entries_of table.old) (count_of table.old) None)
+        (cow_view (S.features storage.old) (S.fault_count storage.new + faults.new) (S.bytes storage.new) growth.new_size growth.block.length (entries_of table.new) (count_of table.new) None) (Ok tt)) }
     ensures refused { IfErr result
         (λ e. IsGrowth growth.mode (lent B.as_layer_below below.entry) growth.new_size
-        (cow_view (S.features storage.old) (S.fault_count storage.old + faults.old) (S.bytes storage.old) growth.size growth.block (entries_of table.old) (count_of table.old) None)
-        (cow_view (S.features storage.old) (S.fault_count storage.new + faults.new) (S.bytes storage.new) growth.size growth.block (entries_of table.old) (count_of table.new) None) (Err e)) }
+        (cow_view (S.features storage.old) (S.fault_count storage.old + faults.old) (S.bytes storage.old) growth.size growth.block.length (entries_of table.old) (count_of table.old) None)
+        (cow_view (S.features storage.old) (S.fault_count storage.new + faults.new) (S.bytes storage.new) growth.size growth.block.length (entries_of table.old) (count_of table.new) None) (Err e)) }
     ensures blocks { OnOk result
-        (AreGrown growth.mode growth.block growth.size (entries_of table.old) (entries_of table.new)) }
-    ensures exact_now { OnOk result (IsExact growth.new_size growth.block (entries_of table.new)) }
+        (AreGrown growth.mode growth.block.length growth.size (entries_of table.old) (entries_of table.new)) }
+    ensures exact_now { OnOk result (IsExact growth.new_size growth.block.length (entries_of table.new)) }
     ensures entries { OnErr result (entries_of table.new ≡ entries_of table.old) }
     ensures held { held_of table.new ≡ None }
-    ensures addressed { count_of table.new * growth.block < 2 ^ 64 }
+    ensures addressed { count_of table.new * growth.block.length < 2 ^ 64 }
     ensures features { S.features storage.new ≡ S.features storage.old }
 {
     let was = empty_cut(table, growth.block, growth.size);
@@ -67,25 +67,25 @@ pub(crate) fn grow<S: Storage, B: LowerLayer>(
     below: Option<&B>,
     growth: Growth,
 ) -> Result<(), Error>
-    requires positive { 0 < growth.block }
+    requires positive { 0 < growth.block.length }
     requires grows { growth.size < growth.new_size }
-    requires exact { IsExact growth.size growth.block (entries_of table.old) }
+    requires exact { IsExact growth.size growth.block.length (entries_of table.old) }
     requires spent { held_of table.old ≡ None }
-    requires addressed { count_of table.old * growth.block < 2 ^ 64 }
+    requires addressed { count_of table.old * growth.block.length < 2 ^ 64 }
     ensures grown { OnOk result
         (IsGrowth growth.mode (lent B.as_layer_below below.entry) growth.new_size
-        (cow_view (S.features storage.old) (S.fault_count storage.old + faults.old) (S.bytes storage.old) growth.size growth.block (entries_of table.old) (count_of table.old) None)
-        (cow_view (S.features storage.old) (S.fault_count storage.new + faults.new) (S.bytes storage.new) growth.new_size growth.block (entries_of table.new) (count_of table.new) None) (Ok tt)) }
+        (cow_view (S.features storage.old) (S.fault_count storage.old + faults.old) (S.bytes storage.old) growth.size growth.block.length (entries_of table.old) (count_of table.old) None)
+        (cow_view (S.features storage.old) (S.fault_count storage.new + faults.new) (S.bytes storage.new) growth.new_size growth.block.length (entries_of table.new) (count_of table.new) None) (Ok tt)) }
     ensures refused { IfErr result
         (λ e. IsGrowth growth.mode (lent B.as_layer_below below.entry) growth.new_size
-        (cow_view (S.features storage.old) (S.fault_count storage.old + faults.old) (S.bytes storage.old) growth.size growth.block (entries_of table.old) (count_of table.old) None)
-        (cow_view (S.features storage.old) (S.fault_count storage.new + faults.new) (S.bytes storage.new) growth.size growth.block (entries_of table.old) (count_of table.new) None) (Err e)) }
+        (cow_view (S.features storage.old) (S.fault_count storage.old + faults.old) (S.bytes storage.old) growth.size growth.block.length (entries_of table.old) (count_of table.old) None)
+        (cow_view (S.features storage.old) (S.fault_count storage.new + faults.new) (S.bytes storage.new) growth.size growth.block.length (entries_of table.old) (count_of table.new) None) (Err e)) }
     ensures blocks { OnOk result
-        (AreGrown growth.mode growth.block growth.size (entries_of table.old) (entries_of table.new)) }
-    ensures exact_now { OnOk result (IsExact growth.new_size growth.block (entries_of table.new)) }
+        (AreGrown growth.mode growth.block.length growth.size (entries_of table.old) (entries_of table.new)) }
+    ensures exact_now { OnOk result (IsExact growth.new_size growth.block.length (entries_of table.new)) }
     ensures entries { OnErr result (entries_of table.new ≡ entries_of table.old) }
     ensures held { held_of table.new ≡ None }
-    ensures addressed { count_of table.new * growth.block < 2 ^ 64 }
+    ensures addressed { count_of table.new * growth.block.length < 2 ^ 64 }
     ensures features { S.features storage.new ≡ S.features storage.old }
 {
     if adds_nothing(growth.mode) {

@@ -3,6 +3,7 @@
 //! [`table::Table`] says what each block is, and which data blocks are free.
 #![tactic(auto)]
 
+mod block;
 mod commit;
 mod copy;
 pub mod cow;
