@@ -2,8 +2,8 @@
 ghost use Rattle.std.specs.Prelude.{◌≡◌, ℕ, ◌/◌, ◌%◌, ◌^◌, ◌<◌, IsTrue};
 ghost use Rattle.std.specs.Int.{is_power_of_two};
 
-/// The length of a block in bytes, which is a power of two. Which block an offset lies in, and how far behind its beginning, is
-/// told without a division.
+/// The length of a block in bytes, which is a power of two. Which block an offset lies in, and how
+/// far behind its beginning, is told without a division.
 #[derive(Clone, Copy)]
 pub struct BlockSize {
     pub(crate) length: u64,

@@ -16,5 +16,6 @@ mod map;
 mod named;
 mod prepare;
 mod resize;
+mod room;
 mod stored;
 pub mod table;
