@@ -8,7 +8,7 @@ ghost use Rattle.imago_drivers.specs.LayerBelow.{lent};
 ghost use Rattle.imago_drivers.specs.Reasons.{allowed};
 ghost use Rattle.imago_cow.specs.declared.table.GuestBlock.{GuestBlock};
 ghost use Rattle.imago_cow.specs.Table.{named_count};
-ghost use Rattle.imago_cow.specs.TableView.{entries_of, held_of, count_of};
+ghost use Rattle.imago_cow.specs.TableView.{entries_of, held_of, count_of, KeepsRoom};
 ghost use Rattle.imago_cow.specs.Guest.{entry_place, is_data};
 ghost use Rattle.imago_cow.specs.Copies.{old_value};
 ghost use Rattle.imago_cow.specs.Growth.{fill_reasons};
@@ -141,6 +141,7 @@ fn fill_taken<S: Storage, B: LowerLayer>(
     ensures held { held_of table.new ≡ None }
     ensures addressed { count_of table.new * cut.block.length < 2 ^ 64 }
     ensures added { count_of table.new ≤ max (count_of table.old) (named_count (entries_of table.old) + 1) }
+    ensures room { KeepsRoom table.old table.new }
     ensures no_shorter { length (S.bytes storage.old) ≤ length (S.bytes storage.new) }
     ensures no_longer { length (S.bytes storage.new)
         ≤ max (length (S.bytes storage.old))
@@ -207,6 +208,7 @@ pub(crate) fn fill_cut<S: Storage, B: LowerLayer>(
         → is_data (slice_get (entries_of table.old) (growth.size / growth.block.length)) ≡ false
         → named_count (entries_of table.old) + 1 ≤ most)
         → count_of table.new ≤ most }
+    ensures room { KeepsRoom table.old table.new }
     ensures no_shorter { length (S.bytes storage.old) ≤ length (S.bytes storage.new) }
     ensures no_longer { (most : ℕ)
         → count_of table.old ≤ most
@@ -286,6 +288,7 @@ pub(crate) fn restore_cut(table: &mut Table, block: BlockSize, size: u64, was: O
         → entries_of table.new ≡ old }
     ensures held { held_of table.new ≡ held_of table.old }
     ensures count { count_of table.new ≡ count_of table.old }
+    ensures room { KeepsRoom table.old table.new }
 {
     let Some(kind) = was else {
         return;

@@ -95,6 +95,7 @@ pub(crate) fn add_blocks(table: &mut Table, growth: Growth, kind: WithoutData) -
     ensures unchanged { OnErr result (entries_of table.new ≡ entries_of table.old) }
     ensures held { held_of table.new ≡ held_of table.old }
     ensures count { count_of table.new ≡ count_of table.old }
+    ensures room { KeepsRoom table.old table.new }
     ensures memory { IfErr result (λ e. e ≡ Error.Memory) }
 {
     let wanted = first_whole(growth.block, growth.new_size) as usize;
@@ -293,6 +294,7 @@ pub(crate) fn add_new<S: Storage, B: LowerLayer>(
         (entries_of table.old) (S.bytes storage.old) (S.bytes storage.new) }
     ensures held { held_of table.new ≡ None }
     ensures addressed { count_of table.new * growth.block.length < 2 ^ 64 }
+    ensures room { KeepsRoom table.old table.new }
     ensures no_shorter { length (S.bytes storage.old) ≤ length (S.bytes storage.new) }
     ensures no_longer { (most wanted : ℕ)
         → growth.new_size ≤ wanted * growth.block.length
