@@ -9,6 +9,7 @@ ghost use Rattle.imago_drivers.specs.Reasons.{allowed};
 ghost use Rattle.imago_cow.specs.Copies.{old_value, HasOldBytes, old_reasons, copy_reasons, round_reasons, block_from, block_until};
 
 use crate::block::BlockSize;
+use crate::zero::{shows_zeroes, takes_zeroes, zero_bytes};
 use imago_drivers::layer::LowerLayer;
 use imago_drivers::stored::write_bytes;
 use imago_storage::error::Error;
@@ -43,8 +44,9 @@ fn old_bytes<B: LowerLayer>(
     Ok(bytes)
 }
 
-/// Copies what `count` places without data show from the offset on to that offset of the storage. A failed read of the
-/// layer below raises the count of faults.
+/// Copies what `count` places without data show from the offset on to that offset of the storage. A
+/// failed read of the layer below raises the count of faults. What shows zeroes for certain isn't read:
+/// the storage's own zero write makes it, where that takes the range as it is.
 pub(crate) fn copy_old<S: Storage, B: LowerLayer>(
     storage: &mut S,
     faults: &mut u64,
@@ -78,6 +80,9 @@ pub(crate) fn copy_old<S: Storage, B: LowerLayer>(
 {
     if count == 0 {
         return Ok(());
+    }
+    if shows_zeroes(below, absent, offset) && takes_zeroes(&*storage, to, count) {
+        return zero_bytes(storage, alloc, to, count);
     }
     match old_bytes(alloc, below, absent, offset, count) {
         Ok(bytes) => write_bytes(storage, alloc, &bytes, to),

@@ -19,3 +19,4 @@ mod resize;
 mod room;
 mod stored;
 pub mod table;
+mod zero;
