@@ -1,10 +1,12 @@
 //! What a commit makes of the write that waits.
 ghost use Rattle.std.specs.Prelude.{◌≡◌, ℕ, ◌+◌, ◌*◌, ◌/◌, ◌<◌, ◌≤◌, length, slice_get, Some, None, false};
-ghost use Rattle.imago_drivers.specs.Commit.{is_committed};
+ghost use Rattle.imago_storage.specs.Features.{Features};
+ghost use Rattle.imago_drivers.specs.Commit.{is_committed, commit_moves};
+ghost use Rattle.imago_drivers.specs.Outside.{StayBut};
 ghost use Rattle.imago_drivers.specs.Frame.{IsFramed, ReachesNoMore};
 ghost use Rattle.imago_drivers.specs.Causes.{IsSettled, IsOnRange};
 ghost use Rattle.imago_cow.specs.TableView.{entries_of, held_of, count_of};
-ghost use Rattle.imago_cow.specs.Guest.{Covers, IsEntered};
+ghost use Rattle.imago_cow.specs.Guest.{Covers, IsEntered, cow_place};
 ghost use Rattle.imago_cow.specs.Cow.{cow_view, cow_pending, cow_cause, cow_copies, WaitsApart};
 
 use crate::block::BlockSize;
@@ -32,6 +34,10 @@ pub(crate) fn enter_waiting(table: &mut Table, block: BlockSize, size: u64, wait
         → IsFramed
         (cow_view f faults bytes size block.length (entries_of table.old) (count_of table.old) (Some waiting))
         (cow_view f faults bytes size block.length (entries_of table.new) (count_of table.new) None) }
+    ensures outside { (f : Features) (bytes : _)
+        → StayBut f.keeps_data (commit_moves (cow_pending block.length size bytes (Some waiting)) (Some waiting.state))
+        (cow_place bytes size block.length (entries_of table.old))
+        (cow_place bytes size block.length (entries_of table.new)) }
     ensures settled { (f : _) (o n : ℕ)
         → IsSettled IsOnRange
         (cow_cause f block.length size (entries_of table.old) (count_of table.old) (Some waiting))

@@ -1,6 +1,6 @@
 use Rattle.std.proofs.Common.{◌/◌, []}
 use Rattle.imago_cow.specs.TableView.{entries_of}
-use Rattle.imago_cow.proofs.CommitSteps.{set_entered, in_disk, committed, commit_reaches, commit_framed, commit_settled}
+use Rattle.imago_cow.proofs.CommitSteps.{set_entered, in_disk, committed, commit_reaches, commit_framed, commit_settled, commit_outside}
 use Rattle.imago_cow.proofs.commit.enter_waiting.Goals as goal
 
 pub enter-requires-clause-within : goal.enter-requires-clause-within
@@ -33,3 +33,9 @@ returns-clause-settled c = λ f a b.
     let s = set_entered (c.args.waiting.start / c.args.block.length) c.args.waiting.number (entries_of c.args.table.now) (in_disk c.args.size c.args.block.length _ _ c.args.waiting c.requires.positive c.requires.covers c.requires.apart) in
     let e = c.enter.ensures.entries c.args.waiting.number c.requires.held in
     rw (e, c.number.ensures, c.enter.ensures.count) (commit_settled f 0 [] c.args.size c.args.block.length _ _ _ c.args.waiting c.requires.positive c.requires.covers c.requires.apart s a b)
+
+pub returns-clause-outside : goal.returns-clause-outside
+returns-clause-outside c = λ f bytes.
+    let s = set_entered (c.args.waiting.start / c.args.block.length) c.args.waiting.number (entries_of c.args.table.now) (in_disk c.args.size c.args.block.length _ _ c.args.waiting c.requires.positive c.requires.covers c.requires.apart) in
+    let e = c.enter.ensures.entries c.args.waiting.number c.requires.held in
+    rw (e, c.number.ensures) (commit_outside f 0 bytes c.args.size c.args.block.length _ _ _ c.args.waiting c.requires.positive c.requires.covers c.requires.apart s)

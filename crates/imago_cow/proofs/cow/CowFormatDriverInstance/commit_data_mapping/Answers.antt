@@ -39,4 +39,5 @@ returns-clause-call g c =
       framed = rw is (e.framed f n B);
       faults = record { later = omega arith; reliable = λ x. refl; device = λ x. let z : ⊥ = cc in absurd z };
       refusals = tt;
+      outside = rw (is, own_w.3) (e.outside f B);
     }
