@@ -49,7 +49,8 @@ padded_within f to n end h = ⊎_elim
     (λ none. let t : nat_lt 0 n ≡ false = grind (arith, nat_tests) in rw t (omega arith))
     (cases_lt 0 n)
 
--- A copy in the guest block, to its place in the data block, is refused only for what a copy of the guest block may be.
+-- A copy in the guest block, to its place in the data block, is refused only for what a copy of the
+-- guest block may be.
 module _ (f : Features) (l : LayerBelow) (absent overwrite : Bool) (block size o n to q m at : ℕ) (after : to ≤ at) (before : at + m ≤ to + block) (inside : 0 < m → IsInBlock block size o q m) (apart : overwrite ≡ true → IsApart o n q m) where
   pub round_allowed : (e : Error) → allowed (copy_reasons f l absent q m at) e → allowed (round_reasons f l absent overwrite block size o n to) e
   round_allowed E.WrapAround c = ⊎_elim (λ w. inl (refl, record { from = at; count = m; above = after; below = before; wraps = w.1 })) (λ d. inr (d.0, (q, m, inside (c.0), apart, d.1))) (c.1)

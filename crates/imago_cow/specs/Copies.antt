@@ -21,14 +21,15 @@ old_value at absent p = if absent then at p else Byte 0
 abbrev pub HasOldBytes : (ℕ → Value) → Bool → ℕ → List ℕ → Type 0
 HasOldBytes at absent o items = (k : ℕ) → k < length items → old_value at absent (o + k) ≡ Byte (slice_index items k)
 
--- What a read of n such places from o on answers: where the guest block is absent, what the layer below answers to that one read; else,
--- and over no layer, it is done.
+-- What a read of n such places from o on answers: where the guest block is absent, what the layer
+-- below answers to that one read; else, and over no layer, it is done.
 abbrev pub IsOldRead : {B : Type 0} → (ℕ → ℕ → Asking B (Unit {0})) → Option (Bor B) → Bool → ℕ → ℕ → Result (Unit {0}) Error → Type 0
 IsOldRead reads None absent o n result = result ≡ Ok tt
 IsOldRead reads (Some b) false o n result = result ≡ Ok tt
 IsOldRead reads (Some b) true o n result = reads o n b.now result
 
--- A copy of n such places answers a refusal of that read as it is, and behind a read that is done what the storage refuses.
+-- A copy of n such places answers a refusal of that read as it is, and behind a read that is done
+-- what the storage refuses.
 abbrev pub IsCopyAnswer : {B : Type 0} → (ℕ → ℕ → Asking B (Unit {0})) → Option (Bor B) → Bool → ℕ → ℕ → Result (Unit {0}) Error → Type 0
 IsCopyAnswer reads below absent o n result = (answer : Result (Unit {0}) Error) × IsOldRead reads below absent o n answer × IfErr answer (λ e. result ≡ Err e) × OnOk answer (IfErr result IsExtRefusal)
 

@@ -17,8 +17,8 @@ use imago_storage::error::Error;
 use imago_storage::storage::Storage;
 use std::alloc::Global;
 
-/// Fills the buffer with what places without data show from the offset on: the layer below where their
-/// guest block is absent, else zeroes. A refusal is the layer's own.
+/// Fills the buffer with what places without data show from the offset on: the layer below where
+/// their guest block is absent, else zeroes. A refusal is the layer's own.
 fn read_old<B: LowerLayer>(
     alloc: Global,
     below: Option<&B>,
@@ -46,8 +46,8 @@ fn read_old<B: LowerLayer>(
 }
 
 /// Copies what places without data show from the offset on through the buffer to that offset of the
-/// storage, as many as the buffer holds. A failed read of the layer below raises the count of faults. What
-/// the read is refused for is the answer.
+/// storage, as many as the buffer holds. A failed read of the layer below raises the count of
+/// faults. What the read is refused for is the answer.
 fn copy_through<S: Storage, B: LowerLayer>(
     storage: &mut S,
     faults: &mut u64,
@@ -93,8 +93,8 @@ fn copy_through<S: Storage, B: LowerLayer>(
 }
 
 /// Copies what `count` places without data show from the offset on to that offset of the storage. A
-/// failed read of the layer below raises the count of faults. What shows zeroes for certain isn't read:
-/// the storage's own zero write makes it, where that takes the range as it is.
+/// failed read of the layer below raises the count of faults. What shows zeroes for certain isn't
+/// read: the storage's own zero write makes it, where that takes the range as it is.
 pub(crate) fn copy_old<S: Storage, B: LowerLayer>(
     storage: &mut S,
     faults: &mut u64,

@@ -60,8 +60,8 @@ impl FreeBlocks {
         let _ = self.distances.push(other_end(block));
     }
 
-    /// Makes room for so many more: as much again as there was where memory allows, else for exactly
-    /// those. [`Error::Memory`] is no room for those either.
+    /// Makes room for so many more: as much again as there was where memory allows, else for
+    /// exactly those. [`Error::Memory`] is no room for those either.
     pub(crate) fn reserve(&mut self, additional: usize) -> Result<(), Error>
         ensures same { IsSame self.old self.new }
         ensures keeps { free_room self.old ≤ free_room self.new }

@@ -19,8 +19,8 @@ use imago_storage::error::Error;
 use imago_storage::storage::Storage;
 use std::alloc::Global;
 
-/// Makes room for the entries of the guest blocks that the grown disk needs. [`Error::Memory`] is no
-/// room for them.
+/// Makes room for the entries of the guest blocks that the grown disk needs. [`Error::Memory`] is
+/// no room for them.
 fn reserve_new(table: &mut Table, growth: Growth) -> Result<(), Error>
     requires positive { 0 < growth.block.length }
     requires grows { growth.size < growth.new_size }
@@ -79,8 +79,8 @@ fn grow_with<S: Storage, B: LowerLayer>(
 }
 
 /// Grows the disk: makes room in the table, fills the guest block that the old end cuts as the mode
-/// says, and adds those behind it. Refused, all is as it was, but for data blocks that are free; the
-/// storage isn't touched before there is the room.
+/// says, and adds those behind it. Refused, all is as it was, but for data blocks that are free;
+/// the storage isn't touched before there is the room.
 pub(crate) fn grow<S: Storage, B: LowerLayer>(
     storage: &mut S,
     faults: &mut u64,

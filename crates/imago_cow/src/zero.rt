@@ -45,8 +45,8 @@ pub(crate) fn takes_zeroes<S: Storage>(storage: &S, offset: u64, count: u64) -> 
     count % align == 0
 }
 
-/// Zeroes a range that the storage's zero write takes as it is. Where the storage keeps data: refused,
-/// each byte of the range is old or zero, and no other one changes.
+/// Zeroes a range that the storage's zero write takes as it is. Where the storage keeps data:
+/// refused, each byte of the range is old or zero, and no other one changes.
 pub(crate) fn zero_bytes<S: Storage>(
     storage: &mut S,
     alloc: Global,
