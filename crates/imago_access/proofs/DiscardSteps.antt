@@ -24,6 +24,9 @@ use Rattle.imago_access.proofs.Weaker.{allowed_more, refused_more}
 use Rattle.imago_access.proofs.Written.{framed_twice, same_frame}
 use Rattle.imago_access.proofs.Writes.{and_left, rose_more}
 use Rattle.imago_access.proofs.ZeroLoops.{same_devices}
+use Rattle.imago_drivers.specs.Outside.{StaysOutside}
+use Rattle.imago_access.specs.Moves.{MovesWithin}
+use Rattle.imago_access.proofs.Moved.{moved_none, moved_outside, moved_then}
 
 -- A way for a value to change, by its offset, that may be no change, and that may follow another one.
 pub record IsRepeatable (how : ℕ → Value → Value → Type 0) : Type 0 where
@@ -76,9 +79,12 @@ pub part_loosened : {D St : Type 0} (view : D → View St) (x : FormatAccess D) 
     → (IsTrue (view (driver x)).abilities.keeps_data → IfOk result (λ r. IsChanged r.0 r.1 (λ k. loosened call (view (driver x)).abilities.takes_backing (lent_image view (backing x)).at (r.0 + k)) (values (lent_image view (backing x)).at (view (driver x)).place) (values (lent_image view (backing x)).at (view d).place)))
     → (IsTrue (view (driver x)).abilities.keeps_data → OnErr result (IsChanged o n (partly (λ k. loosened call (view (driver x)).abilities.takes_backing (lent_image view (backing x)).at (o + k))) (values (lent_image view (backing x)).at (view (driver x)).place) (values (lent_image view (backing x)).at (view d).place)))
     → IfOk result (λ r. IsSettled (λ op. op ≡ discard_of call) (view (driver x)).limits.cause (view d).limits.cause (view (driver x)).limits.copies (view d).limits.copies r.0 r.1)
-    → (view d).pending ≡ None → StaysFramed (view (driver x)) (view d) → CountsFaults (view (driver x)).abilities.is_reliable (view (driver x)).fault_count (view d).fault_count result
+    → (view d).pending ≡ None → StaysFramed (view (driver x)) (view d)
+    → StaysOutside (view (driver x)).abilities.keeps_data (view (driver x)).abilities.block o n
+    (view (driver x)).place (view d).place
+    → CountsFaults (view (driver x)).abilities.is_reliable (view (driver x)).fault_count (view d).fault_count result
     → IfErr result (allowed (range_reasons (view (driver x)) (discard_of call) o n)) → HasLoosenedPart view call o n x (with_driver x d) result
-part_loosened {D} view x d call o n result inside whole done refused settled spent framed faults refusals =
+part_loosened {D} view x d call o n result inside whole done refused settled spent framed outside faults refusals =
     let e : d ≡ driver (with_driver x d) = sym (driver_with x d) in
     record {
       left = record {
@@ -88,6 +94,8 @@ part_loosened {D} view x d call o n result inside whole done refused settled spe
         spent = subst (λ (y : D). (view y).pending ≡ None) e spent;
         faults = subst (λ (y : D). CountsFaults (devices_reliable view x) (view (driver x)).fault_count (view y).fault_count result) e (record { later = faults.later; reliable = λ t. faults.reliable (and_left _ _ t); device = faults.device });
         refusals = weaker result refusals;
+        outside = subst (λ (y : D). MovesWithin (discard_of call) o n (view (driver x)) (view y)) e
+            (moved_outside (discard_of call) o n (view (driver x)) (view d) outside);
       };
       inside = inside;
       whole = whole;
@@ -123,6 +131,7 @@ pub record IsDiscardingOn {D St : Type 0} (view : D → View St) (call : Discard
   pub reliable : IsTrue (devices_reliable view old) → (view (driver mid)).fault_count ≡ (view (driver old)).fault_count
   pub settled : IsSettled (λ op. op ≡ discard_of call) (view (driver old)).limits.cause (view (driver mid)).limits.cause (view (driver old)).limits.copies (view (driver mid)).limits.copies o n
   pub once : (view (driver old)).limits.whole (discard_of call) o n → ((c ≡ 0) × (mid ≡ old)) ⊎ (c ≡ n)
+  pub outside : MovesWithin (discard_of call) o n (view (driver old)) (view (driver mid))
 
 module _ {D St : Type 0} (view : D → View St) (call : DiscardCall) (o n : ℕ) (old : FormatAccess D) where
   pub nothing_discarded : AreCauses (view (driver old)) → (view (driver old)).pending ≡ None → IsDiscardingOn view call o n old old 0
@@ -139,6 +148,7 @@ module _ {D St : Type 0} (view : D → View St) (call : DiscardCall) (o n : ℕ)
       copied = λ op b m q k p r h i j x c. law.part_copied op b m q k p j x c;
     };
     once = λ free. inl (refl, refl);
+    outside = moved_none (discard_of call) o n (view (driver old));
   }
 
   module _ (mid new : FormatAccess D) (c : ℕ) (sofar : IsDiscardingOn view call o n old mid c) where
@@ -153,6 +163,14 @@ module _ {D St : Type 0} (view : D → View St) (call : DiscardCall) (o n : ℕ)
 
     same_reliable : IsTrue (devices_reliable view old) → IsTrue (devices_reliable view mid)
     same_reliable t = same_devices view old mid sofar.below sofar.framed ∙ t
+
+    next_moves : MovesWithin (discard_of call) (o + c) (n - c) (view (driver mid))
+        (view (driver new))
+        → MovesWithin (discard_of call) o n (view (driver old)) (view (driver new))
+    next_moves h =
+        moved_then (discard_of call) o n (view (driver old)) (view (driver mid)) (view (driver new))
+        (o + c) (n - c) sofar.framed.kind (omega arith) (omega (arith, sofar.within))
+        sofar.outside h
 
     pub loosened_next : (s l : ℕ) → HasLoosenedPart view call (o + c) (n - c) mid new (Ok (s, l)) → (l ≡ 0 → ⊥) → c < n → IsDiscardingOn view call o n old new (s - o + l)
     loosened_next s l h some lt = ⊎_elim (λ none. absurd (some none)) (λ part. record {
@@ -176,6 +194,7 @@ module _ {D St : Type 0} (view : D → View St) (call : DiscardCall) (o n : ℕ)
           inr (omega (arith, w.0, w.1, z.0)))
           (λ z. absurd (omega arith))
           (sofar.once free);
+      outside = next_moves h.left.outside;
     }) h.inside
 
     -- the driver does nothing more
@@ -187,6 +206,7 @@ module _ {D St : Type 0} (view : D → View St) (call : DiscardCall) (o n : ℕ)
       spent = h.left.spent;
       faults = record { later = omega (arith, sofar.later, h.left.faults.later); reliable = λ t. h.left.faults.reliable (same_reliable t) ∙ sofar.reliable t; device = λ d. let z : ⊥ = cc in absurd z };
       refusals = tt;
+      outside = next_moves h.left.outside;
     }
 
     pub loosened_refused : {U : Type 0} (e : Error) → c < n → HasLoosenedPart view call (o + c) (n - c) mid new (Err e) → HasLoosened {T = U} view call o n old new (Err e)
@@ -215,6 +235,7 @@ module _ {D St : Type 0} (view : D → View St) (call : DiscardCall) (o n : ℕ)
             (sofar.once free.1);
         foreign_mapping = λ k. k;
       }) e h.left.refusals;
+      outside = next_moves h.left.outside;
     }
       where
         device : IsErrOf {T = U} (Err e) Error.Device → IsErrOf {T = ℕ × ℕ} (Err e) Error.Device
@@ -228,6 +249,7 @@ module _ {D St : Type 0} (view : D → View St) (call : DiscardCall) (o n : ℕ)
       spent = sofar.spent;
       faults = record { later = sofar.later; reliable = sofar.reliable; device = λ d. let z : ⊥ = cc in absurd z };
       refusals = tt;
+      outside = sofar.outside;
     }
 
 pub not_loosened : {D St : Type 0} (view : D → View St) (call : DiscardCall) (x : FormatAccess D) (o n : ℕ) → IsLoosened view call o n x x
@@ -255,6 +277,7 @@ range_call view call x new o n result w fits small loose idle h = record {
   nothing_pending = h.spent;
   faults = record { later = h.faults.later; reliable = h.faults.reliable; device = λ d. inl (h.faults.device d) };
   refusals = refused result h.refusals;
+  outside = h.outside;
 }
   where
     done : (r : Result (Unit {0}) Error) → IsLoosened view call o n x new → IfOk r (λ u. IsLoosened view call o n x new)

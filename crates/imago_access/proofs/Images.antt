@@ -23,6 +23,9 @@ use Rattle.imago_access.specs.Lending.{with_driver}
 use Rattle.imago_access.specs.Calls.{Overflows, FailsTest, IsLoose, settles, ShowsFaults, IsRangeCall, IsWrite, devices_reliable, IsMappedWrite, IsEnsured, IsPreparing}
 use Rattle.imago_access.specs.Writing.{CommitMayTakeMemory, WasPrepared, StandsAlone, HasWrittenAll, HasMapped, filled, shown_length, shown_change}
 use Rattle.imago_access.proofs.Chains.{value_out}
+use Rattle.imago_drivers.specs.Outside.{StaysOutside}
+use Rattle.imago_access.specs.Moves.{MovesWithin}
+use Rattle.imago_access.proofs.Moved.{moved_none, moved_outside}
 
 -- what a driver is lent, as the image below
 pub lent_is : {D St : Type 0} (view : D → View St) (r : Option (Bor (FormatAccess D))) (b : Option (FormatAccess D)) → option_copied r ≡ b → lent (as_layer_below view) r ≡ lent_image view b
@@ -145,6 +148,7 @@ module _ {D St T : Type 0} (view : D → View St) (x : FormatAccess D) (op : Ope
     nothing_pending = p;
     faults = record { later = omega arith; reliable = λ t. refl; device = λ h. absurd (test_device {T = T} (view (driver x)) op o n e f h) };
     refusals = inl f;
+    outside = moved_none op o n (view (driver x));
   }
 
   -- a call that passed its tests
@@ -152,10 +156,11 @@ module _ {D St T : Type 0} (view : D → View St) (x : FormatAccess D) (op : Ope
       → (IsTrue (view (driver x)).abilities.keeps_data → IfOk result effect) → (IsTrue (view (driver x)).abilities.keeps_data → OnErr result remains)
       → ((IsLoose op → ⊥) → ReachesNoMore (view (driver x)) (view d))
       → IfOk result (λ r. IsSettled of (view (driver x)).limits.cause (view d).limits.cause (view (driver x)).limits.copies (view d).limits.copies o (part r))
-      → StaysFramed (view (driver x)) (view d) → (view d).pending ≡ None
+      → StaysFramed (view (driver x)) (view d)
+      → MovesWithin op o n (view (driver x)) (view d) → (view d).pending ≡ None
       → ShowsFaults hidden (devices_reliable view x) (view (driver x)).fault_count (view d).fault_count result
       → IfErr result (allowed reasons) → IsRangeCall view op o n nothing of reasons hidden part effect remains x (with_driver x d) result
-  passed_call d result w fits small idle done torn reaches settled framed spent faults refusals =
+  passed_call d result w fits small idle done torn reaches settled framed moved spent faults refusals =
       let e : driver (with_driver x d) ≡ d = driver_with x d in
       record {
         tested = λ z g. absurd (not_failed (view (driver x)) op o n w fits small z g);
@@ -171,6 +176,7 @@ module _ {D St T : Type 0} (view : D → View St) (x : FormatAccess D) (op : Ope
         nothing_pending = subst (λ (y : D). (view y).pending ≡ None) (sym e) spent;
         faults = subst (λ (y : D). ShowsFaults hidden (devices_reliable view x) (view (driver x)).fault_count (view y).fault_count result) (sym e) faults;
         refusals = refusals_more result (allowed reasons) _ (λ e h. inr h) refusals;
+        outside = subst (λ (y : D). MovesWithin op o n (view (driver x)) (view y)) (sym e) moved;
       }
 
 pub image_write : {D St : Type 0} (view : D → View St) (x : FormatAccess D) (d : D) (o : ℕ) (bytes : List ℕ) (result : Result Unit Error) (l : LayerBelow) → l ≡ lent_image view (backing x)
@@ -183,7 +189,7 @@ image_write {D} view x d o bytes result l e w fits idle h =
     (λ keeps. err_more result _ _ (λ c. changed_image view x d (λ a b. IsChanged o (length bytes) (partly (into bytes)) a b) c) (k.torn keeps))
     (λ z. k.reaches)
     (on_ok result _ (ok_then result (λ s. settles_for Operation.Write _ _ _ _ o (length bytes) s) k.settled))
-    k.framed k.spent (shows_faults _ _ _ result k.faults) k.refusals
+    k.framed k.outside k.spent (shows_faults _ _ _ result k.faults) k.refusals
   where
     ok_then : {P Q : Type 0} (r : Result Unit Error) → (P → Q) → OnOk r P → OnOk r Q
     ok_then (Ok t) f h = f h
@@ -205,7 +211,7 @@ image_mapped {D} view x d o n w bytes commit result l e writable fits told h =
       call = passed_call view x Operation.Write o n _ _ _ _ _ _ _ d result writable fits (λ z. z) (λ i. absurd i)
           (λ keeps. ok_both result _ _ _ (λ m c s. (changed_image view x d (λ a b. IsChanged o (shown_length commit m) (shown_change w bytes m) a b) c, subst (λ (y : D). StandsAlone (view y).place o (shown_length commit m)) (sym (driver_with x d)) s)) (k.done keeps) k.alone)
           (λ keeps. err_more result _ _ (λ c. changed_image view x d (λ a b. IsChanged o n (partly (filled w bytes)) a b) c) (k.torn keeps))
-          (λ z. k.reaches) k.settled k.framed k.spent (shows_faults _ _ _ result k.faults) k.refusals;
+          (λ z. k.reaches) k.settled k.framed k.outside k.spent (shows_faults _ _ _ result k.faults) k.refusals;
     }
 
 pub failed_mapped : {D St : Type 0} (view : D → View St) (x : FormatAccess D) (o n : ℕ) (w : Bool) (bytes : List ℕ) (commit : Bool) (e : Error) → FailsTest (view (driver x)) Operation.Write o n e → (view (driver x)).pending ≡ None
@@ -222,16 +228,19 @@ pub image_ensured : {D St : Type 0} (view : D → View St) (x : FormatAccess D) 
     → (IsTrue (view (driver x)).abilities.keeps_data → OnErr result (IsChanged o n (overwritten w) (values l.at (view (driver x)).place) (values l.at (view d).place)))
     → ReachesNoMore (view (driver x)) (view d)
     → IfOk result (λ r. IsSettled IsOnRange (view (driver x)).limits.cause (view d).limits.cause (view (driver x)).limits.copies (view d).limits.copies o r.2)
-    → StaysFramed (view (driver x)) (view d) → (view d).pending ≡ None
+    → StaysFramed (view (driver x)) (view d)
+    → StaysOutside (view (driver x)).abilities.keeps_data (view (driver x)).abilities.block o n
+    (view (driver x)).place (view d).place
+    → (view d).pending ≡ None
     → CountsFaults ((view (driver x)).abilities.is_reliable && l.is_reliable) (view (driver x)).fault_count (view d).fault_count result
     → IfErr result (allowed (lending_reasons (view (driver x)) l Operation.Write o n)) → IsEnsured view x (with_driver x d) o n w result
-image_ensured view x d o n w result l h writable fits done torn reaches settled framed spent faults refusals =
+image_ensured view x d o n w result l h writable fits done torn reaches settled framed outside spent faults refusals =
     passed_call view x Operation.Write o n _ _ _ _ _ _ _ d result writable fits (λ z. z) (λ i. absurd i)
     (λ k. ok_more result _ _ (λ r c. changed_image view x d (λ a b. IsChanged o r.2 (overwritten w) a b) c) (subst (λ (m : LayerBelow). IfOk result (λ r. IsChanged o r.2 (overwritten w) (values m.at (view (driver x)).place) (values m.at (view d).place))) h (done k)))
     (λ k. err_more result _ _ (λ c. changed_image view x d (λ a b. IsChanged o n (overwritten w) a b) c) (subst (λ (m : LayerBelow). OnErr result (IsChanged o n (overwritten w) (values m.at (view (driver x)).place) (values m.at (view d).place))) h (torn k)))
     (λ z. reaches)
     (ok_more result _ _ (λ r s. settles_for Operation.Write _ _ _ _ o r.2 s) settled)
-    framed spent
+    framed (moved_outside Operation.Write o n (view (driver x)) (view d) outside) spent
     (shows_faults _ _ _ result (subst (λ (m : LayerBelow). CountsFaults ((view (driver x)).abilities.is_reliable && m.is_reliable) (view (driver x)).fault_count (view d).fault_count result) h faults))
     (subst (λ (m : LayerBelow). IfErr result (allowed (lending_reasons (view (driver x)) m Operation.Write o n))) h refusals)
 

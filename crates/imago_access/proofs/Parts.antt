@@ -17,11 +17,15 @@ use Rattle.imago_drivers.specs.Lengths.{AreNoShorter}
 use Rattle.imago_drivers.specs.Frame.{IsUnchanged, ReachesNoMore}
 use Rattle.imago_drivers.specs.Done.{lending_reasons, mapping_write_reasons}
 use Rattle.imago_drivers.specs.Prepared.{IsPrepared, IsWritten, IsForeignWrite, is_for, is_foreign}
-use Rattle.imago_drivers.specs.Commit.{IsCommit, IsCancel, commit_reasons, is_committed, prepared_bytes}
+use Rattle.imago_drivers.specs.Commit.{IsCommit, IsCancel, commit_reasons, is_committed, commit_moves, prepared_bytes}
+use Rattle.imago_drivers.specs.Outside.{SharesBlock, StayBut}
+use Rattle.imago_drivers.proofs.Stays.{shares_more, stays_weaker}
+use Rattle.imago_access.specs.Moves.{MayMove, MovesWithin}
 use Rattle.imago_access.specs.Framed.{StaysFramed}
 use Rattle.imago_access.specs.Writing.{CommitMayTakeMemory, StandsAlone, HasWritten, HasFilled, HasMapped, IsWaiting, is_filled, filled, shown_length, shown_change, settles_by, first_reasons, filling_reasons, mapping_reasons}
 use Rattle.imago_access.proofs.Weaker.{IsWeaker, allowed_more}
-use Rattle.imago_access.proofs.Written.{settled_twice, framed_twice, stays, changed_wider, changed_whole, written_length, is_at_start, is_at_start_after, never_foreign_write, is_spent, write_refused, cancelled, filled_so, filling_weaker}
+use Rattle.imago_access.proofs.Moved.{moves_block, moved_same, moved_twice}
+use Rattle.imago_access.proofs.Written.{settled_twice, framed_twice, stays, changed_wider, changed_whole, written_length, is_at_start, is_at_start_after, never_foreign_write, is_spent, write_refused, cancelled, filled_so, filling_weaker, wrote_moves, still_near}
 use Rattle.imago_access.proofs.Writes.{and_left, of_err, GoesOn, goes_on, goes_on_twice, goes_on_with, reaches_twice, rose_more, counted, refused_first, wrote_first, unchanged_values}
 
 -- settled by a part, so by what holds it
@@ -66,6 +70,12 @@ module _ {D St : Type 0} (view : D → View St) (l : LayerBelow) (old mid wrote 
             (λ h. rose_more (view old).fault_count (view mid).fault_count (view wrote).fault_count (view new).fault_count G.later c.later (device (of_err e Error.Device h)));
         refusals = write_refused (view old) (view mid) (view wrote) l o n overwrite bytes k m P U law fit S e
             (λ h. never_foreign_write (view old) (view mid) (view wrote) l o n overwrite bytes k m P U law fit mid_writable (foreign (ap (λ x. Err x) h))) reasons;
+        outside = moved_twice Operation.Write o n (view old) (view wrote) (view new)
+            wrote_framed.kind
+            (wrote_moves (view old) (view mid) (view wrote) l o n overwrite bytes k m P U law fit
+            true w)
+            (moved_same Operation.Write o n (view wrote) (view new) c.places);
+        near = tt;
       }
 
   pub fill_done : IsWritten false (view mid) (view wrote) m 0 (take k bytes)
@@ -87,6 +97,10 @@ module _ {D St : Type 0} (view : D → View St) (l : LayerBelow) (old mid wrote 
         framed = wrote_framed;
         faults = counted _ _ _ _ wrote_goes (λ h. let z : ⊥ = cc in absurd z);
         refusals = tt;
+        outside = wrote_moves (view old) (view mid) (view wrote) l o n overwrite bytes k m P U law
+            fit false w;
+        near = still_near (view old) (view mid) (view wrote) l o n overwrite bytes k m P U law fit
+            false w;
       }
 
 -- a preparing that is refused
@@ -104,6 +118,8 @@ fill_refused view l old new o n overwrite bytes e U N spent G device reasons = r
   framed = stays (view old) (view new) U.framed N;
   faults = counted _ _ _ _ G (λ h. device (of_err e Error.Device h));
   refusals = allowed_more _ _ (filling_weaker (view old) l o n bytes) e reasons;
+  outside = moved_same Operation.Write o n (view old) (view new) U.places;
+  near = tt;
 }
 
 -- a mapping that is written (old to wrote), and committed or cancelled (wrote to new)
@@ -237,6 +253,23 @@ module _ {D St : Type 0} (view : D → View St) (l : LayerBelow) (old wrote new 
       let k : Lower q v ≡ Stored y.0 r.storage (r.offset + (p - o)) true = sym h ∙ sym (ap (view new).place e) ∙ y.1 in
       cc
 
+  -- a commit moves no place outside the blocks of the range
+  committed_moves : StayBut (view wrote).abilities.keeps_data
+      (commit_moves (view wrote).pending m.state) (view wrote).place (view new).place
+      → MovesWithin Operation.Write o n (view old) (view new)
+  committed_moves s =
+      let a = (view wrote).abilities in
+      let moves = commit_moves (view wrote).pending m.state in
+      let shares : (p : ℕ) → moves p → SharesBlock a.block o m.length p
+      = λ p c. rw H.framed.kind.abilities (H.near p c) in
+      let near : (p : ℕ) → moves p → MayMove a Operation.Write o n p
+      = λ p c. moves_block a Operation.Write o n p
+      (shares_more a.block o n o m.length p (omega arith) (omega (arith, H.mapping.within))
+      (shares p c)) in
+      moved_twice Operation.Write o n (view old) (view wrote) (view new) H.framed.kind H.outside
+      (stays_weaker a.keeps_data moves (MayMove a Operation.Write o n) (view wrote).place
+      (view new).place near s)
+
   pub mapping_committed : IsCommit view wrote new m (Ok tt) → HasMapped l (CommitMayTakeMemory view old) (view old) (view new) o n overwrite bytes true (Ok (m.length, is_none m.state))
   mapping_committed c = record {
     mapping = H.mapping;
@@ -249,6 +282,7 @@ module _ {D St : Type 0} (view : D → View St) (l : LayerBelow) (old wrote new 
     spent = spent c.own_spent c.others_stay;
     faults = counted _ _ _ _ (new_goes (goes_on _ _ _ _ c.faults)) (λ h. let z : ⊥ = cc in absurd z);
     refusals = tt;
+    outside = committed_moves c.outside;
   }
     where
       settled_for : IsSettled IsOnRange (view old).limits.cause (view new).limits.cause (view old).limits.copies (view new).limits.copies o m.length → IsSettled (settles_by true) (view old).limits.cause (view new).limits.cause (view old).limits.copies (view new).limits.copies o m.length
@@ -275,6 +309,7 @@ module _ {D St : Type 0} (view : D → View St) (l : LayerBelow) (old wrote new 
         spent = spent c.own_spent c.others_stay;
         faults = counted _ _ _ _ (new_goes (goes_on _ _ _ _ c.faults)) (λ h. rose_more (view old).fault_count (view wrote).fault_count (view new).fault_count (view new).fault_count H.faults.later (omega arith) (c.faults.device (ap (λ x. Err x) (of_err e Error.Device h))));
         refusals = commit_refused e own c.refusals;
+        outside = committed_moves c.outside;
       }
 
   pub mapping_cancelled : IsCancel view wrote new m → HasMapped l (CommitMayTakeMemory view old) (view old) (view new) o n overwrite bytes false (Ok (m.length, is_none m.state))
@@ -289,6 +324,8 @@ module _ {D St : Type 0} (view : D → View St) (l : LayerBelow) (old wrote new 
     spent = spent c.own_spent c.others_stay;
     faults = counted _ _ _ _ (new_goes (record { later = c.later; reliable = c.reliable })) (λ h. let z : ⊥ = cc in absurd z);
     refusals = tt;
+    outside = moved_twice Operation.Write o n (view old) (view wrote) (view new) H.framed.kind
+        H.outside (moved_same Operation.Write o n (view wrote) (view new) c.places);
   }
 
 -- a refused preparing or writing is one of the whole
@@ -304,6 +341,7 @@ mapping_refused l commit_memory old new o n overwrite bytes commit e h = record 
   spent = h.nothing_pending;
   faults = counted _ _ _ _ (goes_on _ _ _ _ h.faults) (λ x. h.faults.device (ap (λ y. Err y) (of_err e Error.Device x)));
   refusals = allowed_more _ _ weaker e h.refusals;
+  outside = h.outside;
 }
   where
     weaker : IsWeaker (filling_reasons old l o n bytes) (mapping_reasons old l commit_memory o n bytes commit)
@@ -334,9 +372,9 @@ module _ {St : Type 0} (l : LayerBelow) (commit_memory : Type 0) (old new : View
       (λ keeps. let d = h.done keeps in record { inside = λ k lt. (d.inside k lt).0 (omega (arith, h.mapping.within)); before = d.before; behind = d.behind })
       h.mapping.whole h.alone
       (record { causes = λ op a z q i e t. h.settled.causes op a z q i e (t, refl); copied = λ op a z q i p t. h.settled.copied op a z q i p (t, refl) })
-      h.reaches h.framed h.spent (goes_on _ _ _ _ h.faults)
+      h.reaches h.framed h.outside h.spent (goes_on _ _ _ _ h.faults)
 
   pub first_refused : (e : Error) → HasMapped l commit_memory old new o (length bytes) true bytes true (Err e) → HasWritten l commit_memory old new o bytes (Err e)
   first_refused e h = refused_first l commit_memory old new o bytes e
       (λ keeps. let d = h.torn keeps in record { inside = λ k lt. ⊎_elim (λ a. inl a) (λ a. inr (a.0 lt)) (d.inside k lt); before = d.before; behind = d.behind })
-      h.reaches h.framed h.spent (goes_on _ _ _ _ h.faults) (λ x. h.faults.device (ap (λ y. Err y) x)) (allowed_more _ _ first_weaker e h.refusals)
+      h.reaches h.framed h.outside h.spent (goes_on _ _ _ _ h.faults) (λ x. h.faults.device (ap (λ y. Err y) x)) (allowed_more _ _ first_weaker e h.refusals)

@@ -16,6 +16,8 @@ use Rattle.imago_access.specs.Framed.{StaysFramed}
 use Rattle.imago_access.specs.Writing.{CommitMayTakeMemory, StandsAlone, first_reasons, write_reasons, HasWritten, HasWrittenAll}
 use Rattle.imago_access.proofs.Weaker.{IsWeaker, allowed_more}
 use Rattle.imago_access.proofs.Written.{kind_twice, framed_twice, same_frame}
+use Rattle.imago_access.specs.Moves.{MovesWithin}
+use Rattle.imago_access.proofs.Moved.{moved_none, moved_then}
 
 pub and_left : (a b : Bool) → IsTrue (a && b) → IsTrue a
 and_left true b h = refl
@@ -56,9 +58,9 @@ of_err e x h = cc
 module _ {St : Type 0} (l : LayerBelow) (commit_memory : Type 0) (old new : View St) (o : ℕ) (bytes : List ℕ) where
   -- a refusal with nothing written for it but what may be torn
   pub refused_first : (e : Error) → (IsTrue old.abilities.keeps_data → IsChanged o (length bytes) (partly (into bytes)) (values l.at old.place) (values l.at new.place))
-      → ReachesNoMore old new → StaysFramed old new → new.pending ≡ None → GoesOn (old.abilities.is_reliable && l.is_reliable) old.fault_count new.fault_count → (e ≡ Error.Device → RoseOrSaturated old.fault_count new.fault_count)
+      → ReachesNoMore old new → StaysFramed old new → MovesWithin Operation.Write o (length bytes) old new → new.pending ≡ None → GoesOn (old.abilities.is_reliable && l.is_reliable) old.fault_count new.fault_count → (e ≡ Error.Device → RoseOrSaturated old.fault_count new.fault_count)
       → allowed (first_reasons old l commit_memory o (length bytes)) e → HasWritten l commit_memory old new o bytes (Err e)
-  refused_first e torn reaches framed spent goes device reasons = record {
+  refused_first e torn reaches framed moved spent goes device reasons = record {
     some = tt;
     done = λ k. tt;
     torn = torn;
@@ -70,12 +72,13 @@ module _ {St : Type 0} (l : LayerBelow) (commit_memory : Type 0) (old new : View
     spent = spent;
     faults = counted _ _ _ _ goes (λ h. device (of_err e Error.Device h));
     refusals = reasons;
+    outside = moved;
   }
 
   pub wrote_first : (n : ℕ) → 0 < n → n ≤ length bytes → (IsTrue old.abilities.keeps_data → IsChanged o n (into bytes) (values l.at old.place) (values l.at new.place))
       → (old.limits.whole Operation.Write o (length bytes) → n ≡ length bytes) → StandsAlone new.place o n → IsSettled IsOnRange old.limits.cause new.limits.cause old.limits.copies new.limits.copies o n
-      → ReachesNoMore old new → StaysFramed old new → new.pending ≡ None → GoesOn (old.abilities.is_reliable && l.is_reliable) old.fault_count new.fault_count → HasWritten l commit_memory old new o bytes (Ok n)
-  wrote_first n some within done whole alone settled reaches framed spent goes = record {
+      → ReachesNoMore old new → StaysFramed old new → MovesWithin Operation.Write o (length bytes) old new → new.pending ≡ None → GoesOn (old.abilities.is_reliable && l.is_reliable) old.fault_count new.fault_count → HasWritten l commit_memory old new o bytes (Ok n)
+  wrote_first n some within done whole alone settled reaches framed moved spent goes = record {
     some = (some, within);
     done = done;
     torn = λ k. tt;
@@ -87,6 +90,7 @@ module _ {St : Type 0} (l : LayerBelow) (commit_memory : Type 0) (old new : View
     spent = spent;
     faults = counted _ _ _ _ goes (λ h. let z : ⊥ = cc in absurd z);
     refusals = tt;
+    outside = moved;
   }
 
 pub unchanged_values : {St : Type 0} (old new : View St) (below : ℕ → Value) (o n : ℕ) (how : Change) → IsUnchanged old new → IsTrue old.abilities.keeps_data → IsChanged o n (partly how) (values below old.place) (values below new.place)
@@ -105,6 +109,7 @@ pub record IsWritingOn {D St : Type 0} (view : D → View St) (l : LayerBelow) (
   pub spent : (view mid).pending ≡ None
   pub goes : GoesOn ((view old).abilities.is_reliable && l.is_reliable) (view old).fault_count (view mid).fault_count
   pub once : (view old).limits.whole Operation.Write o (length bytes) → ((count ≡ 0) × (mid ≡ old)) ⊎ (count ≡ length bytes)
+  pub outside : MovesWithin Operation.Write o (length bytes) (view old) (view mid)
 
 settled_next : (old mid new : Causes) (c d f : Copies) (o m n : ℕ) → IsSettled IsOnRange old mid c d o m → IsSettled IsOnRange mid new d f (o + m) n → IsSettled IsOnRange old new c f o (m + n)
 settled_next old mid new c d f o m n s t = record {
@@ -181,6 +186,7 @@ module _ {D St : Type 0} (view : D → View St) (l : LayerBelow) (old : D) (o : 
     spent = spent;
     goes = record { later = omega arith; reliable = λ t. refl };
     once = λ h. inl (refl, refl);
+    outside = moved_none Operation.Write o (length bytes) (view old);
   }
 
   module _ (mid new : D) (done : ℕ) (sofar : IsWritingOn view l old mid o bytes done) where
@@ -189,6 +195,16 @@ module _ {D St : Type 0} (view : D → View St) (l : LayerBelow) (old : D) (o : 
 
     next_goes : GoesOn ((view mid).abilities.is_reliable && l.is_reliable) (view mid).fault_count (view new).fault_count → GoesOn ((view old).abilities.is_reliable && l.is_reliable) (view old).fault_count (view new).fault_count
     next_goes h = goes_on_twice _ _ _ _ sofar.goes (record { later = h.later; reliable = λ t. h.reliable (rw sofar.framed.kind.abilities t) })
+
+    next_moves : MovesWithin Operation.Write (o + done)
+        (length (take (length bytes - done) (drop done bytes))) (view mid) (view new)
+        → MovesWithin Operation.Write o (length bytes) (view old) (view new)
+    next_moves h =
+        let rest = take (length bytes - done) (drop done bytes) in
+        let len : length rest ≡ length bytes - done = rest_length done bytes in
+        moved_then Operation.Write o (length bytes) (view old) (view mid) (view new) (o + done)
+        (length rest) sofar.framed.kind (omega arith) (omega (arith, len, sofar.within))
+        sofar.outside h
 
     pub wrote_next : (n : ℕ) → HasWritten l (CommitMayTakeMemory view mid) (view mid) (view new) (o + done) (take (length bytes - done) (drop done bytes)) (Ok n) → IsWritingOn view l old new o bytes (done + n)
     wrote_next n h =
@@ -215,6 +231,7 @@ module _ {D St : Type 0} (view : D → View St) (l : LayerBelow) (old : D) (o : 
               inr (omega (arith, z.0)))
               (λ z. let y : n ≡ 0 = omega arith in inr (omega arith))
               (sofar.once free);
+          outside = next_moves h.outside;
         }
 
     weaker : done < length bytes → IsWeaker (first_reasons (view mid) l (CommitMayTakeMemory view mid) (o + done) (length bytes - done)) (write_reasons (view old) l (CommitMayTakeMemory view old) o (length bytes))
@@ -257,6 +274,7 @@ module _ {D St : Type 0} (view : D → View St) (l : LayerBelow) (old : D) (o : 
           spent = h.spent;
           faults = counted _ _ _ _ (next_goes (goes_on _ _ _ _ h.faults)) (λ x. rose_more (view old).fault_count (view mid).fault_count (view new).fault_count (view new).fault_count sofar.goes.later (omega arith) (h.faults.device (ap (λ y. Err y) (of_err e Error.Device x))));
           refusals = allowed_more _ _ (weaker lt) e (rw len at h.refusals);
+          outside = next_moves h.outside;
         }
 
   pub all_written : (new : D) (done : ℕ) → done ≡ length bytes → IsWritingOn view l old new o bytes done → HasWrittenAll l (CommitMayTakeMemory view old) (view old) (view new) o bytes (Ok tt)
@@ -270,4 +288,5 @@ module _ {D St : Type 0} (view : D → View St) (l : LayerBelow) (old : D) (o : 
     spent = h.spent;
     faults = counted _ _ _ _ h.goes (λ x. let z : ⊥ = cc in absurd z);
     refusals = tt;
+    outside = h.outside;
   }

@@ -20,6 +20,10 @@ use Rattle.imago_drivers.specs.Prepared.{IsPrepared, IsPut, is_written, is_forei
 use Rattle.imago_access.specs.Framed.{StaysFramed}
 use Rattle.imago_access.specs.Writing.{filled, is_filled, filling_reasons}
 use Rattle.imago_access.proofs.Weaker.{IsWeaker}
+use Rattle.imago_drivers.specs.Outside.{SharesBlock}
+use Rattle.imago_drivers.specs.Commit.{commit_moves}
+use Rattle.imago_access.specs.Moves.{MovesWithin}
+use Rattle.imago_access.proofs.Moved.{moved_put, moved_same, moved_twice}
 
 pub settled_twice : (old mid new : Causes) (c d f : Copies) (o n : ℕ) → IsSettled IsOnRange old mid c d o n → IsSettled IsOnRange mid new d f o n → IsSettled IsOnRange old new c f o n
 settled_twice old mid new c d f o n s t = record {
@@ -306,3 +310,40 @@ module _ {St : Type 0} (old mid wrote : View St) (l : LayerBelow) (o n : ℕ) (o
   pub filled_so : (wrote_framed : StaysFramed mid wrote) → is_written m.state false mid wrote m 0 (take k bytes)
       → (IsTrue mid.abilities.keeps_data → ShowsRound (values l.at mid.place) mid.pending → ShowsRound (values l.at wrote.place) wrote.pending) → is_filled m.state l old wrote o overwrite bytes m
   filled_so F W round = filled_at F m.state refl W round
+
+  wrote_moves_at : (torn : Bool) (st : Option St) → m.state ≡ st
+      → is_written st torn mid wrote m 0 (take k bytes) → MovesWithin Operation.Write o n mid wrote
+  wrote_moves_at torn None e W =
+      let at = (P.direct e).1 in
+      moved_put mid wrote torn o n m.storage (m.offset + 0) k (take k bytes) law
+      (λ i lt.
+      let x = at i (omega (arith, fit)) in
+      let z : m.offset + 0 + i ≡ m.offset + i = omega arith in
+      (x.0, rw z x.1))
+      (omega (arith, written_length)) (omega (arith, P.within, fit)) W.0
+  wrote_moves_at torn (Some s) e W = moved_same Operation.Write o n mid wrote W.0
+
+  -- the preparing and the write move no place outside the blocks of the range
+  pub wrote_moves : (torn : Bool) → is_written m.state torn mid wrote m 0 (take k bytes)
+      → MovesWithin Operation.Write o n old wrote
+  wrote_moves torn W =
+      moved_twice Operation.Write o n old mid wrote U.framed.kind
+      (moved_same Operation.Write o n old mid U.places) (wrote_moves_at torn m.state refl W)
+
+  near_at : (torn : Bool) (st : Option St) → m.state ≡ st
+      → is_written st torn mid wrote m 0 (take k bytes) → (p : ℕ) → commit_moves wrote.pending st p
+      → SharesBlock old.abilities.block o m.length p
+  near_at torn None e W p c = absurd c
+  near_at torn (Some s) e W p c =
+      let a = P.apart s e in
+      let r = W.1 a.0 a.1 in
+      let d : commit_moves (Some r.0) (Some s) p
+      = subst (λ (x : Option (Pending St)). commit_moves x (Some s) p) r.1 c in
+      let from : r.0.from ≡ a.0.from = ap (λ (q : Pending St). q.from) r.2 in
+      let until : r.0.until ≡ a.0.until = ap (λ (q : Pending St). q.until) r.2 in
+      P.near a.0 a.1 p (omega (arith, d.0, from)) (omega (arith, d.1, until))
+
+  -- nor will the commit
+  pub still_near : (torn : Bool) → is_written m.state torn mid wrote m 0 (take k bytes) → (p : ℕ)
+      → commit_moves wrote.pending m.state p → SharesBlock old.abilities.block o m.length p
+  still_near torn W p c = near_at torn m.state refl W p c

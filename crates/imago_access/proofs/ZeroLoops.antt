@@ -2,7 +2,7 @@ use Rattle.std.proofs.Common.{◌≡◌, ℕ, ◌+◌, ◌-◌, ◌<◌, ◌≤�
 use Rattle.std.proofs.lemmas.Bool.{cases_lt}
 use Rattle.std.specs.Prelude.{IsTrue, IsErrOf}
 use Rattle.imago_storage.specs.declared.error.Error.{Error}
-use Rattle.imago_drivers.specs.Operation.{Operation, Map, Write}
+use Rattle.imago_drivers.specs.Operation.{Operation, Map, Write, Zero}
 use Rattle.imago_drivers.specs.Place.{Value, Byte}
 use Rattle.imago_drivers.specs.Reasons.{Reasons, allowed}
 use Rattle.imago_drivers.specs.Causes.{CauseOver, IsOnRange}
@@ -24,6 +24,7 @@ use Rattle.imago_access.proofs.Chains.{reliable_out, cause_here, cause_lower}
 use Rattle.imago_access.proofs.Weaker.{IsWeaker, allowed_more}
 use Rattle.imago_access.proofs.Written.{framed_twice, same_frame, settled_twice}
 use Rattle.imago_access.proofs.Writes.{of_err, changed_next, rose_more}
+use Rattle.imago_access.proofs.Moved.{AreGranulesRound, moved_none, moved_then, moved_granules}
 
 -- zeroes over a range, and then over a part of it
 torn_twice : (o n q m : ℕ) (f g h : ℕ → Value) → o ≤ q → q + m ≤ o + n → IsChanged o n (partly zeroes) f g → IsChanged q m (partly zeroes) g h → IsChanged o n (partly zeroes) f h
@@ -162,6 +163,7 @@ module _ {D St : Type 0} (view : D → View St) where
     reaches = λ p q w e. (w, e);
     spent = spent;
     count = record { later = omega arith; reliable = λ t. refl };
+    outside = moved_none Zero o n (view (driver x));
   }
 
   pub partly_twice : (a b c : FormatAccess D) (o n q m : ℕ) → o ≤ q → q + m ≤ o + n → IsPartlyZeroed view o n a b → IsPartlyZeroed view q m b c → IsPartlyZeroed view o n a c
@@ -172,6 +174,8 @@ module _ {D St : Type 0} (view : D → View St) where
     reaches = λ p q w e. let z = y.reaches p q w e in x.reaches p q z.0 z.1;
     spent = y.spent;
     count = record { later = omega (arith, x.count.later, y.count.later); reliable = λ t. y.count.reliable (same_devices a b x.below x.framed ∙ t) ∙ x.count.reliable t };
+    outside = moved_then Zero o n (view (driver a)) (view (driver b)) (view (driver c)) q m
+        x.framed.kind le fits x.outside y.outside;
   }
 
   pub wider_partly : (a b : FormatAccess D) (o n q m : ℕ) → o ≤ q → q + m ≤ o + n → (view (driver a)).pending ≡ None → IsPartlyZeroed view q m a b → IsPartlyZeroed view o n a b
@@ -248,9 +252,11 @@ module _ {D St : Type 0} (view : D → View St) where
   driver_none x o n law spent = record { left = partly_none view x o n spent; carries = λ a k. carries_none (view (driver x)) law a k }
 
   -- whole granules are zero, where they were already but for the range
-  pub granules_done : (o n s e : ℕ) (old new : FormatAccess D) → ((p : ℕ) → s ≤ p → p < o → disk_value view old p ≡ Byte 0) → ((p : ℕ) → o + n ≤ p → p < e → disk_value view old p ≡ Byte 0)
+  pub granules_done : (g o n s e : ℕ) (old new : FormatAccess D)
+      → (view (driver old)).abilities.zero_granularity ≡ Some g → AreGranulesRound g o n s e
+      → ((p : ℕ) → s ≤ p → p < o → disk_value view old p ≡ Byte 0) → ((p : ℕ) → o + n ≤ p → p < e → disk_value view old p ≡ Byte 0)
       → IsZeroedByDriver view s (e - s) old new → IsZeroedByDriver view o n old new
-  granules_done o n s e old new head tail h = record {
+  granules_done g o n s e old new is round head tail h = record {
     left = record {
       torn = λ k. ⊎_elim
           (λ some. granules_torn o n s (e - s) _ _ head (λ p ge lt. tail p ge (omega arith)) (h.left.torn k))
@@ -265,6 +271,8 @@ module _ {D St : Type 0} (view : D → View St) where
       reaches = h.left.reaches;
       spent = h.left.spent;
       count = h.left.count;
+      outside = moved_granules g o n s e round (view (driver old)) (view (driver new)) is
+          h.left.outside;
     };
     carries = h.carries;
   }

@@ -3,7 +3,8 @@ use Rattle.std.proofs.lemmas.Bool.{cases_lt}
 use Rattle.std.specs.Prelude.{List, length, slice_index, EachIndex, IfOk, IfErr, OnErr, IsOk}
 use Rattle.imago_storage.specs.declared.error.Error.{Error}
 use Rattle.imago_storage.specs.Faults.{CountsFaults, RoseOrSaturated}
-use Rattle.imago_drivers.specs.Operation.{Operation}
+use Rattle.imago_drivers.specs.Operation.{Operation, Zero}
+use Rattle.imago_drivers.specs.Outside.{StaysOutside}
 use Rattle.imago_drivers.specs.Place.{Value, Byte, Place, values, shown}
 use Rattle.imago_drivers.specs.Reasons.{allowed}
 use Rattle.imago_drivers.specs.Causes.{IsSettled, IsOnRange, AddsNone}
@@ -30,6 +31,8 @@ use Rattle.imago_access.proofs.Chains.{lower_deep}
 use Rattle.imago_access.proofs.Targets.{target_shows, mapped_value}
 use Rattle.imago_access.proofs.Images.{driver_with, backing_with, changed_image, not_failed}
 use Rattle.imago_access.proofs.Writes.{and_left}
+use Rattle.imago_access.specs.Moves.{MakesZeroes, MovesWithin}
+use Rattle.imago_access.proofs.Moved.{moved_outside, moved_writing, moved_zeroing}
 
 -- a part of a range that is zeroed is a range that is partly zeroed
 pub zeroed_part : (o n q m : ℕ) (old new : ℕ → Value) → (m ≡ 0) ⊎ ((o ≤ q) × (q + m ≤ o + n)) → IsChanged q m zeroes old new → IsChanged o n (partly zeroes) old new
@@ -80,9 +83,12 @@ module _ {D St : Type 0} (view : D → View St) (x : FormatAccess D) (d : D) whe
   -- a part of the driver's zeroing, as the image sees it
   pub part_zeroed : (op : Operation) (o n : ℕ) (result : Result (ℕ × ℕ) Error) → AreCauses (view (driver x)) → HasDone (λ f k. zeroes) op o n (view (driver x)) (view d) result
       → AddsNone (view (driver x)).limits.cause (view d).limits.cause (view (driver x)).limits.copies (view d).limits.copies → ReachesNoMore (view (driver x)) (view d) → (view d).pending ≡ None
-      → StaysFramed (view (driver x)) (view d) → CountsFaults (view (driver x)).abilities.is_reliable (view (driver x)).fault_count (view d).fault_count result
+      → StaysFramed (view (driver x)) (view d)
+      → StaysOutside (view (driver x)).abilities.keeps_data (view (driver x)).abilities.block o n
+      (view (driver x)).place (view d).place
+      → CountsFaults (view (driver x)).abilities.is_reliable (view (driver x)).fault_count (view d).fault_count result
       → IfErr result (allowed (range_reasons (view (driver x)) op o n)) → HasZeroedPart view op o n x (with_driver x d) result
-  part_zeroed op o n result law done none reaches spent framed faults refusals =
+  part_zeroed op o n result law done none reaches spent framed outside faults refusals =
       let e : d ≡ driver (with_driver x d) = sym (driver_with x d) in
       record {
         left = record {
@@ -92,6 +98,8 @@ module _ {D St : Type 0} (view : D → View St) (x : FormatAccess D) (d : D) whe
           reaches = subst (λ (y : D). ReachesNoMore (view (driver x)) (view y)) e reaches;
           spent = subst (λ (y : D). (view y).pending ≡ None) e spent;
           count = subst (λ (y : D). IsLaterCount (devices_reliable view x) (view (driver x)).fault_count (view y).fault_count) e (record { later = faults.later; reliable = λ t. faults.reliable (and_left _ _ t) });
+          outside = subst (λ (y : D). MovesWithin Zero o n (view (driver x)) (view y)) e
+              (moved_outside Zero o n (view (driver x)) (view d) outside);
         };
         inside = done.inside;
         whole = done.whole;
@@ -157,6 +165,8 @@ piece_written {D} view x d o bytes result commit_memory l same z h =
         reaches = subst (λ (y : D). ReachesNoMore (view (driver x)) (view y)) e w.reaches;
         spent = subst (λ (y : D). (view y).pending ≡ None) e w.spent;
         count = subst (λ (y : D). IsLaterCount (devices_reliable view x) (view (driver x)).fault_count (view y).fault_count) e (record { later = w.faults.later; reliable = w.faults.reliable });
+        outside = subst (λ (y : D). MovesWithin Zero o (length bytes) (view (driver x)) (view y)) e
+            (moved_writing Zero o (length bytes) (view (driver x)) (view d) w.outside);
       };
       done = λ k. done result w.some (w.done k);
       alone = λ k. subst (λ (y : D). IfOk result (λ n. StandsAlone (view y).place o n)) e w.alone;
@@ -195,8 +205,8 @@ piece_written {D} view x d o bytes result commit_memory l same z h =
 
 -- a zero write that passed its tests
 pub zero_call : {D St : Type 0} (view : D → View St) (op : Operation) (x new : FormatAccess D) (o n : ℕ) (result : Result (Unit {0}) Error) → (view (driver x)).abilities.is_writable ≡ true → o + n ≤ (view (driver x)).size → (Overflows op o n → ⊥)
-    → (n ≡ 0 → IsOk result × (new ≡ x)) → HasZeroed view o n (λ (u : Unit {0}). n) (zero_reasons view x op o n) x new result → IsZeroWrite view op x new o n result
-zero_call view op x new o n result w fits small idle h = record {
+    → MakesZeroes op → (n ≡ 0 → IsOk result × (new ≡ x)) → HasZeroed view o n (λ (u : Unit {0}). n) (zero_reasons view x op o n) x new result → IsZeroWrite view op x new o n result
+zero_call view op x new o n result w fits small makes idle h = record {
   tested = λ z g. absurd (not_failed (view (driver x)) op o n w fits small z g);
   idle = λ i passed. idle i;
   done = λ k. done result (h.done k) (h.alone k);
@@ -210,6 +220,7 @@ zero_call view op x new o n result w fits small idle h = record {
   nothing_pending = h.left.spent;
   faults = record { later = h.left.count.later; reliable = h.left.count.reliable; device = h.device };
   refusals = refused result h.refusals;
+  outside = moved_zeroing op o n (view (driver x)) (view (driver new)) makes h.left.outside;
 }
   where
     done : (r : Result (Unit {0}) Error) → IfOk r (λ u. IsChanged o n zeroes (disk_value view x) (disk_value view new)) → IfOk r (λ u. StandsAlone (view (driver new)).place o n)

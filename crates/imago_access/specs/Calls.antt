@@ -14,6 +14,7 @@ use Rattle.imago_drivers.specs.Done.{lending_reasons}
 use Rattle.imago_access.specs.declared.access.FormatAccess.{FormatAccess}
 use Rattle.imago_access.specs.Writing.{CommitMayTakeMemory, WasPrepared, StandsAlone, filled, shown_length, shown_change, settles_by, mapping_reasons, write_reasons}
 use Rattle.imago_access.specs.Chain.{driver, backing, disk_value, lent_image}
+use Rattle.imago_access.specs.Moves.{MovesWithin}
 
 -- The range's end passes the greatest number of 64 bits, in a call that tests this by itself: a zero write or a discard. A write
 -- or a mapping only tests whether it passes the disk's size.
@@ -104,6 +105,8 @@ pub record IsRangeCall {D St T : Type 0} (view : D → View St) (op : Operation)
   pub nothing_pending : (view (driver new)).pending ≡ None
   pub faults : ShowsFaults hidden (devices_reliable view old) (view (driver old)).fault_count (view (driver new)).fault_count result
   pub refusals : IfErr result (λ e. FailsTest (view (driver old)) op o n e ⊎ allowed reasons e)
+  -- what lies outside the range, its blocks and its granules keeps where it stands, at every result
+  pub outside : MovesWithin op o n (view (driver old)) (view (driver new))
 
 -- a write: the bytes stand in their range, in the image's own layer, whatever is below, or, where it is refused, each of them may
 abbrev pub IsWrite : {D St : Type 0} → (D → View St) → FormatAccess D → FormatAccess D → ℕ → List ℕ → Result Unit Error → Type 0

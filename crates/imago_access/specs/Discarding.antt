@@ -17,6 +17,7 @@ use Rattle.imago_access.specs.Chain.{driver, backing, disk_value, lent_image}
 use Rattle.imago_access.specs.Calls.{devices_reliable, settles, FailsTest, IsRangeCall}
 use Rattle.imago_access.specs.DiscardParts.{discard_by, IsDiscardedInParts}
 use Rattle.imago_access.specs.Zeroing.{IsFree}
+use Rattle.imago_access.specs.Moves.{MovesWithin}
 
 -- what a discard is, for its causes
 abbrev pub discard_of : DiscardCall → Operation
@@ -45,6 +46,7 @@ pub record HasLoosened {D St T : Type 0} (view : D → View St) (call : DiscardC
   pub spent : (view (driver new)).pending ≡ None
   pub faults : CountsFaults (devices_reliable view old) (view (driver old)).fault_count (view (driver new)).fault_count result
   pub refusals : IfErr result (allowed (discard_reasons (view (driver old)) (discard_of call) o n))
+  pub outside : MovesWithin (discard_of call) o n (view (driver old)) (view (driver new))
 
 -- The driver's own discard of a range, as the image sees it: it answers the part that is done.
 pub record HasLoosenedPart {D St : Type 0} (view : D → View St) (call : DiscardCall) (o n : ℕ) (old new : FormatAccess D) (result : Result (ℕ × ℕ) Error) : Type 0 where

@@ -1,3 +1,4 @@
+pub mod Moves
 pub mod Chain
 pub mod Text
 pub mod Target

@@ -14,6 +14,9 @@ use Rattle.imago_drivers.specs.Changes.{Change, IsChanged, into, partly, overwri
 use Rattle.imago_drivers.specs.Frame.{IsKind, ReachesNoMore}
 use Rattle.imago_access.specs.Framed.{StaysFramed}
 use Rattle.imago_drivers.specs.Done.{lending_reasons}
+use Rattle.imago_drivers.specs.Outside.{SharesBlock}
+use Rattle.imago_drivers.specs.Commit.{commit_moves}
+use Rattle.imago_access.specs.Moves.{MovesWithin}
 
 -- a commit may take memory, of the driver or of what calls make of it
 abbrev pub CommitMayTakeMemory : {D St : Type 0} → (D → View St) → D → Type 0
@@ -79,6 +82,10 @@ pub record HasFilled {St : Type 0} (l : LayerBelow) (old new : View St) (o n : �
   pub framed : StaysFramed old new
   pub faults : CountsFaults (old.abilities.is_reliable && l.is_reliable) old.fault_count new.fault_count result
   pub refusals : IfErr result (allowed (filling_reasons old l o n bytes))
+  pub outside : MovesWithin Write o n old new
+  -- what a commit may move shares a block with its places
+  pub near : IfOk result (λ m. (p : ℕ) → commit_moves new.pending m.state p
+      → SharesBlock old.abilities.block o m.length p)
 
 -- the same for the whole of it: also where it is committed, and a commit takes memory
 abbrev pub mapping_reasons : {St : Type 0} → View St → LayerBelow → Type 0 → ℕ → ℕ → List ℕ → Bool → Reasons
@@ -109,6 +116,7 @@ pub record HasMapped {St : Type 0} (l : LayerBelow) (commit_memory : Type 0) (ol
   pub spent : new.pending ≡ None
   pub faults : CountsFaults (old.abilities.is_reliable && l.is_reliable) old.fault_count new.fault_count result
   pub refusals : IfErr result (allowed (mapping_reasons old l commit_memory o n bytes commit))
+  pub outside : MovesWithin Write o n old new
 
 -- What a driver does in the writing of the first bytes of a range: as many as it answers are written, or, refused, each place of
 -- the range has its old byte or the new one.
@@ -124,6 +132,7 @@ pub record HasWritten {St : Type 0} (l : LayerBelow) (commit_memory : Type 0) (o
   pub spent : new.pending ≡ None
   pub faults : CountsFaults (old.abilities.is_reliable && l.is_reliable) old.fault_count new.fault_count result
   pub refusals : IfErr result (allowed (first_reasons old l commit_memory o (length bytes)))
+  pub outside : MovesWithin Write o (length bytes) old new
 
 -- The same for the whole of a range.
 pub record HasWrittenAll {St : Type 0} (l : LayerBelow) (commit_memory : Type 0) (old new : View St) (o : ℕ) (bytes : List ℕ) (result : Result Unit Error) : Type 0 where
@@ -137,3 +146,4 @@ pub record HasWrittenAll {St : Type 0} (l : LayerBelow) (commit_memory : Type 0)
   pub spent : new.pending ≡ None
   pub faults : CountsFaults (old.abilities.is_reliable && l.is_reliable) old.fault_count new.fault_count result
   pub refusals : IfErr result (allowed (write_reasons old l commit_memory o (length bytes)))
+  pub outside : MovesWithin Write o (length bytes) old new

@@ -16,6 +16,7 @@ use Rattle.imago_access.specs.declared.zero.ZeroCall.TheVariants as Z
 use Rattle.imago_access.specs.Chain.{driver, backing, disk_value, is_reliable, lent_image, chain_cause}
 use Rattle.imago_access.specs.Writing.{StandsAlone}
 use Rattle.imago_access.specs.Calls.{devices_reliable, settles, IsRangeCall}
+use Rattle.imago_access.specs.Moves.{MovesWithin}
 
 -- what a zeroing call of the driver is, for its causes
 abbrev pub operation_of : ZeroCall → Operation
@@ -40,6 +41,7 @@ pub record IsPartlyZeroed {D St : Type 0} (view : D → View St) (o n : ℕ) (ol
   pub reaches : ReachesNoMore (view (driver old)) (view (driver new))
   pub spent : (view (driver new)).pending ≡ None
   pub count : IsLaterCount (devices_reliable view old) (view (driver old)).fault_count (view (driver new)).fault_count
+  pub outside : MovesWithin Zero o n (view (driver old)) (view (driver new))
 
 -- A cause for a part of a range that holds that one was a cause for it before, and no place leads below that didn't.
 pub record Carries {St : Type 0} (o n : ℕ) (old new : View St) : Type 0 where

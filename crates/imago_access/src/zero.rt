@@ -1,5 +1,5 @@
 //! Zeroing ranges of an image.
-ghost use Rattle.std.specs.Prelude.{◌≡◌, ℕ, ◌+◌, ◌-◌, ◌<◌, ◌≤◌, ◌^◌, None, true, List, IsTrue, IfOk, IfErr, IsOk, length, slice_index, EachIndex};
+ghost use Rattle.std.specs.Prelude.{◌≡◌, ℕ, ◌+◌, ◌-◌, ◌/◌, ◌<◌, ◌≤◌, ◌^◌, None, true, List, IsTrue, IfOk, IfErr, IsOk, length, slice_index, EachIndex};
 ghost use Rattle.imago_drivers.specs.Operation.{Zero, DiscardToZero};
 ghost use Rattle.imago_drivers.specs.LayerBelow.{lent};
 ghost use Rattle.imago_drivers.specs.Place.{Byte};
@@ -71,6 +71,7 @@ impl<D: FormatDriverInstance> FormatAccess<D> {
         requires some { 0 < granule }
         requires fits { offset < 2 ^ 64 }
         ensures zero { (p : ℕ) → result ≤ p → p < offset → disk_value D.view self.now p ≡ Byte 0 }
+        ensures one_granule { (p : ℕ) → result ≤ p → p < offset → p / granule ≡ offset / granule }
         ensures rounded { IsRoundedFrom granule offset result }
     {
         let head = offset % granule;
@@ -88,6 +89,7 @@ impl<D: FormatDriverInstance> FormatAccess<D> {
         requires inside { end ≤ (D.view (driver self.now)).size }
         ensures inside { result ≤ (D.view (driver self.now)).size }
         ensures zero { (p : ℕ) → end ≤ p → p < result → disk_value D.view self.now p ≡ Byte 0 }
+        ensures one_granule { (p : ℕ) → end ≤ p → p < result → p / granule ≡ (end - 1) / granule }
         ensures rounded { IsRoundedFrom granule end result }
     {
         let tail = end % granule;
@@ -123,6 +125,7 @@ impl<D: FormatDriverInstance> FormatAccess<D> {
     /// Zeroes whole granules of a range where the driver has a granularity. A granule that begins before the range, or ends behind
     /// it, is zeroed where it maps as zero there.
     fn try_granules(&mut self, alloc: Global, offset: u64, count: u64)
+        requires some { 0 < count }
         requires writable { (D.view (driver self.old)).abilities.is_writable ≡ true }
         requires spent { (D.view (driver self.old)).pending ≡ None }
         requires inside { offset + count ≤ (D.view (driver self.old)).size }

@@ -10,7 +10,8 @@ use Rattle.imago_drivers.specs.Place.{Value, Byte, Stored, shown, values, Places
 use Rattle.imago_drivers.specs.Causes.{IsSettled, IsOnRange}
 use Rattle.imago_drivers.specs.Pending.{ShowsRound}
 use Rattle.imago_drivers.specs.Frame.{IsFramed, ReachesNoMore}
-use Rattle.imago_drivers.specs.Commit.{is_committed}
+use Rattle.imago_drivers.specs.Commit.{is_committed, commit_moves}
+use Rattle.imago_drivers.specs.Outside.{StayBut}
 use Rattle.imago_cow.specs.declared.table.GuestBlock.{GuestBlock}
 use Rattle.imago_cow.specs.declared.cow.Waiting.{Waiting}
 use Rattle.imago_cow.specs.Guest.{Covers, IsEntered, entry_place, cow_place, is_data}
@@ -106,6 +107,22 @@ module _ (f : Features) (faults : ℕ) (bytes : List ℕ) (size block : ℕ) (ol
       (λ other. ap (shown below) (same_other p other))
       (same_or_not (p / block) (w.start / block))
 
+  stays_there : (p : ℕ) → ((waiting_from block w ≤ p) × (p < min size (waiting_from block w + block)) → ⊥) → cow_place bytes size block new p ≡ cow_place bytes size block old p
+  stays_there p out = ⊎_elim
+      (λ same. ⊎_elim
+      (λ under.
+      let a = div-add-mod' p block in
+      let b = div-add-mod' w.start block in
+      let c : p / block * block ≡ w.start / block * block = ap (λ x. x * block) same in
+      let r = rest_small block positive p in
+      let x : waiting_from block w ≤ p = omega (arith, a, b, c) in
+      let y : p < min size (waiting_from block w + block) = omega (arith, a, b, c, r, under) in
+      absurd (out (x, y)))
+      (λ over. same_past p over)
+      (cases_lt p size))
+      (λ other. same_other p other)
+      (same_or_not (p / block) (w.start / block))
+
   pub committed : is_committed (cow_pending block size bytes (Some w)) (Some w.state) false (cow_view f faults bytes size block old blocks (Some w)) (cow_view f faults bytes size block new blocks None)
   committed = (
     λ e. writable,
@@ -123,6 +140,13 @@ module _ (f : Features) (faults : ℕ) (bytes : List ℕ) (size block : ℕ) (ol
       (λ same. let y : Some (GuestBlock.Data w.number) ≡ Some GuestBlock.Absent = sym entered.at ∙ ap (slice_get new) (sym same) ∙ x.1 in let z : ⊥ = cc in absurd z)
       (λ other. (v, sym (same_other p other) ∙ e))
       (same_or_not (p / block) (w.start / block))
+
+  -- what a commit may not move stays
+  pub commit_outside : StayBut f.keeps_data (commit_moves (cow_pending block size bytes (Some w)) (Some w.state)) (cow_place bytes size block old) (cow_place bytes size block new)
+  commit_outside = record {
+    stored = λ p b s g v out e. (b, stays_there p out ∙ e);
+    same = λ k p out. stays_there p out;
+  }
 
   pub commit_framed : IsFramed (cow_view f faults bytes size block old blocks (Some w)) (cow_view f faults bytes size block new blocks None)
   commit_framed = record {

@@ -114,6 +114,7 @@ commit_nothing view d m e laws = record {
   framed = record { kind = record { abilities = refl; store_count = refl; store_features = λ i. refl }; size = refl; ends = λ p x. x };
   faults = record { later = omega arith; reliable = λ x. refl; device = λ x. let z : ⊥ = cc in absurd z };
   refusals = tt;
+  outside = record { stored = λ p b s f w n x. (b, x); same = λ k p n. refl };
 }
 
 not_ext : {e : Error} → IsExtRefusal e → (e ≡ Error.WrapAround → ⊥) → (e ≡ Error.Device → ⊥) → (e ≡ Error.Memory → ⊥) → ⊥

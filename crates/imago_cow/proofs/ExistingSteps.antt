@@ -69,6 +69,7 @@ module _ (f : Features) (count : ℕ) (bytes : List ℕ) (size block : ℕ) (ent
         direct = λ e. (refl, rw (storage, offset, long) (stands_at j run at (omega (arith, len)) (omega (arith, len))));
         apart = λ s e. let x : None ≡ Some s = sym state ∙ e in let z : ⊥ = cc in absurd z;
         around = λ q e. let z : ⊥ = cc in absurd z;
+        near = λ q e. let z : ⊥ = cc in absurd z;
         round = λ keeps. tt;
       }
 
@@ -88,5 +89,6 @@ module _ (f : Features) (count : ℕ) (bytes : List ℕ) (size block : ℕ) (ent
     direct = λ e. (refl, λ k h. absurd (omega (arith, h, long)));
     apart = λ s e. let x : None ≡ Some s = sym state ∙ e in let z : ⊥ = cc in absurd z;
     around = λ q e. let z : ⊥ = cc in absurd z;
+    near = λ q e. let z : ⊥ = cc in absurd z;
     round = λ keeps. tt;
   }

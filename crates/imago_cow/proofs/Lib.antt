@@ -1,3 +1,5 @@
+pub mod BlockSteps
+pub mod ZeroFill
 pub mod FreeSteps
 pub mod TableSteps
 pub mod WholeSteps

@@ -217,6 +217,13 @@ module _ (f : Features) (faults now_faults : ℕ) (bytes now : List ℕ) (size b
       );
       around = λ q e. let a : pending_of block size now w ≡ q = cc in
           rw (← a) (let x : waiting_from block w ≤ w.start = omega arith in let y : w.start + w.length ≤ min size (waiting_from block w + block) = omega (arith, apart.in_block, apart.inside, div-add-mod' w.start block) in (x, y));
+      near = λ q e p. let a : pending_of block size now w ≡ q = cc in
+          rw (← a) (λ h k.
+          let b = div-add-mod' w.start block in
+          let same : p / block ≡ w.start / block = lies_in block positive (w.start / block) p (omega (arith, b, h)) (omega (arith, b, k)) in
+          let x : o ≤ w.start = omega (arith, start) in
+          let y : w.start < o + m.length = omega (arith, start, long, apart.some) in
+          (w.start, (x, y), same));
       round = λ keeps p x y out. shows p x y ∙ copied keeps p x y (λ t. out) ∙ ap (λ v. Byte v) (sym (waits_byte p x));
     }
 

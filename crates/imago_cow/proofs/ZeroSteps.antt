@@ -7,6 +7,8 @@ use Rattle.imago_storage.specs.Features.{Features}
 use Rattle.imago_drivers.specs.Operation.{Operation}
 use Rattle.imago_drivers.specs.Place.{Value, IsIn, shown, values}
 use Rattle.imago_drivers.specs.View.{View}
+use Rattle.imago_drivers.specs.Outside.{StaysOutside}
+use Rattle.imago_drivers.proofs.Stays.{shares_own}
 use Rattle.imago_cow.specs.declared.cow.CowState.{CowState}
 use Rattle.imago_drivers.specs.Calls.{IsZeroCall, IsDiscard}
 use Rattle.imago_drivers.specs.Done.{HasDone}
@@ -81,6 +83,13 @@ module _ (f : Features) (faults : ℕ) (bytes : List ℕ) (size block : ℕ) (ol
       (cleared_or_same (p / block)) ∙ sym (place_in bytes size block old p under))
       (λ over. place_out bytes size block new p over ∙ sym (place_out bytes size block old p over))
       (cases_lt p size)
+
+  -- what shares no guest block with the range stays
+  outside : StaysOutside f.keeps_data block o n (cow_place bytes size block old) (cow_place bytes size block new)
+  outside = record {
+    stored = λ p b s g w out e. (b, same_outside p (λ i. out (shares_own block o n p ((part.inside p i).0))) ∙ e);
+    same = λ k p out. same_outside p (λ i. out (shares_own block o n p ((part.inside p i).0)));
+  }
 
   -- in the part a place is that of the entry
   made_inside : (p : ℕ) → IsIn q m p → cow_place bytes size block new p ≡ entry_place bytes block p (Some entry)
@@ -162,6 +171,7 @@ module _ (f : Features) (faults : ℕ) (bytes : List ℕ) (size block : ℕ) (ol
     framed = framed;
     faults = record { later = omega arith; reliable = λ e. refl; device = λ e. let z : ⊥ = cc in absurd z };
     refusals = tt;
+    outside = outside;
   }
 
   -- a discard, whose own operation has no cause
@@ -181,4 +191,5 @@ module _ (f : Features) (faults : ℕ) (bytes : List ℕ) (size block : ℕ) (ol
     framed = framed;
     faults = record { later = omega arith; reliable = λ e. refl; device = λ e. let z : ⊥ = cc in absurd z };
     refusals = tt;
+    outside = outside;
   }

@@ -211,6 +211,7 @@ cow_view f fault_count bytes size block entries blocks waiting = record {
     keeps_data = f.keeps_data;
     zero_granularity = Some block;
     offers = λ op. true;
+    block = block;
   };
   size = size;
   place = cow_place bytes size block entries;

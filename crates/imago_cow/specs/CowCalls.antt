@@ -1,4 +1,4 @@
-use Rattle.std.specs.Prelude.{◌≡◌, ℕ, ◌+◌, ◌%◌, ◌^◌, ◌<◌, ◌≤◌, List, length, take, Option, Some, None, Result, Ok, IfOk, IsOk, IsErrOf, OnOk, OnErr}
+use Rattle.std.specs.Prelude.{◌≡◌, ℕ, ◌+◌, ◌%◌, ◌^◌, ◌<◌, ◌≤◌, ◌*◌, ◌⊎◌, List, length, take, Option, Some, None, Result, Ok, IfOk, IsOk, IsErrOf, OnOk, OnErr}
 use Rattle.imago_storage.specs.declared.error.Error.{Error}
 use Rattle.imago_storage.specs.Features.{Features}
 use Rattle.imago_storage.specs.Calls.{IsRangeRead}
@@ -10,6 +10,7 @@ use Rattle.imago_cow.specs.declared.cow.CowState.{CowState}
 use Rattle.imago_cow.specs.declared.table.GuestBlock.{GuestBlock}
 use Rattle.imago_cow.specs.Guest.{IsMade}
 use Rattle.imago_cow.specs.Grown.{AreGrown}
+use Rattle.imago_cow.specs.TableView.{room_of}
 use Rattle.imago_cow.specs.CowImage.{storage_in, size_of, block_of, blocks_of, data_blocks_of, table_of, waiting_in, tickets_of, ticket_of, lower_faults}
 
 -- What each call of a copy-on-write disk is, beside what its places show.
@@ -52,10 +53,11 @@ IsCowCommit m old new = KeepsStorage old new × (size_of new ≡ size_of old) ×
 abbrev pub IsCowCancel : {S : Type 0} {g : _} {h : _} → PreparedDataMapping CowState → Cow S g h → Cow S g h → Type 0
 IsCowCancel m old new = IsCowCommit m old new × (blocks_of new ≡ blocks_of old)
 
--- A growth to that size, in that mode. It changes nothing at all where the disk is as large already.
+-- A growth to that size, in that mode. It changes nothing at all where the disk is as large already. Refused, the storage is what it
+-- was, or the table has room for the guest blocks of that size: for want of that room nothing is written.
 abbrev pub IsCowGrowth : {S : Type 0} {g : _} {h : _} → ℕ → PreallocateMode → Cow S g h → Cow S g h → Result (Unit {0}) Error → Type 0
 IsCowGrowth n mode old new result = (block_of new ≡ block_of old) × (waiting_in new ≡ waiting_in old) × (tickets_of new ≡ tickets_of old) × (n ≤ size_of old → new ≡ old)
-    × (size_of old < n → OnOk result (AreGrown mode (block_of old) (size_of old) (blocks_of old) (blocks_of new))) × OnErr result ((blocks_of new ≡ blocks_of old) × (size_of new ≡ size_of old))
+    × (size_of old < n → OnOk result (AreGrown mode (block_of old) (size_of old) (blocks_of old) (blocks_of new))) × OnErr result ((blocks_of new ≡ blocks_of old) × (size_of new ≡ size_of old) × ((storage_in new ≡ storage_in old) ⊎ (n ≤ room_of (table_of new) * block_of old)))
 
 -- A cut to that size: the last guest blocks are dropped. It changes nothing at all where the disk is as small already.
 abbrev pub IsCowCut : {S : Type 0} {g : _} {h : _} → ℕ → Cow S g h → Cow S g h → Result (Unit {0}) Error → Type 0

@@ -19,7 +19,7 @@ size_of d = d.size
 
 -- a guest block's length
 abbrev pub block_of : {S : Type 0} {g : _} {h : _} → Cow S g h → ℕ
-block_of d = d.block
+block_of d = d.block.length
 
 -- what its guest blocks are
 abbrev pub blocks_of : {S : Type 0} {g : _} {h : _} → Cow S g h → List GuestBlock

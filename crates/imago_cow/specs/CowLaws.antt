@@ -103,6 +103,7 @@ cow_lawful f count bytes size block entries blocks waiting positive covers once 
   own = λ p q b c s o w e h. own_place bytes size block entries positive once p q b c s o w e h;
   refused = λ p r e. let x = below_size bytes size block entries p (Refused r) e (λ y. let z : ⊥ = cc in z) in absurd (no_refused bytes block p (slice_get entries (p / block)) r (x.1));
   granularity = λ e. let x : block ≡ 0 = cc in omega (arith, x, positive);
+  blocks = λ e. omega (arith, e, positive);
 }
 
 -- A greater count of data blocks: where each guest block that needs data does so there too.

@@ -8,6 +8,8 @@ ghost use Rattle.imago_drivers.specs.LayerBelow.{lent};
 ghost use Rattle.imago_drivers.specs.Reasons.{allowed};
 ghost use Rattle.imago_cow.specs.Copies.{old_value, HasOldBytes, old_reasons, copy_reasons, round_reasons, block_from, block_until};
 
+use crate::block::BlockSize;
+use crate::zero::{shows_zeroes, takes_zeroes, zero_bytes};
 use imago_drivers::layer::LowerLayer;
 use imago_drivers::stored::write_bytes;
 use imago_storage::error::Error;
@@ -42,8 +44,9 @@ fn old_bytes<B: LowerLayer>(
     Ok(bytes)
 }
 
-/// Copies what `count` places without data show from the offset on to that offset of the storage. A failed read of the
-/// layer below raises the count of faults.
+/// Copies what `count` places without data show from the offset on to that offset of the storage. A
+/// failed read of the layer below raises the count of faults. What shows zeroes for certain isn't read:
+/// the storage's own zero write makes it, where that takes the range as it is.
 pub(crate) fn copy_old<S: Storage, B: LowerLayer>(
     storage: &mut S,
     faults: &mut u64,
@@ -78,6 +81,9 @@ pub(crate) fn copy_old<S: Storage, B: LowerLayer>(
     if count == 0 {
         return Ok(());
     }
+    if shows_zeroes(below, absent, offset) && takes_zeroes(&*storage, to, count) {
+        return zero_bytes(storage, alloc, to, count);
+    }
     match old_bytes(alloc, below, absent, offset, count) {
         Ok(bytes) => write_bytes(storage, alloc, &bytes, to),
         Err(Error::Device) => {
@@ -92,7 +98,7 @@ pub(crate) fn copy_old<S: Storage, B: LowerLayer>(
 #[derive(Clone, Copy)]
 pub(crate) struct Part {
     /// A guest block's length.
-    pub(crate) block: u64,
+    pub(crate) block: BlockSize,
     /// The disk's size.
     pub(crate) size: u64,
     pub(crate) offset: u64,
@@ -113,25 +119,25 @@ pub(crate) fn copy_round<S: Storage, B: LowerLayer>(
     part: Part,
     start: u64,
 ) -> Result<(), Error>
-    requires positive { 0 < part.block }
+    requires positive { 0 < part.block.length }
     requires inside { part.offset + part.run ≤ part.size }
-    requires in_block { part.offset % part.block + part.run ≤ part.block }
-    requires fits { start + part.block < 2 ^ 64 }
+    requires in_block { part.offset % part.block.length + part.run ≤ part.block.length }
+    requires fits { start + part.block.length < 2 ^ 64 }
     ensures copied { IsTrue (S.features storage.old).keeps_data
         → OnOk result
         ((p : ℕ)
-        → block_from part.block part.offset ≤ p
-        → p < block_until part.block part.size part.offset
+        → block_from part.block.length part.offset ≤ p
+        → p < block_until part.block.length part.size part.offset
         → (part.overwrite ≡ true → (p < part.offset) ⊎ (part.offset + part.run ≤ p))
         → old_value (lent B.as_layer_below below.entry).at part.absent p
-        ≡ Byte (slice_index (S.bytes storage.new) (start + (p - block_from part.block part.offset)))) }
+        ≡ Byte (slice_index (S.bytes storage.new) (start + (p - block_from part.block.length part.offset)))) }
     ensures outside { IsTrue (S.features storage.old).keeps_data
         → (p : ℕ)
-        → (p < start) ⊎ (start + part.block ≤ p)
+        → (p < start) ⊎ (start + part.block.length ≤ p)
         → slice_index (S.bytes storage.new) p ≡ slice_index (S.bytes storage.old) p }
     ensures no_shorter { length (S.bytes storage.old) ≤ length (S.bytes storage.new) }
     ensures no_longer { length (S.bytes storage.new)
-        ≤ max (length (S.bytes storage.old)) (start + part.block + (len_align (S.features storage.old) - 1)) }
+        ≤ max (length (S.bytes storage.old)) (start + part.block.length + (len_align (S.features storage.old) - 1)) }
     ensures features { S.features storage.new ≡ S.features storage.old }
     ensures faults { CountsFaults
         ((S.features storage.old).is_reliable && (lent B.as_layer_below below.entry).is_reliable)
@@ -139,11 +145,11 @@ pub(crate) fn copy_round<S: Storage, B: LowerLayer>(
     ensures refusals { IfErr result
         (allowed
         (round_reasons (S.features storage.old) (lent B.as_layer_below below.entry) part.absent part.overwrite
-        part.block part.size part.offset part.run start)) }
+        part.block.length part.size part.offset part.run start)) }
 {
-    let rest = part.offset % part.block;
+    let rest = part.block.rest(part.offset);
     let from = part.offset - rest;
-    let count = part.block.min(part.size - from);
+    let count = part.block.length.min(part.size - from);
     if !part.overwrite {
         return copy_old(
             storage,

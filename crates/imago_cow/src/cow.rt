@@ -21,11 +21,12 @@ ghost use Rattle.imago_cow.specs.Cow.{cow_view, cow_pending, number_of_waiting, 
 ghost use Rattle.imago_cow.specs.Copies.{over_reasons};
 ghost use Rattle.imago_cow.specs.CowLaws.{cow_lawful, cow_causes};
 
+use crate::block::BlockSize;
 use crate::commit::enter_waiting;
 use crate::copy::Part;
 use crate::grow::grow;
 use crate::guest::{first_whole, make_absent, make_zero};
-use crate::map::map_place;
+use crate::map::{entry_at, map_place};
 use crate::named::all_shown;
 use crate::prepare::prepare_part;
 use crate::resize::{Growth, shrink};
@@ -75,18 +76,18 @@ pub struct Waiting {
 pub struct Cow<S: Storage> {
     storage: S,
     size: u64,
-    block: u64,
+    block: BlockSize,
     table: Table,
     waiting: Option<Waiting>,
     tickets: u64,
     /// How often a read of the layer below failed. It saturates.
     faults: u64,
     ghost fits: { size < 2 ^ 64 },
-    ghost positive: { 0 < block },
-    ghost exact: { IsExact size block (entries_of table) },
-    ghost addressed: { count_of table * block < 2 ^ 64 },
+    ghost positive: { 0 < block.length },
+    ghost exact: { IsExact size block.length (entries_of table) },
+    ghost addressed: { count_of table * block.length < 2 ^ 64 },
     ghost held: { held_of table ≡ number_of_waiting waiting },
-    ghost waits_apart: { ForSome waiting (λ w. WaitsApart block size (entries_of table) (count_of table) w) },
+    ghost waits_apart: { ForSome waiting (λ w. WaitsApart block.length size (entries_of table) (count_of table) w) },
 }
 
 impl<S: Storage> Cow<S> {
@@ -111,12 +112,13 @@ impl<S: Storage> Cow<S> {
             → cow_place bytes (size_of d) (block_of d) (blocks_of d) p ≡ Lower p false) }
         ensures memory { IfErr result (λ e. e ≡ Error.Memory) }
     {
-        let guest_blocks = first_whole(block, size);
+        let block_size = BlockSize::new(block);
+        let guest_blocks = first_whole(block_size, size);
         let table = Table::new(alloc, guest_blocks as usize)?;
         Ok(Cow {
             storage,
             size,
-            block,
+            block: block_size,
             table,
             waiting: None,
             tickets: 0,
@@ -128,7 +130,7 @@ impl<S: Storage> Cow<S> {
     pub fn block_size(&self) -> u64
         ensures { result ≡ block_of self.now }
     {
-        self.block
+        self.block.length
     }
 
     /// How many data blocks are used: those that guest blocks are in, and that of a prepared mapping until it is spent. All others
@@ -144,12 +146,12 @@ impl<S: Storage> Cow<S> {
         requires { 0 < count }
         ensures shown { result ≡ true
             → (index ≡ 0) × BytesAreWritable
-            (cow_place (S.bytes self.now.storage) self.now.size self.now.block (entries_of self.now.table)) 0 offset
+            (cow_place (S.bytes self.now.storage) self.now.size self.now.block.length (entries_of self.now.table)) 0 offset
             count }
-        ensures within { result ≡ true → offset + count ≤ count_of self.now.table * self.now.block }
+        ensures within { result ≡ true → offset + count ≤ count_of self.now.table * self.now.block.length }
         ensures stranger { result ≡ false
             → HasStranger
-            (cow_place (S.bytes self.now.storage) self.now.size self.now.block (entries_of self.now.table)) index
+            (cow_place (S.bytes self.now.storage) self.now.size self.now.block.length (entries_of self.now.table)) index
             offset count }
     {
         all_shown(&self.table, self.block, self.size, index, offset, count)
@@ -202,7 +204,7 @@ impl<S: Storage> FormatDriverInstance for Cow<S> {
 
     type State = CowState;
 
-    ghost view = { λ d. cow_view (S.features d.storage) (S.fault_count d.storage + d.faults) (S.bytes d.storage) d.size d.block (entries_of d.table) (count_of d.table) d.waiting };
+    ghost view = { λ d. cow_view (S.features d.storage) (S.fault_count d.storage + d.faults) (S.bytes d.storage) d.size d.block.length (entries_of d.table) (count_of d.table) d.waiting };
 
     ghost recognizes = { λ _. false };
 
@@ -230,9 +232,9 @@ impl<S: Storage> FormatDriverInstance for Cow<S> {
       invalidated = λ a b r. S.maintenance.invalidated (storage_in a) (storage_in b) r × KeepsDisk a b;
     } };
 
-    ghost lawful = { λ d. cow_lawful (S.features d.storage) (S.fault_count d.storage + d.faults) (S.bytes d.storage) d.size d.block (entries_of d.table) (count_of d.table) d.waiting d.positive d.exact.covers (named_once d.table) };
+    ghost lawful = { λ d. cow_lawful (S.features d.storage) (S.fault_count d.storage + d.faults) (S.bytes d.storage) d.size d.block.length (entries_of d.table) (count_of d.table) d.waiting d.positive d.exact.covers (named_once d.table) };
 
-    ghost causes_lawful = { λ d. cow_causes (S.features d.storage) (S.fault_count d.storage + d.faults) (S.bytes d.storage) d.size d.block (entries_of d.table) (count_of d.table) d.waiting };
+    ghost causes_lawful = { λ d. cow_causes (S.features d.storage) (S.fault_count d.storage + d.faults) (S.bytes d.storage) d.size d.block.length (entries_of d.table) (count_of d.table) d.waiting };
 
     fn format(&self) -> Format {
         Format::Cow
@@ -243,7 +245,7 @@ impl<S: Storage> FormatDriverInstance for Cow<S> {
     }
 
     fn zero_granularity(&self) -> Option<u64> {
-        Some(self.block)
+        Some(self.block.length)
     }
 
     fn writable(&self) -> bool {
@@ -398,11 +400,11 @@ impl<S: Storage> FormatDriverInstance for Cow<S> {
         if count == 0 {
             return Ok(PreparedDataMapping::existing(0, 0, 0));
         }
-        let rest = offset % self.block;
-        let run = count.min(self.block - rest);
-        let entry = self.table.get((offset / self.block) as usize);
+        let rest = self.block.rest(offset);
+        let run = count.min(self.block.length - rest);
+        let entry = entry_at(&self.table, self.block, offset);
         if let GuestBlock::Data(number) = entry {
-            return Ok(PreparedDataMapping::existing(0, number * self.block + rest, run));
+            return Ok(PreparedDataMapping::existing(0, number * self.block.length + rest, run));
         }
         let ticket = self.tickets.wrapping_add(1);
         let waiting = prepare_part(

@@ -8,14 +8,16 @@ ghost use Rattle.imago_drivers.specs.LayerBelow.{lent};
 ghost use Rattle.imago_drivers.specs.Reasons.{allowed};
 ghost use Rattle.imago_cow.specs.declared.table.GuestBlock.{GuestBlock};
 ghost use Rattle.imago_cow.specs.Table.{named_count};
-ghost use Rattle.imago_cow.specs.TableView.{entries_of, held_of, count_of};
+ghost use Rattle.imago_cow.specs.TableView.{entries_of, held_of, count_of, KeepsRoom};
 ghost use Rattle.imago_cow.specs.Guest.{entry_place, is_data};
 ghost use Rattle.imago_cow.specs.Copies.{old_value};
 ghost use Rattle.imago_cow.specs.Growth.{fill_reasons};
 ghost use Rattle.imago_cow.specs.Grown.{IsCutGrown};
 ghost use Rattle.imago_cow.specs.Cut.{IsCutEmpty, IsCutEntered, IsCutFilled, IsCutRead, IsTaken, shows_below};
 
+use crate::block::BlockSize;
 use crate::copy::copy_old;
+use crate::map::entry_at;
 use crate::resize::{Growth, adds_nothing, is_lower, take_block};
 use crate::table::{GuestBlock, Table, WithoutData};
 use imago_drivers::layer::LowerLayer;
@@ -27,7 +29,7 @@ use std::alloc::Global;
 #[derive(Clone, Copy)]
 struct Cut {
     /// A guest block's length.
-    block: u64,
+    block: BlockSize,
     /// The old size.
     size: u64,
     /// How many of its places the growth adds.
@@ -47,43 +49,43 @@ fn fill_both<S: Storage, B: LowerLayer>(
     absent: bool,
     start: u64,
 ) -> Result<(), Error>
-    requires positive { 0 < cut.block }
-    requires in_block { cut.size % cut.block + cut.count ≤ cut.block }
-    requires fits { start + cut.block < 2 ^ 64 }
+    requires positive { 0 < cut.block.length }
+    requires in_block { cut.size % cut.block.length + cut.count ≤ cut.block.length }
+    requires fits { start + cut.block.length < 2 ^ 64 }
     requires inside { cut.size + cut.count < 2 ^ 64 }
     ensures before { IsTrue (S.features storage.old).keeps_data
         → OnOk result
         ((k : ℕ)
-        → k < cut.size % cut.block
-        → old_value (lent B.as_layer_below below.entry).at absent (cut.size - cut.size % cut.block + k)
+        → k < cut.size % cut.block.length
+        → old_value (lent B.as_layer_below below.entry).at absent (cut.size - cut.size % cut.block.length + k)
         ≡ Byte (slice_index (S.bytes storage.new) (start + k))) }
     ensures behind { IsTrue (S.features storage.old).keeps_data
         → OnOk result
         ((k : ℕ)
         → k < cut.count
         → old_value (lent B.as_layer_below below.entry).at cut.lower (cut.size + k)
-        ≡ Byte (slice_index (S.bytes storage.new) (start + cut.size % cut.block + k))) }
+        ≡ Byte (slice_index (S.bytes storage.new) (start + cut.size % cut.block.length + k))) }
     ensures outside { IsTrue (S.features storage.old).keeps_data
         → (p : ℕ)
-        → (p < start) ⊎ (start + cut.block ≤ p)
+        → (p < start) ⊎ (start + cut.block.length ≤ p)
         → slice_index (S.bytes storage.new) p ≡ slice_index (S.bytes storage.old) p }
     ensures no_shorter { length (S.bytes storage.old) ≤ length (S.bytes storage.new) }
     ensures no_longer { length (S.bytes storage.new)
-        ≤ max (length (S.bytes storage.old)) (start + cut.block + (len_align (S.features storage.old) - 1)) }
+        ≤ max (length (S.bytes storage.old)) (start + cut.block.length + (len_align (S.features storage.old) - 1)) }
     ensures features { S.features storage.new ≡ S.features storage.old }
     ensures faults { CountsFaults
         ((S.features storage.old).is_reliable && (lent B.as_layer_below below.entry).is_reliable)
         (S.fault_count storage.old + faults.old) (S.fault_count storage.new + faults.new) result }
     ensures refusals { (limit : ℕ) (entries : _) (new_size : ℕ)
-        → start + cut.block ≤ limit
+        → start + cut.block.length ≤ limit
         → cut.size + cut.count ≤ new_size
-        → (absent ≡ true → slice_get entries (cut.size / cut.block) ≡ Some GuestBlock.Absent)
+        → (absent ≡ true → slice_get entries (cut.size / cut.block.length) ≡ Some GuestBlock.Absent)
         → IfErr result
         (allowed
         (fill_reasons (S.features storage.old) (lent B.as_layer_below below.entry) limit
-        (IsCutRead cut.block cut.size entries cut.lower new_size))) }
+        (IsCutRead cut.block.length cut.size entries cut.lower new_size))) }
 {
-    let rest = cut.size % cut.block;
+    let rest = cut.block.rest(cut.size);
     copy_old(
         storage,
         faults,
@@ -116,33 +118,34 @@ fn fill_taken<S: Storage, B: LowerLayer>(
     cut: Cut,
     absent: bool,
 ) -> Result<(), Error>
-    requires positive { 0 < cut.block }
-    requires in_block { cut.size % cut.block + cut.count ≤ cut.block }
+    requires positive { 0 < cut.block.length }
+    requires in_block { cut.size % cut.block.length + cut.count ≤ cut.block.length }
     requires inside { cut.size + cut.count < 2 ^ 64 }
     requires spent { held_of table.old ≡ None }
-    requires addressed { count_of table.old * cut.block < 2 ^ 64 }
-    requires within { cut.size / cut.block < length (entries_of table.old) }
-    requires absent { absent ≡ true → slice_get (entries_of table.old) (cut.size / cut.block) ≡ Some GuestBlock.Absent }
-    requires zero { absent ≡ false → slice_get (entries_of table.old) (cut.size / cut.block) ≡ Some GuestBlock.Zero }
+    requires addressed { count_of table.old * cut.block.length < 2 ^ 64 }
+    requires within { cut.size / cut.block.length < length (entries_of table.old) }
+    requires absent { absent ≡ true → slice_get (entries_of table.old) (cut.size / cut.block.length) ≡ Some GuestBlock.Absent }
+    requires zero { absent ≡ false → slice_get (entries_of table.old) (cut.size / cut.block.length) ≡ Some GuestBlock.Zero }
     ensures entered { IsTrue (S.features storage.old).keeps_data
         → OnOk result
-        (IsTaken (lent B.as_layer_below below.entry).at cut.block cut.size cut.count absent cut.lower
+        (IsTaken (lent B.as_layer_below below.entry).at cut.block.length cut.size cut.count absent cut.lower
         (entries_of table.old) (entries_of table.new) (S.bytes storage.old) (S.bytes storage.new)) }
     ensures len { length (entries_of table.new) ≡ length (entries_of table.old) }
     ensures entries { OnErr result (entries_of table.new ≡ entries_of table.old) }
     ensures entry { OnOk result
-        ((j : ℕ) × (entries_of table.new ≡ slice_set (entries_of table.old) (cut.size / cut.block) (GuestBlock.Data j))) }
+        ((j : ℕ) × (entries_of table.new ≡ slice_set (entries_of table.old) (cut.size / cut.block.length) (GuestBlock.Data j))) }
     ensures places { IsTrue (S.features storage.old).keeps_data
         → (p : ℕ)
-        → entry_place (S.bytes storage.new) cut.block p (slice_get (entries_of table.old) (p / cut.block))
-        ≡ entry_place (S.bytes storage.old) cut.block p (slice_get (entries_of table.old) (p / cut.block)) }
+        → entry_place (S.bytes storage.new) cut.block.length p (slice_get (entries_of table.old) (p / cut.block.length))
+        ≡ entry_place (S.bytes storage.old) cut.block.length p (slice_get (entries_of table.old) (p / cut.block.length)) }
     ensures held { held_of table.new ≡ None }
-    ensures addressed { count_of table.new * cut.block < 2 ^ 64 }
+    ensures addressed { count_of table.new * cut.block.length < 2 ^ 64 }
     ensures added { count_of table.new ≤ max (count_of table.old) (named_count (entries_of table.old) + 1) }
+    ensures room { KeepsRoom table.old table.new }
     ensures no_shorter { length (S.bytes storage.old) ≤ length (S.bytes storage.new) }
     ensures no_longer { length (S.bytes storage.new)
         ≤ max (length (S.bytes storage.old))
-        (max (count_of table.old) (named_count (entries_of table.old) + 1) * cut.block
+        (max (count_of table.old) (named_count (entries_of table.old) + 1) * cut.block.length
         + (len_align (S.features storage.old) - 1)) }
     ensures features { S.features storage.new ≡ S.features storage.old }
     ensures faults { CountsFaults
@@ -153,14 +156,14 @@ fn fill_taken<S: Storage, B: LowerLayer>(
         → IfErr result
         (allowed
         (fill_reasons (S.features storage.old) (lent B.as_layer_below below.entry)
-        (max (count_of table.old) (named_count (entries_of table.old) + 1) * cut.block)
-        (IsCutRead cut.block cut.size (entries_of table.old) cut.lower new_size))) }
+        (max (count_of table.old) (named_count (entries_of table.old) + 1) * cut.block.length)
+        (IsCutRead cut.block.length cut.size (entries_of table.old) cut.lower new_size))) }
 {
-    let number = take_block(table, cut.block)?;
-    let start = number * cut.block;
+    let number = take_block(table, cut.block.length)?;
+    let start = number * cut.block.length;
     match fill_both(storage, faults, alloc, below, cut, absent, start) {
         Ok(()) => {
-            table.enter((cut.size / cut.block) as usize);
+            table.enter(cut.block.number(cut.size) as usize);
             Ok(())
         }
         Err(e) => {
@@ -180,54 +183,55 @@ pub(crate) fn fill_cut<S: Storage, B: LowerLayer>(
     below: Option<&B>,
     growth: Growth,
 ) -> Result<(), Error>
-    requires positive { 0 < growth.block }
+    requires positive { 0 < growth.block.length }
     requires grows { growth.size < growth.new_size }
-    requires within { 0 < growth.size % growth.block → growth.size / growth.block < length (entries_of table.old) }
+    requires within { 0 < growth.size % growth.block.length → growth.size / growth.block.length < length (entries_of table.old) }
     requires spent { held_of table.old ≡ None }
-    requires addressed { count_of table.old * growth.block < 2 ^ 64 }
+    requires addressed { count_of table.old * growth.block.length < 2 ^ 64 }
     ensures filled { OnOk result
         (IsCutFilled (lent B.as_layer_below below.entry).at growth.mode (S.features storage.old).keeps_data
-        growth.block growth.size growth.new_size (entries_of table.old) (entries_of table.new) (S.bytes storage.old) (S.bytes storage.new)) }
+        growth.block.length growth.size growth.new_size (entries_of table.old) (entries_of table.new) (S.bytes storage.old) (S.bytes storage.new)) }
     ensures entries { OnErr result (entries_of table.new ≡ entries_of table.old) }
-    ensures entry { OnOk result (IsCutEntered growth.block growth.size (entries_of table.old) (entries_of table.new)) }
+    ensures entry { OnOk result (IsCutEntered growth.block.length growth.size (entries_of table.old) (entries_of table.new)) }
     ensures grown { OnOk result
-        (IsCutGrown growth.mode growth.block growth.size (entries_of table.old) (entries_of table.new)) }
+        (IsCutGrown growth.mode growth.block.length growth.size (entries_of table.old) (entries_of table.new)) }
     ensures places { IsTrue (S.features storage.old).keeps_data
         → (p : ℕ)
         → p < growth.size
-        → entry_place (S.bytes storage.new) growth.block p (slice_get (entries_of table.old) (p / growth.block))
-        ≡ entry_place (S.bytes storage.old) growth.block p (slice_get (entries_of table.old) (p / growth.block)) }
+        → entry_place (S.bytes storage.new) growth.block.length p (slice_get (entries_of table.old) (p / growth.block.length))
+        ≡ entry_place (S.bytes storage.old) growth.block.length p (slice_get (entries_of table.old) (p / growth.block.length)) }
     ensures held { held_of table.new ≡ None }
-    ensures addressed { count_of table.new * growth.block < 2 ^ 64 }
+    ensures addressed { count_of table.new * growth.block.length < 2 ^ 64 }
     ensures counted { (most : ℕ)
         → count_of table.old ≤ most
-        → (0 < growth.size % growth.block
-        → is_data (slice_get (entries_of table.old) (growth.size / growth.block)) ≡ false
+        → (0 < growth.size % growth.block.length
+        → is_data (slice_get (entries_of table.old) (growth.size / growth.block.length)) ≡ false
         → named_count (entries_of table.old) + 1 ≤ most)
         → count_of table.new ≤ most }
+    ensures room { KeepsRoom table.old table.new }
     ensures no_shorter { length (S.bytes storage.old) ≤ length (S.bytes storage.new) }
     ensures no_longer { (most : ℕ)
         → count_of table.old ≤ most
-        → (0 < growth.size % growth.block
-        → is_data (slice_get (entries_of table.old) (growth.size / growth.block)) ≡ false
+        → (0 < growth.size % growth.block.length
+        → is_data (slice_get (entries_of table.old) (growth.size / growth.block.length)) ≡ false
         → named_count (entries_of table.old) + 1 ≤ most)
         → length (S.bytes storage.new)
-        ≤ max (length (S.bytes storage.old)) (padded_to (S.features storage.old) 0 (most * growth.block)) }
+        ≤ max (length (S.bytes storage.old)) (padded_to (S.features storage.old) 0 (most * growth.block.length)) }
     ensures features { S.features storage.new ≡ S.features storage.old }
     ensures faults { CountsFaults
         ((S.features storage.old).is_reliable && (lent B.as_layer_below below.entry).is_reliable)
         (S.fault_count storage.old + faults.old) (S.fault_count storage.new + faults.new) result }
     ensures refusals { (most : ℕ)
         → count_of table.old ≤ most
-        → (0 < growth.size % growth.block
-        → is_data (slice_get (entries_of table.old) (growth.size / growth.block)) ≡ false
+        → (0 < growth.size % growth.block.length
+        → is_data (slice_get (entries_of table.old) (growth.size / growth.block.length)) ≡ false
         → named_count (entries_of table.old) + 1 ≤ most)
         → IfErr result
         (allowed
-        (fill_reasons (S.features storage.old) (lent B.as_layer_below below.entry) (most * growth.block)
-        (IsCutRead growth.block growth.size (entries_of table.old) (shows_below growth.mode) growth.new_size))) }
+        (fill_reasons (S.features storage.old) (lent B.as_layer_below below.entry) (most * growth.block.length)
+        (IsCutRead growth.block.length growth.size (entries_of table.old) (shows_below growth.mode) growth.new_size))) }
 {
-    let rest = growth.size % growth.block;
+    let rest = growth.block.rest(growth.size);
     if rest == 0 {
         return Ok(());
     }
@@ -235,14 +239,14 @@ pub(crate) fn fill_cut<S: Storage, B: LowerLayer>(
         return Ok(());
     }
     let lower = is_lower(growth.mode);
-    let count = (growth.block - rest).min(growth.new_size - growth.size);
+    let count = (growth.block.length - rest).min(growth.new_size - growth.size);
     let cut = Cut {
         block: growth.block,
         size: growth.size,
         count,
         lower,
     };
-    match table.get((growth.size / growth.block) as usize) {
+    match entry_at(table, growth.block, growth.size) {
         GuestBlock::Absent => fill_taken(storage, faults, table, alloc, below, cut, true),
         GuestBlock::Zero => {
             if !lower {
@@ -251,23 +255,23 @@ pub(crate) fn fill_cut<S: Storage, B: LowerLayer>(
             fill_taken(storage, faults, table, alloc, below, cut, false)
         }
         GuestBlock::Data(number) => {
-            let to = number * growth.block + rest;
+            let to = number * growth.block.length + rest;
             copy_old(storage, faults, alloc, below, lower, growth.size, count, to)
         }
     }
 }
 
 /// What the guest block that the disk's end cuts is, where it isn't data.
-pub(crate) fn empty_cut(table: &Table, block: u64, size: u64) -> Option<WithoutData>
-    requires positive { 0 < block }
-    requires within { 0 < size % block → size / block < length (entries_of table.now) }
-    ensures empty { IsCutEmpty block size (entries_of table.now) result }
-    ensures within { IfSome result (λ k. size / block < length (entries_of table.now)) }
+pub(crate) fn empty_cut(table: &Table, block: BlockSize, size: u64) -> Option<WithoutData>
+    requires positive { 0 < block.length }
+    requires within { 0 < size % block.length → size / block.length < length (entries_of table.now) }
+    ensures empty { IsCutEmpty block.length size (entries_of table.now) result }
+    ensures within { IfSome result (λ k. size / block.length < length (entries_of table.now)) }
 {
-    if size % block == 0 {
+    if block.rest(size) == 0 {
         return None;
     }
-    match table.get((size / block) as usize) {
+    match entry_at(table, block, size) {
         GuestBlock::Absent => Some(WithoutData::Absent),
         GuestBlock::Zero => Some(WithoutData::Zero),
         GuestBlock::Data(_) => None,
@@ -275,18 +279,19 @@ pub(crate) fn empty_cut(table: &Table, block: u64, size: u64) -> Option<WithoutD
 }
 
 /// Makes the guest block that the disk's end cuts again what it was, and its data block free.
-pub(crate) fn restore_cut(table: &mut Table, block: u64, size: u64, was: Option<WithoutData>)
-    requires positive { 0 < block }
-    requires within { IfSome was (λ k. size / block < length (entries_of table.old)) }
+pub(crate) fn restore_cut(table: &mut Table, block: BlockSize, size: u64, was: Option<WithoutData>)
+    requires positive { 0 < block.length }
+    requires within { IfSome was (λ k. size / block.length < length (entries_of table.old)) }
     ensures restored { (old : List GuestBlock)
-        → IsCutEmpty block size old was
-        → IsCutEntered block size old (entries_of table.old)
+        → IsCutEmpty block.length size old was
+        → IsCutEntered block.length size old (entries_of table.old)
         → entries_of table.new ≡ old }
     ensures held { held_of table.new ≡ held_of table.old }
     ensures count { count_of table.new ≡ count_of table.old }
+    ensures room { KeepsRoom table.old table.new }
 {
     let Some(kind) = was else {
         return;
     };
-    table.clear((size / block) as usize, kind);
+    table.clear(block.number(size) as usize, kind);
 }

@@ -60,14 +60,18 @@ impl FreeBlocks {
         let _ = self.distances.push(other_end(block));
     }
 
-    /// Makes room for so many more. [`Error::Memory`] is no room.
+    /// Makes room for so many more: as much again as there was where memory allows, else for exactly
+    /// those. [`Error::Memory`] is no room for those either.
     pub(crate) fn reserve(&mut self, additional: usize) -> Result<(), Error>
         ensures same { IsSame self.old self.new }
         ensures keeps { free_room self.old ≤ free_room self.new }
         ensures room { OnOk result (free_count self.new + additional ≤ free_room self.new) }
         ensures memory { IfErr result (λ e. e ≡ Error.Memory) }
     {
-        self.distances.reserve(additional)?;
+        if self.distances.reserve(additional).is_ok() {
+            return Ok(());
+        }
+        self.distances.reserve_exact(additional)?;
         Ok(())
     }
 }

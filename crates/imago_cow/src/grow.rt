@@ -1,20 +1,37 @@
 //! The growth of a copy-on-write disk.
-ghost use Rattle.std.specs.Prelude.{◌≡◌, ◌≢◌, ◌+◌, ◌*◌, ◌^◌, ◌<◌, IfErr, OnOk, OnErr, None, Ok, Err};
+ghost use Rattle.std.specs.Prelude.{◌≡◌, ◌≢◌, ◌+◌, ◌*◌, ◌^◌, ◌<◌, ◌≤◌, ◌⊎◌, IfErr, OnOk, OnErr, None, Ok, Err};
 ghost use Rattle.imago_drivers.specs.Calls.{IsGrowth};
 ghost use Rattle.imago_drivers.specs.LayerBelow.{lent};
 ghost use Rattle.imago_drivers.specs.declared.format.PreallocateMode.{PreallocateMode};
-ghost use Rattle.imago_cow.specs.TableView.{entries_of, held_of, count_of};
+ghost use Rattle.imago_cow.specs.TableView.{entries_of, held_of, count_of, room_of, KeepsRoom};
 ghost use Rattle.imago_cow.specs.Guest.{IsExact};
 ghost use Rattle.imago_cow.specs.Grown.{AreGrown};
 ghost use Rattle.imago_cow.specs.Cow.{cow_view};
 
 use crate::cut::{empty_cut, fill_cut, restore_cut};
+use crate::guest::first_whole;
 use crate::resize::{Growth, add_blocks, add_new, adds_nothing};
 use crate::table::{Table, WithoutData};
 use imago_drivers::layer::LowerLayer;
 use imago_storage::error::Error;
 use imago_storage::storage::Storage;
 use std::alloc::Global;
+
+/// Makes room for the entries of the guest blocks that the grown disk needs. [`Error::Memory`] is no
+/// room for them.
+fn reserve_new(table: &mut Table, growth: Growth) -> Result<(), Error>
+    requires positive { 0 < growth.block.length }
+    requires grows { growth.size < growth.new_size }
+    requires exact { IsExact growth.size growth.block.length (entries_of table.old) }
+    ensures entries { entries_of table.new ≡ entries_of table.old }
+    ensures held { held_of table.new ≡ held_of table.old }
+    ensures count { count_of table.new ≡ count_of table.old }
+    ensures room { OnOk result (growth.new_size ≤ room_of table.new * growth.block.length) }
+    ensures memory { IfErr result (λ e. e ≡ Error.Memory) }
+{
+    let wanted = first_whole(growth.block, growth.new_size) as usize;
+    table.reserve(wanted - table.len())
+}
 
 /// Fills the guest block that the old end cuts, and adds those behind it, for a growth whose new places are specified. So data
 /// blocks are taken in the order of guest blocks. Refused, all is as it was.
@@ -26,27 +43,28 @@ fn grow_with<S: Storage, B: LowerLayer>(
     below: Option<&B>,
     growth: Growth,
 ) -> Result<(), Error>
-    requires positive { 0 < growth.block }
+    requires positive { 0 < growth.block.length }
     requires grows { growth.size < growth.new_size }
-    requires exact { IsExact growth.size growth.block (entries_of table.old) }
+    requires exact { IsExact growth.size growth.block.length (entries_of table.old) }
     requires spent { held_of table.old ≡ None }
-    requires addressed { count_of table.old * growth.block < 2 ^ 64 }
+    requires addressed { count_of table.old * growth.block.length < 2 ^ 64 }
     requires some { growth.mode ≢ PreallocateMode.None }
     ensures grown { OnOk result
         (IsGrowth growth.mode (lent B.as_layer_below below.entry) growth.new_size
-        (cow_view (S.features storage.old) (S.fault_count storage.old + faults.old) (S.bytes storage.old) growth.size growth.block (entries_of table.old) (count_of table.old) None)
-        (cow_view (S.features storage.old) (S.fault_count storage.new + faults.new) (S.bytes storage.new) growth.new_size growth.block (entries_of table.new) (count_of table.new) None) (Ok tt)) }
+        (cow_view (S.features storage.old) (S.fault_count storage.old + faults.old) (S.bytes storage.old) growth.size growth.block.length (entries_of table.old) (count_of table.old) None)
+        (cow_view (S.features storage.old) (S.fault_count storage.new + faults.new) (S.bytes storage.new) growth.new_size growth.block.length (entries_of table.new) (count_of table.new) None) (Ok tt)) }
     ensures refused { IfErr result
         (λ e. IsGrowth growth.mode (lent B.as_layer_below below.entry) growth.new_size
-        (cow_view (S.features storage.old) (S.fault_count storage.old + faults.old) (S.bytes storage.old) growth.size growth.block (entries_of table.old) (count_of table.old) None)
-        (cow_view (S.features storage.old) (S.fault_count storage.new + faults.new) (S.bytes storage.new) growth.size growth.block (entries_of table.old) (count_of table.new) None) (Err e)) }
+        (cow_view (S.features storage.old) (S.fault_count storage.old + faults.old) (S.bytes storage.old) growth.size growth.block.length (entries_of table.old) (count_of table.old) None)
+        (cow_view (S.features storage.old) (S.fault_count storage.new + faults.new) (S.bytes storage.new) growth.size growth.block.length (entries_of table.old) (count_of table.new) None) (Err e)) }
     ensures blocks { OnOk result
-        (AreGrown growth.mode growth.block growth.size (entries_of table.old) (entries_of table.new)) }
-    ensures exact_now { OnOk result (IsExact growth.new_size growth.block (entries_of table.new)) }
+        (AreGrown growth.mode growth.block.length growth.size (entries_of table.old) (entries_of table.new)) }
+    ensures exact_now { OnOk result (IsExact growth.new_size growth.block.length (entries_of table.new)) }
     ensures entries { OnErr result (entries_of table.new ≡ entries_of table.old) }
     ensures held { held_of table.new ≡ None }
-    ensures addressed { count_of table.new * growth.block < 2 ^ 64 }
+    ensures addressed { count_of table.new * growth.block.length < 2 ^ 64 }
     ensures features { S.features storage.new ≡ S.features storage.old }
+    ensures room { KeepsRoom table.old table.new }
 {
     let was = empty_cut(table, growth.block, growth.size);
     fill_cut(storage, faults, table, alloc, below, growth)?;
@@ -57,8 +75,9 @@ fn grow_with<S: Storage, B: LowerLayer>(
     Ok(())
 }
 
-/// Grows the disk: fills the guest block that the old end cuts as the mode says, and adds those behind it.
-/// Refused, all is as it was, but for data blocks that are free.
+/// Grows the disk: makes room in the table, fills the guest block that the old end cuts as the mode
+/// says, and adds those behind it. Refused, all is as it was, but for data blocks that are free; the
+/// storage isn't touched before there is the room.
 pub(crate) fn grow<S: Storage, B: LowerLayer>(
     storage: &mut S,
     faults: &mut u64,
@@ -67,29 +86,32 @@ pub(crate) fn grow<S: Storage, B: LowerLayer>(
     below: Option<&B>,
     growth: Growth,
 ) -> Result<(), Error>
-    requires positive { 0 < growth.block }
+    requires positive { 0 < growth.block.length }
     requires grows { growth.size < growth.new_size }
-    requires exact { IsExact growth.size growth.block (entries_of table.old) }
+    requires exact { IsExact growth.size growth.block.length (entries_of table.old) }
     requires spent { held_of table.old ≡ None }
-    requires addressed { count_of table.old * growth.block < 2 ^ 64 }
+    requires addressed { count_of table.old * growth.block.length < 2 ^ 64 }
     ensures grown { OnOk result
         (IsGrowth growth.mode (lent B.as_layer_below below.entry) growth.new_size
-        (cow_view (S.features storage.old) (S.fault_count storage.old + faults.old) (S.bytes storage.old) growth.size growth.block (entries_of table.old) (count_of table.old) None)
-        (cow_view (S.features storage.old) (S.fault_count storage.new + faults.new) (S.bytes storage.new) growth.new_size growth.block (entries_of table.new) (count_of table.new) None) (Ok tt)) }
+        (cow_view (S.features storage.old) (S.fault_count storage.old + faults.old) (S.bytes storage.old) growth.size growth.block.length (entries_of table.old) (count_of table.old) None)
+        (cow_view (S.features storage.old) (S.fault_count storage.new + faults.new) (S.bytes storage.new) growth.new_size growth.block.length (entries_of table.new) (count_of table.new) None) (Ok tt)) }
     ensures refused { IfErr result
         (λ e. IsGrowth growth.mode (lent B.as_layer_below below.entry) growth.new_size
-        (cow_view (S.features storage.old) (S.fault_count storage.old + faults.old) (S.bytes storage.old) growth.size growth.block (entries_of table.old) (count_of table.old) None)
-        (cow_view (S.features storage.old) (S.fault_count storage.new + faults.new) (S.bytes storage.new) growth.size growth.block (entries_of table.old) (count_of table.new) None) (Err e)) }
+        (cow_view (S.features storage.old) (S.fault_count storage.old + faults.old) (S.bytes storage.old) growth.size growth.block.length (entries_of table.old) (count_of table.old) None)
+        (cow_view (S.features storage.old) (S.fault_count storage.new + faults.new) (S.bytes storage.new) growth.size growth.block.length (entries_of table.old) (count_of table.new) None) (Err e)) }
     ensures blocks { OnOk result
-        (AreGrown growth.mode growth.block growth.size (entries_of table.old) (entries_of table.new)) }
-    ensures exact_now { OnOk result (IsExact growth.new_size growth.block (entries_of table.new)) }
+        (AreGrown growth.mode growth.block.length growth.size (entries_of table.old) (entries_of table.new)) }
+    ensures exact_now { OnOk result (IsExact growth.new_size growth.block.length (entries_of table.new)) }
     ensures entries { OnErr result (entries_of table.new ≡ entries_of table.old) }
     ensures held { held_of table.new ≡ None }
-    ensures addressed { count_of table.new * growth.block < 2 ^ 64 }
+    ensures addressed { count_of table.new * growth.block.length < 2 ^ 64 }
     ensures features { S.features storage.new ≡ S.features storage.old }
+    ensures room_first { OnErr result
+        ((storage.new ≡ storage.old) ⊎ (growth.new_size ≤ room_of table.new * growth.block.length)) }
 {
     if adds_nothing(growth.mode) {
         return add_blocks(table, growth, WithoutData::Absent);
     }
+    reserve_new(table, growth)?;
     grow_with(storage, faults, table, alloc, below, growth)
 }

@@ -9,33 +9,34 @@ ghost use Rattle.imago_drivers.specs.Operation.{Zero, DiscardToZero, DiscardToAn
 ghost use Rattle.imago_drivers.specs.Changes.{unspecified, to_backing};
 ghost use Rattle.imago_drivers.specs.Calls.{IsZeroCall, IsDiscard};
 
+use crate::block::BlockSize;
 use crate::table::{Table, WithoutData};
 use imago_storage::error::Error;
 
 /// The first guest block that begins at the offset or behind it.
-pub(crate) fn first_whole(block: u64, offset: u64) -> u64
-    requires positive { 0 < block }
-    ensures begins { offset ≤ result * block }
-    ensures near { result * block < offset + block }
+pub(crate) fn first_whole(block: BlockSize, offset: u64) -> u64
+    requires positive { 0 < block.length }
+    ensures begins { offset ≤ result * block.length }
+    ensures near { result * block.length < offset + block.length }
 {
-    let index = offset / block;
-    if offset % block == 0 {
+    let index = block.number(offset);
+    if block.rest(offset) == 0 {
         return index;
     }
     index + 1
 }
 
 /// The guest block that the whole ones before that end stop at: the disk's end ends its last one.
-fn last_whole(block: u64, size: u64, end: u64, guest_blocks: u64) -> u64
-    requires positive { 0 < block }
+fn last_whole(block: BlockSize, size: u64, end: u64, guest_blocks: u64) -> u64
+    requires positive { 0 < block.length }
     requires inside { end ≤ size }
-    requires covers { size ≤ guest_blocks * block }
-    ensures cut { end < size → (result * block ≤ end) × (end < result * block + block) }
+    requires covers { size ≤ guest_blocks * block.length }
+    ensures cut { end < size → (result * block.length ≤ end) × (end < result * block.length + block.length) }
     ensures all { size ≤ end → result ≡ guest_blocks }
     ensures within { result ≤ guest_blocks }
 {
     if end < size {
-        return end / block;
+        return block.number(end);
     }
     guest_blocks
 }
@@ -57,17 +58,17 @@ fn clear_range(table: &mut Table, first: u64, last: u64, kind: WithoutData)
 /// takes no memory, and is never refused.
 pub(crate) fn clear_whole(
     table: &mut Table,
-    block: u64,
+    block: BlockSize,
     size: u64,
     offset: u64,
     count: u64,
     kind: WithoutData,
 ) -> (u64, u64)
-    requires positive { 0 < block }
+    requires positive { 0 < block.length }
     requires inside { offset + count ≤ size }
-    requires exact { IsExact size block (entries_of table.old) }
-    ensures part { IsWholePart block size offset count result.0 result.1 }
-    ensures cleared { AreWholeCleared block size offset count (without_data kind) (entries_of table.old) (entries_of table.new) }
+    requires exact { IsExact size block.length (entries_of table.old) }
+    ensures part { IsWholePart block.length size offset count result.0 result.1 }
+    ensures cleared { AreWholeCleared block.length size offset count (without_data kind) (entries_of table.old) (entries_of table.new) }
     ensures held { held_of table.new ≡ held_of table.old }
     ensures count { count_of table.new ≡ count_of table.old }
 {
@@ -78,9 +79,9 @@ pub(crate) fn clear_whole(
         return (offset, 0);
     }
     clear_range(table, first, last, kind);
-    let start = first * block;
+    let start = first * block.length;
     if end < size {
-        return (start, last * block - start);
+        return (start, last * block.length - start);
     }
     (start, end - start)
 }
@@ -88,27 +89,27 @@ pub(crate) fn clear_whole(
 /// Makes the guest blocks that lie in the range explicit zeroes. It is never refused.
 pub(crate) fn make_zero(
     table: &mut Table,
-    block: u64,
+    block: BlockSize,
     size: u64,
     offset: u64,
     count: u64,
 ) -> Result<(u64, u64), Error>
-    requires positive { 0 < block }
+    requires positive { 0 < block.length }
     requires inside { offset + count ≤ size }
-    requires exact { IsExact size block (entries_of table.old) }
+    requires exact { IsExact size block.length (entries_of table.old) }
     ensures zero { (f : _) (faults : ℕ) (bytes : _)
         → IsZeroCall Zero offset count
-        (cow_view f faults bytes size block (entries_of table.old) (count_of table.old) None)
-        (cow_view f faults bytes size block (entries_of table.new) (count_of table.new) None) result }
+        (cow_view f faults bytes size block.length (entries_of table.old) (count_of table.old) None)
+        (cow_view f faults bytes size block.length (entries_of table.new) (count_of table.new) None) result }
     ensures to_zero { (f : _) (faults : ℕ) (bytes : _)
         → IsZeroCall DiscardToZero offset count
-        (cow_view f faults bytes size block (entries_of table.old) (count_of table.old) None)
-        (cow_view f faults bytes size block (entries_of table.new) (count_of table.new) None) result }
-    ensures made { IsMade offset count size block GuestBlock.Zero (entries_of table.old) (entries_of table.new) result }
+        (cow_view f faults bytes size block.length (entries_of table.old) (count_of table.old) None)
+        (cow_view f faults bytes size block.length (entries_of table.new) (count_of table.new) None) result }
+    ensures made { IsMade offset count size block.length GuestBlock.Zero (entries_of table.old) (entries_of table.new) result }
     ensures to_any { (f : _) (faults : ℕ) (bytes : _)
         → IsDiscard (λ _ _. unspecified) DiscardToAny offset count
-        (cow_view f faults bytes size block (entries_of table.old) (count_of table.old) None)
-        (cow_view f faults bytes size block (entries_of table.new) (count_of table.new) None) result }
+        (cow_view f faults bytes size block.length (entries_of table.old) (count_of table.old) None)
+        (cow_view f faults bytes size block.length (entries_of table.new) (count_of table.new) None) result }
     ensures same_length { length (entries_of table.new) ≡ length (entries_of table.old) }
     ensures held { held_of table.new ≡ held_of table.old }
     ensures count { count_of table.new ≡ count_of table.old }
@@ -119,19 +120,19 @@ pub(crate) fn make_zero(
 /// Makes the guest blocks that lie in the range absent. It is never refused.
 pub(crate) fn make_absent(
     table: &mut Table,
-    block: u64,
+    block: BlockSize,
     size: u64,
     offset: u64,
     count: u64,
 ) -> Result<(u64, u64), Error>
-    requires positive { 0 < block }
+    requires positive { 0 < block.length }
     requires inside { offset + count ≤ size }
-    requires exact { IsExact size block (entries_of table.old) }
-    ensures made { IsMade offset count size block GuestBlock.Absent (entries_of table.old) (entries_of table.new) result }
+    requires exact { IsExact size block.length (entries_of table.old) }
+    ensures made { IsMade offset count size block.length GuestBlock.Absent (entries_of table.old) (entries_of table.new) result }
     ensures to_backing { (f : _) (faults : ℕ) (bytes : _)
         → IsDiscard (to_backing true) DiscardToBacking offset count
-        (cow_view f faults bytes size block (entries_of table.old) (count_of table.old) None)
-        (cow_view f faults bytes size block (entries_of table.new) (count_of table.new) None) result }
+        (cow_view f faults bytes size block.length (entries_of table.old) (count_of table.old) None)
+        (cow_view f faults bytes size block.length (entries_of table.new) (count_of table.new) None) result }
     ensures same_length { length (entries_of table.new) ≡ length (entries_of table.old) }
     ensures held { held_of table.new ≡ held_of table.old }
     ensures count { count_of table.new ≡ count_of table.old }

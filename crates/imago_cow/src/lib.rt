@@ -3,6 +3,7 @@
 //! [`table::Table`] says what each block is, and which data blocks are free.
 #![tactic(auto)]
 
+mod block;
 mod commit;
 mod copy;
 pub mod cow;
@@ -15,5 +16,7 @@ mod map;
 mod named;
 mod prepare;
 mod resize;
+mod room;
 mod stored;
 pub mod table;
+mod zero;

@@ -37,45 +37,45 @@ pub(crate) fn prepare_part<S: Storage, B: LowerLayer>(
     part: Part,
     state: CowState,
 ) -> Result<Waiting, Error>
-    requires positive { 0 < part.block }
-    requires exact { IsExact part.size part.block (entries_of table.old) }
-    requires addressed { count_of table.old * part.block < 2 ^ 64 }
+    requires positive { 0 < part.block.length }
+    requires exact { IsExact part.size part.block.length (entries_of table.old) }
+    requires addressed { count_of table.old * part.block.length < 2 ^ 64 }
     requires spent { held_of table.old ≡ None }
     requires some { 0 < part.run }
     requires inside { part.offset + part.run ≤ part.size }
-    requires in_block { part.offset % part.block + part.run ≤ part.block }
-    requires absent { part.absent ≡ true → slice_get (entries_of table.old) (part.offset / part.block) ≡ Some GuestBlock.Absent }
-    requires zero { part.absent ≡ false → slice_get (entries_of table.old) (part.offset / part.block) ≡ Some GuestBlock.Zero }
+    requires in_block { part.offset % part.block.length + part.run ≤ part.block.length }
+    requires absent { part.absent ≡ true → slice_get (entries_of table.old) (part.offset / part.block.length) ≡ Some GuestBlock.Absent }
+    requires zero { part.absent ≡ false → slice_get (entries_of table.old) (part.offset / part.block.length) ≡ Some GuestBlock.Zero }
     ensures entries { entries_of table.new ≡ entries_of table.old }
     ensures added { count_of table.new ≤ max (count_of table.old) (named_count (entries_of table.old) + 1) }
-    ensures addressed { count_of table.new * part.block < 2 ^ 64 }
+    ensures addressed { count_of table.new * part.block.length < 2 ^ 64 }
     ensures held { IfOk result (λ w. held_of table.new ≡ Some w.number) }
     ensures lowest { IfOk result (λ w. IsLowestUnused (entries_of table.old) None (count_of table.old) w.number) }
     ensures released { OnErr result (held_of table.new ≡ None) }
-    ensures apart { IfOk result (λ w. WaitsApart part.block part.size (entries_of table.new) (count_of table.new) w) }
+    ensures apart { IfOk result (λ w. WaitsApart part.block.length part.size (entries_of table.new) (count_of table.new) w) }
     ensures same { IfOk result (λ w. (w.start ≡ part.offset) × (w.length ≡ part.run) × (w.state ≡ «state»)) }
     ensures features { S.features storage.new ≡ S.features storage.old }
     ensures prepared { IfOk result
         (λ w. (most now_faults old_faults : ℕ) (m : _)
         → 0 < most
-        → part.run ≡ in_block part.block part.offset most
+        → part.run ≡ in_block part.block.length part.offset most
         → storage_of m ≡ 0
         → offset_of m ≡ w.offset
         → length_of m ≡ w.length
         → state_of m ≡ Some w.state
         → IsPrepared part.offset most part.overwrite
-        (values (lent B.as_layer_below below.entry).at (cow_place (S.bytes storage.old) part.size part.block (entries_of table.old)))
-        (cow_view (S.features storage.old) old_faults (S.bytes storage.old) part.size part.block (entries_of table.old) (count_of table.old) None)
-        (cow_view (S.features storage.old) now_faults (S.bytes storage.new) part.size part.block (entries_of table.old) (count_of table.new) (Some w)) m) }
+        (values (lent B.as_layer_below below.entry).at (cow_place (S.bytes storage.old) part.size part.block.length (entries_of table.old)))
+        (cow_view (S.features storage.old) old_faults (S.bytes storage.old) part.size part.block.length (entries_of table.old) (count_of table.old) None)
+        (cow_view (S.features storage.old) now_faults (S.bytes storage.new) part.size part.block.length (entries_of table.old) (count_of table.new) (Some w)) m) }
     ensures unchanged { (now_faults old_faults : ℕ) (waiting : _)
         → IsUnchanged
-        (cow_view (S.features storage.old) old_faults (S.bytes storage.old) part.size part.block (entries_of table.old) (count_of table.old) None)
-        (cow_view (S.features storage.old) now_faults (S.bytes storage.new) part.size part.block (entries_of table.old) (count_of table.new) waiting) }
+        (cow_view (S.features storage.old) old_faults (S.bytes storage.old) part.size part.block.length (entries_of table.old) (count_of table.old) None)
+        (cow_view (S.features storage.old) now_faults (S.bytes storage.new) part.size part.block.length (entries_of table.old) (count_of table.new) waiting) }
     ensures settled { IfOk result
         (λ w. IsSettled IsOnRange
-        (cow_cause (S.features storage.old) part.block part.size (entries_of table.old) (count_of table.old) None)
-        (cow_cause (S.features storage.old) part.block part.size (entries_of table.old) (count_of table.new) (Some w))
-        (cow_copies part.block part.size (entries_of table.old)) (cow_copies part.block part.size (entries_of table.old))
+        (cow_cause (S.features storage.old) part.block.length part.size (entries_of table.old) (count_of table.old) None)
+        (cow_cause (S.features storage.old) part.block.length part.size (entries_of table.old) (count_of table.new) (Some w))
+        (cow_copies part.block.length part.size (entries_of table.old)) (cow_copies part.block.length part.size (entries_of table.old))
         w.start w.length) }
     ensures no_shorter { length (S.bytes storage.old) ≤ length (S.bytes storage.new) }
     ensures no_longer { (most : ℕ)
@@ -83,8 +83,8 @@ pub(crate) fn prepare_part<S: Storage, B: LowerLayer>(
         → length (S.bytes storage.new)
         ≤ max (length (S.bytes storage.old))
         (padded_to (S.features storage.old) 0
-        (data_count part.block part.size (entries_of table.old) (count_of table.old) None Write part.offset most
-        * part.block)) }
+        (data_count part.block.length part.size (entries_of table.old) (count_of table.old) None Write part.offset most
+        * part.block.length)) }
     ensures faults { CountsFaults
         ((S.features storage.old).is_reliable && (lent B.as_layer_below below.entry).is_reliable)
         (S.fault_count storage.old + faults.old) (S.fault_count storage.new + faults.new) result }
@@ -93,27 +93,27 @@ pub(crate) fn prepare_part<S: Storage, B: LowerLayer>(
         → IfErr result
         (allowed
         (lending_reasons
-        (cow_view (S.features storage.old) old_faults (S.bytes storage.old) part.size part.block (entries_of table.old) (count_of table.old) None)
+        (cow_view (S.features storage.old) old_faults (S.bytes storage.old) part.size part.block.length (entries_of table.old) (count_of table.old) None)
         (lent B.as_layer_below below.entry) Write part.offset most)) }
     ensures over { (most : ℕ)
         → 0 < most
-        → part.run ≡ in_block part.block part.offset most
+        → part.run ≡ in_block part.block.length part.offset most
         → part.overwrite ≡ true
         → IfErr result
         (allowed
-        (over_reasons (S.features storage.old) (lent B.as_layer_below below.entry) part.block part.size
+        (over_reasons (S.features storage.old) (lent B.as_layer_below below.entry) part.block.length part.size
         (entries_of table.old) (count_of table.old) part.offset most)) }
 {
-    if !fits_next(table, part.block) {
+    if !fits_next(table, part.block.length) {
         return Err(Error::WrapAround);
     }
     let number = table.take()?;
-    let start = number * part.block;
+    let start = number * part.block.length;
     match copy_round(storage, faults, alloc, below, part, start) {
         Ok(()) => Ok(Waiting {
             start: part.offset,
             length: part.run,
-            offset: start + part.offset % part.block,
+            offset: start + part.block.rest(part.offset),
             number,
             state,
         }),

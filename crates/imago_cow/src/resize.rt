@@ -15,6 +15,7 @@ ghost use Rattle.imago_cow.specs.Cow.{cow_view};
 ghost use Rattle.imago_cow.specs.Table.{without_data, named_count};
 ghost use Rattle.imago_cow.specs.TableView.{entries_of, held_of, count_of, room_of, KeepsRoom};
 
+use crate::block::BlockSize;
 use crate::copy::copy_old;
 use crate::guest::first_whole;
 use crate::table::{Table, WithoutData};
@@ -28,7 +29,7 @@ use std::alloc::Global;
 #[derive(Clone, Copy)]
 pub(crate) struct Growth {
     /// A guest block's length in bytes.
-    pub(crate) block: u64,
+    pub(crate) block: BlockSize,
     /// The old size in bytes.
     pub(crate) size: u64,
     /// The size in bytes that it grows to.
@@ -65,15 +66,15 @@ pub(crate) fn adds_nothing(mode: PreallocateMode) -> bool
 
 /// Cuts the disk to that size, which is less. The guest blocks behind it are dropped, and their data blocks are free. It takes
 /// no memory, and is never refused.
-pub(crate) fn shrink(table: &mut Table, block: u64, size: u64, new_size: u64)
-    requires positive { 0 < block }
-    requires exact { IsExact size block (entries_of table.old) }
+pub(crate) fn shrink(table: &mut Table, block: BlockSize, size: u64, new_size: u64)
+    requires positive { 0 < block.length }
+    requires exact { IsExact size block.length (entries_of table.old) }
     requires less { new_size < size }
     ensures shrunk { (f : _) (faults : ℕ) (bytes : _)
         → IsShrink new_size
-        (cow_view f faults bytes size block (entries_of table.old) (count_of table.old) None)
-        (cow_view f faults bytes new_size block (entries_of table.new) (count_of table.new) None) (Ok tt) }
-    ensures exact { IsExact new_size block (entries_of table.new) }
+        (cow_view f faults bytes size block.length (entries_of table.old) (count_of table.old) None)
+        (cow_view f faults bytes new_size block.length (entries_of table.new) (count_of table.new) None) (Ok tt) }
+    ensures exact { IsExact new_size block.length (entries_of table.new) }
     ensures entries { entries_of table.new ≡ take (length (entries_of table.new)) (entries_of table.old) }
     ensures held { held_of table.new ≡ held_of table.old }
     ensures count { count_of table.new ≡ count_of table.old }
@@ -84,16 +85,17 @@ pub(crate) fn shrink(table: &mut Table, block: u64, size: u64, new_size: u64)
 /// Adds absent guest blocks, or explicit zeroes, up to the disk's new size. [`Error::Memory`] is no room for their
 /// entries; it leaves all as it was.
 pub(crate) fn add_blocks(table: &mut Table, growth: Growth, kind: WithoutData) -> Result<(), Error>
-    requires positive { 0 < growth.block }
-    requires exact { IsExact growth.size growth.block (entries_of table.old) }
+    requires positive { 0 < growth.block.length }
+    requires exact { IsExact growth.size growth.block.length (entries_of table.old) }
     requires grows { growth.size ≤ growth.new_size }
     ensures added { OnOk result (AreAdded (without_data kind) (entries_of table.old) (entries_of table.new)) }
     ensures prefix { take (length (entries_of table.old)) (entries_of table.new) ≡ entries_of table.old }
     ensures named { named_count (entries_of table.new) ≡ named_count (entries_of table.old) }
-    ensures exact { OnOk result (IsExact growth.new_size growth.block (entries_of table.new)) }
+    ensures exact { OnOk result (IsExact growth.new_size growth.block.length (entries_of table.new)) }
     ensures unchanged { OnErr result (entries_of table.new ≡ entries_of table.old) }
     ensures held { held_of table.new ≡ held_of table.old }
     ensures count { count_of table.new ≡ count_of table.old }
+    ensures room { KeepsRoom table.old table.new }
     ensures memory { IfErr result (λ e. e ≡ Error.Memory) }
 {
     let wanted = first_whole(growth.block, growth.new_size) as usize;
@@ -134,22 +136,22 @@ fn push_filled<S: Storage, B: LowerLayer>(
     below: Option<&B>,
     growth: Growth,
 ) -> Result<(), Error>
-    requires positive { 0 < growth.block }
+    requires positive { 0 < growth.block.length }
     requires spent { held_of table.old ≡ None }
-    requires addressed { count_of table.old * growth.block < 2 ^ 64 }
-    requires begins { length (entries_of table.old) * growth.block < growth.new_size }
+    requires addressed { count_of table.old * growth.block.length < 2 ^ 64 }
+    requires begins { length (entries_of table.old) * growth.block.length < growth.new_size }
     requires reserved { length (entries_of table.old) < room_of table.old }
     ensures pushed { OnOk result
         (IsPushed (lent B.as_layer_below below.entry).at (S.features storage.old).keeps_data
-        growth.block growth.new_size
+        growth.block.length growth.new_size
         (entries_of table.old) (entries_of table.new) (S.bytes storage.old) (S.bytes storage.new)) }
     ensures refused { OnErr result (entries_of table.new ≡ entries_of table.old) }
     ensures bytes { OnErr result
-        (KeepsBytes (S.features storage.old).keeps_data growth.block
-        (length (entries_of table.old) * growth.block)
+        (KeepsBytes (S.features storage.old).keeps_data growth.block.length
+        (length (entries_of table.old) * growth.block.length)
         (entries_of table.old) (S.bytes storage.old) (S.bytes storage.new)) }
     ensures held { held_of table.new ≡ None }
-    ensures addressed { count_of table.new * growth.block < 2 ^ 64 }
+    ensures addressed { count_of table.new * growth.block.length < 2 ^ 64 }
     ensures added { count_of table.new ≤ max (count_of table.old) (named_count (entries_of table.old) + 1) }
     ensures room { KeepsRoom table.old table.new }
     ensures no_shorter { length (S.bytes storage.old) ≤ length (S.bytes storage.new) }
@@ -157,7 +159,7 @@ fn push_filled<S: Storage, B: LowerLayer>(
         → count_of table.old ≤ most
         → named_count (entries_of table.old) + 1 ≤ most
         → length (S.bytes storage.new)
-        ≤ max (length (S.bytes storage.old)) (padded_to (S.features storage.old) 0 (most * growth.block)) }
+        ≤ max (length (S.bytes storage.old)) (padded_to (S.features storage.old) 0 (most * growth.block.length)) }
     ensures features { S.features storage.new ≡ S.features storage.old }
     ensures faults { CountsFaults
         ((S.features storage.old).is_reliable && (lent B.as_layer_below below.entry).is_reliable)
@@ -167,12 +169,12 @@ fn push_filled<S: Storage, B: LowerLayer>(
         → named_count (entries_of table.old) + 1 ≤ most
         → IfErr result
         (allowed
-        (fill_reasons (S.features storage.old) (lent B.as_layer_below below.entry) (most * growth.block)
-        (λ p. (length (entries_of table.old) * growth.block ≤ p) × (p < growth.new_size)))) }
+        (fill_reasons (S.features storage.old) (lent B.as_layer_below below.entry) (most * growth.block.length)
+        (λ p. (length (entries_of table.old) * growth.block.length ≤ p) × (p < growth.new_size)))) }
 {
-    let start = table.len() as u64 * growth.block;
-    let count = growth.block.min(growth.new_size - start);
-    let number = take_block(table, growth.block)?;
+    let start = table.len() as u64 * growth.block.length;
+    let count = growth.block.length.min(growth.new_size - start);
+    let number = take_block(table, growth.block.length)?;
     match copy_old(
         storage,
         faults,
@@ -181,7 +183,7 @@ fn push_filled<S: Storage, B: LowerLayer>(
         true,
         start,
         count,
-        number * growth.block,
+        number * growth.block.length,
     ) {
         Ok(()) => {
             table.push_held();
@@ -205,33 +207,33 @@ pub(crate) fn push_blocks<S: Storage, B: LowerLayer>(
     growth: Growth,
     missing: usize,
 ) -> Result<(), Error>
-    requires positive { 0 < growth.block }
+    requires positive { 0 < growth.block.length }
     requires spent { held_of table.old ≡ None }
-    requires addressed { count_of table.old * growth.block < 2 ^ 64 }
-    requires ends { (length (entries_of table.old) + missing) * growth.block < growth.new_size + growth.block }
+    requires addressed { count_of table.old * growth.block.length < 2 ^ 64 }
+    requires ends { (length (entries_of table.old) + missing) * growth.block.length < growth.new_size + growth.block.length }
     requires reserved { length (entries_of table.old) + missing ≤ room_of table.old }
     ensures length { OnOk result (length (entries_of table.new) ≡ length (entries_of table.old) + missing) }
     ensures extended { OnOk result
-        (IsExtended (lent B.as_layer_below below.entry).at true (S.features storage.old).keeps_data growth.block
-        (length (entries_of table.old) * growth.block)
-        (min growth.new_size (length (entries_of table.new) * growth.block))
+        (IsExtended (lent B.as_layer_below below.entry).at true (S.features storage.old).keeps_data growth.block.length
+        (length (entries_of table.old) * growth.block.length)
+        (min growth.new_size (length (entries_of table.new) * growth.block.length))
         (entries_of table.old) (entries_of table.new) (S.bytes storage.old) (S.bytes storage.new)) }
     ensures prefix { take (length (entries_of table.old)) (entries_of table.new) ≡ entries_of table.old }
-    ensures bytes { KeepsBytes (S.features storage.old).keeps_data growth.block
-        (length (entries_of table.old) * growth.block)
+    ensures bytes { KeepsBytes (S.features storage.old).keeps_data growth.block.length
+        (length (entries_of table.old) * growth.block.length)
         (entries_of table.old) (S.bytes storage.old) (S.bytes storage.new) }
     ensures in_data { OnOk result (AddsData (entries_of table.old) (entries_of table.new)) }
     ensures named { OnOk result (named_count (entries_of table.new) ≡ named_count (entries_of table.old) + missing) }
     ensures counted { count_of table.new ≤ max (count_of table.old) (named_count (entries_of table.old) + missing) }
     ensures held { held_of table.new ≡ None }
-    ensures addressed { count_of table.new * growth.block < 2 ^ 64 }
+    ensures addressed { count_of table.new * growth.block.length < 2 ^ 64 }
     ensures room { KeepsRoom table.old table.new }
     ensures no_shorter { length (S.bytes storage.old) ≤ length (S.bytes storage.new) }
     ensures no_longer { (most : ℕ)
         → count_of table.old ≤ most
         → named_count (entries_of table.old) + missing ≤ most
         → length (S.bytes storage.new)
-        ≤ max (length (S.bytes storage.old)) (padded_to (S.features storage.old) 0 (most * growth.block)) }
+        ≤ max (length (S.bytes storage.old)) (padded_to (S.features storage.old) 0 (most * growth.block.length)) }
     ensures features { S.features storage.new ≡ S.features storage.old }
     ensures faults { CountsFaults
         ((S.features storage.old).is_reliable && (lent B.as_layer_below below.entry).is_reliable)
@@ -241,8 +243,8 @@ pub(crate) fn push_blocks<S: Storage, B: LowerLayer>(
         → named_count (entries_of table.old) + missing ≤ most
         → IfErr result
         (allowed
-        (fill_reasons (S.features storage.old) (lent B.as_layer_below below.entry) (most * growth.block)
-        (λ p. (length (entries_of table.old) * growth.block ≤ p) × (p < growth.new_size)))) }
+        (fill_reasons (S.features storage.old) (lent B.as_layer_below below.entry) (most * growth.block.length)
+        (λ p. (length (entries_of table.old) * growth.block.length ≤ p) × (p < growth.new_size)))) }
 {
     for _ in 0..missing {
         push_filled(storage, faults, table, alloc, below, growth)?;
@@ -260,59 +262,60 @@ pub(crate) fn add_new<S: Storage, B: LowerLayer>(
     below: Option<&B>,
     growth: Growth,
 ) -> Result<(), Error>
-    requires positive { 0 < growth.block }
+    requires positive { 0 < growth.block.length }
     requires spent { held_of table.old ≡ None }
-    requires addressed { count_of table.old * growth.block < 2 ^ 64 }
-    requires exact { IsExact growth.size growth.block (entries_of table.old) }
+    requires addressed { count_of table.old * growth.block.length < 2 ^ 64 }
+    requires exact { IsExact growth.size growth.block.length (entries_of table.old) }
     requires grows { growth.size ≤ growth.new_size }
-    ensures exact { OnOk result (IsExact growth.new_size growth.block (entries_of table.new)) }
+    ensures exact { OnOk result (IsExact growth.new_size growth.block.length (entries_of table.new)) }
     ensures extended { OnOk result
         (IsExtended (lent B.as_layer_below below.entry).at (shows_below growth.mode)
-        (S.features storage.old).keeps_data growth.block
-        (length (entries_of table.old) * growth.block) growth.new_size
+        (S.features storage.old).keeps_data growth.block.length
+        (length (entries_of table.old) * growth.block.length) growth.new_size
         (entries_of table.old) (entries_of table.new) (S.bytes storage.old) (S.bytes storage.new)) }
     ensures prefix { take (length (entries_of table.old)) (entries_of table.new) ≡ entries_of table.old }
     ensures in_data { shows_below growth.mode ≡ true → OnOk result (AddsData (entries_of table.old) (entries_of table.new)) }
     ensures zero { shows_below growth.mode ≡ false
         → OnOk result (AreAdded GuestBlock.Zero (entries_of table.old) (entries_of table.new)) }
     ensures named { (wanted : ℕ)
-        → growth.new_size ≤ wanted * growth.block
-        → wanted * growth.block < growth.new_size + growth.block
+        → growth.new_size ≤ wanted * growth.block.length
+        → wanted * growth.block.length < growth.new_size + growth.block.length
         → OnOk result
         ((named_count (entries_of table.new) ≡ named_count (entries_of table.old)) ⊎ ((shows_below growth.mode ≡ true) × (named_count (entries_of table.new) ≡ named_count (entries_of table.old) + (wanted - length (entries_of table.old))))) }
     ensures counted { (most wanted : ℕ)
-        → growth.new_size ≤ wanted * growth.block
-        → wanted * growth.block < growth.new_size + growth.block
+        → growth.new_size ≤ wanted * growth.block.length
+        → wanted * growth.block.length < growth.new_size + growth.block.length
         → count_of table.old ≤ most
         → (shows_below growth.mode ≡ true → named_count (entries_of table.old) + (wanted - length (entries_of table.old)) ≤ most)
         → count_of table.new ≤ most }
     ensures refused { OnErr result (entries_of table.new ≡ entries_of table.old) }
-    ensures bytes { KeepsBytes (S.features storage.old).keeps_data growth.block
-        (length (entries_of table.old) * growth.block)
+    ensures bytes { KeepsBytes (S.features storage.old).keeps_data growth.block.length
+        (length (entries_of table.old) * growth.block.length)
         (entries_of table.old) (S.bytes storage.old) (S.bytes storage.new) }
     ensures held { held_of table.new ≡ None }
-    ensures addressed { count_of table.new * growth.block < 2 ^ 64 }
+    ensures addressed { count_of table.new * growth.block.length < 2 ^ 64 }
+    ensures room { KeepsRoom table.old table.new }
     ensures no_shorter { length (S.bytes storage.old) ≤ length (S.bytes storage.new) }
     ensures no_longer { (most wanted : ℕ)
-        → growth.new_size ≤ wanted * growth.block
-        → wanted * growth.block < growth.new_size + growth.block
+        → growth.new_size ≤ wanted * growth.block.length
+        → wanted * growth.block.length < growth.new_size + growth.block.length
         → count_of table.old ≤ most
         → (shows_below growth.mode ≡ true → named_count (entries_of table.old) + (wanted - length (entries_of table.old)) ≤ most)
         → length (S.bytes storage.new)
-        ≤ max (length (S.bytes storage.old)) (padded_to (S.features storage.old) 0 (most * growth.block)) }
+        ≤ max (length (S.bytes storage.old)) (padded_to (S.features storage.old) 0 (most * growth.block.length)) }
     ensures features { S.features storage.new ≡ S.features storage.old }
     ensures faults { CountsFaults
         ((S.features storage.old).is_reliable && (lent B.as_layer_below below.entry).is_reliable)
         (S.fault_count storage.old + faults.old) (S.fault_count storage.new + faults.new) result }
     ensures refusals { (most wanted : ℕ)
-        → growth.new_size ≤ wanted * growth.block
-        → wanted * growth.block < growth.new_size + growth.block
+        → growth.new_size ≤ wanted * growth.block.length
+        → wanted * growth.block.length < growth.new_size + growth.block.length
         → count_of table.old ≤ most
         → (shows_below growth.mode ≡ true → named_count (entries_of table.old) + (wanted - length (entries_of table.old)) ≤ most)
         → IfErr result
         (allowed
-        (fill_reasons (S.features storage.old) (lent B.as_layer_below below.entry) (most * growth.block)
-        (λ p. (shows_below growth.mode ≡ true) × (length (entries_of table.old) * growth.block ≤ p) × (p < growth.new_size)))) }
+        (fill_reasons (S.features storage.old) (lent B.as_layer_below below.entry) (most * growth.block.length)
+        (λ p. (shows_below growth.mode ≡ true) × (length (entries_of table.old) * growth.block.length ≤ p) × (p < growth.new_size)))) }
 {
     if !is_lower(growth.mode) {
         return add_blocks(table, growth, WithoutData::Zero);

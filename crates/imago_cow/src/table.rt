@@ -4,6 +4,7 @@ ghost use Rattle.imago_cow.specs.Free.{free_count, free_room};
 ghost use Rattle.imago_cow.specs.Table.{IsEachOnce, IsLowestUnused, named_count, held_count, names_any, without_data};
 
 use crate::free::FreeBlocks;
+use crate::room::make_room;
 use imago_storage::error::Error;
 use std::alloc::Global;
 
@@ -172,7 +173,8 @@ impl Table {
             return Err(Error::Memory);
         };
         self.free.reserve(count as usize)?;
-        self.last_owners.push(0)?;
+        make_room(&mut self.last_owners, 1)?;
+        self.last_owners.push_reserved(0);
         self.count = count;
         self.held = Some(block);
         Ok(block)
@@ -237,8 +239,7 @@ impl Table {
         ensures succeeds { length (entries_of self.old) + additional ≤ room_of self.old → IsOk result }
         ensures memory { IfErr result (λ e. e ≡ Error.Memory) }
     {
-        self.entries.reserve(additional)?;
-        Ok(())
+        make_room(&mut self.entries, additional)
     }
 
     /// Adds so many explicit zeroes, or absent guest blocks. [`Error::Memory`] is no room for their entries; it leaves all
@@ -255,6 +256,7 @@ impl Table {
         let Some(guest_blocks) = self.entries.len().checked_add(additional) else {
             return Err(Error::Memory);
         };
+        make_room(&mut self.entries, additional)?;
         self.entries.resize(guest_blocks, empty_block(kind))?;
         Ok(())
     }

@@ -15,7 +15,9 @@ use Rattle.imago_drivers.specs.Changes.{IsChanged, overwritten}
 use Rattle.imago_drivers.specs.Frame.{IsUnchanged, ReachesNoMore}
 use Rattle.imago_drivers.specs.Done.{lending_reasons}
 use Rattle.imago_drivers.specs.Prepared.{IsPrepared, IsDataMapping, is_foreign, is_for}
-use Rattle.imago_drivers.specs.Commit.{is_committed, commit_reasons}
+use Rattle.imago_drivers.specs.Outside.{SharesBlock, StayBut, StaysOutside}
+use Rattle.imago_drivers.specs.Commit.{is_committed, commit_moves, commit_reasons}
+use Rattle.imago_drivers.proofs.Stays.{stays_same, stays_weaker, stays_twice, shares_more}
 
 -- a part that is settled in two steps
 pub settled_twice : (old mid new : Causes) (c d f : Copies) (o n : ℕ) → IsSettled IsOnRange old mid c d o n → IsSettled IsOnRange mid new d f o n → IsSettled IsOnRange old new c f o n
@@ -56,6 +58,27 @@ module _ {St : Type 0} (old mid new : View St) (below : ℕ → Value) (o n : �
     whole = λ h. ec ∙ P.whole h;
     origins = rw (es, ef, ec) (origins m.state refl C);
   }
+
+  near_places : (pending : Option (Pending St)) (st : Option St) (p : ℕ) → mid.pending ≡ pending
+      → commit_moves pending st p → SharesBlock old.abilities.block o m.length p
+  near_places pending None p e c = absurd c
+  near_places None (Some s) p e c = absurd c
+  near_places (Some q) (Some s) p e c = P.near q e p (c.0) (c.1)
+
+  -- what shares no block with the range stays where it stands
+  pub ensured_outside : StayBut mid.abilities.keeps_data (commit_moves mid.pending m.state) mid.place
+      new.place → StaysOutside old.abilities.keeps_data old.abilities.block o n old.place new.place
+  ensured_outside C =
+      let keeps = old.abilities.keeps_data in
+      let block = old.abilities.block in
+      let moves = commit_moves mid.pending m.state in
+      let moved : StayBut keeps moves mid.place new.place = rw (← U.framed.kind.abilities) C in
+      let shares : (p : ℕ) → moves p → SharesBlock block o n p
+      = λ p c. shares_more block o n o m.length p (omega arith) (omega (arith, P.within))
+      (near_places mid.pending m.state p refl c) in
+      stays_twice keeps (SharesBlock block o n) old.place mid.place new.place
+      (stays_same keeps (SharesBlock block o n) old.place mid.place U.places)
+      (stays_weaker keeps moves (SharesBlock block o n) mid.place new.place shares moved)
 
   module _ (keeps : IsTrue old.abilities.keeps_data) where
     mid_keeps : IsTrue mid.abilities.keeps_data

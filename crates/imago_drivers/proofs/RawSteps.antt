@@ -18,7 +18,8 @@ use Rattle.imago_drivers.specs.Ranges.{HasBytes}
 use Rattle.imago_drivers.specs.RawLaws.{raw_in, raw_out, raw_stored}
 
 module _ (size : ℕ) (old new : List ℕ) where
-  same_place : (p : ℕ) → slice_index new p ≡ slice_index old p → raw_place size new p ≡ raw_place size old p
+  pub same_place : (p : ℕ) → slice_index new p ≡ slice_index old p
+      → raw_place size new p ≡ raw_place size old p
   same_place p e = ⊎_elim
       (λ below. raw_in size new p below ∙ ap (λ b. Stored b 0 p true) e ∙ sym (raw_in size old p below))
       (λ above. raw_out size new p above ∙ sym (raw_out size old p above))

@@ -5,6 +5,7 @@ use Rattle.imago_drivers.specs.declared.format.PreallocateMode.{PreallocateMode}
 use Rattle.imago_drivers.specs.declared.mapping.PreparedDataMapping.{PreparedDataMapping}
 use Rattle.imago_drivers.specs.Operation.{Operation, Write, Grow, Shrink, Flush}
 use Rattle.imago_drivers.specs.Place.{Value}
+use Rattle.imago_drivers.specs.Outside.{StaysOutside}
 use Rattle.imago_drivers.specs.Reasons.{allowed}
 use Rattle.imago_drivers.specs.LayerBelow.{LayerBelow}
 use Rattle.imago_drivers.specs.Causes.{IsSettled, IsOnRange, AddsNone}
@@ -25,6 +26,8 @@ pub record IsZeroCall {St : Type 0} (op : Operation) (o n : ℕ) (old new : View
   pub framed : IsFramed old new
   pub faults : CountsFaults old.abilities.is_reliable old.fault_count new.fault_count result
   pub refusals : IfErr result (allowed (range_reasons old op o n))
+  -- what shares no block with the range keeps where it stands, at every result
+  pub outside : StaysOutside old.abilities.keeps_data old.abilities.block o n old.place new.place
 
 -- Everything that is promised of a discard to any or to backing.
 pub record IsDiscard {St : Type 0} (how : (ℕ → Value) → ℕ → Change) (op : Operation) (o n : ℕ) (old new : View St) (result : Result (ℕ × ℕ) Error) : Type 0 where
@@ -35,6 +38,8 @@ pub record IsDiscard {St : Type 0} (how : (ℕ → Value) → ℕ → Change) (o
   pub framed : IsFramed old new
   pub faults : CountsFaults old.abilities.is_reliable old.fault_count new.fault_count result
   pub refusals : IfErr result (allowed (range_reasons old op o n))
+  -- what shares no block with the range keeps where it stands, at every result
+  pub outside : StaysOutside old.abilities.keeps_data old.abilities.block o n old.place new.place
 
 -- What is promised of the preparing of a mapping over that layer below, beside what the mapping is.
 pub record IsPreparation {St : Type 0} (below : LayerBelow) (o n : ℕ) (old new : View St) (result : Result (PreparedDataMapping St) Error) : Type 0 where

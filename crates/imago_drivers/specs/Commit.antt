@@ -1,8 +1,9 @@
-use Rattle.std.specs.Prelude.{◌≡◌, ◌↔◌, ◌≤◌, ℕ, ◌+◌, Bool, true, false, Option, Some, None, Result, IfErr, OnOk, OnErr, IsTrue, IsErrOf, is_some}
+use Rattle.std.specs.Prelude.{◌≡◌, ◌↔◌, ◌≤◌, ℕ, ◌+◌, ◌<◌, Bool, true, false, Option, Some, None, Result, IfErr, OnOk, OnErr, IsTrue, IsErrOf, is_some}
 use Rattle.imago_storage.specs.declared.error.Error.{Error}
 use Rattle.imago_storage.specs.Faults.{CountsFaults}
 use Rattle.imago_drivers.specs.Operation.{Operation}
 use Rattle.imago_drivers.specs.Place.{Value, Byte, values, PlacesAreWritableAt, SamePlaces}
+use Rattle.imago_drivers.specs.Outside.{StayBut}
 use Rattle.imago_drivers.specs.Reasons.{Reasons, allowed, none}
 use Rattle.imago_drivers.specs.Causes.{IsSettled, IsOnRange}
 use Rattle.imago_drivers.specs.Pending.{Pending, IsOwn, ShowsRound}
@@ -42,6 +43,13 @@ commit_longest l pending None index = 0
 commit_longest l None (Some s) index = 0
 commit_longest l (Some q) (Some s) index = l.longest Operation.Write q.start q.length index
 
+-- which places a commit may move: those in `from .. until` of what is pending, and without a state
+-- none
+abbrev pub commit_moves : {St : Type 0} → Option (Pending St) → Option St → ℕ → Type 0
+commit_moves pending None p = ⊥
+commit_moves None (Some s) p = ⊥
+commit_moves (Some q) (Some s) p = (q.from ≤ p) × (p < q.until)
+
 -- Everything that is promised of a commit.
 pub record IsCommit {Self St : Type 0} (view : Self → View St) (old new : Self) (m : PreparedDataMapping St) (result : Result Unit Error) : Type 0 where
   pub foreign : IsErrOf result Error.ForeignMapping ↔ IsForeign (view old) m
@@ -56,6 +64,9 @@ pub record IsCommit {Self St : Type 0} (view : Self → View St) (old new : Self
   pub framed : IsFramed (view old) (view new)
   pub faults : CountsFaults (view old).abilities.is_reliable (view old).fault_count (view new).fault_count result
   pub refusals : IfErr result (allowed (commit_reasons (view old) m))
+  -- what it may not move stays, at every result
+  pub outside : StayBut (view old).abilities.keeps_data (commit_moves (view old).pending m.state)
+      (view old).place (view new).place
 
 -- Everything that is promised of a cancel.
 pub record IsCancel {Self St : Type 0} (view : Self → View St) (old new : Self) (m : PreparedDataMapping St) : Type 0 where

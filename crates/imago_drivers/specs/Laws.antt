@@ -20,6 +20,7 @@ pub record IsLawful {St : Type 0} (v : View St) : Type 0 where
   -- a place is refused as invalid data or as barred from access
   pub refused : (p : ℕ) (e : Error) → v.place p ≡ Refused e → (e ≡ Error.InvalidData) ⊎ (e ≡ Error.NoAccess)
   pub granularity : v.abilities.zero_granularity ≢ Some 0
+  pub blocks : v.abilities.block ≢ 0
 
 abbrev pub IsRefusedIn : (ℕ → Place) → ℕ → ℕ → Error → Type 0
 IsRefusedIn place o n e = (p : ℕ) × IsIn o n p × (place p ≡ Refused e)

@@ -1,5 +1,6 @@
 pub mod Operation
 pub mod Place
+pub mod Outside
 pub mod Reasons
 pub mod LayerBelow
 pub mod Causes

@@ -1,6 +1,7 @@
 use Rattle.std.specs.Prelude.{◌≡◌, ℕ, ◌+◌, ◌<◌, ◌≤◌, ◌⊎◌, Bool, true, false, List, Option, Some, None, length, max, slice_index, is_some, IsTrue}
 use Rattle.imago_drivers.specs.Operation.{Operation}
 use Rattle.imago_drivers.specs.Place.{Value, Byte, Place, Stored, IsIn, PlacesStandAt, PlacesAreWritableAt, HasStranger, SamePlaces}
+use Rattle.imago_drivers.specs.Outside.{SharesBlock}
 use Rattle.imago_drivers.specs.Pending.{Pending, IsOwn, ShowsRound, StaysPending}
 use Rattle.imago_drivers.specs.View.{View}
 use Rattle.imago_drivers.specs.Changes.{Change, IsChanged, or_torn, into}
@@ -28,6 +29,9 @@ pub record IsPrepared {St : Type 0} (o most : ℕ) (overwrite : Bool) (disk : �
   -- what is pending is round its places
   pub around : (q : Pending St) → new.pending ≡ Some q → (q.from ≤ q.start) × (q.start + q.length ≤ q.until)
   pub round : IsTrue old.abilities.keeps_data → ShowsRound disk new.pending
+  -- what a commit may move shares a block with its places
+  pub near : (q : Pending St) → new.pending ≡ Some q → (p : ℕ) → q.from ≤ p → p < q.until
+      → SharesBlock old.abilities.block o m.length p
 
 -- what a mapping with or without state is refused as foreign for
 abbrev pub is_foreign : {St : Type 0} → Option (Pending St) → PreparedDataMapping St → Option St → Type 0

@@ -129,6 +129,7 @@ raw_view f fault_count bytes size writable = record {
     keeps_data = f.keeps_data;
     zero_granularity = None;
     offers = raw_offers f;
+    block = 1;
   };
   size = size;
   place = raw_place size bytes;

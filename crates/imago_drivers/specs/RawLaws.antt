@@ -56,6 +56,7 @@ raw_lawful f count bytes size w = record {
   own = λ p q b c s o v e g. let x = raw_stored size bytes p b s o true e in let y = raw_stored size bytes q c s o v g in (x.2) ∙ sym (y.2);
   refused = λ p r e. absurd (raw_refused size bytes p r e);
   granularity = λ e. let z : ⊥ = cc in z;
+  blocks = λ e. let z : ⊥ = cc in z;
 }
 
 -- a raw image's causes are a wrap-around and what isn't offered

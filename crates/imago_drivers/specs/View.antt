@@ -18,6 +18,9 @@ pub record Abilities : Type 0 where
   pub keeps_data : Bool
   pub zero_granularity : Option ℕ
   pub offers : Operation → Bool
+  -- in blocks of so many bytes, from offset 0 on, a change may move where bytes stand; with 1 it
+  -- moves none but those of its range
+  pub block : ℕ
 
 -- A driver's storages: how many there are, and of each, by its index, the bytes and what never changes in it.
 pub record Stores : Type 0 where

@@ -6,6 +6,7 @@ ghost use Rattle.imago_storage.specs.Faults.{CountsFaults};
 ghost use Rattle.imago_drivers.specs.Parts.{storage_of, offset_of, length_of};
 ghost use Rattle.imago_drivers.specs.Operation.{Map, Read, Write, Zero, DiscardToZero, DiscardToAny, DiscardToBacking};
 ghost use Rattle.imago_drivers.specs.Place.{Refused, values, PlacesStandAt, BytesAreWritable};
+ghost use Rattle.imago_drivers.specs.Outside.{StaysOutside};
 ghost use Rattle.imago_drivers.specs.Reasons.{Reasons, allowed, none};
 ghost use Rattle.imago_drivers.specs.LayerBelow.{lent};
 ghost use Rattle.imago_drivers.specs.Causes.{IsSettled, IsOnRange, AddsNone};
@@ -41,6 +42,9 @@ use std::fmt::Display;
 /// it. It answers [`Error::Memory`] where memory was refused, [`Error::BeyondDisk`] where the driver's list of places
 /// ends inside the range, and [`Error::WrapAround`], [`Error::InvalidData`], [`Error::NoAccess`] and
 /// [`Error::Unsupported`] only where it is a cause of the call.
+///
+/// What lies outside a call's range, and in no block with one of its bytes, keeps where it stands,
+/// and not its value alone, also where the call is refused. A driver says how large its blocks are.
 pub trait FormatDriverInstance: Display + Drop {
     /// What the driver's data stands in.
     type Storage: Storage;
@@ -342,6 +346,9 @@ pub trait FormatDriverInstance: Display + Drop {
         ensures causes { IfOk result
             (λ r. IsSettled IsOnRange (view self.old).limits.cause (view self.new).limits.cause
             (view self.old).limits.copies (view self.new).limits.copies offset r.2) }
+        ensures outside { StaysOutside (view self.old).abilities.keeps_data
+            (view self.old).abilities.block offset count (view self.old).place
+            (view self.new).place }
         ensures reaches { ReachesNoMore (view self.old) (view self.new) }
         ensures nothing_pending { (view self.new).pending ≡ None }
         ensures lengths { GrowTo ((view self.old).limits.longest Write offset count) (view self.old).stores (view self.new).stores }

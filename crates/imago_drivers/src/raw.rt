@@ -8,7 +8,8 @@ ghost use Rattle.imago_storage.specs.Error.{IsDeviceOrMemory, IsExtRefusal};
 ghost use Rattle.imago_storage.specs.Faults.{CountsFaults};
 ghost use Rattle.imago_storage.specs.Features.{InPlace, MayRunOut, IsAlignedTo};
 ghost use Rattle.imago_storage.specs.Zeroes.{MayWrap};
-ghost use Rattle.imago_drivers.specs.Raw.{raw_view, storage_mode_of};
+ghost use Rattle.imago_drivers.specs.Outside.{StaysOutside};
+ghost use Rattle.imago_drivers.specs.Raw.{raw_place, raw_view, storage_mode_of};
 ghost use Rattle.imago_drivers.specs.Ranges.{IsPartAlignedTo, HasWrappingPart, HasBytes};
 ghost use Rattle.imago_drivers.specs.Operation.{DiscardToBacking};
 ghost use Rattle.imago_drivers.specs.LayerBelow.{lent};
@@ -420,6 +421,9 @@ fn zero_part<S: Storage>(
     ensures torn { IsTrue (S.features storage.old).keeps_data
         → OnErr result
         (HasBytes true offset count (λ k. 0) (S.bytes storage.old) (S.bytes storage.new)) }
+    ensures outside { (size : ℕ)
+        → StaysOutside (S.features storage.old).keeps_data 1 offset count
+        (raw_place size (S.bytes storage.old)) (raw_place size (S.bytes storage.new)) }
     ensures no_shorter { length (S.bytes storage.old) ≤ length (S.bytes storage.new) }
     ensures near { length (S.bytes storage.new)
         ≤ max (length (S.bytes storage.old)) (padded_to (S.features storage.old) offset count) }
@@ -458,6 +462,9 @@ fn discard_part<S: Storage>(storage: &mut S, offset: u64, count: u64) -> Result<
     ensures discarded { IfOk result (λ r. SameOutside r.0 r.1 (S.bytes storage.old) (S.bytes storage.new)) }
     ensures same_length { length (S.bytes storage.new) ≡ length (S.bytes storage.old) }
     ensures refused { OnErr result (SameOutside offset count (S.bytes storage.old) (S.bytes storage.new)) }
+    ensures outside { (size : ℕ)
+        → StaysOutside (S.features storage.old).keeps_data 1 offset count
+        (raw_place size (S.bytes storage.old)) (raw_place size (S.bytes storage.new)) }
     ensures features { S.features storage.new ≡ S.features storage.old }
     ensures only { IfErr result IsDeviceOrMemory }
     ensures cause { CountsFaults (S.features storage.old).is_reliable (S.fault_count storage.old)

@@ -17,14 +17,14 @@ use Rattle.imago_cow.proofs.cut.fill_cut.Goals as goal
 pub overflow_mul-to : goal.overflow_mul-to
 overflow_mul-to g c =
     let t = c.args.table.now in
-    let known = named_below t _ c.in-Data.number (c.get.ensures ∙ ap (λ x. Some x) c.in-Data.is) in
-    omega (arith, number_ends c.args.growth.block c.in-Data.number (count_of t) known, c.requires.addressed)
+    let known = named_below t _ c.in-Data.number (c.entry_at.ensures ∙ ap (λ x. Some x) c.in-Data.is) in
+    omega (arith, number_ends c.args.growth.block.length c.in-Data.number (count_of t) known, c.requires.addressed)
 
 pub overflow_add-to : goal.overflow_add-to
 overflow_add-to g c =
     let t = c.args.table.now in
-    let known = named_below t _ c.in-Data.number (c.get.ensures ∙ ap (λ x. Some x) c.in-Data.is) in
-    omega (arith, number_ends c.args.growth.block c.in-Data.number (count_of t) known, rest_small c.args.growth.block c.requires.positive c.args.growth.size, c.requires.addressed)
+    let known = named_below t _ c.in-Data.number (c.entry_at.ensures ∙ ap (λ x. Some x) c.in-Data.is) in
+    omega (arith, number_ends c.args.growth.block.length c.in-Data.number (count_of t) known, rest_small c.args.growth.block.length c.requires.positive c.args.growth.size, c.requires.addressed)
 
 pub returns-in-Absent-clause-filled : goal.returns-in-Absent-clause-filled
 returns-in-Absent-clause-filled g c =
@@ -34,11 +34,11 @@ returns-in-Absent-clause-filled g c =
     let A = g.S.Storage.bytes c.args.storage.now in
     let L = lent g.B.LowerLayer.as_layer_below c.args.below in
     let low : c.is_lower-lower.result ≡ shows_below c.args.growth.mode = c.is_lower-lower.ensures in
-    let cutting : 0 < c.args.growth.size % c.args.growth.block = omega (arith, c.if-rest-eq0.false) in
+    let cutting : 0 < c.args.growth.size % c.args.growth.block.length = omega (arith, (rw c.rest-rest.ensures.value at c.if-rest-eq0.false)) in
     let some : c.args.growth.mode ≡ PreallocateMode.None → ⊥ = c.adds_nothing.ensures.some c.if-adds_nothing.false in
     let r = c.fill_taken.ensures in
-    on_ok c.fill_taken.result (λ x e. taken_filled L.at c.args.growth.mode f.keeps_data c.args.growth.block c.args.growth.size c.args.growth.new_size c.requires.positive E (entries_of c.fill_taken.new.table) A (g.S.Storage.bytes c.fill_taken.new.storage) c.min-count.result true c.is_lower-lower.result cutting r.len
-    (λ x. c.get.ensures ∙ ap (λ y. Some y) c.in-Absent.is) (λ x. let z : ⊥ = cc in absurd z) c.min-count.ensures low some (λ k. ok_holds x e (r.entered k)))
+    on_ok c.fill_taken.result (λ x e. taken_filled L.at c.args.growth.mode f.keeps_data c.args.growth.block.length c.args.growth.size c.args.growth.new_size c.requires.positive E (entries_of c.fill_taken.new.table) A (g.S.Storage.bytes c.fill_taken.new.storage) c.min-count.result true c.is_lower-lower.result cutting r.len
+    (λ x. c.entry_at.ensures ∙ ap (λ y. Some y) c.in-Absent.is) (λ x. let z : ⊥ = cc in absurd z) (rw c.rest-rest.ensures.value at c.min-count.ensures) low some (λ k. ok_holds x e (r.entered k)))
 
 pub returns-in-Absent-clause-refusals : goal.returns-in-Absent-clause-refusals
 returns-in-Absent-clause-refusals g c = λ most m1 m2.
@@ -48,21 +48,21 @@ returns-in-Absent-clause-refusals g c = λ most m1 m2.
     let A = g.S.Storage.bytes c.args.storage.now in
     let L = lent g.B.LowerLayer.as_layer_below c.args.below in
     let low : c.is_lower-lower.result ≡ shows_below c.args.growth.mode = c.is_lower-lower.ensures in
-    let cutting : 0 < c.args.growth.size % c.args.growth.block = omega (arith, c.if-rest-eq0.false) in
+    let cutting : 0 < c.args.growth.size % c.args.growth.block.length = omega (arith, (rw c.rest-rest.ensures.value at c.if-rest-eq0.false)) in
     let some : c.args.growth.mode ≡ PreallocateMode.None → ⊥ = c.adds_nothing.ensures.some c.if-adds_nothing.false in
     let limit = max (count_of t) (named_count E + 1) in
-    let less : limit ≤ most = omega (arith, m1, m2 cutting (ap is_data (c.get.ensures ∙ ap (λ y. Some y) c.in-Absent.is))) in
-    rw (← low) (if_limit_refused f L (limit * c.args.growth.block) (most * c.args.growth.block) (IsCutRead c.args.growth.block c.args.growth.size E c.is_lower-lower.result c.args.growth.new_size) (IsCutRead c.args.growth.block c.args.growth.size E c.is_lower-lower.result c.args.growth.new_size) c.fill_taken.result (times_more c.args.growth.block limit most less) (λ p x. x)
-    (c.fill_taken.ensures.refusals c.args.growth.new_size (omega (arith, c.min-count.ensures, c.requires.grows))))
+    let less : limit ≤ most = omega (arith, m1, m2 cutting (ap is_data (c.entry_at.ensures ∙ ap (λ y. Some y) c.in-Absent.is))) in
+    rw (← low) (if_limit_refused f L (limit * c.args.growth.block.length) (most * c.args.growth.block.length) (IsCutRead c.args.growth.block.length c.args.growth.size E c.is_lower-lower.result c.args.growth.new_size) (IsCutRead c.args.growth.block.length c.args.growth.size E c.is_lower-lower.result c.args.growth.new_size) c.fill_taken.result (times_more c.args.growth.block.length limit most less) (λ p x. x)
+    (c.fill_taken.ensures.refusals c.args.growth.new_size (omega (arith, (rw c.rest-rest.ensures.value at c.min-count.ensures), c.requires.grows))))
 
 pub returns-in-Absent-clause-no_longer : goal.returns-in-Absent-clause-no_longer
 returns-in-Absent-clause-no_longer g c = λ most m1 m2.
     let t = c.args.table.now in
     let E = entries_of t in
     let limit = max (count_of t) (named_count E + 1) in
-    let cutting : 0 < c.args.growth.size % c.args.growth.block = omega (arith, c.if-rest-eq0.false) in
-    let less : limit ≤ most = omega (arith, m1, m2 cutting (ap is_data (c.get.ensures ∙ ap (λ y. Some y) c.in-Absent.is))) in
-    limit_padded (g.S.Storage.features c.args.storage.now) c.args.growth.block limit most _ _ c.requires.positive (omega arith) less c.fill_taken.ensures.no_longer
+    let cutting : 0 < c.args.growth.size % c.args.growth.block.length = omega (arith, (rw c.rest-rest.ensures.value at c.if-rest-eq0.false)) in
+    let less : limit ≤ most = omega (arith, m1, m2 cutting (ap is_data (c.entry_at.ensures ∙ ap (λ y. Some y) c.in-Absent.is))) in
+    limit_padded (g.S.Storage.features c.args.storage.now) c.args.growth.block.length limit most _ _ c.requires.positive (omega arith) less c.fill_taken.ensures.no_longer
 
 pub returns-else-not-lower-clause-filled : goal.returns-else-not-lower-clause-filled
 returns-else-not-lower-clause-filled g c =
@@ -72,11 +72,11 @@ returns-else-not-lower-clause-filled g c =
     let A = g.S.Storage.bytes c.args.storage.now in
     let L = lent g.B.LowerLayer.as_layer_below c.args.below in
     let low : c.is_lower-lower.result ≡ shows_below c.args.growth.mode = c.is_lower-lower.ensures in
-    let cutting : 0 < c.args.growth.size % c.args.growth.block = omega (arith, c.if-rest-eq0.false) in
+    let cutting : 0 < c.args.growth.size % c.args.growth.block.length = omega (arith, (rw c.rest-rest.ensures.value at c.if-rest-eq0.false)) in
     let some : c.args.growth.mode ≡ PreallocateMode.None → ⊥ = c.adds_nothing.ensures.some c.if-adds_nothing.false in
     let r = c.fill_taken-in-Zero.ensures in
-    on_ok c.fill_taken-in-Zero.result (λ x e. taken_filled L.at c.args.growth.mode f.keeps_data c.args.growth.block c.args.growth.size c.args.growth.new_size c.requires.positive E (entries_of c.fill_taken-in-Zero.new.table) A (g.S.Storage.bytes c.fill_taken-in-Zero.new.storage) c.min-count.result false c.is_lower-lower.result cutting r.len
-    (λ x. let z : ⊥ = cc in absurd z) (λ x. c.get.ensures ∙ ap (λ y. Some y) c.in-Zero.is) c.min-count.ensures low some (λ k. ok_holds x e (r.entered k)))
+    on_ok c.fill_taken-in-Zero.result (λ x e. taken_filled L.at c.args.growth.mode f.keeps_data c.args.growth.block.length c.args.growth.size c.args.growth.new_size c.requires.positive E (entries_of c.fill_taken-in-Zero.new.table) A (g.S.Storage.bytes c.fill_taken-in-Zero.new.storage) c.min-count.result false c.is_lower-lower.result cutting r.len
+    (λ x. let z : ⊥ = cc in absurd z) (λ x. c.entry_at.ensures ∙ ap (λ y. Some y) c.in-Zero.is) (rw c.rest-rest.ensures.value at c.min-count.ensures) low some (λ k. ok_holds x e (r.entered k)))
 
 pub returns-else-not-lower-clause-refusals : goal.returns-else-not-lower-clause-refusals
 returns-else-not-lower-clause-refusals g c = λ most m1 m2.
@@ -86,21 +86,21 @@ returns-else-not-lower-clause-refusals g c = λ most m1 m2.
     let A = g.S.Storage.bytes c.args.storage.now in
     let L = lent g.B.LowerLayer.as_layer_below c.args.below in
     let low : c.is_lower-lower.result ≡ shows_below c.args.growth.mode = c.is_lower-lower.ensures in
-    let cutting : 0 < c.args.growth.size % c.args.growth.block = omega (arith, c.if-rest-eq0.false) in
+    let cutting : 0 < c.args.growth.size % c.args.growth.block.length = omega (arith, (rw c.rest-rest.ensures.value at c.if-rest-eq0.false)) in
     let some : c.args.growth.mode ≡ PreallocateMode.None → ⊥ = c.adds_nothing.ensures.some c.if-adds_nothing.false in
     let limit = max (count_of t) (named_count E + 1) in
-    let less : limit ≤ most = omega (arith, m1, m2 cutting (ap is_data (c.get.ensures ∙ ap (λ y. Some y) c.in-Zero.is))) in
-    rw (← low) (if_limit_refused f L (limit * c.args.growth.block) (most * c.args.growth.block) (IsCutRead c.args.growth.block c.args.growth.size E c.is_lower-lower.result c.args.growth.new_size) (IsCutRead c.args.growth.block c.args.growth.size E c.is_lower-lower.result c.args.growth.new_size) c.fill_taken-in-Zero.result (times_more c.args.growth.block limit most less) (λ p x. x)
-    (c.fill_taken-in-Zero.ensures.refusals c.args.growth.new_size (omega (arith, c.min-count.ensures, c.requires.grows))))
+    let less : limit ≤ most = omega (arith, m1, m2 cutting (ap is_data (c.entry_at.ensures ∙ ap (λ y. Some y) c.in-Zero.is))) in
+    rw (← low) (if_limit_refused f L (limit * c.args.growth.block.length) (most * c.args.growth.block.length) (IsCutRead c.args.growth.block.length c.args.growth.size E c.is_lower-lower.result c.args.growth.new_size) (IsCutRead c.args.growth.block.length c.args.growth.size E c.is_lower-lower.result c.args.growth.new_size) c.fill_taken-in-Zero.result (times_more c.args.growth.block.length limit most less) (λ p x. x)
+    (c.fill_taken-in-Zero.ensures.refusals c.args.growth.new_size (omega (arith, (rw c.rest-rest.ensures.value at c.min-count.ensures), c.requires.grows))))
 
 pub returns-else-not-lower-clause-no_longer : goal.returns-else-not-lower-clause-no_longer
 returns-else-not-lower-clause-no_longer g c = λ most m1 m2.
     let t = c.args.table.now in
     let E = entries_of t in
     let limit = max (count_of t) (named_count E + 1) in
-    let cutting : 0 < c.args.growth.size % c.args.growth.block = omega (arith, c.if-rest-eq0.false) in
-    let less : limit ≤ most = omega (arith, m1, m2 cutting (ap is_data (c.get.ensures ∙ ap (λ y. Some y) c.in-Zero.is))) in
-    limit_padded (g.S.Storage.features c.args.storage.now) c.args.growth.block limit most _ _ c.requires.positive (omega arith) less c.fill_taken-in-Zero.ensures.no_longer
+    let cutting : 0 < c.args.growth.size % c.args.growth.block.length = omega (arith, (rw c.rest-rest.ensures.value at c.if-rest-eq0.false)) in
+    let less : limit ≤ most = omega (arith, m1, m2 cutting (ap is_data (c.entry_at.ensures ∙ ap (λ y. Some y) c.in-Zero.is))) in
+    limit_padded (g.S.Storage.features c.args.storage.now) c.args.growth.block.length limit most _ _ c.requires.positive (omega arith) less c.fill_taken-in-Zero.ensures.no_longer
 
 pub returns-in-Data-clause-filled : goal.returns-in-Data-clause-filled
 returns-in-Data-clause-filled g c =
@@ -110,16 +110,16 @@ returns-in-Data-clause-filled g c =
     let A = g.S.Storage.bytes c.args.storage.now in
     let L = lent g.B.LowerLayer.as_layer_below c.args.below in
     let low : c.is_lower-lower.result ≡ shows_below c.args.growth.mode = c.is_lower-lower.ensures in
-    let cutting : 0 < c.args.growth.size % c.args.growth.block = omega (arith, c.if-rest-eq0.false) in
+    let cutting : 0 < c.args.growth.size % c.args.growth.block.length = omega (arith, (rw c.rest-rest.ensures.value at c.if-rest-eq0.false)) in
     let some : c.args.growth.mode ≡ PreallocateMode.None → ⊥ = c.adds_nothing.ensures.some c.if-adds_nothing.false in
     let j = c.in-Data.number in
-    let named = c.get.ensures ∙ ap (λ x. Some x) c.in-Data.is in
+    let named = c.entry_at.ensures ∙ ap (λ x. Some x) c.in-Data.is in
     let known = named_below t _ j named in
-    let rest = rest_small c.args.growth.block c.requires.positive c.args.growth.size in
-    let fits : c.args.growth.size % c.args.growth.block + c.min-count.result ≤ c.args.growth.block = omega (arith, c.min-count.ensures, rest) in
+    let rest = rest_small c.args.growth.block.length c.requires.positive c.args.growth.size in
+    let fits : c.args.growth.size % c.args.growth.block.length + c.min-count.result ≤ c.args.growth.block.length = omega (arith, (rw c.rest-rest.ensures.value at c.min-count.ensures), rest) in
     let B = g.S.Storage.bytes c.copy_old.new.storage in
-    on_ok c.copy_old.result (λ x e. data_filled L.at c.args.growth.mode f.keeps_data c.args.growth.block c.args.growth.size c.args.growth.new_size c.requires.positive E A B j c.min-count.result c.is_lower-lower.result cutting (λ i k n a b. named_once t i k n a b) named c.min-count.ensures low some
-    (λ k. ok_holds x e (c.copy_old.ensures.copied k)) c.copy_old.ensures.outside)
+    on_ok c.copy_old.result (λ x e. data_filled L.at c.args.growth.mode f.keeps_data c.args.growth.block.length c.args.growth.size c.args.growth.new_size c.requires.positive E A B j c.min-count.result c.is_lower-lower.result cutting (λ i k n a b. named_once t i k n a b) named (rw c.rest-rest.ensures.value at c.min-count.ensures) low some
+    (λ k. ok_holds x e (rw c.rest-rest.ensures.value at (c.copy_old.ensures.copied k))) (rw c.rest-rest.ensures.value at c.copy_old.ensures.outside))
 
 pub returns-in-Data-clause-places : goal.returns-in-Data-clause-places
 returns-in-Data-clause-places g c =
@@ -129,15 +129,15 @@ returns-in-Data-clause-places g c =
     let A = g.S.Storage.bytes c.args.storage.now in
     let L = lent g.B.LowerLayer.as_layer_below c.args.below in
     let low : c.is_lower-lower.result ≡ shows_below c.args.growth.mode = c.is_lower-lower.ensures in
-    let cutting : 0 < c.args.growth.size % c.args.growth.block = omega (arith, c.if-rest-eq0.false) in
+    let cutting : 0 < c.args.growth.size % c.args.growth.block.length = omega (arith, (rw c.rest-rest.ensures.value at c.if-rest-eq0.false)) in
     let some : c.args.growth.mode ≡ PreallocateMode.None → ⊥ = c.adds_nothing.ensures.some c.if-adds_nothing.false in
     let j = c.in-Data.number in
-    let named = c.get.ensures ∙ ap (λ x. Some x) c.in-Data.is in
+    let named = c.entry_at.ensures ∙ ap (λ x. Some x) c.in-Data.is in
     let known = named_below t _ j named in
-    let rest = rest_small c.args.growth.block c.requires.positive c.args.growth.size in
-    let fits : c.args.growth.size % c.args.growth.block + c.min-count.result ≤ c.args.growth.block = omega (arith, c.min-count.ensures, rest) in
+    let rest = rest_small c.args.growth.block.length c.requires.positive c.args.growth.size in
+    let fits : c.args.growth.size % c.args.growth.block.length + c.min-count.result ≤ c.args.growth.block.length = omega (arith, (rw c.rest-rest.ensures.value at c.min-count.ensures), rest) in
     let B = g.S.Storage.bytes c.copy_old.new.storage in
-    λ k p h. data_torn c.args.growth.block c.args.growth.size c.min-count.result j E A B c.requires.positive (λ i n q a b. named_once t i n q a b) named fits (c.copy_old.ensures.outside k) p h
+    λ k p h. data_torn c.args.growth.block.length c.args.growth.size c.min-count.result j E A B c.requires.positive (λ i n q a b. named_once t i n q a b) named fits (rw c.rest-rest.ensures.value at (c.copy_old.ensures.outside k)) p h
 
 pub returns-in-Data-clause-no_longer : goal.returns-in-Data-clause-no_longer
 returns-in-Data-clause-no_longer g c = λ most m1 m2.
@@ -147,16 +147,16 @@ returns-in-Data-clause-no_longer g c = λ most m1 m2.
     let A = g.S.Storage.bytes c.args.storage.now in
     let L = lent g.B.LowerLayer.as_layer_below c.args.below in
     let low : c.is_lower-lower.result ≡ shows_below c.args.growth.mode = c.is_lower-lower.ensures in
-    let cutting : 0 < c.args.growth.size % c.args.growth.block = omega (arith, c.if-rest-eq0.false) in
+    let cutting : 0 < c.args.growth.size % c.args.growth.block.length = omega (arith, (rw c.rest-rest.ensures.value at c.if-rest-eq0.false)) in
     let some : c.args.growth.mode ≡ PreallocateMode.None → ⊥ = c.adds_nothing.ensures.some c.if-adds_nothing.false in
     let j = c.in-Data.number in
-    let named = c.get.ensures ∙ ap (λ x. Some x) c.in-Data.is in
+    let named = c.entry_at.ensures ∙ ap (λ x. Some x) c.in-Data.is in
     let known = named_below t _ j named in
-    let rest = rest_small c.args.growth.block c.requires.positive c.args.growth.size in
-    let fits : c.args.growth.size % c.args.growth.block + c.min-count.result ≤ c.args.growth.block = omega (arith, c.min-count.ensures, rest) in
+    let rest = rest_small c.args.growth.block.length c.requires.positive c.args.growth.size in
+    let fits : c.args.growth.size % c.args.growth.block.length + c.min-count.result ≤ c.args.growth.block.length = omega (arith, (rw c.rest-rest.ensures.value at c.min-count.ensures), rest) in
     let B = g.S.Storage.bytes c.copy_old.new.storage in
     let less : j < most = omega (arith, known, m1) in
-    part_padded f c.args.growth.block j most (c.args.growth.size % c.args.growth.block) c.min-count.result _ _ c.requires.positive less fits c.copy_old.ensures.no_longer
+    part_padded f c.args.growth.block.length j most (c.args.growth.size % c.args.growth.block.length) c.min-count.result _ _ c.requires.positive less fits (rw c.rest-rest.ensures.value at c.copy_old.ensures.no_longer)
 
 pub returns-in-Data-clause-refusals : goal.returns-in-Data-clause-refusals
 returns-in-Data-clause-refusals g c = λ most m1 m2.
@@ -166,45 +166,45 @@ returns-in-Data-clause-refusals g c = λ most m1 m2.
     let A = g.S.Storage.bytes c.args.storage.now in
     let L = lent g.B.LowerLayer.as_layer_below c.args.below in
     let low : c.is_lower-lower.result ≡ shows_below c.args.growth.mode = c.is_lower-lower.ensures in
-    let cutting : 0 < c.args.growth.size % c.args.growth.block = omega (arith, c.if-rest-eq0.false) in
+    let cutting : 0 < c.args.growth.size % c.args.growth.block.length = omega (arith, (rw c.rest-rest.ensures.value at c.if-rest-eq0.false)) in
     let some : c.args.growth.mode ≡ PreallocateMode.None → ⊥ = c.adds_nothing.ensures.some c.if-adds_nothing.false in
     let j = c.in-Data.number in
-    let named = c.get.ensures ∙ ap (λ x. Some x) c.in-Data.is in
+    let named = c.entry_at.ensures ∙ ap (λ x. Some x) c.in-Data.is in
     let known = named_below t _ j named in
-    let rest = rest_small c.args.growth.block c.requires.positive c.args.growth.size in
-    let fits : c.args.growth.size % c.args.growth.block + c.min-count.result ≤ c.args.growth.block = omega (arith, c.min-count.ensures, rest) in
+    let rest = rest_small c.args.growth.block.length c.requires.positive c.args.growth.size in
+    let fits : c.args.growth.size % c.args.growth.block.length + c.min-count.result ≤ c.args.growth.block.length = omega (arith, (rw c.rest-rest.ensures.value at c.min-count.ensures), rest) in
     let B = g.S.Storage.bytes c.copy_old.new.storage in
     let less : j < most = omega (arith, known, m1) in
-    rw (← low) (if_refused f L c.is_lower-lower.result c.args.growth.size c.min-count.result (j * c.args.growth.block + c.args.growth.size % c.args.growth.block) (most * c.args.growth.block) (IsCutRead c.args.growth.block c.args.growth.size E c.is_lower-lower.result c.args.growth.new_size) c.copy_old.result
-    (omega (arith, number_ends c.args.growth.block j most less, fits)) (reads_behind c.args.growth.block c.args.growth.size c.min-count.result c.args.growth.new_size E c.is_lower-lower.result (omega (arith, c.min-count.ensures, c.requires.grows))) c.copy_old.ensures.refusals)
+    rw (← low) (if_refused f L c.is_lower-lower.result c.args.growth.size c.min-count.result (j * c.args.growth.block.length + c.args.growth.size % c.args.growth.block.length) (most * c.args.growth.block.length) (IsCutRead c.args.growth.block.length c.args.growth.size E c.is_lower-lower.result c.args.growth.new_size) c.copy_old.result
+    (omega (arith, number_ends c.args.growth.block.length j most less, fits)) (reads_behind c.args.growth.block.length c.args.growth.size c.min-count.result c.args.growth.new_size E c.is_lower-lower.result (omega (arith, (rw c.rest-rest.ensures.value at c.min-count.ensures), c.requires.grows))) (rw c.rest-rest.ensures.value at c.copy_old.ensures.refusals))
 
 pub returns-in-Absent-clause-entry : goal.returns-in-Absent-clause-entry
 returns-in-Absent-clause-entry g c =
     on_ok c.fill_taken.result (λ x e.
     let q = ok_holds x e c.fill_taken.ensures.entry in
-    inr (record { cuts = omega (arith, c.if-rest-eq0.false); empty = ap is_data (c.get.ensures ∙ ap (λ y. Some y) c.in-Absent.is); number = q.0; entries = q.1 }))
+    inr (record { cuts = omega (arith, (rw c.rest-rest.ensures.value at c.if-rest-eq0.false)); empty = ap is_data (c.entry_at.ensures ∙ ap (λ y. Some y) c.in-Absent.is); number = q.0; entries = q.1 }))
 
 pub returns-in-Absent-clause-counted : goal.returns-in-Absent-clause-counted
 returns-in-Absent-clause-counted g c = λ most m1 m2.
-    let cutting : 0 < c.args.growth.size % c.args.growth.block = omega (arith, c.if-rest-eq0.false) in
-    omega (arith, m1, m2 cutting (ap is_data (c.get.ensures ∙ ap (λ y. Some y) c.in-Absent.is)), c.fill_taken.ensures.added)
+    let cutting : 0 < c.args.growth.size % c.args.growth.block.length = omega (arith, (rw c.rest-rest.ensures.value at c.if-rest-eq0.false)) in
+    omega (arith, m1, m2 cutting (ap is_data (c.entry_at.ensures ∙ ap (λ y. Some y) c.in-Absent.is)), c.fill_taken.ensures.added)
 
 pub returns-else-not-lower-clause-entry : goal.returns-else-not-lower-clause-entry
 returns-else-not-lower-clause-entry g c =
     on_ok c.fill_taken-in-Zero.result (λ x e.
     let q = ok_holds x e c.fill_taken-in-Zero.ensures.entry in
-    inr (record { cuts = omega (arith, c.if-rest-eq0.false); empty = ap is_data (c.get.ensures ∙ ap (λ y. Some y) c.in-Zero.is); number = q.0; entries = q.1 }))
+    inr (record { cuts = omega (arith, (rw c.rest-rest.ensures.value at c.if-rest-eq0.false)); empty = ap is_data (c.entry_at.ensures ∙ ap (λ y. Some y) c.in-Zero.is); number = q.0; entries = q.1 }))
 
 pub returns-else-not-lower-clause-counted : goal.returns-else-not-lower-clause-counted
 returns-else-not-lower-clause-counted g c = λ most m1 m2.
-    let cutting : 0 < c.args.growth.size % c.args.growth.block = omega (arith, c.if-rest-eq0.false) in
-    omega (arith, m1, m2 cutting (ap is_data (c.get.ensures ∙ ap (λ y. Some y) c.in-Zero.is)), c.fill_taken-in-Zero.ensures.added)
+    let cutting : 0 < c.args.growth.size % c.args.growth.block.length = omega (arith, (rw c.rest-rest.ensures.value at c.if-rest-eq0.false)) in
+    omega (arith, m1, m2 cutting (ap is_data (c.entry_at.ensures ∙ ap (λ y. Some y) c.in-Zero.is)), c.fill_taken-in-Zero.ensures.added)
 
 pub returns-in-Data-clause-entry : goal.returns-in-Data-clause-entry
 returns-in-Data-clause-entry g c = on_ok c.copy_old.result (λ x e. inl refl)
 
 pub returns-then-rest-eq0-clause-grown : goal.returns-then-rest-eq0-clause-grown
-returns-then-rest-eq0-clause-grown g c = cut_whole _ _ _ _ c.if-rest-eq0.true
+returns-then-rest-eq0-clause-grown g c = cut_whole _ _ _ _ (rw c.rest-rest.ensures.value at c.if-rest-eq0.true)
 
 pub returns-then-adds_nothing-clause-grown : goal.returns-then-adds_nothing-clause-grown
 returns-then-adds_nothing-clause-grown g c = cut_none _ _ _ _ (c.adds_nothing.ensures.none c.if-adds_nothing.true)
@@ -212,25 +212,25 @@ returns-then-adds_nothing-clause-grown g c = cut_none _ _ _ _ (c.adds_nothing.en
 pub returns-in-Absent-clause-grown : goal.returns-in-Absent-clause-grown
 returns-in-Absent-clause-grown g c =
     let growth = c.args.growth in
-    let cutting : 0 < growth.size % growth.block = omega (arith, c.if-rest-eq0.false) in
+    let cutting : 0 < growth.size % growth.block.length = omega (arith, (rw c.rest-rest.ensures.value at c.if-rest-eq0.false)) in
     on_ok c.fill_taken.result (λ x e.
     let put = ok_holds x e c.fill_taken.ensures.entry in
-    absent_put growth.mode growth.block growth.size (entries_of c.args.table.now) (entries_of c.fill_taken.new.table) (put.0) (c.requires.within cutting) (put.1) (c.get.ensures ∙ ap (λ y. Some y) c.in-Absent.is) (c.adds_nothing.ensures.some c.if-adds_nothing.false))
+    absent_put growth.mode growth.block.length growth.size (entries_of c.args.table.now) (entries_of c.fill_taken.new.table) (put.0) (c.requires.within cutting) (put.1) (c.entry_at.ensures ∙ ap (λ y. Some y) c.in-Absent.is) (c.adds_nothing.ensures.some c.if-adds_nothing.false))
 
 pub returns-then-not-lower-clause-grown : goal.returns-then-not-lower-clause-grown
 returns-then-not-lower-clause-grown g c =
     let growth = c.args.growth in
-    cut_zero growth.mode growth.block growth.size (entries_of c.args.table.now) (c.get.ensures ∙ ap (λ y. Some y) c.in-Zero.is) (sym c.is_lower-lower.ensures ∙ c.if-not-lower.true)
+    cut_zero growth.mode growth.block.length growth.size (entries_of c.args.table.now) (c.entry_at.ensures ∙ ap (λ y. Some y) c.in-Zero.is) (sym c.is_lower-lower.ensures ∙ c.if-not-lower.true)
 
 pub returns-else-not-lower-clause-grown : goal.returns-else-not-lower-clause-grown
 returns-else-not-lower-clause-grown g c =
     let growth = c.args.growth in
-    let cutting : 0 < growth.size % growth.block = omega (arith, c.if-rest-eq0.false) in
+    let cutting : 0 < growth.size % growth.block.length = omega (arith, (rw c.rest-rest.ensures.value at c.if-rest-eq0.false)) in
     on_ok c.fill_taken-in-Zero.result (λ x e.
     let put = ok_holds x e c.fill_taken-in-Zero.ensures.entry in
-    zero_put growth.mode growth.block growth.size (entries_of c.args.table.now) (entries_of c.fill_taken-in-Zero.new.table) (put.0) (c.requires.within cutting) (put.1) (c.get.ensures ∙ ap (λ y. Some y) c.in-Zero.is) (sym c.is_lower-lower.ensures ∙ c.if-not-lower.false))
+    zero_put growth.mode growth.block.length growth.size (entries_of c.args.table.now) (entries_of c.fill_taken-in-Zero.new.table) (put.0) (c.requires.within cutting) (put.1) (c.entry_at.ensures ∙ ap (λ y. Some y) c.in-Zero.is) (sym c.is_lower-lower.ensures ∙ c.if-not-lower.false))
 
 pub returns-in-Data-clause-grown : goal.returns-in-Data-clause-grown
 returns-in-Data-clause-grown g c =
     let growth = c.args.growth in
-    on_ok c.copy_old.result (λ x e. cut_data growth.mode growth.block growth.size (entries_of c.args.table.now) c.in-Data.number (c.get.ensures ∙ ap (λ y. Some y) c.in-Data.is))
+    on_ok c.copy_old.result (λ x e. cut_data growth.mode growth.block.length growth.size (entries_of c.args.table.now) c.in-Data.number (c.entry_at.ensures ∙ ap (λ y. Some y) c.in-Data.is))

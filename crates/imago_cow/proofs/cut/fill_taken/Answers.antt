@@ -20,7 +20,7 @@ returns-in_err-number-clause-refusals g c = λ new_size h.
     let f = g.S.Storage.features c.args.storage.now in
     let A = g.S.Storage.bytes c.args.storage.now in
     let p = err_from_is_err_and c.from_residual.result c.from_residual.ensures.1 in
-    rw (p.1, p.2) (take_refused f (lent g.B.LowerLayer.as_layer_below c.args.below) cut.block (count_of c.args.table.now) (named_count E) (IsCutRead cut.block cut.size E cut.lower new_size) c.in_err-number.field-0.0
+    rw (p.1, p.2) (take_refused f (lent g.B.LowerLayer.as_layer_below c.args.below) cut.block.length (count_of c.args.table.now) (named_count E) (IsCutRead cut.block.length cut.size E cut.lower new_size) c.in_err-number.field-0.0
     (g.met.S.Storage.lawful c.args.storage.now) c.in_err-number.ensures.only (λ w. c.take_block.ensures.wraps (c.in_err-number.was ∙ ap (λ x. Err x) w)))
 
 pub returns-in-Ok-clause-entered : goal.returns-in-Ok-clause-entered
@@ -33,10 +33,10 @@ returns-in-Ok-clause-entered g c = λ keeps.
     let B = g.S.Storage.bytes c.fill_both.new.storage in
     let held = c.in_ok-number.ensures.held in
     let known : number < max (count_of c.args.table.now) (named_count E + 1) = omega (arith, held_below c.take_block.new.table number held, c.take_block.ensures.added) in
-    let e = c.enter.ensures.entries number held in
+    let e = rw c.number.ensures at (c.enter.ensures.entries number held) in
     record {
       number = number;
-      entered = rw (e, c.take_block.ensures.entries) (set_entered (cut.size / cut.block) number E c.requires.within);
+      entered = rw (e, c.take_block.ensures.entries) (set_entered (cut.size / cut.block.length) number E c.requires.within);
       unnamed = λ i h. held_apart c.take_block.new.table i number held (rw c.take_block.ensures.entries h);
       before = c.in-Ok.ensures.before keeps;
       behind = c.in-Ok.ensures.behind keeps;
@@ -53,8 +53,8 @@ returns-in-Ok-clause-len g c =
     let B = g.S.Storage.bytes c.fill_both.new.storage in
     let held = c.in_ok-number.ensures.held in
     let known : number < max (count_of c.args.table.now) (named_count E + 1) = omega (arith, held_below c.take_block.new.table number held, c.take_block.ensures.added) in
-    let e = c.enter.ensures.entries number held in
-    let s = set_entered (cut.size / cut.block) number E c.requires.within in
+    let e = rw c.number.ensures at (c.enter.ensures.entries number held) in
+    let s = set_entered (cut.size / cut.block.length) number E c.requires.within in
     rw (e, c.take_block.ensures.entries) (s.len)
 
 pub returns-in-Ok-clause-no_longer : goal.returns-in-Ok-clause-no_longer
@@ -67,7 +67,7 @@ returns-in-Ok-clause-no_longer g c =
     let B = g.S.Storage.bytes c.fill_both.new.storage in
     let held = c.in_ok-number.ensures.held in
     let known : number < max (count_of c.args.table.now) (named_count E + 1) = omega (arith, held_below c.take_block.new.table number held, c.take_block.ensures.added) in
-    filled_length cut.block number (max (count_of c.args.table.now) (named_count E + 1)) _ _ (len_align f - 1) known c.fill_both.ensures.no_longer
+    filled_length cut.block.length number (max (count_of c.args.table.now) (named_count E + 1)) _ _ (len_align f - 1) known c.fill_both.ensures.no_longer
 
 pub returns-in-Err-clause-no_longer : goal.returns-in-Err-clause-no_longer
 returns-in-Err-clause-no_longer g c =
@@ -79,7 +79,7 @@ returns-in-Err-clause-no_longer g c =
     let B = g.S.Storage.bytes c.fill_both.new.storage in
     let held = c.in_ok-number.ensures.held in
     let known : number < max (count_of c.args.table.now) (named_count E + 1) = omega (arith, held_below c.take_block.new.table number held, c.take_block.ensures.added) in
-    filled_length cut.block number (max (count_of c.args.table.now) (named_count E + 1)) _ _ (len_align f - 1) known c.fill_both.ensures.no_longer
+    filled_length cut.block.length number (max (count_of c.args.table.now) (named_count E + 1)) _ _ (len_align f - 1) known c.fill_both.ensures.no_longer
 
 pub returns-in-Ok-clause-places : goal.returns-in-Ok-clause-places
 returns-in-Ok-clause-places g c = λ keeps p.
@@ -91,7 +91,7 @@ returns-in-Ok-clause-places g c = λ keeps p.
     let B = g.S.Storage.bytes c.fill_both.new.storage in
     let held = c.in_ok-number.ensures.held in
     let known : number < max (count_of c.args.table.now) (named_count E + 1) = omega (arith, held_below c.take_block.new.table number held, c.take_block.ensures.added) in
-    other_bytes cut.block c.requires.positive A B number p _ (λ h. held_apart c.take_block.new.table (p / cut.block) number held (rw c.take_block.ensures.entries h)) (c.fill_both.ensures.outside keeps)
+    other_bytes cut.block.length c.requires.positive A B number p _ (λ h. held_apart c.take_block.new.table (p / cut.block.length) number held (rw c.take_block.ensures.entries h)) (c.fill_both.ensures.outside keeps)
 
 pub returns-in-Err-clause-places : goal.returns-in-Err-clause-places
 returns-in-Err-clause-places g c = λ keeps p.
@@ -103,7 +103,7 @@ returns-in-Err-clause-places g c = λ keeps p.
     let B = g.S.Storage.bytes c.fill_both.new.storage in
     let held = c.in_ok-number.ensures.held in
     let known : number < max (count_of c.args.table.now) (named_count E + 1) = omega (arith, held_below c.take_block.new.table number held, c.take_block.ensures.added) in
-    other_bytes cut.block c.requires.positive A B number p _ (λ h. held_apart c.take_block.new.table (p / cut.block) number held (rw c.take_block.ensures.entries h)) (c.fill_both.ensures.outside keeps)
+    other_bytes cut.block.length c.requires.positive A B number p _ (λ h. held_apart c.take_block.new.table (p / cut.block.length) number held (rw c.take_block.ensures.entries h)) (c.fill_both.ensures.outside keeps)
 
 pub returns-in-Err-clause-refusals : goal.returns-in-Err-clause-refusals
 returns-in-Err-clause-refusals g c = λ new_size h.
@@ -115,9 +115,9 @@ returns-in-Err-clause-refusals g c = λ new_size h.
     let B = g.S.Storage.bytes c.fill_both.new.storage in
     let held = c.in_ok-number.ensures.held in
     let known : number < max (count_of c.args.table.now) (named_count E + 1) = omega (arith, held_below c.take_block.new.table number held, c.take_block.ensures.added) in
-    c.in-Err.ensures.refusals (max (count_of c.args.table.now) (named_count E + 1) * cut.block) E new_size (number_ends cut.block number (max (count_of c.args.table.now) (named_count E + 1)) known) h c.requires.absent
+    c.in-Err.ensures.refusals (max (count_of c.args.table.now) (named_count E + 1) * cut.block.length) E new_size (number_ends cut.block.length number (max (count_of c.args.table.now) (named_count E + 1)) known) h c.requires.absent
 
 pub returns-in-Ok-clause-entry : goal.returns-in-Ok-clause-entry
 returns-in-Ok-clause-entry g c =
     let number = c.in_ok-number.number in
-    (number, c.enter.ensures.entries number c.in_ok-number.ensures.held ∙ ap (λ x. slice_set x (c.args.cut.size / c.args.cut.block) (GuestBlock.Data number)) c.take_block.ensures.entries)
+    (number, rw c.number.ensures at (c.enter.ensures.entries number c.in_ok-number.ensures.held) ∙ ap (λ x. slice_set x (c.args.cut.size / c.args.cut.block.length) (GuestBlock.Data number)) c.take_block.ensures.entries)

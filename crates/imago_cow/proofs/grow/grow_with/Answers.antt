@@ -16,17 +16,17 @@ use Rattle.imago_cow.proofs.GrowthSteps.{grown_whole, cut_refused, add_refused, 
 use Rattle.imago_cow.proofs.grow.grow_with.Goals as goal
 
 pub empty_cut-was-requires-clause-within : goal.empty_cut-was-requires-clause-within
-empty_cut-was-requires-clause-within g c = λ cutting. cut_inside c.args.growth.block c.args.growth.size (entries_of c.args.table.now) c.requires.positive c.requires.exact cutting
+empty_cut-was-requires-clause-within g c = λ cutting. cut_inside c.args.growth.block.length c.args.growth.size (entries_of c.args.table.now) c.requires.positive c.requires.exact cutting
 
 pub fill_cut-requires-clause-within : goal.fill_cut-requires-clause-within
-fill_cut-requires-clause-within g c = λ cutting. cut_inside c.args.growth.block c.args.growth.size (entries_of c.args.table.now) c.requires.positive c.requires.exact cutting
+fill_cut-requires-clause-within g c = λ cutting. cut_inside c.args.growth.block.length c.args.growth.size (entries_of c.args.table.now) c.requires.positive c.requires.exact cutting
 
 pub add_new-requires-clause-exact : goal.add_new-requires-clause-exact
-add_new-requires-clause-exact g c = same_exact c.args.growth.size c.args.growth.block (entries_of c.args.table.now) (entries_of c.fill_cut.new.table) (c.in_ok-fill_cut.ensures.filled).len c.requires.exact
+add_new-requires-clause-exact g c = same_exact c.args.growth.size c.args.growth.block.length (entries_of c.args.table.now) (entries_of c.fill_cut.new.table) (c.in_ok-fill_cut.ensures.filled).len c.requires.exact
 
 pub restore_cut-requires-clause-within : goal.restore_cut-requires-clause-within
 restore_cut-requires-clause-within g c =
-    within_same c.empty_cut-was.result (c.args.growth.size / c.args.growth.block) (length (entries_of c.args.table.now)) (length (entries_of c.add_new.new.table)) (ap length c.in-Err.ensures.refused ∙ (c.in_ok-fill_cut.ensures.filled).len) c.empty_cut-was.ensures.within
+    within_same c.empty_cut-was.result (c.args.growth.size / c.args.growth.block.length) (length (entries_of c.args.table.now)) (length (entries_of c.add_new.new.table)) (ap length c.in-Err.ensures.refused ∙ (c.in_ok-fill_cut.ensures.filled).len) c.empty_cut-was.ensures.within
 
 pub returns-in_err-fill_cut-clause-refused : goal.returns-in_err-fill_cut-clause-refused
 returns-in_err-fill_cut-clause-refused g c =
@@ -45,17 +45,17 @@ returns-in_err-fill_cut-clause-refused g c =
     let low : lower ≡ shows_below growth.mode = refl in
     let pos = c.requires.positive in
     let ex = c.requires.exact in
-    let most = data_count growth.block growth.size E n0 None (Grow growth.mode) growth.new_size 0 in
+    let most = data_count growth.block.length growth.size E n0 None (Grow growth.mode) growth.new_size 0 in
     let uses = mode_uses growth.mode c.requires.some in
     let more : n0 ≤ most = omega arith in
-    let fit = cut_fit growth.block growth.size growth.new_size E n0 growth.mode lower pos c.requires.grows ex low c.requires.some in
+    let fit = cut_fit growth.block.length growth.size growth.new_size E n0 growth.mode lower pos c.requires.grows ex low c.requires.some in
     let e1 = c.fill_cut.ensures in
     let e = c.in_err-fill_cut.field-0.0 in
     let p = err_from_is_err_and c.from_residual.result c.from_residual.ensures.1 in
-    rw (p.1, p.2) (not_grown f k0 k1 A B B growth.size growth.block growth.new_size E E E n0 (count_of c.fill_cut.new.table) L growth.mode lower pos c.requires.grows ex low c.requires.some e
-    (cut_refused f k0 k1 A B B growth.size growth.block growth.new_size E E E n0 (count_of c.fill_cut.new.table) L growth.mode lower pos c.requires.grows ex low c.requires.some e1.places e1.no_shorter)
+    rw (p.1, p.2) (not_grown f k0 k1 A B B growth.size growth.block.length growth.new_size E E E n0 (count_of c.fill_cut.new.table) L growth.mode lower pos c.requires.grows ex low c.requires.some e
+    (cut_refused f k0 k1 A B B growth.size growth.block.length growth.new_size E E E n0 (count_of c.fill_cut.new.table) L growth.mode lower pos c.requires.grows ex low c.requires.some e1.places e1.no_shorter)
     (e1.no_longer most more fit) c.in_err-fill_cut.ensures.faults
-    (if_grow_refused f k0 A growth.size growth.block E n0 L growth.mode growth.new_size _ uses (cut_read growth.block growth.size growth.new_size E n0 growth.mode lower pos c.requires.grows ex low c.requires.some) e (c.in_err-fill_cut.ensures.refusals most more fit)))
+    (if_grow_refused f k0 A growth.size growth.block.length E n0 L growth.mode growth.new_size _ uses (cut_read growth.block.length growth.size growth.new_size E n0 growth.mode lower pos c.requires.grows ex low c.requires.some) e (c.in_err-fill_cut.ensures.refusals most more fit)))
 
 pub returns-in-Err-clause-refused : goal.returns-in-Err-clause-refused
 returns-in-Err-clause-refused g c =
@@ -74,41 +74,41 @@ returns-in-Err-clause-refused g c =
     let low : lower ≡ shows_below growth.mode = refl in
     let pos = c.requires.positive in
     let ex = c.requires.exact in
-    let most = data_count growth.block growth.size E n0 None (Grow growth.mode) growth.new_size 0 in
+    let most = data_count growth.block.length growth.size E n0 None (Grow growth.mode) growth.new_size 0 in
     let uses = mode_uses growth.mode c.requires.some in
     let more : n0 ≤ most = omega arith in
-    let fit = cut_fit growth.block growth.size growth.new_size E n0 growth.mode lower pos c.requires.grows ex low c.requires.some in
+    let fit = cut_fit growth.block.length growth.size growth.new_size E n0 growth.mode lower pos c.requires.grows ex low c.requires.some in
     let e1 = c.fill_cut.ensures in
     let ok1 = c.in_ok-fill_cut.ensures in
-    let filled : IsCutFilled L.at growth.mode f.keeps_data growth.block growth.size growth.new_size E M A B = ok1.filled in
-    let entered : IsCutEntered growth.block growth.size E M = ok1.entry in
+    let filled : IsCutFilled L.at growth.mode f.keeps_data growth.block.length growth.size growth.new_size E M A B = ok1.filled in
+    let entered : IsCutEntered growth.block.length growth.size E M = ok1.entry in
     let D = g.S.Storage.bytes c.add_new.new.storage in
     let F = entries_of c.add_new.new.table in
     let k2 = g.S.Storage.fault_count c.add_new.new.storage + c.add_new.new.faults in
-    let wanted = blocks_for growth.block growth.new_size in
-    let bc = blocks_cover growth.block growth.new_size pos in
-    let bn = blocks_near growth.block growth.new_size pos in
+    let wanted = blocks_for growth.block.length growth.new_size in
+    let bc = blocks_cover growth.block.length growth.new_size pos in
+    let bn = blocks_near growth.block.length growth.new_size pos in
     let counted : count_of c.fill_cut.new.table ≤ most = e1.counted most more fit in
-    let nf = new_fit growth.block growth.size growth.new_size E n0 growth.mode lower pos c.requires.grows ex low c.requires.some M filled.len entered in
+    let nf = new_fit growth.block.length growth.size growth.new_size E n0 growth.mode lower pos c.requires.grows ex low c.requires.some M filled.len entered in
     let e2 = c.add_new.ensures in
-    let long1 : length B ≤ max (length A) (padded_to f 0 (most * growth.block)) = e1.no_longer most more fit in
-    let long2 : length D ≤ max (length B) (padded_to f 0 (most * growth.block)) = rw e1.features at (e2.no_longer most wanted bc bn counted nf) in
-    let longer : length D ≤ max (length A) (padded_to f 0 (most * growth.block)) = omega (arith, long1, long2) in
+    let long1 : length B ≤ max (length A) (padded_to f 0 (most * growth.block.length)) = e1.no_longer most more fit in
+    let long2 : length D ≤ max (length B) (padded_to f 0 (most * growth.block.length)) = rw e1.features at (e2.no_longer most wanted bc bn counted nf) in
+    let longer : length D ≤ max (length A) (padded_to f 0 (most * growth.block.length)) = omega (arith, long1, long2) in
     let first : CountsFaults {T = Unit {0}} (f.is_reliable && L.is_reliable) k0 k1 (Ok tt) = ok1.faults in
     let e = c.in-Err.e in
     let err2 = c.in-Err.ensures in
     let then : CountsFaults {T = Unit {0}} (f.is_reliable && L.is_reliable) k1 k2 (Err e) = rw e1.features at err2.faults in
-    not_grown f k0 k2 A B D growth.size growth.block growth.new_size E M E n0 (count_of c.restore_cut.new.table) L growth.mode lower pos c.requires.grows ex low c.requires.some e
-    (add_refused f k0 k2 A B D growth.size growth.block growth.new_size E M E n0 (count_of c.restore_cut.new.table) L growth.mode lower pos c.requires.grows ex low c.requires.some entered filled.len e1.places (rw e1.features at e2.bytes) (omega (arith, e1.no_shorter, e2.no_shorter)))
+    not_grown f k0 k2 A B D growth.size growth.block.length growth.new_size E M E n0 (count_of c.restore_cut.new.table) L growth.mode lower pos c.requires.grows ex low c.requires.some e
+    (add_refused f k0 k2 A B D growth.size growth.block.length growth.new_size E M E n0 (count_of c.restore_cut.new.table) L growth.mode lower pos c.requires.grows ex low c.requires.some entered filled.len e1.places (rw e1.features at e2.bytes) (omega (arith, e1.no_shorter, e2.no_shorter)))
     longer (counts_then (f.is_reliable && L.is_reliable) k0 k1 k2 (Err e) first then)
-    (if_grow_refused f k0 A growth.size growth.block E n0 L growth.mode growth.new_size _ uses (added_read growth.block growth.size growth.new_size E n0 growth.mode lower pos c.requires.grows ex low c.requires.some M filled.len) e (rw e1.features at (err2.refusals most wanted bc bn counted nf)))
+    (if_grow_refused f k0 A growth.size growth.block.length E n0 L growth.mode growth.new_size _ uses (added_read growth.block.length growth.size growth.new_size E n0 growth.mode lower pos c.requires.grows ex low c.requires.some M filled.len) e (rw e1.features at (err2.refusals most wanted bc bn counted nf)))
 
 pub returns-in-Err-clause-entries : goal.returns-in-Err-clause-entries
 returns-in-Err-clause-entries g c =
     let a = c.args in
     let growth = a.growth in
     let E = entries_of a.table.now in
-    c.restore_cut.ensures.restored E c.empty_cut-was.ensures.empty (subst (λ x. IsCutEntered growth.block growth.size E x) (sym c.in-Err.ensures.refused) c.in_ok-fill_cut.ensures.entry)
+    c.restore_cut.ensures.restored E c.empty_cut-was.ensures.empty (subst (λ x. IsCutEntered growth.block.length growth.size E x) (sym c.in-Err.ensures.refused) c.in_ok-fill_cut.ensures.entry)
 
 pub returns-clause-grown : goal.returns-clause-grown
 returns-clause-grown g c =
@@ -127,31 +127,31 @@ returns-clause-grown g c =
     let low : lower ≡ shows_below growth.mode = refl in
     let pos = c.requires.positive in
     let ex = c.requires.exact in
-    let most = data_count growth.block growth.size E n0 None (Grow growth.mode) growth.new_size 0 in
+    let most = data_count growth.block.length growth.size E n0 None (Grow growth.mode) growth.new_size 0 in
     let uses = mode_uses growth.mode c.requires.some in
     let more : n0 ≤ most = omega arith in
-    let fit = cut_fit growth.block growth.size growth.new_size E n0 growth.mode lower pos c.requires.grows ex low c.requires.some in
+    let fit = cut_fit growth.block.length growth.size growth.new_size E n0 growth.mode lower pos c.requires.grows ex low c.requires.some in
     let e1 = c.fill_cut.ensures in
     let ok1 = c.in_ok-fill_cut.ensures in
-    let filled : IsCutFilled L.at growth.mode f.keeps_data growth.block growth.size growth.new_size E M A B = ok1.filled in
-    let entered : IsCutEntered growth.block growth.size E M = ok1.entry in
+    let filled : IsCutFilled L.at growth.mode f.keeps_data growth.block.length growth.size growth.new_size E M A B = ok1.filled in
+    let entered : IsCutEntered growth.block.length growth.size E M = ok1.entry in
     let D = g.S.Storage.bytes c.add_new.new.storage in
     let F = entries_of c.add_new.new.table in
     let k2 = g.S.Storage.fault_count c.add_new.new.storage + c.add_new.new.faults in
-    let wanted = blocks_for growth.block growth.new_size in
-    let bc = blocks_cover growth.block growth.new_size pos in
-    let bn = blocks_near growth.block growth.new_size pos in
+    let wanted = blocks_for growth.block.length growth.new_size in
+    let bc = blocks_cover growth.block.length growth.new_size pos in
+    let bn = blocks_near growth.block.length growth.new_size pos in
     let counted : count_of c.fill_cut.new.table ≤ most = e1.counted most more fit in
-    let nf = new_fit growth.block growth.size growth.new_size E n0 growth.mode lower pos c.requires.grows ex low c.requires.some M filled.len entered in
+    let nf = new_fit growth.block.length growth.size growth.new_size E n0 growth.mode lower pos c.requires.grows ex low c.requires.some M filled.len entered in
     let e2 = c.add_new.ensures in
-    let long1 : length B ≤ max (length A) (padded_to f 0 (most * growth.block)) = e1.no_longer most more fit in
-    let long2 : length D ≤ max (length B) (padded_to f 0 (most * growth.block)) = rw e1.features at (e2.no_longer most wanted bc bn counted nf) in
-    let longer : length D ≤ max (length A) (padded_to f 0 (most * growth.block)) = omega (arith, long1, long2) in
+    let long1 : length B ≤ max (length A) (padded_to f 0 (most * growth.block.length)) = e1.no_longer most more fit in
+    let long2 : length D ≤ max (length B) (padded_to f 0 (most * growth.block.length)) = rw e1.features at (e2.no_longer most wanted bc bn counted nf) in
+    let longer : length D ≤ max (length A) (padded_to f 0 (most * growth.block.length)) = omega (arith, long1, long2) in
     let first : CountsFaults {T = Unit {0}} (f.is_reliable && L.is_reliable) k0 k1 (Ok tt) = ok1.faults in
     let done = c.in_default.ensures in
-    let extended : IsExtended L.at lower f.keeps_data growth.block (length M * growth.block) growth.new_size M F B D = rw e1.features at done.extended in
+    let extended : IsExtended L.at lower f.keeps_data growth.block.length (length M * growth.block.length) growth.new_size M F B D = rw e1.features at done.extended in
     let then : CountsFaults {T = Unit {0}} (f.is_reliable && L.is_reliable) k1 k2 (Ok tt) = rw e1.features at done.faults in
-    grown_whole f k0 k2 A B D growth.size growth.block growth.new_size E M F n0 (count_of c.add_new.new.table) L growth.mode lower pos c.requires.grows ex low c.requires.some filled extended (done.exact).covers longer
+    grown_whole f k0 k2 A B D growth.size growth.block.length growth.new_size E M F n0 (count_of c.add_new.new.table) L growth.mode lower pos c.requires.grows ex low c.requires.some filled extended (done.exact).covers longer
     (counts_then (f.is_reliable && L.is_reliable) k0 k1 k2 (Ok tt) first then)
 
 pub returns-clause-blocks : goal.returns-clause-blocks
@@ -160,5 +160,5 @@ returns-clause-blocks g c =
     let first = c.in_ok-fill_cut.ensures in
     let then = c.add_new.ensures in
     let done = c.in_default.ensures in
-    grown_blocks growth.block growth.size (entries_of c.args.table.now) c.requires.positive c.requires.exact growth.mode (entries_of c.fill_cut.new.table) (entries_of c.add_new.new.table)
+    grown_blocks growth.block.length growth.size (entries_of c.args.table.now) c.requires.positive c.requires.exact growth.mode (entries_of c.fill_cut.new.table) (entries_of c.add_new.new.table)
     c.requires.some first.entry (first.filled).len first.grown then.prefix done.in_data done.zero

@@ -6,7 +6,7 @@ use Rattle.imago_cow.proofs.guest.clear_whole.Goals as goal
 pub returns-then-last-first-clause-part : goal.returns-then-last-first-clause-part
 returns-then-last-first-clause-part c =
     let l = c.last_whole-last.ensures in
-    let w : WholeRange c.args.block c.args.size c.args.offset c.args.count (length (entries_of c.args.table.now)) c.first_whole-first.result c.last_whole-last.result = record {
+    let w : WholeRange c.args.block.length c.args.size c.args.offset c.args.count (length (entries_of c.args.table.now)) c.first_whole-first.result c.last_whole-last.result = record {
       positive = c.requires.positive;
       inside = c.requires.inside;
       covers = c.requires.exact.covers;
@@ -22,7 +22,7 @@ returns-then-last-first-clause-part c =
 pub returns-then-last-first-clause-cleared : goal.returns-then-last-first-clause-cleared
 returns-then-last-first-clause-cleared c =
     let l = c.last_whole-last.ensures in
-    let w : WholeRange c.args.block c.args.size c.args.offset c.args.count (length (entries_of c.args.table.now)) c.first_whole-first.result c.last_whole-last.result = record {
+    let w : WholeRange c.args.block.length c.args.size c.args.offset c.args.count (length (entries_of c.args.table.now)) c.first_whole-first.result c.last_whole-last.result = record {
       positive = c.requires.positive;
       inside = c.requires.inside;
       covers = c.requires.exact.covers;
@@ -38,7 +38,7 @@ returns-then-last-first-clause-cleared c =
 pub returns-then-end-size-clause-part : goal.returns-then-end-size-clause-part
 returns-then-end-size-clause-part c =
     let l = c.last_whole-last.ensures in
-    let w : WholeRange c.args.block c.args.size c.args.offset c.args.count (length (entries_of c.args.table.now)) c.first_whole-first.result c.last_whole-last.result = record {
+    let w : WholeRange c.args.block.length c.args.size c.args.offset c.args.count (length (entries_of c.args.table.now)) c.first_whole-first.result c.last_whole-last.result = record {
       positive = c.requires.positive;
       inside = c.requires.inside;
       covers = c.requires.exact.covers;
@@ -54,7 +54,7 @@ returns-then-end-size-clause-part c =
 pub returns-then-end-size-clause-cleared : goal.returns-then-end-size-clause-cleared
 returns-then-end-size-clause-cleared c =
     let l = c.last_whole-last.ensures in
-    let w : WholeRange c.args.block c.args.size c.args.offset c.args.count (length (entries_of c.args.table.now)) c.first_whole-first.result c.last_whole-last.result = record {
+    let w : WholeRange c.args.block.length c.args.size c.args.offset c.args.count (length (entries_of c.args.table.now)) c.first_whole-first.result c.last_whole-last.result = record {
       positive = c.requires.positive;
       inside = c.requires.inside;
       covers = c.requires.exact.covers;
@@ -70,7 +70,7 @@ returns-then-end-size-clause-cleared c =
 pub returns-clause-part : goal.returns-clause-part
 returns-clause-part c =
     let l = c.last_whole-last.ensures in
-    let w : WholeRange c.args.block c.args.size c.args.offset c.args.count (length (entries_of c.args.table.now)) c.first_whole-first.result c.last_whole-last.result = record {
+    let w : WholeRange c.args.block.length c.args.size c.args.offset c.args.count (length (entries_of c.args.table.now)) c.first_whole-first.result c.last_whole-last.result = record {
       positive = c.requires.positive;
       inside = c.requires.inside;
       covers = c.requires.exact.covers;
@@ -86,7 +86,7 @@ returns-clause-part c =
 pub returns-clause-cleared : goal.returns-clause-cleared
 returns-clause-cleared c =
     let l = c.last_whole-last.ensures in
-    let w : WholeRange c.args.block c.args.size c.args.offset c.args.count (length (entries_of c.args.table.now)) c.first_whole-first.result c.last_whole-last.result = record {
+    let w : WholeRange c.args.block.length c.args.size c.args.offset c.args.count (length (entries_of c.args.table.now)) c.first_whole-first.result c.last_whole-last.result = record {
       positive = c.requires.positive;
       inside = c.requires.inside;
       covers = c.requires.exact.covers;

@@ -17,13 +17,13 @@ overflow_mul-start g c =
     let part = c.args.part in
     let number = c.in_ok-number.number in
     let e = c.take.ensures.entries in
-    let fits : number * part.block + part.block < 18446744073709551616 = ⊎_elim
-    (λ less. omega (arith, number_ends part.block number (count_of c.args.table.now) less, c.requires.addressed))
+    let fits : number * part.block.length + part.block.length < 18446744073709551616 = ⊎_elim
+    (λ less. omega (arith, number_ends part.block.length number (count_of c.args.table.now) less, c.requires.addressed))
     (λ more.
     let same : number ≡ count_of c.args.table.now = omega (arith, more, c.in_ok-number.ensures.lowest.within) in
     let all : count_of c.args.table.now ≤ named_count (entries_of c.args.table.now) = omega (arith, same, c.in_ok-number.ensures.count, c.take.ensures.added) in
     let x = c.fits_next.ensures.fits c.if-not-fits_next.false all in
-    let y : number * part.block ≡ count_of c.args.table.now * part.block = ap (λ z. z * part.block) same in
+    let y : number * part.block.length ≡ count_of c.args.table.now * part.block.length = ap (λ z. z * part.block.length) same in
     omega (arith, x, y))
     (cases_lt number (count_of c.args.table.now)) in
     omega (arith, fits)
@@ -33,29 +33,29 @@ overflow_add-result g c =
     let part = c.args.part in
     let number = c.in_ok-number.number in
     let e = c.take.ensures.entries in
-    let fits : number * part.block + part.block < 18446744073709551616 = ⊎_elim
-    (λ less. omega (arith, number_ends part.block number (count_of c.args.table.now) less, c.requires.addressed))
+    let fits : number * part.block.length + part.block.length < 18446744073709551616 = ⊎_elim
+    (λ less. omega (arith, number_ends part.block.length number (count_of c.args.table.now) less, c.requires.addressed))
     (λ more.
     let same : number ≡ count_of c.args.table.now = omega (arith, more, c.in_ok-number.ensures.lowest.within) in
     let all : count_of c.args.table.now ≤ named_count (entries_of c.args.table.now) = omega (arith, same, c.in_ok-number.ensures.count, c.take.ensures.added) in
     let x = c.fits_next.ensures.fits c.if-not-fits_next.false all in
-    let y : number * part.block ≡ count_of c.args.table.now * part.block = ap (λ z. z * part.block) same in
+    let y : number * part.block.length ≡ count_of c.args.table.now * part.block.length = ap (λ z. z * part.block.length) same in
     omega (arith, x, y))
     (cases_lt number (count_of c.args.table.now)) in
-    omega (arith, fits, rest_small part.block c.requires.positive part.offset)
+    omega (arith, fits, rest_small part.block.length c.requires.positive part.offset)
 
 pub copy_round-requires-clause-fits : goal.copy_round-requires-clause-fits
 copy_round-requires-clause-fits g c =
     let part = c.args.part in
     let number = c.in_ok-number.number in
     let e = c.take.ensures.entries in
-    let fits : number * part.block + part.block < 18446744073709551616 = ⊎_elim
-    (λ less. omega (arith, number_ends part.block number (count_of c.args.table.now) less, c.requires.addressed))
+    let fits : number * part.block.length + part.block.length < 18446744073709551616 = ⊎_elim
+    (λ less. omega (arith, number_ends part.block.length number (count_of c.args.table.now) less, c.requires.addressed))
     (λ more.
     let same : number ≡ count_of c.args.table.now = omega (arith, more, c.in_ok-number.ensures.lowest.within) in
     let all : count_of c.args.table.now ≤ named_count (entries_of c.args.table.now) = omega (arith, same, c.in_ok-number.ensures.count, c.take.ensures.added) in
     let x = c.fits_next.ensures.fits c.if-not-fits_next.false all in
-    let y : number * part.block ≡ count_of c.args.table.now * part.block = ap (λ z. z * part.block) same in
+    let y : number * part.block.length ≡ count_of c.args.table.now * part.block.length = ap (λ z. z * part.block.length) same in
     omega (arith, x, y))
     (cases_lt number (count_of c.args.table.now)) in
     fits
@@ -65,42 +65,42 @@ returns-in-Ok-clause-addressed g c =
     let part = c.args.part in
     let number = c.in_ok-number.number in
     let e = c.take.ensures.entries in
-    let fits : number * part.block + part.block < 18446744073709551616 = ⊎_elim
-    (λ less. omega (arith, number_ends part.block number (count_of c.args.table.now) less, c.requires.addressed))
+    let fits : number * part.block.length + part.block.length < 18446744073709551616 = ⊎_elim
+    (λ less. omega (arith, number_ends part.block.length number (count_of c.args.table.now) less, c.requires.addressed))
     (λ more.
     let same : number ≡ count_of c.args.table.now = omega (arith, more, c.in_ok-number.ensures.lowest.within) in
     let all : count_of c.args.table.now ≤ named_count (entries_of c.args.table.now) = omega (arith, same, c.in_ok-number.ensures.count, c.take.ensures.added) in
     let x = c.fits_next.ensures.fits c.if-not-fits_next.false all in
-    let y : number * part.block ≡ count_of c.args.table.now * part.block = ap (λ z. z * part.block) same in
+    let y : number * part.block.length ≡ count_of c.args.table.now * part.block.length = ap (λ z. z * part.block.length) same in
     omega (arith, x, y))
     (cases_lt number (count_of c.args.table.now)) in
     let counts : (count_of c.take.new.self ≡ count_of c.args.table.now) ⊎ (count_of c.take.new.self ≡ number + 1) = ⊎_elim (λ l. inr (omega (arith, l, c.in_ok-number.ensures.count))) (λ h. inl (omega (arith, h, c.in_ok-number.ensures.count))) (cases_lt (count_of c.args.table.now) (number + 1)) in
-    (⊎_elim (λ s. let x : count_of c.take.new.self * part.block ≡ count_of c.args.table.now * part.block = ap (λ y. y * part.block) s in omega (arith, x, c.requires.addressed)) (λ s. let x : count_of c.take.new.self * part.block ≡ (number + 1) * part.block = ap (λ y. y * part.block) s in omega (arith, x, fits)) counts)
+    (⊎_elim (λ s. let x : count_of c.take.new.self * part.block.length ≡ count_of c.args.table.now * part.block.length = ap (λ y. y * part.block.length) s in omega (arith, x, c.requires.addressed)) (λ s. let x : count_of c.take.new.self * part.block.length ≡ (number + 1) * part.block.length = ap (λ y. y * part.block.length) s in omega (arith, x, fits)) counts)
 
 pub returns-in-Err-clause-addressed : goal.returns-in-Err-clause-addressed
 returns-in-Err-clause-addressed g c =
     let part = c.args.part in
     let number = c.in_ok-number.number in
     let e = c.take.ensures.entries in
-    let fits : number * part.block + part.block < 18446744073709551616 = ⊎_elim
-    (λ less. omega (arith, number_ends part.block number (count_of c.args.table.now) less, c.requires.addressed))
+    let fits : number * part.block.length + part.block.length < 18446744073709551616 = ⊎_elim
+    (λ less. omega (arith, number_ends part.block.length number (count_of c.args.table.now) less, c.requires.addressed))
     (λ more.
     let same : number ≡ count_of c.args.table.now = omega (arith, more, c.in_ok-number.ensures.lowest.within) in
     let all : count_of c.args.table.now ≤ named_count (entries_of c.args.table.now) = omega (arith, same, c.in_ok-number.ensures.count, c.take.ensures.added) in
     let x = c.fits_next.ensures.fits c.if-not-fits_next.false all in
-    let y : number * part.block ≡ count_of c.args.table.now * part.block = ap (λ z. z * part.block) same in
+    let y : number * part.block.length ≡ count_of c.args.table.now * part.block.length = ap (λ z. z * part.block.length) same in
     omega (arith, x, y))
     (cases_lt number (count_of c.args.table.now)) in
     let counts : (count_of c.take.new.self ≡ count_of c.args.table.now) ⊎ (count_of c.take.new.self ≡ number + 1) = ⊎_elim (λ l. inr (omega (arith, l, c.in_ok-number.ensures.count))) (λ h. inl (omega (arith, h, c.in_ok-number.ensures.count))) (cases_lt (count_of c.args.table.now) (number + 1)) in
-    rw c.release.ensures.count (⊎_elim (λ s. let x : count_of c.take.new.self * part.block ≡ count_of c.args.table.now * part.block = ap (λ y. y * part.block) s in omega (arith, x, c.requires.addressed)) (λ s. let x : count_of c.take.new.self * part.block ≡ (number + 1) * part.block = ap (λ y. y * part.block) s in omega (arith, x, fits)) counts)
+    rw c.release.ensures.count (⊎_elim (λ s. let x : count_of c.take.new.self * part.block.length ≡ count_of c.args.table.now * part.block.length = ap (λ y. y * part.block.length) s in omega (arith, x, c.requires.addressed)) (λ s. let x : count_of c.take.new.self * part.block.length ≡ (number + 1) * part.block.length = ap (λ y. y * part.block.length) s in omega (arith, x, fits)) counts)
 
 pub returns-in-Ok-clause-apart : goal.returns-in-Ok-clause-apart
 returns-in-Ok-clause-apart g c =
     let part = c.args.part in
     let number = c.in_ok-number.number in
     let e = c.take.ensures.entries in
-    let w : Waiting = record { start = part.offset; length = part.run; offset = number * part.block + part.offset % part.block; number = number; state = c.args.state } in
-    let apart : WaitsApart part.block part.size (entries_of c.args.table.now) (count_of c.take.new.self) w = record {
+    let w : Waiting = record { start = part.offset; length = part.run; offset = number * part.block.length + part.offset % part.block.length; number = number; state = c.args.state } in
+    let apart : WaitsApart part.block.length part.size (entries_of c.args.table.now) (count_of c.take.new.self) w = record {
       some = c.requires.some;
       inside = c.requires.inside;
       in_block = c.requires.in_block;
@@ -109,15 +109,15 @@ returns-in-Ok-clause-apart g c =
       apart = λ i h. held_apart c.take.new.self i number c.in_ok-number.ensures.held (rw e h);
       free = empty_entry part.absent _ c.requires.absent c.requires.zero;
     } in
-    rw e apart
+    rw (e, c.rest.ensures.value) apart
 
 pub returns-in-Ok-clause-prepared : goal.returns-in-Ok-clause-prepared
 returns-in-Ok-clause-prepared g c = λ most now_faults old_faults m some run storage offset long state.
     let part = c.args.part in
     let number = c.in_ok-number.number in
     let e = c.take.ensures.entries in
-    let w : Waiting = record { start = part.offset; length = part.run; offset = number * part.block + part.offset % part.block; number = number; state = c.args.state } in
-    let apart : WaitsApart part.block part.size (entries_of c.args.table.now) (count_of c.take.new.self) w = record {
+    let w : Waiting = record { start = part.offset; length = part.run; offset = number * part.block.length + part.offset % part.block.length; number = number; state = c.args.state } in
+    let apart : WaitsApart part.block.length part.size (entries_of c.args.table.now) (count_of c.take.new.self) w = record {
       some = c.requires.some;
       inside = c.requires.inside;
       in_block = c.requires.in_block;
@@ -126,17 +126,17 @@ returns-in-Ok-clause-prepared g c = λ most now_faults old_faults m some run sto
       apart = λ i h. held_apart c.take.new.self i number c.in_ok-number.ensures.held (rw e h);
       free = empty_entry part.absent _ c.requires.absent c.requires.zero;
     } in
-    prepared (g.S.Storage.features c.args.storage.now) old_faults now_faults (g.S.Storage.bytes c.args.storage.now) (g.S.Storage.bytes c.copy_round.new.storage) part.size part.block _ _ _ w c.requires.positive c.requires.exact.covers apart c.take.ensures.added
+    rw c.rest.ensures.value (prepared (g.S.Storage.features c.args.storage.now) old_faults now_faults (g.S.Storage.bytes c.args.storage.now) (g.S.Storage.bytes c.copy_round.new.storage) part.size part.block.length _ _ _ w c.requires.positive c.requires.exact.covers apart c.take.ensures.added
     (lent g.B.LowerLayer.as_layer_below c.args.below).at part.absent part.overwrite c.requires.absent c.requires.zero c.in-Ok.ensures.copied
-    part.offset most m refl some run storage offset long state
+    part.offset most m refl some run storage (rw c.rest.ensures.value at offset) long state)
 
 pub returns-in-Ok-clause-unchanged : goal.returns-in-Ok-clause-unchanged
 returns-in-Ok-clause-unchanged g c = λ now_faults old_faults v.
     let part = c.args.part in
     let number = c.in_ok-number.number in
     let e = c.take.ensures.entries in
-    let w : Waiting = record { start = part.offset; length = part.run; offset = number * part.block + part.offset % part.block; number = number; state = c.args.state } in
-    let apart : WaitsApart part.block part.size (entries_of c.args.table.now) (count_of c.take.new.self) w = record {
+    let w : Waiting = record { start = part.offset; length = part.run; offset = number * part.block.length + part.offset % part.block.length; number = number; state = c.args.state } in
+    let apart : WaitsApart part.block.length part.size (entries_of c.args.table.now) (count_of c.take.new.self) w = record {
       some = c.requires.some;
       inside = c.requires.inside;
       in_block = c.requires.in_block;
@@ -145,15 +145,15 @@ returns-in-Ok-clause-unchanged g c = λ now_faults old_faults v.
       apart = λ i h. held_apart c.take.new.self i number c.in_ok-number.ensures.held (rw e h);
       free = empty_entry part.absent _ c.requires.absent c.requires.zero;
     } in
-    prepared_unchanged (g.S.Storage.features c.args.storage.now) old_faults now_faults (g.S.Storage.bytes c.args.storage.now) (g.S.Storage.bytes c.copy_round.new.storage) part.size part.block _ _ _ w c.requires.positive c.requires.exact.covers apart c.take.ensures.added v c.copy_round.ensures.outside
+    prepared_unchanged (g.S.Storage.features c.args.storage.now) old_faults now_faults (g.S.Storage.bytes c.args.storage.now) (g.S.Storage.bytes c.copy_round.new.storage) part.size part.block.length _ _ _ w c.requires.positive c.requires.exact.covers apart c.take.ensures.added v c.copy_round.ensures.outside
 
 pub returns-in-Err-clause-unchanged : goal.returns-in-Err-clause-unchanged
 returns-in-Err-clause-unchanged g c = λ now_faults old_faults v.
     let part = c.args.part in
     let number = c.in_ok-number.number in
     let e = c.take.ensures.entries in
-    let w : Waiting = record { start = part.offset; length = part.run; offset = number * part.block + part.offset % part.block; number = number; state = c.args.state } in
-    let apart : WaitsApart part.block part.size (entries_of c.args.table.now) (count_of c.take.new.self) w = record {
+    let w : Waiting = record { start = part.offset; length = part.run; offset = number * part.block.length + part.offset % part.block.length; number = number; state = c.args.state } in
+    let apart : WaitsApart part.block.length part.size (entries_of c.args.table.now) (count_of c.take.new.self) w = record {
       some = c.requires.some;
       inside = c.requires.inside;
       in_block = c.requires.in_block;
@@ -162,15 +162,15 @@ returns-in-Err-clause-unchanged g c = λ now_faults old_faults v.
       apart = λ i h. held_apart c.take.new.self i number c.in_ok-number.ensures.held (rw e h);
       free = empty_entry part.absent _ c.requires.absent c.requires.zero;
     } in
-    rw c.release.ensures.count (prepared_unchanged (g.S.Storage.features c.args.storage.now) old_faults now_faults (g.S.Storage.bytes c.args.storage.now) (g.S.Storage.bytes c.copy_round.new.storage) part.size part.block _ _ _ w c.requires.positive c.requires.exact.covers apart c.take.ensures.added v c.copy_round.ensures.outside)
+    rw c.release.ensures.count (prepared_unchanged (g.S.Storage.features c.args.storage.now) old_faults now_faults (g.S.Storage.bytes c.args.storage.now) (g.S.Storage.bytes c.copy_round.new.storage) part.size part.block.length _ _ _ w c.requires.positive c.requires.exact.covers apart c.take.ensures.added v c.copy_round.ensures.outside)
 
 pub returns-in-Ok-clause-settled : goal.returns-in-Ok-clause-settled
 returns-in-Ok-clause-settled g c =
     let part = c.args.part in
     let number = c.in_ok-number.number in
     let e = c.take.ensures.entries in
-    let w : Waiting = record { start = part.offset; length = part.run; offset = number * part.block + part.offset % part.block; number = number; state = c.args.state } in
-    let apart : WaitsApart part.block part.size (entries_of c.args.table.now) (count_of c.take.new.self) w = record {
+    let w : Waiting = record { start = part.offset; length = part.run; offset = number * part.block.length + part.offset % part.block.length; number = number; state = c.args.state } in
+    let apart : WaitsApart part.block.length part.size (entries_of c.args.table.now) (count_of c.take.new.self) w = record {
       some = c.requires.some;
       inside = c.requires.inside;
       in_block = c.requires.in_block;
@@ -179,7 +179,7 @@ returns-in-Ok-clause-settled g c =
       apart = λ i h. held_apart c.take.new.self i number c.in_ok-number.ensures.held (rw e h);
       free = empty_entry part.absent _ c.requires.absent c.requires.zero;
     } in
-    prepared_settled (g.S.Storage.features c.args.storage.now) part.size part.block _ _ _ w c.requires.positive c.requires.exact.covers apart c.take.ensures.added part.run c.requires.some
+    prepared_settled (g.S.Storage.features c.args.storage.now) part.size part.block.length _ _ _ w c.requires.positive c.requires.exact.covers apart c.take.ensures.added part.run c.requires.some
 
 pub returns-in-Ok-clause-no_longer : goal.returns-in-Ok-clause-no_longer
 returns-in-Ok-clause-no_longer g c = λ most some.
@@ -187,9 +187,9 @@ returns-in-Ok-clause-no_longer g c = λ most some.
     let number = c.in_ok-number.number in
     let e = c.take.ensures.entries in
     let under : part.offset < part.size = omega (arith, c.requires.some, c.requires.inside) in
-    let more = one_more part.block part.size (entries_of c.args.table.now) (count_of c.args.table.now) c.requires.positive c.requires.exact.covers part.offset under (empty_entry part.absent _ c.requires.absent c.requires.zero) Write part.offset most tt (omega arith) (omega (arith, some)) in
-    let known : number < data_count part.block part.size (entries_of c.args.table.now) (count_of c.args.table.now) None Write part.offset most = omega (arith, more, c.in_ok-number.ensures.count, c.take.ensures.added) in
-    length_within (g.S.Storage.features c.args.storage.now) part.block number _ _ _ c.requires.positive known c.copy_round.ensures.no_longer
+    let more = one_more part.block.length part.size (entries_of c.args.table.now) (count_of c.args.table.now) c.requires.positive c.requires.exact.covers part.offset under (empty_entry part.absent _ c.requires.absent c.requires.zero) Write part.offset most tt (omega arith) (omega (arith, some)) in
+    let known : number < data_count part.block.length part.size (entries_of c.args.table.now) (count_of c.args.table.now) None Write part.offset most = omega (arith, more, c.in_ok-number.ensures.count, c.take.ensures.added) in
+    length_within (g.S.Storage.features c.args.storage.now) part.block.length number _ _ _ c.requires.positive known c.copy_round.ensures.no_longer
 
 pub returns-in-Err-clause-no_longer : goal.returns-in-Err-clause-no_longer
 returns-in-Err-clause-no_longer g c = λ most some.
@@ -197,9 +197,9 @@ returns-in-Err-clause-no_longer g c = λ most some.
     let number = c.in_ok-number.number in
     let e = c.take.ensures.entries in
     let under : part.offset < part.size = omega (arith, c.requires.some, c.requires.inside) in
-    let more = one_more part.block part.size (entries_of c.args.table.now) (count_of c.args.table.now) c.requires.positive c.requires.exact.covers part.offset under (empty_entry part.absent _ c.requires.absent c.requires.zero) Write part.offset most tt (omega arith) (omega (arith, some)) in
-    let known : number < data_count part.block part.size (entries_of c.args.table.now) (count_of c.args.table.now) None Write part.offset most = omega (arith, more, c.in_ok-number.ensures.count, c.take.ensures.added) in
-    length_within (g.S.Storage.features c.args.storage.now) part.block number _ _ _ c.requires.positive known c.copy_round.ensures.no_longer
+    let more = one_more part.block.length part.size (entries_of c.args.table.now) (count_of c.args.table.now) c.requires.positive c.requires.exact.covers part.offset under (empty_entry part.absent _ c.requires.absent c.requires.zero) Write part.offset most tt (omega arith) (omega (arith, some)) in
+    let known : number < data_count part.block.length part.size (entries_of c.args.table.now) (count_of c.args.table.now) None Write part.offset most = omega (arith, more, c.in_ok-number.ensures.count, c.take.ensures.added) in
+    length_within (g.S.Storage.features c.args.storage.now) part.block.length number _ _ _ c.requires.positive known c.copy_round.ensures.no_longer
 
 pub returns-in-Err-clause-refusals : goal.returns-in-Err-clause-refusals
 returns-in-Err-clause-refusals g c = λ old_faults most some.
@@ -207,9 +207,9 @@ returns-in-Err-clause-refusals g c = λ old_faults most some.
     let number = c.in_ok-number.number in
     let e = c.take.ensures.entries in
     let under : part.offset < part.size = omega (arith, c.requires.some, c.requires.inside) in
-    let more = one_more part.block part.size (entries_of c.args.table.now) (count_of c.args.table.now) c.requires.positive c.requires.exact.covers part.offset under (empty_entry part.absent _ c.requires.absent c.requires.zero) Write part.offset most tt (omega arith) (omega (arith, some)) in
-    let known : number < data_count part.block part.size (entries_of c.args.table.now) (count_of c.args.table.now) None Write part.offset most = omega (arith, more, c.in_ok-number.ensures.count, c.take.ensures.added) in
-    round_refused (g.S.Storage.features c.args.storage.now) old_faults (g.S.Storage.bytes c.args.storage.now) part.size part.block (entries_of c.args.table.now) (count_of c.args.table.now) (lent g.B.LowerLayer.as_layer_below c.args.below) part.absent part.offset most number (number * part.block)
+    let more = one_more part.block.length part.size (entries_of c.args.table.now) (count_of c.args.table.now) c.requires.positive c.requires.exact.covers part.offset under (empty_entry part.absent _ c.requires.absent c.requires.zero) Write part.offset most tt (omega arith) (omega (arith, some)) in
+    let known : number < data_count part.block.length part.size (entries_of c.args.table.now) (count_of c.args.table.now) None Write part.offset most = omega (arith, more, c.in_ok-number.ensures.count, c.take.ensures.added) in
+    round_refused (g.S.Storage.features c.args.storage.now) old_faults (g.S.Storage.bytes c.args.storage.now) part.size part.block.length (entries_of c.args.table.now) (count_of c.args.table.now) (lent g.B.LowerLayer.as_layer_below c.args.below) part.absent part.offset most number (number * part.block.length)
     c.requires.positive under some c.requires.absent refl known (empty_entry part.absent _ c.requires.absent c.requires.zero) part.overwrite part.run c.in-Err.e c.in-Err.ensures.refusals
 
 pub returns-in-Err-clause-over : goal.returns-in-Err-clause-over
@@ -218,9 +218,9 @@ returns-in-Err-clause-over g c = λ most some run over.
     let number = c.in_ok-number.number in
     let e = c.take.ensures.entries in
     let under : part.offset < part.size = omega (arith, c.requires.some, c.requires.inside) in
-    let more = one_more part.block part.size (entries_of c.args.table.now) (count_of c.args.table.now) c.requires.positive c.requires.exact.covers part.offset under (empty_entry part.absent _ c.requires.absent c.requires.zero) Write part.offset most tt (omega arith) (omega (arith, some)) in
-    let known : number < data_count part.block part.size (entries_of c.args.table.now) (count_of c.args.table.now) None Write part.offset most = omega (arith, more, c.in_ok-number.ensures.count, c.take.ensures.added) in
-    over_refused (g.S.Storage.features c.args.storage.now) part.size part.block (entries_of c.args.table.now) (count_of c.args.table.now) (lent g.B.LowerLayer.as_layer_below c.args.below) part.absent part.overwrite part.offset most part.run number (number * part.block)
+    let more = one_more part.block.length part.size (entries_of c.args.table.now) (count_of c.args.table.now) c.requires.positive c.requires.exact.covers part.offset under (empty_entry part.absent _ c.requires.absent c.requires.zero) Write part.offset most tt (omega arith) (omega (arith, some)) in
+    let known : number < data_count part.block.length part.size (entries_of c.args.table.now) (count_of c.args.table.now) None Write part.offset most = omega (arith, more, c.in_ok-number.ensures.count, c.take.ensures.added) in
+    over_refused (g.S.Storage.features c.args.storage.now) part.size part.block.length (entries_of c.args.table.now) (count_of c.args.table.now) (lent g.B.LowerLayer.as_layer_below c.args.below) part.absent part.overwrite part.offset most part.run number (number * part.block.length)
     c.requires.absent refl known over run c.in-Err.e c.in-Err.ensures.refusals
 
 pub returns-then-not-fits_next-clause-refusals : goal.returns-then-not-fits_next-clause-refusals
@@ -228,8 +228,8 @@ returns-then-not-fits_next-clause-refusals g c = λ old_faults most some.
     let part = c.args.part in
     let full = c.fits_next.ensures.full c.if-not-fits_next.true in
     let under : part.offset < part.size = omega (arith, c.requires.some, c.requires.inside) in
-    let more = one_more part.block part.size (entries_of c.args.table.now) (count_of c.args.table.now) c.requires.positive c.requires.exact.covers part.offset under (empty_entry part.absent _ c.requires.absent c.requires.zero) Write part.offset most tt (omega arith) (omega (arith, some)) in
-    full_refused (g.S.Storage.features c.args.storage.now) old_faults (g.S.Storage.bytes c.args.storage.now) part.size part.block (entries_of c.args.table.now) (count_of c.args.table.now) (lent g.B.LowerLayer.as_layer_below c.args.below) part.offset most
+    let more = one_more part.block.length part.size (entries_of c.args.table.now) (count_of c.args.table.now) c.requires.positive c.requires.exact.covers part.offset under (empty_entry part.absent _ c.requires.absent c.requires.zero) Write part.offset most tt (omega arith) (omega (arith, some)) in
+    full_refused (g.S.Storage.features c.args.storage.now) old_faults (g.S.Storage.bytes c.args.storage.now) part.size part.block.length (entries_of c.args.table.now) (count_of c.args.table.now) (lent g.B.LowerLayer.as_layer_below c.args.below) part.offset most
     (g.met.S.Storage.lawful c.args.storage.now) c.requires.positive (omega (arith, more, full.0)) (full.1)
 
 pub returns-then-not-fits_next-clause-over : goal.returns-then-not-fits_next-clause-over
@@ -237,10 +237,10 @@ returns-then-not-fits_next-clause-over g c = λ most some run over.
     let part = c.args.part in
     let full = c.fits_next.ensures.full c.if-not-fits_next.true in
     let under : part.offset < part.size = omega (arith, c.requires.some, c.requires.inside) in
-    let more = one_more part.block part.size (entries_of c.args.table.now) (count_of c.args.table.now) c.requires.positive c.requires.exact.covers part.offset under (empty_entry part.absent _ c.requires.absent c.requires.zero) Write part.offset most tt (omega arith) (omega (arith, some)) in
+    let more = one_more part.block.length part.size (entries_of c.args.table.now) (count_of c.args.table.now) c.requires.positive c.requires.exact.covers part.offset under (empty_entry part.absent _ c.requires.absent c.requires.zero) Write part.offset most tt (omega arith) (omega (arith, some)) in
     inl (
       refl,
-      full_wraps (g.S.Storage.features c.args.storage.now) part.block part.size (entries_of c.args.table.now) (count_of c.args.table.now) part.offset most
+      full_wraps (g.S.Storage.features c.args.storage.now) part.block.length part.size (entries_of c.args.table.now) (count_of c.args.table.now) part.offset most
           (g.met.S.Storage.lawful c.args.storage.now) c.requires.positive (omega (arith, more, full.0)) (full.1),
     )
 

@@ -14,9 +14,9 @@ returns-clause-exact c = on_ok_weaker c.grow.result
     let w = c.first_whole-wanted.ensures in
     let x = c.requires.exact in
     let t = c.args.table.now.entries.items in
-    let fewer : length t ≤ c.first_whole-wanted.result = needs_no_fewer c.args.growth.block c.args.growth.size c.args.growth.new_size (length t) c.first_whole-wanted.result c.requires.grows w.begins x.near in
+    let fewer : length t ≤ c.first_whole-wanted.result = needs_no_fewer c.args.growth.block.length c.args.growth.size c.args.growth.new_size (length t) c.first_whole-wanted.result c.requires.grows w.begins x.near in
     let f = e ∙ ap (λ n. t ++ replicate (c.first_whole-wanted.result - n) (without_data c.args.kind)) c.len.ensures in
-    rw f (exact_added c.args.growth.block c.args.growth.new_size c.first_whole-wanted.result (without_data c.args.kind) t fewer w.begins w.near))
+    rw f (exact_added c.args.growth.block.length c.args.growth.new_size c.first_whole-wanted.result (without_data c.args.kind) t fewer w.begins w.near))
     c.grow.ensures.entries
 
 pub returns-clause-prefix : goal.returns-clause-prefix

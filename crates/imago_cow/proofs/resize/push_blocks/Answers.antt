@@ -17,7 +17,7 @@ pub push_filled-requires-clause-begins : goal.push_filled-requires-clause-begins
 push_filled-requires-clause-begins g c =
     let was = c.loop.invariant.0 in
     let less : length (entries_of c.loop.table) + 1 ≤ length (entries_of c.args.table.now) + c.args.missing = omega (arith, was.len, c.loop-test.true) in
-    let ends = times_more c.args.growth.block (length (entries_of c.loop.table) + 1) (length (entries_of c.args.table.now) + c.args.missing) less in
+    let ends = times_more c.args.growth.block.length (length (entries_of c.loop.table) + 1) (length (entries_of c.args.table.now) + c.args.missing) less in
     omega (arith, ends, c.requires.ends)
 
 pub returns-in_err-push_filled-clause-bytes : goal.returns-in_err-push_filled-clause-bytes
@@ -25,7 +25,7 @@ returns-in_err-push_filled-clause-bytes g c = λ k i j r e s h.
     let was = c.loop.invariant.0 in
     let now_keeps : IsTrue (g.S.Storage.features c.loop.storage).keeps_data = subst (λ f. IsTrue f.keeps_data) (sym c.loop.invariant.6) k in
     let less : length (entries_of c.args.table.now) ≤ length (entries_of c.loop.table) = omega (arith, was.len) in
-    let ends = times_more c.args.growth.block (length (entries_of c.args.table.now)) (length (entries_of c.loop.table)) less in
+    let ends = times_more c.args.growth.block.length (length (entries_of c.args.table.now)) (length (entries_of c.loop.table)) less in
     c.in_err-push_filled.ensures.bytes now_keeps i j r (was.extended.names i j e) s (omega (arith, h, ends)) ∙ was.extended.bytes k i j r e s h
 
 pub returns-in_err-push_filled-clause-refusals : goal.returns-in_err-push_filled-clause-refusals
@@ -36,12 +36,12 @@ returns-in_err-push_filled-clause-refusals g c = λ most counted named.
     let a : count_of c.loop.table ≤ most = omega (arith, was.counted, counted, named, c.loop-test.true) in
     let b : named_count (entries_of c.loop.table) + 1 ≤ most = omega (arith, was.named, named, c.loop-test.true) in
     let less : length (entries_of c.args.table.now) ≤ length (entries_of c.loop.table) = omega (arith, was.len) in
-    let starts = times_more c.args.growth.block (length (entries_of c.args.table.now)) (length (entries_of c.loop.table)) less in
-    let some : ℕ → Type 0 = λ q. (length (entries_of c.loop.table) * c.args.growth.block ≤ q) × (q < c.args.growth.new_size) in
-    let r : allowed (fill_reasons (g.S.Storage.features c.args.storage.now) l (most * c.args.growth.block) some) c.in_err-push_filled.field-0.0 =
-    subst (λ f. allowed (fill_reasons f l (most * c.args.growth.block) some) c.in_err-push_filled.field-0.0) c.loop.invariant.6 (c.in_err-push_filled.ensures.refusals most a b) in
-    rw (p.1, p.2) (limit_refused (g.S.Storage.features c.args.storage.now) l (most * c.args.growth.block) (most * c.args.growth.block) some _ c.in_err-push_filled.field-0.0 (omega arith)
-    (λ q i. let x : length (entries_of c.args.table.now) * c.args.growth.block ≤ q = omega (arith, starts, i.0) in (x, i.1)) r)
+    let starts = times_more c.args.growth.block.length (length (entries_of c.args.table.now)) (length (entries_of c.loop.table)) less in
+    let some : ℕ → Type 0 = λ q. (length (entries_of c.loop.table) * c.args.growth.block.length ≤ q) × (q < c.args.growth.new_size) in
+    let r : allowed (fill_reasons (g.S.Storage.features c.args.storage.now) l (most * c.args.growth.block.length) some) c.in_err-push_filled.field-0.0 =
+    subst (λ f. allowed (fill_reasons f l (most * c.args.growth.block.length) some) c.in_err-push_filled.field-0.0) c.loop.invariant.6 (c.in_err-push_filled.ensures.refusals most a b) in
+    rw (p.1, p.2) (limit_refused (g.S.Storage.features c.args.storage.now) l (most * c.args.growth.block.length) (most * c.args.growth.block.length) some _ c.in_err-push_filled.field-0.0 (omega arith)
+    (λ q i. let x : length (entries_of c.args.table.now) * c.args.growth.block.length ≤ q = omega (arith, starts, i.0) in (x, i.1)) r)
 
 pub loop-preserved : goal.loop-preserved
 loop-preserved g c =
@@ -55,12 +55,12 @@ loop-preserved g c =
     let x = g.S.Storage.bytes c.loop.storage in
     let y = g.S.Storage.bytes c.push_filled.new.storage in
     let less : length e + 1 ≤ length (entries_of c.args.table.now) + c.args.missing = omega (arith, was.len, c.loop-test.true) in
-    let ends = times_more c.args.growth.block (length e + 1) (length (entries_of c.args.table.now) + c.args.missing) less in
-    let begins : length e * c.args.growth.block < c.args.growth.new_size = omega (arith, ends, c.requires.ends) in
-    let pushed : IsPushed l.at f.keeps_data c.args.growth.block c.args.growth.new_size e next x y = subst (λ z. IsPushed l.at z.keeps_data c.args.growth.block c.args.growth.new_size e next x y) inv.6 done.pushed in
+    let ends = times_more c.args.growth.block.length (length e + 1) (length (entries_of c.args.table.now) + c.args.missing) less in
+    let begins : length e * c.args.growth.block.length < c.args.growth.new_size = omega (arith, ends, c.requires.ends) in
+    let pushed : IsPushed l.at f.keeps_data c.args.growth.block.length c.args.growth.new_size e next x y = subst (λ z. IsPushed l.at z.keeps_data c.args.growth.block.length c.args.growth.new_size e next x y) inv.6 done.pushed in
     let counted : CountsFaults {T = Unit {0}} (f.is_reliable && l.is_reliable) (g.S.Storage.fault_count c.loop.storage + c.loop.faults) (g.S.Storage.fault_count c.push_filled.new.storage + c.push_filled.new.faults) (Ok tt) =
     subst (λ z. CountsFaults {T = Unit {0}} (z.is_reliable && l.is_reliable) (g.S.Storage.fault_count c.loop.storage + c.loop.faults) (g.S.Storage.fault_count c.push_filled.new.storage + c.push_filled.new.faults) (Ok tt)) inv.6 done.faults in (
-      pushing_more l.at f.keeps_data c.args.growth.block c.args.growth.new_size (entries_of c.args.table.now) e next (g.S.Storage.bytes c.args.storage.now) x y (count_of c.args.table.now) (count_of c.loop.table) (count_of c.push_filled.new.table) c.loop.counter
+      pushing_more l.at f.keeps_data c.args.growth.block.length c.args.growth.new_size (entries_of c.args.table.now) e next (g.S.Storage.bytes c.args.storage.now) x y (count_of c.args.table.now) (count_of c.loop.table) (count_of c.push_filled.new.table) c.loop.counter
           c.requires.positive begins was pushed done.added,
       done.held,
       done.addressed,
@@ -70,7 +70,7 @@ loop-preserved g c =
           let a = inv.5 most before (omega (arith, named)) in
           let s : count_of c.loop.table ≤ most = omega (arith, was.counted, before, named) in
           let t : named_count e + 1 ≤ most = omega (arith, was.named, named) in
-          let b : length y ≤ max (length x) (padded_to f 0 (most * c.args.growth.block)) = subst (λ z. length y ≤ max (length x) (padded_to z 0 (most * c.args.growth.block))) inv.6 (done.no_longer most s t) in
+          let b : length y ≤ max (length x) (padded_to f 0 (most * c.args.growth.block.length)) = subst (λ z. length y ≤ max (length x) (padded_to z 0 (most * c.args.growth.block.length))) inv.6 (done.no_longer most s t) in
           omega (arith, a, b)),
       done.features ∙ inv.6,
       counts_then (f.is_reliable && l.is_reliable) _ _ _ (Ok tt) inv.7 counted,

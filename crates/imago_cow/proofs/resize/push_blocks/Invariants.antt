@@ -9,11 +9,11 @@ use Rattle.imago_cow.proofs.resize.push_blocks.Given as goal
 
 abbrev pub invariant-loop : goal.invariant-loop
 invariant-loop g l =
-    IsPushing (lent g.B.LowerLayer.as_layer_below l.fn.below).at (g.S.Storage.features l.fn.storage).keeps_data l.fn.growth.block l.fn.growth.new_size (entries_of l.fn.table) (entries_of l.table) (g.S.Storage.bytes l.fn.storage) (g.S.Storage.bytes l.storage) (count_of l.fn.table) (count_of l.table) l.counter
+    IsPushing (lent g.B.LowerLayer.as_layer_below l.fn.below).at (g.S.Storage.features l.fn.storage).keeps_data l.fn.growth.block.length l.fn.growth.new_size (entries_of l.fn.table) (entries_of l.table) (g.S.Storage.bytes l.fn.storage) (g.S.Storage.bytes l.storage) (count_of l.fn.table) (count_of l.table) l.counter
     × (held_of l.table ≡ None)
-    × (count_of l.table * l.fn.growth.block < 2 ^ 64)
+    × (count_of l.table * l.fn.growth.block.length < 2 ^ 64)
     × KeepsRoom l.fn.table l.table
     × (length (g.S.Storage.bytes l.fn.storage) ≤ length (g.S.Storage.bytes l.storage))
-    × ((most : ℕ) → count_of l.fn.table ≤ most → named_count (entries_of l.fn.table) + l.counter ≤ most → length (g.S.Storage.bytes l.storage) ≤ max (length (g.S.Storage.bytes l.fn.storage)) (padded_to (g.S.Storage.features l.fn.storage) 0 (most * l.fn.growth.block)))
+    × ((most : ℕ) → count_of l.fn.table ≤ most → named_count (entries_of l.fn.table) + l.counter ≤ most → length (g.S.Storage.bytes l.storage) ≤ max (length (g.S.Storage.bytes l.fn.storage)) (padded_to (g.S.Storage.features l.fn.storage) 0 (most * l.fn.growth.block.length)))
     × (g.S.Storage.features l.storage ≡ g.S.Storage.features l.fn.storage)
     × CountsFaults {T = Unit {0}} ((g.S.Storage.features l.fn.storage).is_reliable && (lent g.B.LowerLayer.as_layer_below l.fn.below).is_reliable) (g.S.Storage.fault_count l.fn.storage + l.fn.faults) (g.S.Storage.fault_count l.storage + l.faults) (Ok tt)

@@ -1,10 +1,11 @@
-use Rattle.std.proofs.Common.{rules, ◌-◌, arith, refl}
+use Rattle.std.proofs.Common.{rules, ◌-◌, ◌<◌, arith, refl}
 use Rattle.std.proofs.lemmas.Result.{err_from_is_err_and}
 use Rattle.std.specs.Prelude.{IsErrOf}
 use Rattle.imago_storage.specs.declared.error.Error.{Error}
 use Rattle.imago_storage.specs.Padding.{RangeWraps}
 use Rattle.imago_drivers.proofs.StorageBytes.{no_wrap}
 use Rattle.imago_drivers.proofs.AlignedParts.{whole_start, whole_length, part_fits, outside_part, outside_more, same_faults, part_discarded}
+use Rattle.imago_drivers.proofs.Stays.{discard_outside}
 use Rattle.imago_drivers.proofs.raw.discard_part.Goals as goal
 
 pub returns-clause-whole : goal.returns-clause-whole
@@ -46,3 +47,27 @@ returns-in_err-discard-clause-cause g c =
     let p = err_from_is_err_and c.from_residual.result c.from_residual.ensures.1 in
     let cause = rw c.in_err-discard.was at c.discard.ensures.cause in
     rw (p.1, p.2) (same_faults _ _ _ _ cause)
+
+pub returns-clause-outside : goal.returns-clause-outside
+returns-clause-outside g c = λ size.
+    let a = c.in-Some.ensures in
+    let n = c.in-Some.end - c.in-Some.start in
+    let align = c.discard_align-align.ensures.value in
+    let some : 0 < n = omega (arith, c.if-end-start.false) in
+    let part = outside_part (g.S.Storage.features c.args.storage.now).discard_align
+    c.discard_align-align.result c.args.offset c.args.count c.in-Some.start c.in-Some.end _ _
+    align a (omega (arith, c.if-end-start.false)) c.discard.ensures.bytes in
+    discard_outside _ size c.args.offset c.args.count c.in-Some.start n _ _ a.before
+    (omega (arith, a.before, a.behind, some)) part
+
+pub returns-in_err-discard-clause-outside : goal.returns-in_err-discard-clause-outside
+returns-in_err-discard-clause-outside g c = λ size.
+    let a = c.in-Some.ensures in
+    let n = c.in-Some.end - c.in-Some.start in
+    let align = c.discard_align-align.ensures.value in
+    let some : 0 < n = omega (arith, c.if-end-start.false) in
+    let part = outside_part (g.S.Storage.features c.args.storage.now).discard_align
+    c.discard_align-align.result c.args.offset c.args.count c.in-Some.start c.in-Some.end _ _
+    align a (omega (arith, c.if-end-start.false)) c.discard.ensures.bytes in
+    discard_outside _ size c.args.offset c.args.count c.in-Some.start n _ _ a.before
+    (omega (arith, a.before, a.behind, some)) part

@@ -1,4 +1,4 @@
-use Rattle.std.proofs.Common.{rules, ◌≡◌, ◌-◌, ◌<◌, arith, refl}
+use Rattle.std.proofs.Common.{rules, ◌≡◌, ◌-◌, ◌<◌, arith, refl, true, false}
 use Rattle.std.proofs.lemmas.Result.{err_from_is_err_and}
 use Rattle.std.specs.Prelude.{IsErrOf}
 use Rattle.imago_storage.specs.declared.error.Error.{Error}
@@ -7,6 +7,7 @@ use Rattle.imago_storage.specs.Features.{IsAlignedTo}
 use Rattle.imago_storage.specs.Padding.{IsAlignedPart}
 use Rattle.imago_drivers.proofs.StorageBytes.{zeroed_bytes, torn_zeroes, torn_in_range, on_refusal}
 use Rattle.imago_drivers.proofs.AlignedParts.{whole_start, whole_length, same_faults, aligned_part_is, part_zeroed, nothing_zeroed, wraps_without_part}
+use Rattle.imago_drivers.proofs.Stays.{set_outside}
 use Rattle.imago_drivers.proofs.Lengths.{near_end, longest_zeroes}
 use Rattle.imago_drivers.proofs.raw.zero_part.Goals as goal
 
@@ -93,3 +94,23 @@ returns-then-end-start-clause-performed g c =
     let p = c.in-Some.ensures in
     let q : IsAlignedPart (g.S.Storage.features c.args.storage.now).zero_align c.args.offset c.args.count c.in-Some.start c.in-Some.end = rw c.zero_align-align.ensures.value at p in
     nothing_zeroed _ _ (g.S.Storage.features c.args.storage.now) _ _ _ (omega (arith, q.is_start, q.is_end, c.if-end-start.true))
+
+pub returns-clause-outside : goal.returns-clause-outside
+returns-clause-outside g c = λ size.
+    let p = c.in-Some.ensures in
+    let some : 0 < c.in-Some.end - c.in-Some.start = omega (arith, c.if-end-start.false) in
+    let z = c.in_ok-write_zeroes.ensures.written some in
+    set_outside _ false size c.args.offset c.args.count c.in-Some.start
+    (c.in-Some.end - c.in-Some.start) _ _ _ p.before (omega (arith, p.behind))
+    (λ k. zeroed_bytes _ _ c.in-Some.start (c.in-Some.end - c.in-Some.start) z.end
+    (z.written.done k))
+
+pub returns-in_err-write_zeroes-clause-outside : goal.returns-in_err-write_zeroes-clause-outside
+returns-in_err-write_zeroes-clause-outside g c = λ size.
+    let p = c.in-Some.ensures in
+    let some : 0 < c.in-Some.end - c.in-Some.start = omega (arith, c.if-end-start.false) in
+    let z = c.in_err-write_zeroes.ensures.written some in
+    set_outside _ true size c.args.offset c.args.count c.in-Some.start
+    (c.in-Some.end - c.in-Some.start) _ _ _ p.before (omega (arith, p.behind))
+    (λ k. torn_zeroes _ _ c.in-Some.start (c.in-Some.end - c.in-Some.start) z.end
+    (z.written.refused k))

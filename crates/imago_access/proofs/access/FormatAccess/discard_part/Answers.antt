@@ -17,7 +17,7 @@ returns-in-ToAny-clause-loosened g c =
     let d = c.discard_to_any.new.self in
     let at = (lent_image v (backing x)).at in
     subst (λ (k : DiscardCall). HasLoosenedPart v k c.args.offset c.args.count x (with_driver x d) c.discard_to_any.result) (sym c.in-ToAny.is)
-    (part_loosened v x d C.ToAny c.args.offset c.args.count c.discard_to_any.result e.done.inside e.done.whole (λ k. e.done.done k at) (λ k. e.done.refused k at) e.causes e.nothing_pending (stays _ _ e.framed e.lengths.no_shorter) e.faults e.refusals)
+    (part_loosened v x d C.ToAny c.args.offset c.args.count c.discard_to_any.result e.done.inside e.done.whole (λ k. e.done.done k at) (λ k. e.done.refused k at) e.causes e.nothing_pending (stays _ _ e.framed e.lengths.no_shorter) e.outside e.faults e.refusals)
 
 pub returns-in-ToBacking-clause-loosened : goal.returns-in-ToBacking-clause-loosened
 returns-in-ToBacking-clause-loosened g c =
@@ -27,7 +27,7 @@ returns-in-ToBacking-clause-loosened g c =
     let d = c.discard_to_backing.new.self in
     let at = (lent_image v (backing x)).at in
     subst (λ (k : DiscardCall). HasLoosenedPart v k c.args.offset c.args.count x (with_driver x d) c.discard_to_backing.result) (sym c.in-ToBacking.is)
-    (part_loosened v x d C.ToBacking c.args.offset c.args.count c.discard_to_backing.result e.done.inside e.done.whole (λ k. e.done.done k at) (λ k. e.done.refused k at) e.causes e.nothing_pending (stays _ _ e.framed e.lengths.no_shorter) e.faults e.refusals)
+    (part_loosened v x d C.ToBacking c.args.offset c.args.count c.discard_to_backing.result e.done.inside e.done.whole (λ k. e.done.done k at) (λ k. e.done.refused k at) e.causes e.nothing_pending (stays _ _ e.framed e.lengths.no_shorter) e.outside e.faults e.refusals)
 
 pub returns-in-ToAny-clause-performed : goal.returns-in-ToAny-clause-performed
 returns-in-ToAny-clause-performed g c =

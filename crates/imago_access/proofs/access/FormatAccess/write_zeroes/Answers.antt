@@ -8,7 +8,7 @@ use Rattle.imago_access.proofs.access.FormatAccess.write_zeroes.Goals as goal
 pub returns-clause-zeroed : goal.returns-clause-zeroed
 returns-clause-zeroed g c =
     let t = c.in_ok-test_end.ensures.passed in
-    zero_call g.D.FormatDriverInstance.view Zero c.args.self.now c.zero_range.new.self c.args.offset c.args.count c.zero_range.result t.0 t.1 (λ big. omega (arith, t.2, big)) c.zero_range.ensures.empty c.zero_range.ensures.zeroed
+    zero_call g.D.FormatDriverInstance.view Zero c.args.self.now c.zero_range.new.self c.args.offset c.args.count c.zero_range.result t.0 t.1 (λ big. omega (arith, t.2, big)) tt c.zero_range.ensures.empty c.zero_range.ensures.zeroed
 
 pub returns-in_err-test_end-clause-zeroed : goal.returns-in_err-test_end-clause-zeroed
 returns-in_err-test_end-clause-zeroed g c =

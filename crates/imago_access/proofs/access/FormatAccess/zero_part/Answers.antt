@@ -13,7 +13,7 @@ returns-in-EnsureZero-clause-zeroed g c =
     let v = g.D.FormatDriverInstance.view in
     let d = c.ensure_zero_mapping.new.self in
     subst (λ (k : ZeroCall). HasZeroedPart v (operation_of k) c.args.offset c.args.count c.args.self.now (with_driver c.args.self.now d) c.ensure_zero_mapping.result) (sym c.in-EnsureZero.is)
-    (part_zeroed v c.args.self.now d Zero c.args.offset c.args.count c.ensure_zero_mapping.result (g.met.D.FormatDriverInstance.causes_lawful _) e.done e.causes e.reaches e.nothing_pending (stays _ _ e.framed e.lengths.no_shorter) e.faults e.refusals)
+    (part_zeroed v c.args.self.now d Zero c.args.offset c.args.count c.ensure_zero_mapping.result (g.met.D.FormatDriverInstance.causes_lawful _) e.done e.causes e.reaches e.nothing_pending (stays _ _ e.framed e.lengths.no_shorter) e.outside e.faults e.refusals)
 
 pub returns-in-DiscardToZero-clause-zeroed : goal.returns-in-DiscardToZero-clause-zeroed
 returns-in-DiscardToZero-clause-zeroed g c =
@@ -21,4 +21,4 @@ returns-in-DiscardToZero-clause-zeroed g c =
     let v = g.D.FormatDriverInstance.view in
     let d = c.discard_to_zero.new.self in
     subst (λ (k : ZeroCall). HasZeroedPart v (operation_of k) c.args.offset c.args.count c.args.self.now (with_driver c.args.self.now d) c.discard_to_zero.result) (sym c.in-DiscardToZero.is)
-    (part_zeroed v c.args.self.now d DiscardToZero c.args.offset c.args.count c.discard_to_zero.result (g.met.D.FormatDriverInstance.causes_lawful _) e.done e.causes e.reaches e.nothing_pending (stays _ _ e.framed e.lengths.no_shorter) e.faults e.refusals)
+    (part_zeroed v c.args.self.now d DiscardToZero c.args.offset c.args.count c.discard_to_zero.result (g.met.D.FormatDriverInstance.causes_lawful _) e.done e.causes e.reaches e.nothing_pending (stays _ _ e.framed e.lengths.no_shorter) e.outside e.faults e.refusals)

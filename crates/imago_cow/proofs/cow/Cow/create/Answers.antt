@@ -8,4 +8,4 @@ pub returns-clause-leads_below : goal.returns-clause-leads_below
 returns-clause-leads_below g c = λ bytes p h.
     let n = c.first_whole-guest_blocks.result in
     let e : entries_of c.in_ok-table.table ≡ replicate n GuestBlock.Absent = c.in_ok-table.ensures.entries in
-    rw e (leads_below bytes c.args.size c.args.block n c.first_whole-guest_blocks.ensures.begins p h)
+    rw (e, c.new-block_size.ensures) (leads_below bytes c.args.size c.args.block n (rw c.new-block_size.ensures at c.first_whole-guest_blocks.ensures.begins) p h)

@@ -5,7 +5,7 @@ use Rattle.imago_cow.proofs.cow.CowFormatDriverInstance.ensure_zero_mapping.Goal
 pub returns-clause-call : goal.returns-clause-call
 returns-clause-call g c =
     let s = c.args.self.now in
-    let none : s.waiting ≡ None = none_waits s.block s.size (g.S.Storage.bytes s.storage) s.waiting c.requires.spent in
+    let none : s.waiting ≡ None = none_waits s.block.length s.size (g.S.Storage.bytes s.storage) s.waiting c.requires.spent in
     rw none (c.make_zero.ensures.zero (g.S.Storage.features s.storage) (g.S.Storage.fault_count s.storage + s.faults) (g.S.Storage.bytes s.storage))
 
 pub returns-clause-made : goal.returns-clause-made

@@ -10,10 +10,10 @@ returns g c =
     let e = c.flush.ensures in
     record {
       performed = (e.performed, (refl, refl, refl, refl, refl, refl));
-      unchanged = same_bytes _ _ _ _ _ _ s.size s.block (entries_of s.table) (count_of s.table) s.waiting e.unchanged e.features;
+      unchanged = same_bytes _ _ _ _ _ _ s.size s.block.length (entries_of s.table) (count_of s.table) s.waiting e.unchanged e.features;
       pending = rw e.unchanged refl;
       causes = rw e.features (record { causes = λ op o n r x. x; copied = λ op o n p x. x });
       lengths = record { no_shorter = λ i. rw e.unchanged (omega arith); no_longer = λ i. rw e.unchanged (omega arith) };
       faults = storage_faults _ _ s.faults _ c.flush.result e.cause;
-      refusals = flush_refused (cow_view (g.S.Storage.features s.storage) (g.S.Storage.fault_count s.storage + s.faults) (g.S.Storage.bytes s.storage) s.size s.block (entries_of s.table) (count_of s.table) s.waiting) c.flush.result (λ x k. k (e.memory x)) e.only;
+      refusals = flush_refused (cow_view (g.S.Storage.features s.storage) (g.S.Storage.fault_count s.storage + s.faults) (g.S.Storage.bytes s.storage) s.size s.block.length (entries_of s.table) (count_of s.table) s.waiting) c.flush.result (λ x k. k (e.memory x)) e.only;
     }

@@ -25,20 +25,20 @@ returns-then-count-eq0-clause-call g c =
     let n = g.S.Storage.fault_count s.storage + s.faults in
     let E = entries_of s.table in
     let L = lent g.B.LowerLayer.as_layer_below c.args.below in
-    let none : s.waiting ≡ None = none_waits s.block s.size A s.waiting c.requires.spent in
-    stands_prepared (cow_view f n A s.size s.block E (count_of s.table) s.waiting) L c.args.offset c.args.count c.requires.spent (cow_causes f n A s.size s.block E (count_of s.table) s.waiting) c.existing.result
+    let none : s.waiting ≡ None = none_waits s.block.length s.size A s.waiting c.requires.spent in
+    stands_prepared (cow_view f n A s.size s.block.length E (count_of s.table) s.waiting) L c.args.offset c.args.count c.requires.spent (cow_causes f n A s.size s.block.length E (count_of s.table) s.waiting) c.existing.result
 
 pub overflow_mul-number : goal.overflow_mul-number
 overflow_mul-number g c =
     let s = c.args.self.now in
-    let k = named_below s.table _ c.in-Data.number (c.get-entry.ensures ∙ ap (λ x. Some x) c.in-Data.is) in
-    omega (arith, number_ends s.block c.in-Data.number (count_of s.table) k, s.addressed)
+    let k = named_below s.table _ c.in-Data.number (c.entry_at-entry.ensures ∙ ap (λ x. Some x) c.in-Data.is) in
+    omega (arith, number_ends s.block.length c.in-Data.number (count_of s.table) k, s.addressed)
 
 pub overflow_add-number : goal.overflow_add-number
 overflow_add-number g c =
     let s = c.args.self.now in
-    let k = named_below s.table _ c.in-Data.number (c.get-entry.ensures ∙ ap (λ x. Some x) c.in-Data.is) in
-    omega (arith, number_ends s.block c.in-Data.number (count_of s.table) k, rest_small s.block s.positive c.args.offset, s.addressed)
+    let k = named_below s.table _ c.in-Data.number (c.entry_at-entry.ensures ∙ ap (λ x. Some x) c.in-Data.is) in
+    omega (arith, number_ends s.block.length c.in-Data.number (count_of s.table) k, rest_small s.block.length s.positive c.args.offset, s.addressed)
 
 pub returns-in-Data-clause-prepared : goal.returns-in-Data-clause-prepared
 returns-in-Data-clause-prepared g c =
@@ -48,10 +48,10 @@ returns-in-Data-clause-prepared g c =
     let n = g.S.Storage.fault_count s.storage + s.faults in
     let E = entries_of s.table in
     let L = lent g.B.LowerLayer.as_layer_below c.args.below in
-    let none : s.waiting ≡ None = none_waits s.block s.size A s.waiting c.requires.spent in
+    let none : s.waiting ≡ None = none_waits s.block.length s.size A s.waiting c.requires.spent in
     let m = c.existing-in-Data.ensures in
-    rw none (prepared_existing f n A s.size s.block E (count_of s.table) c.args.offset c.args.count s.positive c.requires.inside c.in-Data.number c.min-run.result c.args.overwrite _ c.existing-in-Data.result
-    (c.get-entry.ensures ∙ ap (λ x. Some x) c.in-Data.is) (omega (arith, c.if-count-eq0.false)) c.min-run.ensures m.storage m.offset m.length m.state)
+    rw none (prepared_existing f n A s.size s.block.length E (count_of s.table) c.args.offset c.args.count s.positive c.requires.inside c.in-Data.number c.min-run.result c.args.overwrite _ c.existing-in-Data.result
+    (c.entry_at-entry.ensures ∙ ap (λ x. Some x) c.in-Data.is) (omega (arith, c.if-count-eq0.false)) (rw c.rest-rest.ensures.value at c.min-run.ensures) m.storage (rw c.rest-rest.ensures.value at m.offset) m.length m.state)
 
 pub returns-in-Data-clause-call : goal.returns-in-Data-clause-call
 returns-in-Data-clause-call g c =
@@ -61,8 +61,8 @@ returns-in-Data-clause-call g c =
     let n = g.S.Storage.fault_count s.storage + s.faults in
     let E = entries_of s.table in
     let L = lent g.B.LowerLayer.as_layer_below c.args.below in
-    let none : s.waiting ≡ None = none_waits s.block s.size A s.waiting c.requires.spent in
-    stands_prepared (cow_view f n A s.size s.block E (count_of s.table) s.waiting) L c.args.offset c.args.count c.requires.spent (cow_causes f n A s.size s.block E (count_of s.table) s.waiting) c.existing-in-Data.result
+    let none : s.waiting ≡ None = none_waits s.block.length s.size A s.waiting c.requires.spent in
+    stands_prepared (cow_view f n A s.size s.block.length E (count_of s.table) s.waiting) L c.args.offset c.args.count c.requires.spent (cow_causes f n A s.size s.block.length E (count_of s.table) s.waiting) c.existing-in-Data.result
 
 pub returns-in-Data-clause-in_data : goal.returns-in-Data-clause-in_data
 returns-in-Data-clause-in_data g c = λ j h. (refl, refl, refl, refl)
@@ -75,7 +75,7 @@ returns-in_err-waiting g c =
     let n = g.S.Storage.fault_count s.storage + s.faults in
     let E = entries_of s.table in
     let L = lent g.B.LowerLayer.as_layer_below c.args.below in
-    let none : s.waiting ≡ None = none_waits s.block s.size A s.waiting c.requires.spent in
+    let none : s.waiting ≡ None = none_waits s.block.length s.size A s.waiting c.requires.spent in
     let t = c.prepare_part.new in
     let B = g.S.Storage.bytes t.storage in
     let n' = g.S.Storage.fault_count t.storage + t.faults in
@@ -95,9 +95,9 @@ returns-in_err-waiting g c =
       entries = e.entries;
       added = e.added;
       lowest = tt;
-      in_data = λ j h. absurd (not_in_data _ _ j c.get-entry.ensures c.in_default.not-Data h);
+      in_data = λ j h. absurd (not_in_data _ _ j c.entry_at-entry.ensures c.in_default.not-Data h);
       performed = (refl, refl, e.entries, refl, tt);
-      over = λ o. c.in_err-waiting.ensures.over c.args.count some c.min-run.ensures o;
+      over = λ o. c.in_err-waiting.ensures.over c.args.count some (rw c.rest-rest.ensures.value at c.min-run.ensures) o;
     })
 
 pub returns : goal.returns
@@ -108,7 +108,7 @@ returns g c =
     let n = g.S.Storage.fault_count s.storage + s.faults in
     let E = entries_of s.table in
     let L = lent g.B.LowerLayer.as_layer_below c.args.below in
-    let none : s.waiting ≡ None = none_waits s.block s.size A s.waiting c.requires.spent in
+    let none : s.waiting ≡ None = none_waits s.block.length s.size A s.waiting c.requires.spent in
     let t = c.prepare_part.new in
     let B = g.S.Storage.bytes t.storage in
     let n' = g.S.Storage.fault_count t.storage + t.faults in
@@ -119,7 +119,7 @@ returns g c =
     let m = c.to_commit.ensures in
     let S = k.settled in
     record {
-      prepared = rw (none, e.features, e.entries) (k.prepared c.args.count n' n c.to_commit.result some c.min-run.ensures m.storage m.offset m.length m.state);
+      prepared = rw (none, e.features, e.entries) (k.prepared c.args.count n' n c.to_commit.result some (rw c.rest-rest.ensures.value at c.min-run.ensures) m.storage m.offset m.length m.state);
       call = rw (none, e.features, e.entries) (record {
         unchanged = e.unchanged n' n (Some w);
         refused = tt;
@@ -133,9 +133,9 @@ returns g c =
       lowest = λ with_state. record {
         number = w.number;
         lowest = k.lowest;
-        stands = m.offset ∙ k.apart.offset ∙ ap (λ o. w.number * s.block + o % s.block) k.same.0;
+        stands = m.offset ∙ k.apart.offset ∙ ap (λ o. w.number * s.block.length + o % s.block.length) k.same.0;
       };
-      in_data = λ j h. absurd (not_in_data _ _ j c.get-entry.ensures c.in_default.not-Data h);
+      in_data = λ j h. absurd (not_in_data _ _ j c.entry_at-entry.ensures c.in_default.not-Data h);
       performed = (refl, refl, e.entries, tt, rw m.state (refl, ap ticket_of k.same.2));
       over = λ o. tt;
     }

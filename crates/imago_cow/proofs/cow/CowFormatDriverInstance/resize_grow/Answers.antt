@@ -6,14 +6,14 @@ use Rattle.imago_cow.proofs.cow.CowFormatDriverInstance.resize_grow.Goals as goa
 pub returns-in_err-grow-clause-call : goal.returns-in_err-grow-clause-call
 returns-in_err-grow-clause-call g c =
     let s = c.args.self.now in
-    let none : s.waiting ≡ None = none_waits s.block s.size (g.S.Storage.bytes s.storage) s.waiting c.requires.spent in
+    let none : s.waiting ≡ None = none_waits s.block.length s.size (g.S.Storage.bytes s.storage) s.waiting c.requires.spent in
     let p = err_from_is_err_and c.from_residual.result c.from_residual.ensures.1 in
     rw (p.1, p.2, none, c.grow.ensures.features, c.in_err-grow.ensures.entries) c.in_err-grow.ensures.refused
 
 pub returns-clause-call : goal.returns-clause-call
 returns-clause-call g c =
     let s = c.args.self.now in
-    let none : s.waiting ≡ None = none_waits s.block s.size (g.S.Storage.bytes s.storage) s.waiting c.requires.spent in
+    let none : s.waiting ≡ None = none_waits s.block.length s.size (g.S.Storage.bytes s.storage) s.waiting c.requires.spent in
     rw (none, c.grow.ensures.features) c.in_ok-grow.ensures.grown
 
 pub returns-clause-performed : goal.returns-clause-performed

@@ -25,10 +25,10 @@ overflow_add-waiting g c =
     let n = g.S.Storage.fault_count s.storage + s.faults in
     let w = c.in-Some.waiting in
     let is = c.in-Some.is in
-    let own : IsOwn (cow_pending s.block s.size A s.waiting) m = (c.is_waiting.ensures s.block s.size A).0 c.if-not-is_waiting.false in
-    let own_w : IsOwn (cow_pending s.block s.size A (Some w)) m = rw is at own in
-    let apart : WaitsApart s.block s.size (entries_of s.table) (count_of s.table) w = s.waits_apart w is in
-    let ends : w.offset + w.length ≤ count_of s.table * s.block = omega (arith, number_ends s.block w.number (count_of s.table) apart.known, apart.offset, apart.in_block) in
+    let own : IsOwn (cow_pending s.block.length s.size A s.waiting) m = (c.is_waiting.ensures s.block.length s.size A).0 c.if-not-is_waiting.false in
+    let own_w : IsOwn (cow_pending s.block.length s.size A (Some w)) m = rw is at own in
+    let apart : WaitsApart s.block.length s.size (entries_of s.table) (count_of s.table) w = s.waits_apart w is in
+    let ends : w.offset + w.length ≤ count_of s.table * s.block.length = omega (arith, number_ends s.block.length w.number (count_of s.table) apart.known, apart.offset, apart.in_block) in
     omega (arith, ends, c.requires, own_w.2, s.addressed)
 
 pub returns-then-not-is_nonblocking-clause-foreign : goal.returns-then-not-is_nonblocking-clause-foreign
@@ -40,14 +40,14 @@ returns-then-not-is_nonblocking-clause-foreign g c =
     let n = g.S.Storage.fault_count s.storage + s.faults in
     let w = c.in-Some.waiting in
     let is = c.in-Some.is in
-    let own : IsOwn (cow_pending s.block s.size A s.waiting) m = (c.is_waiting.ensures s.block s.size A).0 c.if-not-is_waiting.false in
-    let own_w : IsOwn (cow_pending s.block s.size A (Some w)) m = rw is at own in
-    let apart : WaitsApart s.block s.size (entries_of s.table) (count_of s.table) w = s.waits_apart w is in
+    let own : IsOwn (cow_pending s.block.length s.size A s.waiting) m = (c.is_waiting.ensures s.block.length s.size A).0 c.if-not-is_waiting.false in
+    let own_w : IsOwn (cow_pending s.block.length s.size A (Some w)) m = rw is at own in
+    let apart : WaitsApart s.block.length s.size (entries_of s.table) (count_of s.table) w = s.waits_apart w is in
     let B = g.S.Storage.bytes c.write_stored.new.storage in
     let n' = g.S.Storage.fault_count c.write_stored.new.storage + s.faults in
     let r = c.write_stored.result in
     let inside : c.args.at + length c.args.source.now ≤ w.length = omega (arith, c.requires, own_w.2) in
-    (λ e. absurd (not_foreign r c.write_stored.ensures.only e), λ x. absurd (own_is_written (cow_view f n A s.size s.block (entries_of s.table) (count_of s.table) s.waiting) m m.state w.state (own_w.3) own x))
+    (λ e. absurd (not_foreign r c.write_stored.ensures.only e), λ x. absurd (own_is_written (cow_view f n A s.size s.block.length (entries_of s.table) (count_of s.table) s.waiting) m m.state w.state (own_w.3) own x))
 
 pub returns-then-not-is_nonblocking-clause-untouched : goal.returns-then-not-is_nonblocking-clause-untouched
 returns-then-not-is_nonblocking-clause-untouched g c = λ e. absurd (not_foreign c.write_stored.result c.write_stored.ensures.only e)
@@ -61,14 +61,14 @@ returns-then-not-is_nonblocking-clause-written g c =
     let n = g.S.Storage.fault_count s.storage + s.faults in
     let w = c.in-Some.waiting in
     let is = c.in-Some.is in
-    let own : IsOwn (cow_pending s.block s.size A s.waiting) m = (c.is_waiting.ensures s.block s.size A).0 c.if-not-is_waiting.false in
-    let own_w : IsOwn (cow_pending s.block s.size A (Some w)) m = rw is at own in
-    let apart : WaitsApart s.block s.size (entries_of s.table) (count_of s.table) w = s.waits_apart w is in
+    let own : IsOwn (cow_pending s.block.length s.size A s.waiting) m = (c.is_waiting.ensures s.block.length s.size A).0 c.if-not-is_waiting.false in
+    let own_w : IsOwn (cow_pending s.block.length s.size A (Some w)) m = rw is at own in
+    let apart : WaitsApart s.block.length s.size (entries_of s.table) (count_of s.table) w = s.waits_apart w is in
     let B = g.S.Storage.bytes c.write_stored.new.storage in
     let n' = g.S.Storage.fault_count c.write_stored.new.storage + s.faults in
     let r = c.write_stored.result in
     let inside : c.args.at + length c.args.source.now ≤ w.length = omega (arith, c.requires, own_w.2) in
-    rw (is, c.write_stored.ensures.features) (on_ok r (λ x e. written_apart f n n' A B s.size s.block (entries_of s.table) (count_of s.table) w s.positive s.exact.covers apart c.args.at c.args.source.now inside false m m.state (own_w.3) (λ k. ok_holds x e (c.write_stored.ensures.bytes k))))
+    rw (is, c.write_stored.ensures.features) (on_ok r (λ x e. written_apart f n n' A B s.size s.block.length (entries_of s.table) (count_of s.table) w s.positive s.exact.covers apart c.args.at c.args.source.now inside false m m.state (own_w.3) (λ k. ok_holds x e (c.write_stored.ensures.bytes k))))
 
 pub returns-then-not-is_nonblocking-clause-torn : goal.returns-then-not-is_nonblocking-clause-torn
 returns-then-not-is_nonblocking-clause-torn g c =
@@ -79,14 +79,14 @@ returns-then-not-is_nonblocking-clause-torn g c =
     let n = g.S.Storage.fault_count s.storage + s.faults in
     let w = c.in-Some.waiting in
     let is = c.in-Some.is in
-    let own : IsOwn (cow_pending s.block s.size A s.waiting) m = (c.is_waiting.ensures s.block s.size A).0 c.if-not-is_waiting.false in
-    let own_w : IsOwn (cow_pending s.block s.size A (Some w)) m = rw is at own in
-    let apart : WaitsApart s.block s.size (entries_of s.table) (count_of s.table) w = s.waits_apart w is in
+    let own : IsOwn (cow_pending s.block.length s.size A s.waiting) m = (c.is_waiting.ensures s.block.length s.size A).0 c.if-not-is_waiting.false in
+    let own_w : IsOwn (cow_pending s.block.length s.size A (Some w)) m = rw is at own in
+    let apart : WaitsApart s.block.length s.size (entries_of s.table) (count_of s.table) w = s.waits_apart w is in
     let B = g.S.Storage.bytes c.write_stored.new.storage in
     let n' = g.S.Storage.fault_count c.write_stored.new.storage + s.faults in
     let r = c.write_stored.result in
     let inside : c.args.at + length c.args.source.now ≤ w.length = omega (arith, c.requires, own_w.2) in
-    rw (is, c.write_stored.ensures.features) (on_err r (λ x e. written_apart f n n' A B s.size s.block (entries_of s.table) (count_of s.table) w s.positive s.exact.covers apart c.args.at c.args.source.now inside true m m.state (own_w.3) (λ k. err_holds x e (c.write_stored.ensures.torn_bytes k))))
+    rw (is, c.write_stored.ensures.features) (on_err r (λ x e. written_apart f n n' A B s.size s.block.length (entries_of s.table) (count_of s.table) w s.positive s.exact.covers apart c.args.at c.args.source.now inside true m m.state (own_w.3) (λ k. err_holds x e (c.write_stored.ensures.torn_bytes k))))
 
 pub returns-then-not-is_nonblocking-clause-round : goal.returns-then-not-is_nonblocking-clause-round
 returns-then-not-is_nonblocking-clause-round g c = λ k below.
@@ -97,14 +97,14 @@ returns-then-not-is_nonblocking-clause-round g c = λ k below.
     let n = g.S.Storage.fault_count s.storage + s.faults in
     let w = c.in-Some.waiting in
     let is = c.in-Some.is in
-    let own : IsOwn (cow_pending s.block s.size A s.waiting) m = (c.is_waiting.ensures s.block s.size A).0 c.if-not-is_waiting.false in
-    let own_w : IsOwn (cow_pending s.block s.size A (Some w)) m = rw is at own in
-    let apart : WaitsApart s.block s.size (entries_of s.table) (count_of s.table) w = s.waits_apart w is in
+    let own : IsOwn (cow_pending s.block.length s.size A s.waiting) m = (c.is_waiting.ensures s.block.length s.size A).0 c.if-not-is_waiting.false in
+    let own_w : IsOwn (cow_pending s.block.length s.size A (Some w)) m = rw is at own in
+    let apart : WaitsApart s.block.length s.size (entries_of s.table) (count_of s.table) w = s.waits_apart w is in
     let B = g.S.Storage.bytes c.write_stored.new.storage in
     let n' = g.S.Storage.fault_count c.write_stored.new.storage + s.faults in
     let r = c.write_stored.result in
     let inside : c.args.at + length c.args.source.now ≤ w.length = omega (arith, c.requires, own_w.2) in
-    rw is (round_stays f n n' A B s.size s.block (entries_of s.table) (count_of s.table) w s.positive s.exact.covers apart c.args.at c.args.source.now inside true (λ t. either_bytes _ _ _ _ _ r (c.write_stored.ensures.bytes t) (c.write_stored.ensures.torn_bytes t)) k below)
+    rw is (round_stays f n n' A B s.size s.block.length (entries_of s.table) (count_of s.table) w s.positive s.exact.covers apart c.args.at c.args.source.now inside true (λ t. either_bytes _ _ _ _ _ r (c.write_stored.ensures.bytes t) (c.write_stored.ensures.torn_bytes t)) k below)
 
 pub returns-then-not-is_nonblocking-clause-causes : goal.returns-then-not-is_nonblocking-clause-causes
 returns-then-not-is_nonblocking-clause-causes g c =
@@ -115,14 +115,14 @@ returns-then-not-is_nonblocking-clause-causes g c =
     let n = g.S.Storage.fault_count s.storage + s.faults in
     let w = c.in-Some.waiting in
     let is = c.in-Some.is in
-    let own : IsOwn (cow_pending s.block s.size A s.waiting) m = (c.is_waiting.ensures s.block s.size A).0 c.if-not-is_waiting.false in
-    let own_w : IsOwn (cow_pending s.block s.size A (Some w)) m = rw is at own in
-    let apart : WaitsApart s.block s.size (entries_of s.table) (count_of s.table) w = s.waits_apart w is in
+    let own : IsOwn (cow_pending s.block.length s.size A s.waiting) m = (c.is_waiting.ensures s.block.length s.size A).0 c.if-not-is_waiting.false in
+    let own_w : IsOwn (cow_pending s.block.length s.size A (Some w)) m = rw is at own in
+    let apart : WaitsApart s.block.length s.size (entries_of s.table) (count_of s.table) w = s.waits_apart w is in
     let B = g.S.Storage.bytes c.write_stored.new.storage in
     let n' = g.S.Storage.fault_count c.write_stored.new.storage + s.faults in
     let r = c.write_stored.result in
     let inside : c.args.at + length c.args.source.now ≤ w.length = omega (arith, c.requires, own_w.2) in
-    on_ok r (λ x e o q. bytes_settled f (g.S.Storage.features c.write_stored.new.storage) 0 0 A B s.size s.block (entries_of s.table) (count_of s.table) s.waiting s.positive s.exact.covers c.write_stored.ensures.features o (length c.args.source.now))
+    on_ok r (λ x e o q. bytes_settled f (g.S.Storage.features c.write_stored.new.storage) 0 0 A B s.size s.block.length (entries_of s.table) (count_of s.table) s.waiting s.positive s.exact.covers c.write_stored.ensures.features o (length c.args.source.now))
 
 pub returns-then-not-is_nonblocking-clause-lengths : goal.returns-then-not-is_nonblocking-clause-lengths
 returns-then-not-is_nonblocking-clause-lengths g c =
@@ -133,14 +133,14 @@ returns-then-not-is_nonblocking-clause-lengths g c =
     let n = g.S.Storage.fault_count s.storage + s.faults in
     let w = c.in-Some.waiting in
     let is = c.in-Some.is in
-    let own : IsOwn (cow_pending s.block s.size A s.waiting) m = (c.is_waiting.ensures s.block s.size A).0 c.if-not-is_waiting.false in
-    let own_w : IsOwn (cow_pending s.block s.size A (Some w)) m = rw is at own in
-    let apart : WaitsApart s.block s.size (entries_of s.table) (count_of s.table) w = s.waits_apart w is in
+    let own : IsOwn (cow_pending s.block.length s.size A s.waiting) m = (c.is_waiting.ensures s.block.length s.size A).0 c.if-not-is_waiting.false in
+    let own_w : IsOwn (cow_pending s.block.length s.size A (Some w)) m = rw is at own in
+    let apart : WaitsApart s.block.length s.size (entries_of s.table) (count_of s.table) w = s.waits_apart w is in
     let B = g.S.Storage.bytes c.write_stored.new.storage in
     let n' = g.S.Storage.fault_count c.write_stored.new.storage + s.faults in
     let r = c.write_stored.result in
     let inside : c.args.at + length c.args.source.now ≤ w.length = omega (arith, c.requires, own_w.2) in
-    rw (own_w.0, own_w.1) (c.write_stored.ensures.lengths 0 s.size s.block (entries_of s.table) (count_of s.table) s.waiting)
+    rw (own_w.0, own_w.1) (c.write_stored.ensures.lengths 0 s.size s.block.length (entries_of s.table) (count_of s.table) s.waiting)
 
 pub returns-then-not-is_nonblocking-clause-refusals : goal.returns-then-not-is_nonblocking-clause-refusals
 returns-then-not-is_nonblocking-clause-refusals g c =
@@ -151,18 +151,18 @@ returns-then-not-is_nonblocking-clause-refusals g c =
     let n = g.S.Storage.fault_count s.storage + s.faults in
     let w = c.in-Some.waiting in
     let is = c.in-Some.is in
-    let own : IsOwn (cow_pending s.block s.size A s.waiting) m = (c.is_waiting.ensures s.block s.size A).0 c.if-not-is_waiting.false in
-    let own_w : IsOwn (cow_pending s.block s.size A (Some w)) m = rw is at own in
-    let apart : WaitsApart s.block s.size (entries_of s.table) (count_of s.table) w = s.waits_apart w is in
+    let own : IsOwn (cow_pending s.block.length s.size A s.waiting) m = (c.is_waiting.ensures s.block.length s.size A).0 c.if-not-is_waiting.false in
+    let own_w : IsOwn (cow_pending s.block.length s.size A (Some w)) m = rw is at own in
+    let apart : WaitsApart s.block.length s.size (entries_of s.table) (count_of s.table) w = s.waits_apart w is in
     let B = g.S.Storage.bytes c.write_stored.new.storage in
     let n' = g.S.Storage.fault_count c.write_stored.new.storage + s.faults in
     let r = c.write_stored.result in
     let inside : c.args.at + length c.args.source.now ≤ w.length = omega (arith, c.requires, own_w.2) in
-    let ends : w.offset + w.length ≤ count_of s.table * s.block = omega (arith, number_ends s.block w.number (count_of s.table) apart.known, apart.offset, apart.in_block) in
-    mapping_refused f n A s.size s.block (entries_of s.table) (count_of s.table) s.waiting m c.args.at (length c.args.source.now) r c.write_stored.ensures.only (rw (own_w.1) (c.write_stored.ensures.wraps)) (omega (arith, ends, inside, own_w.1))
+    let ends : w.offset + w.length ≤ count_of s.table * s.block.length = omega (arith, number_ends s.block.length w.number (count_of s.table) apart.known, apart.offset, apart.in_block) in
+    mapping_refused f n A s.size s.block.length (entries_of s.table) (count_of s.table) s.waiting m c.args.at (length c.args.source.now) r c.write_stored.ensures.only (rw (own_w.1) (c.write_stored.ensures.wraps)) (omega (arith, ends, inside, own_w.1))
     (λ refused o q.
     let len = length c.args.source.now in
-    waiting_takes f n A s.size s.block (entries_of s.table) (count_of s.table) w m c.args.at len o s.positive apart (own_w.3) (refused_some len r Error.Memory c.write_stored.ensures.empty refused) inside (rw is at q))
+    waiting_takes f n A s.size s.block.length (entries_of s.table) (count_of s.table) w m c.args.at len o s.positive apart (own_w.3) (refused_some len r Error.Memory c.write_stored.ensures.empty refused) inside (rw is at q))
 
 pub returns-then-count-eq0-clause-causes : goal.returns-then-count-eq0-clause-causes
 returns-then-count-eq0-clause-causes g c =
@@ -171,7 +171,7 @@ returns-then-count-eq0-clause-causes g c =
     let f = g.S.Storage.features s.storage in
     let A = g.S.Storage.bytes s.storage in
     let n = g.S.Storage.fault_count s.storage + s.faults in
-    λ o q. bytes_settled f f 0 0 A A s.size s.block (entries_of s.table) (count_of s.table) s.waiting s.positive s.exact.covers refl o (length c.args.source.now)
+    λ o q. bytes_settled f f 0 0 A A s.size s.block.length (entries_of s.table) (count_of s.table) s.waiting s.positive s.exact.covers refl o (length c.args.source.now)
 
 pub returns-then-not-shows_all-clause-foreign : goal.returns-then-not-shows_all-clause-foreign
 returns-then-not-shows_all-clause-foreign g c =
@@ -181,8 +181,8 @@ returns-then-not-shows_all-clause-foreign g c =
     let A = g.S.Storage.bytes s.storage in
     let n = g.S.Storage.fault_count s.storage + s.faults in
     let stateless : is_none m.state ≡ true = sym c.if-not-is_nonblocking.ensures in
-    let stands : HasStranger (cow_place A s.size s.block (entries_of s.table)) m.storage m.offset m.length = rw (c.storage-index.ensures, c.offset-start.ensures, c.length-count.ensures) at (c.shows_all.ensures.stranger c.if-not-shows_all.true) in
-    (λ e. foreign_stateless (cow_view f n A s.size s.block (entries_of s.table) (count_of s.table) s.waiting) m m.state stateless stands, λ x. refl)
+    let stands : HasStranger (cow_place A s.size s.block.length (entries_of s.table)) m.storage m.offset m.length = rw (c.storage-index.ensures, c.offset-start.ensures, c.length-count.ensures) at (c.shows_all.ensures.stranger c.if-not-shows_all.true) in
+    (λ e. foreign_stateless (cow_view f n A s.size s.block.length (entries_of s.table) (count_of s.table) s.waiting) m m.state stateless stands, λ x. refl)
 
 pub returns-clause-foreign : goal.returns-clause-foreign
 returns-clause-foreign g c =
@@ -196,11 +196,11 @@ returns-clause-foreign g c =
     let stateless : is_none m.state ≡ true = sym c.if-not-is_nonblocking.ensures in
     let shown = c.shows_all.ensures.shown c.if-not-shows_all.false in
     let zero : m.storage ≡ 0 = omega (arith, c.storage-index.ensures, shown.0) in
-    let all : BytesAreWritable (cow_place A s.size s.block (entries_of s.table)) 0 c.offset-start.result c.length-count.result = shown.1 in
+    let all : BytesAreWritable (cow_place A s.size s.block.length (entries_of s.table)) 0 c.offset-start.result c.length-count.result = shown.1 in
     let fits : c.args.at + length c.args.source.now ≤ c.length-count.result = omega (arith, c.requires, c.length-count.ensures) in
-    let none : HasStranger (cow_place A s.size s.block (entries_of s.table)) 0 m.offset m.length → ⊥ = rw (c.offset-start.ensures, c.length-count.ensures) at (no_stranger (cow_place A s.size s.block (entries_of s.table)) c.offset-start.result c.length-count.result all) in
-    let no : HasStranger (cow_place A s.size s.block (entries_of s.table)) m.storage m.offset m.length → ⊥ = rw zero none in
-    (λ e. absurd (not_foreign r c.write_stored-2.ensures.only e), λ x. absurd (foreign_not (cow_view f n A s.size s.block (entries_of s.table) (count_of s.table) s.waiting) m m.state stateless refl no x))
+    let none : HasStranger (cow_place A s.size s.block.length (entries_of s.table)) 0 m.offset m.length → ⊥ = rw (c.offset-start.ensures, c.length-count.ensures) at (no_stranger (cow_place A s.size s.block.length (entries_of s.table)) c.offset-start.result c.length-count.result all) in
+    let no : HasStranger (cow_place A s.size s.block.length (entries_of s.table)) m.storage m.offset m.length → ⊥ = rw zero none in
+    (λ e. absurd (not_foreign r c.write_stored-2.ensures.only e), λ x. absurd (foreign_not (cow_view f n A s.size s.block.length (entries_of s.table) (count_of s.table) s.waiting) m m.state stateless refl no x))
 
 pub returns-clause-untouched : goal.returns-clause-untouched
 returns-clause-untouched g c = λ e. absurd (not_foreign c.write_stored-2.result c.write_stored-2.ensures.only e)
@@ -217,11 +217,11 @@ returns-clause-written g c =
     let stateless : is_none m.state ≡ true = sym c.if-not-is_nonblocking.ensures in
     let shown = c.shows_all.ensures.shown c.if-not-shows_all.false in
     let zero : m.storage ≡ 0 = omega (arith, c.storage-index.ensures, shown.0) in
-    let all : BytesAreWritable (cow_place A s.size s.block (entries_of s.table)) 0 c.offset-start.result c.length-count.result = shown.1 in
+    let all : BytesAreWritable (cow_place A s.size s.block.length (entries_of s.table)) 0 c.offset-start.result c.length-count.result = shown.1 in
     let fits : c.args.at + length c.args.source.now ≤ c.length-count.result = omega (arith, c.requires, c.length-count.ensures) in
     on_ok r (λ x e. written_stateless _ _ m m.state false c.args.at c.args.source.now stateless
-    (pending_stays A B s.size s.block (entries_of s.table) (count_of s.table) s.positive c.offset-start.result c.length-count.result c.args.at c.args.source.now false fits all f.keeps_data s.waiting s.waits_apart (λ k. ok_holds x e (c.write_stored-2.ensures.bytes k)))
-    (rw (zero, ← c.offset-start.ensures) (ok_holds x e (c.write_stored-2.ensures.written s.size s.block (entries_of s.table)))))
+    (pending_stays A B s.size s.block.length (entries_of s.table) (count_of s.table) s.positive c.offset-start.result c.length-count.result c.args.at c.args.source.now false fits all f.keeps_data s.waiting s.waits_apart (λ k. ok_holds x e (c.write_stored-2.ensures.bytes k)))
+    (rw (zero, ← c.offset-start.ensures) (ok_holds x e (c.write_stored-2.ensures.written s.size s.block.length (entries_of s.table)))))
 
 pub returns-clause-torn : goal.returns-clause-torn
 returns-clause-torn g c =
@@ -235,11 +235,11 @@ returns-clause-torn g c =
     let stateless : is_none m.state ≡ true = sym c.if-not-is_nonblocking.ensures in
     let shown = c.shows_all.ensures.shown c.if-not-shows_all.false in
     let zero : m.storage ≡ 0 = omega (arith, c.storage-index.ensures, shown.0) in
-    let all : BytesAreWritable (cow_place A s.size s.block (entries_of s.table)) 0 c.offset-start.result c.length-count.result = shown.1 in
+    let all : BytesAreWritable (cow_place A s.size s.block.length (entries_of s.table)) 0 c.offset-start.result c.length-count.result = shown.1 in
     let fits : c.args.at + length c.args.source.now ≤ c.length-count.result = omega (arith, c.requires, c.length-count.ensures) in
     on_err r (λ x e. written_stateless _ _ m m.state true c.args.at c.args.source.now stateless
-    (pending_stays A B s.size s.block (entries_of s.table) (count_of s.table) s.positive c.offset-start.result c.length-count.result c.args.at c.args.source.now true fits all f.keeps_data s.waiting s.waits_apart (λ k. err_holds x e (c.write_stored-2.ensures.torn_bytes k)))
-    (rw (zero, ← c.offset-start.ensures) (err_holds x e (c.write_stored-2.ensures.torn s.size s.block (entries_of s.table)))))
+    (pending_stays A B s.size s.block.length (entries_of s.table) (count_of s.table) s.positive c.offset-start.result c.length-count.result c.args.at c.args.source.now true fits all f.keeps_data s.waiting s.waits_apart (λ k. err_holds x e (c.write_stored-2.ensures.torn_bytes k)))
+    (rw (zero, ← c.offset-start.ensures) (err_holds x e (c.write_stored-2.ensures.torn s.size s.block.length (entries_of s.table)))))
 
 pub returns-clause-round : goal.returns-clause-round
 returns-clause-round g c = λ k below.
@@ -253,9 +253,9 @@ returns-clause-round g c = λ k below.
     let stateless : is_none m.state ≡ true = sym c.if-not-is_nonblocking.ensures in
     let shown = c.shows_all.ensures.shown c.if-not-shows_all.false in
     let zero : m.storage ≡ 0 = omega (arith, c.storage-index.ensures, shown.0) in
-    let all : BytesAreWritable (cow_place A s.size s.block (entries_of s.table)) 0 c.offset-start.result c.length-count.result = shown.1 in
+    let all : BytesAreWritable (cow_place A s.size s.block.length (entries_of s.table)) 0 c.offset-start.result c.length-count.result = shown.1 in
     let fits : c.args.at + length c.args.source.now ≤ c.length-count.result = omega (arith, c.requires, c.length-count.ensures) in
-    round_other A B s.size s.block (entries_of s.table) (count_of s.table) s.positive c.offset-start.result c.length-count.result c.args.at c.args.source.now true fits all s.waiting s.waits_apart (either_bytes _ _ _ _ _ r (c.write_stored-2.ensures.bytes k) (c.write_stored-2.ensures.torn_bytes k)) below
+    round_other A B s.size s.block.length (entries_of s.table) (count_of s.table) s.positive c.offset-start.result c.length-count.result c.args.at c.args.source.now true fits all s.waiting s.waits_apart (either_bytes _ _ _ _ _ r (c.write_stored-2.ensures.bytes k) (c.write_stored-2.ensures.torn_bytes k)) below
 
 pub returns-clause-causes : goal.returns-clause-causes
 returns-clause-causes g c =
@@ -269,9 +269,9 @@ returns-clause-causes g c =
     let stateless : is_none m.state ≡ true = sym c.if-not-is_nonblocking.ensures in
     let shown = c.shows_all.ensures.shown c.if-not-shows_all.false in
     let zero : m.storage ≡ 0 = omega (arith, c.storage-index.ensures, shown.0) in
-    let all : BytesAreWritable (cow_place A s.size s.block (entries_of s.table)) 0 c.offset-start.result c.length-count.result = shown.1 in
+    let all : BytesAreWritable (cow_place A s.size s.block.length (entries_of s.table)) 0 c.offset-start.result c.length-count.result = shown.1 in
     let fits : c.args.at + length c.args.source.now ≤ c.length-count.result = omega (arith, c.requires, c.length-count.ensures) in
-    on_ok r (λ x e o q. bytes_settled f (g.S.Storage.features c.write_stored-2.new.storage) 0 0 A B s.size s.block (entries_of s.table) (count_of s.table) s.waiting s.positive s.exact.covers c.write_stored-2.ensures.features o (length c.args.source.now))
+    on_ok r (λ x e o q. bytes_settled f (g.S.Storage.features c.write_stored-2.new.storage) 0 0 A B s.size s.block.length (entries_of s.table) (count_of s.table) s.waiting s.positive s.exact.covers c.write_stored-2.ensures.features o (length c.args.source.now))
 
 pub returns-clause-lengths : goal.returns-clause-lengths
 returns-clause-lengths g c =
@@ -285,9 +285,9 @@ returns-clause-lengths g c =
     let stateless : is_none m.state ≡ true = sym c.if-not-is_nonblocking.ensures in
     let shown = c.shows_all.ensures.shown c.if-not-shows_all.false in
     let zero : m.storage ≡ 0 = omega (arith, c.storage-index.ensures, shown.0) in
-    let all : BytesAreWritable (cow_place A s.size s.block (entries_of s.table)) 0 c.offset-start.result c.length-count.result = shown.1 in
+    let all : BytesAreWritable (cow_place A s.size s.block.length (entries_of s.table)) 0 c.offset-start.result c.length-count.result = shown.1 in
     let fits : c.args.at + length c.args.source.now ≤ c.length-count.result = omega (arith, c.requires, c.length-count.ensures) in
-    rw (zero, ← c.offset-start.ensures) (c.write_stored-2.ensures.lengths 0 s.size s.block (entries_of s.table) (count_of s.table) s.waiting)
+    rw (zero, ← c.offset-start.ensures) (c.write_stored-2.ensures.lengths 0 s.size s.block.length (entries_of s.table) (count_of s.table) s.waiting)
 
 pub returns-clause-refusals : goal.returns-clause-refusals
 returns-clause-refusals g c =
@@ -301,10 +301,10 @@ returns-clause-refusals g c =
     let stateless : is_none m.state ≡ true = sym c.if-not-is_nonblocking.ensures in
     let shown = c.shows_all.ensures.shown c.if-not-shows_all.false in
     let zero : m.storage ≡ 0 = omega (arith, c.storage-index.ensures, shown.0) in
-    let all : BytesAreWritable (cow_place A s.size s.block (entries_of s.table)) 0 c.offset-start.result c.length-count.result = shown.1 in
+    let all : BytesAreWritable (cow_place A s.size s.block.length (entries_of s.table)) 0 c.offset-start.result c.length-count.result = shown.1 in
     let fits : c.args.at + length c.args.source.now ≤ c.length-count.result = omega (arith, c.requires, c.length-count.ensures) in
-    mapping_refused f n A s.size s.block (entries_of s.table) (count_of s.table) s.waiting m c.args.at (length c.args.source.now) r c.write_stored-2.ensures.only (rw (← c.offset-start.ensures) (c.write_stored-2.ensures.wraps)) (omega (arith, c.shows_all.ensures.within c.if-not-shows_all.false, fits, c.offset-start.ensures))
+    mapping_refused f n A s.size s.block.length (entries_of s.table) (count_of s.table) s.waiting m c.args.at (length c.args.source.now) r c.write_stored-2.ensures.only (rw (← c.offset-start.ensures) (c.write_stored-2.ensures.wraps)) (omega (arith, c.shows_all.ensures.within c.if-not-shows_all.false, fits, c.offset-start.ensures))
     (λ refused o q.
     let len = length c.args.source.now in
     let memory : IsAlignedRequest f (m.offset + c.args.at) len → MayRunOut f.write_memory (length A) (m.offset + c.args.at + len) = rw (← c.offset-start.ensures) (c.write_stored-2.ensures.memory refused) in
-    existing_takes f n A s.size s.block (entries_of s.table) (count_of s.table) s.waiting m m.state c.args.at len o stateless (refused_some len r Error.Memory c.write_stored-2.ensures.empty refused) memory q)
+    existing_takes f n A s.size s.block.length (entries_of s.table) (count_of s.table) s.waiting m m.state c.args.at len o stateless (refused_some len r Error.Memory c.write_stored-2.ensures.empty refused) memory q)

@@ -16,11 +16,11 @@ returns-in_err-reserve-clause-none_free c =
     let once : IsEachOnce t.free t.entries.items None t.count = subst (λ h. IsEachOnce t.free t.entries.items h t.count) c.requires t.each_once in
     on_err c.from_residual.result _ (count_is_lowest t.free t.entries.items None t.count c.in_default.ensures.lowest once)
 
-pub returns-in_err-push-clause-none_free : goal.returns-in_err-push-clause-none_free
-returns-in_err-push-clause-none_free c =
+pub returns-in_err-make_room-clause-none_free : goal.returns-in_err-make_room-clause-none_free
+returns-in_err-make_room-clause-none_free c =
     let t = c.args.self.now in
     let once : IsEachOnce t.free t.entries.items None t.count = subst (λ h. IsEachOnce t.free t.entries.items h t.count) c.requires t.each_once in
-    on_err c.from_residual-in_err-push.result _ (count_is_lowest t.free t.entries.items None t.count c.in_default.ensures.lowest once)
+    on_err c.from_residual-in_err-make_room.result _ (count_is_lowest t.free t.entries.items None t.count c.in_default.ensures.lowest once)
 
 pub returns-clause-lowest : goal.returns-clause-lowest
 returns-clause-lowest c =

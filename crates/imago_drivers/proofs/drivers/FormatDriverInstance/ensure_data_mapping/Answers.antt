@@ -3,7 +3,7 @@ use Rattle.std.specs.Prelude.{IsErrOf}
 use Rattle.imago_storage.specs.declared.error.Error.{Error}
 use Rattle.imago_drivers.specs.LayerBelow.{lent}
 use Rattle.imago_drivers.proofs.StorageBytes.{on_refusal}
-use Rattle.imago_drivers.proofs.Ensured.{settled_twice, reaches_twice, if_refused, ensured, ensured_change, ensured_refused, is_at_start, never_foreign, commit_refused}
+use Rattle.imago_drivers.proofs.Ensured.{settled_twice, reaches_twice, if_refused, ensured, ensured_change, ensured_refused, ensured_outside, is_at_start, never_foreign, commit_refused}
 use Rattle.imago_drivers.proofs.drivers.FormatDriverInstance.ensure_data_mapping.Goals as goal
 
 pub returns-clause-mapped : goal.returns-clause-mapped
@@ -54,3 +54,27 @@ pub returns-clause-performed : goal.returns-clause-performed
 returns-clause-performed g c =
     g.Self.FormatDriverInstance.calls.by_parts (lent g.B.LowerLayer.as_layer_below c.args.below) c.args.offset c.args.count c.args.overwrite c.args.self.now c.commit_data_mapping.new.self (Ok (c.storage-storage.result, c.offset-start.result, c.length-length.result))
     (c.in_ok-mapping.mapping, c.prepare_data_mapping.new.self, c.in_ok-mapping.ensures.performed, c.in_ok-commit_data_mapping.ensures.performed, c.storage-storage.ensures, c.offset-start.ensures, c.length-length.ensures)
+
+pub returns-clause-outside : goal.returns-clause-outside
+returns-clause-outside g c =
+    let V = g.Self.FormatDriverInstance.view in
+    let p = c.in_ok-mapping.ensures in
+    ensured_outside (V c.args.self.now) (V c.prepare_data_mapping.new.self)
+    (V c.commit_data_mapping.new.self) _ c.args.offset c.args.count c.args.overwrite
+    c.in_ok-mapping.mapping p.prepared p.call.unchanged c.commit_data_mapping.ensures.call.outside
+
+pub returns-in_err-commit_data_mapping-clause-outside : goal.returns-in_err-commit_data_mapping-clause-outside
+returns-in_err-commit_data_mapping-clause-outside g c =
+    let V = g.Self.FormatDriverInstance.view in
+    let p = c.in_ok-mapping.ensures in
+    ensured_outside (V c.args.self.now) (V c.prepare_data_mapping.new.self)
+    (V c.commit_data_mapping.new.self) _ c.args.offset c.args.count c.args.overwrite
+    c.in_ok-mapping.mapping p.prepared p.call.unchanged c.commit_data_mapping.ensures.call.outside
+
+pub returns-clause-reaches : goal.returns-clause-reaches
+returns-clause-reaches g c =
+    let V = g.Self.FormatDriverInstance.view in
+    let p = c.in_ok-mapping.ensures in
+    reaches_twice (V c.args.self.now) (V c.prepare_data_mapping.new.self)
+    (V c.commit_data_mapping.new.self) p.call.unchanged.reaches
+    c.commit_data_mapping.ensures.call.reaches

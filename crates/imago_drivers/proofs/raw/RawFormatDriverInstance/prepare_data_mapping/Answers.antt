@@ -26,4 +26,5 @@ returns-clause-prepared g c =
       );
       apart = λ t e. let x = c.existing.ensures.state in let z : ⊥ = cc in absurd z;
       round = λ k. tt;
+      near = λ q e. let z : ⊥ = cc in absurd z;
     }
