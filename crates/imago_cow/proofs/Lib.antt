@@ -1,5 +1,6 @@
 pub mod BlockSteps
 pub mod ZeroFill
+pub mod NameSteps
 pub mod FreeSteps
 pub mod TableSteps
 pub mod WholeSteps

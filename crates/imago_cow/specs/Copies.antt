@@ -1,8 +1,11 @@
-use Rattle.std.specs.Prelude.{◌≡◌, ℕ, ◌+◌, ◌-◌, ◌/◌, ◌%◌, ◌<◌, ◌≤◌, ◌⊎◌, min, Bool, true, List, length, slice_index, slice_get, Some, None, if◌then◌else◌}
+use Rattle.std.specs.Prelude.{◌≡◌, ℕ, ◌+◌, ◌-◌, ◌/◌, ◌%◌, ◌<◌, ◌≤◌, ◌⊎◌, min, Bool, true, false, List, length, slice_index, slice_get, Option, Some, None, Result, Ok, Err, IfErr, OnOk, if◌then◌else◌}
+use Rattle.std.specs.Borrow.{Bor}
 use Rattle.imago_storage.specs.declared.error.Error.{Error}
+use Rattle.imago_storage.specs.Error.{IsExtRefusal}
 use Rattle.imago_storage.specs.Features.{Features}
 use Rattle.imago_storage.specs.Padding.{Wraps}
 use Rattle.imago_drivers.specs.Operation.{Write}
+use Rattle.imago_drivers.specs.CallRelations.{Asking}
 use Rattle.imago_drivers.specs.Place.{Value, Byte}
 use Rattle.imago_drivers.specs.Reasons.{Reasons, none}
 use Rattle.imago_drivers.specs.LayerBelow.{LayerBelow}
@@ -17,6 +20,22 @@ old_value at absent p = if absent then at p else Byte 0
 -- the bytes of a buffer are what such places show from o on
 abbrev pub HasOldBytes : (ℕ → Value) → Bool → ℕ → List ℕ → Type 0
 HasOldBytes at absent o items = (k : ℕ) → k < length items → old_value at absent (o + k) ≡ Byte (slice_index items k)
+
+-- What a read of n such places from o on answers: where the guest block is absent, what the layer below answers to that one read; else,
+-- and over no layer, it is done.
+abbrev pub IsOldRead : {B : Type 0} → (ℕ → ℕ → Asking B (Unit {0})) → Option (Bor B) → Bool → ℕ → ℕ → Result (Unit {0}) Error → Type 0
+IsOldRead reads None absent o n result = result ≡ Ok tt
+IsOldRead reads (Some b) false o n result = result ≡ Ok tt
+IsOldRead reads (Some b) true o n result = reads o n b.now result
+
+-- A copy of n such places answers a refusal of that read as it is, and behind a read that is done what the storage refuses.
+abbrev pub IsCopyAnswer : {B : Type 0} → (ℕ → ℕ → Asking B (Unit {0})) → Option (Bor B) → Bool → ℕ → ℕ → Result (Unit {0}) Error → Type 0
+IsCopyAnswer reads below absent o n result = (answer : Result (Unit {0}) Error) × IsOldRead reads below absent o n answer × IfErr answer (λ e. result ≡ Err e) × OnOk answer (IfErr result IsExtRefusal)
+
+-- the layer below answered that refusal to a read
+abbrev pub IsRefusedBelow : {B : Type 0} → (ℕ → ℕ → Asking B (Unit {0})) → Option (Bor B) → Error → Type 0
+IsRefusedBelow reads None e = ⊥
+IsRefusedBelow reads (Some b) e = (o : ℕ) × (n : ℕ) × reads o n b.now (Err e)
 
 -- why what n such places from o on show may not be read
 abbrev pub old_reasons : LayerBelow → Bool → ℕ → ℕ → Reasons

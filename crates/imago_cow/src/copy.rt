@@ -1,12 +1,13 @@
 //! The copying of what places without data show into a data block.
 ghost use Rattle.std.specs.Prelude.{◌≡◌, ℕ, ◌+◌, ◌-◌, ◌%◌, ◌^◌, ◌<◌, ◌≤◌, ◌⊎◌, ◌&&◌, max, length, slice_index, IsTrue, IfOk, IfErr, OnOk, IsErrOf, true, false};
+ghost use Rattle.imago_storage.specs.Error.{IsExtRefusal};
 ghost use Rattle.imago_storage.specs.Faults.{CountsFaults};
 ghost use Rattle.imago_storage.specs.Features.{len_align};
 ghost use Rattle.imago_drivers.specs.Place.{Byte};
 ghost use Rattle.imago_drivers.specs.Lengths.{padded_to};
 ghost use Rattle.imago_drivers.specs.LayerBelow.{lent};
 ghost use Rattle.imago_drivers.specs.Reasons.{allowed};
-ghost use Rattle.imago_cow.specs.Copies.{old_value, HasOldBytes, old_reasons, copy_reasons, round_reasons, block_from, block_until};
+ghost use Rattle.imago_cow.specs.Copies.{old_value, HasOldBytes, IsOldRead, IsCopyAnswer, IsRefusedBelow, old_reasons, copy_reasons, round_reasons, block_from, block_until};
 
 use crate::block::BlockSize;
 use crate::zero::{shows_zeroes, takes_zeroes, zero_bytes};
@@ -16,32 +17,79 @@ use imago_storage::error::Error;
 use imago_storage::storage::Storage;
 use std::alloc::Global;
 
-/// What `count` places without data show from the offset on: the layer below where their guest block is absent, else
-/// zeroes.
-fn old_bytes<B: LowerLayer>(
+/// Fills the buffer with what places without data show from the offset on: the layer below where their
+/// guest block is absent, else zeroes. A refusal is the layer's own.
+fn read_old<B: LowerLayer>(
     alloc: Global,
     below: Option<&B>,
     absent: bool,
+    buf: &mut [u8],
     offset: u64,
-    count: u64,
-) -> Result<Vec<u8>, Error>
-    ensures count { IfOk result (λ v. length v.items ≡ «count») }
-    ensures bytes { IfOk result
-        (λ v. HasOldBytes (lent B.as_layer_below below.entry).at absent offset v.items) }
+) -> Result<(), Error>
+    ensures bytes { OnOk result
+        (HasOldBytes (lent B.as_layer_below below.entry).at absent offset buf.new) }
+    ensures answered { IsOldRead B.reads below.entry absent offset (length buf.old) result }
     ensures device { IsErrOf result Error.Device
         → (lent B.as_layer_below below.entry).is_reliable ≡ false }
     ensures refusals { IfErr result
-        (allowed (old_reasons (lent B.as_layer_below below.entry) absent offset count)) }
+        (allowed (old_reasons (lent B.as_layer_below below.entry) absent offset (length buf.old))) }
 {
-    let mut bytes = vec![in alloc; 0u8; count as usize]?;
-    let Some(layer) = below else {
-        return Ok(bytes);
-    };
     if !absent {
-        return Ok(bytes);
+        buf.fill(0);
+        return Ok(());
     }
-    layer.read(alloc, &mut bytes, offset)?;
-    Ok(bytes)
+    let Some(layer) = below else {
+        buf.fill(0);
+        return Ok(());
+    };
+    layer.read(alloc, buf, offset)
+}
+
+/// Copies what places without data show from the offset on through the buffer to that offset of the
+/// storage, as many as the buffer holds. A failed read of the layer below raises the count of faults. What
+/// the read is refused for is the answer.
+fn copy_through<S: Storage, B: LowerLayer>(
+    storage: &mut S,
+    faults: &mut u64,
+    alloc: Global,
+    below: Option<&B>,
+    absent: bool,
+    buf: &mut [u8],
+    offset: u64,
+    to: u64,
+) -> Result<(), Error>
+    ensures copied { IsTrue (S.features storage.old).keeps_data
+        → OnOk result
+        ((k : ℕ)
+        → k < length buf.old
+        → old_value (lent B.as_layer_below below.entry).at absent (offset + k)
+        ≡ Byte (slice_index (S.bytes storage.new) (to + k))) }
+    ensures answered { IsCopyAnswer B.reads below.entry absent offset (length buf.old) result }
+    ensures outside { IsTrue (S.features storage.old).keeps_data
+        → (p : ℕ)
+        → (p < to) ⊎ (to + length buf.old ≤ p)
+        → slice_index (S.bytes storage.new) p ≡ slice_index (S.bytes storage.old) p }
+    ensures no_shorter { length (S.bytes storage.old) ≤ length (S.bytes storage.new) }
+    ensures no_longer { length (S.bytes storage.new)
+        ≤ max (length (S.bytes storage.old)) (padded_to (S.features storage.old) to (length buf.old)) }
+    ensures features { S.features storage.new ≡ S.features storage.old }
+    ensures faults { CountsFaults
+        ((S.features storage.old).is_reliable && (lent B.as_layer_below below.entry).is_reliable)
+        (S.fault_count storage.old + faults.old) (S.fault_count storage.new + faults.new) result }
+    ensures refusals { 0 < length buf.old
+        → IfErr result
+        (allowed
+        (copy_reasons (S.features storage.old) (lent B.as_layer_below below.entry) absent offset
+        (length buf.old) to)) }
+{
+    match read_old(alloc, below, absent, &mut *buf, offset) {
+        Ok(()) => write_bytes(storage, alloc, buf, to),
+        Err(Error::Device) => {
+            *faults = faults.saturating_add(1);
+            Err(Error::Device)
+        }
+        Err(e) => Err(e),
+    }
 }
 
 /// Copies what `count` places without data show from the offset on to that offset of the storage. A
@@ -74,6 +122,7 @@ pub(crate) fn copy_old<S: Storage, B: LowerLayer>(
     ensures faults { CountsFaults
         ((S.features storage.old).is_reliable && (lent B.as_layer_below below.entry).is_reliable)
         (S.fault_count storage.old + faults.old) (S.fault_count storage.new + faults.new) result }
+    ensures by_name { IfErr result (λ e. IsExtRefusal e ⊎ IsRefusedBelow B.reads below.entry e) }
     ensures refusals { IfErr result
         (allowed
         (copy_reasons (S.features storage.old) (lent B.as_layer_below below.entry) absent offset count to)) }
@@ -84,14 +133,10 @@ pub(crate) fn copy_old<S: Storage, B: LowerLayer>(
     if shows_zeroes(below, absent, offset) && takes_zeroes(&*storage, to, count) {
         return zero_bytes(storage, alloc, to, count);
     }
-    match old_bytes(alloc, below, absent, offset, count) {
-        Ok(bytes) => write_bytes(storage, alloc, &bytes, to),
-        Err(Error::Device) => {
-            *faults = faults.saturating_add(1);
-            Err(Error::Device)
-        }
-        Err(e) => Err(e),
-    }
+    let mut bytes = vec![in alloc; 0u8; count as usize]?;
+    copy_through(
+        storage, faults, alloc, below, absent, &mut bytes, offset, to,
+    )
 }
 
 /// A range of one guest block that is prepared for a write.
@@ -142,6 +187,7 @@ pub(crate) fn copy_round<S: Storage, B: LowerLayer>(
     ensures faults { CountsFaults
         ((S.features storage.old).is_reliable && (lent B.as_layer_below below.entry).is_reliable)
         (S.fault_count storage.old + faults.old) (S.fault_count storage.new + faults.new) result }
+    ensures by_name { IfErr result (λ e. IsExtRefusal e ⊎ IsRefusedBelow B.reads below.entry e) }
     ensures refusals { IfErr result
         (allowed
         (round_reasons (S.features storage.old) (lent B.as_layer_below below.entry) part.absent part.overwrite

@@ -1,5 +1,5 @@
 //! The copy-on-write driver.
-ghost use Rattle.std.specs.Prelude.{◌≡◌, ℕ, ◌+◌, ◌*◌, ◌/◌, ◌^◌, ◌<◌, ◌≤◌, ◌↔◌, None, Some, IfOk, IfErr, IsOk, IsTrue, max, slice_get, true, false};
+ghost use Rattle.std.specs.Prelude.{◌≡◌, ℕ, ◌+◌, ◌*◌, ◌/◌, ◌^◌, ◌<◌, ◌≤◌, ◌⊎◌, ◌↔◌, None, Some, IfOk, IfErr, IsOk, IsTrue, max, slice_get, true, false};
 ghost use Rattle.std.specs.Int.{is_power_of_two};
 ghost use Rattle.std.specs.Option.{ForSome};
 ghost use Rattle.imago_drivers.specs.CallRelations.{IsEnsuredInParts};
@@ -10,7 +10,7 @@ ghost use Rattle.imago_drivers.specs.Parts.{offset_of, state_of};
 ghost use Rattle.imago_drivers.specs.Pending.{IsOwn};
 ghost use Rattle.imago_drivers.specs.Prepared.{IsPrepared};
 ghost use Rattle.imago_drivers.specs.Operation.{Zero, DiscardToZero};
-ghost use Rattle.imago_drivers.specs.Calls.{IsPreparation, IsShrink, IsZeroCall};
+ghost use Rattle.imago_drivers.specs.Calls.{IsGrowth, IsPreparation, IsShrink, IsZeroCall};
 ghost use Rattle.imago_drivers.specs.Commit.{IsCommit, IsCancel};
 ghost use Rattle.imago_cow.specs.Table.{named_count, StandsInLowest};
 ghost use Rattle.imago_cow.specs.TableView.{entries_of, held_of, count_of};
@@ -18,7 +18,8 @@ ghost use Rattle.imago_cow.specs.TableLaws.{named_once};
 ghost use Rattle.imago_cow.specs.declared.table.GuestBlock.{GuestBlock};
 ghost use Rattle.imago_cow.specs.Guest.{IsExact, IsMade, cow_place};
 ghost use Rattle.imago_cow.specs.Cow.{cow_view, cow_pending, number_of_waiting, WaitsApart};
-ghost use Rattle.imago_cow.specs.Copies.{over_reasons};
+ghost use Rattle.imago_cow.specs.Copies.{over_reasons, IsRefusedBelow};
+ghost use Rattle.imago_storage.specs.Error.{IsExtRefusal};
 ghost use Rattle.imago_cow.specs.CowLaws.{cow_lawful, cow_causes};
 
 use crate::block::BlockSize;
@@ -391,6 +392,7 @@ impl<S: Storage> FormatDriverInstance for Cow<S> {
             → IsOk result × (storage_in self.new ≡ storage_in self.old) × (data_blocks_of self.new ≡ data_blocks_of self.old) ×
             (waiting_in self.new ≡ waiting_in self.old) }
         ensures performed { ⟦<Cow<S> as FormatDriverInstance>⟧.calls.prepared (lent B.as_layer_below below.entry) offset count overwrite self.old self.new result }
+        ensures by_name { IfErr result (λ e. IsExtRefusal e ⊎ IsRefusedBelow B.reads below.entry e) }
         ensures over { overwrite ≡ true
             → IfErr result
             (allowed
@@ -491,7 +493,12 @@ impl<S: Storage> FormatDriverInstance for Cow<S> {
         below: Option<&B>,
         new_size: u64,
         mode: PreallocateMode,
-    ) -> Result<(), Error> {
+    ) -> Result<(), Error>
+        requires spent { (⟦<Cow<S> as FormatDriverInstance>⟧.view self.old).pending ≡ None }
+        ensures call { IsGrowth mode (lent B.as_layer_below below.entry) new_size (⟦<Cow<S> as FormatDriverInstance>⟧.view self.old) (⟦<Cow<S> as FormatDriverInstance>⟧.view self.new) result }
+        ensures performed { ⟦<Cow<S> as FormatDriverInstance>⟧.calls.grown new_size mode (lent B.as_layer_below below.entry) self.old self.new result }
+        ensures by_name { IfErr result (λ e. IsExtRefusal e ⊎ IsRefusedBelow B.reads below.entry e) }
+    {
         if new_size <= self.size {
             return Ok(());
         }

@@ -1,5 +1,6 @@
 //! The guest block that the disk's end cuts, in a growth.
 ghost use Rattle.std.specs.Prelude.{◌≡◌, ℕ, ◌+◌, ◌-◌, ◌*◌, ◌/◌, ◌%◌, ◌^◌, ◌<◌, ◌≤◌, ◌⊎◌, ◌&&◌, max, length, List, slice_index, slice_get, slice_set, IsTrue, IfOk, IfErr, IfSome, OnOk, OnErr, Some, None, true, false};
+ghost use Rattle.imago_storage.specs.Error.{IsExtRefusal};
 ghost use Rattle.imago_storage.specs.Faults.{CountsFaults};
 ghost use Rattle.imago_storage.specs.Features.{len_align};
 ghost use Rattle.imago_drivers.specs.Lengths.{padded_to};
@@ -10,7 +11,7 @@ ghost use Rattle.imago_cow.specs.declared.table.GuestBlock.{GuestBlock};
 ghost use Rattle.imago_cow.specs.Table.{named_count};
 ghost use Rattle.imago_cow.specs.TableView.{entries_of, held_of, count_of, KeepsRoom};
 ghost use Rattle.imago_cow.specs.Guest.{entry_place, is_data};
-ghost use Rattle.imago_cow.specs.Copies.{old_value};
+ghost use Rattle.imago_cow.specs.Copies.{IsRefusedBelow, old_value};
 ghost use Rattle.imago_cow.specs.Growth.{fill_reasons};
 ghost use Rattle.imago_cow.specs.Grown.{IsCutGrown};
 ghost use Rattle.imago_cow.specs.Cut.{IsCutEmpty, IsCutEntered, IsCutFilled, IsCutRead, IsTaken, shows_below};
@@ -76,6 +77,7 @@ fn fill_both<S: Storage, B: LowerLayer>(
     ensures faults { CountsFaults
         ((S.features storage.old).is_reliable && (lent B.as_layer_below below.entry).is_reliable)
         (S.fault_count storage.old + faults.old) (S.fault_count storage.new + faults.new) result }
+    ensures by_name { IfErr result (λ e. IsExtRefusal e ⊎ IsRefusedBelow B.reads below.entry e) }
     ensures refusals { (limit : ℕ) (entries : _) (new_size : ℕ)
         → start + cut.block.length ≤ limit
         → cut.size + cut.count ≤ new_size
@@ -151,6 +153,7 @@ fn fill_taken<S: Storage, B: LowerLayer>(
     ensures faults { CountsFaults
         ((S.features storage.old).is_reliable && (lent B.as_layer_below below.entry).is_reliable)
         (S.fault_count storage.old + faults.old) (S.fault_count storage.new + faults.new) result }
+    ensures by_name { IfErr result (λ e. IsExtRefusal e ⊎ IsRefusedBelow B.reads below.entry e) }
     ensures refusals { (new_size : ℕ)
         → cut.size + cut.count ≤ new_size
         → IfErr result
@@ -221,6 +224,7 @@ pub(crate) fn fill_cut<S: Storage, B: LowerLayer>(
     ensures faults { CountsFaults
         ((S.features storage.old).is_reliable && (lent B.as_layer_below below.entry).is_reliable)
         (S.fault_count storage.old + faults.old) (S.fault_count storage.new + faults.new) result }
+    ensures by_name { IfErr result (λ e. IsExtRefusal e ⊎ IsRefusedBelow B.reads below.entry e) }
     ensures refusals { (most : ℕ)
         → count_of table.old ≤ most
         → (0 < growth.size % growth.block.length

@@ -1,5 +1,7 @@
 //! The growth of a copy-on-write disk.
 ghost use Rattle.std.specs.Prelude.{◌≡◌, ◌≢◌, ◌+◌, ◌*◌, ◌^◌, ◌<◌, ◌≤◌, ◌⊎◌, IfErr, OnOk, OnErr, None, Ok, Err};
+ghost use Rattle.imago_storage.specs.Error.{IsExtRefusal};
+ghost use Rattle.imago_cow.specs.Copies.{IsRefusedBelow};
 ghost use Rattle.imago_drivers.specs.Calls.{IsGrowth};
 ghost use Rattle.imago_drivers.specs.LayerBelow.{lent};
 ghost use Rattle.imago_drivers.specs.declared.format.PreallocateMode.{PreallocateMode};
@@ -63,6 +65,7 @@ fn grow_with<S: Storage, B: LowerLayer>(
     ensures entries { OnErr result (entries_of table.new ≡ entries_of table.old) }
     ensures held { held_of table.new ≡ None }
     ensures addressed { count_of table.new * growth.block.length < 2 ^ 64 }
+    ensures by_name { IfErr result (λ e. IsExtRefusal e ⊎ IsRefusedBelow B.reads below.entry e) }
     ensures features { S.features storage.new ≡ S.features storage.old }
     ensures room { KeepsRoom table.old table.new }
 {
@@ -105,6 +108,7 @@ pub(crate) fn grow<S: Storage, B: LowerLayer>(
     ensures entries { OnErr result (entries_of table.new ≡ entries_of table.old) }
     ensures held { held_of table.new ≡ None }
     ensures addressed { count_of table.new * growth.block.length < 2 ^ 64 }
+    ensures by_name { IfErr result (λ e. IsExtRefusal e ⊎ IsRefusedBelow B.reads below.entry e) }
     ensures features { S.features storage.new ≡ S.features storage.old }
     ensures room_first { OnErr result
         ((storage.new ≡ storage.old) ⊎ (growth.new_size ≤ room_of table.new * growth.block.length)) }

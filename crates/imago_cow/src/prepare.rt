@@ -1,5 +1,6 @@
 //! The preparing of a data block for a write.
-ghost use Rattle.std.specs.Prelude.{◌≡◌, ℕ, ◌+◌, ◌*◌, ◌/◌, ◌%◌, ◌^◌, ◌<◌, ◌≤◌, ◌&&◌, length, max, Option, Some, None, slice_get, IfOk, IfErr, OnOk, OnErr, true, false};
+ghost use Rattle.std.specs.Prelude.{◌≡◌, ℕ, ◌+◌, ◌*◌, ◌/◌, ◌%◌, ◌^◌, ◌<◌, ◌≤◌, ◌⊎◌, ◌&&◌, length, max, Option, Some, None, slice_get, IfOk, IfErr, OnOk, OnErr, true, false};
+ghost use Rattle.imago_storage.specs.Error.{IsExtRefusal};
 ghost use Rattle.imago_storage.specs.Faults.{CountsFaults};
 ghost use Rattle.imago_drivers.specs.Operation.{Write};
 ghost use Rattle.imago_drivers.specs.Lengths.{padded_to};
@@ -15,7 +16,7 @@ ghost use Rattle.imago_cow.specs.declared.table.GuestBlock.{GuestBlock};
 ghost use Rattle.imago_cow.specs.Table.{IsLowestUnused, named_count};
 ghost use Rattle.imago_cow.specs.TableView.{entries_of, held_of, count_of};
 ghost use Rattle.imago_cow.specs.Guest.{IsExact, cow_place};
-ghost use Rattle.imago_cow.specs.Copies.{over_reasons};
+ghost use Rattle.imago_cow.specs.Copies.{IsRefusedBelow, over_reasons};
 ghost use Rattle.imago_cow.specs.Cow.{cow_view, cow_cause, cow_copies, data_count, in_block, WaitsApart};
 
 use crate::copy::{Part, copy_round};
@@ -88,6 +89,7 @@ pub(crate) fn prepare_part<S: Storage, B: LowerLayer>(
     ensures faults { CountsFaults
         ((S.features storage.old).is_reliable && (lent B.as_layer_below below.entry).is_reliable)
         (S.fault_count storage.old + faults.old) (S.fault_count storage.new + faults.new) result }
+    ensures by_name { IfErr result (λ e. IsExtRefusal e ⊎ IsRefusedBelow B.reads below.entry e) }
     ensures refusals { (old_faults most : ℕ)
         → 0 < most
         → IfErr result

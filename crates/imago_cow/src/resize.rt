@@ -1,5 +1,6 @@
 //! How the guest blocks follow the size of the disk.
 ghost use Rattle.std.specs.Prelude.{◌≡◌, ◌≢◌, ℕ, ◌+◌, ◌-◌, ◌*◌, ◌^◌, ◌<◌, ◌≤◌, ◌⊎◌, ◌&&◌, min, max, length, take, None, Some, Ok, OnOk, OnErr, IfOk, IfErr, IsErrOf, IsTrue, true, false};
+ghost use Rattle.imago_storage.specs.Error.{IsExtRefusal};
 ghost use Rattle.imago_storage.specs.Faults.{CountsFaults};
 ghost use Rattle.imago_drivers.specs.Calls.{IsShrink};
 ghost use Rattle.imago_drivers.specs.declared.format.PreallocateMode.{PreallocateMode};
@@ -7,6 +8,7 @@ ghost use Rattle.imago_drivers.specs.LayerBelow.{lent};
 ghost use Rattle.imago_drivers.specs.Lengths.{padded_to};
 ghost use Rattle.imago_drivers.specs.Reasons.{allowed};
 ghost use Rattle.imago_cow.specs.Guest.{IsExact, AreAdded};
+ghost use Rattle.imago_cow.specs.Copies.{IsRefusedBelow};
 ghost use Rattle.imago_cow.specs.Growth.{IsPushed, IsExtended, KeepsBytes, fill_reasons};
 ghost use Rattle.imago_cow.specs.Cut.{shows_below};
 ghost use Rattle.imago_cow.specs.Grown.{AddsData};
@@ -164,6 +166,7 @@ fn push_filled<S: Storage, B: LowerLayer>(
     ensures faults { CountsFaults
         ((S.features storage.old).is_reliable && (lent B.as_layer_below below.entry).is_reliable)
         (S.fault_count storage.old + faults.old) (S.fault_count storage.new + faults.new) result }
+    ensures by_name { IfErr result (λ e. IsExtRefusal e ⊎ IsRefusedBelow B.reads below.entry e) }
     ensures refusals { (most : ℕ)
         → count_of table.old ≤ most
         → named_count (entries_of table.old) + 1 ≤ most
@@ -238,6 +241,7 @@ pub(crate) fn push_blocks<S: Storage, B: LowerLayer>(
     ensures faults { CountsFaults
         ((S.features storage.old).is_reliable && (lent B.as_layer_below below.entry).is_reliable)
         (S.fault_count storage.old + faults.old) (S.fault_count storage.new + faults.new) result }
+    ensures by_name { IfErr result (λ e. IsExtRefusal e ⊎ IsRefusedBelow B.reads below.entry e) }
     ensures refusals { (most : ℕ)
         → count_of table.old ≤ most
         → named_count (entries_of table.old) + missing ≤ most
@@ -307,6 +311,7 @@ pub(crate) fn add_new<S: Storage, B: LowerLayer>(
     ensures faults { CountsFaults
         ((S.features storage.old).is_reliable && (lent B.as_layer_below below.entry).is_reliable)
         (S.fault_count storage.old + faults.old) (S.fault_count storage.new + faults.new) result }
+    ensures by_name { IfErr result (λ e. IsExtRefusal e ⊎ IsRefusedBelow B.reads below.entry e) }
     ensures refusals { (most wanted : ℕ)
         → growth.new_size ≤ wanted * growth.block.length
         → wanted * growth.block.length < growth.new_size + growth.block.length

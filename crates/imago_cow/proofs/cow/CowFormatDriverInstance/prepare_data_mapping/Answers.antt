@@ -97,6 +97,7 @@ returns-in_err-waiting g c =
       lowest = tt;
       in_data = λ j h. absurd (not_in_data _ _ j c.entry_at-entry.ensures c.in_default.not-Data h);
       performed = (refl, refl, e.entries, refl, tt);
+      by_name = c.in_err-waiting.ensures.by_name;
       over = λ o. c.in_err-waiting.ensures.over c.args.count some (rw c.rest-rest.ensures.value at c.min-run.ensures) o;
     })
 
@@ -137,5 +138,6 @@ returns g c =
       };
       in_data = λ j h. absurd (not_in_data _ _ j c.entry_at-entry.ensures c.in_default.not-Data h);
       performed = (refl, refl, e.entries, tt, rw m.state (refl, ap ticket_of k.same.2));
+      by_name = tt;
       over = λ o. tt;
     }
