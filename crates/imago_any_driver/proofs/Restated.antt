@@ -50,6 +50,7 @@ module _ {A B : Type 0} (old new : View A) where
     framed = framed_restated x.framed;
     faults = x.faults;
     refusals = x.refusals;
+    outside = x.outside;
   }
 
   pub discard_restated : (how : (ℕ → Value) → ℕ → Change) (op : Operation) (o n : ℕ) (result : Result (ℕ × ℕ) Error) → IsDiscard how op o n old new result → IsDiscard how op o n (restated {B = B} old) (restated {B = B} new) result
@@ -61,6 +62,7 @@ module _ {A B : Type 0} (old new : View A) where
     framed = framed_restated x.framed;
     faults = x.faults;
     refusals = x.refusals;
+    outside = x.outside;
   }
 
   grown_restated : (mode : PreallocateMode) (below : ℕ → Value) (size : ℕ) → IsGrown mode below size old new → IsGrown mode below size (restated {B = B} old) (restated {B = B} new)
@@ -138,6 +140,7 @@ module _ {A B : Type 0} (m : PreparedDataMapping A) (n : PreparedDataMapping B) 
         apart = λ s e. let z : ⊥ = cc in absurd z;
         around = λ q e. let z : ⊥ = cc in absurd z;
         round = λ k. tt;
+        near = λ q e. let z : ⊥ = cc in absurd z;
       }
 
   module _ (own : m.state ≡ None) where
@@ -168,6 +171,7 @@ module _ {A B : Type 0} (m : PreparedDataMapping A) (n : PreparedDataMapping B) 
       framed = framed_restated _ _ x.framed;
       faults = x.faults;
       refusals = rw (state, storage, offset, len) (rw own at x.refusals);
+      outside = rw state (rw own at x.outside);
     }
 
     pub cancel_restated : {D : Type 0} (view : D → View A) (old new : D) → IsCancel view old new m → IsCancel (λ d. restated {B = B} (view d)) old new n
@@ -208,6 +212,7 @@ module _ {E B : Type 0} (view : E → View B) (d : E) (nothing : (view d).pendin
     framed = same_disk;
     faults = record { later = omega arith; reliable = λ e. refl; device = λ e. let z : ⊥ = cc in absurd z };
     refusals = tt;
+    outside = record { stored = λ p b s f w n e. (b, e); same = λ k p n. refl };
   }
 
   pub cancel_foreign : IsCancel view d d n

@@ -14,6 +14,7 @@ use Rattle.imago_vmdk.specs.Vmdk.{vmdk_view}
 use Rattle.imago_vmdk.specs.VmdkLaws.{vmdk_lawful, vmdk_causes}
 use Rattle.imago_vmdk.specs.declared.vmdk.Vmdk.{Vmdk as VmdkImage}
 use Rattle.imago_cow.specs.Cow.{cow_view}
+use Rattle.imago_cow.specs.CowImage.{block_of}
 use Rattle.imago_cow.specs.CowLaws.{cow_lawful, cow_causes}
 use Rattle.imago_cow.specs.TableView.{entries_of, count_of}
 use Rattle.imago_cow.specs.TableLaws.{named_once}
@@ -144,7 +145,7 @@ abbrev pub cow_in : {S : Type 0} {g : _} {h : _} → (S → Features) → (S →
     → CowImage S g h → View CowState
 cow_in features fault_count bytes d =
     cow_view (features d.storage) (fault_count d.storage + d.faults) (bytes d.storage) d.size
-    d.block (entries_of d.table) (count_of d.table) d.waiting
+    (block_of d) (entries_of d.table) (count_of d.table) d.waiting
 
 -- a qcow2 image over a storage that shows these features and bytes
 abbrev pub qcow2_in : {S : Type 0} {g : _} {h : _} → (S → Features) → (S → List ℕ)
@@ -169,8 +170,8 @@ module _ {S : Type 0} {g : _} {h : _} (features : S → Features) (fault_count :
       (vmdk_lawful (features v.descriptor ∷ map features v.storages.items)
       (bytes v.descriptor ∷ map bytes v.storages.items) v.opened v.extents.items)
   formats_lawful (Cow d) = cow_lawful (features d.storage) (fault_count d.storage + d.faults)
-      (bytes d.storage) d.size d.block (entries_of d.table) (count_of d.table) d.waiting d.positive
-      d.exact.covers (named_once d.table)
+      (bytes d.storage) d.size (block_of d) (entries_of d.table) (count_of d.table) d.waiting
+      d.positive d.exact.covers (named_once d.table)
   formats_lawful (Qcow2 d) = restated_lawful (qcow2_in features bytes d)
       (qcow2_lawful (features (qcow2_storage d)) (bytes (qcow2_storage d)))
 
@@ -182,6 +183,6 @@ module _ {S : Type 0} {g : _} {h : _} (features : S → Features) (fault_count :
       (vmdk_causes (features v.descriptor ∷ map features v.storages.items)
       (bytes v.descriptor ∷ map bytes v.storages.items) v.opened v.extents.items)
   formats_causes (Cow d) = cow_causes (features d.storage) (fault_count d.storage + d.faults)
-      (bytes d.storage) d.size d.block (entries_of d.table) (count_of d.table) d.waiting
+      (bytes d.storage) d.size (block_of d) (entries_of d.table) (count_of d.table) d.waiting
   formats_causes (Qcow2 d) = restated_causes (qcow2_in features bytes d)
       (qcow2_causes (features (qcow2_storage d)) (bytes (qcow2_storage d)))

@@ -26,6 +26,7 @@ restated_lawful v l = record {
   own = l.own;
   refused = l.refused;
   granularity = l.granularity;
+  blocks = l.blocks;
 }
 
 pub restated_causes : {A B : Type 0} (v : View A) → AreCauses v → AreCauses (restated {B = B} v)

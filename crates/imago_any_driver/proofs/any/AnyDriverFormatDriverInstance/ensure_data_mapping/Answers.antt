@@ -15,3 +15,9 @@ returns-in-Cow-clause-refusals g c = rw c.in-Cow.is c.ensure_data_mapping-in-Cow
 
 pub returns-in-Cow-clause-reaches : goal.returns-in-Cow-clause-reaches
 returns-in-Cow-clause-reaches g c = rw c.in-Cow.is c.ensure_data_mapping-in-Cow.ensures.reaches
+
+pub returns-in-Raw-clause-outside : goal.returns-in-Raw-clause-outside
+returns-in-Raw-clause-outside g c = rw c.in-Raw.is c.ensure_data_mapping.ensures.outside
+
+pub returns-in-Cow-clause-outside : goal.returns-in-Cow-clause-outside
+returns-in-Cow-clause-outside g c = rw c.in-Cow.is c.ensure_data_mapping-in-Cow.ensures.outside
