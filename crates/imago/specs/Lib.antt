@@ -87,6 +87,8 @@ pub use Rattle.imago_cow.specs.CowCalls
 pub use Rattle.imago_cow.specs.Grown as GrownBlocks
 pub use Rattle.imago_cow.specs.Copies as CopiedBlocks
 pub use Rattle.imago_cow.specs.Worked as WorkedDataBlocks
+pub use Rattle.imago_any_driver.specs.Restated as RestatedViews
+pub use Rattle.imago_any_driver.specs.AnyDriver
 pub use Rattle.imago_access.specs.Chain
 pub use Rattle.imago_access.specs.Text
 pub use Rattle.imago_access.specs.Target
@@ -147,6 +149,7 @@ pub use Rattle.imago_cow.specs.declared.table.WithoutData
 pub use Rattle.imago_cow.specs.declared.cow.Cow as DeclaredCow
 pub use Rattle.imago_cow.specs.declared.cow.CowState
 pub use Rattle.imago_cow.specs.declared.cow.Waiting as WaitingWrite
+pub use Rattle.imago_any_driver.specs.declared.any.AnyDriver as DeclaredAnyDriver
 pub use Rattle.imago_access.specs.declared.access.FormatAccess
 pub use Rattle.imago_access.specs.declared.mapping.Mapping as DeclaredMapping
 pub use Rattle.imago_access.specs.declared.run.Call

@@ -3,7 +3,7 @@
 //! A [`Storage`] holds bytes, a driver shows a disk that stands in storages, and a [`FormatAccess`] reads and writes the
 //! disk of a driver and of the images below it. Names and modules are those of the Rust crate imago; everything here but
 //! [`laws`] is defined in `imago_storage`, `imago_drivers`, `imago_vmdk`, `imago_qcow2`, `imago_cow`,
-//! `imago_access` and `imago_plan`, and their documentation says what each item does.
+//! `imago_any_driver`, `imago_access` and `imago_plan`, and their documentation says what each item does.
 //!
 //! A contract over these items names what it needs by this crate alone: definitions as `Rattle.imago.specs.Bytes.{splice}`, and
 //! types as `Rattle.imago.specs.MemStorage.{MemStorage}`. `specs/Lib.antt` lists them; [`laws`] has the laws.
@@ -19,6 +19,7 @@ mod tests;
 
 pub use access::{FormatAccess, Mapping};
 pub use imago_access::run;
+pub use imago_any_driver::any;
 pub use imago_cow::cow;
 pub use imago_drivers::builder::{
     FormatCreateBuilder, FormatCreateBuilderBase, FormatDriverBuilder, FormatDriverBuilderBase,

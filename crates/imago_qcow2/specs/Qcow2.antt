@@ -93,6 +93,7 @@ qcow2_view f bytes = record {
     keeps_data = true;
     zero_granularity = None;
     offers = qcow2_offers;
+    block = 1;
   };
   size = disk_size bytes;
   place = qcow2_place bytes;

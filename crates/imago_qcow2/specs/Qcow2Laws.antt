@@ -109,6 +109,7 @@ qcow2_lawful f bytes = record {
       x.2 in let z : ⊥ = cc in absurd z;
   refused = λ p r e. inl (refused_place bytes p r e);
   granularity = λ e. let z : ⊥ = cc in z;
+  blocks = λ e. let z : ⊥ = cc in z;
 }
 
 -- a cause is one of four

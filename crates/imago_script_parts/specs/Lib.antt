@@ -1,4 +1,2 @@
 pub mod ScriptStorage
-pub mod Restated
-pub mod ScriptDriver
 pub mod Words

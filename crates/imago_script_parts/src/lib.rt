@@ -1,13 +1,12 @@
 //! All of the program `imago-script` but its `main`: scripts of commands on disk images, and what they print.
 //!
-//! [`ScriptStorage`](script_storage::ScriptStorage) is one of the storages that a script makes, and
-//! [`ScriptDriver`](script_driver::ScriptDriver) the driver of one of the formats that it opens. Each keeps the laws of its interface.
+//! [`ScriptStorage`](script_storage::ScriptStorage) is one of the storages that a script makes. It keeps the laws of its
+//! interface.
 #![tactic(auto)]
 
 mod answer;
 mod command;
 pub mod script;
-pub mod script_driver;
 pub mod script_storage;
 mod session;
 mod stop;

@@ -5,10 +5,10 @@ ghost use Rattle.imago.specs.Chain.{driver};
 
 use crate::answer::Answer;
 use crate::command::Command;
-use crate::script_driver::ScriptDriver;
 use crate::script_storage::ScriptStorage;
 use crate::stop::Stop;
 use crate::words::BlockSize;
+use imago::any::AnyDriver;
 use imago::cow::Cow;
 use imago::drivers::FormatDriverInstance;
 use imago::error::{Error, ErrorKind};
@@ -22,7 +22,7 @@ use imago::{FormatAccess, FormatDriverBuilder, StorageOpenOptions};
 use std::alloc::Global;
 
 /// An open image.
-pub type Image = FormatAccess<ScriptDriver<ScriptStorage>>;
+pub type Image = FormatAccess<AnyDriver<ScriptStorage>>;
 
 /// The storages that a script has added and not opened, and its open image, in which no prepared mapping waits.
 #[derive(Drop)]
@@ -30,7 +30,7 @@ pub struct Session {
     alloc: Global,
     storages: NamedGate<ScriptStorage>,
     image: Option<Image>,
-    ghost spent: { ForSome image (λ i. (⟦<ScriptDriver<ScriptStorage> as FormatDriverInstance>⟧.view (driver i)).pending ≡ None) },
+    ghost spent: { ForSome image (λ i. (⟦<AnyDriver<ScriptStorage> as FormatDriverInstance>⟧.view (driver i)).pending ≡ None) },
 }
 
 impl Session {
@@ -96,7 +96,7 @@ impl Session {
         let path = String::from_str(self.alloc, name)?;
         let builder = Raw::builder_path(path).write(writable);
         let driver = builder.open(self.alloc, &mut self.storages)?;
-        Ok(self.opened(ScriptDriver::Raw(driver)))
+        Ok(self.opened(AnyDriver::Raw(driver)))
     }
 
     /// Takes a storage and those that its descriptor names, and opens them as a VMDK image.
@@ -104,12 +104,12 @@ impl Session {
         let path = String::from_str(self.alloc, name)?;
         let builder = Vmdk::builder_path(path).accept_unknown_keys(lax);
         let driver = builder.open(self.alloc, &mut self.storages)?;
-        Ok(self.opened(ScriptDriver::Vmdk(driver)))
+        Ok(self.opened(AnyDriver::Vmdk(driver)))
     }
 
     /// Has the image of that driver as the open one, and lets go of the one that was.
-    fn opened(&mut self, top: ScriptDriver<ScriptStorage>) -> Answer<'_>
-        requires { (⟦<ScriptDriver<ScriptStorage> as FormatDriverInstance>⟧.view top).pending ≡ None }
+    fn opened(&mut self, top: AnyDriver<ScriptStorage>) -> Answer<'_>
+        requires { (⟦<AnyDriver<ScriptStorage> as FormatDriverInstance>⟧.view top).pending ≡ None }
     {
         self.image = Some(FormatAccess::new(top));
         Answer::Done
@@ -122,12 +122,12 @@ impl Session {
         let opts = StorageOpenOptions::new().write(true).filename(path);
         let storage = self.storages.open_storage(self.alloc, opts)?;
         let top = Cow::create(self.alloc, storage, size, block.bytes())?;
-        self.laid(ScriptDriver::Cow(top))
+        self.laid(AnyDriver::Cow(top))
     }
 
     /// Has the image of that driver above the open one. Where there is no memory for that, the open image stays.
-    fn laid(&mut self, top: ScriptDriver<ScriptStorage>) -> Result<Answer<'_>, Error>
-        requires { (⟦<ScriptDriver<ScriptStorage> as FormatDriverInstance>⟧.view top).pending ≡ None }
+    fn laid(&mut self, top: AnyDriver<ScriptStorage>) -> Result<Answer<'_>, Error>
+        requires { (⟦<AnyDriver<ScriptStorage> as FormatDriverInstance>⟧.view top).pending ≡ None }
     {
         let below = self.image.take().ok_or(Error::NotFound)?;
         match Box::new(self.alloc, below) {

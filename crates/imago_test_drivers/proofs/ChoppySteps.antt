@@ -9,6 +9,7 @@ use Rattle.imago_storage.specs.Features.{Features, len_align}
 use Rattle.imago_drivers.specs.declared.mapping.PreparedDataMapping.{PreparedDataMapping}
 use Rattle.imago_drivers.specs.Operation.{Operation}
 use Rattle.imago_drivers.specs.Place.{Value, Byte}
+use Rattle.imago_drivers.specs.Outside.{StaysOutside}
 use Rattle.imago_drivers.specs.Reasons.{Reasons, allowed}
 use Rattle.imago_drivers.specs.LayerBelow.{LayerBelow}
 use Rattle.imago_drivers.specs.Laws.{AreCauses}
@@ -23,6 +24,7 @@ use Rattle.imago_drivers.specs.Pending.{Pending}
 use Rattle.imago_drivers.specs.Resized.{IsSameDisk}
 use Rattle.imago_drivers.specs.declared.format.PreallocateMode.{PreallocateMode}
 use Rattle.imago_drivers.specs.Calls.{IsZeroCall, IsDiscard, IsGrowth, IsShrink, IsFlush}
+use Rattle.imago_drivers.proofs.Stays.{outside_more}
 use Rattle.imago_test_drivers.specs.Choppy.{chopped, chopped_no_memory}
 
 -- a refusal whose reasons are more
@@ -112,6 +114,11 @@ module _ {St : Type 0} (granularity : Option ℕ) (old new : View St) where
       refused = λ k below. changed_part how o n q m _ _ from to (x.refused k below);
     }
 
+    stays : StaysOutside old.abilities.keeps_data old.abilities.block q m old.place new.place
+        → StaysOutside old.abilities.keeps_data old.abilities.block o n old.place new.place
+    stays x = outside_more old.abilities.keeps_data old.abilities.block o n q m old.place new.place
+        from to x
+
     -- a zero call or a discard to zero
     pub zeroed : (result : Result (ℕ × ℕ) Error) → IsZeroCall op q m old new result → IsZeroCall op o n (chopped granularity old) (chopped granularity new) result
     zeroed result x = record {
@@ -123,6 +130,7 @@ module _ {St : Type 0} (granularity : Option ℕ) (old new : View St) where
       framed = framed x.framed;
       faults = x.faults;
       refusals = refused_part result x.refusals;
+      outside = stays x.outside;
     }
 
     -- a discard to any or to backing
@@ -135,6 +143,7 @@ module _ {St : Type 0} (granularity : Option ℕ) (old new : View St) where
       framed = framed x.framed;
       faults = x.faults;
       refusals = refused_part result x.refusals;
+      outside = stays x.outside;
     }
 
 -- what a mapping is for is the same of the driver in blocks
@@ -170,6 +179,7 @@ module _ {Self St : Type 0} (granularity : Option ℕ) (view : Self → View St)
     faults = x.faults;
     refusals = let s = commit_reasons (chopped granularity (view old)) m in
         refused_more (commit_reasons (view old) m) s.beyond_disk s.cause s.memory (λ h. h) (λ e c. (c.0, λ o i. c.1 o (for_same granularity (view old) m m.state 0 m.length o i))) (λ h. h) result x.refusals;
+    outside = x.outside;
   }
 
   pub cancelled : (m : PreparedDataMapping St) → IsCancel view old new m → IsCancel (λ d. chopped granularity (view d)) old new m

@@ -1,5 +1,6 @@
-use Rattle.std.proofs.Common.{◌≡◌, ℕ, ◌+◌, ◌<◌, ◌≤◌, ◌⊎◌, ⊎_elim, inl, inr, Bool, true, false, List, length, Option, Some, None, refl, sym, ap, ◌∙◌, arith, Result, Ok, Err}
+use Rattle.std.proofs.Common.{◌≡◌, ℕ, ◌+◌, ◌/◌, max, ◌<◌, ◌≤◌, ◌⊎◌, ⊎_elim, inl, inr, Bool, true, false, List, length, Option, Some, None, refl, sym, ap, ◌∙◌, arith, Result, Ok, Err}
 use Rattle.std.specs.Prelude.{slice_index, IsTrue, OnOk, OnErr, IfErr}
+use Rattle.std.proofs.Math.Nat.{div-eq_of_lt}
 use Rattle.std.proofs.lemmas.Bool.{cases_lt}
 use Rattle.imago_storage.specs.declared.error.Error.{Error}
 use Rattle.imago_storage.specs.Error.{IsDeviceOrMemory}
@@ -16,7 +17,8 @@ use Rattle.imago_drivers.specs.Causes.{IsSettled, IsOnRange}
 use Rattle.imago_drivers.specs.View.{View}
 use Rattle.imago_drivers.specs.Frame.{IsFramed, IsUnchanged, ReachesNoMore}
 use Rattle.imago_drivers.specs.Prepared.{IsPut, is_foreign}
-use Rattle.imago_drivers.specs.Commit.{is_committed}
+use Rattle.imago_drivers.specs.Commit.{is_committed, commit_moves}
+use Rattle.imago_drivers.specs.Outside.{SharesBlock, StayBut}
 use Rattle.imago_drivers.specs.Ranges.{HasBytes}
 use Rattle.imago_drivers.specs.Raw.{raw_place}
 use Rattle.imago_drivers.specs.RawLaws.{raw_in, raw_out, raw_lower}
@@ -81,6 +83,46 @@ copy_done f count bytes size copied (Some w) m (Some s) e own inside =
         behind = λ p h. shows_same size bytes below w round p (inr h);
       },
     )
+
+-- past the disk is the end, copied or not
+past_disk : (size : ℕ) (bytes : List ℕ) (copied : Bool) (p : ℕ) → size ≤ p
+    → copy_place copied size bytes p ≡ End
+past_disk size bytes true p h = raw_out size bytes p h
+past_disk size bytes false p h = lower_out size bytes p h
+
+-- a commit may move all of the disk, and nothing past it
+pub copy_stays : (keeps : Bool) (bytes : List ℕ) (size : ℕ) (copied : Bool)
+    (waiting : Option Waiting) (m : PreparedDataMapping ℕ) (st : Option ℕ) → m.state ≡ st
+    → IsOwn (copy_pending size bytes waiting) m
+    → StayBut keeps (commit_moves (copy_pending size bytes waiting) st)
+    (copy_place copied size bytes) (copy_place true size bytes)
+copy_stays keeps bytes size copied None m st e own = absurd own
+copy_stays keeps bytes size copied (Some w) m None e own =
+    let x = own.3 in let z : ⊥ = cc in absurd z
+copy_stays keeps bytes size copied (Some w) m (Some s) e own =
+    let past : (p : ℕ) → ((0 ≤ p) × (p < size) → ⊥) → size ≤ p =
+    λ p out. ⊎_elim (λ under. absurd (out (omega arith, under))) (λ over. over)
+    (cases_lt p size) in
+    record {
+      stored = λ p b t f v out x.
+          let y = past_disk size bytes copied p (past p out) in let z : ⊥ = cc in absurd z;
+      same = λ k p out. raw_out size bytes p (past p out)
+          ∙ sym (past_disk size bytes copied p (past p out));
+    }
+
+-- the whole disk is one block
+one_block : (size p : ℕ) → p < size → p / max size 1 ≡ 0
+one_block size p h = div-eq_of_lt (omega arith)
+
+-- what a commit may move shares the block with what waits
+pub copy_near : (size : ℕ) (bytes : List ℕ) (w : Waiting) (q : Pending ℕ) (o n : ℕ)
+    → copy_pending size bytes (Some w) ≡ Some q → 0 < n → o + n ≤ size → (p : ℕ) → q.from ≤ p
+    → p < q.until → SharesBlock (max size 1) o n p
+copy_near size bytes w q o n e some inside p low high =
+    let x : q.until ≡ size = cc in
+    let under : p < size = omega (arith, high, x) in
+    let own : o < size = omega (arith, some, inside) in
+    (o, (omega arith, omega (arith, some)), one_block size p under ∙ sym (one_block size o own))
 
 -- the mapping that waits is no foreign one, and has a state
 pub own_is_known : (v : View ℕ) (m : PreparedDataMapping ℕ) (st : Option ℕ) → m.state ≡ st → IsOwn v.pending m → is_foreign v.pending m st → ⊥

@@ -27,6 +27,7 @@ module _ {A Self St : Type 0} (holding : A → Self) (view : Self → View St) (
     framed = x.framed;
     faults = x.faults;
     refusals = x.refusals;
+    outside = x.outside;
   }
 
   pub cancel_of : IsCancel (λ a. view (holding a)) old new m → IsCancel view (holding old) (holding new) m

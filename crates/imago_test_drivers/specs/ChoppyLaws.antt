@@ -41,6 +41,7 @@ module _ {St : Type 0} (granularity : Option ℕ) (v : View St) where
     own = x.own;
     refused = x.refused;
     granularity = some;
+    blocks = x.blocks;
   }
 
   chopped_causes : AreCauses v → AreCauses (chopped granularity v)

@@ -1,4 +1,4 @@
-use Rattle.std.specs.Prelude.{◌≡◌, ℕ, ◌+◌, ◌<◌, ◌≤◌, Bool, true, false, List, slice_index, if◌then◌else◌, nat_lt, Option, Some, None}
+use Rattle.std.specs.Prelude.{◌≡◌, ℕ, ◌+◌, ◌<◌, ◌≤◌, Bool, true, false, List, slice_index, max, if◌then◌else◌, nat_lt, Option, Some, None}
 use Rattle.imago_storage.specs.declared.error.Error.TheVariants as E
 use Rattle.imago_storage.specs.Features.{Features}
 use Rattle.imago_drivers.specs.declared.format.Format.TheVariants as Format
@@ -74,6 +74,7 @@ copy_pending size bytes (Some w) = Some (record {
   bytes = λ p. slice_index bytes p;
 })
 
+-- the disk of that size; its first commit moves all of it
 abbrev pub copy_view : Features → ℕ → List ℕ → ℕ → Bool → Option Waiting → View ℕ
 copy_view f fault_count bytes size copied waiting = record {
   abilities = record {
@@ -84,6 +85,7 @@ copy_view f fault_count bytes size copied waiting = record {
     keeps_data = f.keeps_data;
     zero_granularity = None;
     offers = copy_offers;
+    block = max size 1;
   };
   size = size;
   place = copy_place copied size bytes;

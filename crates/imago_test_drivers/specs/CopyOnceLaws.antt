@@ -1,4 +1,4 @@
-use Rattle.std.specs.Prelude.{◌≡◌, ℕ, ◌<◌, ◌≤◌, Bool, true, false, List, nat_lt, refl, Option}
+use Rattle.std.specs.Prelude.{◌≡◌, ◌≢◌, max, ℕ, ◌<◌, ◌≤◌, Bool, true, false, List, nat_lt, refl, Option}
 use Rattle.std.proofs.Common.{arith, sym, ◌∙◌, ⊎_elim}
 use Rattle.std.proofs.lemmas.Bool.{cases_lt}
 use Rattle.std.proofs.lemmas.Bool.Decides.{nat_tests}
@@ -26,6 +26,9 @@ module _ (size : ℕ) (bytes : List ℕ) where
   pub lower_ends : (p q : ℕ) → p ≤ q → copy_place false size bytes p ≡ End → copy_place false size bytes q ≡ End
   lower_ends p q h e = ⊎_elim (λ below. let x = lower_in size bytes p below in let z : ⊥ = cc in absurd z) (λ above. lower_out size bytes q (omega arith)) (cases_lt p size)
 
+some_block : (size : ℕ) → max size 1 ≢ 0
+some_block size e = omega (arith, e)
+
 pub copy_lawful : (f : Features) (count : ℕ) (bytes : List ℕ) (size : ℕ) (copied : Bool) (w : Option Waiting) → IsLawful (copy_view f count bytes size copied w)
 copy_lawful f count bytes size true w = let r = raw_lawful f count bytes size true in record {
   ends = r.ends;
@@ -36,6 +39,7 @@ copy_lawful f count bytes size true w = let r = raw_lawful f count bytes size tr
   own = r.own;
   refused = r.refused;
   granularity = r.granularity;
+  blocks = some_block size;
 }
 copy_lawful f count bytes size false w = record {
   ends = lower_ends size bytes;
@@ -46,6 +50,7 @@ copy_lawful f count bytes size false w = record {
   own = λ p q b c s o v e g. absurd (lower_only size bytes p _ e (λ x. let z : ⊥ = cc in z) (λ x. let z : ⊥ = cc in z));
   refused = λ p r e. absurd (lower_only size bytes p _ e (λ x. let z : ⊥ = cc in z) (λ x. let z : ⊥ = cc in z));
   granularity = λ e. let z : ⊥ = cc in z;
+  blocks = some_block size;
 }
 
 copy_only : (op : Operation) (o n : ℕ) (e : Error) (P : Error → Type 0) → copy_cause op o n e → P Error.WrapAround → (copy_offers op ≡ false → P Error.Unsupported) → P e

@@ -61,6 +61,7 @@ pattern_view kind size = record {
     keeps_data = true;
     zero_granularity = None;
     offers = pattern_offers kind;
+    block = 1;
   };
   size = size;
   place = pattern_place kind size;

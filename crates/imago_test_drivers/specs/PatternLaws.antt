@@ -64,6 +64,7 @@ module _ (kind : Kind) (size : ℕ) where
     own = λ p q b c s o w e g. absurd (pattern_only p _ _ e (never_stored kind p b s o true) (λ x. let z : ⊥ = cc in z));
     refused = λ p r e. absurd (pattern_refused p r e);
     granularity = λ e. let z : ⊥ = cc in z;
+    blocks = λ e. let z : ⊥ = cc in z;
   }
 
   only_read : (op : Operation) (o n : ℕ) (e : Error) (P : Operation → Error → Type 0) → pattern_cause kind size op o n e → (pattern_cause kind size Read o n Error.Unsupported → P Read Error.Unsupported) → P op e

@@ -126,6 +126,7 @@ vmdk_view features bytes opened extents = record {
     keeps_data = true;
     zero_granularity = None;
     offers = vmdk_offers;
+    block = 1;
   };
   size = sum_by size_of extents;
   place = vmdk_place (λ i. slice_index_or bytes i []) opened extents;

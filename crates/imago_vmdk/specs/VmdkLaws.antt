@@ -155,6 +155,7 @@ module _ {N : Type 0} (features : List Features) (bytes : List (List ℕ)) where
     own = λ p q b c s o w e g. let z : ⊥ = cc in absurd z;
     refused = λ p r e. let z : ⊥ = cc in absurd z;
     granularity = λ e. let z : ⊥ = cc in z;
+    blocks = λ e. let z : ⊥ = cc in z;
   }
   vmdk_lawful true es =
       let at : ℕ → List ℕ = λ i. slice_index_or bytes i [] in
@@ -167,6 +168,7 @@ module _ {N : Type 0} (features : List Features) (bytes : List (List ℕ)) where
         own = λ p q b c s o w e g. own_place at 1 es p q b c s o true w e g;
         refused = λ p r e. refusal_is at 1 es p r e;
         granularity = λ e. let z : ⊥ = cc in z;
+        blocks = λ e. let z : ⊥ = cc in z;
       }
 
 -- the causes are a wrap-around, a refused place, and what isn't offered

@@ -1,6 +1,6 @@
 use Rattle.std.proofs.Common.{◌+◌, arith, refl}
 use Rattle.imago_test_drivers.specs.CopyOnce.{copy_view}
-use Rattle.imago_test_drivers.proofs.CopySteps.{copy_done, own_is_known, own_has_state, copy_reaches, copy_framed, copy_settled}
+use Rattle.imago_test_drivers.proofs.CopySteps.{copy_done, copy_stays, own_is_known, own_has_state, copy_reaches, copy_framed, copy_settled}
 use Rattle.imago_test_drivers.proofs.copy_once.CopyOnceFormatDriverInstance.commit_data_mapping.Goals as goal
 
 pub returns-clause-call : goal.returns-clause-call
@@ -24,4 +24,5 @@ returns-clause-call g c =
       framed = copy_framed f n n B B s.size s.copied s.waiting;
       faults = record { later = omega arith; reliable = λ e. refl; device = λ e. let z : ⊥ = cc in absurd z };
       refusals = tt;
+      outside = copy_stays f.keeps_data B s.size s.copied s.waiting m m.state refl own;
     }

@@ -4,7 +4,7 @@ use Rattle.imago_drivers.specs.Place.{Byte, values}
 use Rattle.imago_drivers.specs.LayerBelow.{lent}
 use Rattle.imago_test_drivers.specs.CopyOnce.{copy_place}
 use Rattle.imago_drivers.specs.RawLaws.{raw_in}
-use Rattle.imago_test_drivers.proofs.CopySteps.{copied_below, around_copy}
+use Rattle.imago_test_drivers.proofs.CopySteps.{copied_below, around_copy, copy_near}
 use Rattle.imago_test_drivers.proofs.copy_once.CopyOnceFormatDriverInstance.prepare_data_mapping.Goals as goal
 
 pub returns-then-self-clause-prepared : goal.returns-then-self-clause-prepared
@@ -22,6 +22,7 @@ returns-then-self-clause-prepared g c =
       no_memory = λ h. absurd h;
       later = λ i. omega arith;
       around = λ q e. let x = rw c.requires.spent at e in let z : ⊥ = cc in absurd z;
+      near = λ q e. let x = rw c.requires.spent at e in let z : ⊥ = cc in absurd z;
       direct = λ e. (
         c.requires.spent,
         λ i h. (
@@ -52,6 +53,8 @@ returns-in_ok-write_bytes-in-Ok-clause-prepared g c =
       no_memory = λ h. absurd h;
       later = λ i. rw (c.in_ok-write_bytes-in-Ok.ensures.features) (omega arith);
       around = λ q e. around_copy _ _ _ q e (omega (arith, c.requires.inside));
+      near = λ q e. copy_near s.size _ _ q c.args.offset m.length e (omega (arith, n, c.if-count-eq0.false))
+          (omega (arith, n, c.requires.inside));
       direct = λ x. let y = e.state in let z : ⊥ = cc in absurd z;
       apart = λ t x. (_, refl, (e.storage, e.offset, e.length, e.state), refl, λ k over p i. shows k p (omega (arith, n, i.1, c.requires.inside)));
       round = λ k p h l out. shows k p l;

@@ -1,0 +1,3 @@
+pub mod Restated
+pub mod Variants
+pub mod Detection

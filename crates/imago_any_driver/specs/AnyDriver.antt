@@ -1,0 +1,188 @@
+use Rattle.std.specs.Prelude.{◌≡◌, ℕ, ◌+◌, ◌⊎◌, ◌||◌, Bool, List, ◌∷◌, Result, map, if◌then◌else◌}
+use Rattle.imago_storage.specs.declared.error.Error.{Error}
+use Rattle.imago_storage.specs.Features.{Features}
+use Rattle.imago_drivers.specs.CallRelations.{Calls, any_calls}
+use Rattle.imago_drivers.specs.Laws.{IsLawful, AreCauses}
+use Rattle.imago_drivers.specs.Raw.{raw_view}
+use Rattle.imago_drivers.specs.RawImage.{storage_in as raw_storage, writability_of, size_of}
+use Rattle.imago_drivers.specs.RawLaws.{raw_lawful, raw_causes}
+use Rattle.imago_drivers.specs.Reasons.{Reasons}
+use Rattle.imago_drivers.specs.View.{View}
+use Rattle.imago_drivers.specs.declared.format.Format.{Format}
+use Rattle.imago_drivers.specs.declared.raw.Raw.{Raw as RawImage}
+use Rattle.imago_vmdk.specs.Vmdk.{vmdk_view}
+use Rattle.imago_vmdk.specs.VmdkLaws.{vmdk_lawful, vmdk_causes}
+use Rattle.imago_vmdk.specs.declared.vmdk.Vmdk.{Vmdk as VmdkImage}
+use Rattle.imago_cow.specs.Cow.{cow_view}
+use Rattle.imago_cow.specs.CowImage.{block_of}
+use Rattle.imago_cow.specs.CowLaws.{cow_lawful, cow_causes}
+use Rattle.imago_cow.specs.TableView.{entries_of, count_of}
+use Rattle.imago_cow.specs.TableLaws.{named_once}
+use Rattle.imago_cow.specs.declared.cow.Cow.{Cow as CowImage}
+use Rattle.imago_cow.specs.declared.cow.CowState.{CowState}
+use Rattle.imago_qcow2.specs.Qcow2.{qcow2_view}
+use Rattle.imago_qcow2.specs.Qcow2Image.{storage_in as qcow2_storage}
+use Rattle.imago_qcow2.specs.Qcow2Laws.{qcow2_lawful, qcow2_causes}
+use Rattle.imago_qcow2.specs.declared.qcow2.Qcow2.{Qcow2 as Qcow2Image}
+use Rattle.imago_any_driver.specs.Restated.{restated, restated_lawful, restated_causes}
+use Rattle.imago_any_driver.specs.declared.any.AnyDriver.{AnyDriver}
+use Rattle.imago_any_driver.specs.declared.any.AnyDriver.TheVariants.{Raw, Vmdk, Cow, Qcow2}
+
+module _ {S : Type 0} {g : _} {h : _} where
+  -- it is that raw image
+  abbrev pub HoldsRaw : RawImage S g h → AnyDriver S g h → Type 0
+  HoldsRaw driver it = it ≡ Raw driver
+
+  -- it is that VMDK image
+  abbrev pub HoldsVmdk : VmdkImage S g h → AnyDriver S g h → Type 0
+  HoldsVmdk driver it = it ≡ Vmdk driver
+
+  -- it is that copy-on-write disk
+  abbrev pub HoldsCow : CowImage S g h → AnyDriver S g h → Type 0
+  HoldsCow driver it = it ≡ Cow driver
+
+  -- it is that qcow2 image
+  abbrev pub HoldsQcow2 : Qcow2Image S g h → AnyDriver S g h → Type 0
+  HoldsQcow2 driver it = it ≡ Qcow2 driver
+
+-- The view of the driver that it is. One without states is seen as one whose mappings may hold
+-- some.
+abbrev pub view_by_format : {S : Type 0} {g : _} {h : _} → (RawImage S g h → View Unit)
+    → (VmdkImage S g h → View Unit) → (CowImage S g h → View CowState)
+    → (Qcow2Image S g h → View Unit) → AnyDriver S g h → View CowState
+view_by_format raw vmdk cow qcow2 (Raw driver) = restated (raw driver)
+view_by_format raw vmdk cow qcow2 (Vmdk driver) = restated (vmdk driver)
+view_by_format raw vmdk cow qcow2 (Cow driver) = cow driver
+view_by_format raw vmdk cow qcow2 (Qcow2 driver) = restated (qcow2 driver)
+
+-- a shared call is that of the driver that it is
+abbrev pub asked : {S R : Type 0} {g : _} {h : _} → (RawImage S g h → R → Type 0)
+    → (VmdkImage S g h → R → Type 0) → (CowImage S g h → R → Type 0)
+    → (Qcow2Image S g h → R → Type 0) → AnyDriver S g h → R → Type 0
+asked raw vmdk cow qcow2 (Raw driver) r = raw driver r
+asked raw vmdk cow qcow2 (Vmdk driver) r = vmdk driver r
+asked raw vmdk cow qcow2 (Cow driver) r = cow driver r
+asked raw vmdk cow qcow2 (Qcow2 driver) r = qcow2 driver r
+
+-- a changing call is that of the driver that it is, which stays of its format
+abbrev pub changed : {S R : Type 0} {g : _} {h : _}
+    → (RawImage S g h → RawImage S g h → R → Type 0)
+    → (VmdkImage S g h → VmdkImage S g h → R → Type 0)
+    → (CowImage S g h → CowImage S g h → R → Type 0)
+    → (Qcow2Image S g h → Qcow2Image S g h → R → Type 0)
+    → AnyDriver S g h → AnyDriver S g h → R → Type 0
+changed raw vmdk cow qcow2 (Raw old) (Raw new) r = raw old new r
+changed raw vmdk cow qcow2 (Vmdk old) (Vmdk new) r = vmdk old new r
+changed raw vmdk cow qcow2 (Cow old) (Cow new) r = cow old new r
+changed raw vmdk cow qcow2 (Qcow2 old) (Qcow2 new) r = qcow2 old new r
+changed raw vmdk cow qcow2 _ _ r = ⊥
+
+-- Each call that no prepared mapping is part of is that of the driver that it is.
+abbrev pub calls_by_format : {S : Type 0} {g : _} {h : _} → Calls (RawImage S g h) Unit
+    → Calls (VmdkImage S g h) Unit → Calls (CowImage S g h) CowState
+    → Calls (Qcow2Image S g h) Unit → Calls (AnyDriver S g h) CowState
+calls_by_format r v c q = record any_calls {
+  mapped = λ o n. asked (r.mapped o n) (v.mapped o n) (c.mapped o n) (q.mapped o n);
+  read = λ index o n. asked (r.read index o n) (v.read index o n) (c.read index o n)
+      (q.read index o n);
+  read_special = λ o n. asked (r.read_special o n) (v.read_special o n) (c.read_special o n)
+      (q.read_special o n);
+  put = λ index bytes o. changed (r.put index bytes o) (v.put index bytes o) (c.put index bytes o)
+      (q.put index bytes o);
+  zeroed = λ o n. changed (r.zeroed o n) (v.zeroed o n) (c.zeroed o n) (q.zeroed o n);
+  discarded_to_zero = λ o n. changed (r.discarded_to_zero o n) (v.discarded_to_zero o n)
+      (c.discarded_to_zero o n) (q.discarded_to_zero o n);
+  discarded_to_any = λ o n. changed (r.discarded_to_any o n) (v.discarded_to_any o n)
+      (c.discarded_to_any o n) (q.discarded_to_any o n);
+  discarded_to_backing = λ o n. changed (r.discarded_to_backing o n) (v.discarded_to_backing o n)
+      (c.discarded_to_backing o n) (q.discarded_to_backing o n);
+  grown = λ n mode below. changed (r.grown n mode below) (v.grown n mode below)
+      (c.grown n mode below) (q.grown n mode below);
+  cut = λ n. changed (r.cut n) (v.cut n) (c.cut n) (q.cut n);
+  flushed = changed r.flushed v.flushed c.flushed q.flushed;
+  synced = changed r.synced v.synced c.synced q.synced;
+  invalidated = changed r.invalidated v.invalidated c.invalidated q.invalidated;
+}
+
+-- Which format bytes have: qcow2 where they look like a qcow2 file's, else VMDK where they look like
+-- a descriptor's, else raw.
+abbrev pub detected : (List ℕ → Bool) → (List ℕ → Bool) → List ℕ → Format
+detected is_qcow2 is_vmdk bytes =
+    if is_qcow2 bytes then Format.Qcow2 else if is_vmdk bytes then Format.Vmdk else Format.Raw
+
+-- the bytes look like those of one of two formats
+abbrev pub either : (List ℕ → Bool) → (List ℕ → Bool) → List ℕ → Bool
+either one other bytes = one bytes || other bytes
+
+-- a refusal has a reason among these or those
+abbrev pub reasons_of_both : Reasons → Reasons → Reasons
+reasons_of_both a b = record {
+  read_only = a.read_only ⊎ b.read_only;
+  beyond_disk = a.beyond_disk ⊎ b.beyond_disk;
+  range_overflow = a.range_overflow ⊎ b.range_overflow;
+  cause = λ e. a.cause e ⊎ b.cause e;
+  device = a.device ⊎ b.device;
+  memory = a.memory ⊎ b.memory;
+  foreign_mapping = a.foreign_mapping ⊎ b.foreign_mapping;
+}
+
+-- a raw image over a storage that shows these features, counts of faults and bytes
+abbrev pub raw_in : {S : Type 0} {g : _} {h : _} → (S → Features) → (S → ℕ) → (S → List ℕ)
+    → RawImage S g h → View Unit
+raw_in features fault_count bytes r =
+    raw_view (features (raw_storage r)) (fault_count (raw_storage r)) (bytes (raw_storage r))
+    (size_of r) (writability_of r)
+
+-- a VMDK image over storages that show these features and bytes
+abbrev pub vmdk_in : {S : Type 0} {g : _} {h : _} → (S → Features) → (S → List ℕ)
+    → VmdkImage S g h → View Unit
+vmdk_in features bytes v =
+    vmdk_view (features v.descriptor ∷ map features v.storages.items)
+    (bytes v.descriptor ∷ map bytes v.storages.items) v.opened v.extents.items
+
+-- a copy-on-write disk over a storage that shows these features, counts of faults and bytes
+abbrev pub cow_in : {S : Type 0} {g : _} {h : _} → (S → Features) → (S → ℕ) → (S → List ℕ)
+    → CowImage S g h → View CowState
+cow_in features fault_count bytes d =
+    cow_view (features d.storage) (fault_count d.storage + d.faults) (bytes d.storage) d.size
+    (block_of d) (entries_of d.table) (count_of d.table) d.waiting
+
+-- a qcow2 image over a storage that shows these features and bytes
+abbrev pub qcow2_in : {S : Type 0} {g : _} {h : _} → (S → Features) → (S → List ℕ)
+    → Qcow2Image S g h → View Unit
+qcow2_in features bytes d = qcow2_view (features (qcow2_storage d)) (bytes (qcow2_storage d))
+
+-- the view of a driver over storages that show these features, counts of faults and bytes
+abbrev pub view_over : {S : Type 0} {g : _} {h : _} → (S → Features) → (S → ℕ) → (S → List ℕ)
+    → AnyDriver S g h → View CowState
+view_over features fault_count bytes =
+    view_by_format (raw_in features fault_count bytes) (vmdk_in features bytes)
+    (cow_in features fault_count bytes) (qcow2_in features bytes)
+
+module _ {S : Type 0} {g : _} {h : _} (features : S → Features) (fault_count : S → ℕ)
+    (bytes : S → List ℕ) where
+  -- the laws of each format are those of a driver
+  pub formats_lawful : (d : AnyDriver S g h) → IsLawful (view_over features fault_count bytes d)
+  formats_lawful (Raw r) = restated_lawful (raw_in features fault_count bytes r)
+      (raw_lawful (features (raw_storage r)) (fault_count (raw_storage r)) (bytes (raw_storage r))
+      (size_of r) (writability_of r))
+  formats_lawful (Vmdk v) = restated_lawful (vmdk_in features bytes v)
+      (vmdk_lawful (features v.descriptor ∷ map features v.storages.items)
+      (bytes v.descriptor ∷ map bytes v.storages.items) v.opened v.extents.items)
+  formats_lawful (Cow d) = cow_lawful (features d.storage) (fault_count d.storage + d.faults)
+      (bytes d.storage) d.size (block_of d) (entries_of d.table) (count_of d.table) d.waiting
+      d.positive d.exact.covers (named_once d.table)
+  formats_lawful (Qcow2 d) = restated_lawful (qcow2_in features bytes d)
+      (qcow2_lawful (features (qcow2_storage d)) (bytes (qcow2_storage d)))
+
+  pub formats_causes : (d : AnyDriver S g h) → AreCauses (view_over features fault_count bytes d)
+  formats_causes (Raw r) = restated_causes (raw_in features fault_count bytes r)
+      (raw_causes (features (raw_storage r)) (fault_count (raw_storage r)) (bytes (raw_storage r))
+      (size_of r) (writability_of r))
+  formats_causes (Vmdk v) = restated_causes (vmdk_in features bytes v)
+      (vmdk_causes (features v.descriptor ∷ map features v.storages.items)
+      (bytes v.descriptor ∷ map bytes v.storages.items) v.opened v.extents.items)
+  formats_causes (Cow d) = cow_causes (features d.storage) (fault_count d.storage + d.faults)
+      (bytes d.storage) d.size (block_of d) (entries_of d.table) (count_of d.table) d.waiting
+  formats_causes (Qcow2 d) = restated_causes (qcow2_in features bytes d)
+      (qcow2_causes (features (qcow2_storage d)) (bytes (qcow2_storage d)))

@@ -1,0 +1,2 @@
+pub mod Restated
+pub mod AnyDriver

@@ -1,8 +1,0 @@
-use Rattle.imago_script_parts.proofs.Restated.{zero_call_restated}
-use Rattle.imago_script_parts.proofs.script_driver.ScriptDriverFormatDriverInstance.discard_to_zero.Goals as goal
-
-pub returns-in-Raw : goal.returns-in-Raw
-returns-in-Raw g c = rw c.in-Raw.is (record { call = zero_call_restated _ _ _ _ _ _ c.discard_to_zero.ensures.call; performed = tt })
-
-pub returns-in-Cow : goal.returns-in-Cow
-returns-in-Cow g c = rw c.in-Cow.is (record { call = c.discard_to_zero-in-Cow.ensures.call; performed = tt })
