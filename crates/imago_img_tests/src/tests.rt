@@ -3,3 +3,4 @@
 mod commands;
 mod refusals;
 mod set_up;
+mod whole;
