@@ -1,9 +1,8 @@
 use Rattle.std.proofs.Common.{◌≡◌, ℕ, Bool, List, Option, Some, None, Result, Ok, Err, map, length}
-use Rattle.std.proofs.Common.{IfOk, OnOk, IfSome, refl, sym, ap, subst, ◌∙◌, not, zero-add}
+use Rattle.std.proofs.Common.{OnOk, IfSome, sym, ap, subst, ◌∙◌, not, zero-add}
 use Rattle.std.specs.Prelude.{option_map, slice_index}
 use Rattle.imago_drivers.specs.Place.{Byte}
 use Rattle.imago_access.specs.Disk.{values_from}
-use Rattle.imago_vmdk.specs.declared.line.Extent.{Extent}
 use Rattle.imago_vmdk.specs.Reading.{reading_of}
 use Rattle.imago_vmdk.specs.Disk.{described_value}
 use Rattle.imago_plan.specs.declared.piece.Piece.{Piece}
@@ -12,9 +11,9 @@ use Rattle.imago_plan.specs.Differences.{IsFirstDifference, IfBoth}
 use Rattle.imago_plan.proofs.BytesAt.{read_bytes}
 use Rattle.imago_img_parts.specs.declared.text.ImageFormat.{ImageFormat}
 use Rattle.imago_img_parts.specs.declared.text.ImageFormat.TheVariants.{Raw, Vmdk}
-use Rattle.imago_img_parts.specs.Files.{path_at, storages_by, storages_in, IsMade, piece_contents}
-use Rattle.imago_img_parts.specs.Images.{flat_names, storage_paths, IsImageOf}
-use Rattle.imago_img_parts.specs.Disks.{IsDiskOf, HasDisk, IsConverted, AreCompared}
+use Rattle.imago_img_parts.specs.Files.{path_at, storages_by, IsMade, piece_contents}
+use Rattle.imago_img_parts.specs.Images.{IsImageOf}
+use Rattle.imago_img_parts.specs.Disks.{IsDiskOf, IsConverted, AreCompared}
 
 -- all of a list
 all_of : (xs : List ℕ) → bytes_at xs 0 (length xs) ≡ xs

@@ -1,13 +1,12 @@
 -- What a chain of qcow2 files shows, by the bytes of other files with the same tables.
 use Rattle.std.proofs.Common.{◌≡◌, ℕ, suc, ◌+◌, ◌^◌, ◌%◌, ◌/◌, ◌≤◌, List, [], ◌∷◌, Option, Some, None, Box, Global, refl, sym, ap, subst, ◌∙◌, arith, ⊎_elim}
-use Rattle.std.specs.Prelude.{slice_index}
 use Rattle.std.proofs.lemmas.Bool.{cases_lt}
 use Rattle.imago_drivers.specs.Place.{Place, Stored, Zeroed, Special, Lower, Refused, End, Value, Byte, shown}
 use Rattle.imago_drivers.specs.View.{View}
 use Rattle.imago_access.specs.declared.access.FormatAccess.{FormatAccess, FormatAccess', Held-FormatAccess-backing, None', Some', out-FormatAccess, is-FormatAccess', back-FormatAccess-backing}
 use Rattle.imago_access.specs.Chain.{driver, backing, unboxed}
 use Rattle.imago_access.specs.Disk.{values_from}
-use Rattle.imago_access.specs.Target.{Target, target, target_below, target_here, followed}
+use Rattle.imago_access.specs.Target.{Target, target, target_below, followed}
 use Rattle.imago_vmdk.specs.Disk.{with_bytes}
 use Rattle.imago_plan.specs.StoredBytes.{target_value}
 use Rattle.imago_qcow2.specs.declared.entry.GuestCluster.{GuestCluster}

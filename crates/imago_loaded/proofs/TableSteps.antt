@@ -1,21 +1,21 @@
 -- qcow2 files of which the tables are in memory.
-use Rattle.std.proofs.Common.{◌≡◌, ℕ, ◌+◌, ◌*◌, ◌/◌, ◌^◌, ◌<◌, ◌≤◌, ⊎_elim, List, length, refl, sym, ap, subst, ◌∙◌, arith}
+use Rattle.std.proofs.Common.{◌≡◌, ℕ, ◌+◌, ◌*◌, ◌/◌, ◌^◌, ◌<◌, ◌≤◌, ⊎_elim, List, length, sym, ap, subst, ◌∙◌, arith}
 use Rattle.std.specs.Prelude.{slice_index}
 use Rattle.std.specs.Int.{div_ceil}
 use Rattle.std.proofs.lemmas.Bool.{cases_lt}
 use Rattle.imago_storage.specs.Bytes.{IsReadAt}
 use Rattle.imago_plan.specs.PieceBytes.{bytes_at}
 use Rattle.imago_qcow2.specs.declared.entry.L2Table.{L2Table}
-use Rattle.imago_qcow2.specs.Numbers.{be32, be64}
-use Rattle.imago_qcow2.specs.Entry.{disk_size, cluster_length, per_table, l1_start, l1_entry, table_of, table_in_entry}
+use Rattle.imago_qcow2.specs.Numbers.{be64}
+use Rattle.imago_qcow2.specs.Entry.{disk_size, cluster_length, per_table, l1_start, l1_entry, table_in_entry}
 use Rattle.imago_qcow2.specs.Opening.{table_count}
 use Rattle.imago_qcow2.specs.Disk.{HaveSameTables}
 use Rattle.imago_qcow2.proofs.NumberSteps.{read64}
 use Rattle.imago_qcow2.proofs.HeaderSteps.{same32, same64}
 use Rattle.imago_loaded.specs.declared.loaded.LoadedFile.{LoadedFile}
-use Rattle.imago_loaded.specs.Loaded.{loaded_bytes, HasBytesOf, IsThere, AreThere, Keeps, LoadsMore}
+use Rattle.imago_loaded.specs.Loaded.{loaded_bytes, HasBytesOf, AreThere, Keeps}
 use Rattle.imago_loaded.specs.Tables.{AreLoaded}
-use Rattle.imago_loaded.proofs.LoadedSteps.{loaded_length, byte_at, same_range, there_stays, keeps_more}
+use Rattle.imago_loaded.proofs.LoadedSteps.{loaded_length, byte_at, same_range, there_stays}
 
 -- tables that were in memory before stay so, and with one more there are more
 pub tables_stay : (entries : List ℕ) (cluster file n : ℕ) (a b : LoadedFile) → Keeps a b → AreLoaded entries cluster file n a → AreLoaded entries cluster file n b

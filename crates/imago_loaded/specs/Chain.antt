@@ -1,5 +1,5 @@
-use Rattle.std.specs.Prelude.{◌≡◌, ℕ, suc, List, [], ◌∷◌}
-use Rattle.imago_drivers.specs.Place.{Value, Byte, Place, shown}
+use Rattle.std.specs.Prelude.{ℕ, suc, List, [], ◌∷◌}
+use Rattle.imago_drivers.specs.Place.{Value, Byte, shown}
 use Rattle.imago_access.specs.declared.access.FormatAccess.{FormatAccess, FormatAccess'}
 use Rattle.imago_access.specs.declared.access.FormatAccess.{Held-FormatAccess-backing, None', Some'}
 use Rattle.imago_qcow2.specs.Disk.{HaveSameTables}

@@ -1,4 +1,4 @@
-use Rattle.std.proofs.Common.{map, OnOk}
+use Rattle.std.proofs.Common.{map}
 use Rattle.std.specs.String.{string_bytes}
 use Rattle.imago_img_parts.proofs.Disks.{converted_image, on_ok}
 use Rattle.imago_img_parts.proofs.commands.convert_image.Goals as goal

@@ -1,4 +1,4 @@
-use Rattle.std.proofs.Common.{◌/◌, ◌<◌, ◌≤◌, arith, length, sym, ◌∙◌}
+use Rattle.std.proofs.Common.{arith, ◌∙◌}
 use Rattle.imago_loaded.proofs.LoadedSteps.{keeps_more}
 use Rattle.imago_loaded.proofs.TableSteps.{tables_more}
 use Rattle.imago_loaded.proofs.tables.load_l2_tables.Goals as goal

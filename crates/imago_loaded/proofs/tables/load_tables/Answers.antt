@@ -1,4 +1,4 @@
-use Rattle.std.proofs.Common.{◌≡◌, ◌*◌, ◌/◌, ◌<◌, ◌≤◌, ap, arith, length, ◌∙◌}
+use Rattle.std.proofs.Common.{◌≡◌, ◌*◌, ap, arith, length, ◌∙◌}
 use Rattle.imago_loaded.proofs.LoadedSteps.{keeps_more, there_stays}
 use Rattle.imago_loaded.proofs.TableSteps.{loads_tables}
 use Rattle.imago_loaded.proofs.tables.load_tables.Goals as goal

@@ -1,4 +1,4 @@
-use Rattle.std.proofs.Common.{◌+◌, ◌≤◌, ◌<◌, arith}
+use Rattle.std.proofs.Common.{arith}
 use Rattle.imago_loaded.proofs.LoadedSteps.{keeps_more, load_next, load_done}
 use Rattle.imago_loaded.proofs.loaded.LoadedFile.load.Goals as goal
 
