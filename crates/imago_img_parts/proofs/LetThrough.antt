@@ -3,7 +3,6 @@ use Rattle.std.proofs.Common.{⊎_elim, ◌∙◌, true≢false}
 use Rattle.imago_storage.specs.declared.error.Error.{Error}
 use Rattle.imago_storage.specs.declared.mem.MemStorage.{MemStorage}
 use Rattle.imago_vmdk.specs.declared.line.Extent.{Extent}
-use Rattle.imago_vmdk.specs.declared.line.Extent.TheVariants as Extent
 use Rattle.imago_storage.specs.Features.{Features}
 use Rattle.imago_drivers.specs.Builder.{OpenSettings, HandedIn, unset}
 use Rattle.imago_vmdk.specs.declared.vmdk.Vmdk.{Vmdk}

@@ -1,2 +1,3 @@
 mod LetThrough
 mod Files
+mod Disks

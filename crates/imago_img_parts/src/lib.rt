@@ -7,6 +7,7 @@
 
 mod check;
 mod command;
+pub mod commands;
 mod compare;
 mod convert;
 mod extents;

@@ -8,6 +8,7 @@ ghost use Rattle.std.specs.List.{sum_by};
 ghost use Rattle.imago_access.specs.Chain.{driver};
 ghost use Rattle.imago_vmdk.specs.Image.{is_opened, takes_unknown_keys, descriptor_in, extents_in};
 ghost use Rattle.imago_vmdk.specs.Reading.{reading_of, size_of};
+ghost use Rattle.imago_img_parts.specs.declared.text.ImageFormat.TheVariants as ImageFormat;
 ghost use Rattle.imago_img_parts.specs.Images.{flat_names, storage_paths as paths_of};
 ghost use Rattle.imago_img_parts.specs.Images.{ShowsDescribed, ShowsRaw, AreLetThrough, IsImageOf};
 
@@ -78,17 +79,23 @@ fn storage_paths(
 
 /// The format of an image: the one that is said, or else told from its first bytes. Only where it
 /// is said to be raw is a sparse VMDK image taken as its bytes are.
-pub fn format_of<H: Host>(host: &H, path: &str, how: Opening) -> Result<ImageFormat, Failure> {
+pub fn format_of<H: Host>(host: &H, path: &str, how: Opening) -> Result<ImageFormat, Failure>
+    ensures { IfOk result (λ format. IfSome how.format (λ said. format ≡ said)) }
+{
     match how.format {
         Some(ImageFormat::Raw) => Ok(ImageFormat::Raw),
-        Some(format) => guessed_format(host, path).map(|_| format),
+        Some(format) => {
+            guessed_format(host, path)?;
+            Ok(format)
+        }
         None => guessed_format(host, path),
     }
 }
 
 /// Opens the image of that file. The files of its extents are named, and not opened.
 pub fn open<H: Host>(host: &H, path: &str, how: Opening) -> Result<OpenedImage, Failure>
-    ensures { IfOk result
+    ensures said { IfOk result (λ image. IfSome how.format (λ said. image.format ≡ said)) }
+    ensures image { IfOk result
         (λ image. (text : List ℕ) × IfSome (H.contents host.now) (λ files. text ≡ files path.now)
         × IsImageOf how.strict how.allow_outside path.now text image.format image.size
         (map string_bytes image.paths.items) image.pieces.items) }
@@ -111,7 +118,8 @@ fn planned_raw(alloc: Global, size: u64) -> Result<Vec<Piece>, Error>
 
 /// The raw image of a file of that length.
 fn open_raw(alloc: Global, path: &str, size: u64, how: Opening) -> Result<OpenedImage, Failure>
-    ensures { (text : List ℕ) → length text ≡ size
+    ensures raw { IfOk result (λ image. image.format ≡ ImageFormat.Raw) }
+    ensures image { (text : List ℕ) → length text ≡ size
         → IfOk result (λ image. IsImageOf how.strict how.allow_outside path.now text image.format
         image.size (map string_bytes image.paths.items) image.pieces.items) }
 {
@@ -131,7 +139,8 @@ fn open_vmdk<H: Host>(
     count: u64,
     how: Opening,
 ) -> Result<OpenedImage, Failure>
-    ensures { IfOk result (λ image. (text : List ℕ)
+    ensures vmdk { IfOk result (λ image. image.format ≡ ImageFormat.Vmdk) }
+    ensures image { IfOk result (λ image. (text : List ℕ)
         × IfSome (H.contents host.now)
         (λ files. length (files path.now) ≡ count → text ≡ files path.now)
         × IsImageOf how.strict how.allow_outside path.now text image.format image.size

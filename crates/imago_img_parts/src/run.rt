@@ -3,13 +3,12 @@ ghost use Rattle.std.specs.Prelude.{◌≡◌, ◌≤◌};
 
 use crate::check::check;
 use crate::command::{Command, HELP, command_of};
-use crate::compare::first_difference;
-use crate::convert::convert;
+use crate::commands::{Comparison, compare_images, convert_image};
 use crate::failure::Failure;
 use crate::host::Host;
 use crate::info::info;
 use crate::map::map;
-use crate::opened::{OpenedImage, Opening, open};
+use crate::opened::{Opening, open};
 use std::io::{self, BufWriter, Write};
 
 /// What a command comes to.
@@ -97,10 +96,7 @@ fn obey<H: Host, W: Write, E: Write>(
             to,
             force,
             quiet,
-        } => {
-            let image = open(&*host, from, how)?;
-            convert(host, &image, to, force, !quiet)?;
-        }
+        } => convert_image(host, from, to, how, force, !quiet)?,
         Command::Compare {
             first,
             second,
@@ -131,30 +127,23 @@ fn compare<H: Host, W: Write>(
     quiet: bool,
     output: &mut W,
 ) -> Result<Outcome, Failure> {
-    let first = open(host, paths.0, how)?;
-    let second = open(host, paths.1, how)?;
-    let found = first_difference(host, &first, &second)?;
+    let found = compare_images(host, paths.0, paths.1, how)?;
     if !quiet {
-        tell_difference(&first, &second, found, output).map_err(Failure::Output)?;
+        tell_difference(found, output).map_err(Failure::Output)?;
     }
-    Ok(outcome_of(found.is_none()))
+    Ok(outcome_of(found.difference.is_none()))
 }
 
 /// Tells the first offset at which two images differ, or that they don't.
-fn tell_difference<W: Write>(
-    first: &OpenedImage,
-    second: &OpenedImage,
-    found: Option<u64>,
-    output: &mut W,
-) -> io::Result<()> {
-    if first.size != second.size {
-        let (one, other) = (first.size, second.size);
+fn tell_difference<W: Write>(found: Comparison, output: &mut W) -> io::Result<()> {
+    let (one, other) = found.sizes;
+    if one != other {
         writeln!(
             output,
             "The sizes differ: {one} and {other} bytes; what lacks is taken as 0."
         )?;
     }
-    match found {
+    match found.difference {
         None => writeln!(output, "Images are identical."),
         Some(offset) => writeln!(output, "Content mismatch at offset {offset}!"),
     }

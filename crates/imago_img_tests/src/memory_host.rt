@@ -1,5 +1,7 @@
 //! A host whose files are in memory.
-ghost use Rattle.std.specs.Prelude.{◌≤◌, None};
+ghost use Rattle.std.specs.Prelude.{◌≡◌, ◌+◌, ◌≤◌, [], Some, length, replicate, slice_index};
+ghost use Rattle.std.specs.Prelude.{EachIndex, MatchOption, MatchResult};
+ghost use Rattle.imago_plan.specs.PieceBytes.{bytes_at};
 
 use imago_img_parts::host::{FileKind, FileStatus, Host};
 use imago_plan::copy::Target;
@@ -48,13 +50,14 @@ pub struct MemoryHost {
 /// A new file in memory.
 #[derive(Drop)]
 pub struct MemoryTarget {
-    path: String,
     bytes: Vec<u8>,
     /// How many times something may still be put in.
     appends: u64,
 }
 
 impl MemoryHost {
+    ghost use Rattle.imago_img_tests.specs.MemoryFiles.{file_bytes};
+
     /// No files. Something may be put into a new one that many times, and then it gets its path or
     /// doesn't.
     pub fn new(alloc: Global, appends: u64, finishes: bool) -> Self {
@@ -93,15 +96,22 @@ impl MemoryHost {
     }
 
     /// The bytes of a file, if there is one.
-    pub fn bytes(&self, path: &str) -> Option<&[u8]> {
+    pub fn bytes(&self, path: &str) -> Option<&[u8]>
+        ensures { MatchOption result (file_bytes self.now.files.items path.now ≡ [])
+            (λ bytes. bytes.now ≡ file_bytes self.now.files.items path.now) }
+    {
         match self.file(path) {
             Ok(file) => Some(&file.bytes),
             Err(_) => None,
         }
     }
 
-    /// The file of that path.
-    fn file(&self, path: &str) -> io::Result<&MemoryFile> {
+    /// The first file of that path.
+    fn file(&self, path: &str) -> io::Result<&MemoryFile>
+        ensures { MatchResult result
+            (λ f. f.now.bytes.items ≡ file_bytes self.now.files.items path.now)
+            (λ _. file_bytes self.now.files.items path.now ≡ []) }
+    {
         for file in &self.files {
             if file.path.as_str() == path {
                 return Ok(file);
@@ -112,17 +122,24 @@ impl MemoryHost {
 }
 
 /// Fills the buffer with bytes from the offset on, with 0 behind their end.
-fn read_padded(bytes: &[u8], buf: &mut [u8], offset: u64) {
-    let start = offset.min(bytes.len() as u64) as usize;
-    let source = &bytes[start..];
-    let count = source.len().min(buf.len());
-    buf[..count].copy_from_slice(&source[..count]);
+#[tactic(auto, using(std::proofs::lemmas::List::places))]
+fn read_padded(bytes: &[u8], buf: &mut [u8], offset: u64)
+    ensures { EachIndex buf.new (λ k. slice_index buf.new k ≡ slice_index bytes.now (offset + k)) }
+{
+    if offset >= bytes.len() as u64 {
+        buf.fill(0);
+        return;
+    }
+    let start = offset as usize;
+    let count = buf.len().min(bytes.len() - start);
+    buf[..count].copy_from_slice(&bytes[start..start + count]);
     buf[count..].fill(0);
 }
 
 /// How many of the bytes from the offset on are 0: at most that many. Behind their end all are.
 fn zeroes_at(bytes: &[u8], offset: u64, most: u64) -> u64
-    ensures { result ≤ most }
+    ensures within { result ≤ most }
+    ensures zero { bytes_at bytes.now offset result ≡ replicate result 0 }
 {
     let mut count = 0;
     while count < most {
@@ -150,15 +167,23 @@ fn others_at(bytes: &[u8], offset: u64, most: u64) -> u64
 }
 
 /// The byte that many behind the offset, if there is one.
-fn byte_at(bytes: &[u8], offset: u64, count: u64) -> Option<u8> {
-    let index = usize::try_from(offset.checked_add(count)?).ok()?;
-    bytes.get(index).copied()
+fn byte_at(bytes: &[u8], offset: u64, count: u64) -> Option<u8>
+    ensures { MatchOption result (length bytes.now ≤ offset + count)
+        (λ byte. slice_index bytes.now (offset + count) ≡ byte) }
+{
+    let index = offset.checked_add(count)?;
+    if index >= bytes.len() as u64 {
+        return None;
+    }
+    Some(bytes[index as usize])
 }
 
 impl Host for MemoryHost {
+    ghost use Rattle.imago_img_tests.specs.MemoryFiles.{file_bytes};
+
     type Target = MemoryTarget;
 
-    ghost contents = { λ _. None };
+    ghost contents = { λ h. Some (file_bytes h.files.items) };
 
     fn alloc(&self) -> Global {
         self.alloc
@@ -223,20 +248,18 @@ impl Host for MemoryHost {
             return Err(io::Error::from(ErrorKind::AlreadyExists));
         }
         Ok(MemoryTarget {
-            path: String::from_str(self.alloc, path)?,
             bytes: Vec::new(self.alloc),
             appends: self.appends,
         })
     }
 
-    fn finish(&mut self, _path: &str, target: MemoryTarget) -> io::Result<()> {
-        let MemoryTarget { path, bytes, .. } = target;
+    fn finish(&mut self, path: &str, target: MemoryTarget) -> io::Result<()> {
         if !self.finishes {
             return Err(io::Error::from(ErrorKind::PermissionDenied));
         }
         let file = MemoryFile {
-            path,
-            bytes,
+            path: String::from_str(self.alloc, path)?,
+            bytes: target.bytes,
             nature: Nature::Plain,
             inode: self.files.len() as u64,
         };
@@ -252,7 +275,9 @@ impl Host for MemoryHost {
 
 impl MemoryTarget {
     /// Counts an append, and refuses one too many, as a full device does.
-    fn take_append(&mut self) -> io::Result<()> {
+    fn take_append(&mut self) -> io::Result<()>
+        ensures { self.new.bytes ≡ self.old.bytes }
+    {
         if self.appends == 0 {
             return Err(io::Error::from(ErrorKind::StorageFull));
         }
@@ -262,19 +287,15 @@ impl MemoryTarget {
 }
 
 impl Target for MemoryTarget {
-    ghost contents = { λ _. None };
+    ghost contents = { λ t. Some t.bytes.items };
 
     fn append(&mut self, source: &[u8]) -> io::Result<()> {
         self.take_append()?;
-        self.bytes.extend_from_slice(source)?;
-        Ok(())
+        Target::append(&mut self.bytes, source)
     }
 
     fn append_zeroes(&mut self, count: u64) -> io::Result<()> {
         self.take_append()?;
-        for _ in 0..count {
-            self.bytes.push(0)?;
-        }
-        Ok(())
+        Target::append_zeroes(&mut self.bytes, count)
     }
 }

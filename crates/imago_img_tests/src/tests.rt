@@ -1,5 +1,7 @@
 //! Command lines over files in memory: what each prints, its status, and the file that it makes.
 
 mod commands;
+mod loaded;
 mod refusals;
 mod set_up;
+mod whole;

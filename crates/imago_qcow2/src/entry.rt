@@ -33,7 +33,8 @@ pub enum GuestCluster {
 pub(crate) fn table_in(file: u64, cluster: u64, entry: u64) -> L2Table
     requires positive { 0 < cluster }
     requires most { cluster < 4294967296 }
-    ensures { result ≡ table_in_entry file cluster entry }
+    ensures says { result ≡ table_in_entry file cluster entry }
+    ensures small { (at : ℕ) → result ≡ L2Table.Stored at → at < 2 ^ 56 }
 {
     let low = entry % 72057594037927936;
     let high = entry / 72057594037927936;

@@ -8,6 +8,7 @@ mod backing;
 pub mod entry;
 pub mod header;
 pub mod laws;
+pub mod layout;
 mod map;
 mod number;
 pub mod qcow2;

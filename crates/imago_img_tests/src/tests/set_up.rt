@@ -116,7 +116,11 @@ fn set_up(alloc: Global, case: &Case) -> Result<(MemoryHost, Vec<String>), Alloc
 }
 
 /// The bytes that a new file is to have.
-fn expected(alloc: Global, length: usize, parts: &[(usize, &[u8])]) -> Result<Vec<u8>, AllocError> {
+pub fn expected(
+    alloc: Global,
+    length: usize,
+    parts: &[(usize, &[u8])],
+) -> Result<Vec<u8>, AllocError> {
     let mut bytes = Vec::new(alloc);
     for (offset, part) in parts {
         bytes.resize(*offset, 0)?;

@@ -1,8 +1,11 @@
-use Rattle.std.proofs.Common.{◌-◌, ◌≤◌}
+use Rattle.std.proofs.Common.{◌≡◌, ℕ, ◌+◌, ◌-◌, ◌<◌, ◌≤◌, slice_index}
 use Rattle.imago_img_tests.proofs.memory_host.zeroes_at.Given as goal
 
 abbrev pub invariant-loop-count : goal.invariant-loop-count
-invariant-loop-count l = l.count ≤ l.most
+invariant-loop-count l = record {
+  within : l.count ≤ l.most;
+  zero : (k : ℕ) → k < l.count → slice_index l.bytes (l.offset + k) ≡ 0;
+}
 
 abbrev pub decreases-loop-count : goal.decreases-loop-count
 decreases-loop-count l = l.most - l.count

@@ -11,7 +11,7 @@ returns-in_err-hold-clause-refusals g c =
     let B = g.S.Storage.bytes c.args.storage.now in
     let inside : 8 * c.loop-i.i + 8 ≤ length c.args.entries.now = omega (arith, c.loop-i-test.true) in
     let below : c.loop-i.i < table_count B = omega (arith, c.loop-i-test.true, c.requires.whole) in
-    let says = says_is B c.args.entries.now c.loop-i.i c.args.file c.args.cluster c.number64.result c.table_in-says.result c.requires.read inside c.requires.file c.requires.cluster c.number64.ensures c.table_in-says.ensures in
+    let says = says_is B c.args.entries.now c.loop-i.i c.args.file c.args.cluster c.number64.result c.table_in-says.result c.requires.read inside c.requires.file c.requires.cluster c.number64.ensures c.table_in-says.ensures.says in
     let h = c.in_err-hold.ensures.refusals in
     let p = err_from_is_err_and c.from_residual.result c.from_residual.ensures.1 in
     rw (p.1, p.2) (table_refused (g.S.Storage.features c.args.storage.now) B c.loop-i.i (h.0) c.args.cluster c.in_err-hold.field-0.0 below c.requires.cluster (sym says ∙ h.1) (h.2))
@@ -22,7 +22,7 @@ loop-i-preserved g c =
     let xs = c.loop-i.l1.items in
     let t = c.in_ok-hold.field-0 in
     let inside : 8 * c.loop-i.i + 8 ≤ length c.args.entries.now = omega (arith, c.loop-i-test.true) in
-    let says = says_is B c.args.entries.now c.loop-i.i c.args.file c.args.cluster c.number64.result c.table_in-says.result c.requires.read inside c.requires.file c.requires.cluster c.number64.ensures c.table_in-says.ensures in
+    let says = says_is B c.args.entries.now c.loop-i.i c.args.file c.args.cluster c.number64.result c.table_in-says.result c.requires.read inside c.requires.file c.requires.cluster c.number64.ensures c.table_in-says.ensures.says in
     let count : length xs ≡ c.loop-i.i = c.loop-i.invariant.count in
     let held : IsHeld B c.args.cluster c.hold.new.loaded.tables.items c.table_in-says.result t = c.in_ok-hold.ensures.held in
     let here : IsHeld B (cluster_length B) c.hold.new.loaded.tables.items (table_of B (length xs)) t = rw (count, ← says, ← c.requires.cluster) held in

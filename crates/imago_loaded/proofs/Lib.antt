@@ -1,0 +1,3 @@
+pub mod LoadedSteps
+pub mod TableSteps
+pub mod Chain

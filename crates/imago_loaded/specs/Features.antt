@@ -1,0 +1,20 @@
+use Rattle.std.specs.Prelude.{false, refl}
+use Rattle.imago_storage.specs.Features.{Features, AsData, AreAlignments}
+use Rattle.imago_storage.specs.Mem.{null_features}
+
+-- Blocks of a file in memory: what is written isn't kept, and nothing fails.
+abbrev pub loaded_features : Features
+loaded_features = record null_features {
+  zeroes = AsData;
+  offers_resize = false;
+}
+
+pub loaded_lawful : AreAlignments loaded_features
+loaded_lawful = record {
+  mem = (0, refl);
+  req = (0, refl);
+  zero = (0, refl);
+  discard = (0, refl);
+  zero_whole = refl;
+  discard_whole = refl;
+}

@@ -1,0 +1,4 @@
+pub mod Features
+pub mod Loaded
+pub mod Tables
+pub mod Chain

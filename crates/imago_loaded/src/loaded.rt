@@ -1,0 +1,304 @@
+//! A file of which some blocks are in memory.
+ghost use Rattle.std.specs.Prelude.{◌≡◌, ℕ, ◌+◌, ◌<◌, List, length, slice_index, Some};
+ghost use Rattle.std.specs.Prelude.{OnOk, IfOk};
+ghost use Rattle.imago_plan.specs.PieceBytes.{bytes_at};
+ghost use Rattle.imago_storage.specs.Bytes.{IsReadAt};
+ghost use Rattle.imago_storage.specs.IoCount.{no_work};
+ghost use Rattle.imago_storage.specs.Maintenance.{no_maintenance};
+ghost use Rattle.imago_storage.specs.Openings.{no_openings};
+ghost use Rattle.imago_loaded.specs.Features.{loaded_features, loaded_lawful};
+
+use imago_plan::copy::Sources;
+use imago_plan::piece::Location;
+use imago_storage::error::Error;
+use imago_storage::storage::{
+    PreallocateMode, Storage, StorageCreateOptions, StorageOpenOptions, ZeroKind,
+};
+use std::alloc::{AllocError, AllocFailed, Global};
+use std::collections::BTreeMap;
+use std::{fmt, io};
+use thiserror::Error;
+
+/// Why a part of a file isn't loaded.
+#[derive(Debug, Drop, Error)]
+pub enum LoadError {
+    /// There is no memory, or the file isn't of the format.
+    #[error("{0}")]
+    Image(Error),
+    /// The source refused.
+    #[error("{0}")]
+    Io(io::Error),
+}
+
+impl From<Error> for LoadError {
+    fn from(error: Error) -> LoadError {
+        LoadError::Image(error)
+    }
+}
+
+impl From<io::Error> for LoadError {
+    fn from(error: io::Error) -> LoadError {
+        LoadError::Io(error)
+    }
+}
+
+impl From<AllocError> for LoadError {
+    fn from(_refused: AllocError) -> LoadError {
+        LoadError::Image(Error::Memory)
+    }
+}
+
+impl<T: Drop> From<AllocFailed<T>> for LoadError {
+    fn from(refused: AllocFailed<T>) -> LoadError {
+        let _ = refused;
+        LoadError::Image(Error::Memory)
+    }
+}
+
+/// A file of which some blocks are in memory, by their numbers. Bytes of others are told as 0.
+///
+/// As a storage it is for reads: no write is kept, and its length can't be changed otherwise.
+#[derive(Drop)]
+pub struct LoadedFile {
+    /// How many bytes the file has.
+    length: u64,
+    /// How many bytes a block has.
+    block: u64,
+    blocks: BTreeMap<u64, Vec<u8>>,
+    ghost positive: { 0 < block },
+}
+
+/// The byte of that index, 0 past the end.
+fn byte_of(bytes: &[u8], index: usize) -> u8
+    ensures { result ≡ slice_index bytes.now index }
+{
+    match bytes.get(index) {
+        Some(byte) => *byte,
+        None => 0,
+    }
+}
+
+/// So many bytes of a file from the offset on, with 0 past its end. The location names the file.
+pub(crate) fn read_part<S: Sources>(
+    alloc: Global,
+    sources: &S,
+    file: Location,
+    offset: u64,
+    count: u64,
+) -> Result<Vec<u8>, LoadError>
+    ensures whole { IfOk result (λ part. length part.items ≡ count) }
+    ensures bytes { IfOk result (λ part. (bytes : ℕ → ℕ → List ℕ)
+        → S.contents sources.now ≡ Some bytes
+        → part.items ≡ bytes_at (bytes file.layer file.storage) offset count) }
+{
+    let mut part = vec![in alloc; 0u8; count as usize]?;
+    sources.read_at(Location { offset, ..file }, &mut part)?;
+    Ok(part)
+}
+
+impl LoadedFile {
+    ghost use Rattle.imago_loaded.specs.Loaded.{loaded_bytes, Loads, LoadsMore, HasBytesOf};
+    ghost use Rattle.imago_loaded.specs.Loaded.{block_length, file_length};
+
+    /// A file of that many bytes, in blocks of so many. None is in memory.
+    pub fn new(alloc: Global, size: u64, block: u64) -> Self
+        requires { 0 < block }
+        ensures length { file_length result ≡ size }
+        ensures block { block_length result ≡ block }
+        ensures bytes { (file : List ℕ) → HasBytesOf file result }
+    {
+        LoadedFile {
+            length: size,
+            block,
+            blocks: BTreeMap::new(alloc),
+        }
+    }
+
+    /// The byte at that offset.
+    fn byte_at(&self, offset: u64) -> u8
+        ensures { result ≡ slice_index (loaded_bytes self.now) offset }
+    {
+        if offset >= self.length {
+            return 0;
+        }
+        let rest = (offset % self.block) as usize;
+        match self.blocks.get(&(offset / self.block)) {
+            Some(block) => byte_of(block, rest),
+            None => 0,
+        }
+    }
+
+    /// Fills the buffer with the bytes from the offset on, with 0 past the end.
+    fn fill(&self, buf: &mut [u8], offset: u64)
+        requires { offset + length buf.old < 18446744073709551616 }
+        ensures { IsReadAt (loaded_bytes self.now) offset buf.new }
+    {
+        for i in 0..buf.len() {
+            buf[i] = self.byte_at(offset + i as u64);
+        }
+    }
+
+    /// Loads the block of that number, if it isn't in memory.
+    fn load_block<S: Sources>(
+        &mut self,
+        alloc: Global,
+        sources: &S,
+        file: Location,
+        number: u64,
+    ) -> Result<(), LoadError>
+        ensures loaded { OnOk result (Loads self.old self.new number) }
+        ensures bytes { OnOk result ((bytes : ℕ → ℕ → List ℕ) → S.contents sources.now ≡ Some bytes
+            → HasBytesOf (bytes file.layer file.storage) self.old
+            → HasBytesOf (bytes file.layer file.storage) self.new) }
+    {
+        if self.blocks.get(&number).is_some() {
+            return Ok(());
+        }
+        let Some(offset) = number.checked_mul(self.block) else {
+            return Err(LoadError::Image(Error::InvalidData));
+        };
+        let block = read_part(alloc, sources, file, offset, self.block)?;
+        self.blocks.insert(number, block)?;
+        Ok(())
+    }
+
+    /// Loads the blocks that lie in a range of the file.
+    pub fn load<S: Sources>(
+        &mut self,
+        alloc: Global,
+        sources: &S,
+        file: Location,
+        at: u64,
+        count: u64,
+    ) -> Result<(), LoadError>
+        requires { at + count < 18446744073709551616 }
+        ensures loaded { OnOk result (LoadsMore self.old self.new at count) }
+        ensures bytes { OnOk result ((bytes : ℕ → ℕ → List ℕ) → S.contents sources.now ≡ Some bytes
+            → HasBytesOf (bytes file.layer file.storage) self.old
+            → HasBytesOf (bytes file.layer file.storage) self.new) }
+    {
+        if count == 0 {
+            return Ok(());
+        }
+        let first = at / self.block;
+        let last = (at + (count - 1)) / self.block;
+        let mut number = first;
+        while number < last {
+            self.load_block(alloc, sources, file, number)?;
+            number += 1;
+        }
+        self.load_block(alloc, sources, file, last)?;
+        Ok(())
+    }
+}
+
+impl fmt::Display for LoadedFile {
+    fn fmt<W: fmt::Write>(&self, f: &mut fmt::Formatter<W>) -> fmt::Result {
+        let length = self.length;
+        write!(f, "loaded:[{length}B]")
+    }
+}
+
+impl Storage for LoadedFile {
+    ghost use Rattle.imago_loaded.specs.Loaded.{loaded_bytes};
+
+    ghost bytes = { loaded_bytes };
+
+    ghost features = { λ _. loaded_features };
+
+    ghost fault_count = { λ _. 0 };
+
+    ghost work = { λ _. no_work };
+
+    ghost maintenance = { no_maintenance };
+
+    ghost openings = { no_openings };
+
+    ghost lawful = { λ _. loaded_lawful };
+
+    fn open(opts: StorageOpenOptions) -> Result<Self, Error> {
+        let _ = opts;
+        Err(Error::Unsupported)
+    }
+
+    fn create_open(opts: StorageCreateOptions) -> Result<Self, Error> {
+        let _ = opts;
+        Err(Error::Unsupported)
+    }
+
+    fn mem_align(&self) -> usize {
+        1
+    }
+
+    fn req_align(&self) -> usize {
+        1
+    }
+
+    fn zero_align(&self) -> usize {
+        1
+    }
+
+    fn discard_align(&self) -> usize {
+        1
+    }
+
+    #[tactic(auto, using(crate::proofs::LoadedSteps::loaded_length))]
+    fn size(&self) -> Result<u64, Error> {
+        Ok(self.length)
+    }
+
+    fn resolve_relative_path(&self, alloc: Global, relative: &str) -> Result<String, Error> {
+        let _ = alloc;
+        let _ = relative;
+        Err(Error::Unsupported)
+    }
+
+    fn get_filename(&self) -> Option<&str> {
+        None
+    }
+
+    fn pure_readv(&self, buf: &mut [u8], offset: u64) -> Result<(), Error> {
+        self.fill(buf, offset);
+        Ok(())
+    }
+
+    fn pure_readv_mut(&mut self, buf: &mut [u8], offset: u64) -> Result<(), Error> {
+        Storage::pure_readv(&*self, buf, offset)
+    }
+
+    fn pure_writev(&mut self, source: &[u8], offset: u64) -> Result<(), Error> {
+        self.length = self.length.max(offset + source.len() as u64);
+        Ok(())
+    }
+
+    fn zero_in_place(&mut self, offset: u64, count: u64, kind: ZeroKind) -> Result<(), Error> {
+        let _ = (offset, count, kind);
+        Err(Error::Unsupported)
+    }
+
+    fn pure_discard(&mut self, offset: u64, count: u64) -> Result<(), Error> {
+        let _ = (offset, count);
+        Ok(())
+    }
+
+    fn flush(&mut self) -> Result<(), Error> {
+        Ok(())
+    }
+
+    fn sync(&mut self) -> Result<(), Error> {
+        Ok(())
+    }
+
+    fn settle_writes(&mut self) -> Result<(), Error> {
+        Ok(())
+    }
+
+    fn invalidate_cache(&mut self) -> Result<(), Error> {
+        Ok(())
+    }
+
+    fn resize(&mut self, new_size: u64, mode: PreallocateMode) -> Result<(), Error> {
+        let _ = (new_size, mode);
+        Err(Error::Unsupported)
+    }
+}
