@@ -12,7 +12,10 @@ uint64_t imago_bench_zero(size_t align, uint64_t offset, uint64_t count, uint64_
 uint64_t imago_bench_discard(size_t align, uint64_t offset, uint64_t count, uint64_t rounds);
 uint64_t imago_bench_image_read(size_t align, uint64_t offset, size_t count, uint64_t rounds);
 uint64_t imago_bench_map(uint64_t layers, uint64_t count, uint64_t rounds);
-uint64_t imago_bench_open(uint64_t extents, uint64_t rounds);
+uint64_t imago_bench_open(uint64_t kind, uint64_t lines, uint64_t rounds);
+uint64_t imago_bench_cow_map(uint64_t layers, uint64_t count, uint64_t rounds);
+uint64_t imago_bench_zero_again(uint64_t count, uint64_t rounds);
+uint64_t imago_bench_grow(uint64_t rounds);
 uint64_t imago_bench_cow_read(size_t align, size_t count, uint64_t rounds);
 uint64_t imago_bench_cow_write(size_t align, size_t count, uint32_t first, uint64_t rounds);
 
@@ -21,13 +24,14 @@ enum { SIZE = 4194304, RUNS = 15, MOST = 1 << 24 };
 /* how long the rounds of a run take at least, in nanoseconds */
 static const double ENOUGH = 2e7;
 
-enum call { READ, WRITE, ZERO, DISCARD, IMAGE_READ, MAP, OPEN, COW_READ, COW_WRITE, COW_FIRST };
+enum call { READ, WRITE, ZERO, DISCARD, IMAGE_READ, MAP, OPEN, COW_READ, COW_WRITE, COW_FIRST,
+            COW_MAP, ZERO_AGAIN, GROW };
 
 struct row {
     const char *name;
     enum call call;
-    uint64_t align; /* of MAP: how many layers; of OPEN: how many extents */
-    uint64_t offset, count;
+    uint64_t align; /* of MAP and COW_MAP: how many layers; of OPEN: how many lines */
+    uint64_t offset, count; /* of OPEN: the kind of the lines, and the descriptor's length */
 };
 
 static const struct row ROWS[] = {
@@ -46,11 +50,21 @@ static const struct row ROWS[] = {
     {"mapping, one layer", MAP, 0, 0, 0},
     {"mapping through 8 layers", MAP, 8, 0, 0},
     {"mapping through 64 layers", MAP, 64, 0, 0},
-    {"opening of a descriptor of 100 extents", OPEN, 100, 0, 1032},
-    {"opening of a descriptor of 200,000 extents", OPEN, 200000, 0, 2000032},
+    {"mapping through 8 layers, copy-on-write", COW_MAP, 8, 0, 0},
+    {"mapping through 64 layers, copy-on-write", COW_MAP, 64, 0, 0},
+    {"mapping through 1000 layers, copy-on-write", COW_MAP, 1000, 0, 0},
+    {"opening of a descriptor of 100 extents", OPEN, 99, 0, 1032},
+    {"opening of a descriptor of 200,000 extents", OPEN, 199999, 0, 2000032},
+    {"opening of a descriptor, 10,000 ZERO lines", OPEN, 10000, 0, 100042},
+    {"opening of a descriptor, 10,000 FLAT lines", OPEN, 10000, 1, 280042},
+    {"opening of a descriptor, 10,000 ddb lines", OPEN, 10000, 2, 550042},
+    {"opening of a descriptor, 10,000 comments", OPEN, 10000, 3, 500042},
+    {"opening of a descriptor, 10,000 empty lines", OPEN, 10000, 4, 10042},
     {"read of 4 KiB, copy-on-write", COW_READ, 512, 0, 4096},
     {"write of 4 KiB, copy-on-write, into data", COW_WRITE, 512, 0, 4096},
     {"first write of 4 KiB into a block of 64 KiB", COW_FIRST, 512, 0, 4096},
+    {"zeroes of 60 KiB in a block that is zero", ZERO_AGAIN, 0, 0, 61440},
+    {"growth of a storage in memory by one byte", GROW, 0, 0, 0},
 };
 
 static uint64_t calls(const struct row *row, uint64_t rounds) {
@@ -60,7 +74,10 @@ static uint64_t calls(const struct row *row, uint64_t rounds) {
     case ZERO: return imago_bench_zero(row->align, row->offset, row->count, rounds);
     case DISCARD: return imago_bench_discard(row->align, row->offset, row->count, rounds);
     case IMAGE_READ: return imago_bench_image_read(row->align, row->offset, row->count, rounds);
-    case OPEN: return imago_bench_open(row->align, rounds);
+    case OPEN: return imago_bench_open(row->offset, row->align, rounds);
+    case COW_MAP: return imago_bench_cow_map(row->align, 65536, rounds);
+    case ZERO_AGAIN: return imago_bench_zero_again(row->count, rounds);
+    case GROW: return imago_bench_grow(rounds);
     case COW_READ: return imago_bench_cow_read(row->align, row->count, rounds);
     case COW_WRITE: return imago_bench_cow_write(row->align, row->count, 0, rounds);
     case COW_FIRST: return imago_bench_cow_write(row->align, row->count, 1, rounds);
@@ -86,7 +103,7 @@ static uint64_t copies(const struct row *row, uint64_t rounds) {
     if (!from || !to) exit(1);
     memset(from, 7, SIZE);
     memset(to, 0, row->count);
-    for (uint64_t i = 0; i < rounds; i++) copy(to, from + row->offset + (i & 7) * 65536, row->count);
+    for (uint64_t i = 0; i < rounds; i++) copy(to, from + (row->call == OPEN ? 0 : row->offset + (i & 7) * 65536), row->count);
     free(from);
     free(to);
     return rounds;

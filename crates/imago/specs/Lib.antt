@@ -18,6 +18,7 @@ pub use Rattle.imago_storage.specs.Zeroes
 pub use Rattle.imago_storage.specs.Calls as StorageCalls
 pub use Rattle.imago_drivers.specs.Operation
 pub use Rattle.imago_drivers.specs.Place
+pub use Rattle.imago_drivers.specs.Outside
 pub use Rattle.imago_drivers.specs.Reasons
 pub use Rattle.imago_drivers.specs.LayerBelow
 pub use Rattle.imago_drivers.specs.Causes
@@ -96,6 +97,7 @@ pub use Rattle.imago_access.specs.Resolved
 pub use Rattle.imago_access.specs.Lengths
 pub use Rattle.imago_access.specs.Ways
 pub use Rattle.imago_access.specs.Named
+pub use Rattle.imago_access.specs.Moves
 pub use Rattle.imago_access.specs.Writing
 pub use Rattle.imago_access.specs.Calls
 pub use Rattle.imago_access.specs.Framed
@@ -121,7 +123,8 @@ pub use Rattle.imago_plan.specs.StoredBytes
 pub use Rattle.imago_plan.specs.Copies
 pub use Rattle.imago_plan.specs.Memory
 pub use Rattle.imago_plan.specs.Differences
--- The types of these items, under their own names; 'Declared' stands before one that a file of definitions above has too.
+-- The types of these items, under their own names; 'Declared' stands before one that a file of
+-- definitions above has too.
 pub use Rattle.imago_storage.specs.declared.error.Error as DeclaredError
 pub use Rattle.imago_storage.specs.declared.error.ErrorKind
 pub use Rattle.imago_storage.specs.declared.options.PreallocateMode as StoragePreallocateMode

@@ -1,5 +1,5 @@
-//! Laws that follow from the contracts. Their functions do nothing, but for those of the modules here, which make the calls that
-//! they speak of.
+//! Laws that follow from the contracts. Their functions do nothing, but for those of the modules
+//! here, which make the calls that they speak of.
 ghost use Rattle.std.specs.Prelude.{◌≡◌, ℕ, List, IsTrue, true};
 ghost use Rattle.imago_access.specs.declared.run.Call.{Call};
 ghost use Rattle.imago_access.specs.declared.run.Reply.{Reply};
@@ -29,36 +29,42 @@ pub use imago_qcow2::laws as qcow2_files;
 pub use imago_storage::laws as storages;
 pub use imago_vmdk::laws as descriptors;
 
-/// What a read of an image gives whose driver is a VMDK one, with its extents opened, follows from the bytes of the storages that the
-/// driver shows: those of the descriptor, which is the first of them, say which byte of which storage an offset has.
+/// What a read of an image gives whose driver is a VMDK one, with its extents opened, follows from
+/// the bytes of the storages that the driver shows: those of the descriptor, which is the first of
+/// them, say which byte of which storage an offset has.
 pub fn vmdk_disk<S: Storage>(image: &FormatAccess<Vmdk<S>>)
     requires { is_opened (driver image.now) ≡ true }
     ensures { (p : ℕ) → disk_value ⟦<Vmdk<S> as FormatDriverInstance>⟧.view image.now p
-        ≡ described_value (takes_unknown_keys (driver image.now)) (⟦<Vmdk<S> as FormatDriverInstance>⟧.view (driver image.now)).stores.bytes p }
+        ≡ described_value (takes_unknown_keys (driver image.now))
+        (⟦<Vmdk<S> as FormatDriverInstance>⟧.view (driver image.now)).stores.bytes p }
 {
     imago_vmdk::laws::disk_of_bytes(image.inner());
 }
 
-/// What a read of an image gives whose drivers are qcow2 ones, through its whole chain, follows from the bytes of its files alone: each
-/// file says of an offset that a byte of its own stands there, a zero, or what the next file says.
+/// What a read of an image gives whose drivers are qcow2 ones, through its whole chain, follows
+/// from the bytes of its files alone: each file says of an offset that a byte of its own stands
+/// there, a zero, or what the next file says.
 pub fn qcow2_disk<S: Storage>(image: &FormatAccess<Qcow2<S>>)
     ensures { (p : ℕ) → disk_value ⟦<Qcow2<S> as FormatDriverInstance>⟧.view image.now p
-        ≡ files_value (files_of (λ d. (⟦<Qcow2<S> as FormatDriverInstance>⟧.view d).stores.bytes 0) image.now) p }
+        ≡ files_value (files_of (λ d. (⟦<Qcow2<S> as FormatDriverInstance>⟧.view d).stores.bytes 0)
+        image.now) p }
 {
     let _ = image;
 }
 
-/// A run of calls on a copy-on-write disk, over any layers below, is a history of one flat list if the storage keeps data,
-/// and no layer below changes. It is what [`images`] says of each driver.
+/// A run of calls on a copy-on-write disk, over any layers below, is a history of one flat list if
+/// the storage keeps data, and no layer below changes. It is what [`images`] says of each driver.
 pub fn runs_of_cow<S: Storage>(before: &FormatAccess<Cow<S>>, after: &FormatAccess<Cow<S>>)
     ensures flat { (calls : List Call) (replies : List Reply)
         → IsTrue (S.features (storage_in (driver before.now))).keeps_data
-        → IsRun ⟦<Cow<S> as FormatDriverInstance>⟧.view ⟦<Cow<S> as FormatDriverInstance>⟧.calls before.now calls replies after.now
+        → IsRun ⟦<Cow<S> as FormatDriverInstance>⟧.view ⟦<Cow<S> as FormatDriverInstance>⟧.calls
+        before.now calls replies after.now
         → IsFlatHistory (backed_value ⟦<Cow<S> as FormatDriverInstance>⟧.view before.now)
         (disk ⟦<Cow<S> as FormatDriverInstance>⟧.view before.now) calls replies
         (disk ⟦<Cow<S> as FormatDriverInstance>⟧.view after.now) }
     ensures below { (calls : List Call) (replies : List Reply)
-        → IsRun ⟦<Cow<S> as FormatDriverInstance>⟧.view ⟦<Cow<S> as FormatDriverInstance>⟧.calls before.now calls replies after.now
+        → IsRun ⟦<Cow<S> as FormatDriverInstance>⟧.view ⟦<Cow<S> as FormatDriverInstance>⟧.calls
+        before.now calls replies after.now
         → IsKept ⟦<Cow<S> as FormatDriverInstance>⟧.view before.now after.now }
 {
     images::flat_histories::<Cow<S>>();

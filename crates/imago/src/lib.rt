@@ -1,12 +1,15 @@
 //! Access to virtual disk images.
 //!
-//! A [`Storage`] holds bytes, a driver shows a disk that stands in storages, and a [`FormatAccess`] reads and writes the
-//! disk of a driver and of the images below it. Names and modules are those of the Rust crate imago; everything here but
-//! [`laws`] is defined in `imago_storage`, `imago_drivers`, `imago_vmdk`, `imago_qcow2`, `imago_cow`,
-//! `imago_any_driver`, `imago_access` and `imago_plan`, and their documentation says what each item does.
+//! A [`Storage`] holds bytes, a driver shows a disk that stands in storages, and a [`FormatAccess`]
+//! reads and writes the disk of a driver and of the images below it. Names and modules are those of
+//! the Rust crate imago; everything here but [`laws`] is defined in `imago_storage`,
+//! `imago_drivers`, `imago_vmdk`, `imago_qcow2`, `imago_cow`,
+//! `imago_any_driver`, `imago_access` and `imago_plan`, and their documentation says what each item
+//! does.
 //!
-//! A contract over these items names what it needs by this crate alone: definitions as `Rattle.imago.specs.Bytes.{splice}`, and
-//! types as `Rattle.imago.specs.MemStorage.{MemStorage}`. `specs/Lib.antt` lists them; [`laws`] has the laws.
+//! A contract over these items names what it needs by this crate alone: definitions as
+//! `Rattle.imago.specs.Bytes.{splice}`, and types as `Rattle.imago.specs.MemStorage.{MemStorage}`.
+//! `specs/Lib.antt` lists them; [`laws`] has the laws.
 #![tactic(auto)]
 
 pub mod access;

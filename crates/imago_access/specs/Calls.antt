@@ -162,7 +162,7 @@ pub record IsMappedWrite {D St : Type 0} (view : D → View St) (old new : Forma
         (disk_value view old) (disk_value view new) × StandsAlone (view (driver new)).place o
         (shown_length commit m))
         (IsChanged o n (partly (filled overwrite bytes)) (disk_value view old)
-            (disk_value view new))
+        (disk_value view new))
         old new result
 
 -- a data mapping: the disk stays, but for overwriting the part that is answered, or, refused, the

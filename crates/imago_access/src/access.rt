@@ -14,6 +14,10 @@ use std::fmt::{self, Display, Formatter, Write};
 /// Letting it go flushes nothing: what is to last is flushed or synced before. Calls that change
 /// the disk, but for those that write, commit or cancel a prepared mapping, require that none
 /// waits.
+///
+/// A call that changes a range moves bytes only in those blocks of its driver that the range
+/// touches, and, where it makes zeroes, in those granules. All others keep where they stand, also
+/// where it is refused.
 pub struct FormatAccess<D> {
     pub(crate) inner: D,
     pub(crate) backing: Option<Box<FormatAccess<D>>>,

@@ -104,8 +104,8 @@ calls_by_format r v c q = record any_calls {
   invalidated = changed r.invalidated v.invalidated c.invalidated q.invalidated;
 }
 
--- Which format bytes have: qcow2 where they look like a qcow2 file's, else VMDK where they look like
--- a descriptor's, else raw.
+-- Which format bytes have: qcow2 where they look like a qcow2 file's, else VMDK where they look
+-- like a descriptor's, else raw.
 abbrev pub detected : (List ℕ → Bool) → (List ℕ → Bool) → List ℕ → Format
 detected is_qcow2 is_vmdk bytes =
     if is_qcow2 bytes then Format.Qcow2 else if is_vmdk bytes then Format.Vmdk else Format.Raw

@@ -30,4 +30,9 @@ restated_lawful v l = record {
 }
 
 pub restated_causes : {A B : Type 0} (v : View A) → AreCauses v → AreCauses (restated {B = B} v)
-restated_causes v l = record { part = l.part; part_copied = l.part_copied; bound = l.bound; lends = l.lends }
+restated_causes v l = record {
+  part = l.part;
+  part_copied = l.part_copied;
+  bound = l.bound;
+  lends = l.lends;
+}

@@ -1,11 +1,14 @@
-use Rattle.std.specs.Prelude.{◌≡◌, ℕ, ◌+◌, ◌-◌, ◌*◌, ◌%◌, ◌/◌, ◌<◌, ◌≤◌, ◌⊎◌, ◌||◌, Bool, true, false, List, length, slice_index, slice_get, Option, Some, None, if◌then◌else◌, nat_lt, nat_eq, max, min}
+use Rattle.std.specs.Prelude.{◌≡◌, ℕ, ◌+◌, ◌-◌, ◌*◌, ◌%◌, ◌/◌, ◌<◌, ◌≤◌, ◌⊎◌, ◌||◌, Bool, true}
+use Rattle.std.specs.Prelude.{false, List, length, slice_index, slice_get, Option, Some, None}
+use Rattle.std.specs.Prelude.{if◌then◌else◌, nat_lt, nat_eq, max, min}
 use Rattle.imago_storage.specs.declared.error.Error.TheVariants as E
 use Rattle.imago_storage.specs.Features.{Features, MemoryUse, IsAlignedRequest, MayRunOut}
 use Rattle.imago_storage.specs.Padding.{Wraps, aligned_start}
 use Rattle.imago_drivers.specs.declared.format.Format.TheVariants as Format
 use Rattle.imago_drivers.specs.declared.format.PreallocateMode.{PreallocateMode}
 use Rattle.imago_drivers.specs.declared.format.PreallocateMode.TheVariants as Mode
-use Rattle.imago_drivers.specs.Operation.{Operation, Map, Read, Write, Zero, DiscardToZero, DiscardToAny, DiscardToBacking, Grow, Shrink, Flush}
+use Rattle.imago_drivers.specs.Operation.{Operation, Map, Read, Write, Zero, DiscardToZero}
+use Rattle.imago_drivers.specs.Operation.{DiscardToAny, DiscardToBacking, Grow, Shrink, Flush}
 use Rattle.imago_drivers.specs.Place.{IsIn}
 use Rattle.imago_drivers.specs.Causes.{Causes}
 use Rattle.imago_drivers.specs.Pending.{Pending}
@@ -15,9 +18,11 @@ use Rattle.imago_drivers.specs.View.{View}
 use Rattle.imago_cow.specs.declared.table.GuestBlock.{GuestBlock}
 use Rattle.imago_cow.specs.declared.cow.CowState.{CowState}
 use Rattle.imago_cow.specs.declared.cow.Waiting.{Waiting}
-use Rattle.imago_cow.specs.Guest.{origin_in, cow_place, is_data, number_of, is_touched, IsWholeBlock, IsWholePart}
+use Rattle.imago_cow.specs.Guest.{origin_in, cow_place, is_data, number_of, is_touched}
+use Rattle.imago_cow.specs.Guest.{IsWholeBlock, IsWholePart}
 
--- The places that an operation may make data of, from there on: those of its range, and of a growth the new ones.
+-- The places that an operation may make data of, from there on: those of its range, and of a growth
+-- the new ones.
 abbrev pub touched_from : ℕ → Operation → ℕ → ℕ
 touched_from size (Grow mode) o = size
 touched_from size Map o = o
@@ -60,20 +65,24 @@ abbrev pub has_waiting : ℕ → Option Waiting → ℕ → Bool
 has_waiting block None i = false
 has_waiting block (Some w) i = nat_eq (w.start / block) i
 
--- the guest block has a data block, or its prepared write has one, or the operation may take one for it
+-- the guest block has a data block, or its prepared write has one, or the operation may take one
+-- for it
 abbrev pub needs_data : ℕ → ℕ → List GuestBlock → Option Waiting → Operation → ℕ → ℕ → ℕ → Bool
 needs_data block size entries waiting op o n i =
-    is_data (slice_get entries i) || (has_waiting block waiting i || is_touched block (touched_from size op o) (touched_until block size op o n) i)
+    is_data (slice_get entries i)
+    || (has_waiting block waiting i || is_touched block (touched_from size op o)
+    (touched_until block size op o n) i)
 
 -- how many guest blocks there may be with the operation
 abbrev pub guest_count : ℕ → ℕ → List GuestBlock → Operation → ℕ → ℕ → ℕ
 guest_count block size entries op o n = length entries + touched_until block size op o n
 
--- How many data blocks there may be at most during an operation: those that there are, free ones too, or those that are named
--- and one more for each guest block that it touches and that has none.
+-- How many data blocks there may be at most during an operation: those that there are, free ones
+-- too, or those that are named and one more for each guest block that it touches and that has none.
 abbrev pub data_count : ℕ → ℕ → List GuestBlock → ℕ → Option Waiting → Operation → ℕ → ℕ → ℕ
 data_count block size entries blocks waiting op o n =
-    max blocks (number_of (needs_data block size entries waiting op o n) (guest_count block size entries op o n))
+    max blocks (number_of (needs_data block size entries waiting op o n)
+    (guest_count block size entries op o n))
 
 -- A request on a part of these data blocks wraps around at the storage.
 abbrev pub DataWraps : Features → ℕ → ℕ → Type 0
@@ -97,20 +106,28 @@ uses_data Shrink = false
 uses_data Flush = false
 
 abbrev pub cow_cause : Features → ℕ → ℕ → List GuestBlock → ℕ → Option Waiting → Causes
-cow_cause f block size entries blocks waiting op o n E.WrapAround = (uses_data op ≡ true) × DataWraps f block (data_count block size entries blocks waiting op o n)
+cow_cause f block size entries blocks waiting op o n E.WrapAround = (uses_data op ≡ true)
+    × DataWraps f block (data_count block size entries blocks waiting op o n)
 cow_cause f block size entries blocks waiting op o n _ = ⊥
 
 -- the place lies in an absent guest block that holds one of `from .. until`
 abbrev pub IsInAbsent : ℕ → ℕ → List GuestBlock → ℕ → ℕ → ℕ → Type 0
-IsInAbsent block size entries from until p = (p < size) × (slice_get entries (p / block) ≡ Some GuestBlock.Absent) × (is_touched block from until (p / block) ≡ true)
+IsInAbsent block size entries from until p = (p < size)
+    × (slice_get entries (p / block) ≡ Some GuestBlock.Absent)
+    × (is_touched block from until (p / block) ≡ true)
 
--- what a growth reads of the layer below: the cut guest block where it is absent, and with three modes what stands at the new places
+-- what a growth reads of the layer below: the cut guest block where it is absent, and with three
+-- modes what stands at the new places
 abbrev pub grow_copies : ℕ → ℕ → List GuestBlock → PreallocateMode → ℕ → ℕ → Type 0
 grow_copies block size entries Mode.None new_size p = ⊥
-grow_copies block size entries Mode.Zero new_size p = IsInAbsent block size entries size (grown_until block size Mode.Zero new_size) p
-grow_copies block size entries Mode.FormatAllocate new_size p = IsInAbsent block size entries size new_size p ⊎ ((size ≤ p) × (p < new_size))
-grow_copies block size entries Mode.FullAllocate new_size p = IsInAbsent block size entries size new_size p ⊎ ((size ≤ p) × (p < new_size))
-grow_copies block size entries Mode.WriteData new_size p = IsInAbsent block size entries size new_size p ⊎ ((size ≤ p) × (p < new_size))
+grow_copies block size entries Mode.Zero new_size p = IsInAbsent block size entries size
+    (grown_until block size Mode.Zero new_size) p
+grow_copies block size entries Mode.FormatAllocate new_size p = IsInAbsent block size entries size
+    new_size p ⊎ ((size ≤ p) × (p < new_size))
+grow_copies block size entries Mode.FullAllocate new_size p = IsInAbsent block size entries size
+    new_size p ⊎ ((size ≤ p) × (p < new_size))
+grow_copies block size entries Mode.WriteData new_size p = IsInAbsent block size entries size
+    new_size p ⊎ ((size ≤ p) × (p < new_size))
 
 -- a write copies the absent guest blocks that it touches, within the disk
 abbrev pub cow_copies : ℕ → ℕ → List GuestBlock → Operation → ℕ → ℕ → ℕ → Type 0
@@ -125,17 +142,19 @@ cow_copies block size entries DiscardToBacking o n p = ⊥
 cow_copies block size entries Shrink o n p = ⊥
 cow_copies block size entries Flush o n p = ⊥
 
--- The n bytes of the disk from o on lie in one guest block, and stand in its data block as one request that the storage takes as it
--- is, and takes no memory for.
-pub record IsDirect (f : Features) (memory : MemoryUse) (len block : ℕ) (entries : List GuestBlock) (o n : ℕ) : Type 0 where
+-- The n bytes of the disk from o on lie in one guest block, and stand in its data block as one
+-- request that the storage takes as it is, and takes no memory for.
+pub record IsDirect (f : Features) (memory : MemoryUse) (len block : ℕ) (entries : List GuestBlock)
+    (o n : ℕ) : Type 0 where
   pub number : ℕ
   pub named : slice_get entries (o / block) ≡ Some (GuestBlock.Data number)
   pub whole : o % block + n ≤ block
   pub aligned : IsAlignedRequest f (origin_in block number o) n
   pub free : MayRunOut memory len (origin_in block number o + n) → ⊥
 
--- Mappings, zero calls, discards and cuts take no memory, nor do reads of a guest block without data, and reads and writes of data that
--- the storage takes none for. A write that takes a data block may take some, and so may a growth.
+-- Mappings, zero calls, discards and cuts take no memory, nor do reads of a guest block without
+-- data, and reads and writes of data that the storage takes none for. A write that takes a data
+-- block may take some, and so may a growth.
 abbrev pub cow_no_memory : Features → ℕ → ℕ → List GuestBlock → Operation → ℕ → ℕ → Type 0
 cow_no_memory f len block entries Map o n = Unit {0}
 cow_no_memory f len block entries Zero o n = Unit {0}
@@ -144,7 +163,9 @@ cow_no_memory f len block entries DiscardToAny o n = Unit {0}
 cow_no_memory f len block entries DiscardToBacking o n = Unit {0}
 cow_no_memory f len block entries Shrink o n = Unit {0}
 cow_no_memory f len block entries Flush o n = MayRunOut f.other_memory 0 0 → ⊥
-cow_no_memory f len block entries Read o n = ((o % block + n ≤ block) × (is_data (slice_get entries (o / block)) ≡ false)) ⊎ IsDirect f f.read_memory len block entries o n
+cow_no_memory f len block entries Read o n = ((o % block + n ≤ block)
+    × (is_data (slice_get entries (o / block)) ≡ false))
+    ⊎ IsDirect f f.read_memory len block entries o n
 cow_no_memory f len block entries Write o n = IsDirect f f.write_memory len block entries o n
 cow_no_memory f len block entries (Grow mode) o n = ⊥
 
@@ -165,15 +186,19 @@ cow_answers block size (Grow mode) o n q m = Unit {0}
 cow_answers block size Shrink o n q m = Unit {0}
 cow_answers block size Flush o n q m = Unit {0}
 
--- an operation on that range is done at once: in one guest block inside the disk, or on whole guest blocks
+-- an operation on that range is done at once: in one guest block inside the disk, or on whole guest
+-- blocks
 abbrev pub cow_whole : ℕ → ℕ → Operation → ℕ → ℕ → Type 0
 cow_whole block size Map o n = (o % block + n ≤ block) × (o + n ≤ size)
 cow_whole block size Read o n = (o % block + n ≤ block) × (o + n ≤ size)
 cow_whole block size Write o n = o % block + n ≤ block
 cow_whole block size Zero o n = (p : ℕ) → IsIn o n p → IsWholeBlock block size o n (p / block)
-cow_whole block size DiscardToZero o n = (p : ℕ) → IsIn o n p → IsWholeBlock block size o n (p / block)
-cow_whole block size DiscardToAny o n = (p : ℕ) → IsIn o n p → IsWholeBlock block size o n (p / block)
-cow_whole block size DiscardToBacking o n = (p : ℕ) → IsIn o n p → IsWholeBlock block size o n (p / block)
+cow_whole block size DiscardToZero o n = (p : ℕ) → IsIn o n p
+    → IsWholeBlock block size o n (p / block)
+cow_whole block size DiscardToAny o n = (p : ℕ) → IsIn o n p
+    → IsWholeBlock block size o n (p / block)
+cow_whole block size DiscardToBacking o n = (p : ℕ) → IsIn o n p
+    → IsWholeBlock block size o n (p / block)
 cow_whole block size (Grow mode) o n = Unit {0}
 cow_whole block size Shrink o n = Unit {0}
 cow_whole block size Flush o n = Unit {0}
@@ -184,9 +209,11 @@ waiting_from block w = w.start - w.start % block
 
 -- a byte of the guest block that a write waits for, as its data block has it; 0 before it
 abbrev pub waiting_byte : ℕ → List ℕ → Waiting → ℕ → ℕ
-waiting_byte block bytes w p = if nat_lt p (waiting_from block w) then 0 else slice_index bytes (w.offset + p - w.start)
+waiting_byte block bytes w p = if nat_lt p (waiting_from block w) then 0 else slice_index bytes
+    (w.offset + p - w.start)
 
--- A write that waits: its bytes stand in its data block, and so do those round them, up to the guest block's end or the disk's.
+-- A write that waits: its bytes stand in its data block, and so do those round them, up to the
+-- guest block's end or the disk's.
 abbrev pub cow_pending : ℕ → ℕ → List ℕ → Option Waiting → Option (Pending CowState)
 cow_pending block size bytes None = None
 cow_pending block size bytes (Some w) = Some (record {
@@ -200,8 +227,10 @@ cow_pending block size bytes (Some w) = Some (record {
   bytes = waiting_byte block bytes w;
 })
 
--- A disk of that size in guest blocks of that length, with these entries and so many data blocks, free ones too.
-abbrev pub cow_view : Features → ℕ → List ℕ → ℕ → ℕ → List GuestBlock → ℕ → Option Waiting → View CowState
+-- A disk of that size in guest blocks of that length, with these entries and so many data blocks,
+-- free ones too.
+abbrev pub cow_view : Features → ℕ → List ℕ → ℕ → ℕ → List GuestBlock → ℕ → Option Waiting
+    → View CowState
 cow_view f fault_count bytes size block entries blocks waiting = record {
   abilities = record {
     format = Format.Cow;
@@ -225,13 +254,15 @@ cow_view f fault_count bytes size block entries blocks waiting = record {
     commit_memory = ⊥;
     whole = cow_whole block size;
     answers = cow_answers block size;
-    longest = λ op o n index. padded_to f 0 (data_count block size entries blocks waiting op o n * block);
+    longest = λ op o n index. padded_to f 0
+        (data_count block size entries blocks waiting op o n * block);
   };
   pending = cow_pending block size bytes waiting;
 }
 
 -- What waits lies in one guest block of the disk, and its data block is one that no entry names.
-pub record WaitsApart (block size : ℕ) (entries : List GuestBlock) (blocks : ℕ) (w : Waiting) : Type 0 where
+pub record WaitsApart (block size : ℕ) (entries : List GuestBlock) (blocks : ℕ) (w : Waiting) : Type
+    0 where
   pub some : 0 < w.length
   pub inside : w.start + w.length ≤ size
   pub in_block : w.start % block + w.length ≤ block

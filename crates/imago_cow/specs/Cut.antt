@@ -1,4 +1,6 @@
-use Rattle.std.specs.Prelude.{◌≡◌, ◌≢◌, ℕ, ◌+◌, ◌-◌, ◌*◌, ◌%◌, ◌/◌, ◌<◌, ◌≤◌, ◌⊎◌, Bool, true, false, IsTrue, List, length, slice_get, slice_set, slice_index, Option, Some, None}
+use Rattle.std.specs.Prelude.{◌≡◌, ◌≢◌, ℕ, ◌+◌, ◌-◌, ◌*◌, ◌%◌, ◌/◌, ◌<◌, ◌≤◌, ◌⊎◌, Bool, true}
+use Rattle.std.specs.Prelude.{false, IsTrue, List, length, slice_get, slice_set, slice_index}
+use Rattle.std.specs.Prelude.{Option, Some, None}
 use Rattle.imago_drivers.specs.declared.format.PreallocateMode.{PreallocateMode}
 use Rattle.imago_drivers.specs.declared.format.PreallocateMode.TheVariants as Mode
 use Rattle.imago_drivers.specs.Place.{Value, Byte, shown}
@@ -12,7 +14,8 @@ use Rattle.imago_cow.specs.Growth.{SameOutside}
 
 -- what an offset shows by the entry of its guest block, wherever the disk ends
 abbrev pub shows_at : (ℕ → Value) → List ℕ → ℕ → List GuestBlock → ℕ → Value
-shows_at at bytes block entries p = shown at (entry_place bytes block p (slice_get entries (p / block)))
+shows_at at bytes block entries p = shown at
+    (entry_place bytes block p (slice_get entries (p / block)))
 
 -- a growth in that mode shows the layer below at its new places
 abbrev pub shows_below : PreallocateMode → Bool
@@ -22,27 +25,39 @@ shows_below Mode.FormatAllocate = true
 shows_below Mode.FullAllocate = true
 shows_below Mode.WriteData = true
 
--- What a growth reads of the layer below for the guest block that the disk's end cuts: that block, where it is absent, and new places.
+-- What a growth reads of the layer below for the guest block that the disk's end cuts: that block,
+-- where it is absent, and new places.
 abbrev pub IsCutRead : ℕ → ℕ → List GuestBlock → Bool → ℕ → ℕ → Type 0
 IsCutRead block size entries lower new_size p =
-    ((p < size) × (p / block ≡ size / block) × (slice_get entries (p / block) ≡ Some GuestBlock.Absent)) ⊎ ((lower ≡ true) × (size ≤ p) × (p < new_size))
+    ((p < size) × (p / block ≡ size / block)
+    × (slice_get entries (p / block) ≡ Some GuestBlock.Absent))
+    ⊎ ((lower ≡ true) × (size ≤ p) × (p < new_size))
 
--- The guest block that the old end cuts shows what it showed before that end, and behind it what the growth's mode says, up to
--- the new end. No other shows anything else.
-pub record IsCutFilled (at : ℕ → Value) (mode : PreallocateMode) (keeps : Bool) (block size new_size : ℕ) (old new : List GuestBlock) (old_bytes new_bytes : List ℕ) : Type 0 where
-  pub len : length new ≡ length old
-  pub kept : IsTrue keeps → (p : ℕ) → p < size → shows_at at new_bytes block new p ≡ shows_at at old_bytes block old p
-  pub cut : IsTrue keeps → (p : ℕ) → size ≤ p → p < new_size → p / block ≡ size / block → 0 < size % block → grown_into mode true at p (shows_at at new_bytes block new p)
-  pub others : IsTrue keeps → (p : ℕ) → (p / block ≢ size / block) ⊎ (size % block ≡ 0) → shows_at at new_bytes block new p ≡ shows_at at old_bytes block old p
+-- The guest block that the old end cuts shows what it showed before that end, and behind it what
+-- the growth's mode says, up to the new end. No other shows anything else.
+pub record IsCutFilled (at : ℕ → Value) (mode : PreallocateMode) (keeps : Bool)
+    (block size new_size : ℕ) (old new : List GuestBlock) (old_bytes new_bytes : List ℕ) : Type 0
+  where
+    pub len : length new ≡ length old
+    pub kept : IsTrue keeps → (p : ℕ) → p < size → shows_at at new_bytes block new p
+        ≡ shows_at at old_bytes block old p
+    pub cut : IsTrue keeps → (p : ℕ) → size ≤ p → p < new_size → p / block ≡ size / block
+        → 0 < size % block → grown_into mode true at p (shows_at at new_bytes block new p)
+    pub others : IsTrue keeps → (p : ℕ) → (p / block ≢ size / block) ⊎ (size % block ≡ 0)
+        → shows_at at new_bytes block new p ≡ shows_at at old_bytes block old p
 
--- The guest block that the old end cuts was entered in a data block that none named: its places before that end show what they
--- showed, and so many behind it the layer below, or zeroes. No byte outside the data block changed.
-pub record IsTaken (at : ℕ → Value) (block size count : ℕ) (absent lower : Bool) (old new : List GuestBlock) (old_bytes new_bytes : List ℕ) : Type 0 where
+-- The guest block that the old end cuts was entered in a data block that none named: its places
+-- before that end show what they showed, and so many behind it the layer below, or zeroes. No byte
+-- outside the data block changed.
+pub record IsTaken (at : ℕ → Value) (block size count : ℕ) (absent lower : Bool)
+    (old new : List GuestBlock) (old_bytes new_bytes : List ℕ) : Type 0 where
   pub number : ℕ
   pub entered : IsEntered (size / block) number old new
   pub unnamed : (i : ℕ) → slice_get old i ≡ Some (GuestBlock.Data number) → ⊥
-  pub before : (k : ℕ) → k < size % block → old_value at absent (size - size % block + k) ≡ Byte (slice_index new_bytes (number * block + k))
-  pub behind : (k : ℕ) → k < count → old_value at lower (size + k) ≡ Byte (slice_index new_bytes (number * block + size % block + k))
+  pub before : (k : ℕ) → k < size % block → old_value at absent (size - size % block + k)
+      ≡ Byte (slice_index new_bytes (number * block + k))
+  pub behind : (k : ℕ) → k < count → old_value at lower (size + k)
+      ≡ Byte (slice_index new_bytes (number * block + size % block + k))
   pub outside : SameOutside (number * block) block old_bytes new_bytes
 
 -- The guest block that the disk's end cuts became data, where it wasn't, and no other changed.
@@ -58,5 +73,7 @@ IsCutEntered block size old new = (new ≡ old) ⊎ IsCutTaken block size old ne
 
 -- what was told of that guest block: what it is without data; none where it is data, or none is cut
 abbrev pub IsCutEmpty : ℕ → ℕ → List GuestBlock → Option WithoutData → Type 0
-IsCutEmpty block size entries None = 0 < size % block → is_data (slice_get entries (size / block)) ≡ true
-IsCutEmpty block size entries (Some kind) = slice_get entries (size / block) ≡ Some (without_data kind)
+IsCutEmpty block size entries None = 0 < size % block → is_data (slice_get entries (size / block))
+    ≡ true
+IsCutEmpty block size entries (Some kind) = slice_get entries (size / block)
+    ≡ Some (without_data kind)

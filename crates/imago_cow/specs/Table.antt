@@ -1,4 +1,5 @@
-use Rattle.std.specs.Prelude.{◌≡◌, ℕ, ◌+◌, ◌*◌, ◌%◌, ◌<◌, ◌≤◌, List, sum_by, Option, Some, None, nat_lt, if◌then◌else◌}
+use Rattle.std.specs.Prelude.{◌≡◌, ℕ, ◌+◌, ◌*◌, ◌%◌, ◌<◌, ◌≤◌, List, sum_by, Option, Some, None}
+use Rattle.std.specs.Prelude.{nat_lt, if◌then◌else◌}
 use Rattle.imago_cow.specs.declared.free.FreeBlocks.{FreeBlocks}
 use Rattle.imago_cow.specs.declared.table.GuestBlock.{GuestBlock}
 use Rattle.imago_cow.specs.declared.table.GuestBlock.TheVariants as G
@@ -44,18 +45,21 @@ times_used j entries held = times_named j entries + times_held j held
 abbrev pub one_below : ℕ → ℕ → ℕ
 one_below j count = if nat_lt j count then 1 else 0
 
--- Each data block below the count is exactly one of these: free, named by one entry, held. No other number is any of them.
+-- Each data block below the count is exactly one of these: free, named by one entry, held. No other
+-- number is any of them.
 abbrev pub IsEachOnce : FreeBlocks → List GuestBlock → Option ℕ → ℕ → Type 0
-IsEachOnce free entries held count = (j : ℕ) → times_free j free + times_used j entries held ≡ one_below j count
+IsEachOnce free entries held count = (j : ℕ) → times_free j free + times_used j entries held
+    ≡ one_below j count
 
 -- The lowest number that is neither named nor held: that of a free data block, or else the count.
-pub record IsLowestUnused (entries : List GuestBlock) (held : Option ℕ) (count next : ℕ) : Type 0 where
-  pub within : next ≤ count
-  pub unused : times_used next entries held ≡ 0
-  pub lowest : (j : ℕ) → j < next → times_used j entries held ≡ 1
+pub record IsLowestUnused (entries : List GuestBlock) (held : Option ℕ) (count next : ℕ) : Type 0
+  where
+    pub within : next ≤ count
+    pub unused : times_used next entries held ≡ 0
+    pub lowest : (j : ℕ) → j < next → times_used j entries held ≡ 1
 
--- An offset of the disk stands there in the lowest data block that no guest block is in: as far from its beginning as the offset
--- is from that of its guest block.
+-- An offset of the disk stands there in the lowest data block that no guest block is in: as far
+-- from its beginning as the offset is from that of its guest block.
 pub record StandsInLowest (entries : List GuestBlock) (count block offset at : ℕ) : Type 0 where
   pub number : ℕ
   pub lowest : IsLowestUnused entries None count number

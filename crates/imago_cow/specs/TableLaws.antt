@@ -20,7 +20,8 @@ none_from : (j count : ℕ) → count ≤ j → one_below j count ≡ 0
 none_from j count h = grind (arith, nat_tests)
 
 -- an entry that names a data block counts
-counts : (entries : List GuestBlock) (i j : ℕ) → slice_get entries i ≡ Some (GuestBlock.Data j) → 1 ≤ times_named j entries
+counts : (entries : List GuestBlock) (i j : ℕ) → slice_get entries i ≡ Some (GuestBlock.Data j)
+    → 1 ≤ times_named j entries
 counts [] i j e = let z : ⊥ = cc in absurd z
 counts (x ∷ xs) zero j e =
     let a : times_named j (x ∷ xs) ≡ names j x + times_named j xs = sum_by-cons (names j) x xs in
@@ -33,7 +34,9 @@ counts (x ∷ xs) (suc i) j e =
     omega (arith, a, r)
 
 -- two such entries count twice
-counts_twice : (entries : List GuestBlock) (i k j : ℕ) → i < k → slice_get entries i ≡ Some (GuestBlock.Data j) → slice_get entries k ≡ Some (GuestBlock.Data j) → 2 ≤ times_named j entries
+counts_twice : (entries : List GuestBlock) (i k j : ℕ) → i < k
+    → slice_get entries i ≡ Some (GuestBlock.Data j)
+    → slice_get entries k ≡ Some (GuestBlock.Data j) → 2 ≤ times_named j entries
 counts_twice [] i k j l e f = let z : ⊥ = cc in absurd z
 counts_twice (x ∷ xs) zero zero j l e f = let z : ⊥ = omega arith in absurd z
 counts_twice (x ∷ xs) (suc i) zero j l e f = let z : ⊥ = omega arith in absurd z
@@ -51,27 +54,34 @@ counts_twice (x ∷ xs) (suc i) (suc k) j l e f =
 
 -- No data block is used twice.
 used_once : (t : Table) (j : ℕ) → times_named j (entries_of t) + times_held j (held_of t) ≤ 1
-used_once t j = let a = t.each_once j in let b = at_most_one_below j (count_of t) in omega (arith, a, b)
+used_once t j = let a = t.each_once j in let b = at_most_one_below j (count_of t) in
+    omega (arith, a, b)
 
 -- What is used is below the count.
-used_below : (t : Table) (j : ℕ) → 1 ≤ times_named j (entries_of t) + times_held j (held_of t) → j < count_of t
+used_below : (t : Table) (j : ℕ) → 1 ≤ times_named j (entries_of t) + times_held j (held_of t)
+    → j < count_of t
 used_below t j h = ⊎_elim
     (λ below. below)
-    (λ above. let a = t.each_once j in let b = none_from j (count_of t) above in let z : ⊥ = omega (arith, a, b, h) in absurd z)
+    (λ above. let a = t.each_once j in let b = none_from j (count_of t) above in
+    let z : ⊥ = omega (arith, a, b, h) in absurd z)
     (cases_lt j (count_of t))
 
 -- Two entries that name one data block are one entry.
-pub named_once : (t : Table) (i k j : ℕ) → slice_get (entries_of t) i ≡ Some (GuestBlock.Data j) → slice_get (entries_of t) k ≡ Some (GuestBlock.Data j) → i ≡ k
+pub named_once : (t : Table) (i k j : ℕ) → slice_get (entries_of t) i ≡ Some (GuestBlock.Data j)
+    → slice_get (entries_of t) k ≡ Some (GuestBlock.Data j) → i ≡ k
 named_once t i k j e f = ⊎_elim
-    (λ below. let a = counts_twice (entries_of t) i k j below e f in let b = used_once t j in let z : ⊥ = omega (arith, a, b) in absurd z)
+    (λ below. let a = counts_twice (entries_of t) i k j below e f in let b = used_once t j in
+    let z : ⊥ = omega (arith, a, b) in absurd z)
     (λ above. ⊎_elim
-    (λ below. let a = counts_twice (entries_of t) k i j below f e in let b = used_once t j in let z : ⊥ = omega (arith, a, b) in absurd z)
+    (λ below. let a = counts_twice (entries_of t) k i j below f e in let b = used_once t j in
+    let z : ⊥ = omega (arith, a, b) in absurd z)
     (λ over. omega (arith, above, over))
     (cases_lt k i))
     (cases_lt i k)
 
 -- A data block that an entry names is there.
-pub named_below : (t : Table) (i j : ℕ) → slice_get (entries_of t) i ≡ Some (GuestBlock.Data j) → j < count_of t
+pub named_below : (t : Table) (i j : ℕ) → slice_get (entries_of t) i ≡ Some (GuestBlock.Data j)
+    → j < count_of t
 named_below t i j e = let a = counts (entries_of t) i j e in used_below t j (omega (arith, a))
 
 held_counts : (held : Option ℕ) (j : ℕ) → held ≡ Some j → times_held j held ≡ 1
@@ -82,7 +92,8 @@ pub held_below : (t : Table) (j : ℕ) → held_of t ≡ Some j → j < count_of
 held_below t j h = let a = held_counts (held_of t) j h in used_below t j (omega (arith, a))
 
 -- No entry names the held data block.
-pub held_apart : (t : Table) (i j : ℕ) → held_of t ≡ Some j → slice_get (entries_of t) i ≡ Some (GuestBlock.Data j) → ⊥
+pub held_apart : (t : Table) (i j : ℕ) → held_of t ≡ Some j → slice_get (entries_of t) i
+    ≡ Some (GuestBlock.Data j) → ⊥
 held_apart t i j h e =
     let a = held_counts (held_of t) j h in
     let b = counts (entries_of t) i j e in

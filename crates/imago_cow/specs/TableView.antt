@@ -30,4 +30,5 @@ KeepsRoom old new = room_of old ≤ room_of new
 
 -- entries, held block and count are what they were
 abbrev pub IsUnchanged : Table → Table → Type 0
-IsUnchanged old new = (entries_of new ≡ entries_of old) × (held_of new ≡ held_of old) × (count_of new ≡ count_of old) × KeepsRoom old new
+IsUnchanged old new = (entries_of new ≡ entries_of old) × (held_of new ≡ held_of old)
+    × (count_of new ≡ count_of old) × KeepsRoom old new

@@ -1,5 +1,6 @@
 //! The copying of what places without data show into a data block.
-ghost use Rattle.std.specs.Prelude.{◌≡◌, ℕ, ◌+◌, ◌-◌, ◌%◌, ◌^◌, ◌<◌, ◌≤◌, ◌⊎◌, ◌&&◌, max, length, slice_index, IsTrue, IfOk, IfErr, OnOk, IsErrOf, true, false};
+ghost use Rattle.std.specs.Prelude.{◌≡◌, ℕ, ◌+◌, ◌-◌, ◌%◌, ◌^◌, ◌<◌, ◌≤◌, ◌⊎◌, ◌&&◌, max, length};
+ghost use Rattle.std.specs.Prelude.{slice_index, IsTrue, IfOk, IfErr, OnOk, IsErrOf, true, false};
 ghost use Rattle.imago_storage.specs.Error.{IsExtRefusal};
 ghost use Rattle.imago_storage.specs.Faults.{CountsFaults};
 ghost use Rattle.imago_storage.specs.Features.{len_align};
@@ -7,7 +8,9 @@ ghost use Rattle.imago_drivers.specs.Place.{Byte};
 ghost use Rattle.imago_drivers.specs.Lengths.{padded_to};
 ghost use Rattle.imago_drivers.specs.LayerBelow.{lent};
 ghost use Rattle.imago_drivers.specs.Reasons.{allowed};
-ghost use Rattle.imago_cow.specs.Copies.{old_value, HasOldBytes, IsOldRead, IsCopyAnswer, IsRefusedBelow, old_reasons, copy_reasons, round_reasons, block_from, block_until};
+ghost use Rattle.imago_cow.specs.Copies.{old_value, HasOldBytes, IsOldRead, IsCopyAnswer};
+ghost use Rattle.imago_cow.specs.Copies.{IsRefusedBelow, old_reasons, copy_reasons, round_reasons};
+ghost use Rattle.imago_cow.specs.Copies.{block_from, block_until};
 
 use crate::block::BlockSize;
 use crate::zero::{shows_zeroes, takes_zeroes, zero_bytes};
@@ -71,7 +74,8 @@ fn copy_through<S: Storage, B: LowerLayer>(
         → slice_index (S.bytes storage.new) p ≡ slice_index (S.bytes storage.old) p }
     ensures no_shorter { length (S.bytes storage.old) ≤ length (S.bytes storage.new) }
     ensures no_longer { length (S.bytes storage.new)
-        ≤ max (length (S.bytes storage.old)) (padded_to (S.features storage.old) to (length buf.old)) }
+        ≤ max (length (S.bytes storage.old))
+        (padded_to (S.features storage.old) to (length buf.old)) }
     ensures features { S.features storage.new ≡ S.features storage.old }
     ensures faults { CountsFaults
         ((S.features storage.old).is_reliable && (lent B.as_layer_below below.entry).is_reliable)
@@ -125,7 +129,8 @@ pub(crate) fn copy_old<S: Storage, B: LowerLayer>(
     ensures by_name { IfErr result (λ e. IsExtRefusal e ⊎ IsRefusedBelow B.reads below.entry e) }
     ensures refusals { IfErr result
         (allowed
-        (copy_reasons (S.features storage.old) (lent B.as_layer_below below.entry) absent offset count to)) }
+        (copy_reasons (S.features storage.old) (lent B.as_layer_below below.entry) absent offset
+        count to)) }
 {
     if count == 0 {
         return Ok(());
@@ -154,8 +159,8 @@ pub(crate) struct Part {
     pub(crate) overwrite: bool,
 }
 
-/// Copies what the guest block of a part shows, within the disk, to a data block that begins at `start`. For overwriting
-/// the range itself is left out.
+/// Copies what the guest block of a part shows, within the disk, to a data block that begins at
+/// `start`. For overwriting the range itself is left out.
 pub(crate) fn copy_round<S: Storage, B: LowerLayer>(
     storage: &mut S,
     faults: &mut u64,
@@ -175,14 +180,16 @@ pub(crate) fn copy_round<S: Storage, B: LowerLayer>(
         → p < block_until part.block.length part.size part.offset
         → (part.overwrite ≡ true → (p < part.offset) ⊎ (part.offset + part.run ≤ p))
         → old_value (lent B.as_layer_below below.entry).at part.absent p
-        ≡ Byte (slice_index (S.bytes storage.new) (start + (p - block_from part.block.length part.offset)))) }
+        ≡ Byte (slice_index (S.bytes storage.new)
+        (start + (p - block_from part.block.length part.offset)))) }
     ensures outside { IsTrue (S.features storage.old).keeps_data
         → (p : ℕ)
         → (p < start) ⊎ (start + part.block.length ≤ p)
         → slice_index (S.bytes storage.new) p ≡ slice_index (S.bytes storage.old) p }
     ensures no_shorter { length (S.bytes storage.old) ≤ length (S.bytes storage.new) }
     ensures no_longer { length (S.bytes storage.new)
-        ≤ max (length (S.bytes storage.old)) (start + part.block.length + (len_align (S.features storage.old) - 1)) }
+        ≤ max (length (S.bytes storage.old))
+        (start + part.block.length + (len_align (S.features storage.old) - 1)) }
     ensures features { S.features storage.new ≡ S.features storage.old }
     ensures faults { CountsFaults
         ((S.features storage.old).is_reliable && (lent B.as_layer_below below.entry).is_reliable)
@@ -190,7 +197,8 @@ pub(crate) fn copy_round<S: Storage, B: LowerLayer>(
     ensures by_name { IfErr result (λ e. IsExtRefusal e ⊎ IsRefusedBelow B.reads below.entry e) }
     ensures refusals { IfErr result
         (allowed
-        (round_reasons (S.features storage.old) (lent B.as_layer_below below.entry) part.absent part.overwrite
+        (round_reasons (S.features storage.old) (lent B.as_layer_below below.entry) part.absent
+        part.overwrite
         part.block.length part.size part.offset part.run start)) }
 {
     let rest = part.block.rest(part.offset);

@@ -1,5 +1,6 @@
 //! The copy-on-write driver.
-ghost use Rattle.std.specs.Prelude.{◌≡◌, ℕ, ◌+◌, ◌*◌, ◌/◌, ◌^◌, ◌<◌, ◌≤◌, ◌⊎◌, ◌↔◌, None, Some, IfOk, IfErr, IsOk, IsTrue, max, slice_get, true, false};
+ghost use Rattle.std.specs.Prelude.{◌≡◌, ℕ, ◌+◌, ◌*◌, ◌/◌, ◌^◌, ◌<◌, ◌≤◌, ◌⊎◌, ◌↔◌, None, Some};
+ghost use Rattle.std.specs.Prelude.{IfOk, IfErr, IsOk, IsTrue, max, slice_get, true, false};
 ghost use Rattle.std.specs.Int.{is_power_of_two};
 ghost use Rattle.std.specs.Option.{ForSome};
 ghost use Rattle.imago_drivers.specs.CallRelations.{IsEnsuredInParts};
@@ -42,8 +43,9 @@ use imago_storage::storage::Storage;
 use std::alloc::Global;
 use std::fmt::{self, Display, Formatter, Write};
 
-/// What a prepared mapping of a [`Cow`] holds until it is committed: its number among those that the disk prepared. Two disks count
-/// alike, so it doesn't tell whose the mapping is. It has no public parts.
+/// What a prepared mapping of a [`Cow`] holds until it is committed: its number among those that
+/// the disk prepared. Two disks count alike, so it doesn't tell whose the mapping is. It has no
+/// public parts.
 #[derive(Clone, Copy, Debug, PartialEq, Eq)]
 pub struct CowState {
     pub(crate) ticket: u64,
@@ -63,16 +65,19 @@ pub struct Waiting {
 
 /// A disk that keeps what is written to it apart from the layer below, in blocks of one length.
 ///
-/// Each guest block leads to the layer below, is an explicit zero, or is in a data block of the storage: data block `j`
-/// stands at `j` times the block's length. Which it is stands in a table in memory, which is lost with the value. What the
-/// storage held before shows in unspecified bytes alone.
+/// Each guest block leads to the layer below, is an explicit zero, or is in a data block of the
+/// storage: data block `j` stands at `j` times the block's length. Which it is stands in a table in
+/// memory, which is lost with the value. What the storage held before shows in unspecified bytes
+/// alone.
 ///
-/// A write into a guest block without data takes the lowest free data block, or a new one behind all others, copies what
-/// stands round the written part, and shows it on commit.
+/// A write into a guest block without data takes the lowest free data block, or a new one behind
+/// all others, copies what stands round the written part, and shows it on commit.
 ///
-/// A prepared mapping is known by its bytes of the storage and by its number: each that waits for its commit has the next one. A disk
-/// has nothing else to know its mappings by. So one of another disk is [`Error::ForeignMapping`] only where its bytes or its number
-/// differ; where both are those of the mapping that waits here, it is taken for that one. Give each back to the disk that it is of.
+/// A prepared mapping is known by its bytes of the storage and by its number: each that waits for
+/// its commit has the next one. A disk has nothing else to know its mappings by. So one of another
+/// disk is [`Error::ForeignMapping`] only where its bytes or its number differ; where both are
+/// those of the mapping that waits here, it is taken for that one. Give each back to the disk that
+/// it is of.
 #[derive(Drop)]
 pub struct Cow<S: Storage> {
     storage: S,
@@ -88,24 +93,29 @@ pub struct Cow<S: Storage> {
     ghost exact: { IsExact size block.length (entries_of table) },
     ghost addressed: { count_of table * block.length < 2 ^ 64 },
     ghost held: { held_of table ≡ number_of_waiting waiting },
-    ghost waits_apart: { ForSome waiting (λ w. WaitsApart block.length size (entries_of table) (count_of table) w) },
+    ghost waits_apart: { ForSome waiting (λ w. WaitsApart block.length size (entries_of table)
+        (count_of table) w) },
 }
 
 impl<S: Storage> Cow<S> {
-    ghost use Rattle.imago_cow.specs.CowImage.{storage_in, size_of, block_of, blocks_of, data_blocks_of, used_in, waiting_in, tickets_of};
+    ghost use Rattle.imago_cow.specs.CowImage.{storage_in, size_of, block_of, blocks_of};
+    ghost use Rattle.imago_cow.specs.CowImage.{data_blocks_of, used_in, waiting_in, tickets_of};
 
-    /// A disk of that size over a storage, in blocks of `block` bytes. Each place leads to the layer below, at the same
-    /// offset, and nothing waits to be committed. `block` is a power of two from 1 to 1048576.
+    /// A disk of that size over a storage, in blocks of `block` bytes. Each place leads to the
+    /// layer below, at the same offset, and nothing waits to be committed. `block` is a power of
+    /// two from 1 to 1048576.
     ///
     /// [`Error::Memory`] is no room for the table, which has 16 bytes for each block.
     pub fn create(alloc: Global, storage: S, size: u64, block: u64) -> Result<Self, Error>
         requires power { IsTrue (is_power_of_two block) }
         requires most { block ≤ 1048576 }
         ensures made { IfOk result
-            (λ d. (storage_in d ≡ «storage») × (size_of d ≡ «size») × (block_of d ≡ «block») × (waiting_in d ≡ None) ×
+            (λ d. (storage_in d ≡ «storage») × (size_of d ≡ «size») × (block_of d ≡ «block»)
+            × (waiting_in d ≡ None) ×
             (data_blocks_of d ≡ 0)) }
         ensures faults { IfOk result
-            (λ d. (⟦<Cow<S> as FormatDriverInstance>⟧.view d).fault_count ≡ S.fault_count «storage») }
+            (λ d. (⟦<Cow<S> as FormatDriverInstance>⟧.view d).fault_count
+            ≡ S.fault_count «storage») }
         ensures tickets { IfOk result (λ d. tickets_of d ≡ 0) }
         ensures leads_below { IfOk result
             (λ d. (bytes : _) (p : ℕ)
@@ -134,8 +144,8 @@ impl<S: Storage> Cow<S> {
         self.block.length
     }
 
-    /// How many data blocks are used: those that guest blocks are in, and that of a prepared mapping until it is spent. All others
-    /// are free.
+    /// How many data blocks are used: those that guest blocks are in, and that of a prepared
+    /// mapping until it is spent. All others are free.
     pub fn blocks_used(&self) -> u64
         ensures { result ≡ used_in self.now }
     {
@@ -147,12 +157,15 @@ impl<S: Storage> Cow<S> {
         requires { 0 < count }
         ensures shown { result ≡ true
             → (index ≡ 0) × BytesAreWritable
-            (cow_place (S.bytes self.now.storage) self.now.size self.now.block.length (entries_of self.now.table)) 0 offset
+            (cow_place (S.bytes self.now.storage) self.now.size self.now.block.length
+            (entries_of self.now.table)) 0 offset
             count }
-        ensures within { result ≡ true → offset + count ≤ count_of self.now.table * self.now.block.length }
+        ensures within { result ≡ true
+            → offset + count ≤ count_of self.now.table * self.now.block.length }
         ensures stranger { result ≡ false
             → HasStranger
-            (cow_place (S.bytes self.now.storage) self.now.size self.now.block.length (entries_of self.now.table)) index
+            (cow_place (S.bytes self.now.storage) self.now.size self.now.block.length
+            (entries_of self.now.table)) index
             offset count }
     {
         all_shown(&self.table, self.block, self.size, index, offset, count)
@@ -177,7 +190,8 @@ impl<S: Storage> Cow<S> {
 
 /// Whether the mapping is the write that waits.
 fn is_waiting(waiting: Option<Waiting>, mapping: &PreparedDataMapping<CowState>) -> bool
-    ensures { (block size : ℕ) (bytes : _) → IsTrue result ↔ IsOwn (cow_pending block size bytes waiting) mapping.now }
+    ensures { (block size : ℕ) (bytes : _) → IsTrue result
+        ↔ IsOwn (cow_pending block size bytes waiting) mapping.now }
 {
     let Some(waiting) = waiting else {
         return false;
@@ -198,14 +212,19 @@ impl<S: Storage> Display for Cow<S> {
 }
 
 impl<S: Storage> FormatDriverInstance for Cow<S> {
-    ghost use Rattle.imago_cow.specs.CowImage.{storage_in, size_of, block_of, blocks_of, data_blocks_of, waiting_in};
-    ghost use Rattle.imago_cow.specs.CowCalls.{KeepsDisk, IsStorageRead, HasNoSpecial, IsClearing, IsCowPreparing, IsCowCommit, IsCowCancel, IsCowGrowth, IsCowCut};
+    ghost use Rattle.imago_cow.specs.CowImage.{storage_in, size_of, block_of, blocks_of};
+    ghost use Rattle.imago_cow.specs.CowImage.{data_blocks_of, waiting_in};
+    ghost use Rattle.imago_cow.specs.CowCalls.{KeepsDisk, IsStorageRead, HasNoSpecial, IsClearing};
+    ghost use Rattle.imago_cow.specs.CowCalls.{IsCowPreparing, IsCowCommit, IsCowCancel};
+    ghost use Rattle.imago_cow.specs.CowCalls.{IsCowGrowth, IsCowCut};
 
     type Storage = S;
 
     type State = CowState;
 
-    ghost view = { λ d. cow_view (S.features d.storage) (S.fault_count d.storage + d.faults) (S.bytes d.storage) d.size d.block.length (entries_of d.table) (count_of d.table) d.waiting };
+    ghost view = { λ d. cow_view (S.features d.storage) (S.fault_count d.storage + d.faults)
+        (S.bytes d.storage) d.size d.block.length (entries_of d.table) (count_of d.table)
+        d.waiting };
 
     ghost recognizes = { λ _. false };
 
@@ -213,7 +232,8 @@ impl<S: Storage> FormatDriverInstance for Cow<S> {
 
     ghost calls = { record {
       mapped = λ o n d r. IsOk r;
-      read = λ index o n d r. IsStorageRead (S.features (storage_in d)) (S.bytes (storage_in d)) o n r;
+      read = λ index o n d r. IsStorageRead (S.features (storage_in d)) (S.bytes (storage_in d)) o n
+          r;
       read_special = λ o n d r. HasNoSpecial n r;
       put = λ index bytes o a b r. KeepsDisk a b;
       zeroed = λ o n a b r. IsClearing GuestBlock.Zero o n a b r;
@@ -224,18 +244,25 @@ impl<S: Storage> FormatDriverInstance for Cow<S> {
       filled = λ m bytes at a b r. KeepsDisk a b;
       committed = λ m a b r. IsCowCommit m a b;
       cancelled = λ m a b. IsCowCancel m a b;
-      ensured = λ below o n overwrite a b r. IsEnsuredInParts (λ l p c w x y z. IsCowPreparing x y z) (λ m x y z. IsCowCommit m x y) below o n overwrite a b r;
+      ensured = λ below o n overwrite a b r. IsEnsuredInParts
+          (λ l p c w x y z. IsCowPreparing x y z) (λ m x y z. IsCowCommit m x y) below o n overwrite
+          a b r;
       by_parts = λ below o n overwrite a b r h. h;
       grown = λ n mode below a b r. IsCowGrowth n mode a b r;
       cut = λ n a b r. IsCowCut n a b r;
       flushed = λ a b r. S.maintenance.flushed (storage_in a) (storage_in b) r × KeepsDisk a b;
       synced = λ a b r. S.maintenance.synced (storage_in a) (storage_in b) r × KeepsDisk a b;
-      invalidated = λ a b r. S.maintenance.invalidated (storage_in a) (storage_in b) r × KeepsDisk a b;
+      invalidated = λ a b r. S.maintenance.invalidated (storage_in a) (storage_in b) r
+          × KeepsDisk a b;
     } };
 
-    ghost lawful = { λ d. cow_lawful (S.features d.storage) (S.fault_count d.storage + d.faults) (S.bytes d.storage) d.size d.block.length (entries_of d.table) (count_of d.table) d.waiting d.positive d.exact.covers (named_once d.table) };
+    ghost lawful = { λ d. cow_lawful (S.features d.storage) (S.fault_count d.storage + d.faults)
+        (S.bytes d.storage) d.size d.block.length (entries_of d.table) (count_of d.table) d.waiting
+        d.positive d.exact.covers (named_once d.table) };
 
-    ghost causes_lawful = { λ d. cow_causes (S.features d.storage) (S.fault_count d.storage + d.faults) (S.bytes d.storage) d.size d.block.length (entries_of d.table) (count_of d.table) d.waiting };
+    ghost causes_lawful = { λ d. cow_causes (S.features d.storage)
+        (S.fault_count d.storage + d.faults) (S.bytes d.storage) d.size d.block.length
+        (entries_of d.table) (count_of d.table) d.waiting };
 
     fn format(&self) -> Format {
         Format::Cow
@@ -322,9 +349,13 @@ impl<S: Storage> FormatDriverInstance for Cow<S> {
     ) -> Result<(u64, u64), Error>
         requires spent { (⟦<Cow<S> as FormatDriverInstance>⟧.view self.old).pending ≡ None }
         requires inside { offset + count ≤ (⟦<Cow<S> as FormatDriverInstance>⟧.view self.old).size }
-        ensures call { IsZeroCall Zero offset count (⟦<Cow<S> as FormatDriverInstance>⟧.view self.old) (⟦<Cow<S> as FormatDriverInstance>⟧.view self.new) result }
-        ensures performed { ⟦<Cow<S> as FormatDriverInstance>⟧.calls.zeroed offset count self.old self.new result }
-        ensures made { IsMade offset count (size_of self.old) (block_of self.old) GuestBlock.Zero (blocks_of self.old) (blocks_of self.new) result }
+        ensures call { IsZeroCall Zero offset count
+            (⟦<Cow<S> as FormatDriverInstance>⟧.view self.old)
+            (⟦<Cow<S> as FormatDriverInstance>⟧.view self.new) result }
+        ensures performed { ⟦<Cow<S> as FormatDriverInstance>⟧.calls.zeroed offset count self.old
+            self.new result }
+        ensures made { IsMade offset count (size_of self.old) (block_of self.old) GuestBlock.Zero
+            (blocks_of self.old) (blocks_of self.new) result }
         ensures storage { storage_in self.new ≡ storage_in self.old }
     {
         make_zero(&mut self.table, self.block, self.size, offset, count)
@@ -338,9 +369,13 @@ impl<S: Storage> FormatDriverInstance for Cow<S> {
     ) -> Result<(u64, u64), Error>
         requires spent { (⟦<Cow<S> as FormatDriverInstance>⟧.view self.old).pending ≡ None }
         requires inside { offset + count ≤ (⟦<Cow<S> as FormatDriverInstance>⟧.view self.old).size }
-        ensures call { IsZeroCall DiscardToZero offset count (⟦<Cow<S> as FormatDriverInstance>⟧.view self.old) (⟦<Cow<S> as FormatDriverInstance>⟧.view self.new) result }
-        ensures performed { ⟦<Cow<S> as FormatDriverInstance>⟧.calls.discarded_to_zero offset count self.old self.new result }
-        ensures made { IsMade offset count (size_of self.old) (block_of self.old) GuestBlock.Zero (blocks_of self.old) (blocks_of self.new) result }
+        ensures call { IsZeroCall DiscardToZero offset count
+            (⟦<Cow<S> as FormatDriverInstance>⟧.view self.old)
+            (⟦<Cow<S> as FormatDriverInstance>⟧.view self.new) result }
+        ensures performed { ⟦<Cow<S> as FormatDriverInstance>⟧.calls.discarded_to_zero offset count
+            self.old self.new result }
+        ensures made { IsMade offset count (size_of self.old) (block_of self.old) GuestBlock.Zero
+            (blocks_of self.old) (blocks_of self.new) result }
         ensures storage { storage_in self.new ≡ storage_in self.old }
     {
         make_zero(&mut self.table, self.block, self.size, offset, count)
@@ -376,27 +411,34 @@ impl<S: Storage> FormatDriverInstance for Cow<S> {
         requires inside { offset + count ≤ (⟦<Cow<S> as FormatDriverInstance>⟧.view self.old).size }
         ensures prepared { IfOk result
             (λ m. IsPrepared offset count overwrite
-            (values (lent B.as_layer_below below.entry).at (⟦<Cow<S> as FormatDriverInstance>⟧.view self.old).place)
+            (values (lent B.as_layer_below below.entry).at
+            (⟦<Cow<S> as FormatDriverInstance>⟧.view self.old).place)
             (⟦<Cow<S> as FormatDriverInstance>⟧.view self.old)
             (⟦<Cow<S> as FormatDriverInstance>⟧.view self.new) m) }
         ensures call { IsPreparation (lent B.as_layer_below below.entry) offset count
             (⟦<Cow<S> as FormatDriverInstance>⟧.view self.old)
             (⟦<Cow<S> as FormatDriverInstance>⟧.view self.new) result }
         ensures entries { blocks_of self.new ≡ blocks_of self.old }
-        ensures added { data_blocks_of self.new ≤ max (data_blocks_of self.old) (named_count (blocks_of self.old) + 1) }
+        ensures added { data_blocks_of self.new ≤ max (data_blocks_of self.old)
+            (named_count (blocks_of self.old) + 1) }
         ensures lowest { IfOk result
             (λ m. (state_of m ≡ None → ⊥)
-            → StandsInLowest (blocks_of self.old) (data_blocks_of self.old) (block_of self.old) offset (offset_of m)) }
+            → StandsInLowest (blocks_of self.old) (data_blocks_of self.old) (block_of self.old)
+            offset (offset_of m)) }
         ensures in_data { (j : ℕ)
             → slice_get (blocks_of self.old) (offset / block_of self.old) ≡ Some (GuestBlock.Data j)
-            → IsOk result × (storage_in self.new ≡ storage_in self.old) × (data_blocks_of self.new ≡ data_blocks_of self.old) ×
+            → IsOk result × (storage_in self.new ≡ storage_in self.old)
+            × (data_blocks_of self.new ≡ data_blocks_of self.old) ×
             (waiting_in self.new ≡ waiting_in self.old) }
-        ensures performed { ⟦<Cow<S> as FormatDriverInstance>⟧.calls.prepared (lent B.as_layer_below below.entry) offset count overwrite self.old self.new result }
-        ensures by_name { IfErr result (λ e. IsExtRefusal e ⊎ IsRefusedBelow B.reads below.entry e) }
+        ensures performed { ⟦<Cow<S> as FormatDriverInstance>⟧.calls.prepared
+            (lent B.as_layer_below below.entry) offset count overwrite self.old self.new result }
+        ensures by_name { IfErr result (λ e. IsExtRefusal e
+            ⊎ IsRefusedBelow B.reads below.entry e) }
         ensures over { overwrite ≡ true
             → IfErr result
             (allowed
-            (over_reasons (S.features (storage_in self.old)) (lent B.as_layer_below below.entry) (block_of self.old)
+            (over_reasons (S.features (storage_in self.old)) (lent B.as_layer_below below.entry)
+            (block_of self.old)
             (size_of self.old) (blocks_of self.old) (data_blocks_of self.old) offset count)) }
     {
         if count == 0 {
@@ -457,8 +499,10 @@ impl<S: Storage> FormatDriverInstance for Cow<S> {
     }
 
     fn commit_data_mapping(&mut self, mapping: PreparedDataMapping<CowState>) -> Result<(), Error>
-        ensures call { IsCommit ⟦<Cow<S> as FormatDriverInstance>⟧.view self.old self.new mapping result }
-        ensures performed { ⟦<Cow<S> as FormatDriverInstance>⟧.calls.committed mapping self.old self.new result }
+        ensures call { IsCommit ⟦<Cow<S> as FormatDriverInstance>⟧.view self.old self.new mapping
+            result }
+        ensures performed { ⟦<Cow<S> as FormatDriverInstance>⟧.calls.committed mapping self.old
+            self.new result }
     {
         let own = is_waiting(self.waiting, &mapping);
         let Some(_) = mapping.into_state() else {
@@ -477,7 +521,8 @@ impl<S: Storage> FormatDriverInstance for Cow<S> {
 
     fn cancel_data_mapping(&mut self, mapping: PreparedDataMapping<CowState>)
         ensures call { IsCancel ⟦<Cow<S> as FormatDriverInstance>⟧.view self.old self.new mapping }
-        ensures performed { ⟦<Cow<S> as FormatDriverInstance>⟧.calls.cancelled mapping self.old self.new }
+        ensures performed { ⟦<Cow<S> as FormatDriverInstance>⟧.calls.cancelled mapping self.old
+            self.new }
     {
         let own = is_waiting(self.waiting, &mapping);
         let _ = mapping.into_state();
@@ -495,9 +540,13 @@ impl<S: Storage> FormatDriverInstance for Cow<S> {
         mode: PreallocateMode,
     ) -> Result<(), Error>
         requires spent { (⟦<Cow<S> as FormatDriverInstance>⟧.view self.old).pending ≡ None }
-        ensures call { IsGrowth mode (lent B.as_layer_below below.entry) new_size (⟦<Cow<S> as FormatDriverInstance>⟧.view self.old) (⟦<Cow<S> as FormatDriverInstance>⟧.view self.new) result }
-        ensures performed { ⟦<Cow<S> as FormatDriverInstance>⟧.calls.grown new_size mode (lent B.as_layer_below below.entry) self.old self.new result }
-        ensures by_name { IfErr result (λ e. IsExtRefusal e ⊎ IsRefusedBelow B.reads below.entry e) }
+        ensures call { IsGrowth mode (lent B.as_layer_below below.entry) new_size
+            (⟦<Cow<S> as FormatDriverInstance>⟧.view self.old)
+            (⟦<Cow<S> as FormatDriverInstance>⟧.view self.new) result }
+        ensures performed { ⟦<Cow<S> as FormatDriverInstance>⟧.calls.grown new_size mode
+            (lent B.as_layer_below below.entry) self.old self.new result }
+        ensures by_name { IfErr result (λ e. IsExtRefusal e
+            ⊎ IsRefusedBelow B.reads below.entry e) }
     {
         if new_size <= self.size {
             return Ok(());
@@ -522,8 +571,10 @@ impl<S: Storage> FormatDriverInstance for Cow<S> {
 
     fn resize_shrink(&mut self, new_size: u64) -> Result<(), Error>
         requires spent { (⟦<Cow<S> as FormatDriverInstance>⟧.view self.old).pending ≡ None }
-        ensures call { IsShrink new_size (⟦<Cow<S> as FormatDriverInstance>⟧.view self.old) (⟦<Cow<S> as FormatDriverInstance>⟧.view self.new) result }
-        ensures performed { ⟦<Cow<S> as FormatDriverInstance>⟧.calls.cut new_size self.old self.new result }
+        ensures call { IsShrink new_size (⟦<Cow<S> as FormatDriverInstance>⟧.view self.old)
+            (⟦<Cow<S> as FormatDriverInstance>⟧.view self.new) result }
+        ensures performed { ⟦<Cow<S> as FormatDriverInstance>⟧.calls.cut new_size self.old self.new
+            result }
         ensures done { IsOk result }
         ensures storage { storage_in self.new ≡ storage_in self.old }
     {

@@ -1,5 +1,7 @@
 //! The guest block that the disk's end cuts, in a growth.
-ghost use Rattle.std.specs.Prelude.{◌≡◌, ℕ, ◌+◌, ◌-◌, ◌*◌, ◌/◌, ◌%◌, ◌^◌, ◌<◌, ◌≤◌, ◌⊎◌, ◌&&◌, max, length, List, slice_index, slice_get, slice_set, IsTrue, IfOk, IfErr, IfSome, OnOk, OnErr, Some, None, true, false};
+ghost use Rattle.std.specs.Prelude.{◌≡◌, ℕ, ◌+◌, ◌-◌, ◌*◌, ◌/◌, ◌%◌, ◌^◌, ◌<◌, ◌≤◌, ◌⊎◌, ◌&&◌, max};
+ghost use Rattle.std.specs.Prelude.{length, List, slice_index, slice_get, slice_set, IsTrue, IfOk};
+ghost use Rattle.std.specs.Prelude.{IfErr, IfSome, OnOk, OnErr, Some, None, true, false};
 ghost use Rattle.imago_storage.specs.Error.{IsExtRefusal};
 ghost use Rattle.imago_storage.specs.Faults.{CountsFaults};
 ghost use Rattle.imago_storage.specs.Features.{len_align};
@@ -14,7 +16,8 @@ ghost use Rattle.imago_cow.specs.Guest.{entry_place, is_data};
 ghost use Rattle.imago_cow.specs.Copies.{IsRefusedBelow, old_value};
 ghost use Rattle.imago_cow.specs.Growth.{fill_reasons};
 ghost use Rattle.imago_cow.specs.Grown.{IsCutGrown};
-ghost use Rattle.imago_cow.specs.Cut.{IsCutEmpty, IsCutEntered, IsCutFilled, IsCutRead, IsTaken, shows_below};
+ghost use Rattle.imago_cow.specs.Cut.{IsCutEmpty, IsCutEntered, IsCutFilled, IsCutRead, IsTaken};
+ghost use Rattle.imago_cow.specs.Cut.{shows_below};
 
 use crate::block::BlockSize;
 use crate::copy::copy_old;
@@ -39,8 +42,8 @@ struct Cut {
     lower: bool,
 }
 
-/// Copies what the guest block shows before the disk's old end, and then what its new places are to show, to a data block
-/// that begins at `start`.
+/// Copies what the guest block shows before the disk's old end, and then what its new places are to
+/// show, to a data block that begins at `start`.
 fn fill_both<S: Storage, B: LowerLayer>(
     storage: &mut S,
     faults: &mut u64,
@@ -58,7 +61,8 @@ fn fill_both<S: Storage, B: LowerLayer>(
         → OnOk result
         ((k : ℕ)
         → k < cut.size % cut.block.length
-        → old_value (lent B.as_layer_below below.entry).at absent (cut.size - cut.size % cut.block.length + k)
+        → old_value (lent B.as_layer_below below.entry).at absent
+        (cut.size - cut.size % cut.block.length + k)
         ≡ Byte (slice_index (S.bytes storage.new) (start + k))) }
     ensures behind { IsTrue (S.features storage.old).keeps_data
         → OnOk result
@@ -72,7 +76,8 @@ fn fill_both<S: Storage, B: LowerLayer>(
         → slice_index (S.bytes storage.new) p ≡ slice_index (S.bytes storage.old) p }
     ensures no_shorter { length (S.bytes storage.old) ≤ length (S.bytes storage.new) }
     ensures no_longer { length (S.bytes storage.new)
-        ≤ max (length (S.bytes storage.old)) (start + cut.block.length + (len_align (S.features storage.old) - 1)) }
+        ≤ max (length (S.bytes storage.old))
+        (start + cut.block.length + (len_align (S.features storage.old) - 1)) }
     ensures features { S.features storage.new ≡ S.features storage.old }
     ensures faults { CountsFaults
         ((S.features storage.old).is_reliable && (lent B.as_layer_below below.entry).is_reliable)
@@ -110,7 +115,8 @@ fn fill_both<S: Storage, B: LowerLayer>(
     )
 }
 
-/// Takes a data block for the guest block, fills it, and enters it. Refused, the data block is given back.
+/// Takes a data block for the guest block, fills it, and enters it. Refused, the data block is
+/// given back.
 fn fill_taken<S: Storage, B: LowerLayer>(
     storage: &mut S,
     faults: &mut u64,
@@ -126,23 +132,30 @@ fn fill_taken<S: Storage, B: LowerLayer>(
     requires spent { held_of table.old ≡ None }
     requires addressed { count_of table.old * cut.block.length < 2 ^ 64 }
     requires within { cut.size / cut.block.length < length (entries_of table.old) }
-    requires absent { absent ≡ true → slice_get (entries_of table.old) (cut.size / cut.block.length) ≡ Some GuestBlock.Absent }
-    requires zero { absent ≡ false → slice_get (entries_of table.old) (cut.size / cut.block.length) ≡ Some GuestBlock.Zero }
+    requires absent { absent ≡ true → slice_get (entries_of table.old) (cut.size / cut.block.length)
+        ≡ Some GuestBlock.Absent }
+    requires zero { absent ≡ false → slice_get (entries_of table.old) (cut.size / cut.block.length)
+        ≡ Some GuestBlock.Zero }
     ensures entered { IsTrue (S.features storage.old).keeps_data
         → OnOk result
-        (IsTaken (lent B.as_layer_below below.entry).at cut.block.length cut.size cut.count absent cut.lower
+        (IsTaken (lent B.as_layer_below below.entry).at cut.block.length cut.size cut.count absent
+        cut.lower
         (entries_of table.old) (entries_of table.new) (S.bytes storage.old) (S.bytes storage.new)) }
     ensures len { length (entries_of table.new) ≡ length (entries_of table.old) }
     ensures entries { OnErr result (entries_of table.new ≡ entries_of table.old) }
     ensures entry { OnOk result
-        ((j : ℕ) × (entries_of table.new ≡ slice_set (entries_of table.old) (cut.size / cut.block.length) (GuestBlock.Data j))) }
+        ((j : ℕ) × (entries_of table.new ≡ slice_set (entries_of table.old)
+        (cut.size / cut.block.length) (GuestBlock.Data j))) }
     ensures places { IsTrue (S.features storage.old).keeps_data
         → (p : ℕ)
-        → entry_place (S.bytes storage.new) cut.block.length p (slice_get (entries_of table.old) (p / cut.block.length))
-        ≡ entry_place (S.bytes storage.old) cut.block.length p (slice_get (entries_of table.old) (p / cut.block.length)) }
+        → entry_place (S.bytes storage.new) cut.block.length p
+        (slice_get (entries_of table.old) (p / cut.block.length))
+        ≡ entry_place (S.bytes storage.old) cut.block.length p
+        (slice_get (entries_of table.old) (p / cut.block.length)) }
     ensures held { held_of table.new ≡ None }
     ensures addressed { count_of table.new * cut.block.length < 2 ^ 64 }
-    ensures added { count_of table.new ≤ max (count_of table.old) (named_count (entries_of table.old) + 1) }
+    ensures added { count_of table.new ≤ max (count_of table.old)
+        (named_count (entries_of table.old) + 1) }
     ensures room { KeepsRoom table.old table.new }
     ensures no_shorter { length (S.bytes storage.old) ≤ length (S.bytes storage.new) }
     ensures no_longer { length (S.bytes storage.new)
@@ -176,7 +189,8 @@ fn fill_taken<S: Storage, B: LowerLayer>(
     }
 }
 
-/// Fills the guest block that the disk's old end cuts, up to the new end, as the mode says: `None` leaves it, and so does
+/// Fills the guest block that the disk's old end cuts, up to the new end, as the mode says: `None`
+/// leaves it, and so does
 /// `Zero` an explicit zero. Refused, no place before the old end changed.
 pub(crate) fn fill_cut<S: Storage, B: LowerLayer>(
     storage: &mut S,
@@ -188,21 +202,28 @@ pub(crate) fn fill_cut<S: Storage, B: LowerLayer>(
 ) -> Result<(), Error>
     requires positive { 0 < growth.block.length }
     requires grows { growth.size < growth.new_size }
-    requires within { 0 < growth.size % growth.block.length → growth.size / growth.block.length < length (entries_of table.old) }
+    requires within { 0 < growth.size % growth.block.length → growth.size / growth.block.length
+        < length (entries_of table.old) }
     requires spent { held_of table.old ≡ None }
     requires addressed { count_of table.old * growth.block.length < 2 ^ 64 }
     ensures filled { OnOk result
-        (IsCutFilled (lent B.as_layer_below below.entry).at growth.mode (S.features storage.old).keeps_data
-        growth.block.length growth.size growth.new_size (entries_of table.old) (entries_of table.new) (S.bytes storage.old) (S.bytes storage.new)) }
+        (IsCutFilled (lent B.as_layer_below below.entry).at growth.mode
+        (S.features storage.old).keeps_data
+        growth.block.length growth.size growth.new_size (entries_of table.old)
+        (entries_of table.new) (S.bytes storage.old) (S.bytes storage.new)) }
     ensures entries { OnErr result (entries_of table.new ≡ entries_of table.old) }
-    ensures entry { OnOk result (IsCutEntered growth.block.length growth.size (entries_of table.old) (entries_of table.new)) }
+    ensures entry { OnOk result (IsCutEntered growth.block.length growth.size (entries_of table.old)
+        (entries_of table.new)) }
     ensures grown { OnOk result
-        (IsCutGrown growth.mode growth.block.length growth.size (entries_of table.old) (entries_of table.new)) }
+        (IsCutGrown growth.mode growth.block.length growth.size (entries_of table.old)
+        (entries_of table.new)) }
     ensures places { IsTrue (S.features storage.old).keeps_data
         → (p : ℕ)
         → p < growth.size
-        → entry_place (S.bytes storage.new) growth.block.length p (slice_get (entries_of table.old) (p / growth.block.length))
-        ≡ entry_place (S.bytes storage.old) growth.block.length p (slice_get (entries_of table.old) (p / growth.block.length)) }
+        → entry_place (S.bytes storage.new) growth.block.length p
+        (slice_get (entries_of table.old) (p / growth.block.length))
+        ≡ entry_place (S.bytes storage.old) growth.block.length p
+        (slice_get (entries_of table.old) (p / growth.block.length)) }
     ensures held { held_of table.new ≡ None }
     ensures addressed { count_of table.new * growth.block.length < 2 ^ 64 }
     ensures counted { (most : ℕ)
@@ -219,7 +240,8 @@ pub(crate) fn fill_cut<S: Storage, B: LowerLayer>(
         → is_data (slice_get (entries_of table.old) (growth.size / growth.block.length)) ≡ false
         → named_count (entries_of table.old) + 1 ≤ most)
         → length (S.bytes storage.new)
-        ≤ max (length (S.bytes storage.old)) (padded_to (S.features storage.old) 0 (most * growth.block.length)) }
+        ≤ max (length (S.bytes storage.old))
+        (padded_to (S.features storage.old) 0 (most * growth.block.length)) }
     ensures features { S.features storage.new ≡ S.features storage.old }
     ensures faults { CountsFaults
         ((S.features storage.old).is_reliable && (lent B.as_layer_below below.entry).is_reliable)
@@ -232,8 +254,10 @@ pub(crate) fn fill_cut<S: Storage, B: LowerLayer>(
         → named_count (entries_of table.old) + 1 ≤ most)
         → IfErr result
         (allowed
-        (fill_reasons (S.features storage.old) (lent B.as_layer_below below.entry) (most * growth.block.length)
-        (IsCutRead growth.block.length growth.size (entries_of table.old) (shows_below growth.mode) growth.new_size))) }
+        (fill_reasons (S.features storage.old) (lent B.as_layer_below below.entry)
+        (most * growth.block.length)
+        (IsCutRead growth.block.length growth.size (entries_of table.old) (shows_below growth.mode)
+        growth.new_size))) }
 {
     let rest = growth.block.rest(growth.size);
     if rest == 0 {
@@ -268,7 +292,8 @@ pub(crate) fn fill_cut<S: Storage, B: LowerLayer>(
 /// What the guest block that the disk's end cuts is, where it isn't data.
 pub(crate) fn empty_cut(table: &Table, block: BlockSize, size: u64) -> Option<WithoutData>
     requires positive { 0 < block.length }
-    requires within { 0 < size % block.length → size / block.length < length (entries_of table.now) }
+    requires within { 0 < size % block.length
+        → size / block.length < length (entries_of table.now) }
     ensures empty { IsCutEmpty block.length size (entries_of table.now) result }
     ensures within { IfSome result (λ k. size / block.length < length (entries_of table.now)) }
 {

@@ -1,5 +1,6 @@
 //! The data blocks that are free.
-ghost use Rattle.std.specs.Prelude.{◌≡◌, ℕ, ◌+◌, ◌-◌, ◌^◌, ◌<◌, ◌≤◌, IfErr, OnOk, IfSome, IfNone, MatchOption};
+ghost use Rattle.std.specs.Prelude.{◌≡◌, ℕ, ◌+◌, ◌-◌, ◌^◌, ◌<◌, ◌≤◌, IfErr, OnOk, IfSome, IfNone};
+ghost use Rattle.std.specs.Prelude.{MatchOption};
 ghost use Rattle.std.specs.BinaryHeap.{IsHeap, IsHeap-prop, heap_items};
 ghost use Rattle.std.specs.Ordering.{nat_cmp};
 
@@ -7,8 +8,8 @@ use imago_storage::error::Error;
 use std::alloc::Global;
 use std::collections::BinaryHeap;
 
-/// The numbers of the data blocks that are free. The lowest is found at once; to take it, or to put one among them, costs
-/// a logarithm of how many there are.
+/// The numbers of the data blocks that are free. The lowest is found at once; to take it, or to put
+/// one among them, costs a logarithm of how many there are.
 #[derive(Drop)]
 pub struct FreeBlocks {
     /// Each number as its distance from `u64::MAX`, so that the lowest one is on top.
@@ -17,7 +18,8 @@ pub struct FreeBlocks {
 }
 
 impl FreeBlocks {
-    ghost use Rattle.imago_cow.specs.Free.{free_count, free_room, IsEmpty, IsLowest, IsWithout, IsSame};
+    ghost use Rattle.imago_cow.specs.Free.{free_count, free_room, IsEmpty, IsLowest, IsWithout};
+    ghost use Rattle.imago_cow.specs.Free.{IsSame};
 
     /// None, and room for none.
     pub(crate) fn new(alloc: Global) -> FreeBlocks

@@ -1,5 +1,6 @@
 //! The growth of a copy-on-write disk.
-ghost use Rattle.std.specs.Prelude.{◌≡◌, ◌≢◌, ◌+◌, ◌*◌, ◌^◌, ◌<◌, ◌≤◌, ◌⊎◌, IfErr, OnOk, OnErr, None, Ok, Err};
+ghost use Rattle.std.specs.Prelude.{◌≡◌, ◌≢◌, ◌+◌, ◌*◌, ◌^◌, ◌<◌, ◌≤◌, ◌⊎◌, IfErr, OnOk, OnErr};
+ghost use Rattle.std.specs.Prelude.{None, Ok, Err};
 ghost use Rattle.imago_storage.specs.Error.{IsExtRefusal};
 ghost use Rattle.imago_cow.specs.Copies.{IsRefusedBelow};
 ghost use Rattle.imago_drivers.specs.Calls.{IsGrowth};
@@ -35,8 +36,9 @@ fn reserve_new(table: &mut Table, growth: Growth) -> Result<(), Error>
     table.reserve(wanted - table.len())
 }
 
-/// Fills the guest block that the old end cuts, and adds those behind it, for a growth whose new places are specified. So data
-/// blocks are taken in the order of guest blocks. Refused, all is as it was.
+/// Fills the guest block that the old end cuts, and adds those behind it, for a growth whose new
+/// places are specified. So data blocks are taken in the order of guest blocks. Refused, all is as
+/// it was.
 fn grow_with<S: Storage, B: LowerLayer>(
     storage: &mut S,
     faults: &mut u64,
@@ -53,15 +55,25 @@ fn grow_with<S: Storage, B: LowerLayer>(
     requires some { growth.mode ≢ PreallocateMode.None }
     ensures grown { OnOk result
         (IsGrowth growth.mode (lent B.as_layer_below below.entry) growth.new_size
-        (cow_view (S.features storage.old) (S.fault_count storage.old + faults.old) (S.bytes storage.old) growth.size growth.block.length (entries_of table.old) (count_of table.old) None)
-        (cow_view (S.features storage.old) (S.fault_count storage.new + faults.new) (S.bytes storage.new) growth.new_size growth.block.length (entries_of table.new) (count_of table.new) None) (Ok tt)) }
+        (cow_view (S.features storage.old) (S.fault_count storage.old + faults.old)
+        (S.bytes storage.old) growth.size growth.block.length (entries_of table.old)
+        (count_of table.old) None)
+        (cow_view (S.features storage.old) (S.fault_count storage.new + faults.new)
+        (S.bytes storage.new) growth.new_size growth.block.length (entries_of table.new)
+        (count_of table.new) None) (Ok tt)) }
     ensures refused { IfErr result
         (λ e. IsGrowth growth.mode (lent B.as_layer_below below.entry) growth.new_size
-        (cow_view (S.features storage.old) (S.fault_count storage.old + faults.old) (S.bytes storage.old) growth.size growth.block.length (entries_of table.old) (count_of table.old) None)
-        (cow_view (S.features storage.old) (S.fault_count storage.new + faults.new) (S.bytes storage.new) growth.size growth.block.length (entries_of table.old) (count_of table.new) None) (Err e)) }
+        (cow_view (S.features storage.old) (S.fault_count storage.old + faults.old)
+        (S.bytes storage.old) growth.size growth.block.length (entries_of table.old)
+        (count_of table.old) None)
+        (cow_view (S.features storage.old) (S.fault_count storage.new + faults.new)
+        (S.bytes storage.new) growth.size growth.block.length (entries_of table.old)
+        (count_of table.new) None) (Err e)) }
     ensures blocks { OnOk result
-        (AreGrown growth.mode growth.block.length growth.size (entries_of table.old) (entries_of table.new)) }
-    ensures exact_now { OnOk result (IsExact growth.new_size growth.block.length (entries_of table.new)) }
+        (AreGrown growth.mode growth.block.length growth.size (entries_of table.old)
+        (entries_of table.new)) }
+    ensures exact_now { OnOk result
+        (IsExact growth.new_size growth.block.length (entries_of table.new)) }
     ensures entries { OnErr result (entries_of table.new ≡ entries_of table.old) }
     ensures held { held_of table.new ≡ None }
     ensures addressed { count_of table.new * growth.block.length < 2 ^ 64 }
@@ -96,22 +108,33 @@ pub(crate) fn grow<S: Storage, B: LowerLayer>(
     requires addressed { count_of table.old * growth.block.length < 2 ^ 64 }
     ensures grown { OnOk result
         (IsGrowth growth.mode (lent B.as_layer_below below.entry) growth.new_size
-        (cow_view (S.features storage.old) (S.fault_count storage.old + faults.old) (S.bytes storage.old) growth.size growth.block.length (entries_of table.old) (count_of table.old) None)
-        (cow_view (S.features storage.old) (S.fault_count storage.new + faults.new) (S.bytes storage.new) growth.new_size growth.block.length (entries_of table.new) (count_of table.new) None) (Ok tt)) }
+        (cow_view (S.features storage.old) (S.fault_count storage.old + faults.old)
+        (S.bytes storage.old) growth.size growth.block.length (entries_of table.old)
+        (count_of table.old) None)
+        (cow_view (S.features storage.old) (S.fault_count storage.new + faults.new)
+        (S.bytes storage.new) growth.new_size growth.block.length (entries_of table.new)
+        (count_of table.new) None) (Ok tt)) }
     ensures refused { IfErr result
         (λ e. IsGrowth growth.mode (lent B.as_layer_below below.entry) growth.new_size
-        (cow_view (S.features storage.old) (S.fault_count storage.old + faults.old) (S.bytes storage.old) growth.size growth.block.length (entries_of table.old) (count_of table.old) None)
-        (cow_view (S.features storage.old) (S.fault_count storage.new + faults.new) (S.bytes storage.new) growth.size growth.block.length (entries_of table.old) (count_of table.new) None) (Err e)) }
+        (cow_view (S.features storage.old) (S.fault_count storage.old + faults.old)
+        (S.bytes storage.old) growth.size growth.block.length (entries_of table.old)
+        (count_of table.old) None)
+        (cow_view (S.features storage.old) (S.fault_count storage.new + faults.new)
+        (S.bytes storage.new) growth.size growth.block.length (entries_of table.old)
+        (count_of table.new) None) (Err e)) }
     ensures blocks { OnOk result
-        (AreGrown growth.mode growth.block.length growth.size (entries_of table.old) (entries_of table.new)) }
-    ensures exact_now { OnOk result (IsExact growth.new_size growth.block.length (entries_of table.new)) }
+        (AreGrown growth.mode growth.block.length growth.size (entries_of table.old)
+        (entries_of table.new)) }
+    ensures exact_now { OnOk result
+        (IsExact growth.new_size growth.block.length (entries_of table.new)) }
     ensures entries { OnErr result (entries_of table.new ≡ entries_of table.old) }
     ensures held { held_of table.new ≡ None }
     ensures addressed { count_of table.new * growth.block.length < 2 ^ 64 }
     ensures by_name { IfErr result (λ e. IsExtRefusal e ⊎ IsRefusedBelow B.reads below.entry e) }
     ensures features { S.features storage.new ≡ S.features storage.old }
     ensures room_first { OnErr result
-        ((storage.new ≡ storage.old) ⊎ (growth.new_size ≤ room_of table.new * growth.block.length)) }
+        ((storage.new ≡ storage.old)
+        ⊎ (growth.new_size ≤ room_of table.new * growth.block.length)) }
 {
     if adds_nothing(growth.mode) {
         return add_blocks(table, growth, WithoutData::Absent);

@@ -1,11 +1,13 @@
 //! Guest blocks by ranges of the disk.
-ghost use Rattle.std.specs.Prelude.{◌≡◌, ◌≢◌, ℕ, ◌+◌, ◌*◌, ◌/◌, ◌%◌, ◌^◌, ◌<◌, ◌≤◌, ◌⊎◌, length, Option, Some, None, slice_get, slice_set, true};
+ghost use Rattle.std.specs.Prelude.{◌≡◌, ◌≢◌, ℕ, ◌+◌, ◌*◌, ◌/◌, ◌%◌, ◌^◌, ◌<◌, ◌≤◌, ◌⊎◌, length};
+ghost use Rattle.std.specs.Prelude.{Option, Some, None, slice_get, slice_set, true};
 ghost use Rattle.imago_cow.specs.Table.{without_data};
 ghost use Rattle.imago_cow.specs.TableView.{entries_of, held_of, count_of};
 ghost use Rattle.imago_cow.specs.Guest.{IsCleared, IsExact, IsWholePart, AreWholeCleared, IsMade};
 ghost use Rattle.imago_cow.specs.declared.table.GuestBlock.{GuestBlock};
 ghost use Rattle.imago_cow.specs.Cow.{cow_view};
-ghost use Rattle.imago_drivers.specs.Operation.{Zero, DiscardToZero, DiscardToAny, DiscardToBacking};
+ghost use Rattle.imago_drivers.specs.Operation.{Zero, DiscardToZero, DiscardToAny};
+ghost use Rattle.imago_drivers.specs.Operation.{DiscardToBacking};
 ghost use Rattle.imago_drivers.specs.Changes.{unspecified, to_backing};
 ghost use Rattle.imago_drivers.specs.Calls.{IsZeroCall, IsDiscard};
 
@@ -31,7 +33,8 @@ fn last_whole(block: BlockSize, size: u64, end: u64, guest_blocks: u64) -> u64
     requires positive { 0 < block.length }
     requires inside { end ≤ size }
     requires covers { size ≤ guest_blocks * block.length }
-    ensures cut { end < size → (result * block.length ≤ end) × (end < result * block.length + block.length) }
+    ensures cut { end < size → (result * block.length ≤ end)
+        × (end < result * block.length + block.length) }
     ensures all { size ≤ end → result ≡ guest_blocks }
     ensures within { result ≤ guest_blocks }
 {
@@ -45,7 +48,8 @@ fn last_whole(block: BlockSize, size: u64, end: u64, guest_blocks: u64) -> u64
 fn clear_range(table: &mut Table, first: u64, last: u64, kind: WithoutData)
     requires ordered { first ≤ last }
     requires within { last ≤ length (entries_of table.old) }
-    ensures cleared { IsCleared first last (without_data kind) (entries_of table.old) (entries_of table.new) }
+    ensures cleared { IsCleared first last (without_data kind) (entries_of table.old)
+        (entries_of table.new) }
     ensures held { held_of table.new ≡ held_of table.old }
     ensures count { count_of table.new ≡ count_of table.old }
 {
@@ -54,8 +58,8 @@ fn clear_range(table: &mut Table, first: u64, last: u64, kind: WithoutData)
     }
 }
 
-/// Makes the guest blocks that lie in the range explicit zeroes, or absent, and answers the part that they hold. It
-/// takes no memory, and is never refused.
+/// Makes the guest blocks that lie in the range explicit zeroes, or absent, and answers the part
+/// that they hold. It takes no memory, and is never refused.
 pub(crate) fn clear_whole(
     table: &mut Table,
     block: BlockSize,
@@ -68,7 +72,8 @@ pub(crate) fn clear_whole(
     requires inside { offset + count ≤ size }
     requires exact { IsExact size block.length (entries_of table.old) }
     ensures part { IsWholePart block.length size offset count result.0 result.1 }
-    ensures cleared { AreWholeCleared block.length size offset count (without_data kind) (entries_of table.old) (entries_of table.new) }
+    ensures cleared { AreWholeCleared block.length size offset count (without_data kind)
+        (entries_of table.old) (entries_of table.new) }
     ensures held { held_of table.new ≡ held_of table.old }
     ensures count { count_of table.new ≡ count_of table.old }
 {
@@ -100,16 +105,20 @@ pub(crate) fn make_zero(
     ensures zero { (f : _) (faults : ℕ) (bytes : _)
         → IsZeroCall Zero offset count
         (cow_view f faults bytes size block.length (entries_of table.old) (count_of table.old) None)
-        (cow_view f faults bytes size block.length (entries_of table.new) (count_of table.new) None) result }
+        (cow_view f faults bytes size block.length (entries_of table.new) (count_of table.new) None)
+        result }
     ensures to_zero { (f : _) (faults : ℕ) (bytes : _)
         → IsZeroCall DiscardToZero offset count
         (cow_view f faults bytes size block.length (entries_of table.old) (count_of table.old) None)
-        (cow_view f faults bytes size block.length (entries_of table.new) (count_of table.new) None) result }
-    ensures made { IsMade offset count size block.length GuestBlock.Zero (entries_of table.old) (entries_of table.new) result }
+        (cow_view f faults bytes size block.length (entries_of table.new) (count_of table.new) None)
+        result }
+    ensures made { IsMade offset count size block.length GuestBlock.Zero (entries_of table.old)
+        (entries_of table.new) result }
     ensures to_any { (f : _) (faults : ℕ) (bytes : _)
         → IsDiscard (λ _ _. unspecified) DiscardToAny offset count
         (cow_view f faults bytes size block.length (entries_of table.old) (count_of table.old) None)
-        (cow_view f faults bytes size block.length (entries_of table.new) (count_of table.new) None) result }
+        (cow_view f faults bytes size block.length (entries_of table.new) (count_of table.new) None)
+        result }
     ensures same_length { length (entries_of table.new) ≡ length (entries_of table.old) }
     ensures held { held_of table.new ≡ held_of table.old }
     ensures count { count_of table.new ≡ count_of table.old }
@@ -128,11 +137,13 @@ pub(crate) fn make_absent(
     requires positive { 0 < block.length }
     requires inside { offset + count ≤ size }
     requires exact { IsExact size block.length (entries_of table.old) }
-    ensures made { IsMade offset count size block.length GuestBlock.Absent (entries_of table.old) (entries_of table.new) result }
+    ensures made { IsMade offset count size block.length GuestBlock.Absent (entries_of table.old)
+        (entries_of table.new) result }
     ensures to_backing { (f : _) (faults : ℕ) (bytes : _)
         → IsDiscard (to_backing true) DiscardToBacking offset count
         (cow_view f faults bytes size block.length (entries_of table.old) (count_of table.old) None)
-        (cow_view f faults bytes size block.length (entries_of table.new) (count_of table.new) None) result }
+        (cow_view f faults bytes size block.length (entries_of table.new) (count_of table.new) None)
+        result }
     ensures same_length { length (entries_of table.new) ≡ length (entries_of table.old) }
     ensures held { held_of table.new ≡ held_of table.old }
     ensures count { count_of table.new ≡ count_of table.old }

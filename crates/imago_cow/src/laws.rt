@@ -3,10 +3,12 @@ ghost use Rattle.std.specs.Prelude.{◌≡◌, ℕ, ◌+◌, ◌<◌, Some, slic
 ghost use Rattle.imago_cow.specs.declared.table.GuestBlock.{GuestBlock};
 ghost use Rattle.imago_cow.specs.declared.table.WithoutData.{WithoutData};
 ghost use Rattle.imago_cow.specs.Worked.{two_named, one_named};
-ghost use Rattle.imago_cow.specs.Table.{IsLowestUnused, without_data, named_count, held_count, times_used, one_below};
+ghost use Rattle.imago_cow.specs.Table.{IsLowestUnused, without_data, named_count, held_count};
+ghost use Rattle.imago_cow.specs.Table.{times_used, one_below};
 ghost use Rattle.imago_cow.specs.Free.{times_free, free_count};
 ghost use Rattle.imago_cow.specs.Cow.{number_of_waiting};
-ghost use Rattle.imago_cow.specs.CowImage.{storage_in, blocks_of, data_blocks_of, free_in, used_in, waiting_in};
+ghost use Rattle.imago_cow.specs.CowImage.{storage_in, blocks_of, data_blocks_of, free_in, used_in};
+ghost use Rattle.imago_cow.specs.CowImage.{waiting_in};
 ghost use Rattle.imago_cow.specs.TableView.{entries_of, held_of, count_of, free_of};
 
 use crate::cow::Cow;
@@ -14,7 +16,8 @@ use crate::table::Table;
 use imago_drivers::drivers::FormatDriverInstance;
 use imago_storage::storage::Storage;
 
-/// Each data block is free, or named by exactly one entry, or held; one that is not there is none of these.
+/// Each data block is free, or named by exactly one entry, or held; one that is not there is none
+/// of these.
 pub fn each_data_block_is_used_once(table: &Table)
     ensures once { (j : ℕ)
         → times_free j (free_of table.now) + times_used j (entries_of table.now) (held_of table.now)
@@ -23,7 +26,8 @@ pub fn each_data_block_is_used_once(table: &Table)
         → slice_get (entries_of table.now) i ≡ Some (GuestBlock.Data j)
         → slice_get (entries_of table.now) k ≡ Some (GuestBlock.Data j)
         → i ≡ k }
-    ensures named_below { (i j : ℕ) → slice_get (entries_of table.now) i ≡ Some (GuestBlock.Data j) → j < count_of table.now }
+    ensures named_below { (i j : ℕ) → slice_get (entries_of table.now) i ≡ Some (GuestBlock.Data j)
+        → j < count_of table.now }
     ensures held_below { (j : ℕ) → held_of table.now ≡ Some j → j < count_of table.now }
     ensures held_apart { (i j : ℕ)
         → held_of table.now ≡ Some j
@@ -31,8 +35,8 @@ pub fn each_data_block_is_used_once(table: &Table)
         → ⊥ }
 {}
 
-/// Each data block of a disk is free, or named by exactly one entry, or that of the prepared write that waits; one that is
-/// not there is none of these.
+/// Each data block of a disk is free, or named by exactly one entry, or that of the prepared write
+/// that waits; one that is not there is none of these.
 pub fn data_blocks_of_a_disk<S: Storage>(disk: &Cow<S>)
     ensures { (j : ℕ)
         → times_free j (free_in disk.now) + times_used j (blocks_of disk.now)
@@ -53,12 +57,14 @@ pub fn a_disk_keeps_what_its_storage_keeps<S: Storage>(disk: &Cow<S>)
 
 /// The free ones, the named ones and the held one are all.
 pub fn data_blocks_are_counted(table: &Table)
-    ensures { free_count (free_of table.now) + named_count (entries_of table.now) + held_count (held_of table.now)
+    ensures { free_count (free_of table.now) + named_count (entries_of table.now)
+        + held_count (held_of table.now)
         ≡ count_of table.now }
 {}
 
-/// Worked by hand: of three data blocks, two of which are named, the third is the lowest unused one. Where it is held, that
-/// is a fourth, which isn't there yet. Once the guest block in the first one is cleared, it is the first.
+/// Worked by hand: of three data blocks, two of which are named, the third is the lowest unused
+/// one. Where it is held, that is a fourth, which isn't there yet. Once the guest block in the
+/// first one is cleared, it is the first.
 pub fn lowest_unused_ones()
     ensures free { IsLowestUnused two_named None 3 2 }
     ensures new { IsLowestUnused two_named (Some 2) 3 3 }

@@ -1,4 +1,5 @@
-//! Copy-on-write disks: a disk in blocks, each of which leads to the layer below until it is written.
+//! Copy-on-write disks: a disk in blocks, each of which leads to the layer below until it is
+//! written.
 //!
 //! [`table::Table`] says what each block is, and which data blocks are free.
 #![tactic(auto)]

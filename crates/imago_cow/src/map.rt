@@ -1,5 +1,6 @@
 //! How places of the disk are mapped, and whose a byte of the storage is.
-ghost use Rattle.std.specs.Prelude.{◌≡◌, ℕ, ◌+◌, ◌-◌, ◌*◌, ◌/◌, ◌%◌, ◌^◌, ◌<◌, ◌≤◌, min, length, Some, slice_get};
+ghost use Rattle.std.specs.Prelude.{◌≡◌, ℕ, ◌+◌, ◌-◌, ◌*◌, ◌/◌, ◌%◌, ◌^◌, ◌<◌, ◌≤◌, min, length};
+ghost use Rattle.std.specs.Prelude.{Some, slice_get};
 ghost use Rattle.imago_drivers.specs.Mapping.{IsRight};
 ghost use Rattle.imago_cow.specs.TableView.{entries_of, held_of, count_of};
 ghost use Rattle.imago_cow.specs.Guest.{IsExact, cow_place};
@@ -17,7 +18,8 @@ pub(crate) fn entry_at(table: &Table, block: BlockSize, offset: u64) -> GuestBlo
     table.get(block.number(offset) as usize)
 }
 
-/// What the places of the disk from the offset on are, and how many of them: no further than the guest block.
+/// What the places of the disk from the offset on are, and how many of them: no further than the
+/// guest block.
 pub(crate) fn map_place(
     table: &Table,
     block: BlockSize,
@@ -29,7 +31,8 @@ pub(crate) fn map_place(
     requires exact { IsExact size block.length (entries_of table.now) }
     requires addressed { count_of table.now * block.length < 2 ^ 64 }
     ensures right { (bytes : _)
-        → IsRight (cow_place bytes size block.length (entries_of table.now)) offset max_length result.0 result.1 }
+        → IsRight (cow_place bytes size block.length (entries_of table.now)) offset max_length
+        result.0 result.1 }
     ensures part { result.1 ≡ min (in_block block.length offset max_length) (size - offset) }
 {
     if offset >= size {

@@ -1,5 +1,6 @@
 //! Which bytes of the storage places of the disk stand in.
-ghost use Rattle.std.specs.Prelude.{◌≡◌, ◌≢◌, ℕ, ◌+◌, ◌*◌, ◌^◌, ◌<◌, ◌≤◌, Some, slice_get, true, false};
+ghost use Rattle.std.specs.Prelude.{◌≡◌, ◌≢◌, ℕ, ◌+◌, ◌*◌, ◌^◌, ◌<◌, ◌≤◌, Some, slice_get, true};
+ghost use Rattle.std.specs.Prelude.{false};
 ghost use Rattle.imago_drivers.specs.Place.{BytesAreWritable, HasStranger};
 ghost use Rattle.imago_cow.specs.declared.table.GuestBlock.{GuestBlock};
 ghost use Rattle.imago_cow.specs.TableView.{entries_of, count_of};
@@ -13,7 +14,8 @@ fn shows(table: &Table, block: u64, size: u64, number: u64, until: u64) -> bool
     requires exact { IsExact size block (entries_of table.now) }
     requires fits { size < 2 ^ 64 }
     ensures shown { result ≡ true
-        → (i : ℕ) × (slice_get (entries_of table.now) i ≡ Some (GuestBlock.Data number)) × (i * block + until ≤ size) }
+        → (i : ℕ) × (slice_get (entries_of table.now) i ≡ Some (GuestBlock.Data number))
+        × (i * block + until ≤ size) }
     ensures stranger { result ≡ false
         → (i : ℕ)
         → slice_get (entries_of table.now) i ≡ Some (GuestBlock.Data number)
@@ -41,11 +43,14 @@ pub(crate) fn all_shown(
     requires some { 0 < count }
     ensures shown { (bytes : _)
         → result ≡ true
-        → (storage ≡ 0) × BytesAreWritable (cow_place bytes size block.length (entries_of table.now)) 0 offset count }
+        → (storage ≡ 0)
+        × BytesAreWritable (cow_place bytes size block.length (entries_of table.now)) 0 offset
+        count }
     ensures within { result ≡ true → offset + count ≤ count_of table.now * block.length }
     ensures stranger { (bytes : _)
         → result ≡ false
-        → HasStranger (cow_place bytes size block.length (entries_of table.now)) storage offset count }
+        → HasStranger (cow_place bytes size block.length (entries_of table.now)) storage offset
+        count }
 {
     let end = table.block_count() * block.length;
     if storage != 0 {

@@ -1,5 +1,7 @@
 //! The preparing of a data block for a write.
-ghost use Rattle.std.specs.Prelude.{◌≡◌, ℕ, ◌+◌, ◌*◌, ◌/◌, ◌%◌, ◌^◌, ◌<◌, ◌≤◌, ◌⊎◌, ◌&&◌, length, max, Option, Some, None, slice_get, IfOk, IfErr, OnOk, OnErr, true, false};
+ghost use Rattle.std.specs.Prelude.{◌≡◌, ℕ, ◌+◌, ◌*◌, ◌/◌, ◌%◌, ◌^◌, ◌<◌, ◌≤◌, ◌⊎◌, ◌&&◌, length};
+ghost use Rattle.std.specs.Prelude.{max, Option, Some, None, slice_get, IfOk, IfErr, OnOk, OnErr};
+ghost use Rattle.std.specs.Prelude.{true, false};
 ghost use Rattle.imago_storage.specs.Error.{IsExtRefusal};
 ghost use Rattle.imago_storage.specs.Faults.{CountsFaults};
 ghost use Rattle.imago_drivers.specs.Operation.{Write};
@@ -17,7 +19,8 @@ ghost use Rattle.imago_cow.specs.Table.{IsLowestUnused, named_count};
 ghost use Rattle.imago_cow.specs.TableView.{entries_of, held_of, count_of};
 ghost use Rattle.imago_cow.specs.Guest.{IsExact, cow_place};
 ghost use Rattle.imago_cow.specs.Copies.{IsRefusedBelow, over_reasons};
-ghost use Rattle.imago_cow.specs.Cow.{cow_view, cow_cause, cow_copies, data_count, in_block, WaitsApart};
+ghost use Rattle.imago_cow.specs.Cow.{cow_view, cow_cause, cow_copies, data_count, in_block};
+ghost use Rattle.imago_cow.specs.Cow.{WaitsApart};
 
 use crate::copy::{Part, copy_round};
 use crate::cow::{CowState, Waiting};
@@ -27,8 +30,8 @@ use imago_storage::error::Error;
 use imago_storage::storage::Storage;
 use std::alloc::Global;
 
-/// Takes the lowest free data block, or a new one, for a part of a guest block without data, and copies what stands round
-/// the part. Refused, the data block is given back.
+/// Takes the lowest free data block, or a new one, for a part of a guest block without data, and
+/// copies what stands round the part. Refused, the data block is given back.
 pub(crate) fn prepare_part<S: Storage, B: LowerLayer>(
     storage: &mut S,
     faults: &mut u64,
@@ -45,16 +48,24 @@ pub(crate) fn prepare_part<S: Storage, B: LowerLayer>(
     requires some { 0 < part.run }
     requires inside { part.offset + part.run ≤ part.size }
     requires in_block { part.offset % part.block.length + part.run ≤ part.block.length }
-    requires absent { part.absent ≡ true → slice_get (entries_of table.old) (part.offset / part.block.length) ≡ Some GuestBlock.Absent }
-    requires zero { part.absent ≡ false → slice_get (entries_of table.old) (part.offset / part.block.length) ≡ Some GuestBlock.Zero }
+    requires absent { part.absent ≡ true
+        → slice_get (entries_of table.old) (part.offset / part.block.length)
+        ≡ Some GuestBlock.Absent }
+    requires zero { part.absent ≡ false
+        → slice_get (entries_of table.old) (part.offset / part.block.length)
+        ≡ Some GuestBlock.Zero }
     ensures entries { entries_of table.new ≡ entries_of table.old }
-    ensures added { count_of table.new ≤ max (count_of table.old) (named_count (entries_of table.old) + 1) }
+    ensures added { count_of table.new ≤ max (count_of table.old)
+        (named_count (entries_of table.old) + 1) }
     ensures addressed { count_of table.new * part.block.length < 2 ^ 64 }
     ensures held { IfOk result (λ w. held_of table.new ≡ Some w.number) }
-    ensures lowest { IfOk result (λ w. IsLowestUnused (entries_of table.old) None (count_of table.old) w.number) }
+    ensures lowest { IfOk result
+        (λ w. IsLowestUnused (entries_of table.old) None (count_of table.old) w.number) }
     ensures released { OnErr result (held_of table.new ≡ None) }
-    ensures apart { IfOk result (λ w. WaitsApart part.block.length part.size (entries_of table.new) (count_of table.new) w) }
-    ensures same { IfOk result (λ w. (w.start ≡ part.offset) × (w.length ≡ part.run) × (w.state ≡ «state»)) }
+    ensures apart { IfOk result (λ w. WaitsApart part.block.length part.size (entries_of table.new)
+        (count_of table.new) w) }
+    ensures same { IfOk result (λ w. (w.start ≡ part.offset) × (w.length ≡ part.run)
+        × (w.state ≡ «state»)) }
     ensures features { S.features storage.new ≡ S.features storage.old }
     ensures prepared { IfOk result
         (λ w. (most now_faults old_faults : ℕ) (m : _)
@@ -65,18 +76,26 @@ pub(crate) fn prepare_part<S: Storage, B: LowerLayer>(
         → length_of m ≡ w.length
         → state_of m ≡ Some w.state
         → IsPrepared part.offset most part.overwrite
-        (values (lent B.as_layer_below below.entry).at (cow_place (S.bytes storage.old) part.size part.block.length (entries_of table.old)))
-        (cow_view (S.features storage.old) old_faults (S.bytes storage.old) part.size part.block.length (entries_of table.old) (count_of table.old) None)
-        (cow_view (S.features storage.old) now_faults (S.bytes storage.new) part.size part.block.length (entries_of table.old) (count_of table.new) (Some w)) m) }
+        (values (lent B.as_layer_below below.entry).at
+        (cow_place (S.bytes storage.old) part.size part.block.length (entries_of table.old)))
+        (cow_view (S.features storage.old) old_faults (S.bytes storage.old) part.size
+        part.block.length (entries_of table.old) (count_of table.old) None)
+        (cow_view (S.features storage.old) now_faults (S.bytes storage.new) part.size
+        part.block.length (entries_of table.old) (count_of table.new) (Some w)) m) }
     ensures unchanged { (now_faults old_faults : ℕ) (waiting : _)
         → IsUnchanged
-        (cow_view (S.features storage.old) old_faults (S.bytes storage.old) part.size part.block.length (entries_of table.old) (count_of table.old) None)
-        (cow_view (S.features storage.old) now_faults (S.bytes storage.new) part.size part.block.length (entries_of table.old) (count_of table.new) waiting) }
+        (cow_view (S.features storage.old) old_faults (S.bytes storage.old) part.size
+        part.block.length (entries_of table.old) (count_of table.old) None)
+        (cow_view (S.features storage.old) now_faults (S.bytes storage.new) part.size
+        part.block.length (entries_of table.old) (count_of table.new) waiting) }
     ensures settled { IfOk result
         (λ w. IsSettled IsOnRange
-        (cow_cause (S.features storage.old) part.block.length part.size (entries_of table.old) (count_of table.old) None)
-        (cow_cause (S.features storage.old) part.block.length part.size (entries_of table.old) (count_of table.new) (Some w))
-        (cow_copies part.block.length part.size (entries_of table.old)) (cow_copies part.block.length part.size (entries_of table.old))
+        (cow_cause (S.features storage.old) part.block.length part.size (entries_of table.old)
+        (count_of table.old) None)
+        (cow_cause (S.features storage.old) part.block.length part.size (entries_of table.old)
+        (count_of table.new) (Some w))
+        (cow_copies part.block.length part.size (entries_of table.old))
+        (cow_copies part.block.length part.size (entries_of table.old))
         w.start w.length) }
     ensures no_shorter { length (S.bytes storage.old) ≤ length (S.bytes storage.new) }
     ensures no_longer { (most : ℕ)
@@ -84,7 +103,8 @@ pub(crate) fn prepare_part<S: Storage, B: LowerLayer>(
         → length (S.bytes storage.new)
         ≤ max (length (S.bytes storage.old))
         (padded_to (S.features storage.old) 0
-        (data_count part.block.length part.size (entries_of table.old) (count_of table.old) None Write part.offset most
+        (data_count part.block.length part.size (entries_of table.old) (count_of table.old) None
+        Write part.offset most
         * part.block.length)) }
     ensures faults { CountsFaults
         ((S.features storage.old).is_reliable && (lent B.as_layer_below below.entry).is_reliable)
@@ -95,7 +115,8 @@ pub(crate) fn prepare_part<S: Storage, B: LowerLayer>(
         → IfErr result
         (allowed
         (lending_reasons
-        (cow_view (S.features storage.old) old_faults (S.bytes storage.old) part.size part.block.length (entries_of table.old) (count_of table.old) None)
+        (cow_view (S.features storage.old) old_faults (S.bytes storage.old) part.size
+        part.block.length (entries_of table.old) (count_of table.old) None)
         (lent B.as_layer_below below.entry) Write part.offset most)) }
     ensures over { (most : ℕ)
         → 0 < most
@@ -103,7 +124,8 @@ pub(crate) fn prepare_part<S: Storage, B: LowerLayer>(
         → part.overwrite ≡ true
         → IfErr result
         (allowed
-        (over_reasons (S.features storage.old) (lent B.as_layer_below below.entry) part.block.length part.size
+        (over_reasons (S.features storage.old) (lent B.as_layer_below below.entry) part.block.length
+        part.size
         (entries_of table.old) (count_of table.old) part.offset most)) }
 {
     if !fits_next(table, part.block.length) {
@@ -133,7 +155,8 @@ fn fits_next(table: &Table, block: u64) -> bool
         → count_of table.now ≤ named_count (entries_of table.now)
         → count_of table.now * block + block < 2 ^ 64 }
     ensures full { result ≡ false
-        → (count_of table.now ≤ named_count (entries_of table.now)) × (2 ^ 64 ≤ count_of table.now * block + block) }
+        → (count_of table.now ≤ named_count (entries_of table.now))
+        × (2 ^ 64 ≤ count_of table.now * block + block) }
 {
     if table.used() < table.block_count() {
         return true;

@@ -1,5 +1,6 @@
 //! Reads and writes of the storage bytes that places of the disk stand in.
-ghost use Rattle.std.specs.Prelude.{◌≡◌, ℕ, ◌+◌, ◌<◌, length, Some, slice_get, IfErr, OnOk, OnErr, IsOk, IsTrue, IsErrOf, slice_index, true, false};
+ghost use Rattle.std.specs.Prelude.{◌≡◌, ℕ, ◌+◌, ◌<◌, length, Some, slice_get, IfErr, OnOk, OnErr};
+ghost use Rattle.std.specs.Prelude.{IsOk, IsTrue, IsErrOf, slice_index, true, false};
 ghost use Rattle.imago_storage.specs.Bytes.{IsReadAt};
 ghost use Rattle.imago_storage.specs.Calls.{IsRangeRead};
 ghost use Rattle.imago_storage.specs.Faults.{CountsFaults};
@@ -28,7 +29,8 @@ pub(crate) fn read_stored<S: Storage>(
     buf: &mut [u8],
     offset: u64,
 ) -> Result<(), Error>
-    ensures read { IsRangeRead (S.features storage.now) (S.bytes storage.now) offset (length buf.old) buf.new result }
+    ensures read { IsRangeRead (S.features storage.now) (S.bytes storage.now) offset
+        (length buf.old) buf.new result }
     ensures bytes { OnOk result (IsReadAt (S.bytes storage.now) offset buf.new) }
     ensures refusals { (faults size block : ℕ) (entries : _) (blocks : ℕ) (waiting : _)
         → 0 < block
@@ -36,7 +38,8 @@ pub(crate) fn read_stored<S: Storage>(
         → IfErr result
         (allowed
         (stored_read_reasons
-        (cow_view (S.features storage.now) faults (S.bytes storage.now) size block entries blocks waiting) 0 offset
+        (cow_view (S.features storage.now) faults (S.bytes storage.now) size block entries blocks
+        waiting) 0 offset
         (length buf.old))) }
 {
     storage.read(alloc, buf, offset)
@@ -77,8 +80,10 @@ pub(crate) fn write_stored<S: Storage>(
         (offset + length source.now) }
     ensures lengths { (faults size block : ℕ) (entries : _) (blocks : ℕ) (waiting : _)
         → GrowAt 0 offset (length source.now)
-        (cow_view (S.features storage.old) faults (S.bytes storage.old) size block entries blocks waiting).stores
-        (cow_view (S.features storage.new) faults (S.bytes storage.new) size block entries blocks waiting).stores }
+        (cow_view (S.features storage.old) faults (S.bytes storage.old) size block entries blocks
+        waiting).stores
+        (cow_view (S.features storage.new) faults (S.bytes storage.new) size block entries blocks
+        waiting).stores }
     ensures features { S.features storage.new ≡ S.features storage.old }
     ensures cause { CountsFaults (S.features storage.old).is_reliable (S.fault_count storage.old)
         (S.fault_count storage.new) result }
@@ -88,7 +93,8 @@ pub(crate) fn write_stored<S: Storage>(
         → IfErr result
         (allowed
         (stored_write_reasons
-        (cow_view (S.features storage.old) faults (S.bytes storage.old) size block entries blocks waiting) 0 offset
+        (cow_view (S.features storage.old) faults (S.bytes storage.old) size block entries blocks
+        waiting) 0 offset
         (length source.now))) }
 {
     write_bytes(storage, alloc, source, offset)

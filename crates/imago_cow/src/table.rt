@@ -1,7 +1,10 @@
 //! The table of a copy-on-write disk: what each guest block is, and which data blocks are free.
-ghost use Rattle.std.specs.Prelude.{◌≡◌, ◌≢◌, ℕ, ◌+◌, ◌-◌, ◌^◌, ◌<◌, ◌≤◌, ◌++◌, ◌∷◌, [], length, take, replicate, max, Some, None, IfOk, IfErr, OnOk, OnErr, IsOk, IsSome, MatchOption, slice_get, slice_set};
+ghost use Rattle.std.specs.Prelude.{◌≡◌, ◌≢◌, ℕ, ◌+◌, ◌-◌, ◌^◌, ◌<◌, ◌≤◌, ◌++◌, ◌∷◌, [], length};
+ghost use Rattle.std.specs.Prelude.{take, replicate, max, Some, None, IfOk, IfErr, OnOk, OnErr};
+ghost use Rattle.std.specs.Prelude.{IsOk, IsSome, MatchOption, slice_get, slice_set};
 ghost use Rattle.imago_cow.specs.Free.{free_count, free_room};
-ghost use Rattle.imago_cow.specs.Table.{IsEachOnce, IsLowestUnused, named_count, held_count, names_any, without_data};
+ghost use Rattle.imago_cow.specs.Table.{IsEachOnce, IsLowestUnused, named_count, held_count};
+ghost use Rattle.imago_cow.specs.Table.{names_any, without_data};
 
 use crate::free::FreeBlocks;
 use crate::room::make_room;
@@ -30,15 +33,16 @@ pub enum WithoutData {
 
 /// One entry for each guest block, and the data blocks by their numbers from 0 on.
 ///
-/// Each data block is named by exactly one entry, or held, or free. At most one is held: it was taken, and no entry
-/// names it yet. Taking one costs a logarithm of the number of free ones, and so does each that is given back; neither
-/// walks over the entries. Nothing that gives one back takes memory: the room is made when a new one is added, 16 bytes for
-/// each data block.
+/// Each data block is named by exactly one entry, or held, or free. At most one is held: it was
+/// taken, and no entry names it yet. Taking one costs a logarithm of the number of free ones, and
+/// so does each that is given back; neither walks over the entries. Nothing that gives one back
+/// takes memory: the room is made when a new one is added, 16 bytes for each data block.
 #[derive(Drop)]
 pub struct Table {
     entries: Vec<GuestBlock>,
     free: FreeBlocks,
-    /// For each data block, the guest block that was put in it last: where that is in it still, no walk finds it.
+    /// For each data block, the guest block that was put in it last: where that is in it still, no
+    /// walk finds it.
     last_owners: Vec<usize>,
     count: u64,
     used: u64,
@@ -50,11 +54,14 @@ pub struct Table {
 }
 
 impl Table {
-    ghost use Rattle.imago_cow.specs.TableView.{entries_of, held_of, count_of, room_of, KeepsRoom, IsUnchanged};
+    ghost use Rattle.imago_cow.specs.TableView.{entries_of, held_of, count_of, room_of, KeepsRoom};
+    ghost use Rattle.imago_cow.specs.TableView.{IsUnchanged};
 
-    /// A table of absent guest blocks, without data blocks. [`Error::Memory`] is no room for the entries.
+    /// A table of absent guest blocks, without data blocks. [`Error::Memory`] is no room for the
+    /// entries.
     pub fn new(alloc: Global, guest_blocks: usize) -> Result<Table, Error>
-        ensures entries { IfOk result (λ t. entries_of t ≡ replicate guest_blocks GuestBlock.Absent) }
+        ensures entries { IfOk result
+            (λ t. entries_of t ≡ replicate guest_blocks GuestBlock.Absent) }
         ensures held { IfOk result (λ t. held_of t ≡ None) }
         ensures count { IfOk result (λ t. count_of t ≡ 0) }
         ensures memory { IfErr result (λ e. e ≡ Error.Memory) }
@@ -85,8 +92,8 @@ impl Table {
         self.entries[index]
     }
 
-    /// The guest block that is in that data block. It is found at once; only where no guest block is in it, all entries are
-    /// looked at.
+    /// The guest block that is in that data block. It is found at once; only where no guest block
+    /// is in it, all entries are looked at.
     pub fn owner(&self, number: u64) -> Option<usize>
         ensures { MatchOption result
             ((i : ℕ) → slice_get (entries_of self.now) i ≢ Some (GuestBlock.Data number))
@@ -136,11 +143,14 @@ impl Table {
         self.held
     }
 
-    /// The data block that [`Table::take`] would give: the lowest free one, or else a new one behind all others.
+    /// The data block that [`Table::take`] would give: the lowest free one, or else a new one
+    /// behind all others.
     pub fn next(&self) -> u64
-        ensures lowest { IsLowestUnused (entries_of self.now) (held_of self.now) (count_of self.now) result }
+        ensures lowest { IsLowestUnused (entries_of self.now) (held_of self.now) (count_of self.now)
+            result }
         ensures none_free { result ≡ count_of self.now
-            → count_of self.now ≡ named_count (entries_of self.now) + held_count (held_of self.now) }
+            → count_of self.now ≡ named_count (entries_of self.now)
+            + held_count (held_of self.now) }
     {
         match self.free.lowest() {
             Some(block) => block,
@@ -148,15 +158,16 @@ impl Table {
         }
     }
 
-    /// Takes the lowest free data block, or a new one where none is free, and holds it. [`Error::Memory`] is no room for the
-    /// record of a new one; it leaves all as it was.
+    /// Takes the lowest free data block, or a new one where none is free, and holds it.
+    /// [`Error::Memory`] is no room for the record of a new one; it leaves all as it was.
     pub fn take(&mut self) -> Result<u64, Error>
         requires { held_of self.old ≡ None }
         ensures lowest { IfOk result
             (λ j. IsLowestUnused (entries_of self.old) None (count_of self.old) j) }
         ensures held { IfOk result (λ j. held_of self.new ≡ Some j) }
         ensures count { IfOk result (λ j. count_of self.new ≡ max (count_of self.old) (j + 1)) }
-        ensures added { count_of self.new ≤ max (count_of self.old) (named_count (entries_of self.old) + 1) }
+        ensures added { count_of self.new ≤ max (count_of self.old)
+            (named_count (entries_of self.old) + 1) }
         ensures entries { entries_of self.new ≡ entries_of self.old }
         ensures room { KeepsRoom self.old self.new }
         ensures unchanged { OnErr result (IsUnchanged self.old self.new) }
@@ -197,7 +208,8 @@ impl Table {
     pub fn enter(&mut self, index: usize)
         requires block { IsSome (held_of self.old) }
         requires within { index < length (entries_of self.old) }
-        requires no_data { (j : ℕ) → slice_get (entries_of self.old) index ≢ Some (GuestBlock.Data j) }
+        requires no_data { (j : ℕ) → slice_get (entries_of self.old) index
+            ≢ Some (GuestBlock.Data j) }
         ensures entries { (j : ℕ)
             → held_of self.old ≡ Some j
             → entries_of self.new ≡ slice_set (entries_of self.old) index (GuestBlock.Data j) }
@@ -213,10 +225,12 @@ impl Table {
         }
     }
 
-    /// Makes a guest block an explicit zero, or absent, and its data block free. It takes no memory.
+    /// Makes a guest block an explicit zero, or absent, and its data block free. It takes no
+    /// memory.
     pub fn clear(&mut self, index: usize, kind: WithoutData)
         requires { index < length (entries_of self.old) }
-        ensures entries { entries_of self.new ≡ slice_set (entries_of self.old) index (without_data kind) }
+        ensures entries { entries_of self.new ≡ slice_set (entries_of self.old) index
+            (without_data kind) }
         ensures held { held_of self.new ≡ held_of self.old }
         ensures count { count_of self.new ≡ count_of self.old }
         ensures room { KeepsRoom self.old self.new }
@@ -236,17 +250,19 @@ impl Table {
         ensures count { count_of self.new ≡ count_of self.old }
         ensures keeps { KeepsRoom self.old self.new }
         ensures room { OnOk result (length (entries_of self.old) + additional ≤ room_of self.new) }
-        ensures succeeds { length (entries_of self.old) + additional ≤ room_of self.old → IsOk result }
+        ensures succeeds { length (entries_of self.old) + additional ≤ room_of self.old
+            → IsOk result }
         ensures memory { IfErr result (λ e. e ≡ Error.Memory) }
     {
         make_room(&mut self.entries, additional)
     }
 
-    /// Adds so many explicit zeroes, or absent guest blocks. [`Error::Memory`] is no room for their entries; it leaves all
-    /// as it was.
+    /// Adds so many explicit zeroes, or absent guest blocks. [`Error::Memory`] is no room for their
+    /// entries; it leaves all as it was.
     pub fn grow(&mut self, additional: usize, kind: WithoutData) -> Result<(), Error>
         ensures entries { OnOk result
-            (entries_of self.new ≡ entries_of self.old ++ replicate additional (without_data kind)) }
+            (entries_of self.new ≡ entries_of self.old ++ replicate additional
+            (without_data kind)) }
         ensures unchanged { OnErr result (entries_of self.new ≡ entries_of self.old) }
         ensures held { held_of self.new ≡ held_of self.old }
         ensures count { count_of self.new ≡ count_of self.old }
@@ -261,7 +277,8 @@ impl Table {
         Ok(())
     }
 
-    /// Adds a guest block in the held data block, into room that [`Table::reserve`] made. It takes no memory.
+    /// Adds a guest block in the held data block, into room that [`Table::reserve`] made. It takes
+    /// no memory.
     pub fn push_held(&mut self)
         requires block { IsSome (held_of self.old) }
         requires reserved { length (entries_of self.old) < room_of self.old }
@@ -280,7 +297,8 @@ impl Table {
         }
     }
 
-    /// Drops the guest blocks from that one on, and makes their data blocks free. It takes no memory.
+    /// Drops the guest blocks from that one on, and makes their data blocks free. It takes no
+    /// memory.
     pub fn truncate(&mut self, guest_blocks: usize)
         ensures entries { entries_of self.new ≡ take guest_blocks (entries_of self.old) }
         ensures held { held_of self.new ≡ held_of self.old }
@@ -295,7 +313,8 @@ impl Table {
 
     /// Drops the last guest block, and makes its data block free.
     fn drop_last(&mut self)
-        ensures entries { entries_of self.new ≡ take (length (entries_of self.old) - 1) (entries_of self.old) }
+        ensures entries { entries_of self.new ≡ take (length (entries_of self.old) - 1)
+            (entries_of self.old) }
         ensures held { held_of self.new ≡ held_of self.old }
         ensures count { count_of self.new ≡ count_of self.old }
         ensures room { KeepsRoom self.old self.new }

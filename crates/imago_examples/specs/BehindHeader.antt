@@ -30,6 +30,7 @@ behind_header_view f faults bytes skip size = record {
     keeps_data = f.keeps_data;
     zero_granularity = None;
     offers = λ op. true;
+    block = 1;
   };
   size = size;
   place = behind_place skip size bytes;

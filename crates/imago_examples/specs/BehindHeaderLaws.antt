@@ -55,6 +55,7 @@ behind_header_lawful f faults bytes skip size = record {
   refused = λ p r e. absurd (only skip size bytes p _ _ e (λ x. let z : ⊥ = cc in z)
       (λ x. let z : ⊥ = cc in z));
   granularity = λ e. let z : ⊥ = cc in z;
+  blocks = λ e. let z : ⊥ = cc in z;
 }
 
 only_read : (op : Operation) (o n : ℕ) (e : Error) (P : Operation → Error → Type 0)

@@ -1,4 +1,5 @@
-//! Tests: builders and gates, VMDK images, copy-on-write disks. What tests share stands in `imago_test_storages`,
+//! Tests: builders and gates, VMDK images, copy-on-write disks. What tests share stands in
+//! `imago_test_storages`,
 //! `imago_test_drivers` and `imago_test_tables`; nothing else is here.
 #![tactic(auto)]
 

@@ -15,14 +15,17 @@ by_kind of_mem of_null (Mem storage) = of_mem storage
 by_kind of_mem of_null (Null storage) = of_null storage
 
 -- a relation between script's storages: that of their kind, where they are of one
-abbrev pub related : (MemStorage → MemStorage → Result (Unit {0}) Error → Type 0) → (NullStorage → NullStorage → Result (Unit {0}) Error → Type 0) → ScriptStorage → ScriptStorage → Result (Unit {0}) Error → Type 0
+abbrev pub related : (MemStorage → MemStorage → Result (Unit {0}) Error → Type 0)
+    → (NullStorage → NullStorage → Result (Unit {0}) Error → Type 0) → ScriptStorage → ScriptStorage
+    → Result (Unit {0}) Error → Type 0
 related of_mem of_null (Mem old) (Mem new) r = of_mem old new r
 related of_mem of_null (Null old) (Null new) r = of_null old new r
 related of_mem of_null (Mem old) (Null new) r = ⊥
 related of_mem of_null (Null old) (Mem new) r = ⊥
 
 -- the calls that no byte shows are those of the storage inside
-abbrev pub maintenance_by_kind : Maintenance MemStorage → Maintenance NullStorage → Maintenance ScriptStorage
+abbrev pub maintenance_by_kind : Maintenance MemStorage → Maintenance NullStorage
+    → Maintenance ScriptStorage
 maintenance_by_kind m n = record {
   flushed = related m.flushed n.flushed;
   synced = related m.synced n.synced;
@@ -31,7 +34,8 @@ maintenance_by_kind m n = record {
   discarded = λ at count. related (m.discarded at count) (n.discarded at count);
   resized = λ new_size mode. related (m.resized new_size mode) (n.resized new_size mode);
   counted = λ at buffer. related (m.counted at buffer) (n.counted at buffer);
-  zeroed_in_place = λ kind at count. related (m.zeroed_in_place kind at count) (n.zeroed_in_place kind at count);
+  zeroed_in_place = λ kind at count. related (m.zeroed_in_place kind at count)
+      (n.zeroed_in_place kind at count);
   zeroed = λ kind at count. related (m.zeroed kind at count) (n.zeroed kind at count);
 }
 

@@ -74,7 +74,8 @@ pub enum Command<'a> {
 
 /// The command that a line is.
 ///
-/// The bytes of a command that has some are what is left of its line, so that they are looked at only to read them.
+/// The bytes of a command that has some are what is left of its line, so that they are looked at
+/// only to read them.
 pub fn command_of(alloc: Global, line: &[u8]) -> Result<Command<'_>, Fault> {
     let (first, rest) = cut_at(b' ', line);
     let (second, digits) = cut_at(b' ', rest);

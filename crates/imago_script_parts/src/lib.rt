@@ -1,7 +1,8 @@
-//! All of the program `imago-script` but its `main`: scripts of commands on disk images, and what they print.
+//! All of the program `imago-script` but its `main`: scripts of commands on disk images, and what
+//! they print.
 //!
-//! [`ScriptStorage`](script_storage::ScriptStorage) is one of the storages that a script makes. It keeps the laws of its
-//! interface.
+//! [`ScriptStorage`](script_storage::ScriptStorage) is one of the storages that a script makes. It
+//! keeps the laws of its interface.
 #![tactic(auto)]
 
 mod answer;

@@ -8,11 +8,12 @@ use crate::words::{Fault, cut_at};
 use std::alloc::Global;
 use std::io::{BufWriter, Read, Write};
 
-/// Reads a script whole, does its commands in order, prints a line for each, and gives the exit status.
+/// Reads a script whole, does its commands in order, prints a line for each, and gives the exit
+/// status.
 ///
-/// It is 0 where each line was done, also where a command was refused; 2 where a line is malformed, which is told as the
-/// last line; and 1 where the input can't be read, the output can't be written, or there is no memory for the script
-/// itself.
+/// It is 0 where each line was done, also where a command was refused; 2 where a line is malformed,
+/// which is told as the last line; and 1 where the input can't be read, the output can't be
+/// written, or there is no memory for the script itself.
 pub fn script<R: Read, W: Write>(alloc: Global, input: &mut R, output: &mut W) -> u8
     ensures { result ≤ 2 }
 {

@@ -1,6 +1,7 @@
 //! The storages of a script.
 ghost use Rattle.imago.specs.Openings.{no_openings};
-ghost use Rattle.imago_script_parts.specs.ScriptStorage.{by_kind, kinds_lawful, maintenance_by_kind};
+ghost use Rattle.imago_script_parts.specs.ScriptStorage.{by_kind, kinds_lawful};
+ghost use Rattle.imago_script_parts.specs.ScriptStorage.{maintenance_by_kind};
 
 use imago::error::Error;
 use imago::mem::MemStorage;

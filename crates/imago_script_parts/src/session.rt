@@ -24,13 +24,15 @@ use std::alloc::Global;
 /// An open image.
 pub type Image = FormatAccess<AnyDriver<ScriptStorage>>;
 
-/// The storages that a script has added and not opened, and its open image, in which no prepared mapping waits.
+/// The storages that a script has added and not opened, and its open image, in which no prepared
+/// mapping waits.
 #[derive(Drop)]
 pub struct Session {
     alloc: Global,
     storages: NamedGate<ScriptStorage>,
     image: Option<Image>,
-    ghost spent: { ForSome image (λ i. (⟦<AnyDriver<ScriptStorage> as FormatDriverInstance>⟧.view (driver i)).pending ≡ None) },
+    ghost spent: { ForSome image
+        (λ i. (⟦<AnyDriver<ScriptStorage> as FormatDriverInstance>⟧.view (driver i)).pending ≡ None) },
 }
 
 impl Session {
@@ -125,7 +127,8 @@ impl Session {
         self.laid(AnyDriver::Cow(top))
     }
 
-    /// Has the image of that driver above the open one. Where there is no memory for that, the open image stays.
+    /// Has the image of that driver above the open one. Where there is no memory for that, the open
+    /// image stays.
     fn laid(&mut self, top: AnyDriver<ScriptStorage>) -> Result<Answer<'_>, Error>
         requires { (⟦<AnyDriver<ScriptStorage> as FormatDriverInstance>⟧.view top).pending ≡ None }
     {

@@ -27,7 +27,8 @@ pub enum Fault {
     Memory,
 }
 
-/// What stands before the first byte of that value, and what behind it: all and nothing, where there is none.
+/// What stands before the first byte of that value, and what behind it: all and nothing, where
+/// there is none.
 pub fn cut_at(separator: u8, text: &[u8]) -> (&[u8], &[u8])
     ensures cut { IsCut separator text.now result.0.now result.1.now }
     ensures shorter { 0 < length text.now → length result.1.now < length text.now }
@@ -47,8 +48,8 @@ pub fn word(bytes: &[u8]) -> Option<&str> {
     }
 }
 
-/// The words of a line, each two parted by one space, in front of empty texts, and how many they are. `None` where the
-/// line isn't made of words, or has more than any command.
+/// The words of a line, each two parted by one space, in front of empty texts, and how many they
+/// are. `None` where the line isn't made of words, or has more than any command.
 pub fn words_of(line: &[u8]) -> Option<([&str; MOST_WORDS], usize)> {
     let mut words = [""; MOST_WORDS];
     let mut count = 0;
@@ -68,7 +69,8 @@ fn is_word(bytes: &[u8]) -> bool
 
 /// The number that a word spells: decimal digits alone, with no sign, within `u64`.
 pub fn number(word: &str) -> Option<u64>
-    ensures { SomeIff result (IsNumeral 10 word.now × (digits_value 10 word.now < 2 ^ 64)) (digits_value 10 word.now) }
+    ensures { SomeIff result (IsNumeral 10 word.now × (digits_value 10 word.now < 2 ^ 64))
+        (digits_value 10 word.now) }
 {
     if word.starts_with('+') {
         return None;
@@ -140,7 +142,8 @@ pub fn byte(word: &str) -> Option<u8> {
 /// The word for no bytes.
 pub const NO_BYTES: &str = "-";
 
-/// The bytes that digits spell in hex: two for each, in either case, or `-` for none. Each digit is looked at once.
+/// The bytes that digits spell in hex: two for each, in either case, or `-` for none. Each digit is
+/// looked at once.
 pub fn bytes(alloc: Global, digits: &[u8]) -> Result<Vec<u8>, Fault>
     ensures spelt { IfOk result (λ v. Spells digits.now v.items) }
 {

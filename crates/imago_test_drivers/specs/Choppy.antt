@@ -1,7 +1,8 @@
 use Rattle.std.specs.Prelude.{ℕ, ◌+◌, ◌≤◌, max, Bool, true, false, List, Option, Some, None}
 use Rattle.imago_storage.specs.Features.{Features}
 use Rattle.imago_drivers.specs.declared.raw.Raw.{Raw}
-use Rattle.imago_drivers.specs.Operation.{Operation, Map, Read, Write, Zero, DiscardToZero, DiscardToAny, DiscardToBacking, Grow, Shrink, Flush}
+use Rattle.imago_drivers.specs.Operation.{Operation, Map, Read, Write, Zero, DiscardToZero}
+use Rattle.imago_drivers.specs.Operation.{DiscardToAny, DiscardToBacking, Grow, Shrink, Flush}
 use Rattle.imago_drivers.specs.Raw.{raw_view}
 use Rattle.imago_drivers.specs.RawImage.{storage_in, size_of, writability_of}
 use Rattle.imago_drivers.specs.CallRelations.{OnRange}
@@ -12,7 +13,8 @@ abbrev pub told : Bool → ℕ → Option ℕ
 told true cut = Some (max cut 1)
 told false cut = None
 
--- what takes no memory of a driver takes none of one in blocks, but for writes, zero calls and discards, of which nothing is said
+-- what takes no memory of a driver takes none of one in blocks, but for writes, zero calls and
+-- discards, of which nothing is said
 abbrev pub chopped_no_memory : (Operation → ℕ → ℕ → Type 0) → Operation → ℕ → ℕ → Type 0
 chopped_no_memory free Map o n = free Map o n
 chopped_no_memory free Read o n = free Read o n
@@ -38,12 +40,17 @@ chopped granularity v = record v {
 
 -- a discard of a part of the range
 abbrev pub of_part : {Self : Type 0} → OnRange Self → OnRange Self
-of_part discard o n old new result = (q : ℕ) × (m : ℕ) × (o ≤ q) × (q + m ≤ o + n) × discard q m old new result
+of_part discard o n old new result = (q : ℕ) × (m : ℕ) × (o ≤ q) × (q + m ≤ o + n)
+    × discard q m old new result
 
 -- a raw image over storages that show these features, counts of faults and bytes
-abbrev pub raw_over : {S : Type 0} {g : _} {h : _} → (S → Features) → (S → ℕ) → (S → List ℕ) → Raw S g h → View Unit
-raw_over features fault_count bytes r = raw_view (features (storage_in r)) (fault_count (storage_in r)) (bytes (storage_in r)) (size_of r) (writability_of r)
+abbrev pub raw_over : {S : Type 0} {g : _} {h : _} → (S → Features) → (S → ℕ) → (S → List ℕ)
+    → Raw S g h → View Unit
+raw_over features fault_count bytes r = raw_view (features (storage_in r))
+    (fault_count (storage_in r)) (bytes (storage_in r)) (size_of r) (writability_of r)
 
 -- the same in blocks
-abbrev pub choppy_view : {S : Type 0} {g : _} {h : _} → (S → Features) → (S → ℕ) → (S → List ℕ) → Option ℕ → Raw S g h → View Unit
-choppy_view features fault_count bytes granularity r = chopped granularity (raw_over features fault_count bytes r)
+abbrev pub choppy_view : {S : Type 0} {g : _} {h : _} → (S → Features) → (S → ℕ) → (S → List ℕ)
+    → Option ℕ → Raw S g h → View Unit
+choppy_view features fault_count bytes granularity r = chopped granularity
+    (raw_over features fault_count bytes r)

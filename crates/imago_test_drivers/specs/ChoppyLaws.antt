@@ -15,7 +15,8 @@ never_zero : (granular : Bool) (cut : ℕ) → told granular cut ≢ Some 0
 never_zero true cut e = let x : max cut 1 ≡ 0 = cc in omega (arith, x)
 never_zero false cut e = let z : ⊥ = cc in z
 
-bound : {St : Type 0} (granularity : Option ℕ) (v : View St) (op : Operation) (o n : ℕ) (e : Error) → CauseBound v op o n e → CauseBound (chopped granularity v) op o n e
+bound : {St : Type 0} (granularity : Option ℕ) (v : View St) (op : Operation) (o n : ℕ) (e : Error)
+    → CauseBound v op o n e → CauseBound (chopped granularity v) op o n e
 bound granularity v op o n E.WrapAround c = c
 bound granularity v op o n E.Unsupported c = c
 bound granularity v op o n E.InvalidData c = c
@@ -52,9 +53,14 @@ module _ {St : Type 0} (granularity : Option ℕ) (v : View St) where
     lends = x.lends;
   }
 
-module _ {S : Type 0} {g : _} {h : _} (features : S → Features) (fault_count : S → ℕ) (bytes : S → List ℕ) (granular : Bool) (cut : ℕ) (r : Raw S g h) where
+module _ {S : Type 0} {g : _} {h : _} (features : S → Features) (fault_count : S → ℕ)
+    (bytes : S → List ℕ) (granular : Bool) (cut : ℕ) (r : Raw S g h) where
   pub choppy_lawful : IsLawful (choppy_view features fault_count bytes (told granular cut) r)
-  choppy_lawful = chopped_lawful _ _ (never_zero granular cut) (raw_lawful (features (storage_in r)) (fault_count (storage_in r)) (bytes (storage_in r)) (size_of r) (writability_of r))
+  choppy_lawful = chopped_lawful _ _ (never_zero granular cut)
+      (raw_lawful (features (storage_in r)) (fault_count (storage_in r)) (bytes (storage_in r))
+      (size_of r) (writability_of r))
 
   pub choppy_causes : AreCauses (choppy_view features fault_count bytes (told granular cut) r)
-  choppy_causes = chopped_causes _ _ (raw_causes (features (storage_in r)) (fault_count (storage_in r)) (bytes (storage_in r)) (size_of r) (writability_of r))
+  choppy_causes = chopped_causes _ _
+      (raw_causes (features (storage_in r)) (fault_count (storage_in r)) (bytes (storage_in r))
+      (size_of r) (writability_of r))

@@ -1,9 +1,11 @@
-use Rattle.std.specs.Prelude.{◌≡◌, ℕ, ◌+◌, ◌<◌, ◌≤◌, Bool, true, false, List, slice_index, max, if◌then◌else◌, nat_lt, Option, Some, None}
+use Rattle.std.specs.Prelude.{◌≡◌, ℕ, ◌+◌, ◌<◌, ◌≤◌, Bool, true, false, List, slice_index, max}
+use Rattle.std.specs.Prelude.{if◌then◌else◌, nat_lt, Option, Some, None}
 use Rattle.imago_storage.specs.declared.error.Error.TheVariants as E
 use Rattle.imago_storage.specs.Features.{Features}
 use Rattle.imago_drivers.specs.declared.format.Format.TheVariants as Format
 use Rattle.imago_test_drivers.specs.declared.copy_once.Waiting.{Waiting}
-use Rattle.imago_drivers.specs.Operation.{Operation, Map, Read, Write, Zero, DiscardToZero, DiscardToAny, DiscardToBacking, Grow, Shrink, Flush}
+use Rattle.imago_drivers.specs.Operation.{Operation, Map, Read, Write, Zero, DiscardToZero}
+use Rattle.imago_drivers.specs.Operation.{DiscardToAny, DiscardToBacking, Grow, Shrink, Flush}
 use Rattle.imago_drivers.specs.Place.{Place, Lower, End}
 use Rattle.imago_drivers.specs.Causes.{Causes}
 use Rattle.imago_drivers.specs.Pending.{Pending}
@@ -60,7 +62,8 @@ copy_longest f size (Grow mode) = 0
 copy_longest f size Shrink = 0
 copy_longest f size Flush = 0
 
--- a write that waits: its start, its length and its ticket; the bytes of the copy are what it will show
+-- a write that waits: its start, its length and its ticket; the bytes of the copy are what it will
+-- show
 abbrev pub copy_pending : ℕ → List ℕ → Option Waiting → Option (Pending ℕ)
 copy_pending size bytes None = None
 copy_pending size bytes (Some w) = Some (record {

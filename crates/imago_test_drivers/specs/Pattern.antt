@@ -1,4 +1,5 @@
-use Rattle.std.specs.Prelude.{◌≡◌, ℕ, ◌+◌, ◌<◌, ◌≤◌, Bool, true, false, [], if◌then◌else◌, nat_lt, None}
+use Rattle.std.specs.Prelude.{◌≡◌, ℕ, ◌+◌, ◌<◌, ◌≤◌, Bool, true, false, [], if◌then◌else◌, nat_lt}
+use Rattle.std.specs.Prelude.{None}
 use Rattle.imago_storage.specs.declared.error.Error.TheVariants as E
 use Rattle.imago_storage.specs.Mem.{null_features}
 use Rattle.imago_drivers.specs.declared.format.Format.TheVariants as Format
@@ -48,7 +49,8 @@ pattern_offers kind _ = true
 
 -- a special byte in the range that can't be read
 abbrev pub pattern_cause : Kind → ℕ → Causes
-pattern_cause kind size Read o n E.Unsupported = (is_readable kind ≡ false) × ((p : ℕ) × IsIn o n p × (p < size))
+pattern_cause kind size Read o n E.Unsupported = (is_readable kind ≡ false)
+    × ((p : ℕ) × IsIn o n p × (p < size))
 pattern_cause kind size _ o n _ = ⊥
 
 abbrev pub pattern_view : Kind → ℕ → View Unit

@@ -16,14 +16,20 @@ use Rattle.imago_test_drivers.specs.declared.pattern.Pattern.{Pattern}
 use Rattle.imago_test_drivers.specs.declared.test_driver.TestDriver.{TestDriver}
 use Rattle.imago_test_drivers.specs.declared.test_driver.TestDriver.TheVariants as T
 
--- the view of the driver that it is, over storages that show these features, counts of faults and bytes
-abbrev pub test_view : {S : Type 0} {g : _} {h : _} → (S → Features) → (S → ℕ) → (S → List ℕ) → TestDriver S g h → View Unit
-test_view features fault_count bytes (T.Raw r) = raw_view (features (storage_in r)) (fault_count (storage_in r)) (bytes (storage_in r)) (raw_size r) (writability_of r)
-test_view features fault_count bytes (T.Choppy c) = choppy_view features fault_count bytes (granularity_of c) (raw_of c)
+-- the view of the driver that it is, over storages that show these features, counts of faults and
+-- bytes
+abbrev pub test_view : {S : Type 0} {g : _} {h : _} → (S → Features) → (S → ℕ) → (S → List ℕ)
+    → TestDriver S g h → View Unit
+test_view features fault_count bytes (T.Raw r) = raw_view (features (storage_in r))
+    (fault_count (storage_in r)) (bytes (storage_in r)) (raw_size r) (writability_of r)
+test_view features fault_count bytes (T.Choppy c) = choppy_view features fault_count bytes
+    (granularity_of c) (raw_of c)
 test_view features fault_count bytes (T.Pattern p) = pattern_view (kind_of p) (size_of p)
 
 -- a call on a driver is one on the driver that it is, which stays that one
-abbrev pub by_driver : {S : Type 0} {g : _} {h : _} {R : Type 0} → (Raw S g h → Raw S g h → R → Type 0) → (Choppy S g h → Choppy S g h → R → Type 0) → (Pattern → Pattern → R → Type 0)
+abbrev pub by_driver : {S : Type 0} {g : _} {h : _} {R : Type 0}
+    → (Raw S g h → Raw S g h → R → Type 0) → (Choppy S g h → Choppy S g h → R → Type 0)
+    → (Pattern → Pattern → R → Type 0)
     → TestDriver S g h → TestDriver S g h → R → Type 0
 by_driver raw choppy pattern (T.Raw a) (T.Raw b) r = raw a b r
 by_driver raw choppy pattern (T.Choppy a) (T.Choppy b) r = choppy a b r
@@ -32,12 +38,18 @@ by_driver raw choppy pattern (T.Raw a) _ r = ⊥
 by_driver raw choppy pattern (T.Choppy a) _ r = ⊥
 by_driver raw choppy pattern (T.Pattern a) _ r = ⊥
 
-pub test_lawful : {S : Type 0} {g : _} {h : _} (features : S → Features) (fault_count : S → ℕ) (bytes : S → List ℕ) (d : TestDriver S g h) → IsLawful (test_view features fault_count bytes d)
-test_lawful features fault_count bytes (T.Raw r) = raw_lawful (features (storage_in r)) (fault_count (storage_in r)) (bytes (storage_in r)) (raw_size r) (writability_of r)
-test_lawful features fault_count bytes (T.Choppy c) = choppy_lawful features fault_count bytes c.is_granular c.cut c.raw
+pub test_lawful : {S : Type 0} {g : _} {h : _} (features : S → Features) (fault_count : S → ℕ)
+    (bytes : S → List ℕ) (d : TestDriver S g h) → IsLawful (test_view features fault_count bytes d)
+test_lawful features fault_count bytes (T.Raw r) = raw_lawful (features (storage_in r))
+    (fault_count (storage_in r)) (bytes (storage_in r)) (raw_size r) (writability_of r)
+test_lawful features fault_count bytes (T.Choppy c) = choppy_lawful features fault_count bytes
+    c.is_granular c.cut c.raw
 test_lawful features fault_count bytes (T.Pattern p) = pattern_lawful (kind_of p) (size_of p)
 
-pub test_causes : {S : Type 0} {g : _} {h : _} (features : S → Features) (fault_count : S → ℕ) (bytes : S → List ℕ) (d : TestDriver S g h) → AreCauses (test_view features fault_count bytes d)
-test_causes features fault_count bytes (T.Raw r) = raw_causes (features (storage_in r)) (fault_count (storage_in r)) (bytes (storage_in r)) (raw_size r) (writability_of r)
-test_causes features fault_count bytes (T.Choppy c) = choppy_causes features fault_count bytes c.is_granular c.cut c.raw
+pub test_causes : {S : Type 0} {g : _} {h : _} (features : S → Features) (fault_count : S → ℕ)
+    (bytes : S → List ℕ) (d : TestDriver S g h) → AreCauses (test_view features fault_count bytes d)
+test_causes features fault_count bytes (T.Raw r) = raw_causes (features (storage_in r))
+    (fault_count (storage_in r)) (bytes (storage_in r)) (raw_size r) (writability_of r)
+test_causes features fault_count bytes (T.Choppy c) = choppy_causes features fault_count bytes
+    c.is_granular c.cut c.raw
 test_causes features fault_count bytes (T.Pattern p) = pattern_causes (kind_of p) (size_of p)

@@ -17,10 +17,12 @@ use imago_storage::storage::Storage;
 use std::alloc::Global;
 use std::fmt::{self, Display, Formatter, Write};
 
-/// A raw image that is mapped, prepared, zeroed and discarded block by block. Blocks begin at multiples of their length.
+/// A raw image that is mapped, prepared, zeroed and discarded block by block. Blocks begin at
+/// multiples of their length.
 ///
-/// A mapping and a prepared mapping hold at most as many bytes as a block. A zero call or discard does the first block
-/// that lies in the range, as far as the raw image does it, and nothing where there is none.
+/// A mapping and a prepared mapping hold at most as many bytes as a block. A zero call or discard
+/// does the first block that lies in the range, as far as the raw image does it, and nothing where
+/// there is none.
 #[derive(Drop)]
 pub struct Choppy<S: Storage> {
     raw: Raw<S>,
@@ -28,8 +30,8 @@ pub struct Choppy<S: Storage> {
     is_granular: bool,
 }
 
-/// The first block of a range, by its offset and length, or an empty part where there is none. `ends` says that a block
-/// which the range's end cuts short is one too.
+/// The first block of a range, by its offset and length, or an empty part where there is none.
+/// `ends` says that a block which the range's end cuts short is one too.
 fn first_block(cut: u64, offset: u64, count: u64, ends: bool) -> (u64, u64)
     requires some { 0 < cut }
     requires fits { offset + count < 2 ^ 64 }
@@ -47,7 +49,8 @@ fn first_block(cut: u64, offset: u64, count: u64, ends: bool) -> (u64, u64)
 }
 
 impl<S: Storage> Choppy<S> {
-    /// A raw image in blocks of that many bytes, of 1 for 0. A block that the disk's end cuts short is none.
+    /// A raw image in blocks of that many bytes, of 1 for 0. A block that the disk's end cuts short
+    /// is none.
     pub fn new(raw: Raw<S>, cut: u64) -> Self
         ensures raw { raw_of result ≡ «raw» }
         ensures granularity { granularity_of result ≡ None }
@@ -59,8 +62,8 @@ impl<S: Storage> Choppy<S> {
         }
     }
 
-    /// A raw image in blocks of that many bytes, of 1 for 0, which it tells as its granularity. A block that the disk's end
-    /// cuts short is one too.
+    /// A raw image in blocks of that many bytes, of 1 for 0, which it tells as its granularity. A
+    /// block that the disk's end cuts short is one too.
     pub fn granular(raw: Raw<S>, granularity: u64) -> Self
         ensures raw { raw_of result ≡ «raw» }
         ensures granularity { granularity_of result ≡ Some (max granularity 1) }
@@ -72,7 +75,8 @@ impl<S: Storage> Choppy<S> {
         }
     }
 
-    /// The first block of a range of the disk, by its offset and length, or an empty part where there is none.
+    /// The first block of a range of the disk, by its offset and length, or an empty part where
+    /// there is none.
     fn first_block(&self, offset: u64, count: u64) -> (u64, u64)
         requires { offset + count ≤ size_of self.now.raw }
         ensures { (offset ≤ result.0) × (result.0 + result.1 ≤ offset + count) }
@@ -94,7 +98,8 @@ impl<S: Storage> FormatDriverInstance for Choppy<S> {
 
     type State = ();
 
-    ghost view = { λ d. choppy_view S.features S.fault_count S.bytes (told d.is_granular d.cut) d.raw };
+    ghost view = { λ d. choppy_view S.features S.fault_count S.bytes (told d.is_granular d.cut)
+        d.raw };
 
     ghost recognizes = { ⟦<Raw<S> as FormatDriverInstance>⟧.recognizes };
 
@@ -102,23 +107,36 @@ impl<S: Storage> FormatDriverInstance for Choppy<S> {
 
     ghost calls = { record any_calls {
       read_special = λ o n d r. ⟦<Raw<S> as FormatDriverInstance>⟧.calls.read_special o n d.raw r;
-      put = λ index bytes o a b r. ⟦<Raw<S> as FormatDriverInstance>⟧.calls.put index bytes o a.raw b.raw r × (b.cut ≡ a.cut) × (b.is_granular ≡ a.is_granular);
-      filled = λ m bytes at a b r. ⟦<Raw<S> as FormatDriverInstance>⟧.calls.filled m bytes at a.raw b.raw r × (b.cut ≡ a.cut) × (b.is_granular ≡ a.is_granular);
-      committed = λ m a b r. ⟦<Raw<S> as FormatDriverInstance>⟧.calls.committed m a.raw b.raw r × (b.cut ≡ a.cut) × (b.is_granular ≡ a.is_granular);
+      put = λ index bytes o a b r. ⟦<Raw<S> as FormatDriverInstance>⟧.calls.put index bytes o a.raw
+          b.raw r × (b.cut ≡ a.cut) × (b.is_granular ≡ a.is_granular);
+      filled = λ m bytes at a b r. ⟦<Raw<S> as FormatDriverInstance>⟧.calls.filled m bytes at a.raw
+          b.raw r × (b.cut ≡ a.cut) × (b.is_granular ≡ a.is_granular);
+      committed = λ m a b r. ⟦<Raw<S> as FormatDriverInstance>⟧.calls.committed m a.raw b.raw r
+          × (b.cut ≡ a.cut) × (b.is_granular ≡ a.is_granular);
       by_parts = λ below o n overwrite a b r h. tt;
-      cancelled = λ m a b. ⟦<Raw<S> as FormatDriverInstance>⟧.calls.cancelled m a.raw b.raw × (b.cut ≡ a.cut) × (b.is_granular ≡ a.is_granular);
-      grown = λ n mode below a b r. ⟦<Raw<S> as FormatDriverInstance>⟧.calls.grown n mode below a.raw b.raw r × (b.cut ≡ a.cut) × (b.is_granular ≡ a.is_granular);
-      cut = λ n a b r. ⟦<Raw<S> as FormatDriverInstance>⟧.calls.cut n a.raw b.raw r × (b.cut ≡ a.cut) × (b.is_granular ≡ a.is_granular);
-      flushed = λ a b r. ⟦<Raw<S> as FormatDriverInstance>⟧.calls.flushed a.raw b.raw r × (b.cut ≡ a.cut) × (b.is_granular ≡ a.is_granular);
-      synced = λ a b r. ⟦<Raw<S> as FormatDriverInstance>⟧.calls.synced a.raw b.raw r × (b.cut ≡ a.cut) × (b.is_granular ≡ a.is_granular);
-      invalidated = λ a b r. ⟦<Raw<S> as FormatDriverInstance>⟧.calls.invalidated a.raw b.raw r × (b.cut ≡ a.cut) × (b.is_granular ≡ a.is_granular);
-      discarded_to_any = λ o n a b r. of_part ⟦<Raw<S> as FormatDriverInstance>⟧.calls.discarded_to_any o n a.raw b.raw r × (b.cut ≡ a.cut) × (b.is_granular ≡ a.is_granular);
-      discarded_to_backing = λ o n a b r. of_part ⟦<Raw<S> as FormatDriverInstance>⟧.calls.discarded_to_backing o n a.raw b.raw r × (b.cut ≡ a.cut) × (b.is_granular ≡ a.is_granular);
+      cancelled = λ m a b. ⟦<Raw<S> as FormatDriverInstance>⟧.calls.cancelled m a.raw b.raw
+          × (b.cut ≡ a.cut) × (b.is_granular ≡ a.is_granular);
+      grown = λ n mode below a b r. ⟦<Raw<S> as FormatDriverInstance>⟧.calls.grown n mode below
+          a.raw b.raw r × (b.cut ≡ a.cut) × (b.is_granular ≡ a.is_granular);
+      cut = λ n a b r. ⟦<Raw<S> as FormatDriverInstance>⟧.calls.cut n a.raw b.raw r
+          × (b.cut ≡ a.cut) × (b.is_granular ≡ a.is_granular);
+      flushed = λ a b r. ⟦<Raw<S> as FormatDriverInstance>⟧.calls.flushed a.raw b.raw r
+          × (b.cut ≡ a.cut) × (b.is_granular ≡ a.is_granular);
+      synced = λ a b r. ⟦<Raw<S> as FormatDriverInstance>⟧.calls.synced a.raw b.raw r
+          × (b.cut ≡ a.cut) × (b.is_granular ≡ a.is_granular);
+      invalidated = λ a b r. ⟦<Raw<S> as FormatDriverInstance>⟧.calls.invalidated a.raw b.raw r
+          × (b.cut ≡ a.cut) × (b.is_granular ≡ a.is_granular);
+      discarded_to_any = λ o n a b r. of_part ⟦<Raw<S> as FormatDriverInstance>⟧.calls.discarded_to_any o n a.raw b.raw r × (b.cut ≡ a.cut)
+          × (b.is_granular ≡ a.is_granular);
+      discarded_to_backing = λ o n a b r. of_part ⟦<Raw<S> as FormatDriverInstance>⟧.calls.discarded_to_backing o n a.raw b.raw r × (b.cut ≡ a.cut)
+          × (b.is_granular ≡ a.is_granular);
     } };
 
-    ghost lawful = { λ d. choppy_lawful S.features S.fault_count S.bytes d.is_granular d.cut d.raw };
+    ghost lawful = { λ d. choppy_lawful S.features S.fault_count S.bytes d.is_granular d.cut
+        d.raw };
 
-    ghost causes_lawful = { λ d. choppy_causes S.features S.fault_count S.bytes d.is_granular d.cut d.raw };
+    ghost causes_lawful = { λ d. choppy_causes S.features S.fault_count S.bytes d.is_granular d.cut
+        d.raw };
 
     fn format(&self) -> Format {
         self.raw.format()
@@ -257,15 +275,19 @@ impl<S: Storage> FormatDriverInstance for Choppy<S> {
     }
 
     fn commit_data_mapping(&mut self, mapping: PreparedDataMapping<()>) -> Result<(), Error>
-        ensures call { IsCommit ⟦<Choppy<S> as FormatDriverInstance>⟧.view self.old self.new mapping result }
-        ensures performed { ⟦<Choppy<S> as FormatDriverInstance>⟧.calls.committed mapping self.old self.new result }
+        ensures call { IsCommit ⟦<Choppy<S> as FormatDriverInstance>⟧.view self.old self.new mapping
+            result }
+        ensures performed { ⟦<Choppy<S> as FormatDriverInstance>⟧.calls.committed mapping self.old
+            self.new result }
     {
         self.raw.commit_data_mapping(mapping)
     }
 
     fn cancel_data_mapping(&mut self, mapping: PreparedDataMapping<()>)
-        ensures call { IsCancel ⟦<Choppy<S> as FormatDriverInstance>⟧.view self.old self.new mapping }
-        ensures performed { ⟦<Choppy<S> as FormatDriverInstance>⟧.calls.cancelled mapping self.old self.new }
+        ensures call { IsCancel ⟦<Choppy<S> as FormatDriverInstance>⟧.view self.old self.new
+            mapping }
+        ensures performed { ⟦<Choppy<S> as FormatDriverInstance>⟧.calls.cancelled mapping self.old
+            self.new }
     {
         self.raw.cancel_data_mapping(mapping);
     }

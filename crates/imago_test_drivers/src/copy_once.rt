@@ -1,5 +1,6 @@
 //! A driver with a real commit: a disk that shows the layer below until a first write is committed.
-ghost use Rattle.std.specs.Prelude.{◌≡◌, ℕ, ◌+◌, ◌^◌, ◌<◌, ◌≤◌, ◌↔◌, length, IsTrue, IfOk, IfErr, IsErrOf, true};
+ghost use Rattle.std.specs.Prelude.{◌≡◌, ℕ, ◌+◌, ◌^◌, ◌<◌, ◌≤◌, ◌↔◌, length, IsTrue, IfOk, IfErr};
+ghost use Rattle.std.specs.Prelude.{IsErrOf, true};
 ghost use Rattle.std.specs.Option.{ForSome};
 ghost use Rattle.imago_drivers.specs.Place.{HasValues};
 ghost use Rattle.imago_drivers.specs.LayerBelow.{lent, below_reasons};
@@ -30,7 +31,8 @@ pub struct Waiting {
     pub(crate) ticket: u64,
 }
 
-/// A disk that shows the layer below until a first write is committed, and a whole copy of it from then on.
+/// A disk that shows the layer below until a first write is committed, and a whole copy of it from
+/// then on.
 #[derive(Drop)]
 pub struct CopyOnce<S: Storage> {
     storage: S,
@@ -109,7 +111,8 @@ impl<S: Storage> FormatDriverInstance for CopyOnce<S> {
 
     type State = u64;
 
-    ghost view = { λ d. copy_view (S.features d.storage) (S.fault_count d.storage + d.faults) (S.bytes d.storage) d.size d.copied d.waiting };
+    ghost view = { λ d. copy_view (S.features d.storage) (S.fault_count d.storage + d.faults)
+        (S.bytes d.storage) d.size d.copied d.waiting };
 
     ghost recognizes = { λ _. true };
 
@@ -121,16 +124,24 @@ impl<S: Storage> FormatDriverInstance for CopyOnce<S> {
       discarded_to_zero = λ o n. IsNotOffered;
       grown = λ n mode below a b r. b ≡ a;
       cut = λ n a b r. b ≡ a;
-      flushed = λ a b r. S.maintenance.flushed a.storage b.storage r × (b.size ≡ a.size) × (b.copied ≡ a.copied) × (b.waiting ≡ a.waiting) × (b.tickets ≡ a.tickets) × (b.faults ≡ a.faults) × (b.overwrites ≡ a.overwrites);
-      synced = λ a b r. S.maintenance.synced a.storage b.storage r × (b.size ≡ a.size) × (b.copied ≡ a.copied) × (b.waiting ≡ a.waiting) × (b.tickets ≡ a.tickets) × (b.faults ≡ a.faults) × (b.overwrites ≡ a.overwrites);
-      invalidated = λ a b r. S.maintenance.invalidated a.storage b.storage r × (b.size ≡ a.size) × (b.copied ≡ a.copied) × (b.waiting ≡ a.waiting) × (b.tickets ≡ a.tickets) × (b.faults ≡ a.faults) × (b.overwrites ≡ a.overwrites);
+      flushed = λ a b r. S.maintenance.flushed a.storage b.storage r × (b.size ≡ a.size)
+          × (b.copied ≡ a.copied) × (b.waiting ≡ a.waiting) × (b.tickets ≡ a.tickets)
+          × (b.faults ≡ a.faults) × (b.overwrites ≡ a.overwrites);
+      synced = λ a b r. S.maintenance.synced a.storage b.storage r × (b.size ≡ a.size)
+          × (b.copied ≡ a.copied) × (b.waiting ≡ a.waiting) × (b.tickets ≡ a.tickets)
+          × (b.faults ≡ a.faults) × (b.overwrites ≡ a.overwrites);
+      invalidated = λ a b r. S.maintenance.invalidated a.storage b.storage r × (b.size ≡ a.size)
+          × (b.copied ≡ a.copied) × (b.waiting ≡ a.waiting) × (b.tickets ≡ a.tickets)
+          × (b.faults ≡ a.faults) × (b.overwrites ≡ a.overwrites);
       discarded_to_any = λ o n. IsNotOffered;
       discarded_to_backing = λ o n. IsNotOffered;
     } };
 
-    ghost lawful = { λ d. copy_lawful (S.features d.storage) (S.fault_count d.storage + d.faults) (S.bytes d.storage) d.size d.copied d.waiting };
+    ghost lawful = { λ d. copy_lawful (S.features d.storage) (S.fault_count d.storage + d.faults)
+        (S.bytes d.storage) d.size d.copied d.waiting };
 
-    ghost causes_lawful = { λ d. copy_causes (S.features d.storage) (S.fault_count d.storage + d.faults) (S.bytes d.storage) d.size d.copied d.waiting };
+    ghost causes_lawful = { λ d. copy_causes (S.features d.storage)
+        (S.fault_count d.storage + d.faults) (S.bytes d.storage) d.size d.copied d.waiting };
 
     fn format(&self) -> Format {
         Format::Raw
@@ -329,8 +340,10 @@ impl<S: Storage> FormatDriverInstance for CopyOnce<S> {
     }
 
     fn commit_data_mapping(&mut self, mapping: PreparedDataMapping<u64>) -> Result<(), Error>
-        ensures call { IsCommit ⟦<CopyOnce<S> as FormatDriverInstance>⟧.view self.old self.new mapping result }
-        ensures performed { ⟦<CopyOnce<S> as FormatDriverInstance>⟧.calls.committed mapping self.old self.new result }
+        ensures call { IsCommit ⟦<CopyOnce<S> as FormatDriverInstance>⟧.view self.old self.new
+            mapping result }
+        ensures performed { ⟦<CopyOnce<S> as FormatDriverInstance>⟧.calls.committed mapping self.old
+            self.new result }
     {
         let own = self.is_waiting(&mapping);
         let Some(_) = mapping.into_state() else {
@@ -345,8 +358,10 @@ impl<S: Storage> FormatDriverInstance for CopyOnce<S> {
     }
 
     fn cancel_data_mapping(&mut self, mapping: PreparedDataMapping<u64>)
-        ensures call { IsCancel ⟦<CopyOnce<S> as FormatDriverInstance>⟧.view self.old self.new mapping }
-        ensures performed { ⟦<CopyOnce<S> as FormatDriverInstance>⟧.calls.cancelled mapping self.old self.new }
+        ensures call { IsCancel ⟦<CopyOnce<S> as FormatDriverInstance>⟧.view self.old self.new
+            mapping }
+        ensures performed { ⟦<CopyOnce<S> as FormatDriverInstance>⟧.calls.cancelled mapping self.old
+            self.new }
     {
         let own = self.is_waiting(&mapping);
         let _ = mapping.into_state();

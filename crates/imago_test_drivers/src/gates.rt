@@ -38,8 +38,8 @@ impl Asked {
     }
 }
 
-/// A gate that keeps the options of each opening, and then passes it on. Where there is no memory to keep them, the opening
-/// is [`Error::Memory`], and neither kept nor passed on.
+/// A gate that keeps the options of each opening, and then passes it on. Where there is no memory
+/// to keep them, the opening is [`Error::Memory`], and neither kept nor passed on.
 #[derive(Drop)]
 pub struct RecordingGate<G> {
     inner: G,

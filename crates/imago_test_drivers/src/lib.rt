@@ -1,7 +1,8 @@
-//! Drivers for tests: patterns of places that no storage holds, a raw image in blocks, a copy on the first write, and an enum of
-//! drivers; and gates.
+//! Drivers for tests: patterns of places that no storage holds, a raw image in blocks, a copy on
+//! the first write, and an enum of drivers; and gates.
 //!
-//! They keep the laws of the driver interface by proof, so that a test of what stands above them tests that alone.
+//! They keep the laws of the driver interface by proof, so that a test of what stands above them
+//! tests that alone.
 #![tactic(auto)]
 
 pub mod choppy;

@@ -1,4 +1,5 @@
-//! A read-only disk of one kind of place: explicit zeroes, special bytes, or all that the layer below has.
+//! A read-only disk of one kind of place: explicit zeroes, special bytes, or all that the layer
+//! below has.
 ghost use Rattle.std.specs.Prelude.{◌≡◌, false, IsErrOf, Err};
 ghost use Rattle.imago_storage.specs.declared.error.Error.TheVariants.{ForeignMapping};
 ghost use Rattle.imago_storage.specs.Maintenance.{IsNothing};
@@ -37,8 +38,8 @@ pub enum Kind {
     },
 }
 
-/// A read-only disk of one kind of place. The calls that ask for a writable driver, or for one of its storages, can't be
-/// made on it; they refuse all the same, and change nothing.
+/// A read-only disk of one kind of place. The calls that ask for a writable driver, or for one of
+/// its storages, can't be made on it; they refuse all the same, and change nothing.
 #[derive(Drop)]
 pub struct Pattern {
     kind: Kind,
@@ -274,8 +275,10 @@ impl FormatDriverInstance for Pattern {
     }
 
     fn commit_data_mapping(&mut self, mapping: PreparedDataMapping<()>) -> Result<(), Error>
-        ensures call { IsCommit ⟦<Pattern as FormatDriverInstance>⟧.view self.old self.new mapping result }
-        ensures performed { ⟦<Pattern as FormatDriverInstance>⟧.calls.committed mapping self.old self.new result }
+        ensures call { IsCommit ⟦<Pattern as FormatDriverInstance>⟧.view self.old self.new mapping
+            result }
+        ensures performed { ⟦<Pattern as FormatDriverInstance>⟧.calls.committed mapping self.old
+            self.new result }
     {
         match mapping.into_state() {
             None => Ok(()),
@@ -285,7 +288,8 @@ impl FormatDriverInstance for Pattern {
 
     fn cancel_data_mapping(&mut self, mapping: PreparedDataMapping<()>)
         ensures call { IsCancel ⟦<Pattern as FormatDriverInstance>⟧.view self.old self.new mapping }
-        ensures performed { ⟦<Pattern as FormatDriverInstance>⟧.calls.cancelled mapping self.old self.new }
+        ensures performed { ⟦<Pattern as FormatDriverInstance>⟧.calls.cancelled mapping self.old
+            self.new }
     {
         let _ = mapping.into_state();
     }

@@ -1,7 +1,8 @@
 //! One of several drivers, so that an image's layers can have different ones.
 ghost use Rattle.imago_drivers.specs.CallRelations.{any_calls};
 ghost use Rattle.imago_drivers.specs.Commit.{IsCommit, IsCancel};
-ghost use Rattle.imago_test_drivers.specs.TestDriver.{test_view, test_lawful, test_causes, by_driver};
+ghost use Rattle.imago_test_drivers.specs.TestDriver.{test_view, test_lawful, test_causes};
+ghost use Rattle.imago_test_drivers.specs.TestDriver.{by_driver};
 
 use crate::choppy::Choppy;
 use crate::pattern::Pattern;
@@ -58,8 +59,14 @@ impl<S: Storage> FormatDriverInstance for TestDriver<S> {
       flushed = by_driver ⟦<Raw<S> as FormatDriverInstance>⟧.calls.flushed ⟦<Choppy<S> as FormatDriverInstance>⟧.calls.flushed ⟦<Pattern as FormatDriverInstance>⟧.calls.flushed;
       synced = by_driver ⟦<Raw<S> as FormatDriverInstance>⟧.calls.synced ⟦<Choppy<S> as FormatDriverInstance>⟧.calls.synced ⟦<Pattern as FormatDriverInstance>⟧.calls.synced;
       invalidated = by_driver ⟦<Raw<S> as FormatDriverInstance>⟧.calls.invalidated ⟦<Choppy<S> as FormatDriverInstance>⟧.calls.invalidated ⟦<Pattern as FormatDriverInstance>⟧.calls.invalidated;
-      discarded_to_any = λ o n. by_driver (⟦<Raw<S> as FormatDriverInstance>⟧.calls.discarded_to_any o n) (⟦<Choppy<S> as FormatDriverInstance>⟧.calls.discarded_to_any o n) (⟦<Pattern as FormatDriverInstance>⟧.calls.discarded_to_any o n);
-      discarded_to_backing = λ o n. by_driver (⟦<Raw<S> as FormatDriverInstance>⟧.calls.discarded_to_backing o n) (⟦<Choppy<S> as FormatDriverInstance>⟧.calls.discarded_to_backing o n) (⟦<Pattern as FormatDriverInstance>⟧.calls.discarded_to_backing o n);
+      discarded_to_any = λ o n. by_driver
+          (⟦<Raw<S> as FormatDriverInstance>⟧.calls.discarded_to_any o n)
+          (⟦<Choppy<S> as FormatDriverInstance>⟧.calls.discarded_to_any o n)
+          (⟦<Pattern as FormatDriverInstance>⟧.calls.discarded_to_any o n);
+      discarded_to_backing = λ o n. by_driver
+          (⟦<Raw<S> as FormatDriverInstance>⟧.calls.discarded_to_backing o n)
+          (⟦<Choppy<S> as FormatDriverInstance>⟧.calls.discarded_to_backing o n)
+          (⟦<Pattern as FormatDriverInstance>⟧.calls.discarded_to_backing o n);
     } };
 
     ghost lawful = { λ d. test_lawful S.features S.fault_count S.bytes d };
@@ -186,7 +193,8 @@ impl<S: Storage> FormatDriverInstance for TestDriver<S> {
         count: u64,
         overwrite: bool,
     ) -> Result<PreparedDataMapping<()>, Error> {
-        dispatch!(self, driver => driver.prepare_data_mapping(alloc, below, offset, count, overwrite))
+        dispatch!(self, driver => driver.prepare_data_mapping(alloc, below, offset, count,
+            overwrite))
     }
 
     fn write_prepared(
@@ -200,15 +208,19 @@ impl<S: Storage> FormatDriverInstance for TestDriver<S> {
     }
 
     fn commit_data_mapping(&mut self, mapping: PreparedDataMapping<()>) -> Result<(), Error>
-        ensures call { IsCommit ⟦<TestDriver<S> as FormatDriverInstance>⟧.view self.old self.new mapping result }
-        ensures performed { ⟦<TestDriver<S> as FormatDriverInstance>⟧.calls.committed mapping self.old self.new result }
+        ensures call { IsCommit ⟦<TestDriver<S> as FormatDriverInstance>⟧.view self.old self.new
+            mapping result }
+        ensures performed { ⟦<TestDriver<S> as FormatDriverInstance>⟧.calls.committed mapping
+            self.old self.new result }
     {
         dispatch!(self, driver => driver.commit_data_mapping(mapping))
     }
 
     fn cancel_data_mapping(&mut self, mapping: PreparedDataMapping<()>)
-        ensures call { IsCancel ⟦<TestDriver<S> as FormatDriverInstance>⟧.view self.old self.new mapping }
-        ensures performed { ⟦<TestDriver<S> as FormatDriverInstance>⟧.calls.cancelled mapping self.old self.new }
+        ensures call { IsCancel ⟦<TestDriver<S> as FormatDriverInstance>⟧.view self.old self.new
+            mapping }
+        ensures performed { ⟦<TestDriver<S> as FormatDriverInstance>⟧.calls.cancelled mapping
+            self.old self.new }
     {
         dispatch!(self, driver => driver.cancel_data_mapping(mapping))
     }
@@ -221,7 +233,8 @@ impl<S: Storage> FormatDriverInstance for TestDriver<S> {
         count: u64,
         overwrite: bool,
     ) -> Result<(usize, u64, u64), Error> {
-        dispatch!(self, driver => driver.ensure_data_mapping(alloc, below, offset, count, overwrite))
+        dispatch!(self, driver => driver.ensure_data_mapping(alloc, below, offset, count,
+            overwrite))
     }
 
     fn resize_grow<B: LowerLayer>(

@@ -19,7 +19,8 @@ use Rattle.imago_drivers.specs.View.{View}
 use Rattle.imago_drivers.specs.Laws.{AreCauses}
 use Rattle.imago_drivers.specs.Frame.{IsFramed, ReachesNoMore}
 use Rattle.imago_drivers.specs.Prepared.{is_foreign}
-use Rattle.imago_drivers.specs.Commit.{IsCommit, is_committed}
+use Rattle.imago_drivers.specs.Commit.{IsCommit, is_committed, commit_moves}
+use Rattle.imago_drivers.proofs.Stays.{stays_itself}
 use Rattle.imago_test_tables.specs.Pair.{at_index}
 use Rattle.imago_test_tables.specs.Table.{IsFilled}
 use Rattle.imago_test_tables.specs.Sparse.{entry_place, sparse_view, sparse_pending, sparse_cause, sparse_copies, waiting_byte}
@@ -82,6 +83,8 @@ commit_nothing view d m e laws = record {
   framed = record { kind = record { abilities = refl; store_count = refl; store_features = λ i. refl }; size = refl; ends = λ p x. x };
   faults = record { later = omega arith; reliable = λ x. refl; device = λ x. let z : ⊥ = cc in absurd z };
   refusals = tt;
+  outside = stays_itself (view d).abilities.keeps_data (commit_moves (view d).pending m.state)
+      (view d).place;
 }
 
 -- an entry after a filling is what it was or the filled one

@@ -8,6 +8,7 @@ use Rattle.imago_test_tables.specs.declared.table.Origin.{Origin}
 use Rattle.imago_drivers.specs.Operation.{Operation, Map, Read, Write, Zero, DiscardToZero, DiscardToAny, DiscardToBacking, Grow, Shrink, Flush}
 use Rattle.imago_drivers.specs.Place.{Value, shown, values}
 use Rattle.imago_drivers.specs.Calls.{IsDiscard}
+use Rattle.imago_drivers.specs.Outside.{StaysOutside}
 use Rattle.imago_drivers.specs.Causes.{IsSettled}
 use Rattle.imago_drivers.specs.Changes.{Change, IsChanged, partly}
 use Rattle.imago_drivers.specs.Frame.{IsFramed}
@@ -16,6 +17,7 @@ use Rattle.imago_test_tables.specs.Table.{IsFilled, IsPartlyFilled, HasBarred, H
 use Rattle.imago_test_tables.specs.Sparse.{entry_place, sparse_place, sparse_view, sparse_pending, sparse_cause, sparse_copies, sparse_answers}
 use Rattle.imago_test_tables.specs.SparseLaws.{end_entry, none_past, past_table}
 use Rattle.imago_test_tables.proofs.CommitSteps.{cause_sub}
+use Rattle.imago_test_tables.proofs.StaySteps.{filled_stays}
 use Rattle.imago_test_tables.proofs.TableSteps.{filled_part}
 
 -- a write alone copies
@@ -71,6 +73,12 @@ module _ (f g : Features) (count : ℕ) (first second : List ℕ) (table now : L
     ends = λ p e. let x = none_past now p (end_entry (at_index first second) p (slice_get now p) e) in past_table (at_index first second) table p (omega (arith, x, len));
   }
 
+  stays : IsPartlyFilled o n Origin.Lower table now
+      → StaysOutside (f.keeps_data && g.keeps_data) 1 o n
+      (sparse_place (at_index first second) table) (sparse_place (at_index first second) now)
+  stays fill = filled_stays (at_index first second) (f.keeps_data && g.keeps_data) table now o n
+      Origin.Lower fill
+
   refused_as : (e : Error) → (e ≡ Error.NoAccess) ⊎ (e ≡ Error.BeyondDisk) → e ≡ Error.Device → ⊥
   refused_as e (inl a) d = let x : Error.NoAccess ≡ Error.Device = sym a ∙ d in let z : ⊥ = cc in z
   refused_as e (inr a) d = let x : Error.BeyondDisk ≡ Error.Device = sym a ∙ d in let z : ⊥ = cc in z
@@ -95,6 +103,7 @@ module _ (f g : Features) (count : ℕ) (first second : List ℕ) (table now : L
         framed = framed filled.len;
         faults = record { later = omega arith; reliable = λ e. refl; device = λ e. let z : ⊥ = cc in absurd z };
         refusals = tt;
+        outside = stays (filled_part o n n Origin.Lower table now filled (omega arith));
       }
   discarded (Err e) answered filled torn only barred beyond = record {
     done = record { inside = tt; part = tt; whole = λ h. tt; done = λ k below. tt; refused = λ k below. torn_values below torn };
@@ -107,4 +116,5 @@ module _ (f g : Features) (count : ℕ) (first second : List ℕ) (table now : L
         (λ a. rw a (barred (ap (λ x. Err x) a)))
         (λ a. let h = beyond (ap (λ x. Err x) a) in rw a (h.0, h.1, ap (entry_place (at_index first second) (h.0)) (h.2)))
         only;
+    outside = stays torn;
   }

@@ -1,5 +1,6 @@
 pub mod TableSteps
 pub mod PairSteps
+pub mod StaySteps
 pub mod SparseSteps
 pub mod CommitSteps
 pub mod PrepareSteps

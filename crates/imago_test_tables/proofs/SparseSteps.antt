@@ -33,6 +33,7 @@ use Rattle.imago_test_tables.specs.Table.{IsOneKind, IsFree, index_of}
 use Rattle.imago_test_tables.specs.Sparse.{offers_growth, origin_for, entry_place, sparse_place, sparse_view, sparse_pending, waiting_byte, mapping_of, HasOldByte, WaitsApart}
 use Rattle.imago_test_tables.proofs.CommitSteps.{waits_inside, waits_same, waits_on}
 use Rattle.imago_test_tables.specs.SparseLaws.{stored_entry, lower_entry, end_entry, refused_entry}
+use Rattle.imago_test_tables.proofs.StaySteps.{waits_near}
 
 -- entries that are all one another's
 pub one_kind : (table : List Origin) (o n : ℕ) (origin : Option Origin) → slice_get table o ≡ origin → ((k : ℕ) → k < n → slice_get table (o + k) ≡ origin) → IsOneKind table o n
@@ -321,6 +322,7 @@ prepared_existing f g count first second table size s short waiting o most run i
   no_memory = λ h. absurd h;
   later = λ i. let x = padded_more f o m.length most (omega (arith, c)) in omega (arith, x);
   around = λ q e. let x = sym spent ∙ e in let z : ⊥ = cc in absurd z;
+  near = λ q e. let x = sym spent ∙ e in let z : ⊥ = cc in absurd z;
   direct = λ e. (
     spent,
     λ k h. (
@@ -350,6 +352,10 @@ prepared_apart f g f' g' count now_count first second now then table size s shor
   around = λ q e.
       let x : q ≡ record { start = o; storage = 0; offset = o; length = run; state = t; from = o; until = o + run; bytes = waiting_byte (f.keeps_data && g.keeps_data) now (record { start = o; length = run; ticket = t }) } = cc in
       rw x (omega arith, omega arith);
+  near = λ q e p low high.
+      let x : q.from ≡ o = cc in
+      let y : q.until ≡ o + run = cc in
+      waits_near o m.length q.from q.until x (omega (arith, y, c)) p low high;
   direct = λ e. let z : ⊥ = cc in absurd z;
   apart = λ x e. (
     record { start = o; storage = 0; offset = o; length = run; state = t; from = o; until = o + run; bytes = waiting_byte (f.keeps_data && g.keeps_data) now (record { start = o; length = run; ticket = t }) },

@@ -1,4 +1,6 @@
-use Rattle.std.specs.Prelude.{◌≡◌, ℕ, ◌+◌, ◌<◌, ◌≤◌, ◌⊎◌, ◌&&◌, Bool, true, false, List, length, slice_index, slice_get, Option, Some, None, Result, Ok, Err, is_none, if◌then◌else◌, nat_lt}
+use Rattle.std.specs.Prelude.{◌≡◌, ℕ, ◌+◌, ◌<◌, ◌≤◌, ◌⊎◌, ◌&&◌, Bool, true, false, List, length}
+use Rattle.std.specs.Prelude.{slice_index, slice_get, Option, Some, None, Result, Ok, Err, is_none}
+use Rattle.std.specs.Prelude.{if◌then◌else◌, nat_lt}
 use Rattle.imago_storage.specs.declared.error.Error.{Error}
 use Rattle.imago_storage.specs.declared.error.Error.TheVariants as E
 use Rattle.imago_storage.specs.Features.{Features}
@@ -10,7 +12,8 @@ use Rattle.imago_test_tables.specs.declared.sparse.Settings.{Settings}
 use Rattle.imago_test_tables.specs.declared.sparse.Waiting.{Waiting}
 use Rattle.imago_test_tables.specs.declared.table.Origin.{Origin}
 use Rattle.imago_test_tables.specs.declared.table.Origin.TheVariants as O
-use Rattle.imago_drivers.specs.Operation.{Operation, Map, Read, Write, Zero, DiscardToZero, DiscardToAny, DiscardToBacking, Grow, Shrink, Flush}
+use Rattle.imago_drivers.specs.Operation.{Operation, Map, Read, Write, Zero, DiscardToZero}
+use Rattle.imago_drivers.specs.Operation.{DiscardToAny, DiscardToBacking, Grow, Shrink, Flush}
 use Rattle.imago_drivers.specs.Place.{Value, Byte, Place, Stored, Zeroed, Lower, Refused, End, IsIn}
 use Rattle.imago_drivers.specs.Reasons.{Reasons, none}
 use Rattle.imago_drivers.specs.LayerBelow.{LayerBelow}
@@ -87,7 +90,8 @@ sparse_copies table (Grow mode) o n p = ⊥
 sparse_copies table Shrink o n p = ⊥
 sparse_copies table Flush o n p = ⊥
 
--- Zero calls and discards take no memory, and do the whole of a range with no barred entry inside the table; a cut takes none.
+-- Zero calls and discards take no memory, and do the whole of a range with no barred entry inside
+-- the table; a cut takes none.
 abbrev pub is_plain : List Origin → Operation → ℕ → ℕ → Type 0
 is_plain table Map o n = ⊥
 is_plain table Read o n = ⊥
@@ -144,9 +148,12 @@ sparse_longest f (Grow mode) o n index = 0
 sparse_longest f Shrink o n index = 0
 sparse_longest f Flush o n index = 0
 
--- a byte of the range that a write waits for, as the first storage has it; 0 outside, and where storages don't keep their data
+-- a byte of the range that a write waits for, as the first storage has it; 0 outside, and where
+-- storages don't keep their data
 abbrev pub waiting_byte : Bool → List ℕ → Waiting → ℕ → ℕ
-waiting_byte keeps first w p = if keeps then (if nat_lt p w.start then 0 else (if nat_lt p (w.start + w.length) then slice_index first p else 0)) else 0
+waiting_byte keeps first w p = if keeps then
+    (if nat_lt p w.start then 0 else
+    (if nat_lt p (w.start + w.length) then slice_index first p else 0)) else 0
 
 -- a write that waits: its bytes stand in the first storage, at their own offsets
 abbrev pub sparse_pending : Bool → List ℕ → Option Waiting → Option (Pending ℕ)
@@ -166,7 +173,8 @@ sparse_pending keeps first (Some w) = Some (record {
 abbrev pub never_fails : Settings → Bool
 never_fails s = is_none s.fail_commit_after && (if s.fail_granules then false else true)
 
-abbrev pub sparse_view : Features → Features → ℕ → List ℕ → List ℕ → List Origin → ℕ → Settings → Bool → Option Waiting → View ℕ
+abbrev pub sparse_view : Features → Features → ℕ → List ℕ → List ℕ → List Origin → ℕ → Settings
+    → Bool → Option Waiting → View ℕ
 sparse_view f g fault_count first second table size s short waiting = record {
   abilities = record {
     format = Format.Raw;
@@ -176,6 +184,7 @@ sparse_view f g fault_count first second table size s short waiting = record {
     keeps_data = f.keeps_data && g.keeps_data;
     zero_granularity = Some s.granularity;
     offers = sparse_offers short;
+    block = 1;
   };
   size = size;
   place = sparse_place (at_index first second) table;
@@ -212,7 +221,8 @@ HasOldByte at p origin byte = old_value at p origin ≡ Byte byte
 
 -- the bytes of a buffer are those that the disk has from o on, where it has that origin
 abbrev pub HasOldBytes : (ℕ → Value) → ℕ → Origin → List ℕ → Type 0
-HasOldBytes at o origin items = (k : ℕ) → k < length items → HasOldByte at (o + k) origin (slice_index items k)
+HasOldBytes at o origin items = (k : ℕ) → k < length items
+    → HasOldByte at (o + k) origin (slice_index items k)
 
 -- why the bytes of a range of that origin may not be copied into a storage
 abbrev pub copy_reasons : LayerBelow → Origin → ℕ → ℕ → Reasons

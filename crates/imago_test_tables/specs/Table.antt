@@ -1,4 +1,5 @@
-use Rattle.std.specs.Prelude.{◌≡◌, ℕ, ◌+◌, ◌<◌, ◌≤◌, ◌⊎◌, Bool, true, false, List, length, Option, Some, None, slice_get, Result, IfOk, OnOk, OnErr}
+use Rattle.std.specs.Prelude.{◌≡◌, ℕ, ◌+◌, ◌<◌, ◌≤◌, ◌⊎◌, Bool, true, false, List, length, Option}
+use Rattle.std.specs.Prelude.{Some, None, slice_get, Result, IfOk, OnOk, OnErr}
 use Rattle.imago_storage.specs.declared.error.Error.{Error}
 use Rattle.imago_drivers.specs.Place.{IsIn}
 use Rattle.imago_test_tables.specs.declared.table.Origin.{Origin}
@@ -59,13 +60,16 @@ pub record IsFilled (o n : ℕ) (origin : Origin) (old new : List Origin) : Type
 -- Some of the n entries from o on became that one, and nothing else changed.
 pub record IsPartlyFilled (o n : ℕ) (origin : Origin) (old new : List Origin) : Type 0 where
   pub len : length new ≡ length old
-  pub each : (p : ℕ) → (slice_get new p ≡ slice_get old p) ⊎ (IsIn o n p × (slice_get new p ≡ Some origin))
+  pub each : (p : ℕ) → (slice_get new p ≡ slice_get old p)
+      ⊎ (IsIn o n p × (slice_get new p ≡ Some origin))
 
--- The entries of the range are left to the layer below, and the range is answered; refused, some of them are.
-pub record IsLeftBelow (o n : ℕ) (old new : List Origin) (result : Result (ℕ × ℕ) Error) : Type 0 where
-  pub answered : IfOk result (λ r. (r.0 ≡ o) × (r.1 ≡ n))
-  pub filled : OnOk result (IsFilled o n Origin.Lower old new)
-  pub torn : OnErr result (IsPartlyFilled o n Origin.Lower old new)
+-- The entries of the range are left to the layer below, and the range is answered; refused, some of
+-- them are.
+pub record IsLeftBelow (o n : ℕ) (old new : List Origin) (result : Result (ℕ × ℕ) Error) : Type 0
+  where
+    pub answered : IfOk result (λ r. (r.0 ≡ o) × (r.1 ≡ n))
+    pub filled : OnOk result (IsFilled o n Origin.Lower old new)
+    pub torn : OnErr result (IsPartlyFilled o n Origin.Lower old new)
 
 -- The table has that many entries: the old ones, and behind them only that one.
 pub record IsGrownTable (size : ℕ) (origin : Origin) (old new : List Origin) : Type 0 where

@@ -1,6 +1,7 @@
 //! A driver for tests: a disk held as a table over two storages.
 //!
-//! It keeps the laws of the driver interface by proof, so that a test of what stands above it tests that alone.
+//! It keeps the laws of the driver interface by proof, so that a test of what stands above it tests
+//! that alone.
 #![tactic(auto)]
 
 mod pair;

@@ -1,5 +1,6 @@
 //! Two storages, each named by its index, and a count of what else failed.
-ghost use Rattle.std.specs.Prelude.{◌≡◌, ◌≢◌, ℕ, ◌+◌, ◌<◌, ◌≤◌, ◌&&◌, length, slice_index, IsTrue, IsOk, IfErr, OnOk, OnErr, IsErrOf, MatchOption, false, true};
+ghost use Rattle.std.specs.Prelude.{◌≡◌, ◌≢◌, ℕ, ◌+◌, ◌<◌, ◌≤◌, ◌&&◌, length, slice_index, IsTrue};
+ghost use Rattle.std.specs.Prelude.{IsOk, IfErr, OnOk, OnErr, IsErrOf, MatchOption, false, true};
 ghost use Rattle.imago_storage.specs.Bytes.{IsReadAt};
 ghost use Rattle.imago_storage.specs.Error.{IsExtRefusal, IsDeviceOrMemory};
 ghost use Rattle.imago_storage.specs.Faults.{CountsFaults};
@@ -19,7 +20,8 @@ use std::alloc::Global;
 pub(crate) struct Pair<S: Storage> {
     pub(crate) first: S,
     pub(crate) second: S,
-    /// How often something else failed: a read of the layer below, or a commit or a granule that is to fail. It saturates.
+    /// How often something else failed: a read of the layer below, or a commit or a granule that is
+    /// to fail. It saturates.
     pub(crate) faults: u64,
 }
 
@@ -29,7 +31,8 @@ impl<S: Storage> Pair<S> {
         ensures { MatchOption result (2 ≤ index)
             (λ s. (index < 2) ×
             (S.bytes s.now ≡ at_index (S.bytes self.now.first) (S.bytes self.now.second) index) ×
-            (S.features s.now ≡ at_index (S.features self.now.first) (S.features self.now.second) index)) }
+            (S.features s.now ≡ at_index (S.features self.now.first) (S.features self.now.second)
+            index)) }
     {
         match index {
             0 => Some(&self.first),
@@ -89,12 +92,15 @@ impl<S: Storage> Pair<S> {
         ensures other { (i : ℕ)
             → i < 2
             → i ≢ index
-            → at_index (S.bytes self.new.first) (S.bytes self.new.second) i ≡ at_index (S.bytes self.old.first)
+            → at_index (S.bytes self.new.first) (S.bytes self.new.second) i
+            ≡ at_index (S.bytes self.old.first)
             (S.bytes self.old.second) i }
         ensures lengths { GrowAt index offset (length source.now)
-            (pair_stores (S.features self.old.first) (S.features self.old.second) (S.bytes self.old.first)
+            (pair_stores (S.features self.old.first) (S.features self.old.second)
+            (S.bytes self.old.first)
             (S.bytes self.old.second))
-            (pair_stores (S.features self.new.first) (S.features self.new.second) (S.bytes self.new.first)
+            (pair_stores (S.features self.new.first) (S.features self.new.second)
+            (S.bytes self.new.first)
             (S.bytes self.new.second)) }
         ensures first_features { S.features self.new.first ≡ S.features self.old.first }
         ensures second_features { S.features self.new.second ≡ S.features self.old.second }
@@ -105,7 +111,8 @@ impl<S: Storage> Pair<S> {
         ensures faults { CountsFaults
             ((S.features self.old.first).is_reliable && (S.features self.old.second).is_reliable)
             (S.fault_count self.old.first + S.fault_count self.old.second + self.old.faults)
-            (S.fault_count self.new.first + S.fault_count self.new.second + self.new.faults) result }
+            (S.fault_count self.new.first + S.fault_count self.new.second + self.new.faults)
+            result }
     {
         if index == 0 {
             return write_bytes(&mut self.first, alloc, source, offset);
@@ -115,7 +122,8 @@ impl<S: Storage> Pair<S> {
 
     /// Writes what both storages buffer.
     pub(crate) fn flush(&mut self) -> Result<(), Error>
-        ensures performed { in_turn S.maintenance.flushed self.old.first self.old.second self.new.first
+        ensures performed { in_turn S.maintenance.flushed self.old.first self.old.second
+            self.new.first
             self.new.second result }
         ensures first { S.bytes self.new.first ≡ S.bytes self.old.first }
         ensures second { S.bytes self.new.second ≡ S.bytes self.old.second }
@@ -125,7 +133,8 @@ impl<S: Storage> Pair<S> {
         ensures faults { CountsFaults
             ((S.features self.old.first).is_reliable && (S.features self.old.second).is_reliable)
             (S.fault_count self.old.first + S.fault_count self.old.second + self.old.faults)
-            (S.fault_count self.new.first + S.fault_count self.new.second + self.new.faults) result }
+            (S.fault_count self.new.first + S.fault_count self.new.second + self.new.faults)
+            result }
     {
         match self.first.flush() {
             Ok(()) => self.second.flush(),
@@ -135,7 +144,8 @@ impl<S: Storage> Pair<S> {
 
     /// Syncs both storages.
     pub(crate) fn sync(&mut self) -> Result<(), Error>
-        ensures performed { in_turn S.maintenance.synced self.old.first self.old.second self.new.first
+        ensures performed { in_turn S.maintenance.synced self.old.first self.old.second
+            self.new.first
             self.new.second result }
         ensures first { S.bytes self.new.first ≡ S.bytes self.old.first }
         ensures second { S.bytes self.new.second ≡ S.bytes self.old.second }
@@ -145,7 +155,8 @@ impl<S: Storage> Pair<S> {
         ensures faults { CountsFaults
             ((S.features self.old.first).is_reliable && (S.features self.old.second).is_reliable)
             (S.fault_count self.old.first + S.fault_count self.old.second + self.old.faults)
-            (S.fault_count self.new.first + S.fault_count self.new.second + self.new.faults) result }
+            (S.fault_count self.new.first + S.fault_count self.new.second + self.new.faults)
+            result }
     {
         match self.first.sync() {
             Ok(()) => self.second.sync(),
@@ -155,7 +166,8 @@ impl<S: Storage> Pair<S> {
 
     /// Drops what both storages cache.
     pub(crate) fn invalidate_cache(&mut self) -> Result<(), Error>
-        ensures performed { in_turn S.maintenance.invalidated self.old.first self.old.second self.new.first
+        ensures performed { in_turn S.maintenance.invalidated self.old.first self.old.second
+            self.new.first
             self.new.second result }
         ensures first { S.bytes self.new.first ≡ S.bytes self.old.first }
         ensures second { S.bytes self.new.second ≡ S.bytes self.old.second }
@@ -165,7 +177,8 @@ impl<S: Storage> Pair<S> {
         ensures faults { CountsFaults
             ((S.features self.old.first).is_reliable && (S.features self.old.second).is_reliable)
             (S.fault_count self.old.first + S.fault_count self.old.second + self.old.faults)
-            (S.fault_count self.new.first + S.fault_count self.new.second + self.new.faults) result }
+            (S.fault_count self.new.first + S.fault_count self.new.second + self.new.faults)
+            result }
     {
         match self.first.invalidate_cache() {
             Ok(()) => self.second.invalidate_cache(),

@@ -1,5 +1,7 @@
 //! A disk held as a table with one entry for each byte, over two storages.
-ghost use Rattle.std.specs.Prelude.{◌≡◌, ℕ, ◌+◌, ◌^◌, ◌<◌, ◌≤◌, ◌⊎◌, ◌↔◌, ◌&&◌, max, length, slice_index, IsTrue, IfOk, IfErr, OnOk, IsErrOf, MatchOption, Some, false};
+ghost use Rattle.std.specs.Prelude.{◌≡◌, ℕ, ◌+◌, ◌^◌, ◌<◌, ◌≤◌, ◌⊎◌, ◌↔◌, ◌&&◌, max, length};
+ghost use Rattle.std.specs.Prelude.{slice_index, IsTrue, IfOk, IfErr, OnOk, IsErrOf, MatchOption};
+ghost use Rattle.std.specs.Prelude.{Some, false};
 ghost use Rattle.std.specs.Option.{ForSome};
 ghost use Rattle.imago_storage.specs.Faults.{CountsFaults};
 ghost use Rattle.imago_drivers.specs.CallRelations.{any_calls};
@@ -12,7 +14,9 @@ ghost use Rattle.imago_drivers.specs.Pending.{IsOwn};
 ghost use Rattle.imago_drivers.specs.Commit.{IsCommit, IsCancel};
 ghost use Rattle.imago_test_tables.specs.Pair.{at_index, in_turn};
 ghost use Rattle.imago_test_tables.specs.Table.{IsFree, IsLeftBelow};
-ghost use Rattle.imago_test_tables.specs.Sparse.{sparse_view, sparse_pending, WaitsApart, HasOldByte, HasOldBytes, copy_reasons, mapping_of, origin_for};
+ghost use Rattle.imago_test_tables.specs.Sparse.{sparse_view, sparse_pending, WaitsApart};
+ghost use Rattle.imago_test_tables.specs.Sparse.{HasOldByte, HasOldBytes, copy_reasons, mapping_of};
+ghost use Rattle.imago_test_tables.specs.Sparse.{origin_for};
 ghost use Rattle.imago_test_tables.specs.SparseLaws.{sparse_lawful, sparse_causes};
 
 use crate::pair::Pair;
@@ -36,11 +40,11 @@ pub struct Settings {
     pub granularity: u64,
     /// Whether it may be written.
     pub writable: bool,
-    /// Each commit of a write that waits fails as [`Error::Device`] once it has made this many bytes show. `None` lets all
-    /// succeed.
+    /// Each commit of a write that waits fails as [`Error::Device`] once it has made this many
+    /// bytes show. `None` lets all succeed.
     pub fail_commit_after: Option<u64>,
-    /// Whether [`FormatDriverInstance::ensure_zero_mapping`] is for whole granules alone, and each that it is asked for fails as
-    /// [`Error::Device`], with nothing changed.
+    /// Whether [`FormatDriverInstance::ensure_zero_mapping`] is for whole granules alone, and each
+    /// that it is asked for fails as [`Error::Device`], with nothing changed.
     pub fail_granules: bool,
 }
 
@@ -52,8 +56,8 @@ pub struct Waiting {
     pub(crate) ticket: u64,
 }
 
-/// A disk held as a table that says of each of its bytes where it comes from: one of two storages at the same offset,
-/// nowhere (an explicit zero), the layer below, or nothing that may be read.
+/// A disk held as a table that says of each of its bytes where it comes from: one of two storages
+/// at the same offset, nowhere (an explicit zero), the layer below, or nothing that may be read.
 ///
 /// The table may be shorter than the disk. The disk is never grown then.
 #[derive(Drop)]
@@ -73,10 +77,11 @@ pub struct Sparse<S: Storage> {
 }
 
 impl<S: Storage> Sparse<S> {
-    ghost use Rattle.imago_test_tables.specs.SparseImage.{table_of, size_of, settings_of, first_in, second_in, own_faults_of};
+    ghost use Rattle.imago_test_tables.specs.SparseImage.{table_of, size_of, settings_of, first_in};
+    ghost use Rattle.imago_test_tables.specs.SparseImage.{second_in, own_faults_of};
 
-    /// A disk of that size over two storages. There is none where the table is longer than the disk, or the granularity
-    /// is 0.
+    /// A disk of that size over two storages. There is none where the table is longer than the
+    /// disk, or the granularity is 0.
     pub fn new(
         first: S,
         second: S,
@@ -107,7 +112,8 @@ impl<S: Storage> Sparse<S> {
         })
     }
 
-    /// How often something else failed than its storages: a read of the layer below, a commit or a granule. The number saturates.
+    /// How often something else failed than its storages: a read of the layer below, a commit or a
+    /// granule. The number saturates.
     pub fn faults(&self) -> u64
         ensures { result ≡ own_faults_of self.now }
     {
@@ -118,7 +124,8 @@ impl<S: Storage> Sparse<S> {
     fn is_waiting(&self, mapping: &PreparedDataMapping<u64>) -> bool
         ensures { IsTrue result ↔ IsOwn
             (sparse_pending
-            ((S.features self.now.storages.first).keeps_data && (S.features self.now.storages.second).keeps_data)
+            ((S.features self.now.storages.first).keeps_data
+            && (S.features self.now.storages.second).keeps_data)
             (S.bytes self.now.storages.first) self.now.waiting)
             mapping.now }
     {
@@ -163,8 +170,8 @@ fn old_bytes<B: LowerLayer>(
     Ok(bytes)
 }
 
-/// Writes what a range of entries of that origin shows into the first storage, where nothing shows it. For overwriting
-/// it writes nothing.
+/// Writes what a range of entries of that origin shows into the first storage, where nothing shows
+/// it. For overwriting it writes nothing.
 fn copy_shown<S: Storage, B: LowerLayer>(
     storages: &mut Pair<S>,
     alloc: Global,
@@ -194,7 +201,8 @@ fn copy_shown<S: Storage, B: LowerLayer>(
     ensures first_features { S.features storages.new.first ≡ S.features storages.old.first }
     ensures second_features { S.features storages.new.second ≡ S.features storages.old.second }
     ensures faults { CountsFaults
-        (((S.features storages.old.first).is_reliable && (S.features storages.old.second).is_reliable) &&
+        (((S.features storages.old.first).is_reliable
+        && (S.features storages.old.second).is_reliable) &&
         (lent B.as_layer_below below.entry).is_reliable)
         (S.fault_count storages.old.first + S.fault_count storages.old.second + storages.old.faults)
         (S.fault_count storages.new.first + S.fault_count storages.new.second + storages.new.faults)
@@ -230,7 +238,10 @@ impl<S: Storage> FormatDriverInstance for Sparse<S> {
 
     type State = u64;
 
-    ghost view = { λ d. sparse_view (S.features d.storages.first) (S.features d.storages.second) (S.fault_count d.storages.first + S.fault_count d.storages.second + d.storages.faults) (S.bytes d.storages.first) (S.bytes d.storages.second) d.table.items d.size d.settings d.short d.waiting };
+    ghost view = { λ d. sparse_view (S.features d.storages.first) (S.features d.storages.second)
+        (S.fault_count d.storages.first + S.fault_count d.storages.second + d.storages.faults)
+        (S.bytes d.storages.first) (S.bytes d.storages.second) d.table.items d.size d.settings
+        d.short d.waiting };
 
     ghost recognizes = { λ _. false };
 
@@ -238,16 +249,28 @@ impl<S: Storage> FormatDriverInstance for Sparse<S> {
 
     ghost calls = { record any_calls {
       read_special = λ o n d r. HasNoSpecial n r;
-      flushed = λ a b r. in_turn S.maintenance.flushed a.storages.first a.storages.second b.storages.first b.storages.second r × (b.table.items ≡ a.table.items);
-      synced = λ a b r. in_turn S.maintenance.synced a.storages.first a.storages.second b.storages.first b.storages.second r × (b.table.items ≡ a.table.items);
-      invalidated = λ a b r. in_turn S.maintenance.invalidated a.storages.first a.storages.second b.storages.first b.storages.second r × (b.table.items ≡ a.table.items);
-      discarded_to_any = λ o n a b r. IsLeftBelow o n a.table.items b.table.items r × (b.storages ≡ a.storages) × (b.waiting ≡ a.waiting);
-      discarded_to_backing = λ o n a b r. IsLeftBelow o n a.table.items b.table.items r × (b.storages ≡ a.storages) × (b.waiting ≡ a.waiting);
+      flushed = λ a b r. in_turn S.maintenance.flushed a.storages.first a.storages.second
+          b.storages.first b.storages.second r × (b.table.items ≡ a.table.items);
+      synced = λ a b r. in_turn S.maintenance.synced a.storages.first a.storages.second
+          b.storages.first b.storages.second r × (b.table.items ≡ a.table.items);
+      invalidated = λ a b r. in_turn S.maintenance.invalidated a.storages.first a.storages.second
+          b.storages.first b.storages.second r × (b.table.items ≡ a.table.items);
+      discarded_to_any = λ o n a b r. IsLeftBelow o n a.table.items b.table.items r
+          × (b.storages ≡ a.storages) × (b.waiting ≡ a.waiting);
+      discarded_to_backing = λ o n a b r. IsLeftBelow o n a.table.items b.table.items r
+          × (b.storages ≡ a.storages) × (b.waiting ≡ a.waiting);
     } };
 
-    ghost lawful = { λ d. sparse_lawful (S.features d.storages.first) (S.features d.storages.second) (S.fault_count d.storages.first + S.fault_count d.storages.second + d.storages.faults) (S.bytes d.storages.first) (S.bytes d.storages.second) d.table.items d.size d.settings d.short d.waiting d.bounded d.granular };
+    ghost lawful = { λ d. sparse_lawful (S.features d.storages.first) (S.features d.storages.second)
+        (S.fault_count d.storages.first + S.fault_count d.storages.second + d.storages.faults)
+        (S.bytes d.storages.first) (S.bytes d.storages.second) d.table.items d.size d.settings
+        d.short d.waiting d.bounded d.granular };
 
-    ghost causes_lawful = { λ d. sparse_causes (S.features d.storages.first) (S.features d.storages.second) (S.fault_count d.storages.first + S.fault_count d.storages.second + d.storages.faults) (S.bytes d.storages.first) (S.bytes d.storages.second) d.table.items d.size d.settings d.short d.waiting };
+    ghost causes_lawful = { λ d. sparse_causes (S.features d.storages.first)
+        (S.features d.storages.second)
+        (S.fault_count d.storages.first + S.fault_count d.storages.second + d.storages.faults)
+        (S.bytes d.storages.first) (S.bytes d.storages.second) d.table.items d.size d.settings
+        d.short d.waiting };
 
     fn format(&self) -> Format {
         Format::Raw
@@ -433,8 +456,10 @@ impl<S: Storage> FormatDriverInstance for Sparse<S> {
     }
 
     fn commit_data_mapping(&mut self, mapping: PreparedDataMapping<u64>) -> Result<(), Error>
-        ensures call { IsCommit ⟦<Sparse<S> as FormatDriverInstance>⟧.view self.old self.new mapping result }
-        ensures performed { ⟦<Sparse<S> as FormatDriverInstance>⟧.calls.committed mapping self.old self.new result }
+        ensures call { IsCommit ⟦<Sparse<S> as FormatDriverInstance>⟧.view self.old self.new mapping
+            result }
+        ensures performed { ⟦<Sparse<S> as FormatDriverInstance>⟧.calls.committed mapping self.old
+            self.new result }
     {
         let own = self.is_waiting(&mapping);
         let (start, count) = (mapping.offset(), mapping.length());
@@ -455,8 +480,10 @@ impl<S: Storage> FormatDriverInstance for Sparse<S> {
     }
 
     fn cancel_data_mapping(&mut self, mapping: PreparedDataMapping<u64>)
-        ensures call { IsCancel ⟦<Sparse<S> as FormatDriverInstance>⟧.view self.old self.new mapping }
-        ensures performed { ⟦<Sparse<S> as FormatDriverInstance>⟧.calls.cancelled mapping self.old self.new }
+        ensures call { IsCancel ⟦<Sparse<S> as FormatDriverInstance>⟧.view self.old self.new
+            mapping }
+        ensures performed { ⟦<Sparse<S> as FormatDriverInstance>⟧.calls.cancelled mapping self.old
+            self.new }
     {
         let own = self.is_waiting(&mapping);
         let _ = mapping.into_state();
@@ -535,7 +562,8 @@ fn new_origin(mode: PreallocateMode) -> Option<Origin>
     }
 }
 
-/// The mapping of bytes of that origin at the offset. [`Error::NoAccess`] is an entry that is barred.
+/// The mapping of bytes of that origin at the offset. [`Error::NoAccess`] is an entry that is
+/// barred.
 fn shallow_mapping(origin: Origin, offset: u64) -> Result<ShallowMapping, Error>
     ensures { result ≡ mapping_of origin offset }
 {

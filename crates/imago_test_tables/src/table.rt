@@ -1,6 +1,9 @@
 //! The table of a sparse disk: where each byte of the disk comes from.
-ghost use Rattle.std.specs.Prelude.{◌≡◌, ℕ, ◌+◌, ◌^◌, ◌<◌, ◌≤◌, ◌⊎◌, ◌≢◌, length, Option, Some, None, IfOk, IfErr, OnOk, OnErr, IsOk, IsErrOf, MatchOption, slice_get};
-ghost use Rattle.imago_test_tables.specs.Table.{IsFilled, IsPartlyFilled, AllClear, IsClear, HasBarred, HasEnd, index_of, IsGrownTable};
+ghost use Rattle.std.specs.Prelude.{◌≡◌, ℕ, ◌+◌, ◌^◌, ◌<◌, ◌≤◌, ◌⊎◌, ◌≢◌, length, Option, Some};
+ghost use Rattle.std.specs.Prelude.{None, IfOk, IfErr, OnOk, OnErr, IsOk, IsErrOf, MatchOption};
+ghost use Rattle.std.specs.Prelude.{slice_get};
+ghost use Rattle.imago_test_tables.specs.Table.{IsFilled, IsPartlyFilled, AllClear, IsClear};
+ghost use Rattle.imago_test_tables.specs.Table.{HasBarred, HasEnd, index_of, IsGrownTable};
 
 use imago_storage::error::Error;
 use std::alloc::Global;
@@ -56,7 +59,8 @@ pub(crate) fn entry(table: &[Origin], offset: u64) -> Option<Origin>
 pub(crate) fn clear_entry(table: &[Origin], offset: u64) -> Result<Origin, Error>
     ensures found { IfOk result (λ o. (slice_get table.now offset ≡ Some o) × IsClear (Some o)) }
     ensures only { IfErr result (λ e. (e ≡ Error.NoAccess) ⊎ (e ≡ Error.BeyondDisk)) }
-    ensures barred { IsErrOf result Error.NoAccess → slice_get table.now offset ≡ Some Origin.Barred }
+    ensures barred { IsErrOf result Error.NoAccess → slice_get table.now offset
+        ≡ Some Origin.Barred }
     ensures beyond { IsErrOf result Error.BeyondDisk → slice_get table.now offset ≡ None }
 {
     match entry(table, offset) {
@@ -92,7 +96,8 @@ pub(crate) fn clear_run(table: &[Origin], offset: u64, most: u64) -> u64
     ensures inside { 0 < result → offset + result ≤ length table.now }
     ensures clear { (k : ℕ) → k < result → IsClear (slice_get table.now (offset + k)) }
     ensures ends { result < most
-        → (slice_get table.now (offset + result) ≡ None) ⊎ (slice_get table.now (offset + result) ≡ Some
+        → (slice_get table.now (offset + result) ≡ None)
+        ⊎ (slice_get table.now (offset + result) ≡ Some
         Origin.Barred) }
 {
     let len = table.len() as u64;
@@ -118,8 +123,8 @@ pub(crate) fn put_run(table: &mut Vec<Origin>, offset: u64, count: u64, origin: 
     }
 }
 
-/// Makes the entries of a range that one, and answers the range. An entry that is barred or missing refuses it: those
-/// before are made all the same.
+/// Makes the entries of a range that one, and answers the range. An entry that is barred or missing
+/// refuses it: those before are made all the same.
 pub(crate) fn put_part(
     table: &mut Vec<Origin>,
     offset: u64,
@@ -129,7 +134,8 @@ pub(crate) fn put_part(
     requires { offset + count < 2 ^ 64 }
     ensures answered { IfOk result (λ r. (r.0 ≡ offset) × (r.1 ≡ count)) }
     ensures filled { OnOk result (IsFilled offset count origin table.old.items table.new.items) }
-    ensures torn { OnErr result (IsPartlyFilled offset count origin table.old.items table.new.items) }
+    ensures torn { OnErr result
+        (IsPartlyFilled offset count origin table.old.items table.new.items) }
     ensures only { IfErr result (λ e. (e ≡ Error.NoAccess) ⊎ (e ≡ Error.BeyondDisk)) }
     ensures barred { IsErrOf result Error.NoAccess → HasBarred table.old.items offset count }
     ensures beyond { IsErrOf result Error.BeyondDisk → HasEnd table.old.items offset count }
@@ -147,7 +153,8 @@ pub(crate) fn put_part(
     Err(Error::BeyondDisk)
 }
 
-/// Adds entries of that kind up to that size. Refused, it is [`Error::Memory`], and the table is as it was.
+/// Adds entries of that kind up to that size. Refused, it is [`Error::Memory`], and the table is as
+/// it was.
 pub(crate) fn grow(table: &mut Vec<Origin>, size: u64, origin: Origin) -> Result<(), Error>
     requires { length table.old.items ≤ size }
     ensures grown { OnOk result (IsGrownTable size origin table.old.items table.new.items) }

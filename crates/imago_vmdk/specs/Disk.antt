@@ -11,8 +11,8 @@ abbrev pub places_read : (ℕ → List ℕ) → Result (List (Extent (List ℕ))
 places_read bytes (Ok disk) p = places_from bytes 1 disk.0 p
 places_read bytes (Err e) p = End
 
--- What stands at each offset of a disk whose storages have these bytes. The first of them is the descriptor, and the others are
--- those of its FLAT extents in order.
+-- What stands at each offset of a disk whose storages have these bytes. The first of them is the
+-- descriptor, and the others are those of its FLAT extents in order.
 abbrev pub described_place : Bool → (ℕ → List ℕ) → ℕ → Place
 described_place accept bytes p = places_read bytes (reading_of accept (bytes 0)) p
 

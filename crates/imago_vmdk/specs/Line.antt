@@ -1,4 +1,6 @@
-use Rattle.std.specs.Prelude.{◌≡◌, ℕ, ◌-◌, Bool, true, false, ◌&&◌, ◌||◌, List, [], ◌∷◌, length, take, Option, Some, None, Result, Ok, Err, nat_lt, nat_eq, ◌==◌, if◌then◌else◌, codes, slice_index}
+use Rattle.std.specs.Prelude.{◌≡◌, ℕ, ◌-◌, Bool, true, false, ◌&&◌, ◌||◌, List, [], ◌∷◌, length}
+use Rattle.std.specs.Prelude.{take, Option, Some, None, Result, Ok, Err, nat_lt, nat_eq, ◌==◌}
+use Rattle.std.specs.Prelude.{if◌then◌else◌, codes, slice_index}
 use Rattle.std.specs.Str.{trim}
 use Rattle.std.specs.List.{starts_with}
 use Rattle.imago_storage.specs.declared.error.Error.{Error}
@@ -23,7 +25,8 @@ or_invalid (Some x) = Ok x
 abbrev pub extent_with : {N M : Type 0} → (N → M) → Extent N → Extent M
 extent_with f (Extent.Zero sectors) = Extent.Zero sectors
 extent_with f (Extent.NoAccess sectors) = Extent.NoAccess sectors
-extent_with f (Extent.Flat sectors name offset writable) = Extent.Flat sectors (f name) offset writable
+extent_with f (Extent.Flat sectors name offset writable) = Extent.Flat sectors (f name) offset
+    writable
 
 abbrev pub line_with : {N M : Type 0} → (N → M) → Line N → Line M
 line_with f Line.Nothing = Line.Nothing
@@ -38,7 +41,9 @@ Gives view (Err e) wanted = wanted ≡ Err e
 
 -- the word that makes a line an extent
 unfoldable pub access_of : List ℕ → Option Access
-access_of word = if is_text word (codes "RW") then Some Access.ReadWrite else (if is_text word (codes "RDONLY") then Some Access.ReadOnly else (if is_text word (codes "NOACCESS") then Some Access.NoAccess else None))
+access_of word = if is_text word (codes "RW") then Some Access.ReadWrite else
+    (if is_text word (codes "RDONLY") then Some Access.ReadOnly else
+    (if is_text word (codes "NOACCESS") then Some Access.NoAccess else None))
 
 -- the offset in sectors, from the words behind the file name
 abbrev pub offset_of : List (List ℕ) → Result ℕ Error
@@ -51,13 +56,15 @@ flat_of writable sectors text = do
   opening ← or_invalid (cut_at 34 text)
   closing ← or_invalid (cut_at 34 opening.1)
   offset ← offset_of (words_of closing.1)
-  if length (words_of opening.0) == 3 then Ok (Extent.Flat sectors (trim closing.0) offset writable) else Err InvalidData
+  if length (words_of opening.0) == 3 then Ok (Extent.Flat sectors (trim closing.0) offset writable)
+      else Err InvalidData
 
 -- an extent that may be read, by the words behind the sector count: the first is its type
 unfoldable pub typed_of : Bool → ℕ → List (List ℕ) → List ℕ → Result (Extent (List ℕ)) Error
 typed_of writable sectors [] text = Err InvalidData
 typed_of writable sectors (word ∷ words) text =
-    if is_text word (codes "ZERO") then Ok (Extent.Zero sectors) else (if is_text word (codes "FLAT") then flat_of writable sectors text else Err Unsupported)
+    if is_text word (codes "ZERO") then Ok (Extent.Zero sectors) else
+    (if is_text word (codes "FLAT") then flat_of writable sectors text else Err Unsupported)
 
 -- an extent of that many sectors, by the words behind the sector count
 unfoldable pub sized_of : Access → ℕ → List (List ℕ) → List ℕ → Result (Extent (List ℕ)) Error
@@ -83,19 +90,24 @@ unquoted [] = []
 unquoted (b ∷ bs) = if (b == 34) && ends_in 34 bs then take (length bs - 1) bs else b ∷ bs
 
 abbrev pub is_setting : List ℕ → Bool
-is_setting key = (is_text key (codes "CID") || is_text key (codes "parentCID")) || is_text key (codes "createType")
+is_setting key = (is_text key (codes "CID") || is_text key (codes "parentCID"))
+    || is_text key (codes "createType")
 
 abbrev pub is_geometry : List ℕ → Bool
-is_geometry key = (is_text key (codes "ddb.geometry.sectors") || is_text key (codes "ddb.geometry.heads")) || is_text key (codes "ddb.geometry.cylinders")
+is_geometry key = (is_text key (codes "ddb.geometry.sectors")
+    || is_text key (codes "ddb.geometry.heads")) || is_text key (codes "ddb.geometry.cylinders")
 
 -- a key and its value; where `accept` holds, keys that aren't known say nothing
 unfoldable pub setting_of : Bool → List ℕ → List ℕ → Result (Line (List ℕ)) Error
 setting_of accept key value =
-    if is_text key (codes "version") then (or_invalid (number_of 32 value) >>= λ n. Ok (Line.Version n)) else
+    if is_text key (codes "version") then
+    (or_invalid (number_of 32 value) >>= λ n. Ok (Line.Version n)) else
     (if is_setting key then Ok Line.Setting else
     (if is_text key (codes "parentFileNameHint") then Err Unsupported else
-    (if is_geometry key then (or_invalid (number_of 64 (unquoted value)) >>= λ n. Ok Line.Setting) else
-    (if accept || starts_with nat_eq key (codes "ddb.") then Ok Line.Nothing else Err InvalidData))))
+    (if is_geometry key then (or_invalid (number_of 64 (unquoted value)) >>= λ n. Ok Line.Setting)
+    else
+    (if accept || starts_with nat_eq key (codes "ddb.") then Ok Line.Nothing else Err
+    InvalidData))))
 
 -- a line that is no extent, once it is cut at the first equals sign
 abbrev pub pair_of : Bool → Option (List ℕ × List ℕ) → Result (Line (List ℕ)) Error
@@ -110,7 +122,8 @@ worded_of accept (Some first) words text = extent_of first words text
 -- a trimmed text, by its words; an empty one, and one that begins with a number sign, is skipped
 unfoldable pub text_of : Bool → List (List ℕ) → List ℕ → Result (Line (List ℕ)) Error
 text_of accept [] text = Ok Line.Nothing
-text_of accept (first ∷ words) text = if slice_index text 0 == 35 then Ok Line.Nothing else worded_of accept (access_of first) words text
+text_of accept (first ∷ words) text = if slice_index text 0 == 35 then Ok Line.Nothing else
+    worded_of accept (access_of first) words text
 
 -- the verdict of a line, which looks at no other one; `accept`: keys that aren't known are accepted
 unfoldable pub verdict_of : Bool → List ℕ → Result (Line (List ℕ)) Error

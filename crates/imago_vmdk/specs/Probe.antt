@@ -1,4 +1,5 @@
-use Rattle.std.specs.Prelude.{ℕ, Bool, false, ◌&&◌, ◌||◌, List, [], ◌∷◌, map, length, Option, Some, None, if◌then◌else◌, codes}
+use Rattle.std.specs.Prelude.{ℕ, Bool, false, ◌&&◌, ◌||◌, List, [], ◌∷◌, map, length, Option, Some}
+use Rattle.std.specs.Prelude.{None, if◌then◌else◌, codes}
 use Rattle.std.specs.Str.{trim}
 use Rattle.imago_vmdk.specs.Text.{utf8_of, lines_of, cut_at, number_of, is_text}
 use Rattle.imago_vmdk.specs.Reading.{is_version, is_length, is_sparse}
@@ -11,7 +12,8 @@ names_version (Some n) = is_version n
 -- a line that names a version decides: whether that one is known
 abbrev pub key_decides : Option (List ℕ × List ℕ) → Option Bool
 key_decides None = None
-key_decides (Some p) = if is_text (trim p.0) (codes "version") then Some (names_version (number_of 32 (trim p.1))) else None
+key_decides (Some p) = if is_text (trim p.0) (codes "version") then Some
+    (names_version (number_of 32 (trim p.1))) else None
 
 -- one that isn't UTF-8 decides too: against
 abbrev pub text_decides : Option (List ℕ) → Option Bool

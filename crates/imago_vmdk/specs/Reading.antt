@@ -1,4 +1,6 @@
-use Rattle.std.specs.Prelude.{◌≡◌, ℕ, ◌*◌, ◌^◌, ◌⊎◌, Bool, ◌&&◌, List, [], ◌∷◌, map, length, take, Option, Some, None, Result, Ok, Err, IsOk, nat_lt, if◌then◌else◌, codes}
+use Rattle.std.specs.Prelude.{◌≡◌, ℕ, ◌*◌, ◌^◌, ◌⊎◌, Bool, ◌&&◌, List, [], ◌∷◌, map, length, take}
+use Rattle.std.specs.Prelude.{Option, Some, None, Result, Ok, Err, IsOk, nat_lt, if◌then◌else◌}
+use Rattle.std.specs.Prelude.{codes}
 use Rattle.std.specs.List.{sum_by}
 use Rattle.imago_storage.specs.declared.error.Error.{Error}
 use Rattle.imago_storage.specs.declared.error.Error.TheVariants.{InvalidData, Unsupported, Memory}
@@ -57,9 +59,11 @@ disk_of extents (Some size) = Ok (extents, size)
 
 -- what lines say together of which none is a fault: the last version is known, and the size fits
 unfoldable pub disk_in : List (Line (List ℕ)) → Result (List (Extent (List ℕ)) × ℕ) Error
-disk_in lines = if is_version (last_version 0 lines) then disk_of (extents_in lines) (fitting (sum_by size_of (extents_in lines))) else Err Unsupported
+disk_in lines = if is_version (last_version 0 lines) then disk_of (extents_in lines)
+    (fitting (sum_by size_of (extents_in lines))) else Err Unsupported
 
--- the parts of that which a function finds by itself: the last version and the size, the size alone, and the extents
+-- the parts of that which a function finds by itself: the last version and the size, the size
+-- alone, and the extents
 abbrev pub found_in : List (Line (List ℕ)) → ℕ × Option ℕ
 found_in lines = (last_version 0 lines, fitting (sum_by size_of (extents_in lines)))
 
@@ -86,13 +90,17 @@ extent_in (Line.Version m) = []
 extent_in Line.Setting = []
 
 -- these are the extents that are kept, unless memory was refused
-abbrev pub AreKept : {V : Type 0} → (V → List (Extent (List ℕ))) → Option V → List (Extent (List ℕ)) → Type 0
+abbrev pub AreKept : {V : Type 0} → (V → List (Extent (List ℕ))) → Option V → List (Extent (List ℕ))
+    → Type 0
 AreKept view None extents = Unit {0}
 AreKept view (Some v) extents = view v ≡ extents
 
--- what a function answers for the size, once the version and the size are found, is what the lines give
+-- what a function answers for the size, once the version and the size are found, is what the lines
+-- give
 abbrev pub GivesSize : ℕ → Option ℕ → Result ℕ Error → Type 0
-GivesSize version size result = (r : Result (List (Line (List ℕ))) Error) → (r >>= λ ls. Ok (found_in ls)) ≡ Ok (version, size) → Gives (λ n. n) result ((r >>= disk_in) >>= λ disk. Ok disk.1)
+GivesSize version size result = (r : Result (List (Line (List ℕ))) Error)
+    → (r >>= λ ls. Ok (found_in ls)) ≡ Ok (version, size)
+    → Gives (λ n. n) result ((r >>= disk_in) >>= λ disk. Ok disk.1)
 
 abbrev pub extents_of : Bool → List (List ℕ) → Result (List (Extent (List ℕ))) Error
 extents_of accept lines = lines_say accept lines >>= λ ls. Ok (extents_in ls)
@@ -112,7 +120,8 @@ reading_of accept bytes =
     (if is_sparse bytes then Err Unsupported else (lines_say accept (lines_of bytes) >>= disk_in))
     else Err InvalidData
 
--- What a function that takes memory answers, seen so, is what the definition gives, or want of memory where that is no refusal.
+-- What a function that takes memory answers, seen so, is what the definition gives, or want of
+-- memory where that is no refusal.
 abbrev pub GivesOrMemory : {X Y : Type 0} → (X → Y) → Result X Error → Result Y Error → Type 0
 GivesOrMemory view (Ok x) wanted = wanted ≡ Ok (view x)
 GivesOrMemory view (Err e) wanted = (wanted ≡ Err e) ⊎ ((e ≡ Memory) × IsOk wanted)

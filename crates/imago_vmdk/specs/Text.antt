@@ -1,4 +1,5 @@
-use Rattle.std.specs.Prelude.{ℕ, ◌^◌, Bool, true, false, ◌&&◌, List, [], ◌∷◌, map, length, Option, Some, None, nat_lt, ◌==◌, if◌then◌else◌}
+use Rattle.std.specs.Prelude.{ℕ, ◌^◌, Bool, true, false, ◌&&◌, List, [], ◌∷◌, map, length, Option}
+use Rattle.std.specs.Prelude.{Some, None, nat_lt, ◌==◌, if◌then◌else◌}
 use Rattle.std.specs.Char.{is_whitespace}
 use Rattle.std.specs.List.{filter, slice_split, position_or_len, before_first, after_first}
 use Rattle.std.specs.Str.{is_utf8, chars, encode_utf8_all, all_ascii_digits, bytes_eq}
@@ -35,10 +36,12 @@ words_of text = map encode_utf8_all (char_words (chars text))
 
 -- what stands before and after the first byte of that value, where there is one
 abbrev pub cut_at : ℕ → List ℕ → Option (List ℕ × List ℕ)
-cut_at c text = if nat_lt (position_or_len (λ b. b == c) text) (length text) then Some (before_first (λ b. b == c) text, after_first (λ b. b == c) text) else None
+cut_at c text = if nat_lt (position_or_len (λ b. b == c) text) (length text) then Some
+    (before_first (λ b. b == c) text, after_first (λ b. b == c) text) else None
 
 -- the number that a text is: a plus sign or none, then one digit or more, below 2 ^ bits
 unfoldable pub number_of : ℕ → List ℕ → Option ℕ
 number_of bits text =
     let digits = without_leading_plus text in
-    if (is_filled digits && all_ascii_digits digits) && nat_lt (digits_value 10 digits) (2 ^ bits) then Some (digits_value 10 digits) else None
+    if (is_filled digits && all_ascii_digits digits)
+    && nat_lt (digits_value 10 digits) (2 ^ bits) then Some (digits_value 10 digits) else None

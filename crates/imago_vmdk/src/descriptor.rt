@@ -1,10 +1,15 @@
 //! What the text of a descriptor says, and whether bytes look like one.
-ghost use Rattle.std.specs.Prelude.{◌≡◌, ℕ, List, MatchOption, IfSome, option_map, length, ◌+◌, ◌*◌, ◌++◌, ◌∷◌, [], map, Ok, MatchResult, OnOk, IfOk, IfErr, ◌<◌, ◌^◌};
+ghost use Rattle.std.specs.Prelude.{◌≡◌, ℕ, List, MatchOption, IfSome, option_map, length, ◌+◌};
+ghost use Rattle.std.specs.Prelude.{◌*◌, ◌++◌, ◌∷◌, [], map, Ok, MatchResult, OnOk, IfOk, IfErr};
+ghost use Rattle.std.specs.Prelude.{◌<◌, ◌^◌};
 ghost use Rattle.std.specs.List.{sum_by};
 ghost use Rattle.std.specs.String.{string_bytes};
 ghost use Rattle.imago_vmdk.specs.Text.{lines_of, lines_left, number_of};
 ghost use Rattle.imago_vmdk.specs.Line.{Gives, extent_with, line_with};
-ghost use Rattle.imago_vmdk.specs.Reading.{survey_of, version_with, size_in, extent_in, AreKept, GivesSize, extents_of, size_of, is_version, is_length as may_be_long, fitting, reading_of, GivesOrMemory};
+ghost use Rattle.imago_vmdk.specs.Reading.{survey_of, version_with, size_in, extent_in, AreKept};
+ghost use Rattle.imago_vmdk.specs.Reading.{GivesSize, extents_of, size_of, is_version};
+ghost use Rattle.imago_vmdk.specs.Reading.{is_length as may_be_long, fitting, reading_of};
+ghost use Rattle.imago_vmdk.specs.Reading.{GivesOrMemory};
 ghost use Rattle.imago_vmdk.specs.Probe.{line_decides, names_version, probe_lines, probe_of};
 
 use crate::line::{Extent, Line, cut_at_equals, utf8, verdict, version_number};
@@ -53,7 +58,9 @@ fn longer(size: Option<u64>, sectors: u64) -> Option<u64>
 
 /// The extent with a name of its own. Refused, it is [`Error::Memory`].
 fn owned(alloc: Global, extent: Extent<&str>) -> Result<Extent<String>, Error>
-    ensures { MatchResult result (λ e. extent_with string_bytes e ≡ extent_with (λ s. s.now) extent.entry) (λ e. e ≡ Error.Memory) }
+    ensures { MatchResult result
+        (λ e. extent_with string_bytes e ≡ extent_with (λ s. s.now) extent.entry)
+        (λ e. e ≡ Error.Memory) }
 {
     match extent {
         Extent::Zero { sectors } => Ok(Extent::Zero { sectors }),
@@ -82,7 +89,8 @@ fn append(
     extent: Extent<&str>,
 ) -> Result<(), Error>
     ensures items { OnOk result (map (extent_with string_bytes) extents.new.items
-        ≡ map (extent_with string_bytes) extents.old.items ++ extent_with (λ s. s.now) extent.entry ∷ []) }
+        ≡ map (extent_with string_bytes) extents.old.items ++ extent_with (λ s. s.now) extent.entry
+        ∷ []) }
     ensures memory { IfErr result (λ e. e ≡ Error.Memory) }
 {
     let extent = owned(alloc, extent)?;
@@ -96,8 +104,10 @@ fn kept(
     extents: Option<Vec<Extent<String>>>,
     extent: Extent<&str>,
 ) -> Option<Vec<Extent<String>>>
-    ensures { (es : List (Extent (List ℕ))) → AreKept (λ v. map (extent_with string_bytes) v.items) extents es
-        → AreKept (λ v. map (extent_with string_bytes) v.items) result (es ++ extent_with (λ s. s.now) extent.entry ∷ []) }
+    ensures { (es : List (Extent (List ℕ))) → AreKept (λ v. map (extent_with string_bytes) v.items)
+        extents es
+        → AreKept (λ v. map (extent_with string_bytes) v.items) result
+        (es ++ extent_with (λ s. s.now) extent.entry ∷ []) }
 {
     let mut extents = extents?;
     match append(alloc, &mut extents, extent) {
@@ -107,13 +117,16 @@ fn kept(
 }
 
 impl Survey {
-    /// What the lines say with one more. Of versions the last one counts. Where memory is refused, no extents are kept from there
-    /// on.
+    /// What the lines say with one more. Of versions the last one counts. Where memory is refused,
+    /// no extents are kept from there on.
     fn with(self, alloc: Global, line: Line<&str>) -> Self
         ensures version { result.version ≡ version_with self.version line.entry }
-        ensures size { (n : ℕ) → self.size ≡ fitting n → result.size ≡ fitting (n + size_in line.entry) }
-        ensures extents { (es : List (Extent (List ℕ))) → AreKept (λ v. map (extent_with string_bytes) v.items) self.extents es
-            → AreKept (λ v. map (extent_with string_bytes) v.items) result.extents (es ++ extent_in (line_with (λ s. s.now) line.entry)) }
+        ensures size { (n : ℕ) → self.size ≡ fitting n
+            → result.size ≡ fitting (n + size_in line.entry) }
+        ensures extents { (es : List (Extent (List ℕ)))
+            → AreKept (λ v. map (extent_with string_bytes) v.items) self.extents es
+            → AreKept (λ v. map (extent_with string_bytes) v.items) result.extents
+            (es ++ extent_in (line_with (λ s. s.now) line.entry)) }
     {
         let Survey {
             version,
@@ -142,7 +155,8 @@ impl Survey {
 
 /// The first line of a text, and what stands behind its end, if it has one.
 fn cut_line(text: &[u8]) -> (&[u8], Option<&[u8]>)
-    ensures lines { lines_of text.now ≡ result.0.now ∷ lines_left (option_map (λ s. s.now) result.1) }
+    ensures lines { lines_of text.now ≡ result.0.now ∷ lines_left
+        (option_map (λ s. s.now) result.1) }
     ensures shorter { IfSome result.1 (λ rest. length rest.now < length text.now) }
 {
     match memchr(b'\n', text) {
@@ -151,12 +165,14 @@ fn cut_line(text: &[u8]) -> (&[u8], Option<&[u8]>)
     }
 }
 
-/// Reads all lines. Where memory is refused, only the faults, the version and the size are looked for from there on.
+/// Reads all lines. Where memory is refused, only the faults, the version and the size are looked
+/// for from there on.
 fn survey_lines(alloc: Global, accept: bool, text: &[u8]) -> Result<Survey, Error>
     ensures found { Gives (λ s. (s.version, s.size)) result (survey_of accept (lines_of text.now)) }
     ensures extents { IfOk result
         (λ s. MatchOption s.extents (Unit {0})
-        (λ v. extents_of accept (lines_of text.now) ≡ Ok (map (extent_with string_bytes) v.items))) }
+        (λ v. extents_of accept (lines_of text.now)
+        ≡ Ok (map (extent_with string_bytes) v.items))) }
 {
     let mut survey = Survey {
         version: 0,
@@ -183,18 +199,21 @@ fn disk_size(version: u32, size: Option<u64>) -> Result<u64, Error>
     size.ok_or(Error::InvalidData)
 }
 
-/// What a descriptor says, whose bytes these are. Keys that aren't known are [`Error::InvalidData`], or say nothing where
+/// What a descriptor says, whose bytes these are. Keys that aren't known are
+/// [`Error::InvalidData`], or say nothing where
 /// `accept_unknown_keys` holds.
 ///
-/// [`Error::InvalidData`] is a length under 4 or over 2097152 bytes. Then [`Error::Unsupported`] is another kind of VMDK
-/// file, then the first line that can't be meant or isn't offered is answered, then as unsupported a version that isn't
-/// known, and then as invalid a disk whose size in bytes doesn't fit. [`Error::Memory`] is answered only where none of
-/// these is.
+/// [`Error::InvalidData`] is a length under 4 or over 2097152 bytes. Then [`Error::Unsupported`] is
+/// another kind of VMDK file, then the first line that can't be meant or isn't offered is answered,
+/// then as unsupported a version that isn't known, and then as invalid a disk whose size in bytes
+/// doesn't fit. [`Error::Memory`] is answered only where none of these is.
 #[tactic(auto, unfolding(crate::specs::Reading::reading_of))]
 pub fn read(alloc: Global, accept_unknown_keys: bool, text: &[u8]) -> Result<Descriptor, Error>
-    ensures reading { GivesOrMemory (λ d. (map (extent_with string_bytes) d.extents.items, d.size)) result
+    ensures reading { GivesOrMemory (λ d. (map (extent_with string_bytes) d.extents.items, d.size))
+        result
         (reading_of accept_unknown_keys text.now) }
-    ensures size { IfOk result (λ d. (d.size ≡ sum_by size_of d.extents.items) × (d.size < 2 ^ 64)) }
+    ensures size { IfOk result (λ d. (d.size ≡ sum_by size_of d.extents.items)
+        × (d.size < 2 ^ 64)) }
 {
     if !is_length(text.len() as u64) {
         return Err(Error::InvalidData);
@@ -252,8 +271,8 @@ fn first_decision(text: &[u8]) -> bool
     false
 }
 
-/// Whether these bytes look like a VMDK image's: of another kind, or a descriptor whose first version line has a version
-/// that is known.
+/// Whether these bytes look like a VMDK image's: of another kind, or a descriptor whose first
+/// version line has a version that is known.
 #[tactic(auto, unfolding(crate::specs::Probe::probe_of))]
 pub fn probe(text: &[u8]) -> bool
     ensures { result ≡ probe_of text.now }

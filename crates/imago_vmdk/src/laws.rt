@@ -1,6 +1,7 @@
-//! Laws of what descriptors say and of the disks that they describe, and what the definitions give for lines that are written
-//! out. The functions do nothing; their contracts are proved.
-ghost use Rattle.std.specs.Prelude.{◌≡◌, Bool, true, false, ℕ, List, ◌++◌, ◌∷◌, [], Ok, Err, IsOk, codes};
+//! Laws of what descriptors say and of the disks that they describe, and what the definitions give
+//! for lines that are written out. The functions do nothing; their contracts are proved.
+ghost use Rattle.std.specs.Prelude.{◌≡◌, Bool, true, false, ℕ, List, ◌++◌, ◌∷◌, [], Ok, Err, IsOk};
+ghost use Rattle.std.specs.Prelude.{codes};
 ghost use Rattle.imago_storage.specs.declared.error.Error.{Error};
 ghost use Rattle.imago_storage.specs.declared.error.Error.TheVariants.{InvalidData, Unsupported};
 ghost use Rattle.imago_vmdk.specs.declared.line.Extent.{Extent};
@@ -33,32 +34,43 @@ pub fn same_stands()
         → described_place accept new p ≡ with_bytes new (described_place accept old p) }
 {}
 
-/// What is read of an image whose extents are opened follows from the bytes of its storages, whatever lies below: those of the
-/// descriptor say which byte of which storage an offset has.
+/// What is read of an image whose extents are opened follows from the bytes of its storages,
+/// whatever lies below: those of the descriptor say which byte of which storage an offset has.
 pub fn disk_of_bytes<S: Storage>(image: &Vmdk<S>)
     requires { is_opened image.now ≡ true }
-    ensures { (below : ℕ → Value) (p : ℕ) → shown below ((⟦<Vmdk<S> as FormatDriverInstance>⟧.view image.now).place p)
-        ≡ described_value (takes_unknown_keys image.now) (⟦<Vmdk<S> as FormatDriverInstance>⟧.view image.now).stores.bytes p }
+    ensures { (below : ℕ → Value) (p : ℕ)
+        → shown below ((⟦<Vmdk<S> as FormatDriverInstance>⟧.view image.now).place p)
+        ≡ described_value (takes_unknown_keys image.now)
+        (⟦<Vmdk<S> as FormatDriverInstance>⟧.view image.now).stores.bytes p }
 {
     places_of_bytes(image);
 }
 
 /// The first fault is the answer, whatever stands behind it.
 pub fn first_fault()
-    ensures { (accept : Bool) (before after : List (List ℕ)) (x : List ℕ) (e : Error) → IsOk (lines_say accept before) → verdict_of accept x ≡ Err e → lines_say accept (before ++ x ∷ after) ≡ Err e }
+    ensures { (accept : Bool) (before after : List (List ℕ)) (x : List ℕ) (e : Error)
+        → IsOk (lines_say accept before) → verdict_of accept x ≡ Err e
+        → lines_say accept (before ++ x ∷ after) ≡ Err e }
 {}
 
 /// Extents, with their sector counts, types, names and offsets.
 pub fn extent_lines()
     ensures zero { verdict_of false (codes "RW 3 ZERO") ≡ Ok (Line.Extent (Extent.Zero 3)) }
-    ensures plus_sign { verdict_of false (codes "RW +3 ZERO rest") ≡ Ok (Line.Extent (Extent.Zero 3)) }
-    ensures no_access { verdict_of false (codes "NOACCESS 5 anything") ≡ Ok (Line.Extent (Extent.NoAccess 5)) }
-    ensures read_only { verdict_of false (codes "RDONLY 1 FLAT \"a.img\"") ≡ Ok (Line.Extent (Extent.Flat 1 (codes "a.img") 0 false)) }
-    ensures trimmed_name { verdict_of false (codes "RW 1 FLAT \"  my disk.img \" 7 x") ≡ Ok (Line.Extent (Extent.Flat 1 (codes "my disk.img") 7 true)) }
-    ensures offset_at_the_quote { verdict_of false (codes "RW 1 FLAT \"a.img\"5") ≡ Ok (Line.Extent (Extent.Flat 1 (codes "a.img") 5 true)) }
-    ensures empty_name { verdict_of false (codes "RW 1 FLAT \"\" 0") ≡ Ok (Line.Extent (Extent.Flat 1 [] 0 true)) }
+    ensures plus_sign { verdict_of false (codes "RW +3 ZERO rest")
+        ≡ Ok (Line.Extent (Extent.Zero 3)) }
+    ensures no_access { verdict_of false (codes "NOACCESS 5 anything")
+        ≡ Ok (Line.Extent (Extent.NoAccess 5)) }
+    ensures read_only { verdict_of false (codes "RDONLY 1 FLAT \"a.img\"")
+        ≡ Ok (Line.Extent (Extent.Flat 1 (codes "a.img") 0 false)) }
+    ensures trimmed_name { verdict_of false (codes "RW 1 FLAT \"  my disk.img \" 7 x")
+        ≡ Ok (Line.Extent (Extent.Flat 1 (codes "my disk.img") 7 true)) }
+    ensures offset_at_the_quote { verdict_of false (codes "RW 1 FLAT \"a.img\"5")
+        ≡ Ok (Line.Extent (Extent.Flat 1 (codes "a.img") 5 true)) }
+    ensures empty_name { verdict_of false (codes "RW 1 FLAT \"\" 0")
+        ≡ Ok (Line.Extent (Extent.Flat 1 [] 0 true)) }
     ensures no_sectors { verdict_of false (codes "RW 0 ZERO") ≡ Ok (Line.Extent (Extent.Zero 0)) }
-    ensures wide_space { verdict_of false (194 ∷ 160 ∷ codes "RW 3 ZERO" ++ 194 ∷ 160 ∷ []) ≡ Ok (Line.Extent (Extent.Zero 3)) }
+    ensures wide_space { verdict_of false (194 ∷ 160 ∷ codes "RW 3 ZERO" ++ 194 ∷ 160 ∷ [])
+        ≡ Ok (Line.Extent (Extent.Zero 3)) }
 {}
 
 /// Extents that can't be meant, or whose type isn't offered: the first field that fails decides.
@@ -73,7 +85,8 @@ pub fn faulty_extent_lines()
     ensures bad_count { verdict_of false (codes "RW x ZERO") ≡ Err InvalidData }
     ensures count_before_type { verdict_of false (codes "RW x SPARSE") ≡ Err InvalidData }
     ensures minus_sign { verdict_of false (codes "RW -1 ZERO") ≡ Err InvalidData }
-    ensures large_count { verdict_of false (codes "RW 18446744073709551616 ZERO") ≡ Err InvalidData }
+    ensures large_count { verdict_of false (codes "RW 18446744073709551616 ZERO")
+        ≡ Err InvalidData }
 {}
 
 /// Lines that say nothing, settings, and keys that can't be meant.
@@ -87,7 +100,8 @@ pub fn other_lines()
     ensures other_ddb_key { verdict_of false (codes "ddb.uuid = \"x\"") ≡ Ok Line.Nothing }
     ensures geometry { verdict_of false (codes "ddb.geometry.heads = \"16\"") ≡ Ok Line.Setting }
     ensures bad_geometry { verdict_of false (codes "ddb.geometry.heads = \"x\"") ≡ Err InvalidData }
-    ensures create_type { verdict_of false (codes "createType=\"monolithicFlat\"") ≡ Ok Line.Setting }
+    ensures create_type { verdict_of false (codes "createType=\"monolithicFlat\"")
+        ≡ Ok Line.Setting }
     ensures content_id { verdict_of false (codes "CID=fffffffe") ≡ Ok Line.Setting }
     ensures parent { verdict_of false (codes "parentFileNameHint=\"p.vmdk\"") ≡ Err Unsupported }
     ensures version { verdict_of false (codes "version = 3") ≡ Ok (Line.Version 3) }
@@ -107,13 +121,22 @@ pub fn lines_with_unknown_keys()
 
 /// Whole descriptors: what lines say together.
 pub fn whole_descriptors()
-    ensures extents { reading_of false (codes "version=1" ++ 10 ∷ codes "RW 2 ZERO" ++ 10 ∷ codes "RDONLY 1 FLAT \"a.img\" 3" ++ 10 ∷ []) ≡ Ok (Extent.Zero 2 ∷ Extent.Flat 1 (codes "a.img") 3 false ∷ [], 1536) }
+    ensures extents { reading_of false
+        (codes "version=1" ++ 10 ∷ codes "RW 2 ZERO" ++ 10 ∷ codes "RDONLY 1 FLAT \"a.img\" 3" ++ 10
+        ∷ []) ≡ Ok (Extent.Zero 2 ∷ Extent.Flat 1 (codes "a.img") 3 false ∷ [], 1536) }
     ensures no_version { reading_of false (codes "RW 2 ZERO") ≡ Err Unsupported }
-    ensures last_version { reading_of false (codes "version=4" ++ 10 ∷ codes "version=2") ≡ Ok ([], 0) }
-    ensures fault_before_version { reading_of false (codes "version=4" ++ 10 ∷ codes "foo=1") ≡ Err InvalidData }
+    ensures last_version { reading_of false (codes "version=4" ++ 10 ∷ codes "version=2")
+        ≡ Ok ([], 0) }
+    ensures fault_before_version { reading_of false (codes "version=4" ++ 10 ∷ codes "foo=1")
+        ≡ Err InvalidData }
     ensures other_kind { reading_of false (codes "KDMV") ≡ Err Unsupported }
     ensures three_bytes { reading_of false (codes "abc") ≡ Err InvalidData }
-    ensures size_past_64_bits { reading_of false (codes "version=1" ++ 10 ∷ codes "RW 18446744073709551615 ZERO") ≡ Err InvalidData }
-    ensures version_before_size { reading_of false (codes "RW 18446744073709551615 ZERO") ≡ Err Unsupported }
-    ensures sum_past_64_bits { reading_of false (codes "version=1" ++ 10 ∷ codes "RW 18014398509481984 ZERO" ++ 10 ∷ codes "RW 18014398509481984 ZERO" ++ 10 ∷ codes "RW 18014398509481984 ZERO" ++ 10 ∷ codes "RW 18014398509481984 ZERO") ≡ Err InvalidData }
+    ensures size_past_64_bits { reading_of false
+        (codes "version=1" ++ 10 ∷ codes "RW 18446744073709551615 ZERO") ≡ Err InvalidData }
+    ensures version_before_size { reading_of false (codes "RW 18446744073709551615 ZERO")
+        ≡ Err Unsupported }
+    ensures sum_past_64_bits { reading_of false
+        (codes "version=1" ++ 10 ∷ codes "RW 18014398509481984 ZERO" ++ 10 ∷ codes
+        "RW 18014398509481984 ZERO" ++ 10 ∷ codes "RW 18014398509481984 ZERO" ++ 10 ∷ codes
+        "RW 18014398509481984 ZERO") ≡ Err InvalidData }
 {}

@@ -1,7 +1,7 @@
 //! The driver of VMDK images that a text descriptor describes.
 //!
-//! [`line`] says what one line of a descriptor means, [`descriptor`] what all of them mean together, and
-//! [`vmdk`] has the driver.
+//! [`line`] says what one line of a descriptor means, [`descriptor`] what all of them mean
+//! together, and [`vmdk`] has the driver.
 #![tactic(auto)]
 
 pub mod descriptor;

@@ -3,7 +3,9 @@ ghost use Rattle.std.specs.Prelude.{◌≡◌, option_map, MatchOption, [], ◌�
 ghost use Rattle.std.specs.Str.{IsUtf8};
 ghost use Rattle.std.specs.Str.Iter.{split_whitespace_rest};
 ghost use Rattle.imago_vmdk.specs.Text.{utf8_of, words_of, cut_at, number_of};
-ghost use Rattle.imago_vmdk.specs.Line.{Gives, extent_with, line_with, access_of as access_named, unquoted, offset_of, flat_of, typed_of, sized_of, extent_of, setting_of, pair_of, text_of, verdict_of};
+ghost use Rattle.imago_vmdk.specs.Line.{Gives, extent_with, line_with, access_of as access_named};
+ghost use Rattle.imago_vmdk.specs.Line.{unquoted, offset_of, flat_of, typed_of, sized_of};
+ghost use Rattle.imago_vmdk.specs.Line.{extent_of, setting_of, pair_of, text_of, verdict_of};
 ghost use Rattle.imago_vmdk.specs.Reading.{sectors_of};
 
 use imago_storage::error::Error;
@@ -130,7 +132,8 @@ fn next_word<'a>(words: &mut SplitWhitespace<'a>) -> Option<&'a str>
     requires { IsUtf8 (split_whitespace_rest words.old) }
     ensures utf8 { IsUtf8 (split_whitespace_rest words.new) }
     ensures words { MatchOption result (words_of (split_whitespace_rest words.old) ≡ [])
-        (λ word. words_of (split_whitespace_rest words.old) ≡ word.now ∷ words_of (split_whitespace_rest words.new)) }
+        (λ word. words_of (split_whitespace_rest words.old) ≡ word.now ∷ words_of
+        (split_whitespace_rest words.new)) }
 {
     words.next()
 }
@@ -271,11 +274,12 @@ pub(crate) fn utf8(bytes: &[u8]) -> Option<&str>
     str::from_utf8(bytes).ok()
 }
 
-/// What a line of a descriptor says, by itself. Keys that aren't known are [`Error::InvalidData`], or say nothing where
+/// What a line of a descriptor says, by itself. Keys that aren't known are [`Error::InvalidData`],
+/// or say nothing where
 /// `accept_unknown_keys` holds.
 ///
-/// [`Error::InvalidData`] is a line that can't be meant, and [`Error::Unsupported`] an extent of another type, or an image
-/// that stands over another one.
+/// [`Error::InvalidData`] is a line that can't be meant, and [`Error::Unsupported`] an extent of
+/// another type, or an image that stands over another one.
 #[tactic(auto, unfolding(crate::specs::Line::verdict_of))]
 pub fn verdict(accept_unknown_keys: bool, line: &[u8]) -> Result<Line<&str>, Error>
     ensures { Gives (line_with (λ s. s.now)) result (verdict_of accept_unknown_keys line.now) }

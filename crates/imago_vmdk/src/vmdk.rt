@@ -1,5 +1,7 @@
 //! The driver of VMDK images.
-ghost use Rattle.std.specs.Prelude.{◌≡◌, ℕ, ◌+◌, ◌*◌, ◌^◌, ◌-◌, ◌<◌, ◌≤◌, ◌⊎◌, ◌++◌, length, map, slice_index_or, IfOk, IfErr, OnOk, OnErr, IsOk, IsErrOf, Ok, Err, min, false, true, [], ◌∷◌, List, MatchOption};
+ghost use Rattle.std.specs.Prelude.{◌≡◌, ℕ, ◌+◌, ◌*◌, ◌^◌, ◌-◌, ◌<◌, ◌≤◌, ◌⊎◌, ◌++◌, length, map};
+ghost use Rattle.std.specs.Prelude.{slice_index_or, IfOk, IfErr, OnOk, OnErr, IsOk, IsErrOf, Ok};
+ghost use Rattle.std.specs.Prelude.{Err, min, false, true, [], ◌∷◌, List, MatchOption};
 ghost use Rattle.std.specs.List.{sum_by};
 ghost use Rattle.std.specs.String.{string_bytes};
 ghost use Rattle.imago_storage.specs.Error.{IsExtRefusal};
@@ -11,11 +13,14 @@ ghost use Rattle.imago_drivers.specs.Place.{Refused};
 ghost use Rattle.imago_drivers.specs.Reasons.{allowed};
 ghost use Rattle.imago_drivers.specs.Commit.{IsCommit, IsCancel};
 ghost use Rattle.imago_vmdk.specs.Line.{extent_with};
-ghost use Rattle.imago_vmdk.specs.Reading.{size_of as extent_size, is_length as may_be_long, reading_of};
+ghost use Rattle.imago_vmdk.specs.Reading.{size_of as extent_size, is_length as may_be_long};
+ghost use Rattle.imago_vmdk.specs.Reading.{reading_of};
 ghost use Rattle.imago_vmdk.specs.Probe.{probe_of};
-ghost use Rattle.imago_vmdk.specs.Vmdk.{extent_place, extent_rest, places_from, rest_from, storages_in, vmdk_count, vmdk_view, text_reasons};
+ghost use Rattle.imago_vmdk.specs.Vmdk.{extent_place, extent_rest, places_from, rest_from};
+ghost use Rattle.imago_vmdk.specs.Vmdk.{storages_in, vmdk_count, vmdk_view, text_reasons};
 ghost use Rattle.imago_vmdk.specs.Starts.{starts_from};
-ghost use Rattle.imago_vmdk.specs.Opened.{IsStorageOpened, IsStorageRefused, IsExtentOpened, IsExtentRefused, AreOpened, AreRefused};
+ghost use Rattle.imago_vmdk.specs.Opened.{IsStorageOpened, IsStorageRefused, IsExtentOpened};
+ghost use Rattle.imago_vmdk.specs.Opened.{IsExtentRefused, AreOpened, AreRefused};
 ghost use Rattle.imago_vmdk.specs.VmdkCalls.{vmdk_calls};
 ghost use Rattle.imago_vmdk.specs.VmdkLaws.{vmdk_lawful, vmdk_causes};
 
@@ -42,10 +47,11 @@ pub(crate) struct Start {
     storage: usize,
 }
 
-/// A disk of extents, one after the other, that a text descriptor describes. It can't be written to.
+/// A disk of extents, one after the other, that a text descriptor describes. It can't be written
+/// to.
 ///
-/// The descriptor is the storage of index 0, and those of the FLAT extents follow in order. Until they are opened the disk
-/// has its size, and no place.
+/// The descriptor is the storage of index 0, and those of the FLAT extents follow in order. Until
+/// they are opened the disk has its size, and no place.
 #[derive(Drop)]
 pub struct Vmdk<S: Storage> {
     descriptor: S,
@@ -60,7 +66,8 @@ pub struct Vmdk<S: Storage> {
     direct: bool,
     /// Whether keys of the descriptor that aren't known are accepted.
     accepts_unknown_keys: bool,
-    ghost read: { reading_of accepts_unknown_keys (S.bytes descriptor) ≡ Ok (map (extent_with string_bytes) extents.items, size) },
+    ghost read: { reading_of accepts_unknown_keys (S.bytes descriptor)
+        ≡ Ok (map (extent_with string_bytes) extents.items, size) },
     ghost sized: { size ≡ sum_by extent_size extents.items },
     ghost fits: { size < 2 ^ 64 },
     ghost started: { starts.items ≡ starts_from 0 1 extents.items },
@@ -71,13 +78,16 @@ pub struct Vmdk<S: Storage> {
 fn text<S: Storage>(alloc: Global, storage: &S) -> Result<Option<Vec<u8>>, Error>
     ensures text { IfOk result
         (λ r. MatchOption r (may_be_long (length (S.bytes storage.now)) ≡ false)
-        (λ v. (may_be_long (length (S.bytes storage.now)) ≡ true) × (v.items ≡ S.bytes storage.now))) }
+        (λ v. (may_be_long (length (S.bytes storage.now)) ≡ true)
+        × (v.items ≡ S.bytes storage.now))) }
     ensures only { IfErr result IsExtRefusal }
     ensures device { IsErrOf result Error.Device → (S.features storage.now).is_reliable ≡ false }
     ensures wraps { IsErrOf result Error.WrapAround
-        → (may_be_long (length (S.bytes storage.now)) ≡ true) × Wraps (S.features storage.now) 0 (length (S.bytes storage.now)) }
+        → (may_be_long (length (S.bytes storage.now)) ≡ true)
+        × Wraps (S.features storage.now) 0 (length (S.bytes storage.now)) }
     ensures memory { IsErrOf result Error.Memory
-        → (may_be_long (length (S.bytes storage.now)) ≡ true) ⊎ MayRunOut (S.features storage.now).other_memory 0 0 }
+        → (may_be_long (length (S.bytes storage.now)) ≡ true)
+        ⊎ MayRunOut (S.features storage.now).other_memory 0 0 }
 {
     let size = storage.size()?;
     if !is_length(size) {
@@ -113,7 +123,8 @@ fn find(starts: &[Start], offset: u64) -> usize
     requires first { (d : _) → (slice_index_or starts.now 0 d).offset ≤ offset }
     ensures inside { result < length starts.now }
     ensures begins { (d : _) → (slice_index_or starts.now result d).offset ≤ offset }
-    ensures last { (d : _) → result + 1 < length starts.now → offset < (slice_index_or starts.now (result + 1) d).offset }
+    ensures last { (d : _) → result + 1 < length starts.now
+        → offset < (slice_index_or starts.now (result + 1) d).offset }
 {
     let mut low = 0;
     let mut high = starts.len();
@@ -128,8 +139,9 @@ fn find(starts: &[Start], offset: u64) -> usize
     low
 }
 
-/// The mapping of bytes of a FLAT extent from the `at`-th one on, of which `rest` are left. The extent begins at that
-/// offset of its storage, in sectors. [`Error::InvalidData`] is a byte that no mapping can end behind.
+/// The mapping of bytes of a FLAT extent from the `at`-th one on, of which `rest` are left. The
+/// extent begins at that offset of its storage, in sectors. [`Error::InvalidData`] is a byte that
+/// no mapping can end behind.
 fn flat(
     storage: usize,
     offset: u64,
@@ -138,9 +150,12 @@ fn flat(
     writable: bool,
 ) -> Result<(ShallowMapping, u64), Error>
     requires { 0 < rest }
-    ensures mapping { IfOk result (λ r. r.0 ≡ ShallowMapping.Raw storage (offset * 512 + at) writable) }
-    ensures rest { IfOk result (λ r. (r.1 ≡ min rest (2 ^ 64 - 1 - (offset * 512 + at))) × (0 < r.1)) }
-    ensures refused { IfErr result (λ e. (e ≡ Error.InvalidData) × (2 ^ 64 - 1 ≤ offset * 512 + at)) }
+    ensures mapping { IfOk result
+        (λ r. r.0 ≡ ShallowMapping.Raw storage (offset * 512 + at) writable) }
+    ensures rest { IfOk result (λ r. (r.1 ≡ min rest (2 ^ 64 - 1 - (offset * 512 + at)))
+        × (0 < r.1)) }
+    ensures refused { IfErr result (λ e. (e ≡ Error.InvalidData)
+        × (2 ^ 64 - 1 ≤ offset * 512 + at)) }
 {
     let Some(start) = offset.checked_mul(512) else {
         return Err(Error::InvalidData);
@@ -163,9 +178,12 @@ fn flat(
 fn named(extent: &Extent<String>, storage: usize, at: u64) -> Result<(ShallowMapping, u64), Error>
     requires inside { at < extent_size extent.now }
     requires fits { extent_size extent.now < 2 ^ 64 }
-    ensures names { (bytes : ℕ → List ℕ) → IfOk result (λ r. (i : ℕ) → i < r.1 → Names r.0 i (extent_place bytes storage extent.now (at + i))) }
+    ensures names { (bytes : ℕ → List ℕ)
+        → IfOk result (λ r. (i : ℕ) → i < r.1
+        → Names r.0 i (extent_place bytes storage extent.now (at + i))) }
     ensures rest { IfOk result (λ r. (r.1 ≡ extent_rest extent.now at) × (0 < r.1)) }
-    ensures refused { (bytes : ℕ → List ℕ) → IfErr result (λ e. extent_place bytes storage extent.now at ≡ Refused e) }
+    ensures refused { (bytes : ℕ → List ℕ)
+        → IfErr result (λ e. extent_place bytes storage extent.now at ≡ Refused e) }
 {
     match extent {
         Extent::Zero { sectors } => {
@@ -193,9 +211,11 @@ fn mapped(
     requires inside { offset < sum_by extent_size extents.now }
     requires fits { sum_by extent_size extents.now < 2 ^ 64 }
     ensures names { (bytes : ℕ → List ℕ)
-        → IfOk result (λ r. (i : ℕ) → i < r.1 → Names r.0 i (places_from bytes 1 extents.now (offset + i))) }
+        → IfOk result (λ r. (i : ℕ) → i < r.1
+        → Names r.0 i (places_from bytes 1 extents.now (offset + i))) }
     ensures rest { IfOk result (λ r. (r.1 ≡ rest_from extents.now offset) × (0 < r.1)) }
-    ensures refused { (bytes : ℕ → List ℕ) → IfErr result (λ e. places_from bytes 1 extents.now offset ≡ Refused e) }
+    ensures refused { (bytes : ℕ → List ℕ)
+        → IfErr result (λ e. places_from bytes 1 extents.now offset ≡ Refused e) }
 {
     let index = find(starts, offset);
     let start = starts[index];
@@ -210,9 +230,11 @@ fn open_storage<S: Storage, G: ImplicitOpenGate<S>>(
     direct: bool,
     gate: &mut G,
 ) -> Result<S, Error>
-    ensures opened { IfOk result (λ s. IsStorageOpened G.opened (S.openings.resolved descriptor.now) direct name.now gate.old gate.new (s ∷ [])) }
+    ensures opened { IfOk result (λ s. IsStorageOpened G.opened (S.openings.resolved descriptor.now)
+        direct name.now gate.old gate.new (s ∷ [])) }
     ensures refused { IfErr result
-        (IsStorageRefused G.opened (S.openings.resolved descriptor.now) direct (S.features descriptor.now) name.now gate.old gate.new) }
+        (IsStorageRefused G.opened (S.openings.resolved descriptor.now) direct
+        (S.features descriptor.now) name.now gate.old gate.new) }
 {
     let name = descriptor.resolve_relative_path(alloc, name)?;
     let opts = StorageOpenOptions::new().filename(name).direct(direct);
@@ -237,9 +259,13 @@ fn open_extent<S: Storage, G: ImplicitOpenGate<S>>(
     gate: &mut G,
     storages: &mut Vec<S>,
 ) -> Result<(), Error>
-    ensures opened { OnOk result ((own : List S) × IsExtentOpened G.opened (λ n. S.openings.resolved descriptor.now (string_bytes n)) direct extent.now gate.old gate.new own
+    ensures opened { OnOk result ((own : List S)
+        × IsExtentOpened G.opened (λ n. S.openings.resolved descriptor.now (string_bytes n)) direct
+        extent.now gate.old gate.new own
         × (storages.new.items ≡ storages.old.items ++ own)) }
-    ensures refused { IfErr result (IsExtentRefused G.opened (λ n. S.openings.resolved descriptor.now (string_bytes n)) direct (S.features descriptor.now) extent.now gate.old gate.new) }
+    ensures refused { IfErr result
+        (IsExtentRefused G.opened (λ n. S.openings.resolved descriptor.now (string_bytes n)) direct
+        (S.features descriptor.now) extent.now gate.old gate.new) }
 {
     let Extent::Flat { name, offset, .. } = extent else {
         return Ok(());
@@ -260,8 +286,12 @@ fn open_extents<S: Storage, G: ImplicitOpenGate<S>>(
     direct: bool,
     gate: &mut G,
 ) -> Result<Vec<S>, Error>
-    ensures opened { IfOk result (λ v. AreOpened G.opened (λ n. S.openings.resolved descriptor.now (string_bytes n)) direct extents.now gate.old gate.new v.items) }
-    ensures refused { IfErr result (AreRefused G.opened (λ n. S.openings.resolved descriptor.now (string_bytes n)) direct (S.features descriptor.now) extents.now gate.old gate.new) }
+    ensures opened { IfOk result
+        (λ v. AreOpened G.opened (λ n. S.openings.resolved descriptor.now (string_bytes n)) direct
+        extents.now gate.old gate.new v.items) }
+    ensures refused { IfErr result
+        (AreRefused G.opened (λ n. S.openings.resolved descriptor.now (string_bytes n)) direct
+        (S.features descriptor.now) extents.now gate.old gate.new) }
 {
     let mut storages = Vec::new(alloc);
     for extent in extents {
@@ -271,21 +301,25 @@ fn open_extents<S: Storage, G: ImplicitOpenGate<S>>(
 }
 
 impl<S: Storage> Vmdk<S> {
-    ghost use Rattle.imago_vmdk.specs.Image.{descriptor_in, extents_in, is_opened, storages_of_extents, opens_direct, takes_unknown_keys};
+    ghost use Rattle.imago_vmdk.specs.Image.{descriptor_in, extents_in, is_opened};
+    ghost use Rattle.imago_vmdk.specs.Image.{storages_of_extents, opens_direct, takes_unknown_keys};
     ghost use Rattle.imago_vmdk.specs.VmdkBuilder.{IsVmdkImage};
 
-    /// Opens the image whose descriptor the storage has. The extents aren't opened yet: until then the disk has its size,
-    /// and no place.
+    /// Opens the image whose descriptor the storage has. The extents aren't opened yet: until then
+    /// the disk has its size, and no place.
     ///
-    /// [`Error::Unsupported`] is an image that is to be written, before anything else. What the descriptor is refused for
-    /// is told by [`descriptor::read`]; keys that aren't known are refused. [`Error::Device`], [`Error::Memory`] and
-    /// [`Error::WrapAround`] are passed on from the storage. [`Error::Memory`] is also no room for the text, or, where the text
-    /// has no fault, for its extents.
+    /// [`Error::Unsupported`] is an image that is to be written, before anything else. What the
+    /// descriptor is refused for is told by [`descriptor::read`]; keys that aren't known are
+    /// refused. [`Error::Device`], [`Error::Memory`] and [`Error::WrapAround`] are passed on from
+    /// the storage. [`Error::Memory`] is also no room for the text, or, where the text has no
+    /// fault, for its extents.
     pub fn open_image(alloc: Global, storage: S, writable: bool) -> Result<Self, Error>
         ensures read_only { writable ≡ true → result ≡ Err Error.Unsupported }
         ensures opened { IfOk result
-            (λ v. (descriptor_in v ≡ «storage») × (is_opened v ≡ false) × (opens_direct v ≡ false) × (takes_unknown_keys v ≡ false) ×
-            (reading_of false (S.bytes storage) ≡ Ok (extents_in v, sum_by extent_size (extents_in v)))) }
+            (λ v. (descriptor_in v ≡ «storage») × (is_opened v ≡ false) × (opens_direct v ≡ false)
+            × (takes_unknown_keys v ≡ false) ×
+            (reading_of false (S.bytes storage)
+            ≡ Ok (extents_in v, sum_by extent_size (extents_in v)))) }
         ensures refused { writable ≡ false
             → IfErr result
             (λ e. (reading_of false (S.bytes storage) ≡ Err e)
@@ -298,12 +332,12 @@ impl<S: Storage> Vmdk<S> {
         Vmdk::open_read_only(alloc, storage, false, false)
     }
 
-    /// Opens the extents: each by the gate, in order, under its name as the descriptor's storage resolves it, and read-only.
-    /// Where they are opened already, it does nothing.
+    /// Opens the extents: each by the gate, in order, under its name as the descriptor's storage
+    /// resolves it, and read-only. Where they are opened already, it does nothing.
     ///
-    /// [`Error::InvalidData`] is an extent whose offset in bytes doesn't fit 64 bits, and [`Error::Memory`] refused memory. What
-    /// the descriptor's storage or the gate refuses for is passed on. Refused, nothing changed, and the storages that were
-    /// opened are let go.
+    /// [`Error::InvalidData`] is an extent whose offset in bytes doesn't fit 64 bits, and
+    /// [`Error::Memory`] refused memory. What the descriptor's storage or the gate refuses for is
+    /// passed on. Refused, nothing changed, and the storages that were opened are let go.
     pub fn open_implicit_dependencies_gated<G: ImplicitOpenGate<S>>(
         &mut self,
         alloc: Global,
@@ -312,13 +346,19 @@ impl<S: Storage> Vmdk<S> {
         ensures opened { OnOk result (is_opened self.new ≡ true) }
         ensures descriptor { descriptor_in self.new ≡ descriptor_in self.old }
         ensures extents { extents_in self.new ≡ extents_in self.old }
-        ensures settings { (opens_direct self.new ≡ opens_direct self.old) × (takes_unknown_keys self.new ≡ takes_unknown_keys self.old) }
-        ensures again { is_opened self.old ≡ true → IsOk result × (self.new ≡ self.old) × (gate.new ≡ gate.old) }
+        ensures settings { (opens_direct self.new ≡ opens_direct self.old)
+            × (takes_unknown_keys self.new ≡ takes_unknown_keys self.old) }
+        ensures again { is_opened self.old ≡ true → IsOk result × (self.new ≡ self.old)
+            × (gate.new ≡ gate.old) }
         ensures storages { is_opened self.old ≡ false
-            → OnOk result (AreOpened G.opened (S.openings.resolved (descriptor_in self.old)) (opens_direct self.old) (extents_in self.old) gate.old gate.new (storages_of_extents self.new)) }
+            → OnOk result (AreOpened G.opened (S.openings.resolved (descriptor_in self.old))
+            (opens_direct self.old) (extents_in self.old) gate.old gate.new
+            (storages_of_extents self.new)) }
         ensures refused { OnErr result (self.new ≡ self.old) }
         ensures refusals { IfErr result
-            (AreRefused G.opened (S.openings.resolved (descriptor_in self.old)) (opens_direct self.old) (S.features (descriptor_in self.old)) (extents_in self.old) gate.old gate.new) }
+            (AreRefused G.opened (S.openings.resolved (descriptor_in self.old))
+            (opens_direct self.old) (S.features (descriptor_in self.old)) (extents_in self.old)
+            gate.old gate.new) }
     {
         if self.opened {
             return Ok(());
@@ -336,14 +376,19 @@ impl<S: Storage> Vmdk<S> {
         gate: &mut G,
     ) -> Result<Vec<S>, Error>
         ensures count { IfOk result (λ v. length v.items ≡ storages_in self.now.extents.items) }
-        ensures opened { IfOk result (λ v. AreOpened G.opened (S.openings.resolved (descriptor_in self.now)) (opens_direct self.now) (extents_in self.now) gate.old gate.new v.items) }
+        ensures opened { IfOk result
+            (λ v. AreOpened G.opened (S.openings.resolved (descriptor_in self.now))
+            (opens_direct self.now) (extents_in self.now) gate.old gate.new v.items) }
         ensures refused { IfErr result
-            (AreRefused G.opened (S.openings.resolved (descriptor_in self.now)) (opens_direct self.now) (S.features (descriptor_in self.now)) (extents_in self.now) gate.old gate.new) }
+            (AreRefused G.opened (S.openings.resolved (descriptor_in self.now))
+            (opens_direct self.now) (S.features (descriptor_in self.now)) (extents_in self.now)
+            gate.old gate.new) }
     {
         open_extents(alloc, &self.descriptor, &self.extents, self.direct, gate)
     }
 
-    /// Opens the image with its extents, whose storages are opened as direct or not. Keys that aren't known are accepted or not.
+    /// Opens the image with its extents, whose storages are opened as direct or not. Keys that
+    /// aren't known are accepted or not.
     pub(crate) fn open_with_extents<G: ImplicitOpenGate<S>>(
         alloc: Global,
         descriptor: S,
@@ -351,7 +396,8 @@ impl<S: Storage> Vmdk<S> {
         accept_unknown_keys: bool,
         gate: &mut G,
     ) -> Result<Self, Error>
-        ensures { IsVmdkImage S.bytes S.features S.openings.resolved G.opened direct accept_unknown_keys gate.old gate.new descriptor result }
+        ensures { IsVmdkImage S.bytes S.features S.openings.resolved G.opened direct
+            accept_unknown_keys gate.old gate.new descriptor result }
     {
         let mut image = Vmdk::open_read_only(alloc, descriptor, direct, accept_unknown_keys)?;
         image.open_implicit_dependencies_gated(alloc, gate)?;
@@ -367,8 +413,10 @@ impl<S: Storage> Vmdk<S> {
         accepts_unknown_keys: bool,
     ) -> Result<Self, Error>
         ensures opened { IfOk result
-            (λ v. (descriptor_in v ≡ «descriptor») × (is_opened v ≡ false) × (opens_direct v ≡ direct) × (takes_unknown_keys v ≡ accepts_unknown_keys) ×
-            (reading_of accepts_unknown_keys (S.bytes descriptor) ≡ Ok (extents_in v, sum_by extent_size (extents_in v)))) }
+            (λ v. (descriptor_in v ≡ «descriptor») × (is_opened v ≡ false)
+            × (opens_direct v ≡ direct) × (takes_unknown_keys v ≡ accepts_unknown_keys) ×
+            (reading_of accepts_unknown_keys (S.bytes descriptor)
+            ≡ Ok (extents_in v, sum_by extent_size (extents_in v)))) }
         ensures refused { IfErr result
             (λ e. (reading_of accepts_unknown_keys (S.bytes descriptor) ≡ Err e)
             ⊎ allowed (text_reasons (S.features descriptor) (length (S.bytes descriptor))) e) }
@@ -403,17 +451,22 @@ impl<S: Storage> FormatDriverInstance for Vmdk<S> {
 
     type State = ();
 
-    ghost view = { λ v. vmdk_view (S.features v.descriptor ∷ map S.features v.storages.items) (S.bytes v.descriptor ∷ map S.bytes v.storages.items) v.opened v.extents.items };
+    ghost view = { λ v. vmdk_view (S.features v.descriptor ∷ map S.features v.storages.items)
+        (S.bytes v.descriptor ∷ map S.bytes v.storages.items) v.opened v.extents.items };
 
     ghost recognizes = { probe_of };
 
     ghost probe_reasons = { λ s. text_reasons (S.features s) (length (S.bytes s)) };
 
-    ghost calls = { vmdk_calls (λ v. S.features v.descriptor ∷ map S.features v.storages.items) (λ v. S.bytes v.descriptor ∷ map S.bytes v.storages.items) };
+    ghost calls = { vmdk_calls (λ v. S.features v.descriptor ∷ map S.features v.storages.items)
+        (λ v. S.bytes v.descriptor ∷ map S.bytes v.storages.items) };
 
-    ghost lawful = { λ v. vmdk_lawful (S.features v.descriptor ∷ map S.features v.storages.items) (S.bytes v.descriptor ∷ map S.bytes v.storages.items) v.opened v.extents.items };
+    ghost lawful = { λ v. vmdk_lawful (S.features v.descriptor ∷ map S.features v.storages.items)
+        (S.bytes v.descriptor ∷ map S.bytes v.storages.items) v.opened v.extents.items };
 
-    ghost causes_lawful = { λ v. vmdk_causes (S.features v.descriptor ∷ map S.features v.storages.items) (S.bytes v.descriptor ∷ map S.bytes v.storages.items) v.opened v.extents.items };
+    ghost causes_lawful = { λ v. vmdk_causes
+        (S.features v.descriptor ∷ map S.features v.storages.items)
+        (S.bytes v.descriptor ∷ map S.bytes v.storages.items) v.opened v.extents.items };
 
     fn format(&self) -> Format {
         Format::Vmdk
@@ -583,9 +636,11 @@ impl<S: Storage> FormatDriverInstance for Vmdk<S> {
     }
 
     fn commit_data_mapping(&mut self, mapping: PreparedDataMapping<()>) -> Result<(), Error>
-        ensures call { IsCommit ⟦<Vmdk<S> as FormatDriverInstance>⟧.view self.old self.new mapping result }
+        ensures call { IsCommit ⟦<Vmdk<S> as FormatDriverInstance>⟧.view self.old self.new mapping
+            result }
         ensures untouched { self.new ≡ self.old }
-        ensures performed { ⟦<Vmdk<S> as FormatDriverInstance>⟧.calls.committed mapping self.old self.new result }
+        ensures performed { ⟦<Vmdk<S> as FormatDriverInstance>⟧.calls.committed mapping self.old
+            self.new result }
     {
         match mapping.into_state() {
             None => Ok(()),
@@ -596,7 +651,8 @@ impl<S: Storage> FormatDriverInstance for Vmdk<S> {
     fn cancel_data_mapping(&mut self, mapping: PreparedDataMapping<()>)
         ensures call { IsCancel ⟦<Vmdk<S> as FormatDriverInstance>⟧.view self.old self.new mapping }
         ensures untouched { self.new ≡ self.old }
-        ensures performed { ⟦<Vmdk<S> as FormatDriverInstance>⟧.calls.cancelled mapping self.old self.new }
+        ensures performed { ⟦<Vmdk<S> as FormatDriverInstance>⟧.calls.cancelled mapping self.old
+            self.new }
     {
         let _ = mapping.into_state();
     }

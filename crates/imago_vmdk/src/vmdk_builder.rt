@@ -17,7 +17,8 @@ use std::alloc::Global;
 
 /// Opens a VMDK image by its options, and its extents with it.
 ///
-/// The set options count for the extents too. An image that is to be written is [`Error::Unsupported`], before anything else.
+/// The set options count for the extents too. An image that is to be written is
+/// [`Error::Unsupported`], before anything else.
 #[derive(Drop)]
 pub struct VmdkOpenBuilder<S> {
     base: FormatDriverBuilderBase<S>,
@@ -54,8 +55,8 @@ impl<S: Storage> Vmdk<S> {
 impl<S: Storage> VmdkOpenBuilder<S> {
     ghost use Rattle.imago_vmdk.specs.VmdkBuilderParts.{vmdk_settings, accepts_unknown_keys};
 
-    /// Sets whether a line of the descriptor whose key isn't known is accepted, and says nothing then. It is
-    /// [`Error::InvalidData`] where it isn't, as by default.
+    /// Sets whether a line of the descriptor whose key isn't known is accepted, and says nothing
+    /// then. It is [`Error::InvalidData`] where it isn't, as by default.
     pub fn accept_unknown_keys(mut self, accept: bool) -> Self
         ensures settings { vmdk_settings result ≡ vmdk_settings self }
         ensures keys { accepts_unknown_keys result ≡ accept }
@@ -64,11 +65,14 @@ impl<S: Storage> VmdkOpenBuilder<S> {
         self
     }
 
-    /// Opens the image. The gate is asked for the storage of a path, once, and then for those of the extents; it is as it was where the
-    /// image is to be written.
+    /// Opens the image. The gate is asked for the storage of a path, once, and then for those of
+    /// the extents; it is as it was where the image is to be written.
     fn open_by<G: ImplicitOpenGate<S>>(self, alloc: Global, gate: &mut G) -> Result<Vmdk<S>, Error>
-        ensures opened { IsVmdkOpeningBy S.bytes S.features S.openings.resolved G.opened (vmdk_settings self) (accepts_unknown_keys self) gate.old gate.new result }
-        ensures image { IfOk result (λ r. IsImageOf G.opened gate.old (vmdk_settings self) S.bytes S.features (⟦<Vmdk<S> as FormatDriverInstance>⟧.view r)) }
+        ensures opened { IsVmdkOpeningBy S.bytes S.features S.openings.resolved G.opened
+            (vmdk_settings self) (accepts_unknown_keys self) gate.old gate.new result }
+        ensures image { IfOk result
+            (λ r. IsImageOf G.opened gate.old (vmdk_settings self) S.bytes S.features
+            (⟦<Vmdk<S> as FormatDriverInstance>⟧.view r)) }
     {
         let VmdkOpenBuilder {
             base,
@@ -104,7 +108,8 @@ impl<S: Storage> FormatDriverBuilder<S> for VmdkOpenBuilder<S> {
 
     ghost settings = { vmdk_settings };
 
-    ghost opens = { λ Gate opened gate b result. IsVmdkOpening S.bytes S.features S.openings.resolved opened gate (vmdk_settings b) (accepts_unknown_keys b) result };
+    ghost opens = { λ Gate opened gate b result. IsVmdkOpening S.bytes S.features
+        S.openings.resolved opened gate (vmdk_settings b) (accepts_unknown_keys b) result };
 
     fn new(image: S) -> Self
         ensures settings { vmdk_settings result ≡ unset (HandedIn image) }
@@ -121,7 +126,8 @@ impl<S: Storage> FormatDriverBuilder<S> for VmdkOpenBuilder<S> {
     }
 
     fn write(mut self, writable: bool) -> Self
-        ensures settings { vmdk_settings result ≡ record (vmdk_settings self) { writable = writable } }
+        ensures settings { vmdk_settings result
+            ≡ record (vmdk_settings self) { writable = writable } }
         ensures keys { accepts_unknown_keys result ≡ accepts_unknown_keys self }
     {
         self.base.set_write(writable);
@@ -129,7 +135,8 @@ impl<S: Storage> FormatDriverBuilder<S> for VmdkOpenBuilder<S> {
     }
 
     fn storage_open_options(mut self, options: StorageOpenOptions) -> Self
-        ensures settings { vmdk_settings result ≡ record (vmdk_settings self) { options = Some (open_options options) } }
+        ensures settings { vmdk_settings result
+            ≡ record (vmdk_settings self) { options = Some (open_options options) } }
         ensures keys { accepts_unknown_keys result ≡ accepts_unknown_keys self }
     {
         self.base.set_storage_open_options(options);
@@ -137,9 +144,13 @@ impl<S: Storage> FormatDriverBuilder<S> for VmdkOpenBuilder<S> {
     }
 
     fn open<G: ImplicitOpenGate<S>>(self, alloc: Global, mut gate: G) -> Result<Vmdk<S>, Error>
-        ensures opened { IsVmdkOpening S.bytes S.features S.openings.resolved G.opened gate (vmdk_settings self) (accepts_unknown_keys self) result }
-        ensures image { IfOk result (λ r. IsImageOf G.opened gate (vmdk_settings self) S.bytes S.features (⟦<Vmdk<S> as FormatDriverInstance>⟧.view r)) }
-        ensures format { IfOk result (λ r. (⟦<Vmdk<S> as FormatDriverInstance>⟧.view r).abilities.format ≡ Format.Vmdk) }
+        ensures opened { IsVmdkOpening S.bytes S.features S.openings.resolved G.opened gate
+            (vmdk_settings self) (accepts_unknown_keys self) result }
+        ensures image { IfOk result
+            (λ r. IsImageOf G.opened gate (vmdk_settings self) S.bytes S.features
+            (⟦<Vmdk<S> as FormatDriverInstance>⟧.view r)) }
+        ensures format { IfOk result
+            (λ r. (⟦<Vmdk<S> as FormatDriverInstance>⟧.view r).abilities.format ≡ Format.Vmdk) }
     {
         self.open_by(alloc, &mut gate)
     }

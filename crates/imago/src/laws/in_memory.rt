@@ -1,5 +1,6 @@
-//! Which calls of raw images in memory succeed. Each function makes the call of [`FormatAccess`] that it is named for, and its
-//! contract says it in words of the call alone. What lies below the image doesn't matter: a raw driver refers to no layer below.
+//! Which calls of raw images in memory succeed. Each function makes the call of [`FormatAccess`]
+//! that it is named for, and its contract says it in words of the call alone. What lies below the
+//! image doesn't matter: a raw driver refers to no layer below.
 ghost use Rattle.std.specs.Prelude.{◌≡◌, ◌+◌, ◌≤◌, true, length, IsOk, IfErr};
 ghost use Rattle.imago_storage.specs.Features.{IsAlignedRequest, IsAlignedTo};
 ghost use Rattle.imago_drivers.specs.Room.{HasRoom};
@@ -17,8 +18,8 @@ use crate::raw::Raw;
 use crate::{FormatAccess, Mapping, Storage};
 use std::alloc::Global;
 
-/// A read inside the disk, with room for its padding, is refused for want of memory alone. An aligned one takes none, and
-/// succeeds.
+/// A read inside the disk, with room for its padding, is refused for want of memory alone. An
+/// aligned one takes none, and succeeds.
 pub fn read(
     alloc: Global,
     image: &FormatAccess<Raw<MemStorage>>,
@@ -26,9 +27,11 @@ pub fn read(
     offset: u64,
 ) -> Result<(), Error>
     requires inside { offset + length buf.old ≤ size_of (driver image.now) }
-    requires room { HasRoom (⟦<MemStorage as Storage>⟧.features (storage_in (driver image.now))) offset (length buf.old) }
+    requires room { HasRoom (⟦<MemStorage as Storage>⟧.features (storage_in (driver image.now)))
+        offset (length buf.old) }
     ensures only { IfErr result (λ e. e ≡ Error.Memory) }
-    ensures aligned { IsAlignedRequest (⟦<MemStorage as Storage>⟧.features (storage_in (driver image.now))) offset
+    ensures aligned { IsAlignedRequest
+        (⟦<MemStorage as Storage>⟧.features (storage_in (driver image.now))) offset
         (length buf.old) → IsOk result }
 {
     reads_succeed::<Raw<MemStorage>>();
@@ -49,8 +52,8 @@ pub fn get_mapping(
     image.get_mapping(offset, max_length)
 }
 
-/// A write inside the disk of a writable image, with room for its padding, is refused for want of memory alone. An aligned one
-/// takes none, and succeeds.
+/// A write inside the disk of a writable image, with room for its padding, is refused for want of
+/// memory alone. An aligned one takes none, and succeeds.
 pub fn write(
     alloc: Global,
     image: &mut FormatAccess<Raw<MemStorage>>,
@@ -59,9 +62,11 @@ pub fn write(
 ) -> Result<(), Error>
     requires writable { writability_of (driver image.old) ≡ true }
     requires inside { offset + length source.now ≤ size_of (driver image.old) }
-    requires room { HasRoom (⟦<MemStorage as Storage>⟧.features (storage_in (driver image.old))) offset (length source.now) }
+    requires room { HasRoom (⟦<MemStorage as Storage>⟧.features (storage_in (driver image.old)))
+        offset (length source.now) }
     ensures only { IfErr result (λ e. e ≡ Error.Memory) }
-    ensures aligned { IsAlignedRequest (⟦<MemStorage as Storage>⟧.features (storage_in (driver image.old))) offset
+    ensures aligned { IsAlignedRequest
+        (⟦<MemStorage as Storage>⟧.features (storage_in (driver image.old))) offset
         (length source.now) → IsOk result }
 {
     writes_succeed::<Raw<MemStorage>>();
@@ -71,8 +76,8 @@ pub fn write(
     image.write(alloc, source, offset)
 }
 
-/// A zero write inside the disk of a writable image, with room for its padding, is refused for want of memory alone. One that is
-/// aligned to the storage's zero writes takes none, and succeeds.
+/// A zero write inside the disk of a writable image, with room for its padding, is refused for want
+/// of memory alone. One that is aligned to the storage's zero writes takes none, and succeeds.
 pub fn write_zeroes(
     alloc: Global,
     image: &mut FormatAccess<Raw<MemStorage>>,
@@ -81,9 +86,11 @@ pub fn write_zeroes(
 ) -> Result<(), Error>
     requires writable { writability_of (driver image.old) ≡ true }
     requires inside { offset + count ≤ size_of (driver image.old) }
-    requires room { HasRoom (⟦<MemStorage as Storage>⟧.features (storage_in (driver image.old))) offset count }
+    requires room { HasRoom (⟦<MemStorage as Storage>⟧.features (storage_in (driver image.old)))
+        offset count }
     ensures only { IfErr result (λ e. e ≡ Error.Memory) }
-    ensures aligned { IsAlignedTo (⟦<MemStorage as Storage>⟧.features (storage_in (driver image.old))).zero_align offset count
+    ensures aligned { IsAlignedTo
+        (⟦<MemStorage as Storage>⟧.features (storage_in (driver image.old))).zero_align offset count
         → IsOk result }
 {
     zero_writes_succeed::<Raw<MemStorage>>();
@@ -93,8 +100,8 @@ pub fn write_zeroes(
     image.write_zeroes(alloc, offset, count)
 }
 
-/// A discard inside the disk of a writable image is refused for want of memory alone. One that is aligned to the storage's
-/// discards takes none, and succeeds.
+/// A discard inside the disk of a writable image is refused for want of memory alone. One that is
+/// aligned to the storage's discards takes none, and succeeds.
 pub fn discard_to_any(
     alloc: Global,
     image: &mut FormatAccess<Raw<MemStorage>>,
@@ -104,7 +111,9 @@ pub fn discard_to_any(
     requires writable { writability_of (driver image.old) ≡ true }
     requires inside { offset + count ≤ size_of (driver image.old) }
     ensures only { IfErr result (λ e. e ≡ Error.Memory) }
-    ensures aligned { IsAlignedTo (⟦<MemStorage as Storage>⟧.features (storage_in (driver image.old))).discard_align offset count
+    ensures aligned { IsAlignedTo
+        (⟦<MemStorage as Storage>⟧.features (storage_in (driver image.old))).discard_align offset
+        count
         → IsOk result }
 {
     discards_succeed::<Raw<MemStorage>>();

@@ -1,5 +1,5 @@
-//! Which calls of raw images over a [`Null`] storage succeed: those inside the disk, and a mapping and a flush always. Each
-//! function makes the call of [`FormatAccess`] that it is named for.
+//! Which calls of raw images over a [`Null`] storage succeed: those inside the disk, and a mapping
+//! and a flush always. Each function makes the call of [`FormatAccess`] that it is named for.
 ghost use Rattle.std.specs.Prelude.{◌≡◌, ◌+◌, ◌≤◌, true, length, IsOk};
 ghost use Rattle.imago_drivers.specs.RawImage.{size_of, writability_of};
 ghost use Rattle.imago_access.specs.Chain.{driver};

@@ -6,8 +6,9 @@ use crate::error::Error;
 use crate::{FormatAccess, FormatDriverInstance};
 use std::alloc::Global;
 
-/// Writes bytes to an image, and reads them back into a buffer of the same length. Where both calls succeed, the buffer has these
-/// bytes, whatever driver the image has, and whatever layers lie below it.
+/// Writes bytes to an image, and reads them back into a buffer of the same length. Where both calls
+/// succeed, the buffer has these bytes, whatever driver the image has, and whatever layers lie
+/// below it.
 ///
 /// The refusals are those of [`write`](FormatAccess::write) and [`read`](FormatAccess::read).
 pub fn write_then_read<D: FormatDriverInstance>(

@@ -1,4 +1,5 @@
-//! Each law is called at types that it is for: a premise that none of them meets would be seen here.
+//! Each law is called at types that it is for: a premise that none of them meets would be seen
+//! here.
 ghost use Rattle.std.specs.Prelude.{◌≡◌, ℕ, ◌+◌, ◌≤◌, true, length, IfOk, IsOk};
 ghost use Rattle.imago_storage.specs.Features.{IsAlignedRequest};
 ghost use Rattle.imago_drivers.specs.RawImage.{storage_in, size_of, writability_of};
@@ -154,9 +155,11 @@ fn in_memory_image(alloc: Global) -> Result<FormatAccess<Raw<MemStorage>>, Error
     ensures size { IfOk result (λ x. size_of (driver x) ≡ 1024) }
     ensures writable { IfOk result (λ x. writability_of (driver x) ≡ true) }
     ensures room { IfOk result
-        (λ x. (o n : ℕ) → o + n ≤ 4096 → HasRoom (⟦<MemStorage as Storage>⟧.features (storage_in (driver x))) o n) }
+        (λ x. (o n : ℕ) → o + n ≤ 4096
+        → HasRoom (⟦<MemStorage as Storage>⟧.features (storage_in (driver x))) o n) }
     ensures aligned { IfOk result
-        (λ x. (o n : ℕ) → o + n ≤ 4096 → IsAlignedRequest (⟦<MemStorage as Storage>⟧.features (storage_in (driver x))) o n) }
+        (λ x. (o n : ℕ) → o + n ≤ 4096
+        → IsAlignedRequest (⟦<MemStorage as Storage>⟧.features (storage_in (driver x))) o n) }
 {
     let storage = MemStorage::new(vec![in alloc; 0xa5u8; 1024]?);
     Ok(FormatAccess::new(Raw::open_image(storage, true)?))
@@ -198,8 +201,8 @@ fn call_over_null(alloc: Global) -> Result<(), Error> {
     over_null::flush(&mut null_image()?)
 }
 
-/// Grows an image in memory, flushes it, writes to it, and reads inside its new size. The read succeeds: nothing of what came before
-/// gave it a cause of a refusal.
+/// Grows an image in memory, flushes it, writes to it, and reads inside its new size. The read
+/// succeeds: nothing of what came before gave it a cause of a refusal.
 fn read_grown(
     alloc: Global,
     image: &mut FormatAccess<Raw<MemStorage>>,
@@ -209,8 +212,11 @@ fn read_grown(
     offset: u64,
 ) -> Result<Result<(), Error>, Error>
     requires inside { offset + length buf.old ≤ new_size }
-    requires room { HasRoom (⟦<MemStorage as Storage>⟧.features (storage_in (driver image.old))) offset (length buf.old) }
-    requires aligned { IsAlignedRequest (⟦<MemStorage as Storage>⟧.features (storage_in (driver image.old))) offset (length buf.old) }
+    requires room { HasRoom (⟦<MemStorage as Storage>⟧.features (storage_in (driver image.old)))
+        offset (length buf.old) }
+    requires aligned { IsAlignedRequest
+        (⟦<MemStorage as Storage>⟧.features (storage_in (driver image.old))) offset
+        (length buf.old) }
     ensures { IfOk result IsOk }
 {
     image.resize_grow(alloc, new_size, PreallocateMode::Zero)?;

@@ -1,4 +1,5 @@
-//! Copy-on-write disks: here their table, where there is memory enough, and in the modules the disks.
+//! Copy-on-write disks: here their table, where there is memory enough, and in the modules the
+//! disks.
 mod call;
 mod growth;
 mod layers;
@@ -33,8 +34,8 @@ enum Step {
     Truncate(usize),
 }
 
-/// A step, and then how many guest blocks there are, how many data blocks, how many of these are named, and which one is
-/// the lowest unused.
+/// A step, and then how many guest blocks there are, how many data blocks, how many of these are
+/// named, and which one is the lowest unused.
 type Row = (Step, usize, u64, u64, u64);
 
 static ROWS: [Row; 14] = [

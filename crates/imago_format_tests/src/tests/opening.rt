@@ -1,6 +1,7 @@
 //! Builders and gates: what is opened and created, by which options, and what a refusal leaves.
 //!
-//! A test's run refuses one request for memory at most. So what is refused is tried again, and has its memory then.
+//! A test's run refuses one request for memory at most. So what is refused is tried again, and has
+//! its memory then.
 mod builders;
 mod creation;
 mod gates;

@@ -1,7 +1,7 @@
 //! Drivers, and images of them: tables of calls and what each answers.
 //!
-//! A table is made on a driver or an image by one generic function, which is named once for each type: so the proofs of
-//! the tests stay short.
+//! A table is made on a driver or an image by one generic function, which is named once for each
+//! type: so the proofs of the tests stay short.
 mod answer;
 mod blocks;
 mod chains;

@@ -20,8 +20,9 @@ pub(super) enum Level {
     Driver,
 }
 
-/// A write in steps: a range is prepared, bytes that differ are written from the `at`-th of the mapping on, as many as fit,
-/// and the mapping is committed or cancelled. Where the write is refused it is cancelled.
+/// A write in steps: a range is prepared, bytes that differ are written from the `at`-th of the
+/// mapping on, as many as fit, and the mapping is committed or cancelled. Where the write is
+/// refused it is cancelled.
 #[derive(Clone, Copy, Debug, PartialEq, Eq)]
 pub(super) struct InSteps {
     pub(super) offset: u64,
@@ -36,7 +37,8 @@ pub(super) struct InSteps {
 /// A changing call. Offsets and lengths are in bytes.
 #[derive(Clone, Copy, Debug, PartialEq, Eq)]
 pub(super) enum Call {
-    /// Writes so many bytes that differ, the first of them that one. A driver maps the first part of the range, and writes there.
+    /// Writes so many bytes that differ, the first of them that one. A driver maps the first part
+    /// of the range, and writes there.
     Write(u64, u64, u8),
     WriteZeroes(u64, u64),
     DiscardToZero(u64, u64),
@@ -320,7 +322,8 @@ pub(super) fn contents<B: LowerLayer>(rt: &impl Abort, alloc: Global, layer: &B)
     bytes
 }
 
-/// What the guest block that begins at an offset is. Its mapping names all of it, as far as the disk goes.
+/// What the guest block that begins at an offset is. Its mapping names all of it, as far as the
+/// disk goes.
 fn kind_at<D: FormatDriverInstance>(rt: &impl Abort, driver: &D, block: u64, at: u64) -> Kind {
     let (mapping, count) = driver.get_mapping(at, u64::MAX).expect(rt, "a mapping");
     assert_eq!(rt; count, block.min(driver.size().saturating_sub(at)));

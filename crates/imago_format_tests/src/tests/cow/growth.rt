@@ -25,7 +25,8 @@ enum Shown {
 
 use Shown::{Any, From, Same};
 
-/// What is done first, and then, with that mode, what is shown from 36 on, run by run, and how many data blocks there are.
+/// What is done first, and then, with that mode, what is shown from 36 on, run by run, and how many
+/// data blocks there are.
 type Row = (Call, PreallocateMode, &'static [(u64, Shown)], u64);
 
 /// The last guest block leads below.

@@ -14,7 +14,8 @@ type Layer = (u64, u64, &'static [Call]);
 /// The bytes 1 to 12, four explicit zeroes, and a guest block that leads nowhere.
 const BOTTOM: Layer = (20, 4, &[Call::Write(0, 12, 1), Call::WriteZeroes(12, 4)]);
 
-/// The bytes 4 and 5 are written, 8 to 12 are explicit zeroes, and the last guest block is given back.
+/// The bytes 4 and 5 are written, 8 to 12 are explicit zeroes, and the last guest block is given
+/// back.
 static MIDDLE: Layer = (
     24,
     4,
@@ -38,7 +39,8 @@ static OF_MIDDLE: [u8; 24] = [
     1, 2, 3, 4, 21, 22, 7, 8, 0, 0, 0, 0, 0, 0, 0, 0, 0, 0, 0, 0, 0, 0, 0, 0,
 ];
 
-/// A call of the top layer, what a range is then, through all layers, and the first bytes of the disk.
+/// A call of the top layer, what a range is then, through all layers, and the first bytes of the
+/// disk.
 type Row = (Call, (u64, u64), (&'static str, u64), [u8; 16]);
 
 const WRITTEN: [u8; 16] = [1, 2, 3, 4, 21, 22, 7, 8, 0, 41, 0, 0, 0, 0, 0, 0];

@@ -1,4 +1,5 @@
-//! What a disk shows: a list of bytes and a table of guest blocks that the test keeps, and what each call makes of them.
+//! What a disk shows: a list of bytes and a table of guest blocks that the test keeps, and what
+//! each call makes of them.
 use super::call::{Answer, Call, InSteps, Kind, Level, Step};
 use super::set_up::{byte_at, number};
 use imago_drivers::drivers::PreallocateMode;
@@ -119,7 +120,8 @@ impl Model {
         }
     }
 
-    /// The guest blocks that lie in a range: the first, and the one behind the last. The disk's end ends the last one.
+    /// The guest blocks that lie in a range: the first, and the one behind the last. The disk's end
+    /// ends the last one.
     fn whole(&self, (start, count): Range) -> (u64, u64) {
         let end = start.saturating_add(count);
         if end == self.size() {
@@ -136,7 +138,8 @@ impl Model {
         (start / BLOCK, blocks(start.saturating_add(count)))
     }
 
-    /// Makes the whole guest blocks of a range explicit zeroes, or absent. The part that they hold is answered.
+    /// Makes the whole guest blocks of a range explicit zeroes, or absent. The part that they hold
+    /// is answered.
     fn clear(&mut self, range: Range, kind: Kind, new: New) -> Range {
         let (first, last) = self.whole(range);
         if last <= first {
@@ -168,8 +171,8 @@ impl Model {
         true
     }
 
-    /// Zeroes a range of an image. A guest block whose rest is zero already becomes an explicit zero, and each other one
-    /// that isn't gets data.
+    /// Zeroes a range of an image. A guest block whose rest is zero already becomes an explicit
+    /// zero, and each other one that isn't gets data.
     fn zero(&mut self, range: Range) {
         let (first, last) = self.touched(range);
         for index in first..last {
@@ -191,7 +194,8 @@ impl Model {
         self.put(range, New::Numbers(first));
     }
 
-    /// Maps a range to data, and answers how much of it. What is mapped for overwriting is unspecified.
+    /// Maps a range to data, and answers how much of it. What is mapped for overwriting is
+    /// unspecified.
     fn map_data(&mut self, range: Range, overwrite: bool, now: &[u8]) -> u64 {
         let (start, count) = range;
         let count = in_block(start, count);
@@ -381,8 +385,8 @@ impl Model {
         last.saturating_sub(first)
     }
 
-    /// Takes over what a refused call left, if it may have left that: each byte that it writes old or new, and all else as
-    /// it was.
+    /// Takes over what a refused call left, if it may have left that: each byte that it writes old
+    /// or new, and all else as it was.
     pub(super) fn refuse(&mut self, step: Step, now: Vec<u8>, kinds: Vec<Kind>) -> bool {
         let (range, new) = self.torn(step);
         if now.len() != self.bytes.len() || kinds.len() != self.kinds.len() {

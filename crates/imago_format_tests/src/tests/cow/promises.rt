@@ -1,4 +1,5 @@
-//! What a copy-on-write disk does with its data blocks, which mappings it refuses, and the sizes that it can have.
+//! What a copy-on-write disk does with its data blocks, which mappings it refuses, and the sizes
+//! that it can have.
 use super::call::{Answer, Call, Level, is_spent};
 use super::set_up::{byte_at, equal, numbers, printed};
 use super::subject::{Fault, Image, PLAIN, above, contents_of, created, lent, make_on, storage_of};
@@ -87,8 +88,8 @@ enum Act {
     Give,
 }
 
-/// What is done with a range; and then where it was prepared in the storage, how many guest blocks are in data blocks, and the
-/// storage's length.
+/// What is done with a range; and then where it was prepared in the storage, how many guest blocks
+/// are in data blocks, and the storage's length.
 type Row = ((u64, u64), Act, u64, u64, u64);
 
 /// On a disk in guest blocks of 16, over a storage of 20 bytes.
@@ -167,7 +168,8 @@ fn state_of(mapping: &Mapping) -> Option<CowState> {
     mapping.state().copied()
 }
 
-/// A write into the mapping is refused by name, and so is its commit where it has a state. A cancel does nothing.
+/// A write into the mapping is refused by name, and so is its commit where it has a state. A cancel
+/// does nothing.
 fn is_foreign(
     rt: &impl Abort,
     alloc: Global,
@@ -186,7 +188,8 @@ fn is_foreign(
     assert_eq!(rt; image.inner().has_prepared(), waits);
 }
 
-/// Bytes of storages that aren't those of the mapping that waits, which has the first storage's bytes 3 to 6, and no places'.
+/// Bytes of storages that aren't those of the mapping that waits, which has the first storage's
+/// bytes 3 to 6, and no places'.
 static STRANGERS: [(usize, (u64, u64)); 7] = [
     (0, (2, 4)),
     (0, (3, 3)),
@@ -283,11 +286,12 @@ fn disks_of_any_size_are_created(rt: HostRuntime) {
     check_disks_of_any_size_are_created(&rt, rt.alloc());
 }
 
-/// A size and a guest block's length, the calls on the disk, what it is then from its beginning on, and how many guest blocks
-/// are in data.
+/// A size and a guest block's length, the calls on the disk, what it is then from its beginning on,
+/// and how many guest blocks are in data.
 type Zeroed = ((u64, u64), &'static [Call], (&'static str, u64), u64);
 
-/// Zeroes take a data block where their guest block has other bytes, and give it back where they are all of it.
+/// Zeroes take a data block where their guest block has other bytes, and give it back where they
+/// are all of it.
 static ZEROED: [Zeroed; 4] = [
     (
         (16, 4),
@@ -333,7 +337,8 @@ fn zeroes_of_a_whole_guest_block_use_no_data(rt: HostRuntime) {
     check_zeroes_of_a_whole_guest_block_use_no_data(&rt, rt.alloc());
 }
 
-/// Runs a list that prepares the first guest block, writes a byte there, and cancels it. Answers whether there was memory for it.
+/// Runs a list that prepares the first guest block, writes a byte there, and cancels it. Answers
+/// whether there was memory for it.
 fn is_cancelled_by_a_list(rt: &impl Abort, alloc: Global, image: &mut Image) -> bool {
     let mut replies = Vec::new(alloc);
     let calls = [run::Call::Prepared {
@@ -361,7 +366,8 @@ fn is_cancelled_by_a_list(rt: &impl Abort, alloc: Global, image: &mut Image) -> 
     }
 }
 
-/// A disk of four guest blocks of 4, above one whose bytes are all the same, where there is memory for it.
+/// A disk of four guest blocks of 4, above one whose bytes are all the same, where there is memory
+/// for it.
 fn over_equal_bytes(rt: &impl Abort, alloc: Global) -> Option<Image> {
     let mut lower = alone(rt, alloc, 16, 4, Fault::Never);
     let bytes = equal(rt, alloc, 16, 0x11);
@@ -382,7 +388,8 @@ fn check_a_list_prepares_and_cancels(rt: &impl Abort, alloc: Global) {
     }
     assert!(rt; contents_of(rt, alloc, &image) == equal(rt, alloc, 16, 0x11));
     assert_eq!(rt; image.inner().blocks_used(), 0);
-    // the data block is free again, with the byte that was written and those that were copied round it
+    // the data block is free again, with the byte that was written and those that were copied round
+    // it
     let stored = storage_of(rt, &image).as_bytes();
     assert!(rt; stored.get(..5) == Some(&[0xff, 0x11, 0x11, 0x11, 0x99]));
     on(rt, alloc, &mut image, Call::Write(0, 1, 1));

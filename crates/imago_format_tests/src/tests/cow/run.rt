@@ -60,7 +60,8 @@ impl Run {
         }
     }
 
-    /// Makes a call of the image that succeeds, and compares nothing yet. Whether there was memory for it is answered.
+    /// Makes a call of the image that succeeds, and compares nothing yet. Whether there was memory
+    /// for it is answered.
     pub(super) fn begin(&mut self, rt: &impl Abort, alloc: Global, call: Call) -> bool {
         let step = (Level::Image, call);
         let answer = self.subject.make(rt, alloc, step);

@@ -1,6 +1,7 @@
 //! Bytes to start from.
 //!
-//! A test's run refuses one request for memory at most. So what is refused is tried again, and has its memory then.
+//! A test's run refuses one request for memory at most. So what is refused is tried again, and has
+//! its memory then.
 use std::alloc::Global;
 use std::fmt::Display;
 use std::process::Abort;

@@ -1,4 +1,5 @@
-//! The disks that the tests are made on. Each function names the types of one, so that the proofs of the tests stay short.
+//! The disks that the tests are made on. Each function names the types of one, so that the proofs
+//! of the tests stay short.
 use super::call::{Answer, Call, Kind, Level, Step, contents, kinds, make};
 use super::model::{BLOCK, Model};
 use super::set_up::{equal, numbers};

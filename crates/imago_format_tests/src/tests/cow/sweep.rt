@@ -1,5 +1,5 @@
-//! A failure at each call that a change makes of the disk's storage, with each tear, and of the layer below: what it leaves,
-//! byte for byte, and that the disk goes on from there.
+//! A failure at each call that a change makes of the disk's storage, with each tear, and of the
+//! layer below: what it leaves, byte for byte, and that the disk goes on from there.
 //!
 //! A new call is a row of `RANGES` or `SIZES`.
 use super::call::{Answer, Call, InSteps, Level, Step};
@@ -19,8 +19,8 @@ const LIMIT: u64 = 200;
 /// The size of the disk: five guest blocks of 16, the last of which its end cuts.
 const SIZE: u64 = 70;
 
-/// What is done first: the guest block 1 is an explicit zero, 2 and 4 are data, and 0 and 3 lead below. Of the data blocks the
-/// first is free, with old bytes.
+/// What is done first: the guest block 1 is an explicit zero, 2 and 4 are data, and 0 and 3 lead
+/// below. Of the data blocks the first is free, with old bytes.
 static FIRST: [Call; 5] = [
     Call::Write(48, 16, 1),
     Call::Write(32, 16, 31),
@@ -38,7 +38,8 @@ const END_ZERO: Call = Call::DiscardToZero(64, 6);
 /// Nothing is changed.
 const NONE: Call = Call::Shrink(SIZE);
 
-/// A range that begins and ends inside a guest block: one that leads below, an explicit zero, data, one that leads below.
+/// A range that begins and ends inside a guest block: one that leads below, an explicit zero, data,
+/// one that leads below.
 const AT: u64 = 10;
 
 const COUNT: u64 = 45;
@@ -122,7 +123,8 @@ static USES: [Call; 3] = [
     Call::WriteZeroes(3, 40),
 ];
 
-/// A disk on which what is done first has been done, and then that call, where there was memory for it.
+/// A disk on which what is done first has been done, and then that call, where there was memory for
+/// it.
 fn begun(rt: &impl Abort, alloc: Global, form: Form, fault: Fault, before: Call) -> Option<Run> {
     let mut run = Run::open(rt, alloc, SIZE, form, fault);
     for &call in &FIRST {
@@ -173,7 +175,8 @@ fn made_first(rt: &impl Abort, alloc: Global, form: Form) -> u64 {
     rt.abort()
 }
 
-/// Makes a call that a fault is waiting for, and answers whether it met the fault. The disk is used on then.
+/// Makes a call that a fault is waiting for, and answers whether it met the fault. The disk is used
+/// on then.
 fn is_refused(
     rt: &impl Abort,
     alloc: Global,

@@ -20,7 +20,8 @@ fn options(rt: &impl Abort, alloc: Global) -> StorageOpenOptions {
     opts.write(true).direct(true)
 }
 
-/// A gate is asked once for that path, with these options. No storage in memory is opened by its name.
+/// A gate is asked once for that path, with these options. No storage in memory is opened by its
+/// name.
 fn asks<S: Storage>(rt: &impl Abort, alloc: Global, writable: bool, with_options: bool) {
     let mut gate = RecordingGate::new(alloc, PermissiveImplicitOpenGate::default());
     let builder: RawOpenBuilder<S> = opening(rt, alloc, writable, with_options);

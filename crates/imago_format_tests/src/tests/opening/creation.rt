@@ -88,7 +88,8 @@ fn a_storage_that_does_not_grow_is_empty(rt: HostRuntime) {
     check_a_storage_that_does_not_grow_is_empty(&rt, rt.alloc());
 }
 
-/// The size of a new image that is opened, by a builder that is told to be read-only, and whether it is writable.
+/// The size of a new image that is opened, by a builder that is told to be read-only, and whether
+/// it is writable.
 fn opened<S: Storage>(
     alloc: Global,
     storage: S,
@@ -169,7 +170,8 @@ fn make<S: Storage>(
     }
 }
 
-/// Creates an image of a size in a storage of so many bytes ff, which records its calls. Answers whether there was memory for it.
+/// Creates an image of a size in a storage of so many bytes ff, which records its calls. Answers
+/// whether there was memory for it.
 fn is_recorded(
     rt: &impl Abort,
     alloc: Global,

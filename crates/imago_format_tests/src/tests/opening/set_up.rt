@@ -25,7 +25,8 @@ pub(super) fn stored(rt: &impl Abort, alloc: Global, name: &str, count: usize) -
     MemStorage::named(text(rt, alloc, name), bytes)
 }
 
-/// A gate with a storage under each of these names. The first is 1 byte long, the second 2, and so on.
+/// A gate with a storage under each of these names. The first is 1 byte long, the second 2, and so
+/// on.
 pub(super) fn named(rt: &impl Abort, alloc: Global, names: &[&str]) -> NamedGate<MemStorage> {
     let mut gate = NamedGate::new(alloc);
     let mut count = 0usize;

@@ -10,7 +10,8 @@ use imago_vmdk::vmdk::{Vmdk, VmdkOpenBuilder};
 use std::alloc::Global;
 use std::process::Abort;
 
-/// What opening an image by a builder answers, and asks of a gate with storages `d`, which has the descriptor, `a` and `b`.
+/// What opening an image by a builder answers, and asks of a gate with storages `d`, which has the
+/// descriptor, `a` and `b`.
 struct Case {
     text: &'static [u8],
     /// Whether the descriptor is opened by its path, or handed in.
@@ -28,7 +29,8 @@ const TWO: &[u8] = b"version=1\nRW 1 FLAT \"a\"\nRDONLY 1 FLAT \"b\"\n";
 
 const ENCODED: &[u8] = b"version=1\nencoding=\"UTF-8\"\nRW 1 ZERO\n";
 
-/// Laid out as QEMU writes `twoGbMaxExtentFlat`, with the line for the encoding that other programs add.
+/// Laid out as QEMU writes `twoGbMaxExtentFlat`, with the line for the encoding that other programs
+/// add.
 const LAID_OUT: &[u8] =
     b"# Disk DescriptorFile\nversion=1\nencoding=\"UTF-8\"\nCID=1c8a4d02\nparentCID=ffffffff\ncreateType=\"twoGbMaxExtentFlat\"\n\n# Extent description\nRW 2 FLAT \"a\" 0\nRW 1 FLAT \"b\" 0\n\n# The Disk Data Base\n#DDB\n\nddb.virtualHWVersion = \"4\"\nddb.geometry.cylinders = \"1\"\nddb.geometry.heads = \"16\"\nddb.geometry.sectors = \"63\"\nddb.adapterType = \"ide\"\nddb.toolsVersion = \"2147483647\"\n";
 
@@ -253,7 +255,8 @@ fn images_are_opened_by_their_settings(rt: HostRuntime) {
     }
 }
 
-/// The text of an image whose descriptor has that name, and whether its builder tells that path, and the image's format.
+/// The text of an image whose descriptor has that name, and whether its builder tells that path,
+/// and the image's format.
 fn texts(alloc: Global) -> Result<(String, bool), Error> {
     let mut bytes = Vec::new(alloc);
     if bytes.extend_from_slice(b"version=1").is_err() {
@@ -304,8 +307,8 @@ fn check_a_builder_keeps_what_is_set(rt: &impl Abort, alloc: Global) {
     }
 }
 
-/// What is opened of a descriptor with a key that isn't known, by a builder that is told at first whether it accepts such keys,
-/// if that is told, and what else there is to set then.
+/// What is opened of a descriptor with a key that isn't known, by a builder that is told at first
+/// whether it accepts such keys, if that is told, and what else there is to set then.
 fn opened_by(alloc: Global, accept: Option<bool>) -> Result<u64, Error> {
     let mut builder = VmdkOpenBuilder::new(storage_of(alloc, ENCODED)?);
     if let Some(accept) = accept {

@@ -12,7 +12,8 @@ use std::process::Abort;
 /// What opening a descriptor answers: the size of its disk, or the refusal.
 type Answer = Result<u64, Error>;
 
-/// What `qemu-img create -f vmdk -o subformat=monolithicFlat disk.vmdk 1M` writes, by the template in QEMU's `block/vmdk.c`.
+/// What `qemu-img create -f vmdk -o subformat=monolithicFlat disk.vmdk 1M` writes, by the template
+/// in QEMU's `block/vmdk.c`.
 const MONOLITHIC_FLAT: &[u8] =
     b"# Disk DescriptorFile\nversion=1\nCID=7ab3a6c1\nparentCID=ffffffff\ncreateType=\"monolithicFlat\"\n\n# Extent description\nRW 2048 FLAT \"disk-flat.vmdk\" 0\n\n# The Disk Data Base\n#DDB\n\nddb.virtualHWVersion = \"4\"\nddb.geometry.cylinders = \"2\"\nddb.geometry.heads = \"16\"\nddb.geometry.sectors = \"63\"\nddb.adapterType = \"ide\"\nddb.toolsVersion = \"2147483647\"\n";
 
@@ -236,7 +237,8 @@ fn each_byte_is_replaced(rt: HostRuntime) {
     check_each_byte_is_replaced(&rt, rt.alloc());
 }
 
-/// What a descriptor of so many bytes is opened as: ten bytes, and then that line over and over again.
+/// What a descriptor of so many bytes is opened as: ten bytes, and then that line over and over
+/// again.
 fn open_long(alloc: Global, first: &[u8; 10], line: &[u8; 10], count: usize) -> Answer {
     let mut bytes = Vec::new(alloc);
     for byte in first {
@@ -259,8 +261,8 @@ fn opened_long(alloc: Global, first: &[u8; 10], line: &[u8; 10], count: usize) -
     }
 }
 
-/// The ten bytes that a descriptor begins with, the line that it has over and over again then, its length, and what it is
-/// opened as.
+/// The ten bytes that a descriptor begins with, the line that it has over and over again then, its
+/// length, and what it is opened as.
 static LONG: [(&[u8; 10], &[u8; 10], usize, Answer); 4] = [
     // 209714 extents of 512 bytes, and the word of one more, which says nothing by itself
     (b"version=1\n", b"RW 1 ZERO\n", 2097152, Ok(107373568)),
@@ -286,7 +288,8 @@ fn the_longest_descriptor_is_read(rt: HostRuntime) {
     check_the_longest_descriptor_is_read(&rt, rt.alloc());
 }
 
-/// A storage of the greatest length, whose last block doesn't end within 64 bits, is no descriptor: it isn't read.
+/// A storage of the greatest length, whose last block doesn't end within 64 bits, is no descriptor:
+/// it isn't read.
 #[test]
 fn the_greatest_length_is_no_descriptor(rt: HostRuntime) {
     let longest = u64::MAX;

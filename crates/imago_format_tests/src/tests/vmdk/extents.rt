@@ -30,7 +30,8 @@ struct Case {
 enum Expected {
     /// So many explicit zeroes.
     Zeroes(u64),
-    /// So many bytes of the storage of that index from the offset on, and whether they can be written to.
+    /// So many bytes of the storage of that index from the offset on, and whether they can be
+    /// written to.
     Raw(usize, u64, bool, u64),
     /// The end.
     End,
@@ -235,7 +236,8 @@ fn extents_stand_one_after_the_other(rt: HostRuntime) {
     check_extents_stand_one_after_the_other(&rt, rt.alloc());
 }
 
-/// An image whose extents aren't opened, of two storages that have bytes: it has its size, and ends everywhere.
+/// An image whose extents aren't opened, of two storages that have bytes: it has its size, and ends
+/// everywhere.
 static CLOSED: Case = Case {
     text: b"version=1\nRW 1 FLAT \"a.img\"\nRW 1 FLAT \"b.img\" 1\n",
     a: &[],
@@ -261,8 +263,8 @@ fn an_image_without_extents_reads_as_zeroes(rt: HostRuntime) {
     }
 }
 
-/// A descriptor of three extents, or of one past 64 bits, how many of `a`, `b` and `c` a gate has, which opening it refuses, and
-/// what opening the extents answers.
+/// A descriptor of three extents, or of one past 64 bits, how many of `a`, `b` and `c` a gate has,
+/// which opening it refuses, and what opening the extents answers.
 static REFUSED: [(&[u8], usize, u64, Error); 7] = [
     (THREE, 0, 0, Error::NotFound),
     (THREE, 1, 0, Error::NotFound),

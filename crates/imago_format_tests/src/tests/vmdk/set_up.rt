@@ -53,7 +53,8 @@ pub(super) fn add(
     gate.add(name(alloc, text)?, storage).or(Err(Error::Memory))
 }
 
-/// That gate, which keeps what it is asked, and refuses its nth opening, counted from 1, or none for 0.
+/// That gate, which keeps what it is asked, and refuses its nth opening, counted from 1, or none
+/// for 0.
 pub(super) fn recorded(alloc: Global, gate: NamedGate<MemStorage>, nth: u64) -> Gate {
     RecordingGate::new(alloc, NthGate::new(gate, nth))
 }

@@ -18,9 +18,11 @@ pub(super) enum Answer {
     RawReadOnly(usize, u64, u64),
     /// So many explicit zeroes.
     Zeroes(u64),
-    /// What the layer below has from the offset there on, so many bytes, which may be written there.
+    /// What the layer below has from the offset there on, so many bytes, which may be written
+    /// there.
     Below(u64, u64),
-    /// What the layer below has from the offset there on, so many bytes, which may not be written there.
+    /// What the layer below has from the offset there on, so many bytes, which may not be written
+    /// there.
     BelowReadOnly(u64, u64),
     /// So many special bytes from the offset on.
     Special(u64, u64),

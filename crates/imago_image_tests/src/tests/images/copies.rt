@@ -1,4 +1,5 @@
-//! Images over a driver whose writes wait for a commit, each layer copying the one below it at its first write.
+//! Images over a driver whose writes wait for a commit, each layer copying the one below it at its
+//! first write.
 use super::answer::Answer;
 use super::driver;
 use super::driver::Give;
@@ -20,12 +21,14 @@ const NOT_OFFERED: Answer = Answer::Refused(Error::Unsupported);
 /// What makes the bytes 1 to 8 of the layer below.
 static COUNTED: [(Call, Answer); 1] = [(Call::Write(0, &[1, 2, 3, 4, 5, 6, 7, 8]), DONE)];
 
-/// The driver of an image of 8 bytes, over a storage of other bytes, whose first write copies what is below.
+/// The driver of an image of 8 bytes, over a storage of other bytes, whose first write copies what
+/// is below.
 fn copying(rt: &impl Abort, alloc: Global) -> CopyOnce<MemStorage> {
     CopyOnce::new(stored(rt, alloc, &[(8, 0x11)]), 8)
 }
 
-/// The calls on such an image above one of the bytes 1 to 8. Answers whether there was memory for both.
+/// The calls on such an image above one of the bytes 1 to 8. Answers whether there was memory for
+/// both.
 fn on_once(rt: &impl Abort, alloc: Global, calls: &[(Call, Answer)]) -> bool {
     let lower = copying(rt, alloc);
     on_two(rt, alloc, (lower, &COUNTED), copying(rt, alloc), calls)

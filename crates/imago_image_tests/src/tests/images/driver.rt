@@ -37,7 +37,8 @@ pub(super) enum Call {
     Granularity,
     /// How many storages it has.
     StorageCount,
-    /// The storages are collected. The first of them begins with these bytes, and so many there are.
+    /// The storages are collected. The first of them begins with these bytes, and so many there
+    /// are.
     Collect(&'static [u8]),
     /// Whether the storage of that index has an image of the format.
     Probe(usize),
@@ -45,7 +46,8 @@ pub(super) enum Call {
     Print(&'static str),
     /// What stands from the offset on, at most so many bytes.
     Map(u64, u64),
-    /// Reads bytes of the first storage from the offset on, as a mapping names them. They are to be these.
+    /// Reads bytes of the first storage from the offset on, as a mapping names them. They are to be
+    /// these.
     Read(u64, &'static [u8]),
     /// Reads special bytes.
     ReadSpecial(u64, &'static [u8]),
@@ -59,7 +61,8 @@ pub(super) enum Call {
     MapData(u64, u64, bool),
     /// Maps a range to bytes that may be written, and writes these there.
     WriteMapped(u64, &'static [u8]),
-    /// Prepares the range, writes the bytes from the `at`-th of the mapping on, and commits or cancels it.
+    /// Prepares the range, writes the bytes from the `at`-th of the mapping on, and commits or
+    /// cancels it.
     Prepare {
         offset: u64,
         count: u64,
@@ -68,7 +71,8 @@ pub(super) enum Call {
         bytes: &'static [u8],
         commits: bool,
     },
-    /// Writes into a mapping of bytes of the first storage that wasn't prepared, and commits or cancels it.
+    /// Writes into a mapping of bytes of the first storage that wasn't prepared, and commits or
+    /// cancels it.
     WriteStranger {
         offset: u64,
         count: u64,
@@ -383,7 +387,8 @@ pub(super) fn make<D: FormatDriverInstance>(
     }
 }
 
-/// Makes the calls, each of which answers like that. One that is refused for memory leaves the size, and is made again.
+/// Makes the calls, each of which answers like that. One that is refused for memory leaves the
+/// size, and is made again.
 pub(super) fn script<D: FormatDriverInstance>(
     rt: &impl Abort,
     alloc: Global,

@@ -76,7 +76,8 @@ fn armed(rt: &impl Abort, alloc: Global, pass: u64, tear: Tear) -> Faulty {
     storage
 }
 
-/// Ten zeroes at 3. The calls are the read and the write of the first block, then those of the last.
+/// Ten zeroes at 3. The calls are the read and the write of the first block, then those of the
+/// last.
 const TEN_ZEROES: Call = Call::Write(3, &[0; 10]);
 
 /// The calls that go through, what the next one leaves, the answer, and the bytes that are there.
@@ -200,7 +201,8 @@ fn a_run_over_failing_reads(rt: HostRuntime) {
     check_a_run_over_failing_reads(&rt, rt.alloc());
 }
 
-/// On 16 bytes ff in blocks of 8. The first write stops in its first block, and the growth is refused.
+/// On 16 bytes ff in blocks of 8. The first write stops in its first block, and the growth is
+/// refused.
 static LISTED: [(Call, Answer); 9] = [
     (TEN_ZEROES, DEVICE),
     (Call::Read(0, &[0xff, 0xff, 0xff, 0, 0xff, 0xff]), DONE),

@@ -29,13 +29,15 @@ pub(super) enum Call {
     Read(u64, &'static [u8]),
     /// The same by the call's other name.
     Readv(u64, &'static [u8]),
-    /// Reads bytes from the offset on, which are to be these runs of equal bytes, each given by its length and its byte.
+    /// Reads bytes from the offset on, which are to be these runs of equal bytes, each given by its
+    /// length and its byte.
     ReadRuns(u64, &'static [(usize, u8)]),
     /// Reads so many bytes, by a buffer that `run` makes.
     ReadLong(u64, u64),
     /// Reads bytes of the layer below, which are to be these.
     ReadBelow(u64, &'static [u8]),
-    /// What a range is, through all layers, at most so long. It is to be printed like that, and the length is answered.
+    /// What a range is, through all layers, at most so long. It is to be printed like that, and the
+    /// length is answered.
     Map(u64, u64, &'static str),
     /// What a range is, by the top layer alone.
     MapAlone(u64, u64),
@@ -54,7 +56,8 @@ pub(super) enum Call {
     Give(Give, u64, u64),
     /// Maps a range to bytes that may be written, for overwriting or not.
     MapData(u64, u64, bool),
-    /// Prepares the range, writes the bytes from the `at`-th of the mapping on, as many as fit, and commits or cancels it.
+    /// Prepares the range, writes the bytes from the `at`-th of the mapping on, as many as fit, and
+    /// commits or cancels it.
     Prepare {
         offset: u64,
         count: u64,
@@ -63,7 +66,8 @@ pub(super) enum Call {
         bytes: &'static [u8],
         commits: bool,
     },
-    /// Writes into a mapping of bytes of the first storage that wasn't prepared, and commits or cancels it.
+    /// Writes into a mapping of bytes of the first storage that wasn't prepared, and commits or
+    /// cancels it.
     WriteStranger {
         offset: u64,
         count: u64,
@@ -349,8 +353,8 @@ pub(super) fn make<D: FormatDriverInstance>(
     }
 }
 
-/// Makes the calls, each of which answers like that. One that is refused for memory leaves the size, and is made again.
-/// Answers whether any was.
+/// Makes the calls, each of which answers like that. One that is refused for memory leaves the
+/// size, and is made again. Answers whether any was.
 pub(super) fn script<D: FormatDriverInstance>(
     rt: &impl Abort,
     alloc: Global,
@@ -398,8 +402,8 @@ pub(super) fn on_driver<D: FormatDriverInstance>(
     script(rt, alloc, &mut FormatAccess::new(driver), calls)
 }
 
-/// The calls on the raw image that a storage is. A storage that is lent can be looked at afterwards. Answers whether any call was
-/// made again.
+/// The calls on the raw image that a storage is. A storage that is lent can be looked at
+/// afterwards. Answers whether any call was made again.
 pub(super) fn on_raw<S: Storage>(
     rt: &impl Abort,
     alloc: Global,
@@ -411,8 +415,8 @@ pub(super) fn on_raw<S: Storage>(
     on_driver(rt, alloc, driver, calls)
 }
 
-/// The calls on an image of a driver above an image of another one, on which the first calls are made before. Answers
-/// whether there was memory for both.
+/// The calls on an image of a driver above an image of another one, on which the first calls are
+/// made before. Answers whether there was memory for both.
 pub(super) fn on_two<D: FormatDriverInstance>(
     rt: &impl Abort,
     alloc: Global,

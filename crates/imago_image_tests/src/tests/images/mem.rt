@@ -363,7 +363,8 @@ fn growth_cuts_what_a_write_padded(rt: HostRuntime) {
     check_growth_cuts_what_a_write_padded(&rt, rt.alloc());
 }
 
-/// On the bytes 1 to 3 in blocks of any length. The storage is at least one block long once it was written.
+/// On the bytes 1 to 3 in blocks of any length. The storage is at least one block long once it was
+/// written.
 static SHORT: [(Call, Answer); 12] = [
     (Call::Write(1, &[2]), Answer::Done),
     (
@@ -457,7 +458,8 @@ static REFUSED: [(Call, Answer); 4] = [
     (Call::Read(0, &[1, 2, 3, 4]), Answer::Done),
 ];
 
-/// Runs the calls three times on one image. At most one of the runs has no memory, and the replies of the others are kept.
+/// Runs the calls three times on one image. At most one of the runs has no memory, and the replies
+/// of the others are kept.
 fn run_thrice<S: Storage>(rt: &impl Abort, alloc: Global, storage: S, calls: &[(Call, Answer)]) {
     let driver = Raw::open_image(storage, false).expect(rt, "a raw image");
     let mut image = alone(driver);
@@ -508,7 +510,8 @@ fn an_image_is_a_layer_for_a_driver_above_it(rt: HostRuntime) {
     is_seen(&rt, alloc, storing(&rt, alloc, &[1, 2, 3, 4]));
 }
 
-/// The calls on a raw image above another one that may not be written. Answers whether there was memory for both.
+/// The calls on a raw image above another one that may not be written. Answers whether there was
+/// memory for both.
 fn above_raw<S: Storage>(
     rt: &impl Abort,
     alloc: Global,
@@ -577,8 +580,8 @@ fn put<D: FormatDriverInstance>(image: &mut FormatAccess<D>, inner: D) -> bool {
     image.inner().writable()
 }
 
-/// Puts another driver, which may not write, in the place of an image's driver, and makes the calls then. Answers whether
-/// there was memory for the image.
+/// Puts another driver, which may not write, in the place of an image's driver, and makes the calls
+/// then. Answers whether there was memory for the image.
 fn exchange<S: Storage>(
     rt: &impl Abort,
     alloc: Global,
@@ -598,7 +601,8 @@ fn exchange<S: Storage>(
     }
 }
 
-/// Puts the bytes 7 and 8 in the place of 4 bytes ff above 8 bytes 11. Answers whether there was memory for the image.
+/// Puts the bytes 7 and 8 in the place of 4 bytes ff above 8 bytes 11. Answers whether there was
+/// memory for the image.
 fn exchanged(rt: &impl Abort, alloc: Global) -> bool {
     let lower = storing(rt, alloc, &[0x11; 8]);
     let upper = storing(rt, alloc, &[0xff; 4]);

@@ -31,8 +31,9 @@ fn recording(rt: &impl Abort, alloc: Global) -> Recording {
     Recording::new(blocks(rt, alloc))
 }
 
-/// Makes the calls on a writable raw image over a storage that records, which is lent to it. Where one was refused for memory
-/// they are made on another storage, so that each call is made once. Answers the storage.
+/// Makes the calls on a writable raw image over a storage that records, which is lent to it. Where
+/// one was refused for memory they are made on another storage, so that each call is made once.
+/// Answers the storage.
 fn on(rt: &impl Abort, alloc: Global, calls: &[(Call, Answer)]) -> Recording {
     let mut storage = recording(rt, alloc);
     if on_raw(rt, alloc, &mut storage, true, calls) {
@@ -157,7 +158,8 @@ fn flushes_of_an_image_and_of_a_run_reach_the_storage(rt: HostRuntime) {
     was_reached(&rt, &listed(&rt, alloc, &FLUSHES), &FLUSHED);
 }
 
-/// A call on an image of such a storage, what it answers, what it makes of the storage, and the bytes that it leaves.
+/// A call on an image of such a storage, what it answers, what it makes of the storage, and the
+/// bytes that it leaves.
 pub(super) type Row = (Call, Answer, &'static [Recorded], &'static [(usize, u8)]);
 
 /// Makes the call of each row, which makes these calls, and no other.
@@ -173,7 +175,8 @@ pub(super) fn each_reaches(rt: &impl Abort, alloc: Global, rows: &[Row]) {
     }
 }
 
-/// Such a storage whose device fails at that call, behind so many, and leaves nothing of it. No device fails at a flush.
+/// Such a storage whose device fails at that call, behind so many, and leaves nothing of it. No
+/// device fails at a flush.
 fn failing(rt: &impl Abort, alloc: Global, call: Recorded, pass: u64) -> Option<Faulty> {
     let mut storage = Faulty::new(blocks(rt, alloc));
     match call {
@@ -198,7 +201,8 @@ fn put(bytes: &mut [u8], (offset, count): (u64, u64), other: &[u8]) {
     }
 }
 
-/// The bytes once these calls of a row are made, and no other: what they write is as all of the row leaves it.
+/// The bytes once these calls of a row are made, and no other: what they write is as all of the row
+/// leaves it.
 fn left_by(rt: &impl Abort, alloc: Global, calls: &[Recorded], left: &[(usize, u8)]) -> Vec<u8> {
     let mut bytes = runs(rt, alloc, &OLD);
     let left = runs(rt, alloc, left);
@@ -213,8 +217,8 @@ fn left_by(rt: &impl Abort, alloc: Global, calls: &[Recorded], left: &[(usize, u
     bytes
 }
 
-/// Makes the call of a row where the device fails behind so many of its calls: it is refused, and makes no other. Answers whether
-/// there was memory for it.
+/// Makes the call of a row where the device fails behind so many of its calls: it is refused, and
+/// makes no other. Answers whether there was memory for it.
 fn stops(rt: &impl Abort, alloc: Global, row: &Row, pass: usize) -> bool {
     let (call, _, reached, left) = *row;
     let (Some(made), Some(&failed)) = (reached.get(..pass), reached.get(pass)) else {
@@ -259,7 +263,8 @@ macro_rules! prepared {
     };
 }
 
-/// Writes: the first and the last block are read where they are written in part, and whole blocks are written at once.
+/// Writes: the first and the last block are read where they are written in part, and whole blocks
+/// are written at once.
 static WRITES: [Row; 8] = [
     (
         Call::WriteRun(1000, 9000, 0x3c),

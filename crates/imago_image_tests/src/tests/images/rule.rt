@@ -25,9 +25,11 @@ pub(super) enum How {
     Done,
     /// Each is old or new, whatever the call answers.
     Partly,
-    /// All are new. Where the call is refused, each is unspecified, since a mapping for overwriting was committed.
+    /// All are new. Where the call is refused, each is unspecified, since a mapping for overwriting
+    /// was committed.
     Overwritten,
-    /// All are new where the mapping has no state, and none where it has one, since it is cancelled.
+    /// All are new where the mapping has no state, and none where it has one, since it is
+    /// cancelled.
     Cancelled,
 }
 

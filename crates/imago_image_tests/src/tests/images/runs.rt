@@ -115,8 +115,8 @@ fn told(rt: &impl Abort, alloc: Global, call: Call, reply: &Reply) -> Answer {
     }
 }
 
-/// Runs the calls as one list, each of which is answered like that, and appends the replies. Answers whether there was
-/// memory for it.
+/// Runs the calls as one list, each of which is answered like that, and appends the replies.
+/// Answers whether there was memory for it.
 pub(super) fn by_run<D: FormatDriverInstance>(
     rt: &impl Abort,
     alloc: Global,
@@ -143,7 +143,8 @@ pub(super) fn by_run<D: FormatDriverInstance>(
     true
 }
 
-/// Runs the calls as one list on the raw image that a storage is. Answers whether there was memory for it.
+/// Runs the calls as one list on the raw image that a storage is. Answers whether there was memory
+/// for it.
 pub(super) fn run_raw<S: Storage>(
     rt: &impl Abort,
     alloc: Global,
@@ -156,8 +157,8 @@ pub(super) fn run_raw<S: Storage>(
     by_run(rt, alloc, &mut image, calls, &mut Vec::new(alloc))
 }
 
-/// Runs the calls as one list on an image of a driver above an image of another one, on which the first calls are made
-/// before. Answers whether there was memory for it.
+/// Runs the calls as one list on an image of a driver above an image of another one, on which the
+/// first calls are made before. Answers whether there was memory for it.
 pub(super) fn run_two<D: FormatDriverInstance>(
     rt: &impl Abort,
     alloc: Global,

@@ -1,6 +1,7 @@
 //! Bytes and storages to start from.
 //!
-//! A test's run refuses one request for memory at most. So what is refused is tried again, and has its memory then.
+//! A test's run refuses one request for memory at most. So what is refused is tried again, and has
+//! its memory then.
 use imago_storage::mem::MemStorage;
 use imago_storage::storage::is_alignment;
 use std::alloc::Global;

@@ -286,7 +286,8 @@ fn upper(rt: &impl Abort, alloc: Global, table: &[Origin], fail: Option<u64>) ->
     made(rt, alloc, table, 4, failing_commits(fail)).expect(rt, "a table that fits")
 }
 
-/// The calls on an image of such a disk above one of twos. Answers whether there was memory for both.
+/// The calls on an image of such a disk above one of twos. Answers whether there was memory for
+/// both.
 fn on_once(
     rt: &impl Abort,
     alloc: Global,
@@ -370,7 +371,8 @@ static GIVEN: [(Call, Answer); 10] = [
     (Call::Read(0, &[0, 0, 2, 2]), DONE),
 ];
 
-/// On two bytes of the first storage, a barred one, and one more of that storage. Those before the barred one are given up.
+/// On two bytes of the first storage, a barred one, and one more of that storage. Those before the
+/// barred one are given up.
 static GIVEN_IN_PART: [(Call, Answer); 8] = [
     (Call::Give(Give::EnsureZero, 1, 2), BARRED),
     (Call::Read(0, &[1, 0]), DONE),
@@ -442,8 +444,8 @@ fn a_disk_whose_places_end_before_its_size(rt: HostRuntime) {
     check_a_disk_whose_places_end_before_its_size(&rt, rt.alloc());
 }
 
-/// A disk of 8 bytes whose whole granules of 4 can't be zeroed: its table, the range that an image of it zeroes, what that
-/// answers, how often the disk fails, and the bytes that are left.
+/// A disk of 8 bytes whose whole granules of 4 can't be zeroed: its table, the range that an image
+/// of it zeroes, what that answers, how often the disk fails, and the bytes that are left.
 type Granule = (&'static [Origin], (u64, u64), Answer, u64, &'static [u8]);
 
 static GRANULES: [Granule; 5] = [
@@ -502,7 +504,8 @@ fn failed_in<S: Storage>(
     Some(image.inner().faults())
 }
 
-/// Zeroes the range of a row, and reads what is left. Answers how often the disk failed, if no call was made again.
+/// Zeroes the range of a row, and reads what is left. Answers how often the disk failed, if no call
+/// was made again.
 fn zeroed_by(rt: &impl Abort, alloc: Global, row: Granule) -> Option<u64> {
     let (table, (offset, count), answer, _, left) = row;
     let settings = Settings {

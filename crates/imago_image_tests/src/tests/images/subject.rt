@@ -1,5 +1,5 @@
-//! The images that a sweep is made on. What is done with them is generic, and named once for each type, so that the proofs
-//! of the tests stay short.
+//! The images that a sweep is made on. What is done with them is generic, and named once for each
+//! type, so that the proofs of the tests stay short.
 use super::answer::Answer;
 use super::image::{Call, above, alone, make};
 use super::rule::Disk;
@@ -23,7 +23,8 @@ pub(super) const SIZE: usize = 2048;
 
 const LOWER_SIZE: usize = 1200;
 
-/// The first of the bytes of a disk's first storage, and of its second. They differ from offset to offset, and none is zero.
+/// The first of the bytes of a disk's first storage, and of its second. They differ from offset to
+/// offset, and none is zero.
 const FIRST: u8 = 1;
 
 const SECOND: u8 = 101;

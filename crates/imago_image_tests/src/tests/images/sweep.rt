@@ -1,7 +1,8 @@
-//! A failure at each call that a change makes of its storages, with each tear, over each driver: what it leaves, byte for
-//! byte, and that the image goes on from there.
+//! A failure at each call that a change makes of its storages, with each tear, over each driver:
+//! what it leaves, byte for byte, and that the image goes on from there.
 //!
-//! A new call is a row of `CALLS` or `DRIVER_CALLS`, a new storage one of the forms. A row says how many calls it makes.
+//! A new call is a row of `CALLS` or `DRIVER_CALLS`, a new storage one of the forms. A row says how
+//! many calls it makes.
 use super::answer::Answer;
 use super::driver;
 use super::driver::Give;
@@ -20,8 +21,8 @@ type Row = (Call, Effect);
 /// How many calls of a storage a row makes, in blocks of 1, of 8 and of 512.
 type Count = (u64, u64, u64);
 
-/// How many it makes of the storage of a raw image, of that of one in pieces or granules, and of a table's first and second
-/// storage.
+/// How many it makes of the storage of a raw image, of that of one in pieces or granules, and of a
+/// table's first and second storage.
 type Counts = (Count, Count, Count, Count);
 
 /// A row, and how many calls it makes.
@@ -38,7 +39,8 @@ static TEARS: [Tear; 4] = [Tear::Nothing, Tear::All, Tear::First(3), Tear::Odd];
 /// More calls than any change makes of its storages.
 const LIMIT: u64 = 300;
 
-/// The offset and the length of the range that is changed. It begins and ends inside a block of 8 and of 512.
+/// The offset and the length of the range that is changed. It begins and ends inside a block of 8
+/// and of 512.
 const AT: u64 = 515;
 
 const COUNT: u64 = 1030;
@@ -56,13 +58,14 @@ const NONE: Count = (0, 0, 0);
 
 const NO_CALLS: Counts = (NONE, NONE, NONE, NONE);
 
-/// A block that is changed in part is read and written. So 1030 bytes from 515 on are one write, or one and two blocks. In
-/// pieces of 256, 256, 256, 256 and 6 bytes, or of 512, 512 and 6, each piece is written so. A table has eight runs that are
-/// written to its first storage in them, and three that stand in the second.
+/// A block that is changed in part is read and written. So 1030 bytes from 515 on are one write, or
+/// one and two blocks. In pieces of 256, 256, 256, 256 and 6 bytes, or of 512, 512 and 6, each
+/// piece is written so. A table has eight runs that are written to its first storage in them, and
+/// three that stand in the second.
 const WRITE: Counts = ((1, 5, 5), (5, 24, 10), (8, 24, 18), (3, 11, 8));
 
-/// What is aligned is zeroed by one call for each granule, and the rest of both ends is written. A table zeroes its entries
-/// alone.
+/// What is aligned is zeroed by one call for each granule, and the rest of both ends is written. A
+/// table zeroes its entries alone.
 const ZEROED: Counts = ((1, 5, 5), (5, 9, 5), NONE, NONE);
 
 /// What is aligned is discarded by one call for each granule, and the rest is left.
@@ -346,7 +349,8 @@ fn use_on(rt: &impl Abort, alloc: Global, subject: &mut Subject, disk: &mut Disk
     }
 }
 
-/// Makes a call that a fault is waiting for, and answers whether it met the fault. The image is used on then.
+/// Makes a call that a fault is waiting for, and answers whether it met the fault. The image is
+/// used on then.
 fn is_refused(rt: &impl Abort, alloc: Global, form: Form, row: Row, fault: Fault) -> bool {
     let mut disk = first_disk(rt, alloc, form.kind);
     let mut subject = Subject::open(rt, alloc, form, fault);
@@ -374,7 +378,8 @@ fn is_refused(rt: &impl Abort, alloc: Global, form: Form, row: Row, fault: Fault
     true
 }
 
-/// How many calls of the first storage, or of the second, a call makes: it is refused at each of them, and at none behind them.
+/// How many calls of the first storage, or of the second, a call makes: it is refused at each of
+/// them, and at none behind them.
 fn reached(rt: &impl Abort, alloc: Global, form: Form, row: Row, tear: Tear, second: bool) -> u64 {
     for pass in 0..LIMIT {
         let fault = if second {
@@ -455,7 +460,8 @@ fn sweep_image(rt: &impl Abort, alloc: Global, kind: Kind, align: usize) {
     sweep_both(rt, alloc, kind, align, &CALLS);
 }
 
-/// Sweeps over the calls of a driver for storages with alignments of 1, 8 and 512, and a driver for each.
+/// Sweeps over the calls of a driver for storages with alignments of 1, 8 and 512, and a driver for
+/// each.
 fn sweep_driver(rt: &impl Abort, alloc: Global, kinds: [Kind; 3]) {
     for (kind, align) in kinds.into_iter().zip([1, 8, 512]) {
         sweep_both(rt, alloc, kind, align, &DRIVER_CALLS);
@@ -563,7 +569,8 @@ fn a_driver_of_a_table_fails_anywhere(rt: HostRuntime) {
     sweep_driver(&rt, rt.alloc(), [Kind::Table; 3]);
 }
 
-/// Makes each call once, and uses the image on. A call that is refused for memory leaves what it may, and succeeds at a second try.
+/// Makes each call once, and uses the image on. A call that is refused for memory leaves what it
+/// may, and succeeds at a second try.
 fn each_once(rt: &impl Abort, alloc: Global, kind: Kind, rows: &[Counted]) {
     let form = Form {
         kind,
@@ -612,8 +619,8 @@ fn calls_of_a_chain_go_on_without_memory(rt: HostRuntime) {
 
 /// A driver and the alignment of its storage, a row, and how many calls it makes.
 ///
-/// In blocks one is read and written at each end, where it is changed in part. The blocks between are written or zeroed at once, or
-/// granule by granule.
+/// In blocks one is read and written at each end, where it is changed in part. The blocks between
+/// are written or zeroed at once, or granule by granule.
 static REACHED: [(Kind, usize, usize, u64); 15] = [
     (Kind::Raw, 1, 0, 1),
     (Kind::Raw, 8, 0, 5),

@@ -173,7 +173,8 @@ fn what_the_driver_leaves_is_zeroed_as_data(rt: HostRuntime) {
     check_what_the_driver_leaves_is_zeroed_as_data(&rt, rt.alloc());
 }
 
-/// In blocks of 4096. What is aligned is one call. A storage in memory keeps what is discarded to any.
+/// In blocks of 4096. What is aligned is one call. A storage in memory keeps what is discarded to
+/// any.
 static REACHED: [Row; 7] = [
     (
         Call::Give(ZERO, 4096, 8192),

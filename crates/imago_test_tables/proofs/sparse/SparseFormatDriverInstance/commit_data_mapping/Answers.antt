@@ -1,7 +1,9 @@
 use Rattle.std.proofs.Common.{◌+◌, ◌&&◌, arith, refl, sym, ◌∙◌, None, true, false}
+use Rattle.imago_test_tables.specs.Pair.{at_index}
 use Rattle.imago_test_tables.specs.Sparse.{sparse_pending}
 use Rattle.imago_test_tables.specs.SparseLaws.{sparse_causes}
 use Rattle.imago_test_tables.proofs.CommitSteps.{own_is_known, own_has_state, commit_nothing, commit_done, commit_reaches, commit_framed, commit_settled, no_plan, rose}
+use Rattle.imago_test_tables.proofs.StaySteps.{commit_stays}
 use Rattle.imago_test_tables.proofs.sparse.SparseFormatDriverInstance.commit_data_mapping.Goals as goal
 
 pub returns-in_default-clause-call : goal.returns-in_default-clause-call
@@ -33,6 +35,8 @@ returns-in_default-fail_commit_after-clause-call g c =
       framed = commit_framed f h n n A B s.table.items _ s.size s.settings s.short m.offset m.length fill s.waiting None;
       faults = record { later = omega arith; reliable = λ e. refl; device = λ e. let z : ⊥ = cc in absurd z };
       refusals = tt;
+      outside = commit_stays (at_index A B) (f.keeps_data && h.keeps_data) s.table.items _ A m.length
+          s.waiting m m.state refl own fill (omega arith);
     }
 
 pub returns-clause-call : goal.returns-clause-call
@@ -64,4 +68,6 @@ returns-clause-call g c =
         device = λ e. rose n c.saturating_add-self.result s.storages.faults (g.S.Storage.fault_count s.storages.first + g.S.Storage.fault_count s.storages.second) refl c.saturating_add-self.ensures;
       };
       refusals = tt;
+      outside = commit_stays (at_index A B) (f.keeps_data && h.keeps_data) s.table.items _ A made
+          s.waiting m m.state refl own fill (omega (arith, c.min.ensures, c.length-count.ensures));
     }
