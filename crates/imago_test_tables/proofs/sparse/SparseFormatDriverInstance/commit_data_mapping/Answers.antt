@@ -1,4 +1,5 @@
-use Rattle.std.proofs.Common.{◌+◌, ◌&&◌, arith, refl, sym, ◌∙◌, None, true, false}
+use Rattle.std.proofs.Common.{rules, ◌+◌, ◌&&◌, arith, refl, sym, ◌∙◌, None, true, false}
+use Rattle.imago_drivers.proofs.Stays.{stays_itself}
 use Rattle.imago_test_tables.specs.Pair.{at_index}
 use Rattle.imago_test_tables.specs.Sparse.{sparse_pending}
 use Rattle.imago_test_tables.specs.SparseLaws.{sparse_causes}
@@ -10,6 +11,23 @@ pub returns-in_default-clause-call : goal.returns-in_default-clause-call
 returns-in_default-clause-call g c =
     let s = c.args.self.now in
     commit_nothing _ s c.args.mapping (sym c.into_state.ensures ∙ c.in_default.is) (sparse_causes _ _ _ _ _ s.table.items s.size s.settings s.short s.waiting)
+
+pub returns-then-not-own-clause-call : goal.returns-then-not-own-clause-call
+returns-then-not-own-clause-call g c = record {
+  foreign = search rules;
+  untouched = search rules;
+  done = search rules;
+  torn = search rules;
+  own_spent = search rules;
+  others_stay = search rules;
+  reaches = search rules;
+  settled = search rules;
+  lengths = search rules;
+  framed = search rules;
+  faults = search rules;
+  refusals = search rules;
+  outside = stays_itself _ _ _;
+}
 
 pub returns-in_default-fail_commit_after-clause-call : goal.returns-in_default-fail_commit_after-clause-call
 returns-in_default-fail_commit_after-clause-call g c =
