@@ -1,7 +1,7 @@
 //! Opening and creating of storages, their names, and their alignments.
 use super::set_up::{owned, runs, same};
 use super::subject::stored;
-use imago_storage::align::{aligned_blocks, discard_align, zero_align};
+use imago_storage::align::{discard_align, zero_align};
 use imago_storage::error::Error;
 use imago_storage::mem::MemStorage;
 use imago_storage::null::Null;
@@ -318,14 +318,4 @@ fn alignments_are_powers_of_two(rt: HostRuntime) {
     for other in [0, 3, 6, 4095, usize::MAX] {
         assert!(rt; !is_alignment(other), "{other}");
     }
-}
-
-fn check_a_range_has_an_aligned_part(rt: &impl Abort) {
-    same(rt, &aligned_blocks(8, 3, 13), &Some((8, 16)));
-    same(rt, &aligned_blocks(4096, u64::MAX - 10, 5), &None);
-}
-
-#[test]
-fn a_range_has_an_aligned_part(rt: HostRuntime) {
-    check_a_range_has_an_aligned_part(&rt);
 }
