@@ -115,8 +115,7 @@ fn each_ends_the_script(rt: HostRuntime) {
     check_each_ends_the_script(&rt);
 }
 
-/// Scripts with a bad line, and what they print: the lines before it are done, those behind it
-/// aren't.
+/// Scripts with a bad line, and what they print: the lines before it are done, those behind it aren't.
 const SCRIPTS: [(&str, &str); 6] = [
     ("read 0 16777217\nsize\n", "bad line 1\n"),
     ("size\nsize!\nsize\n", "err NotFound\nbad line 2\n"),
