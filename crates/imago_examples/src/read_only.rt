@@ -63,13 +63,11 @@ impl<S: Storage> Storage for ReadOnly<S> {
 
     ghost lawful = { λ s. read_only_lawful (S.features s.inner) (S.lawful s.inner) };
 
-    fn open(opts: StorageOpenOptions) -> Result<Self, Error> {
-        let _ = opts;
+    fn open(_opts: StorageOpenOptions) -> Result<Self, Error> {
         Err(Error::Unsupported)
     }
 
-    fn create_open(opts: StorageCreateOptions) -> Result<Self, Error> {
-        let _ = opts;
+    fn create_open(_opts: StorageCreateOptions) -> Result<Self, Error> {
         Err(Error::Unsupported)
     }
 
@@ -109,24 +107,17 @@ impl<S: Storage> Storage for ReadOnly<S> {
         Storage::pure_readv_mut(&mut self.inner, buf, offset)
     }
 
-    fn pure_writev(&mut self, source: &[u8], offset: u64) -> Result<(), Error> {
+    fn pure_writev(&mut self, _source: &[u8], _offset: u64) -> Result<(), Error> {
         splice_by_offset();
-        let _ = source;
-        let _ = offset;
         Err(Error::Device)
     }
 
-    fn zero_in_place(&mut self, offset: u64, count: u64, kind: ZeroKind) -> Result<(), Error> {
+    fn zero_in_place(&mut self, _offset: u64, _count: u64, _kind: ZeroKind) -> Result<(), Error> {
         splice_by_offset();
-        let _ = offset;
-        let _ = count;
-        let _ = kind;
         Err(Error::Unsupported)
     }
 
-    fn pure_discard(&mut self, offset: u64, count: u64) -> Result<(), Error> {
-        let _ = offset;
-        let _ = count;
+    fn pure_discard(&mut self, _offset: u64, _count: u64) -> Result<(), Error> {
         Err(Error::Unsupported)
     }
 
@@ -146,9 +137,7 @@ impl<S: Storage> Storage for ReadOnly<S> {
         Storage::invalidate_cache(&mut self.inner)
     }
 
-    fn resize(&mut self, new_size: u64, mode: PreallocateMode) -> Result<(), Error> {
-        let _ = new_size;
-        let _ = mode;
+    fn resize(&mut self, _new_size: u64, _mode: PreallocateMode) -> Result<(), Error> {
         Err(Error::Unsupported)
     }
 }

@@ -52,13 +52,11 @@ impl Storage for ScriptStorage {
 
     ghost lawful = { kinds_lawful };
 
-    fn open(opts: StorageOpenOptions) -> Result<Self, Error> {
-        let _ = opts;
+    fn open(_opts: StorageOpenOptions) -> Result<Self, Error> {
         Err(Error::Unsupported)
     }
 
-    fn create_open(opts: StorageCreateOptions) -> Result<Self, Error> {
-        let _ = opts;
+    fn create_open(_opts: StorageCreateOptions) -> Result<Self, Error> {
         Err(Error::Unsupported)
     }
 

@@ -244,13 +244,11 @@ impl Storage for MemStorage {
     ghost lawful = { λ s. mem_lawful (option_map string_bytes s.name) s.mem_align s.req_align
         s.zero_align s.mem_power s.req_power s.zero_power s.zero_whole };
 
-    fn open(opts: StorageOpenOptions) -> Result<Self, Error> {
-        let _ = opts;
+    fn open(_opts: StorageOpenOptions) -> Result<Self, Error> {
         Err(Error::Unsupported)
     }
 
-    fn create_open(opts: StorageCreateOptions) -> Result<Self, Error> {
-        let _ = opts;
+    fn create_open(_opts: StorageCreateOptions) -> Result<Self, Error> {
         Err(Error::Unsupported)
     }
 
@@ -305,14 +303,11 @@ impl Storage for MemStorage {
     }
 
     #[tactic(auto, using(crate::proofs::Splices::splice_length, std::proofs::lemmas::List::places))]
-    fn zero_in_place(&mut self, offset: u64, count: u64, kind: ZeroKind) -> Result<(), Error> {
-        let _ = kind;
+    fn zero_in_place(&mut self, offset: u64, count: u64, _kind: ZeroKind) -> Result<(), Error> {
         put_zeroes(&mut self.bytes, offset, count)
     }
 
-    fn pure_discard(&mut self, offset: u64, count: u64) -> Result<(), Error> {
-        let _ = offset;
-        let _ = count;
+    fn pure_discard(&mut self, _offset: u64, _count: u64) -> Result<(), Error> {
         Ok(())
     }
 
@@ -332,8 +327,7 @@ impl Storage for MemStorage {
         Ok(())
     }
 
-    fn resize(&mut self, new_size: u64, mode: PreallocateMode) -> Result<(), Error> {
-        let _ = mode;
+    fn resize(&mut self, new_size: u64, _mode: PreallocateMode) -> Result<(), Error> {
         if new_size <= self.bytes.len() as u64 {
             self.bytes.truncate(new_size as usize);
             return Ok(());

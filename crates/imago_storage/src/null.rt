@@ -54,13 +54,11 @@ impl Storage for Null {
 
     ghost lawful = { λ _. null_lawful };
 
-    fn open(opts: StorageOpenOptions) -> Result<Self, Error> {
-        let _ = opts;
+    fn open(_opts: StorageOpenOptions) -> Result<Self, Error> {
         Err(Error::Unsupported)
     }
 
-    fn create_open(opts: StorageCreateOptions) -> Result<Self, Error> {
-        let _ = opts;
+    fn create_open(_opts: StorageCreateOptions) -> Result<Self, Error> {
         Err(Error::Unsupported)
     }
 
@@ -84,9 +82,7 @@ impl Storage for Null {
         Ok(self.size)
     }
 
-    fn resolve_relative_path(&self, alloc: Global, relative: &str) -> Result<String, Error> {
-        let _ = alloc;
-        let _ = relative;
+    fn resolve_relative_path(&self, _alloc: Global, _relative: &str) -> Result<String, Error> {
         Err(Error::Unsupported)
     }
 
@@ -94,8 +90,7 @@ impl Storage for Null {
         None
     }
 
-    fn pure_readv(&self, buf: &mut [u8], offset: u64) -> Result<(), Error> {
-        let _ = offset;
+    fn pure_readv(&self, buf: &mut [u8], _offset: u64) -> Result<(), Error> {
         buf.fill(0);
         Ok(())
     }
@@ -119,9 +114,7 @@ impl Storage for Null {
         Ok(())
     }
 
-    fn pure_discard(&mut self, offset: u64, count: u64) -> Result<(), Error> {
-        let _ = offset;
-        let _ = count;
+    fn pure_discard(&mut self, _offset: u64, _count: u64) -> Result<(), Error> {
         Ok(())
     }
 
@@ -141,8 +134,7 @@ impl Storage for Null {
         Ok(())
     }
 
-    fn resize(&mut self, new_size: u64, mode: PreallocateMode) -> Result<(), Error> {
-        let _ = mode;
+    fn resize(&mut self, new_size: u64, _mode: PreallocateMode) -> Result<(), Error> {
         self.size = new_size;
         Ok(())
     }

@@ -363,13 +363,11 @@ impl Storage for Faulty {
         s.zero_align) (mem_lawful (⟦<MemStorage as Storage>⟧.features s.inner).filename s.mem_align
         s.req_align s.zero_align s.mem_power s.req_power s.zero_power s.zero_whole) };
 
-    fn open(opts: StorageOpenOptions) -> Result<Self, Error> {
-        let _ = opts;
+    fn open(_opts: StorageOpenOptions) -> Result<Self, Error> {
         Err(Error::Unsupported)
     }
 
-    fn create_open(opts: StorageCreateOptions) -> Result<Self, Error> {
-        let _ = opts;
+    fn create_open(_opts: StorageCreateOptions) -> Result<Self, Error> {
         Err(Error::Unsupported)
     }
 
@@ -438,18 +436,16 @@ impl Storage for Faulty {
         }
     }
 
-    fn pure_write_zeroes(&mut self, alloc: Global, offset: u64, count: u64) -> Result<(), Error> {
-        let _ = alloc;
+    fn pure_write_zeroes(&mut self, _alloc: Global, offset: u64, count: u64) -> Result<(), Error> {
         self.zero_in_place(offset, count, ZeroKind::Any)
     }
 
     fn pure_write_allocated_zeroes(
         &mut self,
-        alloc: Global,
+        _alloc: Global,
         offset: u64,
         count: u64,
     ) -> Result<(), Error> {
-        let _ = alloc;
         self.zero_in_place(offset, count, ZeroKind::Allocated)
     }
 

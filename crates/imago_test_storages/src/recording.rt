@@ -186,13 +186,11 @@ impl Storage for Recording {
     ghost lawful = { λ s. recording_lawful s.zeroes_as_data s.no_discards
         (⟦<MemStorage as Storage>⟧.features s.inner) (alignments_of s.inner) };
 
-    fn open(opts: StorageOpenOptions) -> Result<Self, Error> {
-        let _ = opts;
+    fn open(_opts: StorageOpenOptions) -> Result<Self, Error> {
         Err(Error::Unsupported)
     }
 
-    fn create_open(opts: StorageCreateOptions) -> Result<Self, Error> {
-        let _ = opts;
+    fn create_open(_opts: StorageCreateOptions) -> Result<Self, Error> {
         Err(Error::Unsupported)
     }
 

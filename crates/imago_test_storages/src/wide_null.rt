@@ -53,13 +53,11 @@ impl Storage for WideNull {
 
     ghost lawful = { λ _. wide_lawful };
 
-    fn open(opts: StorageOpenOptions) -> Result<Self, Error> {
-        let _ = opts;
+    fn open(_opts: StorageOpenOptions) -> Result<Self, Error> {
         Err(Error::Unsupported)
     }
 
-    fn create_open(opts: StorageCreateOptions) -> Result<Self, Error> {
-        let _ = opts;
+    fn create_open(_opts: StorageCreateOptions) -> Result<Self, Error> {
         Err(Error::Unsupported)
     }
 

@@ -12,7 +12,7 @@ ghost use Rattle.imago_vmdk.specs.Reading.{is_length as may_be_long, fitting, re
 ghost use Rattle.imago_vmdk.specs.Reading.{GivesOrMemory};
 ghost use Rattle.imago_vmdk.specs.Probe.{line_decides, names_version, probe_lines, probe_of};
 
-use crate::line::{Extent, Line, cut_at_equals, utf8, verdict, version_number};
+use crate::line::{Extent, Line, SECTOR_SIZE, cut_at_equals, utf8, verdict, version_number};
 use imago_storage::error::Error;
 use memchr::memchr;
 use std::alloc::Global;
@@ -36,11 +36,17 @@ struct Survey {
     extents: Option<Vec<Extent<String>>>,
 }
 
+/// How many bytes a descriptor has at least.
+const SHORTEST: u64 = 4;
+
+/// How many bytes a descriptor has at most.
+const LONGEST: u64 = 2097152;
+
 /// Whether a descriptor may be that long, in bytes.
 pub(crate) fn is_length(length: u64) -> bool
     ensures { result ≡ may_be_long «length» }
 {
-    3 < length && length < 2097153
+    SHORTEST <= length && length <= LONGEST
 }
 
 fn is_known_version(version: u32) -> bool
@@ -53,7 +59,7 @@ fn is_known_version(version: u32) -> bool
 fn longer(size: Option<u64>, sectors: u64) -> Option<u64>
     ensures { (n : _) → size ≡ fitting n → result ≡ fitting (n + sectors * 512) }
 {
-    size?.checked_add(sectors.checked_mul(512)?)
+    size?.checked_add(sectors.checked_mul(SECTOR_SIZE)?)
 }
 
 /// The extent with a name of its own. Refused, it is [`Error::Memory`].
@@ -83,7 +89,7 @@ fn owned(alloc: Global, extent: Extent<&str>) -> Result<Extent<String>, Error>
 }
 
 /// Puts an extent behind the others, with a name of its own. Refused, it is [`Error::Memory`].
-fn append(
+fn push_extent(
     alloc: Global,
     extents: &mut Vec<Extent<String>>,
     extent: Extent<&str>,
@@ -110,7 +116,7 @@ fn kept(
         (es ++ extent_with (λ s. s.now) extent.entry ∷ []) }
 {
     let mut extents = extents?;
-    match append(alloc, &mut extents, extent) {
+    match push_extent(alloc, &mut extents, extent) {
         Ok(()) => Some(extents),
         Err(_) => None,
     }

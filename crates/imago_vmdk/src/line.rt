@@ -11,9 +11,12 @@ ghost use Rattle.imago_vmdk.specs.Reading.{sectors_of};
 use imago_storage::error::Error;
 use std::str::SplitWhitespace;
 
+/// How many bytes a sector has.
+pub(crate) const SECTOR_SIZE: u64 = 512;
+
 /// What may be done with an extent, by the word that it begins with.
 #[derive(Clone, Copy, Debug, PartialEq, Eq)]
-pub enum Access {
+pub(crate) enum Access {
     /// `RW`.
     ReadWrite,
     /// `RDONLY`.
@@ -145,7 +148,7 @@ fn is_three_words(text: &str) -> bool
 }
 
 /// The offset behind a file name, in sectors: the first word, or 0.
-fn offset(text: &str) -> Result<u64, Error>
+fn flat_offset(text: &str) -> Result<u64, Error>
     ensures { Gives (λ x. x) result (offset_of (words_of text.now)) }
 {
     let mut words = text.split_whitespace();
@@ -157,12 +160,12 @@ fn offset(text: &str) -> Result<u64, Error>
 
 /// The FLAT extent that a whole line is.
 #[tactic(auto, unfolding(crate::specs::Line::flat_of))]
-fn flat(writable: bool, sectors: u64, text: &str) -> Result<Extent<&str>, Error>
+fn flat_extent(writable: bool, sectors: u64, text: &str) -> Result<Extent<&str>, Error>
     ensures { Gives (extent_with (λ s. s.now)) result (flat_of writable sectors text.now) }
 {
     let (before, rest) = cut_at_quote(text).ok_or(Error::InvalidData)?;
     let (name, after) = cut_at_quote(rest).ok_or(Error::InvalidData)?;
-    let offset = offset(after)?;
+    let offset = flat_offset(after)?;
     if !is_three_words(before) {
         return Err(Error::InvalidData);
     }
@@ -177,7 +180,7 @@ fn flat(writable: bool, sectors: u64, text: &str) -> Result<Extent<&str>, Error>
 
 /// The extent that a line is, by its type, which is the next word.
 #[tactic(auto, unfolding(crate::specs::Line::typed_of))]
-fn typed<'a>(
+fn typed_extent<'a>(
     writable: bool,
     sectors: u64,
     words: &mut SplitWhitespace<'_>,
@@ -189,7 +192,7 @@ fn typed<'a>(
 {
     match next_word(words) {
         Some("ZERO") => Ok(Extent::Zero { sectors }),
-        Some("FLAT") => flat(writable, sectors, text),
+        Some("FLAT") => flat_extent(writable, sectors, text),
         Some(_) => Err(Error::Unsupported),
         None => Err(Error::InvalidData),
     }
@@ -212,8 +215,8 @@ fn extent_line<'a>(
     let sectors = number(sectors).ok_or(Error::InvalidData)?;
     let extent = match access {
         Access::NoAccess => Extent::NoAccess { sectors },
-        Access::ReadOnly => typed(false, sectors, words, text)?,
-        Access::ReadWrite => typed(true, sectors, words, text)?,
+        Access::ReadOnly => typed_extent(false, sectors, words, text)?,
+        Access::ReadWrite => typed_extent(true, sectors, words, text)?,
     };
     Ok(Line::Extent(extent))
 }

@@ -25,7 +25,7 @@ ghost use Rattle.imago_vmdk.specs.VmdkCalls.{vmdk_calls};
 ghost use Rattle.imago_vmdk.specs.VmdkLaws.{vmdk_lawful, vmdk_causes};
 
 use crate::descriptor::{self, Descriptor, is_length};
-use crate::line::Extent;
+use crate::line::{Extent, SECTOR_SIZE};
 pub use crate::vmdk_builder::VmdkOpenBuilder;
 use imago_drivers::drivers::{
     Format, FormatDriverInstance, PreallocateMode, PreparedDataMapping, ShallowMapping,
@@ -75,7 +75,7 @@ pub struct Vmdk<S: Storage> {
 }
 
 /// The descriptor's text, if it may be one by its length.
-fn text<S: Storage>(alloc: Global, storage: &S) -> Result<Option<Vec<u8>>, Error>
+fn descriptor_text<S: Storage>(alloc: Global, storage: &S) -> Result<Option<Vec<u8>>, Error>
     ensures text { IfOk result
         (λ r. MatchOption r (may_be_long (length (S.bytes storage.now)) ≡ false)
         (λ v. (may_be_long (length (S.bytes storage.now)) ≡ true)
@@ -109,7 +109,7 @@ fn starts_of(alloc: Global, extents: &[Extent<String>]) -> Result<Vec<Start>, Er
     let mut storage = 1;
     for extent in extents {
         starts.push(Start { offset, storage })?;
-        offset += extent.sectors() * 512;
+        offset += extent.sectors() * SECTOR_SIZE;
         if let Extent::Flat { .. } = extent {
             storage += 1;
         }
@@ -142,7 +142,7 @@ fn find(starts: &[Start], offset: u64) -> usize
 /// The mapping of bytes of a FLAT extent from the `at`-th one on, of which `rest` are left. The
 /// extent begins at that offset of its storage, in sectors. [`Error::InvalidData`] is a byte that
 /// no mapping can end behind.
-fn flat(
+fn flat_mapping(
     storage: usize,
     offset: u64,
     at: u64,
@@ -157,7 +157,7 @@ fn flat(
     ensures refused { IfErr result (λ e. (e ≡ Error.InvalidData)
         × (2 ^ 64 - 1 ≤ offset * 512 + at)) }
 {
-    let Some(start) = offset.checked_mul(512) else {
+    let Some(start) = offset.checked_mul(SECTOR_SIZE) else {
         return Err(Error::InvalidData);
     };
     let Some(start) = start.checked_add(at) else {
@@ -175,7 +175,7 @@ fn flat(
 }
 
 /// The mapping of the bytes of an extent from the `at`-th one on, whose storage has that index.
-fn named(extent: &Extent<String>, storage: usize, at: u64) -> Result<(ShallowMapping, u64), Error>
+fn extent_mapping(extent: &Extent<String>, storage: usize, at: u64) -> Result<(ShallowMapping, u64), Error>
     requires inside { at < extent_size extent.now }
     requires fits { extent_size extent.now < 2 ^ 64 }
     ensures names { (bytes : ℕ → List ℕ)
@@ -187,7 +187,7 @@ fn named(extent: &Extent<String>, storage: usize, at: u64) -> Result<(ShallowMap
 {
     match extent {
         Extent::Zero { sectors } => {
-            let rest = *sectors * 512 - at;
+            let rest = *sectors * SECTOR_SIZE - at;
             Ok((ShallowMapping::Zero { explicit: true }, rest))
         }
         Extent::NoAccess { .. } => Err(Error::NoAccess),
@@ -196,12 +196,12 @@ fn named(extent: &Extent<String>, storage: usize, at: u64) -> Result<(ShallowMap
             offset,
             writable,
             ..
-        } => flat(storage, *offset, at, *sectors * 512 - at, *writable),
+        } => flat_mapping(storage, *offset, at, *sectors * SECTOR_SIZE - at, *writable),
     }
 }
 
 /// The mapping of the bytes of a disk of these extents from the offset on.
-fn mapped(
+fn disk_mapping(
     extents: &[Extent<String>],
     starts: &[Start],
     offset: u64,
@@ -219,7 +219,7 @@ fn mapped(
 {
     let index = find(starts, offset);
     let start = starts[index];
-    named(&extents[index], start.storage, offset - start.offset)
+    extent_mapping(&extents[index], start.storage, offset - start.offset)
 }
 
 /// Opens the storage of an extent, whose name the descriptor's storage resolves.
@@ -242,7 +242,7 @@ fn open_storage<S: Storage, G: ImplicitOpenGate<S>>(
 }
 
 /// Puts a storage behind the others. Refused, it is [`Error::Memory`].
-fn append<S: Storage>(storages: &mut Vec<S>, last: S) -> Result<(), Error>
+fn push_storage<S: Storage>(storages: &mut Vec<S>, last: S) -> Result<(), Error>
     ensures items { OnOk result (storages.new.items ≡ storages.old.items ++ last ∷ []) }
     ensures memory { IfErr result (λ e. e ≡ Error.Memory) }
 {
@@ -270,11 +270,11 @@ fn open_extent<S: Storage, G: ImplicitOpenGate<S>>(
     let Extent::Flat { name, offset, .. } = extent else {
         return Ok(());
     };
-    if offset.checked_mul(512).is_none() {
+    if offset.checked_mul(SECTOR_SIZE).is_none() {
         return Err(Error::InvalidData);
     }
     let storage = open_storage(alloc, descriptor, name, direct, gate)?;
-    append(storages, storage)?;
+    push_storage(storages, storage)?;
     Ok(())
 }
 
@@ -422,7 +422,7 @@ impl<S: Storage> Vmdk<S> {
             ⊎ allowed (text_reasons (S.features descriptor) (length (S.bytes descriptor))) e) }
         ensures device { IsErrOf result Error.Device → (S.features descriptor).is_reliable ≡ false }
     {
-        let Some(text) = text(alloc, &descriptor)? else {
+        let Some(text) = descriptor_text(alloc, &descriptor)? else {
             return Err(Error::InvalidData);
         };
         let Descriptor { extents, size } = descriptor::read(alloc, accepts_unknown_keys, &text)?;
@@ -494,7 +494,7 @@ impl<S: Storage> FormatDriverInstance for Vmdk<S> {
 
     #[tactic(auto, unfolding(crate::specs::Probe::probe_of))]
     fn probe(alloc: Global, storage: &S) -> Result<bool, Error> {
-        match text(alloc, storage)? {
+        match descriptor_text(alloc, storage)? {
             Some(text) => Ok(descriptor::probe(&text)),
             None => Ok(false),
         }
@@ -527,7 +527,7 @@ impl<S: Storage> FormatDriverInstance for Vmdk<S> {
         if offset >= self.size {
             return Ok((ShallowMapping::Eof, 0));
         }
-        mapped(&self.extents, &self.starts, offset)
+        disk_mapping(&self.extents, &self.starts, offset)
     }
 
     fn read_mapped(

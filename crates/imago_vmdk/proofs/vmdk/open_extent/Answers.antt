@@ -8,8 +8,8 @@ returns-in_err-storage-clause-refused g c =
     let below : c.in-Flat.offset * 512 < 2 ^ 64 = search rules in
     rw (p.1, p.2, c.in-Flat.is) (inr (below, rw c.deref.ensures at c.in_err-storage.ensures.refused))
 
-pub returns-in_err-append-clause-refused : goal.returns-in_err-append-clause-refused
-returns-in_err-append-clause-refused g c =
-    let p = err_from_is_err_and c.from_residual-in_err-append.result c.from_residual-in_err-append.ensures.1 in
+pub returns-in_err-push_storage-clause-refused : goal.returns-in_err-push_storage-clause-refused
+returns-in_err-push_storage-clause-refused g c =
+    let p = err_from_is_err_and c.from_residual-in_err-push_storage.result c.from_residual-in_err-push_storage.ensures.1 in
     let below : c.in-Flat.offset * 512 < 2 ^ 64 = search rules in
-    rw (p.1, p.2, c.in-Flat.is) (inr (below, inr (inr (c.in_ok-storage.storage ∷ [], rw c.deref.ensures at c.in_ok-storage.ensures.opened, c.in_err-append.ensures.memory))))
+    rw (p.1, p.2, c.in-Flat.is) (inr (below, inr (inr (c.in_ok-storage.storage ∷ [], rw c.deref.ensures at c.in_ok-storage.ensures.opened, c.in_err-push_storage.ensures.memory))))

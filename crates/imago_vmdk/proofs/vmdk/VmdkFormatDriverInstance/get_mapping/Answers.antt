@@ -34,26 +34,26 @@ returns-clause-right g c =
     let s = c.args.self.now in
     let bytes : ℕ → List ℕ = λ i. slice_index_or (g.S.Storage.bytes s.descriptor ∷ map g.S.Storage.bytes s.storages.items) i [] in
     let opened : s.opened ≡ true = c.if-not-self.false in
-    rw opened (mapped_right (places_from bytes 1 s.extents.items) c.args.offset c.args._max_length (rest_from s.extents.items c.args.offset) c.mapped.result (rw c.deref.ensures.value at (c.mapped.ensures.names bytes)) (rw c.deref.ensures.value at c.mapped.ensures.rest))
+    rw opened (mapped_right (places_from bytes 1 s.extents.items) c.args.offset c.args._max_length (rest_from s.extents.items c.args.offset) c.disk_mapping.result (rw c.deref.ensures.value at (c.disk_mapping.ensures.names bytes)) (rw c.deref.ensures.value at c.disk_mapping.ensures.rest))
 
 pub returns-clause-part : goal.returns-clause-part
 returns-clause-part g c =
     let s = c.args.self.now in
     let opened : s.opened ≡ true = c.if-not-self.false in
-    rw opened (mapped_part (rest_from s.extents.items c.args.offset) c.mapped.result (rw c.deref.ensures.value at c.mapped.ensures.rest))
+    rw opened (mapped_part (rest_from s.extents.items c.args.offset) c.disk_mapping.result (rw c.deref.ensures.value at c.disk_mapping.ensures.rest))
 
 pub returns-clause-whole : goal.returns-clause-whole
 returns-clause-whole g c =
     let s = c.args.self.now in
     let opened : s.opened ≡ true = c.if-not-self.false in
-    rw opened (mapped_whole c.args._max_length (rest_from s.extents.items c.args.offset) c.mapped.result (rw c.deref.ensures.value at c.mapped.ensures.rest))
+    rw opened (mapped_whole c.args._max_length (rest_from s.extents.items c.args.offset) c.disk_mapping.result (rw c.deref.ensures.value at c.disk_mapping.ensures.rest))
 
 pub returns-clause-refused_place : goal.returns-clause-refused_place
 returns-clause-refused_place g c =
     let s = c.args.self.now in
     let bytes : ℕ → List ℕ = λ i. slice_index_or (g.S.Storage.bytes s.descriptor ∷ map g.S.Storage.bytes s.storages.items) i [] in
     let opened : s.opened ≡ true = c.if-not-self.false in
-    rw opened (mapped_refused (places_from bytes 1 s.extents.items) c.args.offset c.mapped.result (rw c.deref.ensures.value at (c.mapped.ensures.refused bytes)))
+    rw opened (mapped_refused (places_from bytes 1 s.extents.items) c.args.offset c.disk_mapping.result (rw c.deref.ensures.value at (c.disk_mapping.ensures.refused bytes)))
 
 pub returns-clause-refusals : goal.returns-clause-refusals
 returns-clause-refusals g c =
@@ -61,16 +61,16 @@ returns-clause-refusals g c =
     let storages = g.S.Storage.bytes s.descriptor ∷ map g.S.Storage.bytes s.storages.items in
     let bytes : ℕ → List ℕ = λ i. slice_index_or storages i [] in
     let opened : s.opened ≡ true = c.if-not-self.false in
-    rw opened (mapped_allowed (g.S.Storage.features s.descriptor ∷ map g.S.Storage.features s.storages.items) storages s.extents.items c.args.offset c.args._max_length c.mapped.result (rw c.deref.ensures.value at (c.mapped.ensures.refused bytes)))
+    rw opened (mapped_allowed (g.S.Storage.features s.descriptor ∷ map g.S.Storage.features s.storages.items) storages s.extents.items c.args.offset c.args._max_length c.disk_mapping.result (rw c.deref.ensures.value at (c.disk_mapping.ensures.refused bytes)))
 
-pub mapped-requires-clause-started : goal.mapped-requires-clause-started
-mapped-requires-clause-started g c = rw (c.deref-2.ensures.value, c.deref.ensures.value) c.args.self.now.started
+pub disk_mapping-requires-clause-started : goal.disk_mapping-requires-clause-started
+disk_mapping-requires-clause-started g c = rw (c.deref-2.ensures.value, c.deref.ensures.value) c.args.self.now.started
 
-pub mapped-requires-clause-inside : goal.mapped-requires-clause-inside
-mapped-requires-clause-inside g c = rw c.deref.ensures.value (omega (arith, c.args.self.now.sized, c.if-offset-self.false))
+pub disk_mapping-requires-clause-inside : goal.disk_mapping-requires-clause-inside
+disk_mapping-requires-clause-inside g c = rw c.deref.ensures.value (omega (arith, c.args.self.now.sized, c.if-offset-self.false))
 
-pub mapped-requires-clause-fits : goal.mapped-requires-clause-fits
-mapped-requires-clause-fits g c = rw c.deref.ensures.value (omega (arith, c.args.self.now.sized, c.args.self.now.fits))
+pub disk_mapping-requires-clause-fits : goal.disk_mapping-requires-clause-fits
+disk_mapping-requires-clause-fits g c = rw c.deref.ensures.value (omega (arith, c.args.self.now.sized, c.args.self.now.fits))
 
-pub mapped-requires-clause-paired : goal.mapped-requires-clause-paired
-mapped-requires-clause-paired g c = rw (c.deref-2.ensures.value, c.deref.ensures.value) (rw c.args.self.now.started (length_starts 0 1 c.args.self.now.extents.items))
+pub disk_mapping-requires-clause-paired : goal.disk_mapping-requires-clause-paired
+disk_mapping-requires-clause-paired g c = rw (c.deref-2.ensures.value, c.deref.ensures.value) (rw c.args.self.now.started (length_starts 0 1 c.args.self.now.extents.items))
