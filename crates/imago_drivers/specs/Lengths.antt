@@ -7,6 +7,11 @@ use Rattle.imago_drivers.specs.View.{Stores}
 abbrev pub padded_to : Features → ℕ → ℕ → ℕ
 padded_to f at n = if nat_lt 0 n then at + n + (len_align f - 1) else 0
 
+-- A storage became no shorter, and where it grew by a call on that range, no longer than that.
+pub record GrowsNear (f : Features) (at n before now : ℕ) : Type 0 where
+  pub no_shorter : before ≤ now
+  pub near : now ≤ max before (padded_to f at n)
+
 -- no storage became shorter
 abbrev pub AreNoShorter : Stores → Stores → Type 0
 AreNoShorter old new = (index : ℕ) → length (old.bytes index) ≤ length (new.bytes index)

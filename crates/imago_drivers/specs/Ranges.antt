@@ -1,4 +1,5 @@
 use Rattle.std.specs.Prelude.{◌≡◌, ℕ, ◌+◌, ◌-◌, ◌<◌, ◌≤◌, ◌⊎◌, Bool, true, List, slice_index}
+use Rattle.imago_storage.specs.Features.{IsAlignedTo}
 use Rattle.imago_storage.specs.Padding.{aligned_start, aligned_end}
 
 -- A part of the range wraps around.
@@ -13,6 +14,13 @@ pub record HasWrappingPart (range_wraps : ℕ → ℕ → Type 0) (o n : ℕ) : 
 pub record IsPartAlignedTo (align o n part_start part_length : ℕ) : Type 0 where
   pub len : part_length ≡ aligned_end align o n - aligned_start align o
   pub start : 0 < part_length → part_start ≡ aligned_start align o
+
+-- The answered part is the one of the range that is aligned, or nothing. It lies in the range, and
+-- is the whole of one that is aligned itself.
+pub record IsAnsweredPart (align o n part_start part_length : ℕ) : Type 0 where
+  pub part : IsPartAlignedTo align o n part_start part_length
+  pub inside : (part_length ≡ 0) ⊎ ((o ≤ part_start) × (part_start + part_length ≤ o + n))
+  pub whole : IsAlignedTo align o n → (part_start ≡ o) × (part_length ≡ n)
 
 -- The n bytes from the offset on are those, or, where the change was torn, each maybe its old one;
 -- all others are as they were.

@@ -12,11 +12,11 @@ ghost use Rattle.imago_storage.specs.Features.{InPlace, MayRunOut, OthersMayRunO
 ghost use Rattle.imago_storage.specs.Zeroes.{MayWrap};
 ghost use Rattle.imago_drivers.specs.Outside.{StaysOutside};
 ghost use Rattle.imago_drivers.specs.Raw.{raw_place, raw_view, storage_mode_of};
-ghost use Rattle.imago_drivers.specs.Ranges.{IsPartAlignedTo, HasWrappingPart, HasBytes};
+ghost use Rattle.imago_drivers.specs.Ranges.{IsAnsweredPart, HasWrappingPart, HasBytes};
 ghost use Rattle.imago_drivers.specs.Operation.{DiscardToBacking};
 ghost use Rattle.imago_drivers.specs.LayerBelow.{lent};
 ghost use Rattle.imago_drivers.specs.Changes.{zeroes, to_backing};
-ghost use Rattle.imago_drivers.specs.Lengths.{padded_to};
+ghost use Rattle.imago_drivers.specs.Lengths.{GrowsNear};
 ghost use Rattle.imago_drivers.specs.Done.{HasDone};
 ghost use Rattle.imago_drivers.specs.Calls.{IsDiscard, IsPreparation, IsGrowth, IsShrink};
 ghost use Rattle.imago_drivers.specs.Reasons.{none};
@@ -452,12 +452,8 @@ fn zero_part<S: Storage>(
     count: u64,
 ) -> Result<(u64, u64), Error>
     requires { offset + count < 2 ^ 64 }
-    ensures part { IfOk result (λ r. IsPartAlignedTo (S.features storage.old).zero_align offset
-        count r.0 r.1) }
-    ensures inside { IfOk result (λ r. (r.1 ≡ 0)
-        ⊎ ((offset ≤ r.0) × (r.0 + r.1 ≤ offset + count))) }
-    ensures whole { IsAlignedTo (S.features storage.old).zero_align offset count
-        → IfOk result (λ r. (r.0 ≡ offset) × (r.1 ≡ count)) }
+    ensures part { IfOk result (λ r. IsAnsweredPart (S.features storage.old).zero_align offset count
+        r.0 r.1) }
     ensures zeroed { IsTrue (S.features storage.old).keeps_data
         → IfOk result
         (λ r. HasBytes false r.0 r.1 (λ k. 0) (S.bytes storage.old) (S.bytes storage.new)) }
@@ -467,9 +463,8 @@ fn zero_part<S: Storage>(
     ensures outside { (size : ℕ)
         → StaysOutside (S.features storage.old).keeps_data 1 offset count
         (raw_place size (S.bytes storage.old)) (raw_place size (S.bytes storage.new)) }
-    ensures no_shorter { length (S.bytes storage.old) ≤ length (S.bytes storage.new) }
-    ensures near { length (S.bytes storage.new)
-        ≤ max (length (S.bytes storage.old)) (padded_to (S.features storage.old) offset count) }
+    ensures lengths { GrowsNear (S.features storage.old) offset count
+        (length (S.bytes storage.old)) (length (S.bytes storage.new)) }
     ensures performed { IsPartZeroed S.maintenance S.work (S.features storage.old) offset count
         storage.old storage.new result }
     ensures features { S.features storage.new ≡ S.features storage.old }
@@ -499,12 +494,8 @@ fn zero_part<S: Storage>(
 /// Discards the part of a range that is aligned to the storage's discard alignment, and answers it.
 fn discard_part<S: Storage>(storage: &mut S, offset: u64, count: u64) -> Result<(u64, u64), Error>
     requires { offset + count < 2 ^ 64 }
-    ensures part { IfOk result (λ r. IsPartAlignedTo (S.features storage.old).discard_align offset
-        count r.0 r.1) }
-    ensures inside { IfOk result (λ r. (r.1 ≡ 0)
-        ⊎ ((offset ≤ r.0) × (r.0 + r.1 ≤ offset + count))) }
-    ensures whole { IsAlignedTo (S.features storage.old).discard_align offset count
-        → IfOk result (λ r. (r.0 ≡ offset) × (r.1 ≡ count)) }
+    ensures part { IfOk result (λ r. IsAnsweredPart (S.features storage.old).discard_align offset count
+        r.0 r.1) }
     ensures discarded { IfOk result
         (λ r. SameOutside r.0 r.1 (S.bytes storage.old) (S.bytes storage.new)) }
     ensures same_length { length (S.bytes storage.new) ≡ length (S.bytes storage.old) }

@@ -31,7 +31,7 @@ pub fn write_bytes<S: Storage>(
 ) -> Result<(), Error>
     ensures call { IsRangeWrite S.features S.bytes S.fault_count S.work offset source.now
         storage.old storage.new result }
-    ensures empty { length source.now ≡ 0 → IsOk result }
+    ensures empty { length source.now ≡ 0 → IsOk result × (storage.new ≡ storage.old) }
     ensures written { IsTrue (S.features storage.old).keeps_data
         → OnOk result
         (HasBytes false offset (length source.now) (λ k. slice_index source.now k)
@@ -40,7 +40,6 @@ pub fn write_bytes<S: Storage>(
         → OnErr result
         (HasBytes true offset (length source.now) (λ k. slice_index source.now k)
         (S.bytes storage.old) (S.bytes storage.new)) }
-    ensures nothing { length source.now ≡ 0 → storage.new ≡ storage.old }
     ensures no_shorter { length (S.bytes storage.old) ≤ length (S.bytes storage.new) }
     ensures no_longer { length (S.bytes storage.new)
         ≤ max (length (S.bytes storage.old))

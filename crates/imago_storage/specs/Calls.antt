@@ -22,6 +22,13 @@ pub record ShowsNoChange {S : Type 0} (features_of : S → Features) (bytes_of :
   pub features : features_of new ≡ features_of old
   pub faults : faults_of new ≡ faults_of old
 
+-- A zero write of n bytes was refused as unsupported: the storage may refuse it so, and shows no
+-- change.
+pub record IsUnsupportedZeroing {S : Type 0} (features_of : S → Features) (bytes_of : S → List ℕ)
+    (faults_of : S → ℕ) (z : ZeroSupport) (n : ℕ) (old new : S) : Type 0 where
+  pub offered : MayBeUnsupported z (features_of old).mem_align n
+  pub unchanged : ShowsNoChange features_of bytes_of faults_of old new
+
 -- Everything that is promised of a call, one record for each kind of which there are several. A
 -- storage is seen by its ghost members.
 

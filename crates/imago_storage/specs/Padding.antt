@@ -61,3 +61,8 @@ pub record IsAlignedPart (align at n start end : ℕ) : Type 0 where
   pub before : at ≤ start
   pub behind : end ≤ at + n
   pub aligned : start ≤ end → IsAlignedTo align start (end - start)
+
+-- The aligned part of the range holds some bytes.
+pub record IsSomePart (align at n start end : ℕ) : Type 0 where
+  pub part : IsAlignedPart align at n start end
+  pub some : start < end

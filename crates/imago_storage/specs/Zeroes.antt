@@ -1,5 +1,5 @@
-use Rattle.std.specs.Prelude.{◌≡◌, ◌≢◌, ℕ, ◌+◌, ◌-◌, ◌%◌, ◌<◌, ◌≤◌, ◌⊎◌, List, min, replicate}
-use Rattle.std.specs.Prelude.{Result, Ok, Err, IsOk, IsErrOf}
+use Rattle.std.specs.Prelude.{◌≡◌, ◌≢◌, ℕ, ◌+◌, ◌-◌, ◌%◌, ◌<◌, ◌≤◌, ◌⊎◌, ◌^◌, List, length, min}
+use Rattle.std.specs.Prelude.{replicate, Result, Ok, Err, IsOk, IsErrOf}
 use Rattle.imago_storage.specs.declared.error.Error.{Error}
 use Rattle.imago_storage.specs.Bytes.{splice, zero_extended, WriteOutcome}
 use Rattle.imago_storage.specs.declared.error.Error.TheVariants.{Unsupported, Memory}
@@ -25,6 +25,19 @@ pub record ZeroedPart {T : Type 0} (f : Features) (old : List ℕ) (at n : ℕ) 
     (result : Result T Error) : Type 0 where
   pub some : 0 < n → HasZeroed f old at n now result
   pub none : n ≡ 0 → IsOk result × (now ≡ old)
+
+-- The buffer holds zeroes alone, and that many of them at least.
+pub record HasZeroes (n : ℕ) (buffer : List ℕ) : Type 0 where
+  pub zeroes : buffer ≡ replicate (length buffer) 0
+  pub enough : n ≤ length buffer
+
+-- Some bytes, from a multiple of the request alignment on, are cut into pieces of whole blocks.
+pub record IsCutInPieces (f : Features) (piece at n : ℕ) : Type 0 where
+  pub positive : 0 < piece
+  pub whole : piece % len_align f ≡ 0
+  pub start : at % f.req_align ≡ 0
+  pub some : 0 < n
+  pub ends : at + n < 2 ^ 64
 
 -- of a range with an aligned part, what stands before that part or behind it wraps around once it
 -- is padded

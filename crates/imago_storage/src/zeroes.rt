@@ -3,17 +3,17 @@ ghost use Rattle.std.specs.Prelude.{◌≡◌, ◌≢◌, ℕ, ◌+◌, ◌-◌,
 ghost use Rattle.std.specs.Prelude.{min, replicate, OnOk, IfOk, IfErr, IsErrOf, IsOk, Ok, List};
 ghost use Rattle.std.specs.Prelude.{◌↔◌};
 ghost use Rattle.imago_storage.specs.Bytes.{splice, zero_extended, WriteOutcome};
-ghost use Rattle.imago_storage.specs.Calls.{IsRangeZeroing, ShowsNoChange};
+ghost use Rattle.imago_storage.specs.Calls.{IsRangeZeroing, ShowsNoChange, IsUnsupportedZeroing};
 ghost use Rattle.imago_storage.specs.Error.{IsExtRefusal, IsPureRefusal, IsZeroRefusal};
 ghost use Rattle.imago_storage.specs.Faults.{CountsFaults};
-ghost use Rattle.imago_storage.specs.Features.{InPlace, AsData, MayRunOut, MayBeUnsupported};
+ghost use Rattle.imago_storage.specs.Features.{InPlace, AsData, MayRunOut};
 ghost use Rattle.imago_storage.specs.Features.{IsAlignedRequest, IsAlignedTo, RequestMayRunOut};
 ghost use Rattle.imago_storage.specs.Features.{ZeroesMayRunOut, len_align, zero_piece};
 ghost use Rattle.imago_storage.specs.Features.{zero_support};
 ghost use Rattle.imago_storage.specs.IoCount.{AddsAtMost, IsWriteWork, IsEdgedWork};
-ghost use Rattle.imago_storage.specs.Padding.{padded_end, Wraps, IsAlignedPart};
+ghost use Rattle.imago_storage.specs.Padding.{padded_end, Wraps, IsAlignedPart, IsSomePart};
 ghost use Rattle.imago_storage.specs.Zeroes.{HasZeroed, ZeroedPart, EdgeWraps, DataWraps};
-ghost use Rattle.imago_storage.specs.Zeroes.{IsZeroCall, IsPartAndEdges};
+ghost use Rattle.imago_storage.specs.Zeroes.{IsZeroCall, IsPartAndEdges, HasZeroes, IsCutInPieces};
 
 use crate::align::{
     aligned_blocks, head_length, length_align, padded_request, remainder, zero_align,
@@ -114,9 +114,8 @@ fn zero_part_and_edges<S: Storage>(
     range: ZeroRange,
     kind: ZeroKind,
 ) -> Result<(), Error>
-    requires part { IsAlignedPart (S.features storage.old).zero_align range.offset range.count
-        range.start range.end }
-    requires some { range.start < range.end }
+    requires { IsSomePart (S.features storage.old).zero_align range.offset range.count range.start
+        range.end }
     ensures written { HasZeroed (S.features storage.old) (S.bytes storage.old) range.offset
         range.count
         (S.bytes storage.new)
@@ -124,9 +123,10 @@ fn zero_part_and_edges<S: Storage>(
     ensures wraps { IsErrOf result Error.WrapAround
         → EdgeWraps (S.features storage.old) range.offset range.count }
     ensures fits { OnOk result (¬ EdgeWraps (S.features storage.old) range.offset range.count) }
-    ensures offered { IsErrOf result Error.Unsupported
-        → MayBeUnsupported (zero_support (S.features storage.old) kind)
-        (S.features storage.old).mem_align (range.end - range.start) }
+    ensures unsupported { IsErrOf result Error.Unsupported
+        → IsUnsupportedZeroing S.features S.bytes S.fault_count
+        (zero_support (S.features storage.old) kind) (range.end - range.start) storage.old
+        storage.new }
     ensures refused { zero_support (S.features storage.old) kind ≡ AsData
         → (range.end - range.start) % (S.features storage.old).mem_align ≢ 0
         → IsErrOf result Error.Unsupported ⊎ IsErrOf result Error.Memory }
@@ -143,8 +143,6 @@ fn zero_part_and_edges<S: Storage>(
     ensures early { IsErrOf result Error.Memory
         → (¬ ZeroesMayRunOut (S.features storage.old) (length (S.bytes storage.old))
         (range.offset + range.count + (len_align (S.features storage.old) - 1)))
-        → ShowsNoChange S.features S.bytes S.fault_count storage.old storage.new }
-    ensures unchanged { IsErrOf result Error.Unsupported
         → ShowsNoChange S.features S.bytes S.fault_count storage.old storage.new }
     ensures performed { ((storage.new ≡ storage.old) × IsErrOf result Error.Memory)
         ⊎ IsPartAndEdges S.maintenance S.work (S.features storage.old) kind range.offset range.count
@@ -170,12 +168,10 @@ fn zero_edges<S: Storage>(
     block: &mut [u8],
     range: ZeroRange,
 ) -> Result<(), Error>
-    requires part { IsAlignedPart (S.features storage.old).zero_align range.offset range.count
+    requires part { IsSomePart (S.features storage.old).zero_align range.offset range.count
         range.start range.end }
-    requires some { range.start < range.end }
-    requires zeroes { zeroes.now ≡ replicate (length zeroes.now) 0 }
-    requires enough { max (range.start - range.offset) (range.offset + range.count - range.end)
-        ≤ length zeroes.now }
+    requires zeroes { HasZeroes
+        (max (range.start - range.offset) (range.offset + range.count - range.end)) zeroes.now }
     requires block { length block.old ≡ len_align (S.features storage.old) }
     ensures written { (old : List ℕ)
         → HasZeroed {T = Unit {0}} (S.features storage.old) old range.start
@@ -226,9 +222,9 @@ fn zero_part<S: Storage>(
     ensures written { HasZeroed (S.features storage.old) (S.bytes storage.old) offset count
         (S.bytes storage.new)
         result }
-    ensures offered { IsErrOf result Error.Unsupported
-        → MayBeUnsupported (zero_support (S.features storage.old) kind)
-        (S.features storage.old).mem_align count }
+    ensures unsupported { IsErrOf result Error.Unsupported
+        → IsUnsupportedZeroing S.features S.bytes S.fault_count
+        (zero_support (S.features storage.old) kind) count storage.old storage.new }
     ensures refused { zero_support (S.features storage.old) kind ≡ AsData
         → count % (S.features storage.old).mem_align ≢ 0
         → IsErrOf result Error.Unsupported }
@@ -243,8 +239,6 @@ fn zero_part<S: Storage>(
     ensures early { IsErrOf result Error.Memory
         → (¬ ZeroesMayRunOut (S.features storage.old) (length (S.bytes storage.old))
         (offset + count))
-        → ShowsNoChange S.features S.bytes S.fault_count storage.old storage.new }
-    ensures unchanged { IsErrOf result Error.Unsupported
         → ShowsNoChange S.features S.bytes S.fault_count storage.old storage.new }
     ensures performed { IsZeroCall S.maintenance S.work (S.features storage.old) kind offset count
         storage.old
@@ -265,8 +259,7 @@ fn zero_from<S: Storage>(
     offset: u64,
     count: u64,
 ) -> Result<(), Error>
-    requires zeroes { zeroes.now ≡ replicate (length zeroes.now) 0 }
-    requires enough { count ≤ length zeroes.now }
+    requires zeroes { HasZeroes count zeroes.now }
     requires block { IsAlignedRequest (S.features storage.old) offset count
         ⊎ (length block.old ≡ len_align (S.features storage.old)) }
     ensures written { ZeroedPart (S.features storage.old) (S.bytes storage.old) offset count
@@ -402,15 +395,10 @@ fn zero_pieces<S: Storage>(
     offset: u64,
     count: u64,
 ) -> Result<(), Error>
-    requires zeroes { zeroes.now ≡ replicate (length zeroes.now) 0 }
-    requires enough { min piece count ≤ length zeroes.now }
+    requires zeroes { HasZeroes (min piece count) zeroes.now }
     requires block { (count % len_align (S.features storage.old) ≡ 0)
         ⊎ (length block.old ≡ len_align (S.features storage.old)) }
-    requires positive { 0 < piece }
-    requires whole { piece % len_align (S.features storage.old) ≡ 0 }
-    requires start { offset % (S.features storage.old).req_align ≡ 0 }
-    requires some { 0 < count }
-    requires ends { offset + count < 2 ^ 64 }
+    requires pieces { IsCutInPieces (S.features storage.old) piece offset count }
     ensures written { HasZeroed (S.features storage.old) (S.bytes storage.old) offset count
         (S.bytes storage.new)
         result }

@@ -21,6 +21,6 @@ returns-clause-refusals g c = λ faults size block entries blocks waiting positi
     let e = c.write_bytes.ensures in
     request_refused f bytes size block entries blocks waiting Write 0 at n _ c.write_bytes.result (λ x. cow_no_memory f (length bytes) block entries Write x n)
     (λ refused x stands d.
-    let some = refused_some n c.write_bytes.result Error.Memory e.empty refused in
+    let some = refused_some n c.write_bytes.result Error.Memory (λ zero. (e.empty zero).0) refused in
     let q = direct_request f f.write_memory (length bytes) block entries x n bytes size 0 at some stands d in (q.1) (e.memory refused (q.0)))
     positive known refl e.only (λ e. tt) e.wraps

@@ -1,15 +1,21 @@
-use Rattle.std.proofs.Common.{rules, ◌-◌, ◌<◌, arith, refl}
+use Rattle.std.proofs.Common.{rules, ◌-◌, ◌<◌, arith, inr, refl}
 use Rattle.std.proofs.lemmas.Result.{err_from_is_err_and}
 use Rattle.std.specs.Prelude.{IsErrOf}
 use Rattle.imago_storage.specs.declared.error.Error.{Error}
 use Rattle.imago_storage.specs.Padding.{RangeWraps}
 use Rattle.imago_drivers.proofs.StorageBytes.{no_wrap}
-use Rattle.imago_drivers.proofs.AlignedParts.{whole_start, whole_length, part_fits, outside_part, outside_more, same_faults, part_discarded}
+use Rattle.imago_drivers.proofs.AlignedParts.{aligned_part_is, whole_start, whole_length, part_fits, outside_part, outside_more, same_faults, part_discarded}
 use Rattle.imago_drivers.proofs.Stays.{discard_outside}
 use Rattle.imago_drivers.proofs.raw.discard_part.Goals as goal
 
-pub returns-clause-whole : goal.returns-clause-whole
-returns-clause-whole g c = λ a. (whole_start _ _ _ _ _ c.in-Some.ensures (rw c.discard_align-align.ensures.value a), whole_length _ _ _ _ _ c.in-Some.ensures (rw c.discard_align-align.ensures.value a))
+pub returns-clause-part : goal.returns-clause-part
+returns-clause-part g c =
+    let p = c.in-Some.ensures in
+    record {
+      part = aligned_part_is _ _ _ _ _ _ c.discard_align-align.ensures.value p;
+      inside = inr (p.before, omega (arith, p.behind, c.if-end-start.false));
+      whole = λ a. (whole_start _ _ _ _ _ p (rw c.discard_align-align.ensures.value a), whole_length _ _ _ _ _ p (rw c.discard_align-align.ensures.value a));
+    }
 
 pub returns-in_err-discard-clause-only : goal.returns-in_err-discard-clause-only
 returns-in_err-discard-clause-only g c =

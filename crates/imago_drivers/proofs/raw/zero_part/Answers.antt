@@ -1,4 +1,4 @@
-use Rattle.std.proofs.Common.{rules, ◌≡◌, ◌-◌, ◌<◌, arith, refl, true, false}
+use Rattle.std.proofs.Common.{rules, ◌≡◌, ◌-◌, ◌<◌, arith, inr, refl, true, false}
 use Rattle.std.proofs.lemmas.Result.{err_from_is_err_and}
 use Rattle.std.specs.Prelude.{IsErrOf}
 use Rattle.imago_storage.specs.declared.error.Error.{Error}
@@ -10,9 +10,6 @@ use Rattle.imago_drivers.proofs.AlignedParts.{whole_start, whole_length, same_fa
 use Rattle.imago_drivers.proofs.Stays.{set_outside}
 use Rattle.imago_drivers.proofs.Lengths.{near_end, longest_zeroes}
 use Rattle.imago_drivers.proofs.raw.zero_part.Goals as goal
-
-pub returns-clause-whole : goal.returns-clause-whole
-returns-clause-whole g c = λ a. (whole_start _ _ _ _ _ c.in-Some.ensures (rw c.zero_align-align.ensures.value a), whole_length _ _ _ _ _ c.in-Some.ensures (rw c.zero_align-align.ensures.value a))
 
 pub returns-clause-zeroed : goal.returns-clause-zeroed
 returns-clause-zeroed g c = λ k.
@@ -38,21 +35,27 @@ returns-in_err-write_zeroes-clause-memory g c = λ e a i.
     let refused = rw (s, m) at c.in_err-write_zeroes.ensures.memory in
     refused (search rules) a i
 
-pub returns-clause-near : goal.returns-clause-near
-returns-clause-near g c =
+pub returns-clause-lengths : goal.returns-clause-lengths
+returns-clause-lengths g c =
     let some : 0 < c.in-Some.end - c.in-Some.start = omega (arith, c.if-end-start.false) in
     let p = c.in-Some.ensures in
     let z = c.in_ok-write_zeroes.ensures.written some in
-    near_end (g.S.Storage.features c.args.storage.now) c.args.offset c.args.count z.end _ _ (omega (arith, p.before, p.behind, some)) (omega (arith, z.near, p.behind, some))
-    (longest_zeroes _ c.in-Some.start (c.in-Some.end - c.in-Some.start) z.end _ z.covers z.written.no_longer)
+    record {
+      no_shorter = z.written.no_shorter;
+      near = near_end (g.S.Storage.features c.args.storage.now) c.args.offset c.args.count z.end _ _ (omega (arith, p.before, p.behind, some)) (omega (arith, z.near, p.behind, some))
+          (longest_zeroes _ c.in-Some.start (c.in-Some.end - c.in-Some.start) z.end _ z.covers z.written.no_longer);
+    }
 
-pub returns-in_err-write_zeroes-clause-near : goal.returns-in_err-write_zeroes-clause-near
-returns-in_err-write_zeroes-clause-near g c =
+pub returns-in_err-write_zeroes-clause-lengths : goal.returns-in_err-write_zeroes-clause-lengths
+returns-in_err-write_zeroes-clause-lengths g c =
     let some : 0 < c.in-Some.end - c.in-Some.start = omega (arith, c.if-end-start.false) in
     let p = c.in-Some.ensures in
     let z = c.in_err-write_zeroes.ensures.written some in
-    near_end (g.S.Storage.features c.args.storage.now) c.args.offset c.args.count z.end _ _ (omega (arith, p.before, p.behind, some)) (omega (arith, z.near, p.behind, some))
-    (longest_zeroes _ c.in-Some.start (c.in-Some.end - c.in-Some.start) z.end _ z.covers z.written.no_longer)
+    record {
+      no_shorter = z.written.no_shorter;
+      near = near_end (g.S.Storage.features c.args.storage.now) c.args.offset c.args.count z.end _ _ (omega (arith, p.before, p.behind, some)) (omega (arith, z.near, p.behind, some))
+          (longest_zeroes _ c.in-Some.start (c.in-Some.end - c.in-Some.start) z.end _ z.covers z.written.no_longer);
+    }
 
 pub returns-in_err-write_zeroes-clause-wraps : goal.returns-in_err-write_zeroes-clause-wraps
 returns-in_err-write_zeroes-clause-wraps g c = λ is.
@@ -68,7 +71,13 @@ returns-in_err-write_zeroes-clause-cause g c =
     rw (p.1, p.2) (same_faults _ _ _ _ cause)
 
 pub returns-clause-part : goal.returns-clause-part
-returns-clause-part g c = aligned_part_is _ _ _ _ _ _ c.zero_align-align.ensures.value c.in-Some.ensures
+returns-clause-part g c =
+    let p = c.in-Some.ensures in
+    record {
+      part = aligned_part_is _ _ _ _ _ _ c.zero_align-align.ensures.value p;
+      inside = inr (p.before, omega (arith, p.behind, c.if-end-start.false));
+      whole = λ a. (whole_start _ _ _ _ _ p (rw c.zero_align-align.ensures.value a), whole_length _ _ _ _ _ p (rw c.zero_align-align.ensures.value a));
+    }
 
 pub returns-clause-cause : goal.returns-clause-cause
 returns-clause-cause g c = CountsFaults_ok _ _ _ _ _ c.write_zeroes.ensures.cause

@@ -16,10 +16,16 @@ returns-in_err-stock-clause-written g c =
     let p = err_from_is_err_and c.from_residual-in_err-stock.result c.from_residual-in_err-stock.ensures.1 in
     HasZeroed_unchanged f _ _ _ _ _ (len_positive f (g.met.S.Storage.lawful c.args.storage.now)) p.1
 
-pub zero_pieces-requires-clause-whole : goal.zero_pieces-requires-clause-whole
-zero_pieces-requires-clause-whole g c =
+pub zero_pieces-requires-clause-pieces : goal.zero_pieces-requires-clause-pieces
+zero_pieces-requires-clause-pieces g c =
     let f = g.S.Storage.features c.args.storage.now in
-    rw (c.max-piece.ensures, c.length_align-align.ensures.value) (piece_whole (len_align f) (align_power f (g.met.S.Storage.lawful c.args.storage.now)))
+    record {
+      positive = omega (arith, c.max-piece.ensures);
+      whole = rw (c.max-piece.ensures, c.length_align-align.ensures.value) (piece_whole (len_align f) (align_power f (g.met.S.Storage.lawful c.args.storage.now)));
+      start = c.head_length-first.ensures.none c.if-first-eq0.true;
+      some = c.requires.some;
+      ends = c.requires.ends;
+    }
 
 pub returns-in_err-zeroes-clause-written : goal.returns-in_err-zeroes-clause-written
 returns-in_err-zeroes-clause-written g c =
@@ -27,10 +33,16 @@ returns-in_err-zeroes-clause-written g c =
     let p = err_from_is_err_and c.from_residual.result c.from_residual.ensures.1 in
     HasZeroed_unchanged f _ _ _ _ _ (len_positive f (g.met.S.Storage.lawful c.args.storage.now)) p.1
 
-pub zero_pieces-requires-then-first-eq0-2-clause-whole : goal.zero_pieces-requires-then-first-eq0-2-clause-whole
-zero_pieces-requires-then-first-eq0-2-clause-whole g c =
+pub zero_pieces-requires-then-first-eq0-2-clause-pieces : goal.zero_pieces-requires-then-first-eq0-2-clause-pieces
+zero_pieces-requires-then-first-eq0-2-clause-pieces g c =
     let f = g.S.Storage.features c.args.storage.now in
-    rw (c.max-piece.ensures, c.length_align-align.ensures.value) (piece_whole (len_align f) (align_power f (g.met.S.Storage.lawful c.args.storage.now)))
+    record {
+      positive = omega (arith, c.max-piece.ensures);
+      whole = rw (c.max-piece.ensures, c.length_align-align.ensures.value) (piece_whole (len_align f) (align_power f (g.met.S.Storage.lawful c.args.storage.now)));
+      start = c.head_length-first.ensures.none c.if-first-eq0-2.true;
+      some = c.requires.some;
+      ends = c.requires.ends;
+    }
 
 pub returns-then-remainder-eq0-clause-wraps : goal.returns-then-remainder-eq0-clause-wraps
 returns-then-remainder-eq0-clause-wraps g c = λ wraps.
@@ -79,15 +91,17 @@ returns-then-first-count-clause-fits g c =
     let h = c.head_length-first.ensures.some (omega arith) in
     h.fits c.if-first-count.true (λ w. not_refused _ _ _ c.in_ok-zero_from.was (c.zero_from.ensures.wraps.1 w))
 
-pub zero_pieces-requires-2-clause-whole : goal.zero_pieces-requires-2-clause-whole
-zero_pieces-requires-2-clause-whole g c =
+pub zero_pieces-requires-2-clause-pieces : goal.zero_pieces-requires-2-clause-pieces
+zero_pieces-requires-2-clause-pieces g c =
     let f = g.S.Storage.features c.args.storage.now in
-    rw (c.in_ok-zero_from.ensures.features, c.max-piece.ensures, c.length_align-align.ensures.value) (piece_whole (len_align f) (align_power f (g.met.S.Storage.lawful c.args.storage.now)))
-
-pub zero_pieces-requires-2-clause-start : goal.zero_pieces-requires-2-clause-start
-zero_pieces-requires-2-clause-start g c =
     let h = c.head_length-first.ensures.some (omega arith) in
-    rw c.in_ok-zero_from.ensures.features (h.rest_start (omega (arith, h.within, c.if-first-count.false)))
+    record {
+      positive = omega (arith, c.max-piece.ensures);
+      whole = rw (c.in_ok-zero_from.ensures.features, c.max-piece.ensures, c.length_align-align.ensures.value) (piece_whole (len_align f) (align_power f (g.met.S.Storage.lawful c.args.storage.now)));
+      start = rw c.in_ok-zero_from.ensures.features (h.rest_start (omega (arith, h.within, c.if-first-count.false)));
+      some = omega (arith, h.within, c.if-first-count.false);
+      ends = omega (arith, h.within, c.requires.ends);
+    }
 
 pub returns-clause-written : goal.returns-clause-written
 returns-clause-written g c =

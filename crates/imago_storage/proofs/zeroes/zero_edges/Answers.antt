@@ -13,15 +13,15 @@ returns-in_err-zero_from-clause-written g c = λ old part.
     let f = g.S.Storage.features c.args.storage.now in
     let p = err_from_is_err_and c.from_residual.result c.from_residual.ensures.1 in
     let head = c.args.range.start - c.args.range.offset in
-    let here : c.args.range.offset + head ≡ c.args.range.start = omega (arith, c.requires.part.before) in
+    let here : c.args.range.offset + head ≡ c.args.range.start = omega (arith, c.requires.part.part.before) in
     let both = HasZeroed_before f old _ _ c.args.range.offset head c.args.range.start (c.args.range.end - c.args.range.start) _ here part c.zero_from.ensures.written in
-    HasZeroed_refused f old _ c.args.range.offset (head + (c.args.range.end - c.args.range.start)) c.args.range.offset c.args.range.count _ _ _ _ both c.in_err-zero_from.was p.1 (omega arith) (omega (arith, c.requires.part.before, c.requires.part.behind, c.requires.some))
+    HasZeroed_refused f old _ c.args.range.offset (head + (c.args.range.end - c.args.range.start)) c.args.range.offset c.args.range.count _ _ _ _ both c.in_err-zero_from.was p.1 (omega arith) (omega (arith, c.requires.part.part.before, c.requires.part.part.behind, c.requires.part.some))
 
 pub returns-in_err-zero_from-clause-wraps : goal.returns-in_err-zero_from-clause-wraps
 returns-in_err-zero_from-clause-wraps g c = λ wraps.
     let f = g.S.Storage.features c.args.storage.now in
     let p = err_from_is_err_and c.from_residual.result c.from_residual.ensures.1 in
-    edge_wraps f _ _ _ _ c.requires.part (inl (c.zero_from.ensures.wraps.0 (same_refusal _ _ _ _ _ c.in_err-zero_from.was p.1 p.2 wraps)))
+    edge_wraps f _ _ _ _ c.requires.part.part (inl (c.zero_from.ensures.wraps.0 (same_refusal _ _ _ _ _ c.in_err-zero_from.was p.1 p.2 wraps)))
 
 pub returns-clause-written : goal.returns-clause-written
 returns-clause-written g c = λ old part.
@@ -29,22 +29,22 @@ returns-clause-written g c = λ old part.
     let head = c.args.range.start - c.args.range.offset in
     let middle = c.args.range.end - c.args.range.start in
     let tail = c.args.range.offset + c.args.range.count - c.args.range.end in
-    let here : c.args.range.offset + head ≡ c.args.range.start = omega (arith, c.requires.part.before) in
-    let there : c.args.range.offset + (head + middle) ≡ c.args.range.end = omega (arith, c.requires.part.before, c.requires.some) in
-    let all : head + middle + tail ≡ c.args.range.count = omega (arith, c.requires.part.before, c.requires.part.behind, c.requires.some) in
+    let here : c.args.range.offset + head ≡ c.args.range.start = omega (arith, c.requires.part.part.before) in
+    let there : c.args.range.offset + (head + middle) ≡ c.args.range.end = omega (arith, c.requires.part.part.before, c.requires.part.some) in
+    let all : head + middle + tail ≡ c.args.range.count = omega (arith, c.requires.part.part.before, c.requires.part.part.behind, c.requires.part.some) in
     let both = HasZeroed_before f old _ _ c.args.range.offset head c.args.range.start middle _ here part c.zero_from.ensures.written in
     rw all at (HasZeroed_behind f old _ _ c.args.range.offset (head + middle) c.args.range.end tail _ there (rw c.in_ok-zero_from.was at both) (rw c.in_ok-zero_from.ensures.features at c.zero_from-2.ensures.written))
 
 pub returns-clause-wraps : goal.returns-clause-wraps
 returns-clause-wraps g c = λ wraps.
     let f = g.S.Storage.features c.args.storage.now in
-    edge_wraps f _ _ _ _ c.requires.part (inr (rw c.in_ok-zero_from.ensures.features at (c.zero_from-2.ensures.wraps.0 wraps)))
+    edge_wraps f _ _ _ _ c.requires.part.part (inr (rw c.in_ok-zero_from.ensures.features at (c.zero_from-2.ensures.wraps.0 wraps)))
 
 pub returns-clause-fits : goal.returns-clause-fits
 returns-clause-fits g c =
     let f = g.S.Storage.features c.args.storage.now in
     let head = λ (w : Wraps f c.args.range.offset (c.args.range.start - c.args.range.offset)). not_refused _ _ _ c.in_ok-zero_from.was (c.zero_from.ensures.wraps.1 w) in
-    fits_where_ok c.zero_from-2.result _ _ (λ w. c.zero_from-2.ensures.wraps.1 (rw c.in_ok-zero_from.ensures.features w)) (λ tail. edge_fits f _ _ _ _ c.requires.part head tail)
+    fits_where_ok c.zero_from-2.result _ _ (λ w. c.zero_from-2.ensures.wraps.1 (rw c.in_ok-zero_from.ensures.features w)) (λ tail. edge_fits f _ _ _ _ c.requires.part.part head tail)
 
 pub returns-in_err-zero_from-clause-memory : goal.returns-in_err-zero_from-clause-memory
 returns-in_err-zero_from-clause-memory g c = λ m.
@@ -52,14 +52,14 @@ returns-in_err-zero_from-clause-memory g c = λ m.
     let xs = g.S.Storage.bytes c.args.storage.now in
     let p = err_from_is_err_and c.from_residual.result c.from_residual.ensures.1 in
     let longer : length xs ≤ length xs = omega arith in
-    let end : c.args.range.offset + (c.args.range.start - c.args.range.offset) + (len_align f - 1) ≤ c.args.range.offset + c.args.range.count + (len_align f - 1) = omega (arith, c.requires.part.behind, c.requires.some) in
+    let end : c.args.range.offset + (c.args.range.start - c.args.range.offset) + (len_align f - 1) ≤ c.args.range.offset + c.args.range.count + (len_align f - 1) = omega (arith, c.requires.part.part.behind, c.requires.part.some) in
     RequestMayRunOut_more f f _ _ _ _ refl longer end (c.zero_from.ensures.memory (same_refusal _ _ _ _ _ c.in_err-zero_from.was p.1 p.2 m))
 
 pub returns-clause-memory : goal.returns-clause-memory
 returns-clause-memory g c = λ m.
     let f = g.S.Storage.features c.args.storage.now in
     let longer = ZeroedPart_longer f _ _ _ _ _ c.zero_from.ensures.written in
-    let end : c.args.range.end + (c.args.range.offset + c.args.range.count - c.args.range.end) + (len_align f - 1) ≤ c.args.range.offset + c.args.range.count + (len_align f - 1) = omega (arith, c.requires.part.behind) in
+    let end : c.args.range.end + (c.args.range.offset + c.args.range.count - c.args.range.end) + (len_align f - 1) ≤ c.args.range.offset + c.args.range.count + (len_align f - 1) = omega (arith, c.requires.part.part.behind) in
     RequestMayRunOut_more f f _ _ _ _ refl longer end (rw c.in_ok-zero_from.ensures.features at (c.zero_from-2.ensures.memory m))
 
 pub returns-in_err-zero_from-clause-work : goal.returns-in_err-zero_from-clause-work

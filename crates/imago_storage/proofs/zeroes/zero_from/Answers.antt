@@ -12,8 +12,8 @@ pub returns-clause-written : goal.returns-clause-written
 returns-clause-written g c =
     let f = g.S.Storage.features c.args.storage.now in
     let n = c.args.count in
-    let size : length (take n c.args.zeroes.now) ≡ n = length-take-le n c.args.zeroes.now c.requires.enough in
-    let zeroes : take n c.args.zeroes.now ≡ replicate {A = ℕ} n 0 = zero_front c.args.zeroes.now _ n c.requires.zeroes c.requires.enough in
+    let size : length (take n c.args.zeroes.now) ≡ n = length-take-le n c.args.zeroes.now c.requires.zeroes.enough in
+    let zeroes : take n c.args.zeroes.now ≡ replicate {A = ℕ} n 0 = zero_front c.args.zeroes.now _ n c.requires.zeroes.zeroes c.requires.zeroes.enough in
     record {
       some = λ some. HasZeroed_written f _ _ c.args.offset n (padded_end f c.args.offset n) _ (padded_covers f c.args.offset n) (padded_near f c.args.offset n (g.met.S.Storage.lawful c.args.storage.now))
           (rw (size, zeroes) at (c.write_by.ensures.written (rw size some)));
@@ -25,7 +25,7 @@ returns-clause-memory g c = λ m.
     let f = g.S.Storage.features c.args.storage.now in
     let xs = g.S.Storage.bytes c.args.storage.now in
     let n = c.args.count in
-    let size : length (take n c.args.zeroes.now) ≡ n = length-take-le n c.args.zeroes.now c.requires.enough in
+    let size : length (take n c.args.zeroes.now) ≡ n = length-take-le n c.args.zeroes.now c.requires.zeroes.enough in
     let near : padded_end f c.args.offset n < c.args.offset + n + len_align f = padded_near f c.args.offset n (g.met.S.Storage.lawful c.args.storage.now) in
     let longer : length xs ≤ length xs = omega arith in
     let end : padded_end f c.args.offset n ≤ c.args.offset + n + (len_align f - 1) = omega (arith, near) in

@@ -22,9 +22,9 @@ zero_from-requires-clause-block g c =
     let lawful = g.met.S.Storage.lawful c.args.storage.now in
     let left : c.loop-done.done ≢ c.args.count = omega arith in
     let whole : c.loop-done.done % len_align f ≡ 0 = elim c.loop-done.invariant.whole [ inl w ↦ w | inr e ↦ absurd (left e) ] in
-    let kind : (c.min-next.result % len_align f ≡ 0) ⊎ (c.min-next.result ≡ c.args.count - c.loop-done.done) = rw c.min-next.ensures (piece_kind (len_align f) c.args.piece (c.args.count - c.loop-done.done) c.requires.whole) in
+    let kind : (c.min-next.result % len_align f ≡ 0) ⊎ (c.min-next.result ≡ c.args.count - c.loop-done.done) = rw c.min-next.ensures (piece_kind (len_align f) c.args.piece (c.args.count - c.loop-done.done) c.requires.pieces.whole) in
     rw c.loop-done.invariant.features (elim c.requires.block [
-      | inl all ↦ inl (piece_in_whole f c.args.offset c.args.count c.loop-done.done c.min-next.result lawful c.requires.start whole (omega arith) c.requires.ends kind all)
+      | inl all ↦ inl (piece_in_whole f c.args.offset c.args.count c.loop-done.done c.min-next.result lawful c.requires.pieces.start whole (omega arith) c.requires.pieces.ends kind all)
       | inr is_block ↦ inr (search rules)
     ])
 
@@ -35,8 +35,8 @@ returns-in_err-zero_from-clause-wraps g c = λ wraps.
     let lawful = g.met.S.Storage.lawful c.args.storage.now in
     let left : c.loop-done.done ≢ c.args.count = omega arith in
     let whole : c.loop-done.done % len_align f ≡ 0 = elim c.loop-done.invariant.whole [ inl w ↦ w | inr e ↦ absurd (left e) ] in
-    piece_wraps f c.args.offset c.args.count c.loop-done.done c.min-next.result lawful c.requires.start whole (omega arith) c.requires.ends
-    (rw c.min-next.ensures (piece_kind (len_align f) c.args.piece (c.args.count - c.loop-done.done) c.requires.whole))
+    piece_wraps f c.args.offset c.args.count c.loop-done.done c.min-next.result lawful c.requires.pieces.start whole (omega arith) c.requires.pieces.ends
+    (rw c.min-next.ensures (piece_kind (len_align f) c.args.piece (c.args.count - c.loop-done.done) c.requires.pieces.whole))
     (rw c.loop-done.invariant.features at (c.zero_from.ensures.wraps.0 (same_refusal _ _ _ _ _ c.in_err-zero_from.was p.1 p.2 wraps)))
 
 pub loop-done-preserved : goal.loop-done-preserved
@@ -46,18 +46,18 @@ loop-done-preserved g c =
     let left : c.loop-done.done ≢ c.args.count = omega arith in
     let whole : c.loop-done.done % len_align f ≡ 0 = elim c.loop-done.invariant.whole [ inl w ↦ w | inr e ↦ absurd (left e) ] in
     let more : 0 < c.min-next.result = omega arith in
-    let kind : (c.min-next.result % len_align f ≡ 0) ⊎ (c.min-next.result ≡ c.args.count - c.loop-done.done) = rw c.min-next.ensures (piece_kind (len_align f) c.args.piece (c.args.count - c.loop-done.done) c.requires.whole) in
+    let kind : (c.min-next.result % len_align f ≡ 0) ⊎ (c.min-next.result ≡ c.args.count - c.loop-done.done) = rw c.min-next.ensures (piece_kind (len_align f) c.args.piece (c.args.count - c.loop-done.done) c.requires.pieces.whole) in
     let step = ZeroedPart_next f _ _ _ c.args.offset c.loop-done.done c.min-next.result _ more c.loop-done.invariant.zeroed (rw c.loop-done.invariant.features at c.zero_from.ensures.written) in
     record {
       counted = omega arith;
       whole = elim kind [ inl w ↦ inl (multiple_add _ _ _ whole w) | inr e ↦ inr (omega arith) ];
       features = c.in_ok-zero_from.ensures.features ∙ c.loop-done.invariant.features;
       zeroed = record { some = λ _. rw c.in_ok-zero_from.was at step; none = λ zero. absurd (omega arith) };
-      fits = λ all. last_fits f c.args.offset c.args.count c.loop-done.done c.min-next.result lawful c.requires.start whole all more (λ w. not_refused _ _ _ c.in_ok-zero_from.was (c.zero_from.ensures.wraps.1 (rw c.loop-done.invariant.features w)));
+      fits = λ all. last_fits f c.args.offset c.args.count c.loop-done.done c.min-next.result lawful c.requires.pieces.start whole all more (λ w. not_refused _ _ _ c.in_ok-zero_from.was (c.zero_from.ensures.wraps.1 (rw c.loop-done.invariant.features w)));
       cause = CountsFaults_ok _ _ _ _ tt (CountsFaults_then _ _ _ _ _ _ _ (ap (λ x. x.is_reliable) c.loop-done.invariant.features) c.loop-done.invariant.cause c.zero_from.ensures.cause);
       work = edged_next (len_align f) c.args.piece c.args.count c.loop-done.done c.min-next.result (omega arith) c.min-next.ensures c.loop-done.invariant.work
           (write_loose f (c.args.offset + c.loop-done.done) c.min-next.result lawful (rw c.loop-done.invariant.features at c.zero_from.ensures.work))
-          (λ rest. (rw c.loop-done.invariant.features at c.zero_from.ensures.direct) (piece_aligned f c.args.offset c.args.count c.loop-done.done c.min-next.result lawful c.requires.start whole (omega arith) c.requires.ends kind rest));
+          (λ rest. (rw c.loop-done.invariant.features at c.zero_from.ensures.direct) (piece_aligned f c.args.offset c.args.count c.loop-done.done c.min-next.result lawful c.requires.pieces.start whole (omega arith) c.requires.pieces.ends kind rest));
     }
 
 pub returns-in_err-zero_from-clause-work : goal.returns-in_err-zero_from-clause-work
@@ -66,11 +66,11 @@ returns-in_err-zero_from-clause-work g c =
     let lawful = g.met.S.Storage.lawful c.args.storage.now in
     let left : c.loop-done.done ≢ c.args.count = omega arith in
     let whole : c.loop-done.done % len_align f ≡ 0 = elim c.loop-done.invariant.whole [ inl w ↦ w | inr e ↦ absurd (left e) ] in
-    let kind : (c.min-next.result % len_align f ≡ 0) ⊎ (c.min-next.result ≡ c.args.count - c.loop-done.done) = rw c.min-next.ensures (piece_kind (len_align f) c.args.piece (c.args.count - c.loop-done.done) c.requires.whole) in
+    let kind : (c.min-next.result % len_align f ≡ 0) ⊎ (c.min-next.result ≡ c.args.count - c.loop-done.done) = rw c.min-next.ensures (piece_kind (len_align f) c.args.piece (c.args.count - c.loop-done.done) c.requires.pieces.whole) in
     edged_within (len_align f) c.args.piece c.args.count (c.loop-done.done + c.min-next.result) (omega arith)
     (edged_next (len_align f) c.args.piece c.args.count c.loop-done.done c.min-next.result (omega arith) c.min-next.ensures c.loop-done.invariant.work
     (write_loose f (c.args.offset + c.loop-done.done) c.min-next.result lawful (rw c.loop-done.invariant.features at c.zero_from.ensures.work))
-    (λ rest. (rw c.loop-done.invariant.features at c.zero_from.ensures.direct) (piece_aligned f c.args.offset c.args.count c.loop-done.done c.min-next.result lawful c.requires.start whole (omega arith) c.requires.ends kind rest)))
+    (λ rest. (rw c.loop-done.invariant.features at c.zero_from.ensures.direct) (piece_aligned f c.args.offset c.args.count c.loop-done.done c.min-next.result lawful c.requires.pieces.start whole (omega arith) c.requires.pieces.ends kind rest)))
 
 pub loop-done-init : goal.loop-done-init
 loop-done-init g c =
@@ -81,7 +81,7 @@ loop-done-init g c =
       zeroed = search rules;
       fits = search rules;
       cause = search rules;
-      work = edged_none _ _ _ _ c.requires.positive;
+      work = edged_none _ _ _ _ c.requires.pieces.positive;
     }
 
 pub returns-clause-work : goal.returns-clause-work

@@ -36,13 +36,13 @@ returns-in-Err-Unsupported g c =
       empty = λ none. absurd (omega (arith, none, c.requires.some));
       written = λ some. HasZeroed_again _ _ _ _ _ _ _ _ _ e.written c.in-Err-Unsupported.is d.written;
       wraps = λ some w. absurd (range_fits _ _ _ _ _ p w);
-      may_wrap = λ w. wrap_by_data _ _ _ _ _ _ p c.requires.some (e.offered is) (d.wraps w);
-      fits = λ some. OnOk_map _ (fits_by_data _ _ _ _ _ _ p (omega arith) (e.offered is)) d.fits;
+      may_wrap = λ w. wrap_by_data _ _ _ _ _ _ p c.requires.some (e.unsupported is).offered (d.wraps w);
+      fits = λ some. OnOk_map _ (fits_by_data _ _ _ _ _ _ p (omega arith) (e.unsupported is).offered) d.fits;
       features = d.features;
       only = d.only;
       cause = CountsFaults_then _ _ _ _ _ _ _ refl e.cause d.cause;
-      memory = λ m aligned in_place. absurd ((e.offered is).not_in_place in_place);
-      early = λ m none. shows_still _ _ _ _ _ _ (e.unchanged is) ((rw (e.unchanged is).bytes at d.early) m (λ may. none (inl may)));
+      memory = λ m aligned in_place. absurd ((e.unsupported is).offered.not_in_place in_place);
+      early = λ m none. shows_still _ _ _ _ _ _ (e.unsupported is).unchanged ((rw (e.unsupported is).unchanged.bytes at d.early) m (λ may. none (inl may)));
       performed = λ some fits. inr (inr (inl (has_part (g.S.Storage.features c.args.storage.now) _ _ _ _ p (omega arith), part_then_data _ _ _ _ _ _ _ _ p _ _ _ _ is e.performed d.work)));
     }
 

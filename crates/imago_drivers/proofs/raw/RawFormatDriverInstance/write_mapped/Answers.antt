@@ -36,4 +36,4 @@ returns-clause-refusals g c =
     let B = g.S.Storage.bytes s.storage in
     let n = length c.args.source.now in
     request_refused (g.S.Storage.features s.storage) s.size (length B) c.args.offset n Write _ (PlacesStandAt (raw_place s.size B) c.args._storage c.args.offset n) _ ⊥ c.write_bytes.result
-    (λ x h q. raw_at s.size B c.args._storage c.args.offset n x h q) c.write_bytes.ensures.empty c.write_bytes.ensures.only (λ e. tt) c.write_bytes.ensures.wraps (λ x h q w. w) c.write_bytes.ensures.memory
+    (λ x h q. raw_at s.size B c.args._storage c.args.offset n x h q) (λ zero. (c.write_bytes.ensures.empty zero).0) c.write_bytes.ensures.only (λ e. tt) c.write_bytes.ensures.wraps (λ x h q w. w) c.write_bytes.ensures.memory

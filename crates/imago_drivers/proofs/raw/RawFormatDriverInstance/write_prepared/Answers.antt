@@ -58,7 +58,7 @@ returns-clause-refusals g c =
     let stateless : is_none m.state ≡ true = sym c.if-not-is_nonblocking.ensures in
     let v = raw_view (g.S.Storage.features s.storage) (g.S.Storage.fault_count s.storage) B s.size s.writable in
     request_refused (g.S.Storage.features s.storage) s.size (length B) (m.offset + c.args.at) n Write _ _ _ (Unit {0}) c.write_bytes.result
-    (λ x h q. raw_at s.size B m.storage (m.offset + c.args.at) n x h (for_stateless v m m.state c.args.at n x stateless q)) c.write_bytes.ensures.empty c.write_bytes.ensures.only (λ e. tt) c.write_bytes.ensures.wraps (λ x h q w. w) c.write_bytes.ensures.memory
+    (λ x h q. raw_at s.size B m.storage (m.offset + c.args.at) n x h (for_stateless v m m.state c.args.at n x stateless q)) (λ zero. (c.write_bytes.ensures.empty zero).0) c.write_bytes.ensures.only (λ e. tt) c.write_bytes.ensures.wraps (λ x h q w. w) c.write_bytes.ensures.memory
 
 pub returns-then-mapping-self-2-clause-foreign : goal.returns-then-mapping-self-2-clause-foreign
 returns-then-mapping-self-2-clause-foreign g c =
