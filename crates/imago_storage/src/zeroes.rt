@@ -68,7 +68,7 @@ pub(crate) fn zero_any<S: Storage>(
         start,
         end,
     };
-    zero_range(storage, alloc, range, kind)
+    zero_nonempty(storage, alloc, range, kind)
 }
 
 /// A range, and its part from `start` to `end` that is aligned for zero writes. The part is empty
@@ -82,7 +82,7 @@ struct ZeroRange {
 }
 
 /// Zeroes a range that isn't empty.
-fn zero_range<S: Storage>(
+fn zero_nonempty<S: Storage>(
     storage: &mut S,
     alloc: Global,
     range: ZeroRange,
@@ -96,10 +96,10 @@ fn zero_range<S: Storage>(
         storage.new result }
 {
     if range.end <= range.start {
-        return zero_as_data(storage, alloc, range.offset, range.count);
+        return zero_by_writes(storage, alloc, range.offset, range.count);
     }
     match zero_part_and_edges(storage, alloc, range, kind) {
-        Err(Error::Unsupported) => zero_as_data(storage, alloc, range.offset, range.count),
+        Err(Error::Unsupported) => zero_by_writes(storage, alloc, range.offset, range.count),
         Err(refusal) => Err(refusal),
         Ok(()) => Ok(()),
     }
@@ -151,12 +151,12 @@ fn zero_part_and_edges<S: Storage>(
         storage.new result }
 {
     if range.start == range.offset && range.end == range.offset + range.count {
-        return zero_part(storage, alloc, range.start, range.end - range.start, kind);
+        return zero_aligned(storage, alloc, range.start, range.end - range.start, kind);
     }
     // all memory is asked for before anything is written
     let edge = (range.start - range.offset).max(range.offset + range.count - range.end);
     let mut stock = zero_stock(&*storage, alloc, edge)?;
-    zero_part(storage, alloc, range.start, range.end - range.start, kind)?;
+    zero_aligned(storage, alloc, range.start, range.end - range.start, kind)?;
     zero_edges(storage, &stock.zeroes, &mut stock.block, range)
 }
 
@@ -211,7 +211,7 @@ fn zero_edges<S: Storage>(
 }
 
 /// Zeroes an aligned range by the storage's zero write of that kind.
-fn zero_part<S: Storage>(
+fn zero_aligned<S: Storage>(
     storage: &mut S,
     alloc: Global,
     offset: u64,
@@ -328,7 +328,7 @@ fn write_by<S: Storage>(
 /// Writes zeroes as data: up to the first multiple of the request alignment, where the range
 /// doesn't start at one, and then in whole pieces, all from one buffer. All memory is asked for
 /// before the first write; a range that is aligned needs no block beside the zeroes.
-fn zero_as_data<S: Storage>(
+fn zero_by_writes<S: Storage>(
     storage: &mut S,
     alloc: Global,
     offset: u64,

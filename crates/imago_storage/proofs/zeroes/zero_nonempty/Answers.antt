@@ -4,11 +4,11 @@ use Rattle.imago_storage.proofs.Outcomes.{OnOk_map, CountsFaults_then, not_wrapp
 use Rattle.imago_storage.proofs.ZeroRanges.{HasZeroed_again}
 use Rattle.imago_storage.proofs.ZeroWraps.{fits_without_part, fits_by_edges, fits_by_data, wrap_without_part, wrap_by_edges, wrap_by_data, part_of_aligned, range_fits}
 use Rattle.imago_storage.proofs.ZeroCalls.{has_part, has_no_part, part_then_data, part_and_edges}
-use Rattle.imago_storage.proofs.zeroes.zero_range.Goals as goal
+use Rattle.imago_storage.proofs.zeroes.zero_nonempty.Goals as goal
 
 pub returns-then-range : goal.returns-then-range
 returns-then-range g c =
-    let e = c.zero_as_data.ensures in
+    let e = c.zero_by_writes.ensures in
     let p = c.requires.part in
     record {
       empty = λ none. absurd (omega (arith, none, c.requires.some));
@@ -29,7 +29,7 @@ returns-then-range g c =
 pub returns-in-Err-Unsupported : goal.returns-in-Err-Unsupported
 returns-in-Err-Unsupported g c =
     let e = c.zero_part_and_edges.ensures in
-    let d = rw e.features at c.zero_as_data-in-Err-Unsupported.ensures in
+    let d = rw e.features at c.zero_by_writes-in-Err-Unsupported.ensures in
     let p = c.requires.part in
     let is = c.in-Err-Unsupported.is ∙ ap Err c.in-Err-Unsupported.field-0-is in
     record {

@@ -8,7 +8,7 @@ use Rattle.imago_storage.proofs.Work.{write_loose, edge_alone, edge_then_pieces}
 use Rattle.imago_storage.proofs.ZeroPieces.{piece_whole, align_power}
 use Rattle.imago_storage.proofs.ZeroRanges.{HasZeroed_unchanged, HasZeroed_refused, HasZeroed_next, ZeroedPart_longer}
 use Rattle.imago_storage.proofs.ZeroWraps.{data_from_start}
-use Rattle.imago_storage.proofs.zeroes.zero_as_data.Goals as goal
+use Rattle.imago_storage.proofs.zeroes.zero_by_writes.Goals as goal
 
 pub returns-in_err-stock-clause-written : goal.returns-in_err-stock-clause-written
 returns-in_err-stock-clause-written g c =
