@@ -214,7 +214,7 @@ pub trait FormatDriverInstance: Display + Drop {
             (allowed (stored_write_reasons (view self.old) storage offset (length source.now))) }
         ensures performed { calls.put storage source.now offset self.old self.new result };
 
-    /// Makes a part of the range explicit zeroes, and answers its offset and length: as much as the
+    /// Makes a part of the range read as zeroes, and answers its offset and length: as much as the
     /// driver can at once, maybe nothing. Refused, each byte of the range is as it was or zero.
     fn ensure_zero_mapping(
         &mut self,

@@ -44,8 +44,9 @@ use std::fmt::{self, Display, Formatter, Write};
 
 /// A disk whose bytes are those of its storage.
 ///
-/// The disk's size is the storage's length when the image was opened. The storage may be longer
-/// afterwards, since writes are padded to its alignment; it is zero from the disk's size on.
+/// The disk's size is the storage's length when the image was opened, or what it was resized to
+/// since. The storage may be longer, as writes are padded to its alignment; it is zero from the
+/// disk's size on.
 #[derive(Drop)]
 pub struct Raw<S: Storage> {
     storage: S,
@@ -271,7 +272,7 @@ impl<S: Storage> FormatDriverInstance for Raw<S> {
         offset: u64,
         count: u64,
     ) -> Result<(u64, u64), Error> {
-        zero_part(&mut self.storage, alloc, offset, count)
+        zero_aligned_part(&mut self.storage, alloc, offset, count)
     }
 
     fn discard_to_zero(
@@ -280,7 +281,7 @@ impl<S: Storage> FormatDriverInstance for Raw<S> {
         offset: u64,
         count: u64,
     ) -> Result<(u64, u64), Error> {
-        zero_part(&mut self.storage, alloc, offset, count)
+        zero_aligned_part(&mut self.storage, alloc, offset, count)
     }
 
     fn discard_to_any(
@@ -310,7 +311,7 @@ impl<S: Storage> FormatDriverInstance for Raw<S> {
             self.new result }
     {
         // No layer stands below: what is given back to it is zero.
-        zero_part(&mut self.storage, alloc, offset, count)
+        zero_aligned_part(&mut self.storage, alloc, offset, count)
     }
 
     fn prepare_data_mapping<B: LowerLayer>(
@@ -445,7 +446,7 @@ impl<S: Storage> FormatDriverInstance for Raw<S> {
 }
 
 /// Zeroes the part of a range that is aligned to the storage's zero alignment, and answers it.
-fn zero_part<S: Storage>(
+fn zero_aligned_part<S: Storage>(
     storage: &mut S,
     alloc: Global,
     offset: u64,

@@ -72,7 +72,8 @@ abbrev pub vmdk_rest : {N : Type 0} → Bool → List (Extent N) → ℕ → ℕ
 vmdk_rest false extents p = 0
 vmdk_rest true extents p = rest_from extents p
 
--- what is offered: nothing that changes anything
+-- what the driver has: zero writes, discards and resizes it hasn't; writes it has, and as the image
+-- can't be written to, each is refused
 abbrev pub vmdk_offers : Operation → Bool
 vmdk_offers Map = true
 vmdk_offers Read = true

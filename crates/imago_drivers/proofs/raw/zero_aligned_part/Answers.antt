@@ -9,7 +9,7 @@ use Rattle.imago_drivers.proofs.StorageBytes.{zeroed_bytes, torn_zeroes, torn_in
 use Rattle.imago_drivers.proofs.AlignedParts.{whole_start, whole_length, same_faults, aligned_part_is, part_zeroed, nothing_zeroed, wraps_without_part}
 use Rattle.imago_drivers.proofs.Stays.{set_outside}
 use Rattle.imago_drivers.proofs.Lengths.{near_end, longest_zeroes}
-use Rattle.imago_drivers.proofs.raw.zero_part.Goals as goal
+use Rattle.imago_drivers.proofs.raw.zero_aligned_part.Goals as goal
 
 pub returns-clause-zeroed : goal.returns-clause-zeroed
 returns-clause-zeroed g c = λ k.
