@@ -20,7 +20,7 @@ use Rattle.imago_cow.specs.declared.table.GuestBlock.{GuestBlock}
 use Rattle.imago_cow.specs.declared.table.WithoutData.{WithoutData}
 use Rattle.imago_cow.specs.declared.table.WithoutData.TheVariants as W
 use Rattle.imago_cow.specs.Guest.{entry_place, is_data, IsExact, AreAdded}
-use Rattle.imago_cow.specs.Grown.{AddsData}
+use Rattle.imago_cow.specs.Grown.{AddsData, ArePushed}
 use Rattle.imago_cow.specs.GuestLaws.{lies_in}
 use Rattle.imago_cow.specs.Growth.{SameOutside, KeepsBytes, IsPushed, IsExtended, fill_reasons}
 use Rattle.imago_cow.proofs.WholeSteps.{times_next, times_more}
@@ -102,16 +102,7 @@ pushed_extended at keeps block end old new x y positive push =
       bytes = block_kept keeps block (length old * block) n (n * block) block old x y (push.unnamed) (omega arith) (omega arith) (push.outside);
     }
 
--- So many guest blocks were pushed, one after the other.
-pub record IsPushing (at : ℕ → Value) (keeps : Bool) (block end : ℕ) (start now : List GuestBlock) (old new : List ℕ) (before count done : ℕ) : Type 0 where
-  pub len : length now ≡ length start + done
-  pub prefix : take (length start) now ≡ start
-  pub extended : IsExtended at true keeps block (length start * block) (min end (length now * block)) start now old new
-  pub in_data : AddsData start now
-  pub named : named_count now ≡ named_count start + done
-  pub counted : count ≤ max before (named_count start + done)
-
-pub pushing_none : (at : ℕ → Value) (keeps : Bool) (block end : ℕ) (start : List GuestBlock) (old : List ℕ) (before : ℕ) → IsPushing at keeps block end start start old old before before 0
+pub pushing_none : (at : ℕ → Value) (keeps : Bool) (block end : ℕ) (start : List GuestBlock) (old : List ℕ) (before : ℕ) → ArePushed at keeps block end start start old old before before 0
 pushing_none at keeps block end start old before = record {
   len = omega arith;
   prefix = take_all (length start) start (omega arith);
@@ -136,8 +127,8 @@ data_more start now next n pushed was i h l = ⊎_elim
     ap (λ e. is_data (slice_get e i)) pushed ∙ ap (λ k. is_data (slice_get (now ++ GuestBlock.Data n ∷ []) k)) last ∙ ap is_data (get_last now (GuestBlock.Data n)))
     (cases_lt i (length now))
 
-pub pushing_more : (at : ℕ → Value) (keeps : Bool) (block end : ℕ) (start now next : List GuestBlock) (old new more : List ℕ) (before count later done : ℕ) → 0 < block → length now * block < end → IsPushing at keeps block end start now old new before count done
-    → IsPushed at keeps block end now next new more → later ≤ max count (named_count now + 1) → IsPushing at keeps block end start next old more before later (done + 1)
+pub pushing_more : (at : ℕ → Value) (keeps : Bool) (block end : ℕ) (start now next : List GuestBlock) (old new more : List ℕ) (before count later done : ℕ) → 0 < block → length now * block < end → ArePushed at keeps block end start now old new before count done
+    → IsPushed at keeps block end now next new more → later ≤ max count (named_count now + 1) → ArePushed at keeps block end start next old more before later (done + 1)
 pushing_more at keeps block end start now next old new more before count later done positive begins was push added =
     let n = push.number in
     let l : length next ≡ length now + 1 = ap length (push.entries) ∙ length_push now (GuestBlock.Data n) in

@@ -1,4 +1,4 @@
-use Rattle.std.proofs.Common.{◌≡◌, ℕ, ◌+◌, ◌-◌, ◌%◌, ◌^◌, ◌<◌, ◌≤◌, ⊎_elim, arith}
+use Rattle.std.proofs.Common.{◌≡◌, ℕ, ◌+◌, ◌-◌, ◌%◌, ◌^◌, ◌≤◌, ⊎_elim, arith}
 use Rattle.imago_storage.specs.Features.{Features, ZeroSupport, AreAlignments}
 use Rattle.imago_storage.specs.Padding.{Wraps, aligned_start}
 use Rattle.imago_storage.specs.Zeroes.{MayWrap}

@@ -1,16 +1,18 @@
-use Rattle.std.specs.Prelude.{◌≡◌, ℕ, ◌+◌, ◌-◌, ◌/◌, ◌%◌, ◌<◌, ◌≤◌, ◌⊎◌, min, Bool, true, false}
+use Rattle.std.specs.Prelude.{◌≡◌, ℕ, ◌+◌, ◌-◌, ◌/◌, ◌%◌, ◌<◌, ◌≤◌, ◌⊎◌, ◌&&◌, min, Bool, true}
+use Rattle.std.specs.Prelude.{false}
 use Rattle.std.specs.Prelude.{List, length, slice_index, slice_get, Option, Some, None, Result, Ok}
 use Rattle.std.specs.Prelude.{Err, IfErr, OnOk, if◌then◌else◌}
 use Rattle.std.specs.Borrow.{Bor}
 use Rattle.imago_storage.specs.declared.error.Error.{Error}
 use Rattle.imago_storage.specs.Error.{IsExtRefusal}
+use Rattle.imago_storage.specs.Faults.{CountsFaults}
 use Rattle.imago_storage.specs.Features.{Features}
 use Rattle.imago_storage.specs.Padding.{Wraps}
 use Rattle.imago_drivers.specs.Operation.{Write}
 use Rattle.imago_drivers.specs.CallRelations.{Asking}
 use Rattle.imago_drivers.specs.Place.{Value, Byte}
 use Rattle.imago_drivers.specs.Reasons.{Reasons, none}
-use Rattle.imago_drivers.specs.LayerBelow.{LayerBelow}
+use Rattle.imago_drivers.specs.LayerBelow.{LayerBelow, lent}
 use Rattle.imago_drivers.specs.Ranges.{HasWrappingPart}
 use Rattle.imago_cow.specs.declared.table.GuestBlock.{GuestBlock}
 use Rattle.imago_cow.specs.Cow.{DataWraps, data_count, in_block}
@@ -46,6 +48,19 @@ abbrev pub IsRefusedBelow : {B : Type 0} → (ℕ → ℕ → Asking B (Unit {0}
     → Type 0
 IsRefusedBelow reads None e = ⊥
 IsRefusedBelow reads (Some b) e = (o : ℕ) × (n : ℕ) × reads o n b.now (Err e)
+
+-- What each call does that writes the storage and is lent the layer below: the storage keeps its
+-- features, and gets no shorter. Each failure of either is counted, and a refusal is one of the
+-- storage's own or what the layer below answered to a read.
+pub record IsLendingCall {B T : Type 0} (layer : B → LayerBelow)
+    (reads : ℕ → ℕ → Asking B (Unit {0})) (below : Option (Bor B))
+    (old_features new_features : Features) (old new : List ℕ) (before now : ℕ)
+    (result : Result T Error) : Type 0 where
+  pub features : new_features ≡ old_features
+  pub no_shorter : length old ≤ length new
+  pub faults : CountsFaults (old_features.is_reliable && (lent layer below).is_reliable) before now
+      result
+  pub by_name : IfErr result (λ e. IsExtRefusal e ⊎ IsRefusedBelow reads below e)
 
 -- why what n such places from o on show may not be read
 abbrev pub old_reasons : LayerBelow → Bool → ℕ → ℕ → Reasons

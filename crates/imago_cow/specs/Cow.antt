@@ -20,6 +20,9 @@ use Rattle.imago_cow.specs.declared.cow.CowState.{CowState}
 use Rattle.imago_cow.specs.declared.cow.Waiting.{Waiting}
 use Rattle.imago_cow.specs.Guest.{origin_in, cow_place, is_data, number_of, is_touched}
 use Rattle.imago_cow.specs.Guest.{IsWholeBlock, IsWholePart}
+use Rattle.imago_cow.specs.Table.{IsLowestUnused}
+use Rattle.imago_cow.specs.TableView.{entries_of, held_of, count_of}
+use Rattle.imago_cow.specs.declared.table.Table.{Table}
 
 -- The places that an operation may make data of, from there on: those of its range, and of a growth
 -- the new ones.
@@ -270,6 +273,17 @@ pub record WaitsApart (block size : ℕ) (entries : List GuestBlock) (blocks : �
   pub known : w.number < blocks
   pub apart : (i : ℕ) → slice_get entries i ≡ Some (GuestBlock.Data w.number) → ⊥
   pub free : is_data (slice_get entries (w.start / block)) ≡ false
+
+-- The write that waits is for n bytes from o on, and stands in the lowest data block that was
+-- unused, which is held.
+pub record IsWaitingFor (block size o n : ℕ) (own : CowState) (old new : Table) (w : Waiting)
+    : Type 0 where
+  pub held : held_of new ≡ Some w.number
+  pub lowest : IsLowestUnused (entries_of old) None (count_of old) w.number
+  pub apart : WaitsApart block size (entries_of new) (count_of new) w
+  pub start : w.start ≡ o
+  pub run : w.length ≡ n
+  pub state : w.state ≡ own
 
 -- the data block of a write that waits
 abbrev pub number_of_waiting : Option Waiting → Option ℕ

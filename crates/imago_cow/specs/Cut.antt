@@ -1,6 +1,7 @@
 use Rattle.std.specs.Prelude.{◌≡◌, ◌≢◌, ℕ, ◌+◌, ◌-◌, ◌*◌, ◌%◌, ◌/◌, ◌<◌, ◌≤◌, ◌⊎◌, Bool, true}
 use Rattle.std.specs.Prelude.{false, IsTrue, List, length, slice_get, slice_set, slice_index}
-use Rattle.std.specs.Prelude.{Option, Some, None}
+use Rattle.std.specs.Prelude.{Option, Some, None, Result, OnOk, OnErr, ◌^◌}
+use Rattle.imago_storage.specs.declared.error.Error.{Error}
 use Rattle.imago_drivers.specs.declared.format.PreallocateMode.{PreallocateMode}
 use Rattle.imago_drivers.specs.declared.format.PreallocateMode.TheVariants as Mode
 use Rattle.imago_drivers.specs.Place.{Value, Byte, shown}
@@ -24,6 +25,12 @@ shows_below Mode.Zero = false
 shows_below Mode.FormatAllocate = true
 shows_below Mode.FullAllocate = true
 shows_below Mode.WriteData = true
+
+-- So many places from the disk's end on lie in the guest block that it cuts, and below the greatest
+-- offset.
+pub record AreInBlock (block size count : ℕ) : Type 0 where
+  pub in_block : size % block + count ≤ block
+  pub inside : size + count < 2 ^ 64
 
 -- What a growth reads of the layer below for the guest block that the disk's end cuts: that block,
 -- where it is absent, and new places.
@@ -77,3 +84,10 @@ IsCutEmpty block size entries None = 0 < size % block → is_data (slice_get ent
     ≡ true
 IsCutEmpty block size entries (Some kind) = slice_get entries (size / block)
     ≡ Some (without_data kind)
+
+-- That guest block became data, and no other changed. Refused, none did.
+pub record IsPutIn (i : ℕ) (old new : List GuestBlock) (result : Result (Unit {0}) Error) : Type 0
+  where
+    pub len : length new ≡ length old
+    pub refused : OnErr result (new ≡ old)
+    pub done : OnOk result ((j : ℕ) × (new ≡ slice_set old i (GuestBlock.Data j)))

@@ -1,10 +1,15 @@
-use Rattle.std.specs.Prelude.{◌≡◌, ℕ, ◌%◌, ◌/◌, ◌<◌, ◌≤◌, Bool, true, false, List, length}
+use Rattle.std.specs.Prelude.{◌≡◌, ℕ, ◌+◌, ◌-◌, ◌*◌, ◌%◌, ◌/◌, ◌<◌, ◌≤◌, ◌⊎◌, Bool, true, false}
+use Rattle.std.specs.Prelude.{List, length, take, min, max}
 use Rattle.std.specs.Prelude.{slice_get, Option, Some, None}
 use Rattle.imago_drivers.specs.declared.format.PreallocateMode.{PreallocateMode}
 use Rattle.imago_drivers.specs.declared.format.PreallocateMode.TheVariants as Mode
 use Rattle.imago_cow.specs.declared.table.GuestBlock.{GuestBlock}
 use Rattle.imago_cow.specs.declared.table.GuestBlock.TheVariants as G
-use Rattle.imago_cow.specs.Guest.{is_data}
+use Rattle.imago_drivers.specs.Place.{Value}
+use Rattle.imago_cow.specs.Guest.{is_data, IsExact, AreAdded}
+use Rattle.imago_cow.specs.Table.{named_count}
+use Rattle.imago_cow.specs.Growth.{IsExtended}
+use Rattle.imago_cow.specs.Cut.{shows_below}
 
 -- what a growth in that mode adds: absent guest blocks, explicit zeroes, or data
 abbrev pub IsAddedBy : PreallocateMode → Option GuestBlock → Type 0
@@ -33,6 +38,32 @@ stays_cut Mode.WriteData entry = is_data entry
 -- each guest block that was added is in a data block
 abbrev pub AddsData : List GuestBlock → List GuestBlock → Type 0
 AddsData old new = (i : ℕ) → length old ≤ i → i < length new → is_data (slice_get new i) ≡ true
+
+-- So many guest blocks were added behind the others, each in a data block that was free, or in a
+-- new one. There were `before` data blocks, and there are `count`.
+pub record ArePushed (at : ℕ → Value) (keeps : Bool) (block end : ℕ) (start now : List GuestBlock)
+    (old new : List ℕ) (before count added : ℕ) : Type 0 where
+  pub len : length now ≡ length start + added
+  pub prefix : take (length start) now ≡ start
+  pub extended : IsExtended at true keeps block (length start * block)
+      (min end (length now * block)) start now old new
+  pub in_data : AddsData start now
+  pub named : named_count now ≡ named_count start + added
+  pub counted : count ≤ max before (named_count start + added)
+
+-- The guest blocks were added that a disk of the new size needs: in data blocks, where a growth in
+-- that mode shows the layer below, else as explicit zeroes.
+pub record HasNew (at : ℕ → Value) (mode : PreallocateMode) (keeps : Bool) (block new_size : ℕ)
+    (old new : List GuestBlock) (old_bytes new_bytes : List ℕ) : Type 0 where
+  pub exact : IsExact new_size block new
+  pub extended : IsExtended at (shows_below mode) keeps block (length old * block) new_size old new
+      old_bytes new_bytes
+  pub in_data : shows_below mode ≡ true → AddsData old new
+  pub zeroes : shows_below mode ≡ false → AreAdded GuestBlock.Zero old new
+  pub named : (wanted : ℕ) → new_size ≤ wanted * block → wanted * block < new_size + block
+      → (named_count new ≡ named_count old)
+      ⊎ ((shows_below mode ≡ true)
+      × (named_count new ≡ named_count old + (wanted - length old)))
 
 -- What a growth in that mode makes of the guest block that the old end cuts.
 pub record IsCutGrown (mode : PreallocateMode) (block size : ℕ) (old new : List GuestBlock) : Type 0

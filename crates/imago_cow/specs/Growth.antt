@@ -1,10 +1,11 @@
 use Rattle.std.specs.Prelude.{◌≡◌, ℕ, ◌+◌, ◌*◌, ◌/◌, ◌<◌, ◌≤◌, ◌⊎◌, ◌++◌, ◌∷◌, [], Bool, IsTrue}
-use Rattle.std.specs.Prelude.{List, length, slice_index, slice_get, Some}
+use Rattle.std.specs.Prelude.{List, length, slice_index, slice_get, Some, max, Result, IfErr}
 use Rattle.imago_storage.specs.declared.error.Error.{Error}
 use Rattle.imago_storage.specs.Features.{Features}
 use Rattle.imago_storage.specs.Padding.{Wraps}
 use Rattle.imago_drivers.specs.Place.{Value, Byte, IsIn, shown}
-use Rattle.imago_drivers.specs.Reasons.{Reasons, none}
+use Rattle.imago_drivers.specs.Reasons.{Reasons, none, allowed}
+use Rattle.imago_drivers.specs.Lengths.{padded_to}
 use Rattle.imago_drivers.specs.LayerBelow.{LayerBelow}
 use Rattle.imago_drivers.specs.Ranges.{HasWrappingPart}
 use Rattle.imago_cow.specs.declared.table.GuestBlock.{GuestBlock}
@@ -58,3 +59,12 @@ fill_reasons f l limit reads = record none {
   device = Unit {0};
   memory = Unit {0};
 }
+
+-- A call that fills data blocks comes to no more than so many: there are no more of them, the
+-- storage ends with those at the latest, and a refusal is for one of them, or for places of the
+-- layer below that are read.
+pub record IsBounded (f : Features) (l : LayerBelow) (block most : ℕ) (reads : ℕ → Type 0)
+    (blocks : ℕ) (old new : List ℕ) (result : Result (Unit {0}) Error) : Type 0 where
+  pub counted : blocks ≤ most
+  pub no_longer : length new ≤ max (length old) (padded_to f 0 (most * block))
+  pub refusals : IfErr result (allowed (fill_reasons f l (most * block) reads))

@@ -1,7 +1,6 @@
 //! The copying of what places without data show into a data block.
 ghost use Rattle.std.specs.Prelude.{◌≡◌, ℕ, ◌+◌, ◌-◌, ◌%◌, ◌^◌, ◌<◌, ◌≤◌, ◌⊎◌, ◌&&◌, max, length};
 ghost use Rattle.std.specs.Prelude.{slice_index, IsTrue, IfOk, IfErr, OnOk, IsErrOf, true, false};
-ghost use Rattle.imago_storage.specs.Error.{IsExtRefusal};
 ghost use Rattle.imago_storage.specs.Faults.{CountsFaults};
 ghost use Rattle.imago_storage.specs.Features.{len_align};
 ghost use Rattle.imago_drivers.specs.Place.{Byte};
@@ -9,10 +8,11 @@ ghost use Rattle.imago_drivers.specs.Lengths.{padded_to};
 ghost use Rattle.imago_drivers.specs.LayerBelow.{lent};
 ghost use Rattle.imago_drivers.specs.Reasons.{allowed};
 ghost use Rattle.imago_cow.specs.Copies.{old_value, HasOldBytes, IsOldRead, IsCopyAnswer};
-ghost use Rattle.imago_cow.specs.Copies.{IsRefusedBelow, old_reasons, copy_reasons, round_reasons};
+ghost use Rattle.imago_cow.specs.Copies.{IsLendingCall, old_reasons, copy_reasons, round_reasons};
 ghost use Rattle.imago_cow.specs.Copies.{block_from, block_until};
 
 use crate::block::BlockSize;
+use crate::cow::CowState;
 use crate::zero::{shows_zeroes, takes_zeroes, zero_bytes};
 use imago_drivers::layer::LowerLayer;
 use imago_drivers::stored::write_bytes;
@@ -48,34 +48,44 @@ fn read_old<B: LowerLayer>(
     layer.read(alloc, buf, offset)
 }
 
-/// Copies what places without data show from the offset on through the buffer to that offset of the
-/// storage, as many as the buffer holds. A failed read of the layer below raises the count of
-/// faults. What the read is refused for is the answer.
+/// Where a copy of what places without data show begins.
+#[derive(Clone, Copy)]
+pub(crate) struct CopyStart {
+    /// Their guest block leads to the layer below, else they are explicit zeroes.
+    pub(crate) absent: bool,
+    /// The first place.
+    pub(crate) offset: u64,
+    /// Where it goes in the storage.
+    pub(crate) to: u64,
+}
+
+/// Copies what places without data show through the buffer to the storage, as many as the buffer
+/// holds. A failed read of the layer below raises the count of faults. What the read is refused for
+/// is the answer.
 fn copy_through<S: Storage, B: LowerLayer>(
     storage: &mut S,
     faults: &mut u64,
     alloc: Global,
     below: Option<&B>,
-    absent: bool,
+    start: CopyStart,
     buf: &mut [u8],
-    offset: u64,
-    to: u64,
 ) -> Result<(), Error>
     ensures copied { IsTrue (S.features storage.old).keeps_data
         → OnOk result
         ((k : ℕ)
         → k < length buf.old
-        → old_value (lent B.as_layer_below below.entry).at absent (offset + k)
-        ≡ Byte (slice_index (S.bytes storage.new) (to + k))) }
-    ensures answered { IsCopyAnswer B.reads below.entry absent offset (length buf.old) result }
+        → old_value (lent B.as_layer_below below.entry).at start.absent (start.offset + k)
+        ≡ Byte (slice_index (S.bytes storage.new) (start.to + k))) }
+    ensures answered { IsCopyAnswer B.reads below.entry start.absent start.offset (length buf.old)
+        result }
     ensures outside { IsTrue (S.features storage.old).keeps_data
         → (p : ℕ)
-        → (p < to) ⊎ (to + length buf.old ≤ p)
+        → (p < start.to) ⊎ (start.to + length buf.old ≤ p)
         → slice_index (S.bytes storage.new) p ≡ slice_index (S.bytes storage.old) p }
     ensures no_shorter { length (S.bytes storage.old) ≤ length (S.bytes storage.new) }
     ensures no_longer { length (S.bytes storage.new)
         ≤ max (length (S.bytes storage.old))
-        (padded_to (S.features storage.old) to (length buf.old)) }
+        (padded_to (S.features storage.old) start.to (length buf.old)) }
     ensures features { S.features storage.new ≡ S.features storage.old }
     ensures faults { CountsFaults
         ((S.features storage.old).is_reliable && (lent B.as_layer_below below.entry).is_reliable)
@@ -83,11 +93,11 @@ fn copy_through<S: Storage, B: LowerLayer>(
     ensures refusals { 0 < length buf.old
         → IfErr result
         (allowed
-        (copy_reasons (S.features storage.old) (lent B.as_layer_below below.entry) absent offset
-        (length buf.old) to)) }
+        (copy_reasons (S.features storage.old) (lent B.as_layer_below below.entry) start.absent
+        start.offset (length buf.old) start.to)) }
 {
-    match read_old(alloc, below, absent, &mut *buf, offset) {
-        Ok(()) => write_bytes(storage, alloc, buf, to),
+    match read_old(alloc, below, start.absent, &mut *buf, start.offset) {
+        Ok(()) => write_bytes(storage, alloc, buf, start.to),
         Err(Error::Device) => {
             *faults = faults.saturating_add(1);
             Err(Error::Device)
@@ -96,52 +106,45 @@ fn copy_through<S: Storage, B: LowerLayer>(
     }
 }
 
-/// Copies what `count` places without data show from the offset on to that offset of the storage. A
-/// failed read of the layer below raises the count of faults. What shows zeroes for certain isn't
-/// read: the storage's own zero write makes it, where that takes the range as it is.
+/// Copies what `count` places without data show to the storage. A failed read of the layer below
+/// raises the count of faults. What shows zeroes for certain isn't read: the storage's own zero
+/// write makes it, where that takes the range as it is.
 pub(crate) fn copy_old<S: Storage, B: LowerLayer>(
     storage: &mut S,
     faults: &mut u64,
     alloc: Global,
     below: Option<&B>,
-    absent: bool,
-    offset: u64,
+    start: CopyStart,
     count: u64,
-    to: u64,
 ) -> Result<(), Error>
     ensures copied { IsTrue (S.features storage.old).keeps_data
         → OnOk result
         ((k : ℕ)
         → k < count
-        → old_value (lent B.as_layer_below below.entry).at absent (offset + k)
-        ≡ Byte (slice_index (S.bytes storage.new) (to + k))) }
+        → old_value (lent B.as_layer_below below.entry).at start.absent (start.offset + k)
+        ≡ Byte (slice_index (S.bytes storage.new) (start.to + k))) }
     ensures outside { IsTrue (S.features storage.old).keeps_data
         → (p : ℕ)
-        → (p < to) ⊎ (to + count ≤ p)
+        → (p < start.to) ⊎ (start.to + count ≤ p)
         → slice_index (S.bytes storage.new) p ≡ slice_index (S.bytes storage.old) p }
-    ensures no_shorter { length (S.bytes storage.old) ≤ length (S.bytes storage.new) }
     ensures no_longer { length (S.bytes storage.new)
-        ≤ max (length (S.bytes storage.old)) (padded_to (S.features storage.old) to count) }
-    ensures features { S.features storage.new ≡ S.features storage.old }
-    ensures faults { CountsFaults
-        ((S.features storage.old).is_reliable && (lent B.as_layer_below below.entry).is_reliable)
+        ≤ max (length (S.bytes storage.old)) (padded_to (S.features storage.old) start.to count) }
+    ensures call { IsLendingCall B.as_layer_below B.reads below.entry (S.features storage.old)
+        (S.features storage.new) (S.bytes storage.old) (S.bytes storage.new)
         (S.fault_count storage.old + faults.old) (S.fault_count storage.new + faults.new) result }
-    ensures by_name { IfErr result (λ e. IsExtRefusal e ⊎ IsRefusedBelow B.reads below.entry e) }
     ensures refusals { IfErr result
         (allowed
-        (copy_reasons (S.features storage.old) (lent B.as_layer_below below.entry) absent offset
-        count to)) }
+        (copy_reasons (S.features storage.old) (lent B.as_layer_below below.entry) start.absent
+        start.offset count start.to)) }
 {
     if count == 0 {
         return Ok(());
     }
-    if shows_zeroes(below, absent, offset) && takes_zeroes(&*storage, to, count) {
-        return zero_bytes(storage, alloc, to, count);
+    if shows_zeroes(below, start.absent, start.offset) && takes_zeroes(&*storage, start.to, count) {
+        return zero_bytes(storage, alloc, start.to, count);
     }
     let mut bytes = vec![in alloc; 0u8; count as usize]?;
-    copy_through(
-        storage, faults, alloc, below, absent, &mut bytes, offset, to,
-    )
+    copy_through(storage, faults, alloc, below, start, &mut bytes)
 }
 
 /// A range of one guest block that is prepared for a write.
@@ -157,6 +160,8 @@ pub(crate) struct Part {
     pub(crate) absent: bool,
     /// The range itself isn't copied.
     pub(crate) overwrite: bool,
+    /// What its mapping holds.
+    pub(crate) state: CowState,
 }
 
 /// Copies what the guest block of a part shows, within the disk, to a data block that begins at
@@ -186,15 +191,12 @@ pub(crate) fn copy_round<S: Storage, B: LowerLayer>(
         → (p : ℕ)
         → (p < start) ⊎ (start + part.block.length ≤ p)
         → slice_index (S.bytes storage.new) p ≡ slice_index (S.bytes storage.old) p }
-    ensures no_shorter { length (S.bytes storage.old) ≤ length (S.bytes storage.new) }
     ensures no_longer { length (S.bytes storage.new)
         ≤ max (length (S.bytes storage.old))
         (start + part.block.length + (len_align (S.features storage.old) - 1)) }
-    ensures features { S.features storage.new ≡ S.features storage.old }
-    ensures faults { CountsFaults
-        ((S.features storage.old).is_reliable && (lent B.as_layer_below below.entry).is_reliable)
+    ensures call { IsLendingCall B.as_layer_below B.reads below.entry (S.features storage.old)
+        (S.features storage.new) (S.bytes storage.old) (S.bytes storage.new)
         (S.fault_count storage.old + faults.old) (S.fault_count storage.new + faults.new) result }
-    ensures by_name { IfErr result (λ e. IsExtRefusal e ⊎ IsRefusedBelow B.reads below.entry e) }
     ensures refusals { IfErr result
         (allowed
         (round_reasons (S.features storage.old) (lent B.as_layer_below below.entry) part.absent
@@ -204,37 +206,20 @@ pub(crate) fn copy_round<S: Storage, B: LowerLayer>(
     let rest = part.block.rest(part.offset);
     let from = part.offset - rest;
     let count = part.block.length.min(part.size - from);
+    let first = CopyStart {
+        absent: part.absent,
+        offset: from,
+        to: start,
+    };
     if !part.overwrite {
-        return copy_old(
-            storage,
-            faults,
-            alloc,
-            below,
-            part.absent,
-            from,
-            count,
-            start,
-        );
+        return copy_old(storage, faults, alloc, below, first, count);
     }
-    copy_old(
-        storage,
-        faults,
-        alloc,
-        below,
-        part.absent,
-        from,
-        rest,
-        start,
-    )?;
+    copy_old(storage, faults, alloc, below, first, rest)?;
     let behind = rest + part.run;
-    copy_old(
-        storage,
-        faults,
-        alloc,
-        below,
-        part.absent,
-        from + behind,
-        count - behind,
-        start + behind,
-    )
+    let second = CopyStart {
+        absent: part.absent,
+        offset: from + behind,
+        to: start + behind,
+    };
+    copy_old(storage, faults, alloc, below, second, count - behind)
 }

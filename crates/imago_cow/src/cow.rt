@@ -464,8 +464,8 @@ impl<S: Storage> FormatDriverInstance for Cow<S> {
                 run,
                 absent: entry == GuestBlock::Absent,
                 overwrite,
+                state: CowState { ticket },
             },
-            CowState { ticket },
         )?;
         self.tickets = ticket;
         self.waiting = Some(waiting);

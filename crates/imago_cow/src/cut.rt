@@ -1,26 +1,24 @@
 //! The guest block that the disk's end cuts, in a growth.
-ghost use Rattle.std.specs.Prelude.{◌≡◌, ℕ, ◌+◌, ◌-◌, ◌*◌, ◌/◌, ◌%◌, ◌^◌, ◌<◌, ◌≤◌, ◌⊎◌, ◌&&◌, max};
-ghost use Rattle.std.specs.Prelude.{length, List, slice_index, slice_get, slice_set, IsTrue, IfOk};
+ghost use Rattle.std.specs.Prelude.{◌≡◌, ℕ, ◌+◌, ◌-◌, ◌*◌, ◌/◌, ◌%◌, ◌^◌, ◌<◌, ◌≤◌, ◌⊎◌, max};
+ghost use Rattle.std.specs.Prelude.{length, List, slice_index, slice_get, IsTrue, IfOk};
 ghost use Rattle.std.specs.Prelude.{IfErr, IfSome, OnOk, OnErr, Some, None, true, false};
-ghost use Rattle.imago_storage.specs.Error.{IsExtRefusal};
-ghost use Rattle.imago_storage.specs.Faults.{CountsFaults};
 ghost use Rattle.imago_storage.specs.Features.{len_align};
-ghost use Rattle.imago_drivers.specs.Lengths.{padded_to};
 ghost use Rattle.imago_drivers.specs.Place.{Byte};
 ghost use Rattle.imago_drivers.specs.LayerBelow.{lent};
 ghost use Rattle.imago_drivers.specs.Reasons.{allowed};
 ghost use Rattle.imago_cow.specs.declared.table.GuestBlock.{GuestBlock};
 ghost use Rattle.imago_cow.specs.Table.{named_count};
 ghost use Rattle.imago_cow.specs.TableView.{entries_of, held_of, count_of, KeepsRoom};
-ghost use Rattle.imago_cow.specs.Guest.{entry_place, is_data};
-ghost use Rattle.imago_cow.specs.Copies.{IsRefusedBelow, old_value};
-ghost use Rattle.imago_cow.specs.Growth.{fill_reasons};
+ghost use Rattle.imago_cow.specs.TableView.{IsReady, TakesOne};
+ghost use Rattle.imago_cow.specs.Guest.{entry_place, is_data, IsEmptyAt};
+ghost use Rattle.imago_cow.specs.Copies.{IsLendingCall, old_value};
+ghost use Rattle.imago_cow.specs.Growth.{IsBounded, fill_reasons};
 ghost use Rattle.imago_cow.specs.Grown.{IsCutGrown};
 ghost use Rattle.imago_cow.specs.Cut.{IsCutEmpty, IsCutEntered, IsCutFilled, IsCutRead, IsTaken};
-ghost use Rattle.imago_cow.specs.Cut.{shows_below};
+ghost use Rattle.imago_cow.specs.Cut.{AreInBlock, IsPutIn, shows_below};
 
 use crate::block::BlockSize;
-use crate::copy::copy_old;
+use crate::copy::{CopyStart, copy_old};
 use crate::map::entry_at;
 use crate::resize::{Growth, adds_nothing, is_lower, take_block};
 use crate::table::{GuestBlock, Table, WithoutData};
@@ -38,6 +36,8 @@ struct Cut {
     size: u64,
     /// How many of its places the growth adds.
     count: u64,
+    /// The guest block leads to the layer below, else it is an explicit zero.
+    absent: bool,
     /// The new places show the layer below, else zeroes.
     lower: bool,
 }
@@ -50,18 +50,16 @@ fn fill_both<S: Storage, B: LowerLayer>(
     alloc: Global,
     below: Option<&B>,
     cut: Cut,
-    absent: bool,
     start: u64,
 ) -> Result<(), Error>
     requires positive { 0 < cut.block.length }
-    requires in_block { cut.size % cut.block.length + cut.count ≤ cut.block.length }
+    requires in_block { AreInBlock cut.block.length cut.size cut.count }
     requires fits { start + cut.block.length < 2 ^ 64 }
-    requires inside { cut.size + cut.count < 2 ^ 64 }
     ensures before { IsTrue (S.features storage.old).keeps_data
         → OnOk result
         ((k : ℕ)
         → k < cut.size % cut.block.length
-        → old_value (lent B.as_layer_below below.entry).at absent
+        → old_value (lent B.as_layer_below below.entry).at cut.absent
         (cut.size - cut.size % cut.block.length + k)
         ≡ Byte (slice_index (S.bytes storage.new) (start + k))) }
     ensures behind { IsTrue (S.features storage.old).keeps_data
@@ -74,45 +72,35 @@ fn fill_both<S: Storage, B: LowerLayer>(
         → (p : ℕ)
         → (p < start) ⊎ (start + cut.block.length ≤ p)
         → slice_index (S.bytes storage.new) p ≡ slice_index (S.bytes storage.old) p }
-    ensures no_shorter { length (S.bytes storage.old) ≤ length (S.bytes storage.new) }
     ensures no_longer { length (S.bytes storage.new)
         ≤ max (length (S.bytes storage.old))
         (start + cut.block.length + (len_align (S.features storage.old) - 1)) }
-    ensures features { S.features storage.new ≡ S.features storage.old }
-    ensures faults { CountsFaults
-        ((S.features storage.old).is_reliable && (lent B.as_layer_below below.entry).is_reliable)
+    ensures call { IsLendingCall B.as_layer_below B.reads below.entry (S.features storage.old)
+        (S.features storage.new) (S.bytes storage.old) (S.bytes storage.new)
         (S.fault_count storage.old + faults.old) (S.fault_count storage.new + faults.new) result }
-    ensures by_name { IfErr result (λ e. IsExtRefusal e ⊎ IsRefusedBelow B.reads below.entry e) }
     ensures refusals { (limit : ℕ) (entries : _) (new_size : ℕ)
         → start + cut.block.length ≤ limit
         → cut.size + cut.count ≤ new_size
-        → (absent ≡ true → slice_get entries (cut.size / cut.block.length) ≡ Some GuestBlock.Absent)
+        → (cut.absent ≡ true → slice_get entries (cut.size / cut.block.length)
+        ≡ Some GuestBlock.Absent)
         → IfErr result
         (allowed
         (fill_reasons (S.features storage.old) (lent B.as_layer_below below.entry) limit
         (IsCutRead cut.block.length cut.size entries cut.lower new_size))) }
 {
     let rest = cut.block.rest(cut.size);
-    copy_old(
-        storage,
-        faults,
-        alloc,
-        below,
-        absent,
-        cut.size - rest,
-        rest,
-        start,
-    )?;
-    copy_old(
-        storage,
-        faults,
-        alloc,
-        below,
-        cut.lower,
-        cut.size,
-        cut.count,
-        start + rest,
-    )
+    let before = CopyStart {
+        absent: cut.absent,
+        offset: cut.size - rest,
+        to: start,
+    };
+    copy_old(storage, faults, alloc, below, before, rest)?;
+    let behind = CopyStart {
+        absent: cut.lower,
+        offset: cut.size,
+        to: start + rest,
+    };
+    copy_old(storage, faults, alloc, below, behind, cut.count)
 }
 
 /// Takes a data block for the guest block, fills it, and enters it. Refused, the data block is
@@ -124,49 +112,33 @@ fn fill_taken<S: Storage, B: LowerLayer>(
     alloc: Global,
     below: Option<&B>,
     cut: Cut,
-    absent: bool,
 ) -> Result<(), Error>
-    requires positive { 0 < cut.block.length }
-    requires in_block { cut.size % cut.block.length + cut.count ≤ cut.block.length }
-    requires inside { cut.size + cut.count < 2 ^ 64 }
-    requires spent { held_of table.old ≡ None }
-    requires addressed { count_of table.old * cut.block.length < 2 ^ 64 }
+    requires ready { IsReady cut.block.length table.old }
+    requires in_block { AreInBlock cut.block.length cut.size cut.count }
     requires within { cut.size / cut.block.length < length (entries_of table.old) }
-    requires absent { absent ≡ true → slice_get (entries_of table.old) (cut.size / cut.block.length)
-        ≡ Some GuestBlock.Absent }
-    requires zero { absent ≡ false → slice_get (entries_of table.old) (cut.size / cut.block.length)
-        ≡ Some GuestBlock.Zero }
+    requires empty { IsEmptyAt cut.block.length cut.size cut.absent (entries_of table.old) }
     ensures entered { IsTrue (S.features storage.old).keeps_data
         → OnOk result
-        (IsTaken (lent B.as_layer_below below.entry).at cut.block.length cut.size cut.count absent
-        cut.lower
-        (entries_of table.old) (entries_of table.new) (S.bytes storage.old) (S.bytes storage.new)) }
-    ensures len { length (entries_of table.new) ≡ length (entries_of table.old) }
-    ensures entries { OnErr result (entries_of table.new ≡ entries_of table.old) }
-    ensures entry { OnOk result
-        ((j : ℕ) × (entries_of table.new ≡ slice_set (entries_of table.old)
-        (cut.size / cut.block.length) (GuestBlock.Data j))) }
+        (IsTaken (lent B.as_layer_below below.entry).at cut.block.length cut.size cut.count
+        cut.absent cut.lower (entries_of table.old) (entries_of table.new) (S.bytes storage.old)
+        (S.bytes storage.new)) }
+    ensures entries { IsPutIn (cut.size / cut.block.length) (entries_of table.old)
+        (entries_of table.new) result }
     ensures places { IsTrue (S.features storage.old).keeps_data
         → (p : ℕ)
         → entry_place (S.bytes storage.new) cut.block.length p
         (slice_get (entries_of table.old) (p / cut.block.length))
         ≡ entry_place (S.bytes storage.old) cut.block.length p
         (slice_get (entries_of table.old) (p / cut.block.length)) }
-    ensures held { held_of table.new ≡ None }
-    ensures addressed { count_of table.new * cut.block.length < 2 ^ 64 }
-    ensures added { count_of table.new ≤ max (count_of table.old)
-        (named_count (entries_of table.old) + 1) }
-    ensures room { KeepsRoom table.old table.new }
-    ensures no_shorter { length (S.bytes storage.old) ≤ length (S.bytes storage.new) }
+    ensures ready { IsReady cut.block.length table.new }
+    ensures taken { TakesOne table.old table.new }
     ensures no_longer { length (S.bytes storage.new)
         ≤ max (length (S.bytes storage.old))
         (max (count_of table.old) (named_count (entries_of table.old) + 1) * cut.block.length
         + (len_align (S.features storage.old) - 1)) }
-    ensures features { S.features storage.new ≡ S.features storage.old }
-    ensures faults { CountsFaults
-        ((S.features storage.old).is_reliable && (lent B.as_layer_below below.entry).is_reliable)
+    ensures call { IsLendingCall B.as_layer_below B.reads below.entry (S.features storage.old)
+        (S.features storage.new) (S.bytes storage.old) (S.bytes storage.new)
         (S.fault_count storage.old + faults.old) (S.fault_count storage.new + faults.new) result }
-    ensures by_name { IfErr result (λ e. IsExtRefusal e ⊎ IsRefusedBelow B.reads below.entry e) }
     ensures refusals { (new_size : ℕ)
         → cut.size + cut.count ≤ new_size
         → IfErr result
@@ -177,7 +149,7 @@ fn fill_taken<S: Storage, B: LowerLayer>(
 {
     let number = take_block(table, cut.block.length)?;
     let start = number * cut.block.length;
-    match fill_both(storage, faults, alloc, below, cut, absent, start) {
+    match fill_both(storage, faults, alloc, below, cut, start) {
         Ok(()) => {
             table.enter(cut.block.number(cut.size) as usize);
             Ok(())
@@ -200,12 +172,10 @@ pub(crate) fn fill_cut<S: Storage, B: LowerLayer>(
     below: Option<&B>,
     growth: Growth,
 ) -> Result<(), Error>
-    requires positive { 0 < growth.block.length }
+    requires ready { IsReady growth.block.length table.old }
     requires grows { growth.size < growth.new_size }
     requires within { 0 < growth.size % growth.block.length → growth.size / growth.block.length
         < length (entries_of table.old) }
-    requires spent { held_of table.old ≡ None }
-    requires addressed { count_of table.old * growth.block.length < 2 ^ 64 }
     ensures filled { OnOk result
         (IsCutFilled (lent B.as_layer_below below.entry).at growth.mode
         (S.features storage.old).keeps_data
@@ -224,40 +194,21 @@ pub(crate) fn fill_cut<S: Storage, B: LowerLayer>(
         (slice_get (entries_of table.old) (p / growth.block.length))
         ≡ entry_place (S.bytes storage.old) growth.block.length p
         (slice_get (entries_of table.old) (p / growth.block.length)) }
-    ensures held { held_of table.new ≡ None }
-    ensures addressed { count_of table.new * growth.block.length < 2 ^ 64 }
-    ensures counted { (most : ℕ)
-        → count_of table.old ≤ most
-        → (0 < growth.size % growth.block.length
-        → is_data (slice_get (entries_of table.old) (growth.size / growth.block.length)) ≡ false
-        → named_count (entries_of table.old) + 1 ≤ most)
-        → count_of table.new ≤ most }
+    ensures ready { IsReady growth.block.length table.new }
     ensures room { KeepsRoom table.old table.new }
-    ensures no_shorter { length (S.bytes storage.old) ≤ length (S.bytes storage.new) }
-    ensures no_longer { (most : ℕ)
+    ensures bounded { (most : ℕ)
         → count_of table.old ≤ most
         → (0 < growth.size % growth.block.length
         → is_data (slice_get (entries_of table.old) (growth.size / growth.block.length)) ≡ false
         → named_count (entries_of table.old) + 1 ≤ most)
-        → length (S.bytes storage.new)
-        ≤ max (length (S.bytes storage.old))
-        (padded_to (S.features storage.old) 0 (most * growth.block.length)) }
-    ensures features { S.features storage.new ≡ S.features storage.old }
-    ensures faults { CountsFaults
-        ((S.features storage.old).is_reliable && (lent B.as_layer_below below.entry).is_reliable)
-        (S.fault_count storage.old + faults.old) (S.fault_count storage.new + faults.new) result }
-    ensures by_name { IfErr result (λ e. IsExtRefusal e ⊎ IsRefusedBelow B.reads below.entry e) }
-    ensures refusals { (most : ℕ)
-        → count_of table.old ≤ most
-        → (0 < growth.size % growth.block.length
-        → is_data (slice_get (entries_of table.old) (growth.size / growth.block.length)) ≡ false
-        → named_count (entries_of table.old) + 1 ≤ most)
-        → IfErr result
-        (allowed
-        (fill_reasons (S.features storage.old) (lent B.as_layer_below below.entry)
-        (most * growth.block.length)
+        → IsBounded (S.features storage.old) (lent B.as_layer_below below.entry)
+        growth.block.length most
         (IsCutRead growth.block.length growth.size (entries_of table.old) (shows_below growth.mode)
-        growth.new_size))) }
+        growth.new_size)
+        (count_of table.new) (S.bytes storage.old) (S.bytes storage.new) result }
+    ensures call { IsLendingCall B.as_layer_below B.reads below.entry (S.features storage.old)
+        (S.features storage.new) (S.bytes storage.old) (S.bytes storage.new)
+        (S.fault_count storage.old + faults.old) (S.fault_count storage.new + faults.new) result }
 {
     let rest = growth.block.rest(growth.size);
     if rest == 0 {
@@ -272,19 +223,28 @@ pub(crate) fn fill_cut<S: Storage, B: LowerLayer>(
         block: growth.block,
         size: growth.size,
         count,
+        absent: true,
         lower,
     };
     match entry_at(table, growth.block, growth.size) {
-        GuestBlock::Absent => fill_taken(storage, faults, table, alloc, below, cut, true),
+        GuestBlock::Absent => fill_taken(storage, faults, table, alloc, below, cut),
         GuestBlock::Zero => {
             if !lower {
                 return Ok(());
             }
-            fill_taken(storage, faults, table, alloc, below, cut, false)
+            let zero = Cut {
+                absent: false,
+                ..cut
+            };
+            fill_taken(storage, faults, table, alloc, below, zero)
         }
         GuestBlock::Data(number) => {
-            let to = number * growth.block.length + rest;
-            copy_old(storage, faults, alloc, below, lower, growth.size, count, to)
+            let start = CopyStart {
+                absent: lower,
+                offset: growth.size,
+                to: number * growth.block.length + rest,
+            };
+            copy_old(storage, faults, alloc, below, start, count)
         }
     }
 }

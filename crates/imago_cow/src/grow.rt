@@ -1,5 +1,5 @@
 //! The growth of a copy-on-write disk.
-ghost use Rattle.std.specs.Prelude.{◌≡◌, ◌≢◌, ◌+◌, ◌*◌, ◌^◌, ◌<◌, ◌≤◌, ◌⊎◌, IfErr, OnOk, OnErr};
+ghost use Rattle.std.specs.Prelude.{◌≡◌, ◌≢◌, ◌+◌, ◌*◌, ◌<◌, ◌≤◌, ◌⊎◌, IfErr, OnOk, OnErr};
 ghost use Rattle.std.specs.Prelude.{None, Ok, Err};
 ghost use Rattle.imago_storage.specs.Error.{IsExtRefusal};
 ghost use Rattle.imago_cow.specs.Copies.{IsRefusedBelow};
@@ -7,6 +7,7 @@ ghost use Rattle.imago_drivers.specs.Calls.{IsGrowth};
 ghost use Rattle.imago_drivers.specs.LayerBelow.{lent};
 ghost use Rattle.imago_drivers.specs.declared.format.PreallocateMode.{PreallocateMode};
 ghost use Rattle.imago_cow.specs.TableView.{entries_of, held_of, count_of, room_of, KeepsRoom};
+ghost use Rattle.imago_cow.specs.TableView.{IsReady, IsIdle};
 ghost use Rattle.imago_cow.specs.Guest.{IsExact};
 ghost use Rattle.imago_cow.specs.Grown.{AreGrown};
 ghost use Rattle.imago_cow.specs.Cow.{cow_view};
@@ -47,11 +48,8 @@ fn grow_with<S: Storage, B: LowerLayer>(
     below: Option<&B>,
     growth: Growth,
 ) -> Result<(), Error>
-    requires positive { 0 < growth.block.length }
+    requires idle { IsIdle growth.size growth.block.length table.old }
     requires grows { growth.size < growth.new_size }
-    requires exact { IsExact growth.size growth.block.length (entries_of table.old) }
-    requires spent { held_of table.old ≡ None }
-    requires addressed { count_of table.old * growth.block.length < 2 ^ 64 }
     requires some { growth.mode ≢ PreallocateMode.None }
     ensures grown { OnOk result
         (IsGrowth growth.mode (lent B.as_layer_below below.entry) growth.new_size
@@ -75,8 +73,7 @@ fn grow_with<S: Storage, B: LowerLayer>(
     ensures exact_now { OnOk result
         (IsExact growth.new_size growth.block.length (entries_of table.new)) }
     ensures entries { OnErr result (entries_of table.new ≡ entries_of table.old) }
-    ensures held { held_of table.new ≡ None }
-    ensures addressed { count_of table.new * growth.block.length < 2 ^ 64 }
+    ensures ready { IsReady growth.block.length table.new }
     ensures by_name { IfErr result (λ e. IsExtRefusal e ⊎ IsRefusedBelow B.reads below.entry e) }
     ensures features { S.features storage.new ≡ S.features storage.old }
     ensures room { KeepsRoom table.old table.new }
@@ -101,11 +98,8 @@ pub(crate) fn grow<S: Storage, B: LowerLayer>(
     below: Option<&B>,
     growth: Growth,
 ) -> Result<(), Error>
-    requires positive { 0 < growth.block.length }
+    requires idle { IsIdle growth.size growth.block.length table.old }
     requires grows { growth.size < growth.new_size }
-    requires exact { IsExact growth.size growth.block.length (entries_of table.old) }
-    requires spent { held_of table.old ≡ None }
-    requires addressed { count_of table.old * growth.block.length < 2 ^ 64 }
     ensures grown { OnOk result
         (IsGrowth growth.mode (lent B.as_layer_below below.entry) growth.new_size
         (cow_view (S.features storage.old) (S.fault_count storage.old + faults.old)
@@ -128,8 +122,7 @@ pub(crate) fn grow<S: Storage, B: LowerLayer>(
     ensures exact_now { OnOk result
         (IsExact growth.new_size growth.block.length (entries_of table.new)) }
     ensures entries { OnErr result (entries_of table.new ≡ entries_of table.old) }
-    ensures held { held_of table.new ≡ None }
-    ensures addressed { count_of table.new * growth.block.length < 2 ^ 64 }
+    ensures ready { IsReady growth.block.length table.new }
     ensures by_name { IfErr result (λ e. IsExtRefusal e ⊎ IsRefusedBelow B.reads below.entry e) }
     ensures features { S.features storage.new ≡ S.features storage.old }
     ensures room_first { OnErr result

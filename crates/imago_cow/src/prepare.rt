@@ -1,9 +1,7 @@
 //! The preparing of a data block for a write.
-ghost use Rattle.std.specs.Prelude.{◌≡◌, ℕ, ◌+◌, ◌*◌, ◌/◌, ◌%◌, ◌^◌, ◌<◌, ◌≤◌, ◌⊎◌, ◌&&◌, length};
-ghost use Rattle.std.specs.Prelude.{max, Option, Some, None, slice_get, IfOk, IfErr, OnOk, OnErr};
+ghost use Rattle.std.specs.Prelude.{◌≡◌, ℕ, ◌+◌, ◌*◌, ◌^◌, ◌<◌, ◌≤◌, length};
+ghost use Rattle.std.specs.Prelude.{max, Option, Some, None, IfOk, IfErr, OnOk, OnErr};
 ghost use Rattle.std.specs.Prelude.{true, false};
-ghost use Rattle.imago_storage.specs.Error.{IsExtRefusal};
-ghost use Rattle.imago_storage.specs.Faults.{CountsFaults};
 ghost use Rattle.imago_drivers.specs.Operation.{Write};
 ghost use Rattle.imago_drivers.specs.Lengths.{padded_to};
 ghost use Rattle.imago_drivers.specs.Reasons.{allowed};
@@ -14,16 +12,15 @@ ghost use Rattle.imago_drivers.specs.Prepared.{IsPrepared};
 ghost use Rattle.imago_drivers.specs.Frame.{IsUnchanged};
 ghost use Rattle.imago_drivers.specs.Causes.{IsSettled, IsOnRange};
 ghost use Rattle.imago_drivers.specs.Parts.{storage_of, offset_of, length_of, state_of};
-ghost use Rattle.imago_cow.specs.declared.table.GuestBlock.{GuestBlock};
-ghost use Rattle.imago_cow.specs.Table.{IsLowestUnused, named_count};
-ghost use Rattle.imago_cow.specs.TableView.{entries_of, held_of, count_of};
-ghost use Rattle.imago_cow.specs.Guest.{IsExact, cow_place};
-ghost use Rattle.imago_cow.specs.Copies.{IsRefusedBelow, over_reasons};
+ghost use Rattle.imago_cow.specs.Table.{named_count};
+ghost use Rattle.imago_cow.specs.TableView.{entries_of, held_of, count_of, HasTaken, IsIdle};
+ghost use Rattle.imago_cow.specs.Guest.{IsEmptyPart, cow_place};
+ghost use Rattle.imago_cow.specs.Copies.{IsLendingCall, over_reasons};
 ghost use Rattle.imago_cow.specs.Cow.{cow_view, cow_cause, cow_copies, data_count, in_block};
-ghost use Rattle.imago_cow.specs.Cow.{WaitsApart};
+ghost use Rattle.imago_cow.specs.Cow.{IsWaitingFor};
 
 use crate::copy::{Part, copy_round};
-use crate::cow::{CowState, Waiting};
+use crate::cow::Waiting;
 use crate::table::Table;
 use imago_drivers::layer::LowerLayer;
 use imago_storage::error::Error;
@@ -39,34 +36,15 @@ pub(crate) fn prepare_part<S: Storage, B: LowerLayer>(
     alloc: Global,
     below: Option<&B>,
     part: Part,
-    state: CowState,
 ) -> Result<Waiting, Error>
-    requires positive { 0 < part.block.length }
-    requires exact { IsExact part.size part.block.length (entries_of table.old) }
-    requires addressed { count_of table.old * part.block.length < 2 ^ 64 }
-    requires spent { held_of table.old ≡ None }
-    requires some { 0 < part.run }
-    requires inside { part.offset + part.run ≤ part.size }
-    requires in_block { part.offset % part.block.length + part.run ≤ part.block.length }
-    requires absent { part.absent ≡ true
-        → slice_get (entries_of table.old) (part.offset / part.block.length)
-        ≡ Some GuestBlock.Absent }
-    requires zero { part.absent ≡ false
-        → slice_get (entries_of table.old) (part.offset / part.block.length)
-        ≡ Some GuestBlock.Zero }
-    ensures entries { entries_of table.new ≡ entries_of table.old }
-    ensures added { count_of table.new ≤ max (count_of table.old)
-        (named_count (entries_of table.old) + 1) }
-    ensures addressed { count_of table.new * part.block.length < 2 ^ 64 }
-    ensures held { IfOk result (λ w. held_of table.new ≡ Some w.number) }
-    ensures lowest { IfOk result
-        (λ w. IsLowestUnused (entries_of table.old) None (count_of table.old) w.number) }
+    requires idle { IsIdle part.size part.block.length table.old }
+    requires part { IsEmptyPart part.block.length part.size part.offset part.run part.absent
+        (entries_of table.old) }
+    ensures table { HasTaken part.block.length table.old table.new }
+    ensures waits { IfOk result
+        (IsWaitingFor part.block.length part.size part.offset part.run part.state table.old
+        table.new) }
     ensures released { OnErr result (held_of table.new ≡ None) }
-    ensures apart { IfOk result (λ w. WaitsApart part.block.length part.size (entries_of table.new)
-        (count_of table.new) w) }
-    ensures same { IfOk result (λ w. (w.start ≡ part.offset) × (w.length ≡ part.run)
-        × (w.state ≡ «state»)) }
-    ensures features { S.features storage.new ≡ S.features storage.old }
     ensures prepared { IfOk result
         (λ w. (most now_faults old_faults : ℕ) (m : _)
         → 0 < most
@@ -97,7 +75,6 @@ pub(crate) fn prepare_part<S: Storage, B: LowerLayer>(
         (cow_copies part.block.length part.size (entries_of table.old))
         (cow_copies part.block.length part.size (entries_of table.old))
         w.start w.length) }
-    ensures no_shorter { length (S.bytes storage.old) ≤ length (S.bytes storage.new) }
     ensures no_longer { (most : ℕ)
         → 0 < most
         → length (S.bytes storage.new)
@@ -106,10 +83,9 @@ pub(crate) fn prepare_part<S: Storage, B: LowerLayer>(
         (data_count part.block.length part.size (entries_of table.old) (count_of table.old) None
         Write part.offset most
         * part.block.length)) }
-    ensures faults { CountsFaults
-        ((S.features storage.old).is_reliable && (lent B.as_layer_below below.entry).is_reliable)
+    ensures call { IsLendingCall B.as_layer_below B.reads below.entry (S.features storage.old)
+        (S.features storage.new) (S.bytes storage.old) (S.bytes storage.new)
         (S.fault_count storage.old + faults.old) (S.fault_count storage.new + faults.new) result }
-    ensures by_name { IfErr result (λ e. IsExtRefusal e ⊎ IsRefusedBelow B.reads below.entry e) }
     ensures refusals { (old_faults most : ℕ)
         → 0 < most
         → IfErr result
@@ -139,7 +115,7 @@ pub(crate) fn prepare_part<S: Storage, B: LowerLayer>(
             length: part.run,
             offset: start + part.block.rest(part.offset),
             number,
-            state,
+            state: part.state,
         }),
         Err(e) => {
             table.release();

@@ -1,26 +1,22 @@
 //! How the guest blocks follow the size of the disk.
-ghost use Rattle.std.specs.Prelude.{◌≡◌, ◌≢◌, ℕ, ◌+◌, ◌-◌, ◌*◌, ◌^◌, ◌<◌, ◌≤◌, ◌⊎◌, ◌&&◌, min, max};
+ghost use Rattle.std.specs.Prelude.{◌≡◌, ◌≢◌, ℕ, ◌+◌, ◌-◌, ◌*◌, ◌^◌, ◌<◌, ◌≤◌, ◌⊎◌, min, max};
 ghost use Rattle.std.specs.Prelude.{length, take, None, Some, Ok, OnOk, OnErr, IfOk, IfErr};
 ghost use Rattle.std.specs.Prelude.{IsErrOf, IsTrue, true, false};
-ghost use Rattle.imago_storage.specs.Error.{IsExtRefusal};
-ghost use Rattle.imago_storage.specs.Faults.{CountsFaults};
 ghost use Rattle.imago_drivers.specs.Calls.{IsShrink};
 ghost use Rattle.imago_drivers.specs.declared.format.PreallocateMode.{PreallocateMode};
 ghost use Rattle.imago_drivers.specs.LayerBelow.{lent};
-ghost use Rattle.imago_drivers.specs.Lengths.{padded_to};
-ghost use Rattle.imago_drivers.specs.Reasons.{allowed};
 ghost use Rattle.imago_cow.specs.Guest.{IsExact, AreAdded};
-ghost use Rattle.imago_cow.specs.Copies.{IsRefusedBelow};
-ghost use Rattle.imago_cow.specs.Growth.{IsPushed, IsExtended, KeepsBytes, fill_reasons};
+ghost use Rattle.imago_cow.specs.Copies.{IsLendingCall};
+ghost use Rattle.imago_cow.specs.Growth.{IsPushed, IsBounded, KeepsBytes};
 ghost use Rattle.imago_cow.specs.Cut.{shows_below};
-ghost use Rattle.imago_cow.specs.Grown.{AddsData};
-ghost use Rattle.imago_cow.specs.declared.table.GuestBlock.{GuestBlock};
+ghost use Rattle.imago_cow.specs.Grown.{ArePushed, HasNew};
 ghost use Rattle.imago_cow.specs.Cow.{cow_view};
 ghost use Rattle.imago_cow.specs.Table.{without_data, named_count};
 ghost use Rattle.imago_cow.specs.TableView.{entries_of, held_of, count_of, room_of, KeepsRoom};
+ghost use Rattle.imago_cow.specs.TableView.{IsReady, IsIdle, TakesOne};
 
 use crate::block::BlockSize;
-use crate::copy::copy_old;
+use crate::copy::{CopyStart, copy_old};
 use crate::guest::first_whole;
 use crate::table::{Table, WithoutData};
 use imago_drivers::drivers::PreallocateMode;
@@ -40,6 +36,17 @@ pub(crate) struct Growth {
     pub(crate) new_size: u64,
     /// What new places show.
     pub(crate) mode: PreallocateMode,
+}
+
+/// Guest blocks that a growth adds in data blocks of their own.
+#[derive(Clone, Copy)]
+pub(crate) struct Missing {
+    /// A guest block's length in bytes.
+    pub(crate) block: BlockSize,
+    /// The size in bytes that the disk grows to.
+    pub(crate) new_size: u64,
+    /// How many they are.
+    pub(crate) count: usize,
 }
 
 /// Whether new places show the layer below.
@@ -146,61 +153,42 @@ fn push_filled<S: Storage, B: LowerLayer>(
     table: &mut Table,
     alloc: Global,
     below: Option<&B>,
-    growth: Growth,
+    missing: Missing,
 ) -> Result<(), Error>
-    requires positive { 0 < growth.block.length }
-    requires spent { held_of table.old ≡ None }
-    requires addressed { count_of table.old * growth.block.length < 2 ^ 64 }
-    requires begins { length (entries_of table.old) * growth.block.length < growth.new_size }
+    requires ready { IsReady missing.block.length table.old }
+    requires begins { length (entries_of table.old) * missing.block.length < missing.new_size }
     requires reserved { length (entries_of table.old) < room_of table.old }
     ensures pushed { OnOk result
         (IsPushed (lent B.as_layer_below below.entry).at (S.features storage.old).keeps_data
-        growth.block.length growth.new_size
+        missing.block.length missing.new_size
         (entries_of table.old) (entries_of table.new) (S.bytes storage.old) (S.bytes storage.new)) }
     ensures refused { OnErr result (entries_of table.new ≡ entries_of table.old) }
     ensures bytes { OnErr result
-        (KeepsBytes (S.features storage.old).keeps_data growth.block.length
-        (length (entries_of table.old) * growth.block.length)
+        (KeepsBytes (S.features storage.old).keeps_data missing.block.length
+        (length (entries_of table.old) * missing.block.length)
         (entries_of table.old) (S.bytes storage.old) (S.bytes storage.new)) }
-    ensures held { held_of table.new ≡ None }
-    ensures addressed { count_of table.new * growth.block.length < 2 ^ 64 }
-    ensures added { count_of table.new ≤ max (count_of table.old)
-        (named_count (entries_of table.old) + 1) }
-    ensures room { KeepsRoom table.old table.new }
-    ensures no_shorter { length (S.bytes storage.old) ≤ length (S.bytes storage.new) }
-    ensures no_longer { (most : ℕ)
+    ensures ready { IsReady missing.block.length table.new }
+    ensures taken { TakesOne table.old table.new }
+    ensures bounded { (most : ℕ)
         → count_of table.old ≤ most
         → named_count (entries_of table.old) + 1 ≤ most
-        → length (S.bytes storage.new)
-        ≤ max (length (S.bytes storage.old))
-        (padded_to (S.features storage.old) 0 (most * growth.block.length)) }
-    ensures features { S.features storage.new ≡ S.features storage.old }
-    ensures faults { CountsFaults
-        ((S.features storage.old).is_reliable && (lent B.as_layer_below below.entry).is_reliable)
+        → IsBounded (S.features storage.old) (lent B.as_layer_below below.entry)
+        missing.block.length most
+        (λ p. (length (entries_of table.old) * missing.block.length ≤ p) × (p < missing.new_size))
+        (count_of table.new) (S.bytes storage.old) (S.bytes storage.new) result }
+    ensures call { IsLendingCall B.as_layer_below B.reads below.entry (S.features storage.old)
+        (S.features storage.new) (S.bytes storage.old) (S.bytes storage.new)
         (S.fault_count storage.old + faults.old) (S.fault_count storage.new + faults.new) result }
-    ensures by_name { IfErr result (λ e. IsExtRefusal e ⊎ IsRefusedBelow B.reads below.entry e) }
-    ensures refusals { (most : ℕ)
-        → count_of table.old ≤ most
-        → named_count (entries_of table.old) + 1 ≤ most
-        → IfErr result
-        (allowed
-        (fill_reasons (S.features storage.old) (lent B.as_layer_below below.entry)
-        (most * growth.block.length)
-        (λ p. (length (entries_of table.old) * growth.block.length ≤ p) × (p < growth.new_size)))) }
 {
-    let start = table.len() as u64 * growth.block.length;
-    let count = growth.block.length.min(growth.new_size - start);
-    let number = take_block(table, growth.block.length)?;
-    match copy_old(
-        storage,
-        faults,
-        alloc,
-        below,
-        true,
-        start,
-        count,
-        number * growth.block.length,
-    ) {
+    let offset = table.len() as u64 * missing.block.length;
+    let count = missing.block.length.min(missing.new_size - offset);
+    let number = take_block(table, missing.block.length)?;
+    let start = CopyStart {
+        absent: true,
+        offset,
+        to: number * missing.block.length,
+    };
+    match copy_old(storage, faults, alloc, below, start, count) {
         Ok(()) => {
             table.push_held();
             Ok(())
@@ -220,59 +208,37 @@ pub(crate) fn push_blocks<S: Storage, B: LowerLayer>(
     table: &mut Table,
     alloc: Global,
     below: Option<&B>,
-    growth: Growth,
-    missing: usize,
+    missing: Missing,
 ) -> Result<(), Error>
-    requires positive { 0 < growth.block.length }
-    requires spent { held_of table.old ≡ None }
-    requires addressed { count_of table.old * growth.block.length < 2 ^ 64 }
-    requires ends { (length (entries_of table.old) + missing) * growth.block.length
-        < growth.new_size + growth.block.length }
-    requires reserved { length (entries_of table.old) + missing ≤ room_of table.old }
-    ensures length { OnOk result (length (entries_of table.new) ≡ length (entries_of table.old)
-        + missing) }
-    ensures extended { OnOk result
-        (IsExtended (lent B.as_layer_below below.entry).at true (S.features storage.old).keeps_data
-        growth.block.length
-        (length (entries_of table.old) * growth.block.length)
-        (min growth.new_size (length (entries_of table.new) * growth.block.length))
-        (entries_of table.old) (entries_of table.new) (S.bytes storage.old) (S.bytes storage.new)) }
+    requires ready { IsReady missing.block.length table.old }
+    requires ends { (length (entries_of table.old) + missing.count) * missing.block.length
+        < missing.new_size + missing.block.length }
+    requires reserved { length (entries_of table.old) + missing.count ≤ room_of table.old }
+    ensures pushed { OnOk result
+        (ArePushed (lent B.as_layer_below below.entry).at (S.features storage.old).keeps_data
+        missing.block.length missing.new_size (entries_of table.old) (entries_of table.new)
+        (S.bytes storage.old) (S.bytes storage.new) (count_of table.old) (count_of table.new)
+        missing.count) }
     ensures prefix { take (length (entries_of table.old)) (entries_of table.new)
         ≡ entries_of table.old }
-    ensures bytes { KeepsBytes (S.features storage.old).keeps_data growth.block.length
-        (length (entries_of table.old) * growth.block.length)
+    ensures bytes { KeepsBytes (S.features storage.old).keeps_data missing.block.length
+        (length (entries_of table.old) * missing.block.length)
         (entries_of table.old) (S.bytes storage.old) (S.bytes storage.new) }
-    ensures in_data { OnOk result (AddsData (entries_of table.old) (entries_of table.new)) }
-    ensures named { OnOk result
-        (named_count (entries_of table.new) ≡ named_count (entries_of table.old) + missing) }
-    ensures counted { count_of table.new ≤ max (count_of table.old)
-        (named_count (entries_of table.old) + missing) }
-    ensures held { held_of table.new ≡ None }
-    ensures addressed { count_of table.new * growth.block.length < 2 ^ 64 }
+    ensures ready { IsReady missing.block.length table.new }
     ensures room { KeepsRoom table.old table.new }
-    ensures no_shorter { length (S.bytes storage.old) ≤ length (S.bytes storage.new) }
-    ensures no_longer { (most : ℕ)
+    ensures bounded { (most : ℕ)
         → count_of table.old ≤ most
-        → named_count (entries_of table.old) + missing ≤ most
-        → length (S.bytes storage.new)
-        ≤ max (length (S.bytes storage.old))
-        (padded_to (S.features storage.old) 0 (most * growth.block.length)) }
-    ensures features { S.features storage.new ≡ S.features storage.old }
-    ensures faults { CountsFaults
-        ((S.features storage.old).is_reliable && (lent B.as_layer_below below.entry).is_reliable)
+        → named_count (entries_of table.old) + missing.count ≤ most
+        → IsBounded (S.features storage.old) (lent B.as_layer_below below.entry)
+        missing.block.length most
+        (λ p. (length (entries_of table.old) * missing.block.length ≤ p) × (p < missing.new_size))
+        (count_of table.new) (S.bytes storage.old) (S.bytes storage.new) result }
+    ensures call { IsLendingCall B.as_layer_below B.reads below.entry (S.features storage.old)
+        (S.features storage.new) (S.bytes storage.old) (S.bytes storage.new)
         (S.fault_count storage.old + faults.old) (S.fault_count storage.new + faults.new) result }
-    ensures by_name { IfErr result (λ e. IsExtRefusal e ⊎ IsRefusedBelow B.reads below.entry e) }
-    ensures refusals { (most : ℕ)
-        → count_of table.old ≤ most
-        → named_count (entries_of table.old) + missing ≤ most
-        → IfErr result
-        (allowed
-        (fill_reasons (S.features storage.old) (lent B.as_layer_below below.entry)
-        (most * growth.block.length)
-        (λ p. (length (entries_of table.old) * growth.block.length ≤ p) × (p < growth.new_size)))) }
 {
-    for _ in 0..missing {
-        push_filled(storage, faults, table, alloc, below, growth)?;
+    for _ in 0..missing.count {
+        push_filled(storage, faults, table, alloc, below, missing)?;
     }
     Ok(())
 }
@@ -288,81 +254,46 @@ pub(crate) fn add_new<S: Storage, B: LowerLayer>(
     below: Option<&B>,
     growth: Growth,
 ) -> Result<(), Error>
-    requires positive { 0 < growth.block.length }
-    requires spent { held_of table.old ≡ None }
-    requires addressed { count_of table.old * growth.block.length < 2 ^ 64 }
-    requires exact { IsExact growth.size growth.block.length (entries_of table.old) }
+    requires idle { IsIdle growth.size growth.block.length table.old }
     requires grows { growth.size ≤ growth.new_size }
-    ensures exact { OnOk result
-        (IsExact growth.new_size growth.block.length (entries_of table.new)) }
-    ensures extended { OnOk result
-        (IsExtended (lent B.as_layer_below below.entry).at (shows_below growth.mode)
-        (S.features storage.old).keeps_data growth.block.length
-        (length (entries_of table.old) * growth.block.length) growth.new_size
+    ensures added { OnOk result
+        (HasNew (lent B.as_layer_below below.entry).at growth.mode
+        (S.features storage.old).keeps_data growth.block.length growth.new_size
         (entries_of table.old) (entries_of table.new) (S.bytes storage.old) (S.bytes storage.new)) }
     ensures prefix { take (length (entries_of table.old)) (entries_of table.new)
         ≡ entries_of table.old }
-    ensures in_data { shows_below growth.mode ≡ true
-        → OnOk result (AddsData (entries_of table.old) (entries_of table.new)) }
-    ensures zero { shows_below growth.mode ≡ false
-        → OnOk result (AreAdded GuestBlock.Zero (entries_of table.old) (entries_of table.new)) }
-    ensures named { (wanted : ℕ)
-        → growth.new_size ≤ wanted * growth.block.length
-        → wanted * growth.block.length < growth.new_size + growth.block.length
-        → OnOk result
-        ((named_count (entries_of table.new) ≡ named_count (entries_of table.old))
-        ⊎ ((shows_below growth.mode ≡ true)
-        × (named_count (entries_of table.new) ≡ named_count (entries_of table.old)
-        + (wanted - length (entries_of table.old))))) }
-    ensures counted { (most wanted : ℕ)
-        → growth.new_size ≤ wanted * growth.block.length
-        → wanted * growth.block.length < growth.new_size + growth.block.length
-        → count_of table.old ≤ most
-        → (shows_below growth.mode ≡ true → named_count (entries_of table.old)
-        + (wanted - length (entries_of table.old)) ≤ most)
-        → count_of table.new ≤ most }
     ensures refused { OnErr result (entries_of table.new ≡ entries_of table.old) }
     ensures bytes { KeepsBytes (S.features storage.old).keeps_data growth.block.length
         (length (entries_of table.old) * growth.block.length)
         (entries_of table.old) (S.bytes storage.old) (S.bytes storage.new) }
-    ensures held { held_of table.new ≡ None }
-    ensures addressed { count_of table.new * growth.block.length < 2 ^ 64 }
+    ensures ready { IsReady growth.block.length table.new }
     ensures room { KeepsRoom table.old table.new }
-    ensures no_shorter { length (S.bytes storage.old) ≤ length (S.bytes storage.new) }
-    ensures no_longer { (most wanted : ℕ)
+    ensures bounded { (most wanted : ℕ)
         → growth.new_size ≤ wanted * growth.block.length
         → wanted * growth.block.length < growth.new_size + growth.block.length
         → count_of table.old ≤ most
         → (shows_below growth.mode ≡ true → named_count (entries_of table.old)
         + (wanted - length (entries_of table.old)) ≤ most)
-        → length (S.bytes storage.new)
-        ≤ max (length (S.bytes storage.old))
-        (padded_to (S.features storage.old) 0 (most * growth.block.length)) }
-    ensures features { S.features storage.new ≡ S.features storage.old }
-    ensures faults { CountsFaults
-        ((S.features storage.old).is_reliable && (lent B.as_layer_below below.entry).is_reliable)
-        (S.fault_count storage.old + faults.old) (S.fault_count storage.new + faults.new) result }
-    ensures by_name { IfErr result (λ e. IsExtRefusal e ⊎ IsRefusedBelow B.reads below.entry e) }
-    ensures refusals { (most wanted : ℕ)
-        → growth.new_size ≤ wanted * growth.block.length
-        → wanted * growth.block.length < growth.new_size + growth.block.length
-        → count_of table.old ≤ most
-        → (shows_below growth.mode ≡ true → named_count (entries_of table.old)
-        + (wanted - length (entries_of table.old)) ≤ most)
-        → IfErr result
-        (allowed
-        (fill_reasons (S.features storage.old) (lent B.as_layer_below below.entry)
-        (most * growth.block.length)
+        → IsBounded (S.features storage.old) (lent B.as_layer_below below.entry)
+        growth.block.length most
         (λ p. (shows_below growth.mode ≡ true)
-        × (length (entries_of table.old) * growth.block.length ≤ p) × (p < growth.new_size)))) }
+        × (length (entries_of table.old) * growth.block.length ≤ p) × (p < growth.new_size))
+        (count_of table.new) (S.bytes storage.old) (S.bytes storage.new) result }
+    ensures call { IsLendingCall B.as_layer_below B.reads below.entry (S.features storage.old)
+        (S.features storage.new) (S.bytes storage.old) (S.bytes storage.new)
+        (S.fault_count storage.old + faults.old) (S.fault_count storage.new + faults.new) result }
 {
     if !is_lower(growth.mode) {
         return add_blocks(table, growth, WithoutData::Zero);
     }
     let old = table.len();
-    let missing = first_whole(growth.block, growth.new_size) as usize - old;
-    table.reserve(missing)?;
-    if let Err(e) = push_blocks(storage, faults, table, alloc, below, growth, missing) {
+    let missing = Missing {
+        block: growth.block,
+        new_size: growth.new_size,
+        count: first_whole(growth.block, growth.new_size) as usize - old,
+    };
+    table.reserve(missing.count)?;
+    if let Err(e) = push_blocks(storage, faults, table, alloc, below, missing) {
         table.truncate(old);
         return Err(e);
     }

@@ -1,6 +1,12 @@
-use Rattle.std.proofs.Common.{length}
 use Rattle.imago_cow.proofs.NameSteps.{copy_named}
 use Rattle.imago_cow.proofs.copy.copy_old.Goals as goal
 
-pub returns-clause-by_name : goal.returns-clause-by_name
-returns-clause-by_name g c = copy_named g.B.LowerLayer.reads c.args.below c.args.absent c.args.offset _ c.copy_through.result c.copy_through.ensures.answered
+pub returns-clause-call : goal.returns-clause-call
+returns-clause-call g c =
+    let e = c.copy_through.ensures in
+    record {
+      features = e.features;
+      no_shorter = e.no_shorter;
+      faults = e.faults;
+      by_name = copy_named g.B.LowerLayer.reads c.args.below c.args.start.absent c.args.start.offset _ c.copy_through.result e.answered;
+    }

@@ -9,7 +9,7 @@ use Rattle.imago_cow.proofs.copy.copy_round.Goals as goal
 
 pub returns-clause-copied : goal.returns-clause-copied
 returns-clause-copied g c = λ keeps.
-    let keeps_on : IsTrue (g.S.Storage.features c.copy_old-2.new.storage).keeps_data = rw c.copy_old-2.ensures.features keeps in
+    let keeps_on : IsTrue (g.S.Storage.features c.copy_old-2.new.storage).keeps_data = rw c.copy_old-2.ensures.call.features keeps in
     on_ok c.copy_old-3.result (λ x e.
     round_copied (lent g.B.LowerLayer.as_layer_below c.args.below).at c.args.part.absent c.args.part.overwrite (g.S.Storage.bytes c.copy_old-2.new.storage) _ c.args.part.offset c.args.part.run c.args.part.size c.args.part.block.length c.args.start c.min-count.result c.requires.positive
     (rw c.rest-rest.ensures.value at c.min-count.ensures) (not_false c.args.part.overwrite c.if-not-part.false) (rw c.rest-rest.ensures.value at (c.in_ok-copy_old.ensures.copied keeps)) (ok_holds x e (rw c.rest-rest.ensures.value at (c.copy_old-3.ensures.copied keeps_on))) (rw c.rest-rest.ensures.value at (c.copy_old-3.ensures.outside keeps_on)))
@@ -42,4 +42,4 @@ returns-clause-refusals g c =
     let r = mod-le part.offset part.block.length in
     round_if_allowed (g.S.Storage.features c.args.storage.now) (lent g.B.LowerLayer.as_layer_below c.args.below) part.absent part.overwrite part.block.length part.size part.offset part.run c.args.start (part.offset - rest + behind) (count - behind) (c.args.start + behind)
     (omega arith) (omega (arith, c.min-count.ensures, c.requires.in_block, c.rest-rest.ensures.value)) (in_block_part part.block.length part.size part.offset rest count (part.offset - rest + behind) (count - behind) behind c.rest-rest.ensures.value c.min-count.ensures (omega arith) (omega (arith, c.min-count.ensures, c.requires.in_block, c.requires.inside, c.rest-rest.ensures.value, r)))
-    (λ over. inr (omega (arith, c.rest-rest.ensures.value, r))) c.copy_old-3.result (rw c.in_ok-copy_old.ensures.features at c.copy_old-3.ensures.refusals)
+    (λ over. inr (omega (arith, c.rest-rest.ensures.value, r))) c.copy_old-3.result (rw c.in_ok-copy_old.ensures.call.features at c.copy_old-3.ensures.refusals)

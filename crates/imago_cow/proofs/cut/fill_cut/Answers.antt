@@ -14,17 +14,17 @@ use Rattle.imago_cow.proofs.CutSteps.{limit_padded, part_padded, if_limit_refuse
 use Rattle.imago_cow.proofs.GrownEntries.{cut_whole, cut_none, cut_zero, cut_data, absent_put, zero_put}
 use Rattle.imago_cow.proofs.cut.fill_cut.Goals as goal
 
-pub overflow_mul-to : goal.overflow_mul-to
-overflow_mul-to g c =
+pub overflow_mul-start : goal.overflow_mul-start
+overflow_mul-start g c =
     let t = c.args.table.now in
     let known = named_below t _ c.in-Data.number (c.entry_at.ensures ∙ ap (λ x. Some x) c.in-Data.is) in
-    omega (arith, number_ends c.args.growth.block.length c.in-Data.number (count_of t) known, c.requires.addressed)
+    omega (arith, number_ends c.args.growth.block.length c.in-Data.number (count_of t) known, c.requires.ready.addressed)
 
-pub overflow_add-to : goal.overflow_add-to
-overflow_add-to g c =
+pub overflow_add-start : goal.overflow_add-start
+overflow_add-start g c =
     let t = c.args.table.now in
     let known = named_below t _ c.in-Data.number (c.entry_at.ensures ∙ ap (λ x. Some x) c.in-Data.is) in
-    omega (arith, number_ends c.args.growth.block.length c.in-Data.number (count_of t) known, rest_small c.args.growth.block.length c.requires.positive c.args.growth.size, c.requires.addressed)
+    omega (arith, number_ends c.args.growth.block.length c.in-Data.number (count_of t) known, rest_small c.args.growth.block.length c.requires.ready.positive c.args.growth.size, c.requires.ready.addressed)
 
 pub returns-in-Absent-clause-filled : goal.returns-in-Absent-clause-filled
 returns-in-Absent-clause-filled g c =
@@ -37,32 +37,25 @@ returns-in-Absent-clause-filled g c =
     let cutting : 0 < c.args.growth.size % c.args.growth.block.length = omega (arith, (rw c.rest-rest.ensures.value at c.if-rest-eq0.false)) in
     let some : c.args.growth.mode ≡ PreallocateMode.None → ⊥ = c.adds_nothing.ensures.some c.if-adds_nothing.false in
     let r = c.fill_taken.ensures in
-    on_ok c.fill_taken.result (λ x e. taken_filled L.at c.args.growth.mode f.keeps_data c.args.growth.block.length c.args.growth.size c.args.growth.new_size c.requires.positive E (entries_of c.fill_taken.new.table) A (g.S.Storage.bytes c.fill_taken.new.storage) c.min-count.result true c.is_lower-lower.result cutting r.len
+    on_ok c.fill_taken.result (λ x e. taken_filled L.at c.args.growth.mode f.keeps_data c.args.growth.block.length c.args.growth.size c.args.growth.new_size c.requires.ready.positive E (entries_of c.fill_taken.new.table) A (g.S.Storage.bytes c.fill_taken.new.storage) c.min-count.result true c.is_lower-lower.result cutting r.entries.len
     (λ x. c.entry_at.ensures ∙ ap (λ y. Some y) c.in-Absent.is) (λ x. let z : ⊥ = cc in absurd z) (rw c.rest-rest.ensures.value at c.min-count.ensures) low some (λ k. ok_holds x e (r.entered k)))
 
-pub returns-in-Absent-clause-refusals : goal.returns-in-Absent-clause-refusals
-returns-in-Absent-clause-refusals g c = λ most m1 m2.
+pub returns-in-Absent-clause-bounded : goal.returns-in-Absent-clause-bounded
+returns-in-Absent-clause-bounded g c = λ most m1 m2.
     let t = c.args.table.now in
     let E = entries_of t in
+    let growth = c.args.growth in
     let f = g.S.Storage.features c.args.storage.now in
-    let A = g.S.Storage.bytes c.args.storage.now in
-    let L = lent g.B.LowerLayer.as_layer_below c.args.below in
-    let low : c.is_lower-lower.result ≡ shows_below c.args.growth.mode = c.is_lower-lower.ensures in
-    let cutting : 0 < c.args.growth.size % c.args.growth.block.length = omega (arith, (rw c.rest-rest.ensures.value at c.if-rest-eq0.false)) in
-    let some : c.args.growth.mode ≡ PreallocateMode.None → ⊥ = c.adds_nothing.ensures.some c.if-adds_nothing.false in
+    let low : c.is_lower-lower.result ≡ shows_below growth.mode = c.is_lower-lower.ensures in
+    let cutting : 0 < growth.size % growth.block.length = omega (arith, (rw c.rest-rest.ensures.value at c.if-rest-eq0.false)) in
     let limit = max (count_of t) (named_count E + 1) in
     let less : limit ≤ most = omega (arith, m1, m2 cutting (ap is_data (c.entry_at.ensures ∙ ap (λ y. Some y) c.in-Absent.is))) in
-    rw (← low) (if_limit_refused f L (limit * c.args.growth.block.length) (most * c.args.growth.block.length) (IsCutRead c.args.growth.block.length c.args.growth.size E c.is_lower-lower.result c.args.growth.new_size) (IsCutRead c.args.growth.block.length c.args.growth.size E c.is_lower-lower.result c.args.growth.new_size) c.fill_taken.result (times_more c.args.growth.block.length limit most less) (λ p x. x)
-    (c.fill_taken.ensures.refusals c.args.growth.new_size (omega (arith, (rw c.rest-rest.ensures.value at c.min-count.ensures), c.requires.grows))))
-
-pub returns-in-Absent-clause-no_longer : goal.returns-in-Absent-clause-no_longer
-returns-in-Absent-clause-no_longer g c = λ most m1 m2.
-    let t = c.args.table.now in
-    let E = entries_of t in
-    let limit = max (count_of t) (named_count E + 1) in
-    let cutting : 0 < c.args.growth.size % c.args.growth.block.length = omega (arith, (rw c.rest-rest.ensures.value at c.if-rest-eq0.false)) in
-    let less : limit ≤ most = omega (arith, m1, m2 cutting (ap is_data (c.entry_at.ensures ∙ ap (λ y. Some y) c.in-Absent.is))) in
-    limit_padded (g.S.Storage.features c.args.storage.now) c.args.growth.block.length limit most _ _ c.requires.positive (omega arith) less c.fill_taken.ensures.no_longer
+    record {
+      counted = omega (arith, less, c.fill_taken.ensures.taken.added);
+      no_longer = limit_padded f growth.block.length limit most _ _ c.requires.ready.positive (omega arith) less c.fill_taken.ensures.no_longer;
+      refusals = rw (← low) (if_limit_refused f (lent g.B.LowerLayer.as_layer_below c.args.below) (limit * growth.block.length) (most * growth.block.length) (IsCutRead growth.block.length growth.size E c.is_lower-lower.result growth.new_size) (IsCutRead growth.block.length growth.size E c.is_lower-lower.result growth.new_size) c.fill_taken.result (times_more growth.block.length limit most less) (λ p x. x)
+          (c.fill_taken.ensures.refusals growth.new_size (omega (arith, (rw c.rest-rest.ensures.value at c.min-count.ensures), c.requires.grows))));
+    }
 
 pub returns-else-not-lower-clause-filled : goal.returns-else-not-lower-clause-filled
 returns-else-not-lower-clause-filled g c =
@@ -75,32 +68,25 @@ returns-else-not-lower-clause-filled g c =
     let cutting : 0 < c.args.growth.size % c.args.growth.block.length = omega (arith, (rw c.rest-rest.ensures.value at c.if-rest-eq0.false)) in
     let some : c.args.growth.mode ≡ PreallocateMode.None → ⊥ = c.adds_nothing.ensures.some c.if-adds_nothing.false in
     let r = c.fill_taken-in-Zero.ensures in
-    on_ok c.fill_taken-in-Zero.result (λ x e. taken_filled L.at c.args.growth.mode f.keeps_data c.args.growth.block.length c.args.growth.size c.args.growth.new_size c.requires.positive E (entries_of c.fill_taken-in-Zero.new.table) A (g.S.Storage.bytes c.fill_taken-in-Zero.new.storage) c.min-count.result false c.is_lower-lower.result cutting r.len
+    on_ok c.fill_taken-in-Zero.result (λ x e. taken_filled L.at c.args.growth.mode f.keeps_data c.args.growth.block.length c.args.growth.size c.args.growth.new_size c.requires.ready.positive E (entries_of c.fill_taken-in-Zero.new.table) A (g.S.Storage.bytes c.fill_taken-in-Zero.new.storage) c.min-count.result false c.is_lower-lower.result cutting r.entries.len
     (λ x. let z : ⊥ = cc in absurd z) (λ x. c.entry_at.ensures ∙ ap (λ y. Some y) c.in-Zero.is) (rw c.rest-rest.ensures.value at c.min-count.ensures) low some (λ k. ok_holds x e (r.entered k)))
 
-pub returns-else-not-lower-clause-refusals : goal.returns-else-not-lower-clause-refusals
-returns-else-not-lower-clause-refusals g c = λ most m1 m2.
+pub returns-else-not-lower-clause-bounded : goal.returns-else-not-lower-clause-bounded
+returns-else-not-lower-clause-bounded g c = λ most m1 m2.
     let t = c.args.table.now in
     let E = entries_of t in
+    let growth = c.args.growth in
     let f = g.S.Storage.features c.args.storage.now in
-    let A = g.S.Storage.bytes c.args.storage.now in
-    let L = lent g.B.LowerLayer.as_layer_below c.args.below in
-    let low : c.is_lower-lower.result ≡ shows_below c.args.growth.mode = c.is_lower-lower.ensures in
-    let cutting : 0 < c.args.growth.size % c.args.growth.block.length = omega (arith, (rw c.rest-rest.ensures.value at c.if-rest-eq0.false)) in
-    let some : c.args.growth.mode ≡ PreallocateMode.None → ⊥ = c.adds_nothing.ensures.some c.if-adds_nothing.false in
+    let low : c.is_lower-lower.result ≡ shows_below growth.mode = c.is_lower-lower.ensures in
+    let cutting : 0 < growth.size % growth.block.length = omega (arith, (rw c.rest-rest.ensures.value at c.if-rest-eq0.false)) in
     let limit = max (count_of t) (named_count E + 1) in
     let less : limit ≤ most = omega (arith, m1, m2 cutting (ap is_data (c.entry_at.ensures ∙ ap (λ y. Some y) c.in-Zero.is))) in
-    rw (← low) (if_limit_refused f L (limit * c.args.growth.block.length) (most * c.args.growth.block.length) (IsCutRead c.args.growth.block.length c.args.growth.size E c.is_lower-lower.result c.args.growth.new_size) (IsCutRead c.args.growth.block.length c.args.growth.size E c.is_lower-lower.result c.args.growth.new_size) c.fill_taken-in-Zero.result (times_more c.args.growth.block.length limit most less) (λ p x. x)
-    (c.fill_taken-in-Zero.ensures.refusals c.args.growth.new_size (omega (arith, (rw c.rest-rest.ensures.value at c.min-count.ensures), c.requires.grows))))
-
-pub returns-else-not-lower-clause-no_longer : goal.returns-else-not-lower-clause-no_longer
-returns-else-not-lower-clause-no_longer g c = λ most m1 m2.
-    let t = c.args.table.now in
-    let E = entries_of t in
-    let limit = max (count_of t) (named_count E + 1) in
-    let cutting : 0 < c.args.growth.size % c.args.growth.block.length = omega (arith, (rw c.rest-rest.ensures.value at c.if-rest-eq0.false)) in
-    let less : limit ≤ most = omega (arith, m1, m2 cutting (ap is_data (c.entry_at.ensures ∙ ap (λ y. Some y) c.in-Zero.is))) in
-    limit_padded (g.S.Storage.features c.args.storage.now) c.args.growth.block.length limit most _ _ c.requires.positive (omega arith) less c.fill_taken-in-Zero.ensures.no_longer
+    record {
+      counted = omega (arith, less, c.fill_taken-in-Zero.ensures.taken.added);
+      no_longer = limit_padded f growth.block.length limit most _ _ c.requires.ready.positive (omega arith) less c.fill_taken-in-Zero.ensures.no_longer;
+      refusals = rw (← low) (if_limit_refused f (lent g.B.LowerLayer.as_layer_below c.args.below) (limit * growth.block.length) (most * growth.block.length) (IsCutRead growth.block.length growth.size E c.is_lower-lower.result growth.new_size) (IsCutRead growth.block.length growth.size E c.is_lower-lower.result growth.new_size) c.fill_taken-in-Zero.result (times_more growth.block.length limit most less) (λ p x. x)
+          (c.fill_taken-in-Zero.ensures.refusals growth.new_size (omega (arith, (rw c.rest-rest.ensures.value at c.min-count.ensures), c.requires.grows))));
+    }
 
 pub returns-in-Data-clause-filled : goal.returns-in-Data-clause-filled
 returns-in-Data-clause-filled g c =
@@ -115,10 +101,10 @@ returns-in-Data-clause-filled g c =
     let j = c.in-Data.number in
     let named = c.entry_at.ensures ∙ ap (λ x. Some x) c.in-Data.is in
     let known = named_below t _ j named in
-    let rest = rest_small c.args.growth.block.length c.requires.positive c.args.growth.size in
+    let rest = rest_small c.args.growth.block.length c.requires.ready.positive c.args.growth.size in
     let fits : c.args.growth.size % c.args.growth.block.length + c.min-count.result ≤ c.args.growth.block.length = omega (arith, (rw c.rest-rest.ensures.value at c.min-count.ensures), rest) in
     let B = g.S.Storage.bytes c.copy_old.new.storage in
-    on_ok c.copy_old.result (λ x e. data_filled L.at c.args.growth.mode f.keeps_data c.args.growth.block.length c.args.growth.size c.args.growth.new_size c.requires.positive E A B j c.min-count.result c.is_lower-lower.result cutting (λ i k n a b. named_once t i k n a b) named (rw c.rest-rest.ensures.value at c.min-count.ensures) low some
+    on_ok c.copy_old.result (λ x e. data_filled L.at c.args.growth.mode f.keeps_data c.args.growth.block.length c.args.growth.size c.args.growth.new_size c.requires.ready.positive E A B j c.min-count.result c.is_lower-lower.result cutting (λ i k n a b. named_once t i k n a b) named (rw c.rest-rest.ensures.value at c.min-count.ensures) low some
     (λ k. ok_holds x e (rw c.rest-rest.ensures.value at (c.copy_old.ensures.copied k))) (rw c.rest-rest.ensures.value at c.copy_old.ensures.outside))
 
 pub returns-in-Data-clause-places : goal.returns-in-Data-clause-places
@@ -134,71 +120,41 @@ returns-in-Data-clause-places g c =
     let j = c.in-Data.number in
     let named = c.entry_at.ensures ∙ ap (λ x. Some x) c.in-Data.is in
     let known = named_below t _ j named in
-    let rest = rest_small c.args.growth.block.length c.requires.positive c.args.growth.size in
+    let rest = rest_small c.args.growth.block.length c.requires.ready.positive c.args.growth.size in
     let fits : c.args.growth.size % c.args.growth.block.length + c.min-count.result ≤ c.args.growth.block.length = omega (arith, (rw c.rest-rest.ensures.value at c.min-count.ensures), rest) in
     let B = g.S.Storage.bytes c.copy_old.new.storage in
-    λ k p h. data_torn c.args.growth.block.length c.args.growth.size c.min-count.result j E A B c.requires.positive (λ i n q a b. named_once t i n q a b) named fits (rw c.rest-rest.ensures.value at (c.copy_old.ensures.outside k)) p h
+    λ k p h. data_torn c.args.growth.block.length c.args.growth.size c.min-count.result j E A B c.requires.ready.positive (λ i n q a b. named_once t i n q a b) named fits (rw c.rest-rest.ensures.value at (c.copy_old.ensures.outside k)) p h
 
-pub returns-in-Data-clause-no_longer : goal.returns-in-Data-clause-no_longer
-returns-in-Data-clause-no_longer g c = λ most m1 m2.
+pub returns-in-Data-clause-bounded : goal.returns-in-Data-clause-bounded
+returns-in-Data-clause-bounded g c = λ most m1 m2.
     let t = c.args.table.now in
     let E = entries_of t in
+    let growth = c.args.growth in
     let f = g.S.Storage.features c.args.storage.now in
-    let A = g.S.Storage.bytes c.args.storage.now in
-    let L = lent g.B.LowerLayer.as_layer_below c.args.below in
-    let low : c.is_lower-lower.result ≡ shows_below c.args.growth.mode = c.is_lower-lower.ensures in
-    let cutting : 0 < c.args.growth.size % c.args.growth.block.length = omega (arith, (rw c.rest-rest.ensures.value at c.if-rest-eq0.false)) in
-    let some : c.args.growth.mode ≡ PreallocateMode.None → ⊥ = c.adds_nothing.ensures.some c.if-adds_nothing.false in
+    let low : c.is_lower-lower.result ≡ shows_below growth.mode = c.is_lower-lower.ensures in
     let j = c.in-Data.number in
-    let named = c.entry_at.ensures ∙ ap (λ x. Some x) c.in-Data.is in
-    let known = named_below t _ j named in
-    let rest = rest_small c.args.growth.block.length c.requires.positive c.args.growth.size in
-    let fits : c.args.growth.size % c.args.growth.block.length + c.min-count.result ≤ c.args.growth.block.length = omega (arith, (rw c.rest-rest.ensures.value at c.min-count.ensures), rest) in
-    let B = g.S.Storage.bytes c.copy_old.new.storage in
+    let known = named_below t _ j (c.entry_at.ensures ∙ ap (λ x. Some x) c.in-Data.is) in
+    let rest = rest_small growth.block.length c.requires.ready.positive growth.size in
+    let fits : growth.size % growth.block.length + c.min-count.result ≤ growth.block.length = omega (arith, (rw c.rest-rest.ensures.value at c.min-count.ensures), rest) in
     let less : j < most = omega (arith, known, m1) in
-    part_padded f c.args.growth.block.length j most (c.args.growth.size % c.args.growth.block.length) c.min-count.result _ _ c.requires.positive less fits (rw c.rest-rest.ensures.value at c.copy_old.ensures.no_longer)
-
-pub returns-in-Data-clause-refusals : goal.returns-in-Data-clause-refusals
-returns-in-Data-clause-refusals g c = λ most m1 m2.
-    let t = c.args.table.now in
-    let E = entries_of t in
-    let f = g.S.Storage.features c.args.storage.now in
-    let A = g.S.Storage.bytes c.args.storage.now in
-    let L = lent g.B.LowerLayer.as_layer_below c.args.below in
-    let low : c.is_lower-lower.result ≡ shows_below c.args.growth.mode = c.is_lower-lower.ensures in
-    let cutting : 0 < c.args.growth.size % c.args.growth.block.length = omega (arith, (rw c.rest-rest.ensures.value at c.if-rest-eq0.false)) in
-    let some : c.args.growth.mode ≡ PreallocateMode.None → ⊥ = c.adds_nothing.ensures.some c.if-adds_nothing.false in
-    let j = c.in-Data.number in
-    let named = c.entry_at.ensures ∙ ap (λ x. Some x) c.in-Data.is in
-    let known = named_below t _ j named in
-    let rest = rest_small c.args.growth.block.length c.requires.positive c.args.growth.size in
-    let fits : c.args.growth.size % c.args.growth.block.length + c.min-count.result ≤ c.args.growth.block.length = omega (arith, (rw c.rest-rest.ensures.value at c.min-count.ensures), rest) in
-    let B = g.S.Storage.bytes c.copy_old.new.storage in
-    let less : j < most = omega (arith, known, m1) in
-    rw (← low) (if_refused f L c.is_lower-lower.result c.args.growth.size c.min-count.result (j * c.args.growth.block.length + c.args.growth.size % c.args.growth.block.length) (most * c.args.growth.block.length) (IsCutRead c.args.growth.block.length c.args.growth.size E c.is_lower-lower.result c.args.growth.new_size) c.copy_old.result
-    (omega (arith, number_ends c.args.growth.block.length j most less, fits)) (reads_behind c.args.growth.block.length c.args.growth.size c.min-count.result c.args.growth.new_size E c.is_lower-lower.result (omega (arith, (rw c.rest-rest.ensures.value at c.min-count.ensures), c.requires.grows))) (rw c.rest-rest.ensures.value at c.copy_old.ensures.refusals))
+    record {
+      counted = m1;
+      no_longer = part_padded f growth.block.length j most (growth.size % growth.block.length) c.min-count.result _ _ c.requires.ready.positive less fits (rw c.rest-rest.ensures.value at c.copy_old.ensures.no_longer);
+      refusals = rw (← low) (if_refused f (lent g.B.LowerLayer.as_layer_below c.args.below) c.is_lower-lower.result growth.size c.min-count.result (j * growth.block.length + growth.size % growth.block.length) (most * growth.block.length) (IsCutRead growth.block.length growth.size E c.is_lower-lower.result growth.new_size) c.copy_old.result
+          (omega (arith, number_ends growth.block.length j most less, fits)) (reads_behind growth.block.length growth.size c.min-count.result growth.new_size E c.is_lower-lower.result (omega (arith, (rw c.rest-rest.ensures.value at c.min-count.ensures), c.requires.grows))) (rw c.rest-rest.ensures.value at c.copy_old.ensures.refusals));
+    }
 
 pub returns-in-Absent-clause-entry : goal.returns-in-Absent-clause-entry
 returns-in-Absent-clause-entry g c =
     on_ok c.fill_taken.result (λ x e.
-    let q = ok_holds x e c.fill_taken.ensures.entry in
+    let q = ok_holds x e c.fill_taken.ensures.entries.done in
     inr (record { cuts = omega (arith, (rw c.rest-rest.ensures.value at c.if-rest-eq0.false)); empty = ap is_data (c.entry_at.ensures ∙ ap (λ y. Some y) c.in-Absent.is); number = q.0; entries = q.1 }))
-
-pub returns-in-Absent-clause-counted : goal.returns-in-Absent-clause-counted
-returns-in-Absent-clause-counted g c = λ most m1 m2.
-    let cutting : 0 < c.args.growth.size % c.args.growth.block.length = omega (arith, (rw c.rest-rest.ensures.value at c.if-rest-eq0.false)) in
-    omega (arith, m1, m2 cutting (ap is_data (c.entry_at.ensures ∙ ap (λ y. Some y) c.in-Absent.is)), c.fill_taken.ensures.added)
 
 pub returns-else-not-lower-clause-entry : goal.returns-else-not-lower-clause-entry
 returns-else-not-lower-clause-entry g c =
     on_ok c.fill_taken-in-Zero.result (λ x e.
-    let q = ok_holds x e c.fill_taken-in-Zero.ensures.entry in
+    let q = ok_holds x e c.fill_taken-in-Zero.ensures.entries.done in
     inr (record { cuts = omega (arith, (rw c.rest-rest.ensures.value at c.if-rest-eq0.false)); empty = ap is_data (c.entry_at.ensures ∙ ap (λ y. Some y) c.in-Zero.is); number = q.0; entries = q.1 }))
-
-pub returns-else-not-lower-clause-counted : goal.returns-else-not-lower-clause-counted
-returns-else-not-lower-clause-counted g c = λ most m1 m2.
-    let cutting : 0 < c.args.growth.size % c.args.growth.block.length = omega (arith, (rw c.rest-rest.ensures.value at c.if-rest-eq0.false)) in
-    omega (arith, m1, m2 cutting (ap is_data (c.entry_at.ensures ∙ ap (λ y. Some y) c.in-Zero.is)), c.fill_taken-in-Zero.ensures.added)
 
 pub returns-in-Data-clause-entry : goal.returns-in-Data-clause-entry
 returns-in-Data-clause-entry g c = on_ok c.copy_old.result (λ x e. inl refl)
@@ -214,7 +170,7 @@ returns-in-Absent-clause-grown g c =
     let growth = c.args.growth in
     let cutting : 0 < growth.size % growth.block.length = omega (arith, (rw c.rest-rest.ensures.value at c.if-rest-eq0.false)) in
     on_ok c.fill_taken.result (λ x e.
-    let put = ok_holds x e c.fill_taken.ensures.entry in
+    let put = ok_holds x e c.fill_taken.ensures.entries.done in
     absent_put growth.mode growth.block.length growth.size (entries_of c.args.table.now) (entries_of c.fill_taken.new.table) (put.0) (c.requires.within cutting) (put.1) (c.entry_at.ensures ∙ ap (λ y. Some y) c.in-Absent.is) (c.adds_nothing.ensures.some c.if-adds_nothing.false))
 
 pub returns-then-not-lower-clause-grown : goal.returns-then-not-lower-clause-grown
@@ -227,7 +183,7 @@ returns-else-not-lower-clause-grown g c =
     let growth = c.args.growth in
     let cutting : 0 < growth.size % growth.block.length = omega (arith, (rw c.rest-rest.ensures.value at c.if-rest-eq0.false)) in
     on_ok c.fill_taken-in-Zero.result (λ x e.
-    let put = ok_holds x e c.fill_taken-in-Zero.ensures.entry in
+    let put = ok_holds x e c.fill_taken-in-Zero.ensures.entries.done in
     zero_put growth.mode growth.block.length growth.size (entries_of c.args.table.now) (entries_of c.fill_taken-in-Zero.new.table) (put.0) (c.requires.within cutting) (put.1) (c.entry_at.ensures ∙ ap (λ y. Some y) c.in-Zero.is) (sym c.is_lower-lower.ensures ∙ c.if-not-lower.false))
 
 pub returns-in-Data-clause-grown : goal.returns-in-Data-clause-grown

@@ -43,20 +43,6 @@ returns-in-Ok-clause-entered g c = λ keeps.
       outside = c.fill_both.ensures.outside keeps;
     }
 
-pub returns-in-Ok-clause-len : goal.returns-in-Ok-clause-len
-returns-in-Ok-clause-len g c =
-    let cut = c.args.cut in
-    let E = entries_of c.args.table.now in
-    let f = g.S.Storage.features c.args.storage.now in
-    let A = g.S.Storage.bytes c.args.storage.now in
-    let number = c.in_ok-number.number in
-    let B = g.S.Storage.bytes c.fill_both.new.storage in
-    let held = c.in_ok-number.ensures.held in
-    let known : number < max (count_of c.args.table.now) (named_count E + 1) = omega (arith, held_below c.take_block.new.table number held, c.take_block.ensures.added) in
-    let e = rw c.number.ensures at (c.enter.ensures.entries number held) in
-    let s = set_entered (cut.size / cut.block.length) number E c.requires.within in
-    rw (e, c.take_block.ensures.entries) (s.len)
-
 pub returns-in-Ok-clause-no_longer : goal.returns-in-Ok-clause-no_longer
 returns-in-Ok-clause-no_longer g c =
     let cut = c.args.cut in
@@ -91,7 +77,7 @@ returns-in-Ok-clause-places g c = λ keeps p.
     let B = g.S.Storage.bytes c.fill_both.new.storage in
     let held = c.in_ok-number.ensures.held in
     let known : number < max (count_of c.args.table.now) (named_count E + 1) = omega (arith, held_below c.take_block.new.table number held, c.take_block.ensures.added) in
-    other_bytes cut.block.length c.requires.positive A B number p _ (λ h. held_apart c.take_block.new.table (p / cut.block.length) number held (rw c.take_block.ensures.entries h)) (c.fill_both.ensures.outside keeps)
+    other_bytes cut.block.length c.requires.ready.positive A B number p _ (λ h. held_apart c.take_block.new.table (p / cut.block.length) number held (rw c.take_block.ensures.entries h)) (c.fill_both.ensures.outside keeps)
 
 pub returns-in-Err-clause-places : goal.returns-in-Err-clause-places
 returns-in-Err-clause-places g c = λ keeps p.
@@ -103,7 +89,7 @@ returns-in-Err-clause-places g c = λ keeps p.
     let B = g.S.Storage.bytes c.fill_both.new.storage in
     let held = c.in_ok-number.ensures.held in
     let known : number < max (count_of c.args.table.now) (named_count E + 1) = omega (arith, held_below c.take_block.new.table number held, c.take_block.ensures.added) in
-    other_bytes cut.block.length c.requires.positive A B number p _ (λ h. held_apart c.take_block.new.table (p / cut.block.length) number held (rw c.take_block.ensures.entries h)) (c.fill_both.ensures.outside keeps)
+    other_bytes cut.block.length c.requires.ready.positive A B number p _ (λ h. held_apart c.take_block.new.table (p / cut.block.length) number held (rw c.take_block.ensures.entries h)) (c.fill_both.ensures.outside keeps)
 
 pub returns-in-Err-clause-refusals : goal.returns-in-Err-clause-refusals
 returns-in-Err-clause-refusals g c = λ new_size h.
@@ -115,9 +101,15 @@ returns-in-Err-clause-refusals g c = λ new_size h.
     let B = g.S.Storage.bytes c.fill_both.new.storage in
     let held = c.in_ok-number.ensures.held in
     let known : number < max (count_of c.args.table.now) (named_count E + 1) = omega (arith, held_below c.take_block.new.table number held, c.take_block.ensures.added) in
-    c.in-Err.ensures.refusals (max (count_of c.args.table.now) (named_count E + 1) * cut.block.length) E new_size (number_ends cut.block.length number (max (count_of c.args.table.now) (named_count E + 1)) known) h c.requires.absent
+    c.in-Err.ensures.refusals (max (count_of c.args.table.now) (named_count E + 1) * cut.block.length) E new_size (number_ends cut.block.length number (max (count_of c.args.table.now) (named_count E + 1)) known) h c.requires.empty.leads_below
 
-pub returns-in-Ok-clause-entry : goal.returns-in-Ok-clause-entry
-returns-in-Ok-clause-entry g c =
+pub returns-in-Ok-clause-entries : goal.returns-in-Ok-clause-entries
+returns-in-Ok-clause-entries g c =
+    let cut = c.args.cut in
     let number = c.in_ok-number.number in
-    (number, rw c.number.ensures at (c.enter.ensures.entries number c.in_ok-number.ensures.held) ∙ ap (λ x. slice_set x (c.args.cut.size / c.args.cut.block.length) (GuestBlock.Data number)) c.take_block.ensures.entries)
+    let e = rw c.number.ensures at (c.enter.ensures.entries number c.in_ok-number.ensures.held) in
+    record {
+      len = rw (e, c.take_block.ensures.entries) ((set_entered (cut.size / cut.block.length) number (entries_of c.args.table.now) c.requires.within).len);
+      refused = tt;
+      done = (number, e ∙ ap (λ x. slice_set x (cut.size / cut.block.length) (GuestBlock.Data number)) c.take_block.ensures.entries);
+    }

@@ -1,4 +1,4 @@
-use Rattle.std.proofs.Common.{◌≡◌, ◌+◌, ◌*◌, ◌≤◌, inr, arith}
+use Rattle.std.proofs.Common.{◌≡◌, ◌+◌, inr, arith}
 use Rattle.imago_drivers.specs.declared.format.PreallocateMode.{PreallocateMode}
 use Rattle.imago_drivers.specs.LayerBelow.{lent}
 use Rattle.imago_cow.specs.declared.table.GuestBlock.{GuestBlock}
@@ -17,13 +17,13 @@ returns-then-adds_nothing-clause-grown g c =
     let m : growth.mode ≡ PreallocateMode.None = c.adds_nothing.ensures.none c.if-adds_nothing.true in
     on_ok c.add_blocks.result (λ x is.
     rw (m, c.add_blocks.ensures.count) (grown_absent (g.S.Storage.features a.storage.now) (g.S.Storage.fault_count a.storage.now + a.faults.now) (g.S.Storage.bytes a.storage.now) growth.size growth.block.length (entries_of a.table.now) (entries_of c.add_blocks.new.table) (count_of a.table.now) growth.new_size
-    c.requires.positive (lent g.B.LowerLayer.as_layer_below a.below) GuestBlock.Absent (omega (arith, c.requires.grows)) c.requires.exact.covers ((ok_holds x is c.add_blocks.ensures.exact).covers) (ok_holds x is c.add_blocks.ensures.added)))
+    c.requires.idle.ready.positive (lent g.B.LowerLayer.as_layer_below a.below) GuestBlock.Absent (omega (arith, c.requires.grows)) c.requires.idle.exact.covers ((ok_holds x is c.add_blocks.ensures.exact).covers) (ok_holds x is c.add_blocks.ensures.added)))
 
 pub returns-then-adds_nothing-clause-blocks : goal.returns-then-adds_nothing-clause-blocks
 returns-then-adds_nothing-clause-blocks g c =
     let growth = c.args.growth in
     on_ok c.add_blocks.result (λ x is.
-    grown_empty growth.block.length growth.size (entries_of c.args.table.now) c.requires.positive c.requires.exact growth.mode (entries_of c.add_blocks.new.table) (c.adds_nothing.ensures.none c.if-adds_nothing.true) (ok_holds x is c.add_blocks.ensures.added))
+    grown_empty growth.block.length growth.size (entries_of c.args.table.now) c.requires.idle.ready.positive c.requires.idle.exact growth.mode (entries_of c.add_blocks.new.table) (c.adds_nothing.ensures.none c.if-adds_nothing.true) (ok_holds x is c.add_blocks.ensures.added))
 
 pub returns-clause-grown : goal.returns-clause-grown
 returns-clause-grown g c = rw (c.reserve_new.ensures.entries, c.reserve_new.ensures.count) at c.grow_with.ensures.grown

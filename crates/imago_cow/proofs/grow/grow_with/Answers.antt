@@ -16,13 +16,16 @@ use Rattle.imago_cow.proofs.GrowthSteps.{grown_whole, cut_refused, add_refused, 
 use Rattle.imago_cow.proofs.grow.grow_with.Goals as goal
 
 pub empty_cut-was-requires-clause-within : goal.empty_cut-was-requires-clause-within
-empty_cut-was-requires-clause-within g c = λ cutting. cut_inside c.args.growth.block.length c.args.growth.size (entries_of c.args.table.now) c.requires.positive c.requires.exact cutting
+empty_cut-was-requires-clause-within g c = λ cutting. cut_inside c.args.growth.block.length c.args.growth.size (entries_of c.args.table.now) c.requires.idle.ready.positive c.requires.idle.exact cutting
 
 pub fill_cut-requires-clause-within : goal.fill_cut-requires-clause-within
-fill_cut-requires-clause-within g c = λ cutting. cut_inside c.args.growth.block.length c.args.growth.size (entries_of c.args.table.now) c.requires.positive c.requires.exact cutting
+fill_cut-requires-clause-within g c = λ cutting. cut_inside c.args.growth.block.length c.args.growth.size (entries_of c.args.table.now) c.requires.idle.ready.positive c.requires.idle.exact cutting
 
-pub add_new-requires-clause-exact : goal.add_new-requires-clause-exact
-add_new-requires-clause-exact g c = same_exact c.args.growth.size c.args.growth.block.length (entries_of c.args.table.now) (entries_of c.fill_cut.new.table) (c.in_ok-fill_cut.ensures.filled).len c.requires.exact
+pub add_new-requires-clause-idle : goal.add_new-requires-clause-idle
+add_new-requires-clause-idle g c = record {
+  ready = c.fill_cut.ensures.ready;
+  exact = same_exact c.args.growth.size c.args.growth.block.length (entries_of c.args.table.now) (entries_of c.fill_cut.new.table) (c.in_ok-fill_cut.ensures.filled).len c.requires.idle.exact;
+}
 
 pub restore_cut-requires-clause-within : goal.restore_cut-requires-clause-within
 restore_cut-requires-clause-within g c =
@@ -43,8 +46,8 @@ returns-in_err-fill_cut-clause-refused g c =
     let L = lent g.B.LowerLayer.as_layer_below a.below in
     let lower = shows_below growth.mode in
     let low : lower ≡ shows_below growth.mode = refl in
-    let pos = c.requires.positive in
-    let ex = c.requires.exact in
+    let pos = c.requires.idle.ready.positive in
+    let ex = c.requires.idle.exact in
     let most = data_count growth.block.length growth.size E n0 None (Grow growth.mode) growth.new_size 0 in
     let uses = mode_uses growth.mode c.requires.some in
     let more : n0 ≤ most = omega arith in
@@ -53,9 +56,9 @@ returns-in_err-fill_cut-clause-refused g c =
     let e = c.in_err-fill_cut.field-0.0 in
     let p = err_from_is_err_and c.from_residual.result c.from_residual.ensures.1 in
     rw (p.1, p.2) (not_grown f k0 k1 A B B growth.size growth.block.length growth.new_size E E E n0 (count_of c.fill_cut.new.table) L growth.mode lower pos c.requires.grows ex low c.requires.some e
-    (cut_refused f k0 k1 A B B growth.size growth.block.length growth.new_size E E E n0 (count_of c.fill_cut.new.table) L growth.mode lower pos c.requires.grows ex low c.requires.some e1.places e1.no_shorter)
-    (e1.no_longer most more fit) c.in_err-fill_cut.ensures.faults
-    (if_grow_refused f k0 A growth.size growth.block.length E n0 L growth.mode growth.new_size _ uses (cut_read growth.block.length growth.size growth.new_size E n0 growth.mode lower pos c.requires.grows ex low c.requires.some) e (c.in_err-fill_cut.ensures.refusals most more fit)))
+    (cut_refused f k0 k1 A B B growth.size growth.block.length growth.new_size E E E n0 (count_of c.fill_cut.new.table) L growth.mode lower pos c.requires.grows ex low c.requires.some e1.places e1.call.no_shorter)
+    ((e1.bounded most more fit).no_longer) c.in_err-fill_cut.ensures.call.faults
+    (if_grow_refused f k0 A growth.size growth.block.length E n0 L growth.mode growth.new_size _ uses (cut_read growth.block.length growth.size growth.new_size E n0 growth.mode lower pos c.requires.grows ex low c.requires.some) e ((c.in_err-fill_cut.ensures.bounded most more fit).refusals)))
 
 pub returns-in-Err-clause-refused : goal.returns-in-Err-clause-refused
 returns-in-Err-clause-refused g c =
@@ -72,8 +75,8 @@ returns-in-Err-clause-refused g c =
     let L = lent g.B.LowerLayer.as_layer_below a.below in
     let lower = shows_below growth.mode in
     let low : lower ≡ shows_below growth.mode = refl in
-    let pos = c.requires.positive in
-    let ex = c.requires.exact in
+    let pos = c.requires.idle.ready.positive in
+    let ex = c.requires.idle.exact in
     let most = data_count growth.block.length growth.size E n0 None (Grow growth.mode) growth.new_size 0 in
     let uses = mode_uses growth.mode c.requires.some in
     let more : n0 ≤ most = omega arith in
@@ -88,20 +91,20 @@ returns-in-Err-clause-refused g c =
     let wanted = blocks_for growth.block.length growth.new_size in
     let bc = blocks_cover growth.block.length growth.new_size pos in
     let bn = blocks_near growth.block.length growth.new_size pos in
-    let counted : count_of c.fill_cut.new.table ≤ most = e1.counted most more fit in
+    let counted : count_of c.fill_cut.new.table ≤ most = (e1.bounded most more fit).counted in
     let nf = new_fit growth.block.length growth.size growth.new_size E n0 growth.mode lower pos c.requires.grows ex low c.requires.some M filled.len entered in
     let e2 = c.add_new.ensures in
-    let long1 : length B ≤ max (length A) (padded_to f 0 (most * growth.block.length)) = e1.no_longer most more fit in
-    let long2 : length D ≤ max (length B) (padded_to f 0 (most * growth.block.length)) = rw e1.features at (e2.no_longer most wanted bc bn counted nf) in
+    let long1 : length B ≤ max (length A) (padded_to f 0 (most * growth.block.length)) = (e1.bounded most more fit).no_longer in
+    let long2 : length D ≤ max (length B) (padded_to f 0 (most * growth.block.length)) = rw e1.call.features at ((e2.bounded most wanted bc bn counted nf).no_longer) in
     let longer : length D ≤ max (length A) (padded_to f 0 (most * growth.block.length)) = omega (arith, long1, long2) in
-    let first : CountsFaults {T = Unit {0}} (f.is_reliable && L.is_reliable) k0 k1 (Ok tt) = ok1.faults in
+    let first : CountsFaults {T = Unit {0}} (f.is_reliable && L.is_reliable) k0 k1 (Ok tt) = ok1.call.faults in
     let e = c.in-Err.e in
     let err2 = c.in-Err.ensures in
-    let then : CountsFaults {T = Unit {0}} (f.is_reliable && L.is_reliable) k1 k2 (Err e) = rw e1.features at err2.faults in
+    let then : CountsFaults {T = Unit {0}} (f.is_reliable && L.is_reliable) k1 k2 (Err e) = rw e1.call.features at err2.call.faults in
     not_grown f k0 k2 A B D growth.size growth.block.length growth.new_size E M E n0 (count_of c.restore_cut.new.table) L growth.mode lower pos c.requires.grows ex low c.requires.some e
-    (add_refused f k0 k2 A B D growth.size growth.block.length growth.new_size E M E n0 (count_of c.restore_cut.new.table) L growth.mode lower pos c.requires.grows ex low c.requires.some entered filled.len e1.places (rw e1.features at e2.bytes) (omega (arith, e1.no_shorter, e2.no_shorter)))
+    (add_refused f k0 k2 A B D growth.size growth.block.length growth.new_size E M E n0 (count_of c.restore_cut.new.table) L growth.mode lower pos c.requires.grows ex low c.requires.some entered filled.len e1.places (rw e1.call.features at e2.bytes) (omega (arith, e1.call.no_shorter, e2.call.no_shorter)))
     longer (counts_then (f.is_reliable && L.is_reliable) k0 k1 k2 (Err e) first then)
-    (if_grow_refused f k0 A growth.size growth.block.length E n0 L growth.mode growth.new_size _ uses (added_read growth.block.length growth.size growth.new_size E n0 growth.mode lower pos c.requires.grows ex low c.requires.some M filled.len) e (rw e1.features at (err2.refusals most wanted bc bn counted nf)))
+    (if_grow_refused f k0 A growth.size growth.block.length E n0 L growth.mode growth.new_size _ uses (added_read growth.block.length growth.size growth.new_size E n0 growth.mode lower pos c.requires.grows ex low c.requires.some M filled.len) e (rw e1.call.features at ((err2.bounded most wanted bc bn counted nf).refusals)))
 
 pub returns-in-Err-clause-entries : goal.returns-in-Err-clause-entries
 returns-in-Err-clause-entries g c =
@@ -125,8 +128,8 @@ returns-clause-grown g c =
     let L = lent g.B.LowerLayer.as_layer_below a.below in
     let lower = shows_below growth.mode in
     let low : lower ≡ shows_below growth.mode = refl in
-    let pos = c.requires.positive in
-    let ex = c.requires.exact in
+    let pos = c.requires.idle.ready.positive in
+    let ex = c.requires.idle.exact in
     let most = data_count growth.block.length growth.size E n0 None (Grow growth.mode) growth.new_size 0 in
     let uses = mode_uses growth.mode c.requires.some in
     let more : n0 ≤ most = omega arith in
@@ -141,17 +144,17 @@ returns-clause-grown g c =
     let wanted = blocks_for growth.block.length growth.new_size in
     let bc = blocks_cover growth.block.length growth.new_size pos in
     let bn = blocks_near growth.block.length growth.new_size pos in
-    let counted : count_of c.fill_cut.new.table ≤ most = e1.counted most more fit in
+    let counted : count_of c.fill_cut.new.table ≤ most = (e1.bounded most more fit).counted in
     let nf = new_fit growth.block.length growth.size growth.new_size E n0 growth.mode lower pos c.requires.grows ex low c.requires.some M filled.len entered in
     let e2 = c.add_new.ensures in
-    let long1 : length B ≤ max (length A) (padded_to f 0 (most * growth.block.length)) = e1.no_longer most more fit in
-    let long2 : length D ≤ max (length B) (padded_to f 0 (most * growth.block.length)) = rw e1.features at (e2.no_longer most wanted bc bn counted nf) in
+    let long1 : length B ≤ max (length A) (padded_to f 0 (most * growth.block.length)) = (e1.bounded most more fit).no_longer in
+    let long2 : length D ≤ max (length B) (padded_to f 0 (most * growth.block.length)) = rw e1.call.features at ((e2.bounded most wanted bc bn counted nf).no_longer) in
     let longer : length D ≤ max (length A) (padded_to f 0 (most * growth.block.length)) = omega (arith, long1, long2) in
-    let first : CountsFaults {T = Unit {0}} (f.is_reliable && L.is_reliable) k0 k1 (Ok tt) = ok1.faults in
+    let first : CountsFaults {T = Unit {0}} (f.is_reliable && L.is_reliable) k0 k1 (Ok tt) = ok1.call.faults in
     let done = c.in_default.ensures in
-    let extended : IsExtended L.at lower f.keeps_data growth.block.length (length M * growth.block.length) growth.new_size M F B D = rw e1.features at done.extended in
-    let then : CountsFaults {T = Unit {0}} (f.is_reliable && L.is_reliable) k1 k2 (Ok tt) = rw e1.features at done.faults in
-    grown_whole f k0 k2 A B D growth.size growth.block.length growth.new_size E M F n0 (count_of c.add_new.new.table) L growth.mode lower pos c.requires.grows ex low c.requires.some filled extended (done.exact).covers longer
+    let extended : IsExtended L.at lower f.keeps_data growth.block.length (length M * growth.block.length) growth.new_size M F B D = rw e1.call.features at done.added.extended in
+    let then : CountsFaults {T = Unit {0}} (f.is_reliable && L.is_reliable) k1 k2 (Ok tt) = rw e1.call.features at done.call.faults in
+    grown_whole f k0 k2 A B D growth.size growth.block.length growth.new_size E M F n0 (count_of c.add_new.new.table) L growth.mode lower pos c.requires.grows ex low c.requires.some filled extended done.added.exact.covers longer
     (counts_then (f.is_reliable && L.is_reliable) k0 k1 k2 (Ok tt) first then)
 
 pub returns-clause-blocks : goal.returns-clause-blocks
@@ -160,5 +163,5 @@ returns-clause-blocks g c =
     let first = c.in_ok-fill_cut.ensures in
     let then = c.add_new.ensures in
     let done = c.in_default.ensures in
-    grown_blocks growth.block.length growth.size (entries_of c.args.table.now) c.requires.positive c.requires.exact growth.mode (entries_of c.fill_cut.new.table) (entries_of c.add_new.new.table)
-    c.requires.some first.entry (first.filled).len first.grown then.prefix done.in_data done.zero
+    grown_blocks growth.block.length growth.size (entries_of c.args.table.now) c.requires.idle.ready.positive c.requires.idle.exact growth.mode (entries_of c.fill_cut.new.table) (entries_of c.add_new.new.table)
+    c.requires.some first.entry (first.filled).len first.grown then.prefix done.added.in_data done.added.zeroes

@@ -1,4 +1,4 @@
-use Rattle.std.proofs.Common.{◌≡◌, ◌+◌, ◌*◌, ◌%◌, ◌<◌, ◌≤◌, ◌⊎◌, ⊎_elim, inl, inr, None, ap, refl, arith}
+use Rattle.std.proofs.Common.{◌≡◌, ◌+◌, ◌*◌, ◌%◌, ◌<◌, ◌≤◌, ◌⊎◌, ◌∙◌, ⊎_elim, inl, inr, None, ap, refl, arith}
 use Rattle.std.proofs.lemmas.Bool.{cases_lt}
 use Rattle.imago_drivers.specs.Operation.{Write}
 use Rattle.imago_drivers.specs.LayerBelow.{lent}
@@ -18,7 +18,7 @@ overflow_mul-start g c =
     let number = c.in_ok-number.number in
     let e = c.take.ensures.entries in
     let fits : number * part.block.length + part.block.length < 18446744073709551616 = ⊎_elim
-    (λ less. omega (arith, number_ends part.block.length number (count_of c.args.table.now) less, c.requires.addressed))
+    (λ less. omega (arith, number_ends part.block.length number (count_of c.args.table.now) less, c.requires.idle.ready.addressed))
     (λ more.
     let same : number ≡ count_of c.args.table.now = omega (arith, more, c.in_ok-number.ensures.lowest.within) in
     let all : count_of c.args.table.now ≤ named_count (entries_of c.args.table.now) = omega (arith, same, c.in_ok-number.ensures.count, c.take.ensures.added) in
@@ -34,7 +34,7 @@ overflow_add-result g c =
     let number = c.in_ok-number.number in
     let e = c.take.ensures.entries in
     let fits : number * part.block.length + part.block.length < 18446744073709551616 = ⊎_elim
-    (λ less. omega (arith, number_ends part.block.length number (count_of c.args.table.now) less, c.requires.addressed))
+    (λ less. omega (arith, number_ends part.block.length number (count_of c.args.table.now) less, c.requires.idle.ready.addressed))
     (λ more.
     let same : number ≡ count_of c.args.table.now = omega (arith, more, c.in_ok-number.ensures.lowest.within) in
     let all : count_of c.args.table.now ≤ named_count (entries_of c.args.table.now) = omega (arith, same, c.in_ok-number.ensures.count, c.take.ensures.added) in
@@ -42,7 +42,7 @@ overflow_add-result g c =
     let y : number * part.block.length ≡ count_of c.args.table.now * part.block.length = ap (λ z. z * part.block.length) same in
     omega (arith, x, y))
     (cases_lt number (count_of c.args.table.now)) in
-    omega (arith, fits, rest_small part.block.length c.requires.positive part.offset)
+    omega (arith, fits, rest_small part.block.length c.requires.idle.ready.positive part.offset)
 
 pub copy_round-requires-clause-fits : goal.copy_round-requires-clause-fits
 copy_round-requires-clause-fits g c =
@@ -50,7 +50,7 @@ copy_round-requires-clause-fits g c =
     let number = c.in_ok-number.number in
     let e = c.take.ensures.entries in
     let fits : number * part.block.length + part.block.length < 18446744073709551616 = ⊎_elim
-    (λ less. omega (arith, number_ends part.block.length number (count_of c.args.table.now) less, c.requires.addressed))
+    (λ less. omega (arith, number_ends part.block.length number (count_of c.args.table.now) less, c.requires.idle.ready.addressed))
     (λ more.
     let same : number ≡ count_of c.args.table.now = omega (arith, more, c.in_ok-number.ensures.lowest.within) in
     let all : count_of c.args.table.now ≤ named_count (entries_of c.args.table.now) = omega (arith, same, c.in_ok-number.ensures.count, c.take.ensures.added) in
@@ -60,13 +60,13 @@ copy_round-requires-clause-fits g c =
     (cases_lt number (count_of c.args.table.now)) in
     fits
 
-pub returns-in-Ok-clause-addressed : goal.returns-in-Ok-clause-addressed
-returns-in-Ok-clause-addressed g c =
+pub returns-in-Ok-clause-table : goal.returns-in-Ok-clause-table
+returns-in-Ok-clause-table g c =
     let part = c.args.part in
     let number = c.in_ok-number.number in
     let e = c.take.ensures.entries in
     let fits : number * part.block.length + part.block.length < 18446744073709551616 = ⊎_elim
-    (λ less. omega (arith, number_ends part.block.length number (count_of c.args.table.now) less, c.requires.addressed))
+    (λ less. omega (arith, number_ends part.block.length number (count_of c.args.table.now) less, c.requires.idle.ready.addressed))
     (λ more.
     let same : number ≡ count_of c.args.table.now = omega (arith, more, c.in_ok-number.ensures.lowest.within) in
     let all : count_of c.args.table.now ≤ named_count (entries_of c.args.table.now) = omega (arith, same, c.in_ok-number.ensures.count, c.take.ensures.added) in
@@ -75,15 +75,19 @@ returns-in-Ok-clause-addressed g c =
     omega (arith, x, y))
     (cases_lt number (count_of c.args.table.now)) in
     let counts : (count_of c.take.new.self ≡ count_of c.args.table.now) ⊎ (count_of c.take.new.self ≡ number + 1) = ⊎_elim (λ l. inr (omega (arith, l, c.in_ok-number.ensures.count))) (λ h. inl (omega (arith, h, c.in_ok-number.ensures.count))) (cases_lt (count_of c.args.table.now) (number + 1)) in
-    (⊎_elim (λ s. let x : count_of c.take.new.self * part.block.length ≡ count_of c.args.table.now * part.block.length = ap (λ y. y * part.block.length) s in omega (arith, x, c.requires.addressed)) (λ s. let x : count_of c.take.new.self * part.block.length ≡ (number + 1) * part.block.length = ap (λ y. y * part.block.length) s in omega (arith, x, fits)) counts)
+    record {
+      entries = e;
+      added = c.take.ensures.added;
+      addressed = ⊎_elim (λ s. let x : count_of c.take.new.self * part.block.length ≡ count_of c.args.table.now * part.block.length = ap (λ y. y * part.block.length) s in omega (arith, x, c.requires.idle.ready.addressed)) (λ s. let x : count_of c.take.new.self * part.block.length ≡ (number + 1) * part.block.length = ap (λ y. y * part.block.length) s in omega (arith, x, fits)) counts;
+    }
 
-pub returns-in-Err-clause-addressed : goal.returns-in-Err-clause-addressed
-returns-in-Err-clause-addressed g c =
+pub returns-in-Err-clause-table : goal.returns-in-Err-clause-table
+returns-in-Err-clause-table g c =
     let part = c.args.part in
     let number = c.in_ok-number.number in
     let e = c.take.ensures.entries in
     let fits : number * part.block.length + part.block.length < 18446744073709551616 = ⊎_elim
-    (λ less. omega (arith, number_ends part.block.length number (count_of c.args.table.now) less, c.requires.addressed))
+    (λ less. omega (arith, number_ends part.block.length number (count_of c.args.table.now) less, c.requires.idle.ready.addressed))
     (λ more.
     let same : number ≡ count_of c.args.table.now = omega (arith, more, c.in_ok-number.ensures.lowest.within) in
     let all : count_of c.args.table.now ≤ named_count (entries_of c.args.table.now) = omega (arith, same, c.in_ok-number.ensures.count, c.take.ensures.added) in
@@ -92,42 +96,53 @@ returns-in-Err-clause-addressed g c =
     omega (arith, x, y))
     (cases_lt number (count_of c.args.table.now)) in
     let counts : (count_of c.take.new.self ≡ count_of c.args.table.now) ⊎ (count_of c.take.new.self ≡ number + 1) = ⊎_elim (λ l. inr (omega (arith, l, c.in_ok-number.ensures.count))) (λ h. inl (omega (arith, h, c.in_ok-number.ensures.count))) (cases_lt (count_of c.args.table.now) (number + 1)) in
-    rw c.release.ensures.count (⊎_elim (λ s. let x : count_of c.take.new.self * part.block.length ≡ count_of c.args.table.now * part.block.length = ap (λ y. y * part.block.length) s in omega (arith, x, c.requires.addressed)) (λ s. let x : count_of c.take.new.self * part.block.length ≡ (number + 1) * part.block.length = ap (λ y. y * part.block.length) s in omega (arith, x, fits)) counts)
+    record {
+      entries = c.release.ensures.entries ∙ e;
+      added = omega (arith, c.take.ensures.added, c.release.ensures.count);
+      addressed = rw c.release.ensures.count (⊎_elim (λ s. let x : count_of c.take.new.self * part.block.length ≡ count_of c.args.table.now * part.block.length = ap (λ y. y * part.block.length) s in omega (arith, x, c.requires.idle.ready.addressed)) (λ s. let x : count_of c.take.new.self * part.block.length ≡ (number + 1) * part.block.length = ap (λ y. y * part.block.length) s in omega (arith, x, fits)) counts);
+    }
 
-pub returns-in-Ok-clause-apart : goal.returns-in-Ok-clause-apart
-returns-in-Ok-clause-apart g c =
+pub returns-in-Ok-clause-waits : goal.returns-in-Ok-clause-waits
+returns-in-Ok-clause-waits g c =
     let part = c.args.part in
     let number = c.in_ok-number.number in
     let e = c.take.ensures.entries in
-    let w : Waiting = record { start = part.offset; length = part.run; offset = number * part.block.length + part.offset % part.block.length; number = number; state = c.args.state } in
+    let w : Waiting = record { start = part.offset; length = part.run; offset = number * part.block.length + part.offset % part.block.length; number = number; state = c.args.part.state } in
     let apart : WaitsApart part.block.length part.size (entries_of c.args.table.now) (count_of c.take.new.self) w = record {
-      some = c.requires.some;
-      inside = c.requires.inside;
-      in_block = c.requires.in_block;
+      some = c.requires.part.some;
+      inside = c.requires.part.inside;
+      in_block = c.requires.part.in_block;
       offset = refl;
       known = omega (arith, c.in_ok-number.ensures.count);
       apart = λ i h. held_apart c.take.new.self i number c.in_ok-number.ensures.held (rw e h);
-      free = empty_entry part.absent _ c.requires.absent c.requires.zero;
+      free = empty_entry part.absent _ c.requires.part.empty.leads_below c.requires.part.empty.is_zero;
     } in
-    rw (e, c.rest.ensures.value) apart
+    record {
+      held = c.in_ok-number.ensures.held;
+      lowest = c.in_ok-number.ensures.lowest;
+      apart = rw (e, c.rest.ensures.value) apart;
+      start = refl;
+      run = refl;
+      state = refl;
+    }
 
 pub returns-in-Ok-clause-prepared : goal.returns-in-Ok-clause-prepared
 returns-in-Ok-clause-prepared g c = λ most now_faults old_faults m some run storage offset long state.
     let part = c.args.part in
     let number = c.in_ok-number.number in
     let e = c.take.ensures.entries in
-    let w : Waiting = record { start = part.offset; length = part.run; offset = number * part.block.length + part.offset % part.block.length; number = number; state = c.args.state } in
+    let w : Waiting = record { start = part.offset; length = part.run; offset = number * part.block.length + part.offset % part.block.length; number = number; state = c.args.part.state } in
     let apart : WaitsApart part.block.length part.size (entries_of c.args.table.now) (count_of c.take.new.self) w = record {
-      some = c.requires.some;
-      inside = c.requires.inside;
-      in_block = c.requires.in_block;
+      some = c.requires.part.some;
+      inside = c.requires.part.inside;
+      in_block = c.requires.part.in_block;
       offset = refl;
       known = omega (arith, c.in_ok-number.ensures.count);
       apart = λ i h. held_apart c.take.new.self i number c.in_ok-number.ensures.held (rw e h);
-      free = empty_entry part.absent _ c.requires.absent c.requires.zero;
+      free = empty_entry part.absent _ c.requires.part.empty.leads_below c.requires.part.empty.is_zero;
     } in
-    rw c.rest.ensures.value (prepared (g.S.Storage.features c.args.storage.now) old_faults now_faults (g.S.Storage.bytes c.args.storage.now) (g.S.Storage.bytes c.copy_round.new.storage) part.size part.block.length _ _ _ w c.requires.positive c.requires.exact.covers apart c.take.ensures.added
-    (lent g.B.LowerLayer.as_layer_below c.args.below).at part.absent part.overwrite c.requires.absent c.requires.zero c.in-Ok.ensures.copied
+    rw c.rest.ensures.value (prepared (g.S.Storage.features c.args.storage.now) old_faults now_faults (g.S.Storage.bytes c.args.storage.now) (g.S.Storage.bytes c.copy_round.new.storage) part.size part.block.length _ _ _ w c.requires.idle.ready.positive c.requires.idle.exact.covers apart c.take.ensures.added
+    (lent g.B.LowerLayer.as_layer_below c.args.below).at part.absent part.overwrite c.requires.part.empty.leads_below c.requires.part.empty.is_zero c.in-Ok.ensures.copied
     part.offset most m refl some run storage (rw c.rest.ensures.value at offset) long state)
 
 pub returns-in-Ok-clause-unchanged : goal.returns-in-Ok-clause-unchanged
@@ -135,113 +150,113 @@ returns-in-Ok-clause-unchanged g c = λ now_faults old_faults v.
     let part = c.args.part in
     let number = c.in_ok-number.number in
     let e = c.take.ensures.entries in
-    let w : Waiting = record { start = part.offset; length = part.run; offset = number * part.block.length + part.offset % part.block.length; number = number; state = c.args.state } in
+    let w : Waiting = record { start = part.offset; length = part.run; offset = number * part.block.length + part.offset % part.block.length; number = number; state = c.args.part.state } in
     let apart : WaitsApart part.block.length part.size (entries_of c.args.table.now) (count_of c.take.new.self) w = record {
-      some = c.requires.some;
-      inside = c.requires.inside;
-      in_block = c.requires.in_block;
+      some = c.requires.part.some;
+      inside = c.requires.part.inside;
+      in_block = c.requires.part.in_block;
       offset = refl;
       known = omega (arith, c.in_ok-number.ensures.count);
       apart = λ i h. held_apart c.take.new.self i number c.in_ok-number.ensures.held (rw e h);
-      free = empty_entry part.absent _ c.requires.absent c.requires.zero;
+      free = empty_entry part.absent _ c.requires.part.empty.leads_below c.requires.part.empty.is_zero;
     } in
-    prepared_unchanged (g.S.Storage.features c.args.storage.now) old_faults now_faults (g.S.Storage.bytes c.args.storage.now) (g.S.Storage.bytes c.copy_round.new.storage) part.size part.block.length _ _ _ w c.requires.positive c.requires.exact.covers apart c.take.ensures.added v c.copy_round.ensures.outside
+    prepared_unchanged (g.S.Storage.features c.args.storage.now) old_faults now_faults (g.S.Storage.bytes c.args.storage.now) (g.S.Storage.bytes c.copy_round.new.storage) part.size part.block.length _ _ _ w c.requires.idle.ready.positive c.requires.idle.exact.covers apart c.take.ensures.added v c.copy_round.ensures.outside
 
 pub returns-in-Err-clause-unchanged : goal.returns-in-Err-clause-unchanged
 returns-in-Err-clause-unchanged g c = λ now_faults old_faults v.
     let part = c.args.part in
     let number = c.in_ok-number.number in
     let e = c.take.ensures.entries in
-    let w : Waiting = record { start = part.offset; length = part.run; offset = number * part.block.length + part.offset % part.block.length; number = number; state = c.args.state } in
+    let w : Waiting = record { start = part.offset; length = part.run; offset = number * part.block.length + part.offset % part.block.length; number = number; state = c.args.part.state } in
     let apart : WaitsApart part.block.length part.size (entries_of c.args.table.now) (count_of c.take.new.self) w = record {
-      some = c.requires.some;
-      inside = c.requires.inside;
-      in_block = c.requires.in_block;
+      some = c.requires.part.some;
+      inside = c.requires.part.inside;
+      in_block = c.requires.part.in_block;
       offset = refl;
       known = omega (arith, c.in_ok-number.ensures.count);
       apart = λ i h. held_apart c.take.new.self i number c.in_ok-number.ensures.held (rw e h);
-      free = empty_entry part.absent _ c.requires.absent c.requires.zero;
+      free = empty_entry part.absent _ c.requires.part.empty.leads_below c.requires.part.empty.is_zero;
     } in
-    rw c.release.ensures.count (prepared_unchanged (g.S.Storage.features c.args.storage.now) old_faults now_faults (g.S.Storage.bytes c.args.storage.now) (g.S.Storage.bytes c.copy_round.new.storage) part.size part.block.length _ _ _ w c.requires.positive c.requires.exact.covers apart c.take.ensures.added v c.copy_round.ensures.outside)
+    rw c.release.ensures.count (prepared_unchanged (g.S.Storage.features c.args.storage.now) old_faults now_faults (g.S.Storage.bytes c.args.storage.now) (g.S.Storage.bytes c.copy_round.new.storage) part.size part.block.length _ _ _ w c.requires.idle.ready.positive c.requires.idle.exact.covers apart c.take.ensures.added v c.copy_round.ensures.outside)
 
 pub returns-in-Ok-clause-settled : goal.returns-in-Ok-clause-settled
 returns-in-Ok-clause-settled g c =
     let part = c.args.part in
     let number = c.in_ok-number.number in
     let e = c.take.ensures.entries in
-    let w : Waiting = record { start = part.offset; length = part.run; offset = number * part.block.length + part.offset % part.block.length; number = number; state = c.args.state } in
+    let w : Waiting = record { start = part.offset; length = part.run; offset = number * part.block.length + part.offset % part.block.length; number = number; state = c.args.part.state } in
     let apart : WaitsApart part.block.length part.size (entries_of c.args.table.now) (count_of c.take.new.self) w = record {
-      some = c.requires.some;
-      inside = c.requires.inside;
-      in_block = c.requires.in_block;
+      some = c.requires.part.some;
+      inside = c.requires.part.inside;
+      in_block = c.requires.part.in_block;
       offset = refl;
       known = omega (arith, c.in_ok-number.ensures.count);
       apart = λ i h. held_apart c.take.new.self i number c.in_ok-number.ensures.held (rw e h);
-      free = empty_entry part.absent _ c.requires.absent c.requires.zero;
+      free = empty_entry part.absent _ c.requires.part.empty.leads_below c.requires.part.empty.is_zero;
     } in
-    prepared_settled (g.S.Storage.features c.args.storage.now) part.size part.block.length _ _ _ w c.requires.positive c.requires.exact.covers apart c.take.ensures.added part.run c.requires.some
+    prepared_settled (g.S.Storage.features c.args.storage.now) part.size part.block.length _ _ _ w c.requires.idle.ready.positive c.requires.idle.exact.covers apart c.take.ensures.added part.run c.requires.part.some
 
 pub returns-in-Ok-clause-no_longer : goal.returns-in-Ok-clause-no_longer
 returns-in-Ok-clause-no_longer g c = λ most some.
     let part = c.args.part in
     let number = c.in_ok-number.number in
     let e = c.take.ensures.entries in
-    let under : part.offset < part.size = omega (arith, c.requires.some, c.requires.inside) in
-    let more = one_more part.block.length part.size (entries_of c.args.table.now) (count_of c.args.table.now) c.requires.positive c.requires.exact.covers part.offset under (empty_entry part.absent _ c.requires.absent c.requires.zero) Write part.offset most tt (omega arith) (omega (arith, some)) in
+    let under : part.offset < part.size = omega (arith, c.requires.part.some, c.requires.part.inside) in
+    let more = one_more part.block.length part.size (entries_of c.args.table.now) (count_of c.args.table.now) c.requires.idle.ready.positive c.requires.idle.exact.covers part.offset under (empty_entry part.absent _ c.requires.part.empty.leads_below c.requires.part.empty.is_zero) Write part.offset most tt (omega arith) (omega (arith, some)) in
     let known : number < data_count part.block.length part.size (entries_of c.args.table.now) (count_of c.args.table.now) None Write part.offset most = omega (arith, more, c.in_ok-number.ensures.count, c.take.ensures.added) in
-    length_within (g.S.Storage.features c.args.storage.now) part.block.length number _ _ _ c.requires.positive known c.copy_round.ensures.no_longer
+    length_within (g.S.Storage.features c.args.storage.now) part.block.length number _ _ _ c.requires.idle.ready.positive known c.copy_round.ensures.no_longer
 
 pub returns-in-Err-clause-no_longer : goal.returns-in-Err-clause-no_longer
 returns-in-Err-clause-no_longer g c = λ most some.
     let part = c.args.part in
     let number = c.in_ok-number.number in
     let e = c.take.ensures.entries in
-    let under : part.offset < part.size = omega (arith, c.requires.some, c.requires.inside) in
-    let more = one_more part.block.length part.size (entries_of c.args.table.now) (count_of c.args.table.now) c.requires.positive c.requires.exact.covers part.offset under (empty_entry part.absent _ c.requires.absent c.requires.zero) Write part.offset most tt (omega arith) (omega (arith, some)) in
+    let under : part.offset < part.size = omega (arith, c.requires.part.some, c.requires.part.inside) in
+    let more = one_more part.block.length part.size (entries_of c.args.table.now) (count_of c.args.table.now) c.requires.idle.ready.positive c.requires.idle.exact.covers part.offset under (empty_entry part.absent _ c.requires.part.empty.leads_below c.requires.part.empty.is_zero) Write part.offset most tt (omega arith) (omega (arith, some)) in
     let known : number < data_count part.block.length part.size (entries_of c.args.table.now) (count_of c.args.table.now) None Write part.offset most = omega (arith, more, c.in_ok-number.ensures.count, c.take.ensures.added) in
-    length_within (g.S.Storage.features c.args.storage.now) part.block.length number _ _ _ c.requires.positive known c.copy_round.ensures.no_longer
+    length_within (g.S.Storage.features c.args.storage.now) part.block.length number _ _ _ c.requires.idle.ready.positive known c.copy_round.ensures.no_longer
 
 pub returns-in-Err-clause-refusals : goal.returns-in-Err-clause-refusals
 returns-in-Err-clause-refusals g c = λ old_faults most some.
     let part = c.args.part in
     let number = c.in_ok-number.number in
     let e = c.take.ensures.entries in
-    let under : part.offset < part.size = omega (arith, c.requires.some, c.requires.inside) in
-    let more = one_more part.block.length part.size (entries_of c.args.table.now) (count_of c.args.table.now) c.requires.positive c.requires.exact.covers part.offset under (empty_entry part.absent _ c.requires.absent c.requires.zero) Write part.offset most tt (omega arith) (omega (arith, some)) in
+    let under : part.offset < part.size = omega (arith, c.requires.part.some, c.requires.part.inside) in
+    let more = one_more part.block.length part.size (entries_of c.args.table.now) (count_of c.args.table.now) c.requires.idle.ready.positive c.requires.idle.exact.covers part.offset under (empty_entry part.absent _ c.requires.part.empty.leads_below c.requires.part.empty.is_zero) Write part.offset most tt (omega arith) (omega (arith, some)) in
     let known : number < data_count part.block.length part.size (entries_of c.args.table.now) (count_of c.args.table.now) None Write part.offset most = omega (arith, more, c.in_ok-number.ensures.count, c.take.ensures.added) in
     round_refused (g.S.Storage.features c.args.storage.now) old_faults (g.S.Storage.bytes c.args.storage.now) part.size part.block.length (entries_of c.args.table.now) (count_of c.args.table.now) (lent g.B.LowerLayer.as_layer_below c.args.below) part.absent part.offset most number (number * part.block.length)
-    c.requires.positive under some c.requires.absent refl known (empty_entry part.absent _ c.requires.absent c.requires.zero) part.overwrite part.run c.in-Err.e c.in-Err.ensures.refusals
+    c.requires.idle.ready.positive under some c.requires.part.empty.leads_below refl known (empty_entry part.absent _ c.requires.part.empty.leads_below c.requires.part.empty.is_zero) part.overwrite part.run c.in-Err.e c.in-Err.ensures.refusals
 
 pub returns-in-Err-clause-over : goal.returns-in-Err-clause-over
 returns-in-Err-clause-over g c = λ most some run over.
     let part = c.args.part in
     let number = c.in_ok-number.number in
     let e = c.take.ensures.entries in
-    let under : part.offset < part.size = omega (arith, c.requires.some, c.requires.inside) in
-    let more = one_more part.block.length part.size (entries_of c.args.table.now) (count_of c.args.table.now) c.requires.positive c.requires.exact.covers part.offset under (empty_entry part.absent _ c.requires.absent c.requires.zero) Write part.offset most tt (omega arith) (omega (arith, some)) in
+    let under : part.offset < part.size = omega (arith, c.requires.part.some, c.requires.part.inside) in
+    let more = one_more part.block.length part.size (entries_of c.args.table.now) (count_of c.args.table.now) c.requires.idle.ready.positive c.requires.idle.exact.covers part.offset under (empty_entry part.absent _ c.requires.part.empty.leads_below c.requires.part.empty.is_zero) Write part.offset most tt (omega arith) (omega (arith, some)) in
     let known : number < data_count part.block.length part.size (entries_of c.args.table.now) (count_of c.args.table.now) None Write part.offset most = omega (arith, more, c.in_ok-number.ensures.count, c.take.ensures.added) in
     over_refused (g.S.Storage.features c.args.storage.now) part.size part.block.length (entries_of c.args.table.now) (count_of c.args.table.now) (lent g.B.LowerLayer.as_layer_below c.args.below) part.absent part.overwrite part.offset most part.run number (number * part.block.length)
-    c.requires.absent refl known over run c.in-Err.e c.in-Err.ensures.refusals
+    c.requires.part.empty.leads_below refl known over run c.in-Err.e c.in-Err.ensures.refusals
 
 pub returns-then-not-fits_next-clause-refusals : goal.returns-then-not-fits_next-clause-refusals
 returns-then-not-fits_next-clause-refusals g c = λ old_faults most some.
     let part = c.args.part in
     let full = c.fits_next.ensures.full c.if-not-fits_next.true in
-    let under : part.offset < part.size = omega (arith, c.requires.some, c.requires.inside) in
-    let more = one_more part.block.length part.size (entries_of c.args.table.now) (count_of c.args.table.now) c.requires.positive c.requires.exact.covers part.offset under (empty_entry part.absent _ c.requires.absent c.requires.zero) Write part.offset most tt (omega arith) (omega (arith, some)) in
+    let under : part.offset < part.size = omega (arith, c.requires.part.some, c.requires.part.inside) in
+    let more = one_more part.block.length part.size (entries_of c.args.table.now) (count_of c.args.table.now) c.requires.idle.ready.positive c.requires.idle.exact.covers part.offset under (empty_entry part.absent _ c.requires.part.empty.leads_below c.requires.part.empty.is_zero) Write part.offset most tt (omega arith) (omega (arith, some)) in
     full_refused (g.S.Storage.features c.args.storage.now) old_faults (g.S.Storage.bytes c.args.storage.now) part.size part.block.length (entries_of c.args.table.now) (count_of c.args.table.now) (lent g.B.LowerLayer.as_layer_below c.args.below) part.offset most
-    (g.met.S.Storage.lawful c.args.storage.now) c.requires.positive (omega (arith, more, full.0)) (full.1)
+    (g.met.S.Storage.lawful c.args.storage.now) c.requires.idle.ready.positive (omega (arith, more, full.0)) (full.1)
 
 pub returns-then-not-fits_next-clause-over : goal.returns-then-not-fits_next-clause-over
 returns-then-not-fits_next-clause-over g c = λ most some run over.
     let part = c.args.part in
     let full = c.fits_next.ensures.full c.if-not-fits_next.true in
-    let under : part.offset < part.size = omega (arith, c.requires.some, c.requires.inside) in
-    let more = one_more part.block.length part.size (entries_of c.args.table.now) (count_of c.args.table.now) c.requires.positive c.requires.exact.covers part.offset under (empty_entry part.absent _ c.requires.absent c.requires.zero) Write part.offset most tt (omega arith) (omega (arith, some)) in
+    let under : part.offset < part.size = omega (arith, c.requires.part.some, c.requires.part.inside) in
+    let more = one_more part.block.length part.size (entries_of c.args.table.now) (count_of c.args.table.now) c.requires.idle.ready.positive c.requires.idle.exact.covers part.offset under (empty_entry part.absent _ c.requires.part.empty.leads_below c.requires.part.empty.is_zero) Write part.offset most tt (omega arith) (omega (arith, some)) in
     inl (
       refl,
       full_wraps (g.S.Storage.features c.args.storage.now) part.block.length part.size (entries_of c.args.table.now) (count_of c.args.table.now) part.offset most
-          (g.met.S.Storage.lawful c.args.storage.now) c.requires.positive (omega (arith, more, full.0)) (full.1),
+          (g.met.S.Storage.lawful c.args.storage.now) c.requires.idle.ready.positive (omega (arith, more, full.0)) (full.1),
     )
 
 pub returns-in-Err-clause-released : goal.returns-in-Err-clause-released

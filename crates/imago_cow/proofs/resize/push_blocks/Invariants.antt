@@ -1,19 +1,19 @@
-use Rattle.std.proofs.Common.{◌≡◌, ℕ, ◌+◌, ◌*◌, ◌^◌, ◌<◌, ◌≤◌, ◌&&◌, length, max, None, Ok}
+use Rattle.std.proofs.Common.{◌≡◌, ℕ, ◌+◌, ◌*◌, ◌≤◌, ◌&&◌, length, max, Ok}
 use Rattle.imago_storage.specs.Faults.{CountsFaults}
 use Rattle.imago_drivers.specs.LayerBelow.{lent}
 use Rattle.imago_drivers.specs.Lengths.{padded_to}
 use Rattle.imago_cow.specs.Table.{named_count}
-use Rattle.imago_cow.specs.TableView.{entries_of, held_of, count_of, KeepsRoom}
-use Rattle.imago_cow.proofs.FillSteps.{IsPushing}
+use Rattle.imago_cow.specs.TableView.{entries_of, count_of, KeepsRoom, IsReady}
+use Rattle.imago_cow.specs.Grown.{ArePushed}
 use Rattle.imago_cow.proofs.resize.push_blocks.Given as goal
 
 abbrev pub invariant-loop : goal.invariant-loop
-invariant-loop g l =
-    IsPushing (lent g.B.LowerLayer.as_layer_below l.fn.below).at (g.S.Storage.features l.fn.storage).keeps_data l.fn.growth.block.length l.fn.growth.new_size (entries_of l.fn.table) (entries_of l.table) (g.S.Storage.bytes l.fn.storage) (g.S.Storage.bytes l.storage) (count_of l.fn.table) (count_of l.table) l.counter
-    × (held_of l.table ≡ None)
-    × (count_of l.table * l.fn.growth.block.length < 2 ^ 64)
-    × KeepsRoom l.fn.table l.table
-    × (length (g.S.Storage.bytes l.fn.storage) ≤ length (g.S.Storage.bytes l.storage))
-    × ((most : ℕ) → count_of l.fn.table ≤ most → named_count (entries_of l.fn.table) + l.counter ≤ most → length (g.S.Storage.bytes l.storage) ≤ max (length (g.S.Storage.bytes l.fn.storage)) (padded_to (g.S.Storage.features l.fn.storage) 0 (most * l.fn.growth.block.length)))
-    × (g.S.Storage.features l.storage ≡ g.S.Storage.features l.fn.storage)
-    × CountsFaults {T = Unit {0}} ((g.S.Storage.features l.fn.storage).is_reliable && (lent g.B.LowerLayer.as_layer_below l.fn.below).is_reliable) (g.S.Storage.fault_count l.fn.storage + l.fn.faults) (g.S.Storage.fault_count l.storage + l.faults) (Ok tt)
+invariant-loop g l = record {
+  pushed : ArePushed (lent g.B.LowerLayer.as_layer_below l.fn.below).at (g.S.Storage.features l.fn.storage).keeps_data l.fn.missing.block.length l.fn.missing.new_size (entries_of l.fn.table) (entries_of l.table) (g.S.Storage.bytes l.fn.storage) (g.S.Storage.bytes l.storage) (count_of l.fn.table) (count_of l.table) l.counter;
+  ready : IsReady l.fn.missing.block.length l.table;
+  room : KeepsRoom l.fn.table l.table;
+  no_shorter : length (g.S.Storage.bytes l.fn.storage) ≤ length (g.S.Storage.bytes l.storage);
+  no_longer : (most : ℕ) → count_of l.fn.table ≤ most → named_count (entries_of l.fn.table) + l.counter ≤ most → length (g.S.Storage.bytes l.storage) ≤ max (length (g.S.Storage.bytes l.fn.storage)) (padded_to (g.S.Storage.features l.fn.storage) 0 (most * l.fn.missing.block.length));
+  features : g.S.Storage.features l.storage ≡ g.S.Storage.features l.fn.storage;
+  faults : CountsFaults {T = Unit {0}} ((g.S.Storage.features l.fn.storage).is_reliable && (lent g.B.LowerLayer.as_layer_below l.fn.below).is_reliable) (g.S.Storage.fault_count l.fn.storage + l.fn.faults) (g.S.Storage.fault_count l.storage + l.faults) (Ok tt);
+}

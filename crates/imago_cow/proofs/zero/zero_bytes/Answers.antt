@@ -1,4 +1,4 @@
-use Rattle.std.proofs.Common.{◌+◌, ◌<◌, arith}
+use Rattle.std.proofs.Common.{arith}
 use Rattle.imago_drivers.proofs.StorageBytes.{zeroed_bytes, torn_zeroes}
 use Rattle.imago_drivers.proofs.Lengths.{near_end, longest_zeroes}
 use Rattle.imago_cow.proofs.StoredSteps.{on_ok, ok_holds, on_err, err_holds}

@@ -84,20 +84,20 @@ returns-in_err-waiting g c =
     let p = err_from_is_err_and c.from_residual.result c.from_residual.ensures.1 in
     rw (p.1, p.2) (record {
       prepared = tt;
-      call = rw (none, e.features, e.entries) (record {
+      call = rw (none, e.call.features, e.table.entries) (record {
         unchanged = e.unchanged n' n None;
         refused = refl;
         causes = tt;
-        lengths = record { no_shorter = λ i. e.no_shorter; no_longer = λ i. e.no_longer c.args.count some };
-        faults = counts_as {T = Waiting} {U = PreparedDataMapping CowState} _ _ _ c.prepare_part.result (Err (c.in_err-waiting.field-0.0)) (λ x. let y : c.in_err-waiting.field-0.0 ≡ Error.Device = cc in c.in_err-waiting.was ∙ ap (λ z. Err z) y) e.faults;
+        lengths = record { no_shorter = λ i. e.call.no_shorter; no_longer = λ i. e.no_longer c.args.count some };
+        faults = counts_as {T = Waiting} {U = PreparedDataMapping CowState} _ _ _ c.prepare_part.result (Err (c.in_err-waiting.field-0.0)) (λ x. let y : c.in_err-waiting.field-0.0 ≡ Error.Device = cc in c.in_err-waiting.was ∙ ap (λ z. Err z) y) e.call.faults;
         refusals = c.in_err-waiting.ensures.refusals n c.args.count some;
       });
-      entries = e.entries;
-      added = e.added;
+      entries = e.table.entries;
+      added = e.table.added;
       lowest = tt;
       in_data = λ j h. absurd (not_in_data _ _ j c.entry_at-entry.ensures c.in_default.not-Data h);
-      performed = (refl, refl, e.entries, refl, tt);
-      by_name = c.in_err-waiting.ensures.by_name;
+      performed = (refl, refl, e.table.entries, refl, tt);
+      by_name = c.in_err-waiting.ensures.call.by_name;
       over = λ o. c.in_err-waiting.ensures.over c.args.count some (rw c.rest-rest.ensures.value at c.min-run.ensures) o;
     })
 
@@ -120,24 +120,24 @@ returns g c =
     let m = c.to_commit.ensures in
     let S = k.settled in
     record {
-      prepared = rw (none, e.features, e.entries) (k.prepared c.args.count n' n c.to_commit.result some (rw c.rest-rest.ensures.value at c.min-run.ensures) m.storage m.offset m.length m.state);
-      call = rw (none, e.features, e.entries) (record {
+      prepared = rw (none, e.call.features, e.table.entries) (k.prepared c.args.count n' n c.to_commit.result some (rw c.rest-rest.ensures.value at c.min-run.ensures) m.storage m.offset m.length m.state);
+      call = rw (none, e.call.features, e.table.entries) (record {
         unchanged = e.unchanged n' n (Some w);
         refused = tt;
-        causes = rw (m.length, ← k.same.0) S;
-        lengths = record { no_shorter = λ i. e.no_shorter; no_longer = λ i. e.no_longer c.args.count some };
-        faults = counts_as _ _ _ c.prepare_part.result (Ok c.to_commit.result) (λ x. let z : ⊥ = cc in absurd z) e.faults;
+        causes = rw (m.length, ← k.waits.start) S;
+        lengths = record { no_shorter = λ i. e.call.no_shorter; no_longer = λ i. e.no_longer c.args.count some };
+        faults = counts_as _ _ _ c.prepare_part.result (Ok c.to_commit.result) (λ x. let z : ⊥ = cc in absurd z) e.call.faults;
         refusals = tt;
       });
-      entries = e.entries;
-      added = e.added;
+      entries = e.table.entries;
+      added = e.table.added;
       lowest = λ with_state. record {
         number = w.number;
-        lowest = k.lowest;
-        stands = m.offset ∙ k.apart.offset ∙ ap (λ o. w.number * s.block.length + o % s.block.length) k.same.0;
+        lowest = k.waits.lowest;
+        stands = m.offset ∙ k.waits.apart.offset ∙ ap (λ o. w.number * s.block.length + o % s.block.length) k.waits.start;
       };
       in_data = λ j h. absurd (not_in_data _ _ j c.entry_at-entry.ensures c.in_default.not-Data h);
-      performed = (refl, refl, e.entries, tt, rw m.state (refl, ap ticket_of k.same.2));
+      performed = (refl, refl, e.table.entries, tt, rw m.state (refl, ap ticket_of k.waits.state));
       by_name = tt;
       over = λ o. tt;
     }
