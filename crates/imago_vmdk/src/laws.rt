@@ -89,7 +89,7 @@ pub fn faulty_extent_lines()
         ≡ Err InvalidData }
 {}
 
-/// Lines that say nothing, settings, and keys that can't be meant.
+/// Lines that say nothing, and keys that aren't known.
 pub fn other_lines()
     ensures word_alone { verdict_of false (codes "RW") ≡ Ok Line.Nothing }
     ensures small_letters { verdict_of false (codes "rw 1 ZERO") ≡ Ok Line.Nothing }
@@ -98,6 +98,10 @@ pub fn other_lines()
     ensures no_key { verdict_of false (codes "hello") ≡ Ok Line.Nothing }
     ensures unknown_key { verdict_of false (codes "foo=1") ≡ Err InvalidData }
     ensures other_ddb_key { verdict_of false (codes "ddb.uuid = \"x\"") ≡ Ok Line.Nothing }
+{}
+
+/// Settings, and those that can't be meant or aren't offered.
+pub fn setting_lines()
     ensures geometry { verdict_of false (codes "ddb.geometry.heads = \"16\"") ≡ Ok Line.Setting }
     ensures bad_geometry { verdict_of false (codes "ddb.geometry.heads = \"x\"") ≡ Err InvalidData }
     ensures create_type { verdict_of false (codes "createType=\"monolithicFlat\"")

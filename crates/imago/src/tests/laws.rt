@@ -48,6 +48,7 @@ fn call_laws_of_descriptors() {
     descriptors::extent_lines();
     descriptors::faulty_extent_lines();
     descriptors::other_lines();
+    descriptors::setting_lines();
     descriptors::lines_with_unknown_keys();
     descriptors::whole_descriptors();
 }

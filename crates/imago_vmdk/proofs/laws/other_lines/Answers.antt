@@ -14,12 +14,4 @@ returns c = record {
   no_key = refl;
   unknown_key = refl;
   other_ddb_key = refl;
-  geometry = refl;
-  bad_geometry = refl;
-  create_type = refl;
-  content_id = refl;
-  parent = refl;
-  version = refl;
-  quoted_version = refl;
-  version_zero = refl;
 }
