@@ -12,7 +12,7 @@ ghost use Rattle.imago_drivers.specs.Prepared.{IsPrepared};
 ghost use Rattle.imago_drivers.specs.Frame.{IsUnchanged};
 ghost use Rattle.imago_drivers.specs.Causes.{IsSettled, IsOnRange};
 ghost use Rattle.imago_drivers.specs.Parts.{storage_of, offset_of, length_of, state_of};
-ghost use Rattle.imago_cow.specs.Table.{named_count};
+ghost use Rattle.imago_cow.specs.Table.{named_count, without_data};
 ghost use Rattle.imago_cow.specs.TableView.{entries_of, held_of, count_of, HasTaken, IsIdle};
 ghost use Rattle.imago_cow.specs.Guest.{IsEmptyPart, cow_place};
 ghost use Rattle.imago_cow.specs.Copies.{IsLendingCall, over_reasons};
@@ -38,8 +38,8 @@ pub(crate) fn prepare_part<S: Storage, B: LowerLayer>(
     part: Part,
 ) -> Result<Waiting, Error>
     requires idle { IsIdle part.size part.block.length table.old }
-    requires part { IsEmptyPart part.block.length part.size part.offset part.run part.absent
-        (entries_of table.old) }
+    requires part { IsEmptyPart part.block.length part.size part.offset part.run
+        (without_data part.kind) (entries_of table.old) }
     ensures table { HasTaken part.block.length table.old table.new }
     ensures waits { IfOk result
         (IsWaitingFor part.block.length part.size part.offset part.run part.state table.old
