@@ -10,7 +10,7 @@ ghost use Rattle.imago_cow.specs.Copies.{IsLendingCall};
 ghost use Rattle.imago_cow.specs.Growth.{IsPushed, IsBounded, KeepsBytes};
 ghost use Rattle.imago_cow.specs.Cut.{shows_below};
 ghost use Rattle.imago_cow.specs.Grown.{ArePushed, HasNew};
-ghost use Rattle.imago_cow.specs.Cow.{cow_view};
+ghost use Rattle.imago_cow.specs.Cow.{table_view};
 ghost use Rattle.imago_cow.specs.Table.{without_data, named_count, is_absent};
 ghost use Rattle.imago_cow.specs.TableView.{entries_of, held_of, count_of, room_of, KeepsRoom};
 ghost use Rattle.imago_cow.specs.TableView.{IsReady, IsIdle, TakesOne};
@@ -83,9 +83,8 @@ pub(crate) fn shrink(table: &mut Table, block: BlockSize, size: u64, new_size: u
     requires less { new_size < size }
     ensures shrunk { (f : _) (faults : ℕ) (bytes : _)
         → IsShrink new_size
-        (cow_view f faults bytes size block.length (entries_of table.old) (count_of table.old) None)
-        (cow_view f faults bytes new_size block.length (entries_of table.new) (count_of table.new)
-        None) (Ok tt) }
+        (table_view f faults bytes size block.length table.old None)
+        (table_view f faults bytes new_size block.length table.new None) (Ok tt) }
     ensures exact { IsExact new_size block.length (entries_of table.new) }
     ensures entries { entries_of table.new ≡ take (length (entries_of table.new))
         (entries_of table.old) }

@@ -1,4 +1,4 @@
-use Rattle.std.proofs.Common.{◌≡◌, ◌+◌, ◌*◌, ◌%◌, ◌<◌, ◌≤◌, ◌⊎◌, ◌∙◌, ⊎_elim, inl, inr, None, ap, refl, arith}
+use Rattle.std.proofs.Common.{rules, ◌≡◌, ◌+◌, ◌*◌, ◌%◌, ◌<◌, ◌≤◌, ◌⊎◌, ◌∙◌, ⊎_elim, inl, inr, None, ap, refl, arith}
 use Rattle.std.proofs.lemmas.Bool.{cases_lt}
 use Rattle.imago_drivers.specs.Operation.{Write}
 use Rattle.imago_drivers.specs.LayerBelow.{lent}
@@ -127,7 +127,7 @@ returns-in-Ok-clause-waits g c =
     }
 
 pub returns-in-Ok-clause-prepared : goal.returns-in-Ok-clause-prepared
-returns-in-Ok-clause-prepared g c = λ most now_faults old_faults m some run storage offset long state.
+returns-in-Ok-clause-prepared g c = λ most now_faults old_faults m some run own.
     let part = c.args.part in
     let number = c.in_ok-number.number in
     let e = c.take.ensures.entries in
@@ -141,9 +141,9 @@ returns-in-Ok-clause-prepared g c = λ most now_faults old_faults m some run sto
       apart = λ i h. held_apart c.take.new.self i number c.in_ok-number.ensures.held (rw e h);
       free = kind_entry part.kind _ c.requires.part.empty;
     } in
-    rw c.rest.ensures.value (prepared (g.S.Storage.features c.args.storage.now) old_faults now_faults (g.S.Storage.bytes c.args.storage.now) (g.S.Storage.bytes c.copy_round.new.storage) part.size part.block.length _ _ _ w c.requires.idle.ready.positive c.requires.idle.exact.covers apart c.take.ensures.added
+    rw (e, c.rest.ensures.value) (prepared (g.S.Storage.features c.args.storage.now) old_faults now_faults (g.S.Storage.bytes c.args.storage.now) (g.S.Storage.bytes c.copy_round.new.storage) part.size part.block.length _ _ _ w c.requires.idle.ready.positive c.requires.idle.exact.covers apart c.take.ensures.added
     (lent g.B.LowerLayer.as_layer_below c.args.below).at (is_absent part.kind) part.overwrite (empty_absent part.kind _ c.requires.part.empty) (empty_zero part.kind _ c.requires.part.empty) c.in-Ok.ensures.copied
-    part.offset most m refl some run storage (rw c.rest.ensures.value at offset) long state)
+    part.offset most m refl some run own.storage (rw c.rest.ensures.value at own.offset) own.run own.state)
 
 pub returns-in-Ok-clause-unchanged : goal.returns-in-Ok-clause-unchanged
 returns-in-Ok-clause-unchanged g c = λ now_faults old_faults v.
@@ -160,7 +160,7 @@ returns-in-Ok-clause-unchanged g c = λ now_faults old_faults v.
       apart = λ i h. held_apart c.take.new.self i number c.in_ok-number.ensures.held (rw e h);
       free = kind_entry part.kind _ c.requires.part.empty;
     } in
-    prepared_unchanged (g.S.Storage.features c.args.storage.now) old_faults now_faults (g.S.Storage.bytes c.args.storage.now) (g.S.Storage.bytes c.copy_round.new.storage) part.size part.block.length _ _ _ w c.requires.idle.ready.positive c.requires.idle.exact.covers apart c.take.ensures.added v c.copy_round.ensures.outside
+    rw e (prepared_unchanged (g.S.Storage.features c.args.storage.now) old_faults now_faults (g.S.Storage.bytes c.args.storage.now) (g.S.Storage.bytes c.copy_round.new.storage) part.size part.block.length _ _ _ w c.requires.idle.ready.positive c.requires.idle.exact.covers apart c.take.ensures.added v c.copy_round.ensures.outside)
 
 pub returns-in-Err-clause-unchanged : goal.returns-in-Err-clause-unchanged
 returns-in-Err-clause-unchanged g c = λ now_faults old_faults v.
@@ -177,7 +177,7 @@ returns-in-Err-clause-unchanged g c = λ now_faults old_faults v.
       apart = λ i h. held_apart c.take.new.self i number c.in_ok-number.ensures.held (rw e h);
       free = kind_entry part.kind _ c.requires.part.empty;
     } in
-    rw c.release.ensures.count (prepared_unchanged (g.S.Storage.features c.args.storage.now) old_faults now_faults (g.S.Storage.bytes c.args.storage.now) (g.S.Storage.bytes c.copy_round.new.storage) part.size part.block.length _ _ _ w c.requires.idle.ready.positive c.requires.idle.exact.covers apart c.take.ensures.added v c.copy_round.ensures.outside)
+    rw (c.release.ensures.count, c.release.ensures.entries, e) (prepared_unchanged (g.S.Storage.features c.args.storage.now) old_faults now_faults (g.S.Storage.bytes c.args.storage.now) (g.S.Storage.bytes c.copy_round.new.storage) part.size part.block.length _ _ _ w c.requires.idle.ready.positive c.requires.idle.exact.covers apart c.take.ensures.added v c.copy_round.ensures.outside)
 
 pub returns-in-Ok-clause-settled : goal.returns-in-Ok-clause-settled
 returns-in-Ok-clause-settled g c =
@@ -261,3 +261,8 @@ returns-then-not-fits_next-clause-over g c = λ most some run over.
 
 pub returns-in-Err-clause-released : goal.returns-in-Err-clause-released
 returns-in-Err-clause-released g c = c.release.ensures.held
+
+pub returns-in_err-number-clause-unchanged : goal.returns-in_err-number-clause-unchanged
+returns-in_err-number-clause-unchanged g c = λ now_faults old_faults waiting.
+    let same = c.in_err-number.ensures.unchanged in
+    rw (same.0, same.2) (search rules)
