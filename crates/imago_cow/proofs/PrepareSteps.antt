@@ -25,7 +25,9 @@ use Rattle.imago_drivers.specs.declared.mapping.PreparedDataMapping.{PreparedDat
 use Rattle.imago_cow.specs.declared.table.GuestBlock.{GuestBlock}
 use Rattle.imago_cow.specs.declared.cow.Waiting.{Waiting}
 use Rattle.imago_cow.specs.declared.cow.CowState.{CowState}
-use Rattle.imago_cow.specs.Table.{named_count, IsLowestUnused, times_used}
+use Rattle.imago_cow.specs.declared.table.WithoutData.{WithoutData}
+use Rattle.imago_cow.specs.declared.table.WithoutData.TheVariants as W
+use Rattle.imago_cow.specs.Table.{named_count, IsLowestUnused, times_used, without_data, is_absent}
 use Rattle.imago_cow.specs.Guest.{Covers, entry_place, cow_place, is_data, is_touched, number_of}
 use Rattle.imago_cow.specs.GuestLaws.{rest_small, place_in, place_out, entry_at, left_holds, right_holds, touched_at, number_longer, lies_in}
 use Rattle.imago_cow.specs.Copies.{old_value, block_from, block_until, IsInBlock, IsApart, round_reasons, over_reasons}
@@ -51,6 +53,18 @@ lowest_one entries held other count a b same x y = ⊎_elim
 pub empty_entry : (absent : Bool) (e : Option GuestBlock) → (absent ≡ true → e ≡ Some GuestBlock.Absent) → (absent ≡ false → e ≡ Some GuestBlock.Zero) → is_data e ≡ false
 empty_entry true e here there = ap is_data (here refl)
 empty_entry false e here there = ap is_data (there refl)
+
+-- what the kind of a guest block without data says of its entry
+pub empty_absent : (kind : WithoutData) (e : Option GuestBlock) → e ≡ Some (without_data kind) → is_absent kind ≡ true → e ≡ Some GuestBlock.Absent
+empty_absent W.Absent e h t = h
+empty_absent W.Zero e h t = let z : ⊥ = cc in absurd z
+
+pub empty_zero : (kind : WithoutData) (e : Option GuestBlock) → e ≡ Some (without_data kind) → is_absent kind ≡ false → e ≡ Some GuestBlock.Zero
+empty_zero W.Absent e h t = let z : ⊥ = cc in absurd z
+empty_zero W.Zero e h t = h
+
+pub kind_entry : (kind : WithoutData) (e : Option GuestBlock) → e ≡ Some (without_data kind) → is_data e ≡ false
+kind_entry kind e h = empty_entry (is_absent kind) e (empty_absent kind e h) (empty_zero kind e h)
 
 -- an operation on a range may make data of the places of its range
 range_from : (size : ℕ) (op : Operation) (o : ℕ) → IsOnRange op → touched_from size op o ≡ o

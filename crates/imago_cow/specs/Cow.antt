@@ -6,11 +6,13 @@ use Rattle.imago_storage.specs.Features.{Features, MemoryUse, IsAlignedRequest, 
 use Rattle.imago_storage.specs.Padding.{Wraps, aligned_start}
 use Rattle.imago_drivers.specs.declared.format.Format.TheVariants as Format
 use Rattle.imago_drivers.specs.declared.format.PreallocateMode.{PreallocateMode}
+use Rattle.imago_drivers.specs.declared.mapping.PreparedDataMapping.{PreparedDataMapping}
 use Rattle.imago_drivers.specs.declared.format.PreallocateMode.TheVariants as Mode
 use Rattle.imago_drivers.specs.Operation.{Operation, Map, Read, Write, Zero, DiscardToZero}
 use Rattle.imago_drivers.specs.Operation.{DiscardToAny, DiscardToBacking, Grow, Shrink, Flush}
 use Rattle.imago_drivers.specs.Place.{IsIn}
 use Rattle.imago_drivers.specs.Causes.{Causes}
+use Rattle.imago_drivers.specs.Parts.{storage_of, offset_of, length_of, state_of}
 use Rattle.imago_drivers.specs.Pending.{Pending}
 use Rattle.imago_drivers.specs.Ranges.{HasWrappingPart}
 use Rattle.imago_drivers.specs.Lengths.{padded_to}
@@ -263,6 +265,11 @@ cow_view f fault_count bytes size block entries blocks waiting = record {
   pending = cow_pending block size bytes waiting;
 }
 
+-- the disk of that table
+abbrev pub table_view : Features → ℕ → List ℕ → ℕ → ℕ → Table → Option Waiting → View CowState
+table_view f fault_count bytes size block table waiting =
+    cow_view f fault_count bytes size block (entries_of table) (count_of table) waiting
+
 -- What waits lies in one guest block of the disk, and its data block is one that no entry names.
 pub record WaitsApart (block size : ℕ) (entries : List GuestBlock) (blocks : ℕ) (w : Waiting) : Type
     0 where
@@ -284,6 +291,13 @@ pub record IsWaitingFor (block size o n : ℕ) (own : CowState) (old new : Table
   pub start : w.start ≡ o
   pub run : w.length ≡ n
   pub state : w.state ≡ own
+
+-- the mapping is that of the write that waits
+pub record IsMappingOf (w : Waiting) (m : PreparedDataMapping CowState) : Type 0 where
+  pub storage : storage_of m ≡ 0
+  pub offset : offset_of m ≡ w.offset
+  pub run : length_of m ≡ w.length
+  pub state : state_of m ≡ Some w.state
 
 -- the data block of a write that waits
 abbrev pub number_of_waiting : Option Waiting → Option ℕ

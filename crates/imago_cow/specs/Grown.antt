@@ -1,5 +1,5 @@
 use Rattle.std.specs.Prelude.{◌≡◌, ℕ, ◌+◌, ◌-◌, ◌*◌, ◌%◌, ◌/◌, ◌<◌, ◌≤◌, ◌⊎◌, Bool, true, false}
-use Rattle.std.specs.Prelude.{List, length, take, min, max}
+use Rattle.std.specs.Prelude.{List, length, take, min, max, Result, Ok, Err}
 use Rattle.std.specs.Prelude.{slice_get, Option, Some, None}
 use Rattle.imago_drivers.specs.declared.format.PreallocateMode.{PreallocateMode}
 use Rattle.imago_drivers.specs.declared.format.PreallocateMode.TheVariants as Mode
@@ -80,3 +80,8 @@ pub record AreGrown (mode : PreallocateMode) (block size : ℕ) (old new : List 
     pub kept : (i : ℕ) → i < size / block → slice_get new i ≡ slice_get old i
     pub cut : IsCutGrown mode block size old new
     pub added : (i : ℕ) → length old ≤ i → i < length new → IsAddedBy mode (slice_get new i)
+
+-- the size of a disk after a growth from a size to another: refused, it is as it was
+abbrev pub size_after : {T E : Type 0} → ℕ → ℕ → Result T E → ℕ
+size_after old new (Ok x) = new
+size_after old new (Err e) = old

@@ -104,16 +104,10 @@ abbrev pub IsMade : ℕ → ℕ → ℕ → ℕ → GuestBlock → List GuestBlo
 IsMade o n size block entry old new result = AreWholeCleared block size o n entry old new
     × IfOk result (λ r. IsWholePart block size o n r.0 r.1) × IsOk result
 
--- The guest block of that offset is without data: it leads to the layer below, or is an explicit
--- zero.
-pub record IsEmptyAt (block o : ℕ) (absent : Bool) (entries : List GuestBlock) : Type 0 where
-  pub leads_below : absent ≡ true → slice_get entries (o / block) ≡ Some GuestBlock.Absent
-  pub is_zero : absent ≡ false → slice_get entries (o / block) ≡ Some GuestBlock.Zero
-
--- The n places from o on lie in a guest block without data, and in the disk.
-pub record IsEmptyPart (block size o n : ℕ) (absent : Bool) (entries : List GuestBlock) : Type 0
-  where
-    pub some : 0 < n
-    pub inside : o + n ≤ size
-    pub in_block : o % block + n ≤ block
-    pub empty : IsEmptyAt block o absent entries
+-- The n places from o on lie in the disk, and in one guest block, which is without data.
+pub record IsEmptyPart (block size o n : ℕ) (entry : GuestBlock) (entries : List GuestBlock) : Type
+    0 where
+  pub some : 0 < n
+  pub inside : o + n ≤ size
+  pub in_block : o % block + n ≤ block
+  pub empty : slice_get entries (o / block) ≡ Some entry

@@ -1,5 +1,5 @@
 use Rattle.std.specs.Prelude.{◌≡◌, ℕ, ◌+◌, ◌*◌, ◌%◌, ◌<◌, ◌≤◌, List, sum_by, Option, Some, None}
-use Rattle.std.specs.Prelude.{nat_lt, if◌then◌else◌}
+use Rattle.std.specs.Prelude.{nat_lt, if◌then◌else◌, Bool, true, false}
 use Rattle.imago_cow.specs.declared.free.FreeBlocks.{FreeBlocks}
 use Rattle.imago_cow.specs.declared.table.GuestBlock.{GuestBlock}
 use Rattle.imago_cow.specs.declared.table.GuestBlock.TheVariants as G
@@ -69,3 +69,8 @@ pub record StandsInLowest (entries : List GuestBlock) (count block offset at : �
 abbrev pub without_data : WithoutData → GuestBlock
 without_data W.Absent = GuestBlock.Absent
 without_data W.Zero = GuestBlock.Zero
+
+-- a guest block of that kind leads to the layer below
+abbrev pub is_absent : WithoutData → Bool
+is_absent W.Absent = true
+is_absent W.Zero = false

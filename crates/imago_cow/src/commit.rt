@@ -8,7 +8,7 @@ ghost use Rattle.imago_drivers.specs.Frame.{IsFramed, ReachesNoMore};
 ghost use Rattle.imago_drivers.specs.Causes.{IsSettled, IsOnRange};
 ghost use Rattle.imago_cow.specs.TableView.{entries_of, held_of, count_of};
 ghost use Rattle.imago_cow.specs.Guest.{Covers, IsEntered, cow_place};
-ghost use Rattle.imago_cow.specs.Cow.{cow_view, cow_pending, cow_cause, cow_copies, WaitsApart};
+ghost use Rattle.imago_cow.specs.Cow.{table_view, cow_pending, cow_cause, cow_copies, WaitsApart};
 
 use crate::block::BlockSize;
 use crate::cow::Waiting;
@@ -29,22 +29,16 @@ pub(crate) fn enter_waiting(table: &mut Table, block: BlockSize, size: u64, wait
     ensures committed { (f : _) (faults : ℕ) (bytes : _)
         → is_committed (cow_pending block.length size bytes (Some waiting)) (Some waiting.state)
         false
-        (cow_view f faults bytes size block.length (entries_of table.old) (count_of table.old)
-        (Some waiting))
-        (cow_view f faults bytes size block.length (entries_of table.new) (count_of table.new)
-        None) }
+        (table_view f faults bytes size block.length table.old (Some waiting))
+        (table_view f faults bytes size block.length table.new None) }
     ensures reaches { (f : _) (faults : ℕ) (bytes : _)
         → ReachesNoMore
-        (cow_view f faults bytes size block.length (entries_of table.old) (count_of table.old)
-        (Some waiting))
-        (cow_view f faults bytes size block.length (entries_of table.new) (count_of table.new)
-        None) }
+        (table_view f faults bytes size block.length table.old (Some waiting))
+        (table_view f faults bytes size block.length table.new None) }
     ensures framed { (f : _) (faults : ℕ) (bytes : _)
         → IsFramed
-        (cow_view f faults bytes size block.length (entries_of table.old) (count_of table.old)
-        (Some waiting))
-        (cow_view f faults bytes size block.length (entries_of table.new) (count_of table.new)
-        None) }
+        (table_view f faults bytes size block.length table.old (Some waiting))
+        (table_view f faults bytes size block.length table.new None) }
     ensures outside { (f : Features) (bytes : _)
         → StayBut f.keeps_data (commit_moves (cow_pending block.length size bytes (Some waiting))
         (Some waiting.state))

@@ -10,9 +10,11 @@ ghost use Rattle.imago_drivers.specs.Reasons.{allowed};
 ghost use Rattle.imago_cow.specs.Copies.{old_value, HasOldBytes, IsOldRead, IsCopyAnswer};
 ghost use Rattle.imago_cow.specs.Copies.{IsLendingCall, old_reasons, copy_reasons, round_reasons};
 ghost use Rattle.imago_cow.specs.Copies.{block_from, block_until};
+ghost use Rattle.imago_cow.specs.Table.{is_absent};
 
 use crate::block::BlockSize;
 use crate::cow::CowState;
+use crate::table::{WithoutData, leads_below};
 use crate::zero::{shows_zeroes, takes_zeroes, zero_bytes};
 use imago_drivers::layer::LowerLayer;
 use imago_drivers::stored::write_bytes;
@@ -25,19 +27,21 @@ use std::alloc::Global;
 fn read_old<B: LowerLayer>(
     alloc: Global,
     below: Option<&B>,
-    absent: bool,
+    kind: WithoutData,
     buf: &mut [u8],
     offset: u64,
 ) -> Result<(), Error>
     ensures bytes { OnOk result
-        (HasOldBytes (lent B.as_layer_below below.entry).at absent offset buf.new) }
-    ensures answered { IsOldRead B.reads below.entry absent offset (length buf.old) result }
+        (HasOldBytes (lent B.as_layer_below below.entry).at (is_absent kind) offset buf.new) }
+    ensures answered { IsOldRead B.reads below.entry (is_absent kind) offset (length buf.old)
+        result }
     ensures device { IsErrOf result Error.Device
         → (lent B.as_layer_below below.entry).is_reliable ≡ false }
     ensures refusals { IfErr result
-        (allowed (old_reasons (lent B.as_layer_below below.entry) absent offset (length buf.old))) }
+        (allowed (old_reasons (lent B.as_layer_below below.entry) (is_absent kind) offset
+        (length buf.old))) }
 {
-    if !absent {
+    if !leads_below(kind) {
         buf.fill(0);
         return Ok(());
     }
@@ -51,8 +55,8 @@ fn read_old<B: LowerLayer>(
 /// Where a copy of what places without data show begins.
 #[derive(Clone, Copy)]
 pub(crate) struct CopyStart {
-    /// Their guest block leads to the layer below, else they are explicit zeroes.
-    pub(crate) absent: bool,
+    /// What their guest block is.
+    pub(crate) kind: WithoutData,
     /// The first place.
     pub(crate) offset: u64,
     /// Where it goes in the storage.
@@ -74,10 +78,10 @@ fn copy_through<S: Storage, B: LowerLayer>(
         → OnOk result
         ((k : ℕ)
         → k < length buf.old
-        → old_value (lent B.as_layer_below below.entry).at start.absent (start.offset + k)
+        → old_value (lent B.as_layer_below below.entry).at (is_absent start.kind) (start.offset + k)
         ≡ Byte (slice_index (S.bytes storage.new) (start.to + k))) }
-    ensures answered { IsCopyAnswer B.reads below.entry start.absent start.offset (length buf.old)
-        result }
+    ensures answered { IsCopyAnswer B.reads below.entry (is_absent start.kind) start.offset
+        (length buf.old) result }
     ensures outside { IsTrue (S.features storage.old).keeps_data
         → (p : ℕ)
         → (p < start.to) ⊎ (start.to + length buf.old ≤ p)
@@ -93,10 +97,10 @@ fn copy_through<S: Storage, B: LowerLayer>(
     ensures refusals { 0 < length buf.old
         → IfErr result
         (allowed
-        (copy_reasons (S.features storage.old) (lent B.as_layer_below below.entry) start.absent
-        start.offset (length buf.old) start.to)) }
+        (copy_reasons (S.features storage.old) (lent B.as_layer_below below.entry)
+        (is_absent start.kind) start.offset (length buf.old) start.to)) }
 {
-    match read_old(alloc, below, start.absent, &mut *buf, start.offset) {
+    match read_old(alloc, below, start.kind, &mut *buf, start.offset) {
         Ok(()) => write_bytes(storage, alloc, buf, start.to),
         Err(Error::Device) => {
             *faults = faults.saturating_add(1);
@@ -121,7 +125,7 @@ pub(crate) fn copy_old<S: Storage, B: LowerLayer>(
         → OnOk result
         ((k : ℕ)
         → k < count
-        → old_value (lent B.as_layer_below below.entry).at start.absent (start.offset + k)
+        → old_value (lent B.as_layer_below below.entry).at (is_absent start.kind) (start.offset + k)
         ≡ Byte (slice_index (S.bytes storage.new) (start.to + k))) }
     ensures outside { IsTrue (S.features storage.old).keeps_data
         → (p : ℕ)
@@ -134,13 +138,13 @@ pub(crate) fn copy_old<S: Storage, B: LowerLayer>(
         (S.fault_count storage.old + faults.old) (S.fault_count storage.new + faults.new) result }
     ensures refusals { IfErr result
         (allowed
-        (copy_reasons (S.features storage.old) (lent B.as_layer_below below.entry) start.absent
-        start.offset count start.to)) }
+        (copy_reasons (S.features storage.old) (lent B.as_layer_below below.entry)
+        (is_absent start.kind) start.offset count start.to)) }
 {
     if count == 0 {
         return Ok(());
     }
-    if shows_zeroes(below, start.absent, start.offset) && takes_zeroes(&*storage, start.to, count) {
+    if shows_zeroes(below, start.kind, start.offset) && takes_zeroes(&*storage, start.to, count) {
         return zero_bytes(storage, alloc, start.to, count);
     }
     let mut bytes = vec![in alloc; 0u8; count as usize]?;
@@ -156,8 +160,8 @@ pub(crate) struct Part {
     pub(crate) size: u64,
     pub(crate) offset: u64,
     pub(crate) run: u64,
-    /// The guest block leads to the layer below.
-    pub(crate) absent: bool,
+    /// What the guest block is.
+    pub(crate) kind: WithoutData,
     /// The range itself isn't copied.
     pub(crate) overwrite: bool,
     /// What its mapping holds.
@@ -184,7 +188,7 @@ pub(crate) fn copy_round<S: Storage, B: LowerLayer>(
         → block_from part.block.length part.offset ≤ p
         → p < block_until part.block.length part.size part.offset
         → (part.overwrite ≡ true → (p < part.offset) ⊎ (part.offset + part.run ≤ p))
-        → old_value (lent B.as_layer_below below.entry).at part.absent p
+        → old_value (lent B.as_layer_below below.entry).at (is_absent part.kind) p
         ≡ Byte (slice_index (S.bytes storage.new)
         (start + (p - block_from part.block.length part.offset)))) }
     ensures outside { IsTrue (S.features storage.old).keeps_data
@@ -199,15 +203,15 @@ pub(crate) fn copy_round<S: Storage, B: LowerLayer>(
         (S.fault_count storage.old + faults.old) (S.fault_count storage.new + faults.new) result }
     ensures refusals { IfErr result
         (allowed
-        (round_reasons (S.features storage.old) (lent B.as_layer_below below.entry) part.absent
-        part.overwrite
-        part.block.length part.size part.offset part.run start)) }
+        (round_reasons (S.features storage.old) (lent B.as_layer_below below.entry)
+        (is_absent part.kind) part.overwrite part.block.length part.size part.offset part.run
+        start)) }
 {
     let rest = part.block.rest(part.offset);
     let from = part.offset - rest;
     let count = part.block.length.min(part.size - from);
     let first = CopyStart {
-        absent: part.absent,
+        kind: part.kind,
         offset: from,
         to: start,
     };
@@ -217,7 +221,7 @@ pub(crate) fn copy_round<S: Storage, B: LowerLayer>(
     copy_old(storage, faults, alloc, below, first, rest)?;
     let behind = rest + part.run;
     let second = CopyStart {
-        absent: part.absent,
+        kind: part.kind,
         offset: from + behind,
         to: start + behind,
     };

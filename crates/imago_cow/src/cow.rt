@@ -33,7 +33,7 @@ use crate::named::all_shown;
 use crate::prepare::prepare_part;
 use crate::resize::{Growth, shrink};
 use crate::stored::{read_stored, write_stored};
-use crate::table::{GuestBlock, Table};
+use crate::table::{GuestBlock, Table, kind_of};
 use imago_drivers::drivers::{
     Format, FormatDriverInstance, PreallocateMode, PreparedDataMapping, ShallowMapping,
 };
@@ -462,7 +462,7 @@ impl<S: Storage> FormatDriverInstance for Cow<S> {
                 size: self.size,
                 offset,
                 run,
-                absent: entry == GuestBlock::Absent,
+                kind: kind_of(entry),
                 overwrite,
                 state: CowState { ticket },
             },

@@ -7,10 +7,10 @@ ghost use Rattle.imago_drivers.specs.Place.{Byte};
 ghost use Rattle.imago_drivers.specs.LayerBelow.{lent};
 ghost use Rattle.imago_drivers.specs.Reasons.{allowed};
 ghost use Rattle.imago_cow.specs.declared.table.GuestBlock.{GuestBlock};
-ghost use Rattle.imago_cow.specs.Table.{named_count};
+ghost use Rattle.imago_cow.specs.Table.{named_count, without_data, is_absent};
 ghost use Rattle.imago_cow.specs.TableView.{entries_of, held_of, count_of, KeepsRoom};
 ghost use Rattle.imago_cow.specs.TableView.{IsReady, TakesOne};
-ghost use Rattle.imago_cow.specs.Guest.{entry_place, is_data, IsEmptyAt};
+ghost use Rattle.imago_cow.specs.Guest.{entry_place, is_data};
 ghost use Rattle.imago_cow.specs.Copies.{IsLendingCall, old_value};
 ghost use Rattle.imago_cow.specs.Growth.{IsBounded, fill_reasons};
 ghost use Rattle.imago_cow.specs.Grown.{IsCutGrown};
@@ -20,8 +20,8 @@ ghost use Rattle.imago_cow.specs.Cut.{AreInBlock, IsPutIn, shows_below};
 use crate::block::BlockSize;
 use crate::copy::{CopyStart, copy_old};
 use crate::map::entry_at;
-use crate::resize::{Growth, adds_nothing, is_lower, take_block};
-use crate::table::{GuestBlock, Table, WithoutData};
+use crate::resize::{Growth, adds_nothing, kind_of_new, take_block};
+use crate::table::{GuestBlock, Table, WithoutData, leads_below};
 use imago_drivers::layer::LowerLayer;
 use imago_storage::error::Error;
 use imago_storage::storage::Storage;
@@ -36,10 +36,10 @@ struct Cut {
     size: u64,
     /// How many of its places the growth adds.
     count: u64,
-    /// The guest block leads to the layer below, else it is an explicit zero.
-    absent: bool,
-    /// The new places show the layer below, else zeroes.
-    lower: bool,
+    /// What the guest block is.
+    kind: WithoutData,
+    /// What the new places show: those of a guest block of that kind.
+    new_kind: WithoutData,
 }
 
 /// Copies what the guest block shows before the disk's old end, and then what its new places are to
@@ -59,14 +59,14 @@ fn fill_both<S: Storage, B: LowerLayer>(
         → OnOk result
         ((k : ℕ)
         → k < cut.size % cut.block.length
-        → old_value (lent B.as_layer_below below.entry).at cut.absent
+        → old_value (lent B.as_layer_below below.entry).at (is_absent cut.kind)
         (cut.size - cut.size % cut.block.length + k)
         ≡ Byte (slice_index (S.bytes storage.new) (start + k))) }
     ensures behind { IsTrue (S.features storage.old).keeps_data
         → OnOk result
         ((k : ℕ)
         → k < cut.count
-        → old_value (lent B.as_layer_below below.entry).at cut.lower (cut.size + k)
+        → old_value (lent B.as_layer_below below.entry).at (is_absent cut.new_kind) (cut.size + k)
         ≡ Byte (slice_index (S.bytes storage.new) (start + cut.size % cut.block.length + k))) }
     ensures outside { IsTrue (S.features storage.old).keeps_data
         → (p : ℕ)
@@ -81,22 +81,22 @@ fn fill_both<S: Storage, B: LowerLayer>(
     ensures refusals { (limit : ℕ) (entries : _) (new_size : ℕ)
         → start + cut.block.length ≤ limit
         → cut.size + cut.count ≤ new_size
-        → (cut.absent ≡ true → slice_get entries (cut.size / cut.block.length)
+        → (is_absent cut.kind ≡ true → slice_get entries (cut.size / cut.block.length)
         ≡ Some GuestBlock.Absent)
         → IfErr result
         (allowed
         (fill_reasons (S.features storage.old) (lent B.as_layer_below below.entry) limit
-        (IsCutRead cut.block.length cut.size entries cut.lower new_size))) }
+        (IsCutRead cut.block.length cut.size entries (is_absent cut.new_kind) new_size))) }
 {
     let rest = cut.block.rest(cut.size);
     let before = CopyStart {
-        absent: cut.absent,
+        kind: cut.kind,
         offset: cut.size - rest,
         to: start,
     };
     copy_old(storage, faults, alloc, below, before, rest)?;
     let behind = CopyStart {
-        absent: cut.lower,
+        kind: cut.new_kind,
         offset: cut.size,
         to: start + rest,
     };
@@ -116,12 +116,13 @@ fn fill_taken<S: Storage, B: LowerLayer>(
     requires ready { IsReady cut.block.length table.old }
     requires in_block { AreInBlock cut.block.length cut.size cut.count }
     requires within { cut.size / cut.block.length < length (entries_of table.old) }
-    requires empty { IsEmptyAt cut.block.length cut.size cut.absent (entries_of table.old) }
+    requires empty { slice_get (entries_of table.old) (cut.size / cut.block.length)
+        ≡ Some (without_data cut.kind) }
     ensures entered { IsTrue (S.features storage.old).keeps_data
         → OnOk result
         (IsTaken (lent B.as_layer_below below.entry).at cut.block.length cut.size cut.count
-        cut.absent cut.lower (entries_of table.old) (entries_of table.new) (S.bytes storage.old)
-        (S.bytes storage.new)) }
+        (is_absent cut.kind) (is_absent cut.new_kind) (entries_of table.old) (entries_of table.new)
+        (S.bytes storage.old) (S.bytes storage.new)) }
     ensures entries { IsPutIn (cut.size / cut.block.length) (entries_of table.old)
         (entries_of table.new) result }
     ensures places { IsTrue (S.features storage.old).keeps_data
@@ -145,7 +146,8 @@ fn fill_taken<S: Storage, B: LowerLayer>(
         (allowed
         (fill_reasons (S.features storage.old) (lent B.as_layer_below below.entry)
         (max (count_of table.old) (named_count (entries_of table.old) + 1) * cut.block.length)
-        (IsCutRead cut.block.length cut.size (entries_of table.old) cut.lower new_size))) }
+        (IsCutRead cut.block.length cut.size (entries_of table.old) (is_absent cut.new_kind)
+        new_size))) }
 {
     let number = take_block(table, cut.block.length)?;
     let start = number * cut.block.length;
@@ -217,30 +219,30 @@ pub(crate) fn fill_cut<S: Storage, B: LowerLayer>(
     if adds_nothing(growth.mode) {
         return Ok(());
     }
-    let lower = is_lower(growth.mode);
+    let new_kind = kind_of_new(growth.mode);
     let count = (growth.block.length - rest).min(growth.new_size - growth.size);
     let cut = Cut {
         block: growth.block,
         size: growth.size,
         count,
-        absent: true,
-        lower,
+        kind: WithoutData::Absent,
+        new_kind,
     };
     match entry_at(table, growth.block, growth.size) {
         GuestBlock::Absent => fill_taken(storage, faults, table, alloc, below, cut),
         GuestBlock::Zero => {
-            if !lower {
+            if !leads_below(new_kind) {
                 return Ok(());
             }
             let zero = Cut {
-                absent: false,
+                kind: WithoutData::Zero,
                 ..cut
             };
             fill_taken(storage, faults, table, alloc, below, zero)
         }
         GuestBlock::Data(number) => {
             let start = CopyStart {
-                absent: lower,
+                kind: new_kind,
                 offset: growth.size,
                 to: number * growth.block.length + rest,
             };

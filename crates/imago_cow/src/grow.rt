@@ -9,8 +9,8 @@ ghost use Rattle.imago_drivers.specs.declared.format.PreallocateMode.{Preallocat
 ghost use Rattle.imago_cow.specs.TableView.{entries_of, held_of, count_of, room_of, KeepsRoom};
 ghost use Rattle.imago_cow.specs.TableView.{IsReady, IsIdle};
 ghost use Rattle.imago_cow.specs.Guest.{IsExact};
-ghost use Rattle.imago_cow.specs.Grown.{AreGrown};
-ghost use Rattle.imago_cow.specs.Cow.{cow_view};
+ghost use Rattle.imago_cow.specs.Grown.{AreGrown, size_after};
+ghost use Rattle.imago_cow.specs.Cow.{table_view};
 
 use crate::cut::{empty_cut, fill_cut, restore_cut};
 use crate::guest::first_whole;
@@ -51,22 +51,12 @@ fn grow_with<S: Storage, B: LowerLayer>(
     requires idle { IsIdle growth.size growth.block.length table.old }
     requires grows { growth.size < growth.new_size }
     requires some { growth.mode ≢ PreallocateMode.None }
-    ensures grown { OnOk result
-        (IsGrowth growth.mode (lent B.as_layer_below below.entry) growth.new_size
-        (cow_view (S.features storage.old) (S.fault_count storage.old + faults.old)
-        (S.bytes storage.old) growth.size growth.block.length (entries_of table.old)
-        (count_of table.old) None)
-        (cow_view (S.features storage.old) (S.fault_count storage.new + faults.new)
-        (S.bytes storage.new) growth.new_size growth.block.length (entries_of table.new)
-        (count_of table.new) None) (Ok tt)) }
-    ensures refused { IfErr result
-        (λ e. IsGrowth growth.mode (lent B.as_layer_below below.entry) growth.new_size
-        (cow_view (S.features storage.old) (S.fault_count storage.old + faults.old)
-        (S.bytes storage.old) growth.size growth.block.length (entries_of table.old)
-        (count_of table.old) None)
-        (cow_view (S.features storage.old) (S.fault_count storage.new + faults.new)
-        (S.bytes storage.new) growth.size growth.block.length (entries_of table.old)
-        (count_of table.new) None) (Err e)) }
+    ensures call { IsGrowth growth.mode (lent B.as_layer_below below.entry) growth.new_size
+        (table_view (S.features storage.old) (S.fault_count storage.old + faults.old)
+        (S.bytes storage.old) growth.size growth.block.length table.old None)
+        (table_view (S.features storage.old) (S.fault_count storage.new + faults.new)
+        (S.bytes storage.new) (size_after growth.size growth.new_size result) growth.block.length
+        table.new None) result }
     ensures blocks { OnOk result
         (AreGrown growth.mode growth.block.length growth.size (entries_of table.old)
         (entries_of table.new)) }
@@ -100,22 +90,12 @@ pub(crate) fn grow<S: Storage, B: LowerLayer>(
 ) -> Result<(), Error>
     requires idle { IsIdle growth.size growth.block.length table.old }
     requires grows { growth.size < growth.new_size }
-    ensures grown { OnOk result
-        (IsGrowth growth.mode (lent B.as_layer_below below.entry) growth.new_size
-        (cow_view (S.features storage.old) (S.fault_count storage.old + faults.old)
-        (S.bytes storage.old) growth.size growth.block.length (entries_of table.old)
-        (count_of table.old) None)
-        (cow_view (S.features storage.old) (S.fault_count storage.new + faults.new)
-        (S.bytes storage.new) growth.new_size growth.block.length (entries_of table.new)
-        (count_of table.new) None) (Ok tt)) }
-    ensures refused { IfErr result
-        (λ e. IsGrowth growth.mode (lent B.as_layer_below below.entry) growth.new_size
-        (cow_view (S.features storage.old) (S.fault_count storage.old + faults.old)
-        (S.bytes storage.old) growth.size growth.block.length (entries_of table.old)
-        (count_of table.old) None)
-        (cow_view (S.features storage.old) (S.fault_count storage.new + faults.new)
-        (S.bytes storage.new) growth.size growth.block.length (entries_of table.old)
-        (count_of table.new) None) (Err e)) }
+    ensures call { IsGrowth growth.mode (lent B.as_layer_below below.entry) growth.new_size
+        (table_view (S.features storage.old) (S.fault_count storage.old + faults.old)
+        (S.bytes storage.old) growth.size growth.block.length table.old None)
+        (table_view (S.features storage.old) (S.fault_count storage.new + faults.new)
+        (S.bytes storage.new) (size_after growth.size growth.new_size result) growth.block.length
+        table.new None) result }
     ensures blocks { OnOk result
         (AreGrown growth.mode growth.block.length growth.size (entries_of table.old)
         (entries_of table.new)) }
@@ -130,7 +110,8 @@ pub(crate) fn grow<S: Storage, B: LowerLayer>(
         ⊎ (growth.new_size ≤ room_of table.new * growth.block.length)) }
 {
     if adds_nothing(growth.mode) {
-        return add_blocks(table, growth, WithoutData::Absent);
+        add_blocks(table, growth, WithoutData::Absent)?;
+        return Ok(());
     }
     reserve_new(table, growth)?;
     grow_with(storage, faults, table, alloc, below, growth)

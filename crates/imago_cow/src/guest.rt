@@ -5,7 +5,7 @@ ghost use Rattle.imago_cow.specs.Table.{without_data};
 ghost use Rattle.imago_cow.specs.TableView.{entries_of, held_of, count_of};
 ghost use Rattle.imago_cow.specs.Guest.{IsCleared, IsExact, IsWholePart, AreWholeCleared, IsMade};
 ghost use Rattle.imago_cow.specs.declared.table.GuestBlock.{GuestBlock};
-ghost use Rattle.imago_cow.specs.Cow.{cow_view};
+ghost use Rattle.imago_cow.specs.Cow.{table_view};
 ghost use Rattle.imago_drivers.specs.Operation.{Zero, DiscardToZero, DiscardToAny};
 ghost use Rattle.imago_drivers.specs.Operation.{DiscardToBacking};
 ghost use Rattle.imago_drivers.specs.Changes.{unspecified, to_backing};
@@ -104,20 +104,20 @@ pub(crate) fn make_zero(
     requires exact { IsExact size block.length (entries_of table.old) }
     ensures zero { (f : _) (faults : ℕ) (bytes : _)
         → IsZeroCall Zero offset count
-        (cow_view f faults bytes size block.length (entries_of table.old) (count_of table.old) None)
-        (cow_view f faults bytes size block.length (entries_of table.new) (count_of table.new) None)
+        (table_view f faults bytes size block.length table.old None)
+        (table_view f faults bytes size block.length table.new None)
         result }
     ensures to_zero { (f : _) (faults : ℕ) (bytes : _)
         → IsZeroCall DiscardToZero offset count
-        (cow_view f faults bytes size block.length (entries_of table.old) (count_of table.old) None)
-        (cow_view f faults bytes size block.length (entries_of table.new) (count_of table.new) None)
+        (table_view f faults bytes size block.length table.old None)
+        (table_view f faults bytes size block.length table.new None)
         result }
     ensures made { IsMade offset count size block.length GuestBlock.Zero (entries_of table.old)
         (entries_of table.new) result }
     ensures to_any { (f : _) (faults : ℕ) (bytes : _)
         → IsDiscard (λ _ _. unspecified) DiscardToAny offset count
-        (cow_view f faults bytes size block.length (entries_of table.old) (count_of table.old) None)
-        (cow_view f faults bytes size block.length (entries_of table.new) (count_of table.new) None)
+        (table_view f faults bytes size block.length table.old None)
+        (table_view f faults bytes size block.length table.new None)
         result }
     ensures same_length { length (entries_of table.new) ≡ length (entries_of table.old) }
     ensures held { held_of table.new ≡ held_of table.old }
@@ -141,8 +141,8 @@ pub(crate) fn make_absent(
         (entries_of table.new) result }
     ensures to_backing { (f : _) (faults : ℕ) (bytes : _)
         → IsDiscard (to_backing true) DiscardToBacking offset count
-        (cow_view f faults bytes size block.length (entries_of table.old) (count_of table.old) None)
-        (cow_view f faults bytes size block.length (entries_of table.new) (count_of table.new) None)
+        (table_view f faults bytes size block.length table.old None)
+        (table_view f faults bytes size block.length table.new None)
         result }
     ensures same_length { length (entries_of table.new) ≡ length (entries_of table.old) }
     ensures held { held_of table.new ≡ held_of table.old }

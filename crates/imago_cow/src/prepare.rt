@@ -11,13 +11,12 @@ ghost use Rattle.imago_drivers.specs.LayerBelow.{lent};
 ghost use Rattle.imago_drivers.specs.Prepared.{IsPrepared};
 ghost use Rattle.imago_drivers.specs.Frame.{IsUnchanged};
 ghost use Rattle.imago_drivers.specs.Causes.{IsSettled, IsOnRange};
-ghost use Rattle.imago_drivers.specs.Parts.{storage_of, offset_of, length_of, state_of};
-ghost use Rattle.imago_cow.specs.Table.{named_count};
+ghost use Rattle.imago_cow.specs.Table.{named_count, without_data};
 ghost use Rattle.imago_cow.specs.TableView.{entries_of, held_of, count_of, HasTaken, IsIdle};
 ghost use Rattle.imago_cow.specs.Guest.{IsEmptyPart, cow_place};
 ghost use Rattle.imago_cow.specs.Copies.{IsLendingCall, over_reasons};
-ghost use Rattle.imago_cow.specs.Cow.{cow_view, cow_cause, cow_copies, data_count, in_block};
-ghost use Rattle.imago_cow.specs.Cow.{IsWaitingFor};
+ghost use Rattle.imago_cow.specs.Cow.{table_view, cow_cause, cow_copies, data_count, in_block};
+ghost use Rattle.imago_cow.specs.Cow.{IsMappingOf, IsWaitingFor};
 
 use crate::copy::{Part, copy_round};
 use crate::cow::Waiting;
@@ -38,8 +37,8 @@ pub(crate) fn prepare_part<S: Storage, B: LowerLayer>(
     part: Part,
 ) -> Result<Waiting, Error>
     requires idle { IsIdle part.size part.block.length table.old }
-    requires part { IsEmptyPart part.block.length part.size part.offset part.run part.absent
-        (entries_of table.old) }
+    requires part { IsEmptyPart part.block.length part.size part.offset part.run
+        (without_data part.kind) (entries_of table.old) }
     ensures table { HasTaken part.block.length table.old table.new }
     ensures waits { IfOk result
         (IsWaitingFor part.block.length part.size part.offset part.run part.state table.old
@@ -49,23 +48,20 @@ pub(crate) fn prepare_part<S: Storage, B: LowerLayer>(
         (λ w. (most now_faults old_faults : ℕ) (m : _)
         → 0 < most
         → part.run ≡ in_block part.block.length part.offset most
-        → storage_of m ≡ 0
-        → offset_of m ≡ w.offset
-        → length_of m ≡ w.length
-        → state_of m ≡ Some w.state
+        → IsMappingOf w m
         → IsPrepared part.offset most part.overwrite
         (values (lent B.as_layer_below below.entry).at
         (cow_place (S.bytes storage.old) part.size part.block.length (entries_of table.old)))
-        (cow_view (S.features storage.old) old_faults (S.bytes storage.old) part.size
-        part.block.length (entries_of table.old) (count_of table.old) None)
-        (cow_view (S.features storage.old) now_faults (S.bytes storage.new) part.size
-        part.block.length (entries_of table.old) (count_of table.new) (Some w)) m) }
+        (table_view (S.features storage.old) old_faults (S.bytes storage.old) part.size
+        part.block.length table.old None)
+        (table_view (S.features storage.old) now_faults (S.bytes storage.new) part.size
+        part.block.length table.new (Some w)) m) }
     ensures unchanged { (now_faults old_faults : ℕ) (waiting : _)
         → IsUnchanged
-        (cow_view (S.features storage.old) old_faults (S.bytes storage.old) part.size
-        part.block.length (entries_of table.old) (count_of table.old) None)
-        (cow_view (S.features storage.old) now_faults (S.bytes storage.new) part.size
-        part.block.length (entries_of table.old) (count_of table.new) waiting) }
+        (table_view (S.features storage.old) old_faults (S.bytes storage.old) part.size
+        part.block.length table.old None)
+        (table_view (S.features storage.old) now_faults (S.bytes storage.new) part.size
+        part.block.length table.new waiting) }
     ensures settled { IfOk result
         (λ w. IsSettled IsOnRange
         (cow_cause (S.features storage.old) part.block.length part.size (entries_of table.old)
@@ -91,8 +87,8 @@ pub(crate) fn prepare_part<S: Storage, B: LowerLayer>(
         → IfErr result
         (allowed
         (lending_reasons
-        (cow_view (S.features storage.old) old_faults (S.bytes storage.old) part.size
-        part.block.length (entries_of table.old) (count_of table.old) None)
+        (table_view (S.features storage.old) old_faults (S.bytes storage.old) part.size
+        part.block.length table.old None)
         (lent B.as_layer_below below.entry) Write part.offset most)) }
     ensures over { (most : ℕ)
         → 0 < most

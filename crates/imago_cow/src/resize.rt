@@ -10,15 +10,15 @@ ghost use Rattle.imago_cow.specs.Copies.{IsLendingCall};
 ghost use Rattle.imago_cow.specs.Growth.{IsPushed, IsBounded, KeepsBytes};
 ghost use Rattle.imago_cow.specs.Cut.{shows_below};
 ghost use Rattle.imago_cow.specs.Grown.{ArePushed, HasNew};
-ghost use Rattle.imago_cow.specs.Cow.{cow_view};
-ghost use Rattle.imago_cow.specs.Table.{without_data, named_count};
+ghost use Rattle.imago_cow.specs.Cow.{table_view};
+ghost use Rattle.imago_cow.specs.Table.{without_data, named_count, is_absent};
 ghost use Rattle.imago_cow.specs.TableView.{entries_of, held_of, count_of, room_of, KeepsRoom};
 ghost use Rattle.imago_cow.specs.TableView.{IsReady, IsIdle, TakesOne};
 
 use crate::block::BlockSize;
 use crate::copy::{CopyStart, copy_old};
 use crate::guest::first_whole;
-use crate::table::{Table, WithoutData};
+use crate::table::{Table, WithoutData, leads_below};
 use imago_drivers::drivers::PreallocateMode;
 use imago_drivers::layer::LowerLayer;
 use imago_storage::error::Error;
@@ -49,15 +49,15 @@ pub(crate) struct Missing {
     pub(crate) count: usize,
 }
 
-/// Whether new places show the layer below.
-pub(crate) fn is_lower(mode: PreallocateMode) -> bool
-    ensures { result ≡ shows_below mode }
+/// What new places show: those of a guest block of that kind.
+pub(crate) fn kind_of_new(mode: PreallocateMode) -> WithoutData
+    ensures { is_absent result ≡ shows_below mode }
 {
     match mode {
-        PreallocateMode::None | PreallocateMode::Zero => false,
+        PreallocateMode::None | PreallocateMode::Zero => WithoutData::Zero,
         PreallocateMode::FormatAllocate
         | PreallocateMode::FullAllocate
-        | PreallocateMode::WriteData => true,
+        | PreallocateMode::WriteData => WithoutData::Absent,
     }
 }
 
@@ -83,9 +83,8 @@ pub(crate) fn shrink(table: &mut Table, block: BlockSize, size: u64, new_size: u
     requires less { new_size < size }
     ensures shrunk { (f : _) (faults : ℕ) (bytes : _)
         → IsShrink new_size
-        (cow_view f faults bytes size block.length (entries_of table.old) (count_of table.old) None)
-        (cow_view f faults bytes new_size block.length (entries_of table.new) (count_of table.new)
-        None) (Ok tt) }
+        (table_view f faults bytes size block.length table.old None)
+        (table_view f faults bytes new_size block.length table.new None) (Ok tt) }
     ensures exact { IsExact new_size block.length (entries_of table.new) }
     ensures entries { entries_of table.new ≡ take (length (entries_of table.new))
         (entries_of table.old) }
@@ -184,7 +183,7 @@ fn push_filled<S: Storage, B: LowerLayer>(
     let count = missing.block.length.min(missing.new_size - offset);
     let number = take_block(table, missing.block.length)?;
     let start = CopyStart {
-        absent: true,
+        kind: WithoutData::Absent,
         offset,
         to: number * missing.block.length,
     };
@@ -283,7 +282,7 @@ pub(crate) fn add_new<S: Storage, B: LowerLayer>(
         (S.features storage.new) (S.bytes storage.old) (S.bytes storage.new)
         (S.fault_count storage.old + faults.old) (S.fault_count storage.new + faults.new) result }
 {
-    if !is_lower(growth.mode) {
+    if !leads_below(kind_of_new(growth.mode)) {
         return add_blocks(table, growth, WithoutData::Zero);
     }
     let old = table.len();

@@ -4,7 +4,7 @@ ghost use Rattle.std.specs.Prelude.{take, replicate, max, Some, None, IfOk, IfEr
 ghost use Rattle.std.specs.Prelude.{IsOk, IsSome, MatchOption, slice_get, slice_set};
 ghost use Rattle.imago_cow.specs.Free.{free_count, free_room};
 ghost use Rattle.imago_cow.specs.Table.{IsEachOnce, IsLowestUnused, named_count, held_count};
-ghost use Rattle.imago_cow.specs.Table.{names_any, without_data};
+ghost use Rattle.imago_cow.specs.Table.{names_any, without_data, is_absent};
 
 use crate::free::FreeBlocks;
 use crate::room::make_room;
@@ -29,6 +29,26 @@ pub enum WithoutData {
     Absent,
     /// It is an explicit zero.
     Zero,
+}
+
+/// Whether a guest block of that kind leads to the layer below.
+pub(crate) fn leads_below(kind: WithoutData) -> bool
+    ensures { result ≡ is_absent kind }
+{
+    match kind {
+        WithoutData::Absent => true,
+        WithoutData::Zero => false,
+    }
+}
+
+/// What a guest block is that isn't data.
+pub(crate) fn kind_of(entry: GuestBlock) -> WithoutData
+    ensures { ((j : ℕ) → entry ≢ GuestBlock.Data j) → entry ≡ without_data result }
+{
+    match entry {
+        GuestBlock::Absent => WithoutData::Absent,
+        GuestBlock::Zero | GuestBlock::Data(_) => WithoutData::Zero,
+    }
 }
 
 /// One entry for each guest block, and the data blocks by their numbers from 0 on.

@@ -9,7 +9,9 @@ ghost use Rattle.imago_drivers.specs.Lengths.{padded_to};
 ghost use Rattle.imago_drivers.specs.Place.{Byte};
 ghost use Rattle.imago_drivers.specs.Ranges.{HasBytes};
 ghost use Rattle.imago_cow.specs.Copies.{old_value};
+ghost use Rattle.imago_cow.specs.Table.{is_absent};
 
+use crate::table::{WithoutData, leads_below};
 use imago_drivers::layer::LowerLayer;
 use imago_storage::align::zero_align;
 use imago_storage::error::Error;
@@ -19,13 +21,13 @@ use std::alloc::Global;
 
 /// Whether places without data show zeroes from the offset on for certain: explicit zeroes, or what
 /// stands past the end of the layer below.
-pub(crate) fn shows_zeroes<B: LowerLayer>(below: Option<&B>, absent: bool, offset: u64) -> bool
+pub(crate) fn shows_zeroes<B: LowerLayer>(below: Option<&B>, kind: WithoutData, offset: u64) -> bool
     ensures { result ≡ true
         → (p : ℕ)
         → offset ≤ p
-        → old_value (lent B.as_layer_below below.entry).at absent p ≡ Byte 0 }
+        → old_value (lent B.as_layer_below below.entry).at (is_absent kind) p ≡ Byte 0 }
 {
-    if !absent {
+    if !leads_below(kind) {
         return true;
     }
     match below {

@@ -1,3 +1,4 @@
+use Rattle.imago_cow.specs.Table.{is_absent}
 use Rattle.imago_cow.proofs.NameSteps.{copy_named}
 use Rattle.imago_cow.proofs.copy.copy_old.Goals as goal
 
@@ -8,5 +9,5 @@ returns-clause-call g c =
       features = e.features;
       no_shorter = e.no_shorter;
       faults = e.faults;
-      by_name = copy_named g.B.LowerLayer.reads c.args.below c.args.start.absent c.args.start.offset _ c.copy_through.result e.answered;
+      by_name = copy_named g.B.LowerLayer.reads c.args.below (is_absent c.args.start.kind) c.args.start.offset _ c.copy_through.result e.answered;
     }

@@ -1,3 +1,4 @@
+use Rattle.imago_cow.specs.Table.{is_absent}
 use Rattle.std.specs.Prelude.{IsTrue}
 use Rattle.std.proofs.Common.{◌+◌, ◌-◌, arith, inl, inr}
 use Rattle.std.proofs.lemmas.Result.{err_from_is_err_and}
@@ -11,7 +12,7 @@ pub returns-clause-copied : goal.returns-clause-copied
 returns-clause-copied g c = λ keeps.
     let keeps_on : IsTrue (g.S.Storage.features c.copy_old-2.new.storage).keeps_data = rw c.copy_old-2.ensures.call.features keeps in
     on_ok c.copy_old-3.result (λ x e.
-    round_copied (lent g.B.LowerLayer.as_layer_below c.args.below).at c.args.part.absent c.args.part.overwrite (g.S.Storage.bytes c.copy_old-2.new.storage) _ c.args.part.offset c.args.part.run c.args.part.size c.args.part.block.length c.args.start c.min-count.result c.requires.positive
+    round_copied (lent g.B.LowerLayer.as_layer_below c.args.below).at (is_absent c.args.part.kind) c.args.part.overwrite (g.S.Storage.bytes c.copy_old-2.new.storage) _ c.args.part.offset c.args.part.run c.args.part.size c.args.part.block.length c.args.start c.min-count.result c.requires.positive
     (rw c.rest-rest.ensures.value at c.min-count.ensures) (not_false c.args.part.overwrite c.if-not-part.false) (rw c.rest-rest.ensures.value at (c.in_ok-copy_old.ensures.copied keeps)) (ok_holds x e (rw c.rest-rest.ensures.value at (c.copy_old-3.ensures.copied keeps_on))) (rw c.rest-rest.ensures.value at (c.copy_old-3.ensures.outside keeps_on)))
 
 pub returns-then-not-part-clause-refusals : goal.returns-then-not-part-clause-refusals
@@ -19,7 +20,7 @@ returns-then-not-part-clause-refusals g c =
     let part = c.args.part in
     let rest = c.rest-rest.result in
     let count = c.min-count.result in
-    round_if_allowed (g.S.Storage.features c.args.storage.now) (lent g.B.LowerLayer.as_layer_below c.args.below) part.absent part.overwrite part.block.length part.size part.offset part.run c.args.start (part.offset - rest) count c.args.start
+    round_if_allowed (g.S.Storage.features c.args.storage.now) (lent g.B.LowerLayer.as_layer_below c.args.below) (is_absent part.kind) part.overwrite part.block.length part.size part.offset part.run c.args.start (part.offset - rest) count c.args.start
     (omega arith) (omega (arith, c.min-count.ensures)) (in_block_part part.block.length part.size part.offset rest count (part.offset - rest) count 0 c.rest-rest.ensures.value c.min-count.ensures (omega arith) (omega arith))
     (λ over. absurd (not_true part.overwrite c.if-not-part.true over)) c.copy_old.result c.copy_old.ensures.refusals
 
@@ -29,7 +30,7 @@ returns-in_err-copy_old-clause-refusals g c =
     let rest = c.rest-rest.result in
     let count = c.min-count.result in
     let p = err_from_is_err_and c.from_residual.result c.from_residual.ensures.1 in
-    rw (p.1, p.2) (round_allowed (g.S.Storage.features c.args.storage.now) (lent g.B.LowerLayer.as_layer_below c.args.below) part.absent part.overwrite part.block.length part.size part.offset part.run c.args.start (part.offset - rest) rest c.args.start
+    rw (p.1, p.2) (round_allowed (g.S.Storage.features c.args.storage.now) (lent g.B.LowerLayer.as_layer_below c.args.below) (is_absent part.kind) part.overwrite part.block.length part.size part.offset part.run c.args.start (part.offset - rest) rest c.args.start
     (omega arith) (omega (arith, c.rest-rest.ensures.below)) (in_block_part part.block.length part.size part.offset rest count (part.offset - rest) rest 0 c.rest-rest.ensures.value c.min-count.ensures (omega arith) (omega (arith, c.min-count.ensures, c.rest-rest.ensures.below, c.rest-rest.ensures.value, c.requires.inside, mod-le part.offset part.block.length)))
     (λ over. inl (omega (arith, c.rest-rest.ensures.value, mod-le part.offset part.block.length))) c.in_err-copy_old.field-0.0 c.in_err-copy_old.ensures.refusals)
 
@@ -40,6 +41,6 @@ returns-clause-refusals g c =
     let count = c.min-count.result in
     let behind = rest + part.run in
     let r = mod-le part.offset part.block.length in
-    round_if_allowed (g.S.Storage.features c.args.storage.now) (lent g.B.LowerLayer.as_layer_below c.args.below) part.absent part.overwrite part.block.length part.size part.offset part.run c.args.start (part.offset - rest + behind) (count - behind) (c.args.start + behind)
+    round_if_allowed (g.S.Storage.features c.args.storage.now) (lent g.B.LowerLayer.as_layer_below c.args.below) (is_absent part.kind) part.overwrite part.block.length part.size part.offset part.run c.args.start (part.offset - rest + behind) (count - behind) (c.args.start + behind)
     (omega arith) (omega (arith, c.min-count.ensures, c.requires.in_block, c.rest-rest.ensures.value)) (in_block_part part.block.length part.size part.offset rest count (part.offset - rest + behind) (count - behind) behind c.rest-rest.ensures.value c.min-count.ensures (omega arith) (omega (arith, c.min-count.ensures, c.requires.in_block, c.requires.inside, c.rest-rest.ensures.value, r)))
     (λ over. inr (omega (arith, c.rest-rest.ensures.value, r))) c.copy_old-3.result (rw c.in_ok-copy_old.ensures.call.features at c.copy_old-3.ensures.refusals)

@@ -1,3 +1,4 @@
+use Rattle.imago_cow.specs.Table.{is_absent}
 use Rattle.std.proofs.Common.{◌+◌, ◌-◌, ◌%◌, arith}
 use Rattle.std.proofs.lemmas.Result.{err_from_is_err_and}
 use Rattle.imago_drivers.specs.LayerBelow.{lent}
@@ -10,11 +11,11 @@ pub returns-in_err-copy_old-clause-refusals : goal.returns-in_err-copy_old-claus
 returns-in_err-copy_old-clause-refusals g c = λ limit entries new_size fits inside here.
     let cut = c.args.cut in
     let p = err_from_is_err_and c.from_residual.result c.from_residual.ensures.1 in
-    rw (p.1, p.2) (copy_refused (g.S.Storage.features c.args.storage.now) (lent g.B.LowerLayer.as_layer_below c.args.below) c.args.cut.absent (cut.size - cut.size % cut.block.length) (cut.size % cut.block.length) c.args.start limit (IsCutRead cut.block.length cut.size entries cut.lower new_size) c.in_err-copy_old.field-0.0
-    (omega (arith, fits, rest_small cut.block.length c.requires.positive cut.size)) (reads_before cut.block.length cut.size new_size entries c.args.cut.absent cut.lower c.requires.positive here) (rw c.rest-rest.ensures.value at c.in_err-copy_old.ensures.refusals))
+    rw (p.1, p.2) (copy_refused (g.S.Storage.features c.args.storage.now) (lent g.B.LowerLayer.as_layer_below c.args.below) (is_absent c.args.cut.kind) (cut.size - cut.size % cut.block.length) (cut.size % cut.block.length) c.args.start limit (IsCutRead cut.block.length cut.size entries (is_absent cut.new_kind) new_size) c.in_err-copy_old.field-0.0
+    (omega (arith, fits, rest_small cut.block.length c.requires.positive cut.size)) (reads_before cut.block.length cut.size new_size entries (is_absent c.args.cut.kind) (is_absent cut.new_kind) c.requires.positive here) (rw c.rest-rest.ensures.value at c.in_err-copy_old.ensures.refusals))
 
 pub returns-clause-refusals : goal.returns-clause-refusals
 returns-clause-refusals g c = λ limit entries new_size fits inside here.
     let cut = c.args.cut in
-    if_refused (g.S.Storage.features c.args.storage.now) (lent g.B.LowerLayer.as_layer_below c.args.below) cut.lower cut.size cut.count (c.args.start + c.rest-rest.result) limit (IsCutRead cut.block.length cut.size entries cut.lower new_size) c.copy_old-2.result
-    (omega (arith, fits, c.requires.in_block.in_block, c.rest-rest.ensures.value)) (reads_behind cut.block.length cut.size cut.count new_size entries cut.lower inside) (rw c.in_ok-copy_old.ensures.call.features at c.copy_old-2.ensures.refusals)
+    if_refused (g.S.Storage.features c.args.storage.now) (lent g.B.LowerLayer.as_layer_below c.args.below) (is_absent cut.new_kind) cut.size cut.count (c.args.start + c.rest-rest.result) limit (IsCutRead cut.block.length cut.size entries (is_absent cut.new_kind) new_size) c.copy_old-2.result
+    (omega (arith, fits, c.requires.in_block.in_block, c.rest-rest.ensures.value)) (reads_behind cut.block.length cut.size cut.count new_size entries (is_absent cut.new_kind) inside) (rw c.in_ok-copy_old.ensures.call.features at c.copy_old-2.ensures.refusals)

@@ -1,7 +1,7 @@
 use Rattle.std.proofs.Common.{◌≡◌, ◌+◌, ◌*◌, ◌%◌, ◌<◌, ◌≤◌, arith, ap, sym, ◌∙◌, refl, inl, inr, Some, max, true, false}
 use Rattle.imago_drivers.specs.declared.format.PreallocateMode.{PreallocateMode}
 use Rattle.imago_drivers.specs.LayerBelow.{lent}
-use Rattle.imago_cow.specs.Table.{named_count}
+use Rattle.imago_cow.specs.Table.{named_count, is_absent}
 use Rattle.imago_cow.specs.TableView.{entries_of, count_of}
 use Rattle.imago_cow.specs.TableLaws.{named_below, named_once}
 use Rattle.imago_cow.specs.Guest.{is_data}
@@ -33,11 +33,11 @@ returns-in-Absent-clause-filled g c =
     let f = g.S.Storage.features c.args.storage.now in
     let A = g.S.Storage.bytes c.args.storage.now in
     let L = lent g.B.LowerLayer.as_layer_below c.args.below in
-    let low : c.is_lower-lower.result ≡ shows_below c.args.growth.mode = c.is_lower-lower.ensures in
+    let low : (is_absent c.kind_of_new-new_kind.result) ≡ shows_below c.args.growth.mode = c.kind_of_new-new_kind.ensures in
     let cutting : 0 < c.args.growth.size % c.args.growth.block.length = omega (arith, (rw c.rest-rest.ensures.value at c.if-rest-eq0.false)) in
     let some : c.args.growth.mode ≡ PreallocateMode.None → ⊥ = c.adds_nothing.ensures.some c.if-adds_nothing.false in
     let r = c.fill_taken.ensures in
-    on_ok c.fill_taken.result (λ x e. taken_filled L.at c.args.growth.mode f.keeps_data c.args.growth.block.length c.args.growth.size c.args.growth.new_size c.requires.ready.positive E (entries_of c.fill_taken.new.table) A (g.S.Storage.bytes c.fill_taken.new.storage) c.min-count.result true c.is_lower-lower.result cutting r.entries.len
+    on_ok c.fill_taken.result (λ x e. taken_filled L.at c.args.growth.mode f.keeps_data c.args.growth.block.length c.args.growth.size c.args.growth.new_size c.requires.ready.positive E (entries_of c.fill_taken.new.table) A (g.S.Storage.bytes c.fill_taken.new.storage) c.min-count.result true (is_absent c.kind_of_new-new_kind.result) cutting r.entries.len
     (λ x. c.entry_at.ensures ∙ ap (λ y. Some y) c.in-Absent.is) (λ x. let z : ⊥ = cc in absurd z) (rw c.rest-rest.ensures.value at c.min-count.ensures) low some (λ k. ok_holds x e (r.entered k)))
 
 pub returns-in-Absent-clause-bounded : goal.returns-in-Absent-clause-bounded
@@ -46,45 +46,45 @@ returns-in-Absent-clause-bounded g c = λ most m1 m2.
     let E = entries_of t in
     let growth = c.args.growth in
     let f = g.S.Storage.features c.args.storage.now in
-    let low : c.is_lower-lower.result ≡ shows_below growth.mode = c.is_lower-lower.ensures in
+    let low : (is_absent c.kind_of_new-new_kind.result) ≡ shows_below growth.mode = c.kind_of_new-new_kind.ensures in
     let cutting : 0 < growth.size % growth.block.length = omega (arith, (rw c.rest-rest.ensures.value at c.if-rest-eq0.false)) in
     let limit = max (count_of t) (named_count E + 1) in
     let less : limit ≤ most = omega (arith, m1, m2 cutting (ap is_data (c.entry_at.ensures ∙ ap (λ y. Some y) c.in-Absent.is))) in
     record {
       counted = omega (arith, less, c.fill_taken.ensures.taken.added);
       no_longer = limit_padded f growth.block.length limit most _ _ c.requires.ready.positive (omega arith) less c.fill_taken.ensures.no_longer;
-      refusals = rw (← low) (if_limit_refused f (lent g.B.LowerLayer.as_layer_below c.args.below) (limit * growth.block.length) (most * growth.block.length) (IsCutRead growth.block.length growth.size E c.is_lower-lower.result growth.new_size) (IsCutRead growth.block.length growth.size E c.is_lower-lower.result growth.new_size) c.fill_taken.result (times_more growth.block.length limit most less) (λ p x. x)
+      refusals = rw (← low) (if_limit_refused f (lent g.B.LowerLayer.as_layer_below c.args.below) (limit * growth.block.length) (most * growth.block.length) (IsCutRead growth.block.length growth.size E (is_absent c.kind_of_new-new_kind.result) growth.new_size) (IsCutRead growth.block.length growth.size E (is_absent c.kind_of_new-new_kind.result) growth.new_size) c.fill_taken.result (times_more growth.block.length limit most less) (λ p x. x)
           (c.fill_taken.ensures.refusals growth.new_size (omega (arith, (rw c.rest-rest.ensures.value at c.min-count.ensures), c.requires.grows))));
     }
 
-pub returns-else-not-lower-clause-filled : goal.returns-else-not-lower-clause-filled
-returns-else-not-lower-clause-filled g c =
+pub returns-else-not-leads_below-clause-filled : goal.returns-else-not-leads_below-clause-filled
+returns-else-not-leads_below-clause-filled g c =
     let t = c.args.table.now in
     let E = entries_of t in
     let f = g.S.Storage.features c.args.storage.now in
     let A = g.S.Storage.bytes c.args.storage.now in
     let L = lent g.B.LowerLayer.as_layer_below c.args.below in
-    let low : c.is_lower-lower.result ≡ shows_below c.args.growth.mode = c.is_lower-lower.ensures in
+    let low : (is_absent c.kind_of_new-new_kind.result) ≡ shows_below c.args.growth.mode = c.kind_of_new-new_kind.ensures in
     let cutting : 0 < c.args.growth.size % c.args.growth.block.length = omega (arith, (rw c.rest-rest.ensures.value at c.if-rest-eq0.false)) in
     let some : c.args.growth.mode ≡ PreallocateMode.None → ⊥ = c.adds_nothing.ensures.some c.if-adds_nothing.false in
     let r = c.fill_taken-in-Zero.ensures in
-    on_ok c.fill_taken-in-Zero.result (λ x e. taken_filled L.at c.args.growth.mode f.keeps_data c.args.growth.block.length c.args.growth.size c.args.growth.new_size c.requires.ready.positive E (entries_of c.fill_taken-in-Zero.new.table) A (g.S.Storage.bytes c.fill_taken-in-Zero.new.storage) c.min-count.result false c.is_lower-lower.result cutting r.entries.len
+    on_ok c.fill_taken-in-Zero.result (λ x e. taken_filled L.at c.args.growth.mode f.keeps_data c.args.growth.block.length c.args.growth.size c.args.growth.new_size c.requires.ready.positive E (entries_of c.fill_taken-in-Zero.new.table) A (g.S.Storage.bytes c.fill_taken-in-Zero.new.storage) c.min-count.result false (is_absent c.kind_of_new-new_kind.result) cutting r.entries.len
     (λ x. let z : ⊥ = cc in absurd z) (λ x. c.entry_at.ensures ∙ ap (λ y. Some y) c.in-Zero.is) (rw c.rest-rest.ensures.value at c.min-count.ensures) low some (λ k. ok_holds x e (r.entered k)))
 
-pub returns-else-not-lower-clause-bounded : goal.returns-else-not-lower-clause-bounded
-returns-else-not-lower-clause-bounded g c = λ most m1 m2.
+pub returns-else-not-leads_below-clause-bounded : goal.returns-else-not-leads_below-clause-bounded
+returns-else-not-leads_below-clause-bounded g c = λ most m1 m2.
     let t = c.args.table.now in
     let E = entries_of t in
     let growth = c.args.growth in
     let f = g.S.Storage.features c.args.storage.now in
-    let low : c.is_lower-lower.result ≡ shows_below growth.mode = c.is_lower-lower.ensures in
+    let low : (is_absent c.kind_of_new-new_kind.result) ≡ shows_below growth.mode = c.kind_of_new-new_kind.ensures in
     let cutting : 0 < growth.size % growth.block.length = omega (arith, (rw c.rest-rest.ensures.value at c.if-rest-eq0.false)) in
     let limit = max (count_of t) (named_count E + 1) in
     let less : limit ≤ most = omega (arith, m1, m2 cutting (ap is_data (c.entry_at.ensures ∙ ap (λ y. Some y) c.in-Zero.is))) in
     record {
       counted = omega (arith, less, c.fill_taken-in-Zero.ensures.taken.added);
       no_longer = limit_padded f growth.block.length limit most _ _ c.requires.ready.positive (omega arith) less c.fill_taken-in-Zero.ensures.no_longer;
-      refusals = rw (← low) (if_limit_refused f (lent g.B.LowerLayer.as_layer_below c.args.below) (limit * growth.block.length) (most * growth.block.length) (IsCutRead growth.block.length growth.size E c.is_lower-lower.result growth.new_size) (IsCutRead growth.block.length growth.size E c.is_lower-lower.result growth.new_size) c.fill_taken-in-Zero.result (times_more growth.block.length limit most less) (λ p x. x)
+      refusals = rw (← low) (if_limit_refused f (lent g.B.LowerLayer.as_layer_below c.args.below) (limit * growth.block.length) (most * growth.block.length) (IsCutRead growth.block.length growth.size E (is_absent c.kind_of_new-new_kind.result) growth.new_size) (IsCutRead growth.block.length growth.size E (is_absent c.kind_of_new-new_kind.result) growth.new_size) c.fill_taken-in-Zero.result (times_more growth.block.length limit most less) (λ p x. x)
           (c.fill_taken-in-Zero.ensures.refusals growth.new_size (omega (arith, (rw c.rest-rest.ensures.value at c.min-count.ensures), c.requires.grows))));
     }
 
@@ -95,7 +95,7 @@ returns-in-Data-clause-filled g c =
     let f = g.S.Storage.features c.args.storage.now in
     let A = g.S.Storage.bytes c.args.storage.now in
     let L = lent g.B.LowerLayer.as_layer_below c.args.below in
-    let low : c.is_lower-lower.result ≡ shows_below c.args.growth.mode = c.is_lower-lower.ensures in
+    let low : (is_absent c.kind_of_new-new_kind.result) ≡ shows_below c.args.growth.mode = c.kind_of_new-new_kind.ensures in
     let cutting : 0 < c.args.growth.size % c.args.growth.block.length = omega (arith, (rw c.rest-rest.ensures.value at c.if-rest-eq0.false)) in
     let some : c.args.growth.mode ≡ PreallocateMode.None → ⊥ = c.adds_nothing.ensures.some c.if-adds_nothing.false in
     let j = c.in-Data.number in
@@ -104,7 +104,7 @@ returns-in-Data-clause-filled g c =
     let rest = rest_small c.args.growth.block.length c.requires.ready.positive c.args.growth.size in
     let fits : c.args.growth.size % c.args.growth.block.length + c.min-count.result ≤ c.args.growth.block.length = omega (arith, (rw c.rest-rest.ensures.value at c.min-count.ensures), rest) in
     let B = g.S.Storage.bytes c.copy_old.new.storage in
-    on_ok c.copy_old.result (λ x e. data_filled L.at c.args.growth.mode f.keeps_data c.args.growth.block.length c.args.growth.size c.args.growth.new_size c.requires.ready.positive E A B j c.min-count.result c.is_lower-lower.result cutting (λ i k n a b. named_once t i k n a b) named (rw c.rest-rest.ensures.value at c.min-count.ensures) low some
+    on_ok c.copy_old.result (λ x e. data_filled L.at c.args.growth.mode f.keeps_data c.args.growth.block.length c.args.growth.size c.args.growth.new_size c.requires.ready.positive E A B j c.min-count.result (is_absent c.kind_of_new-new_kind.result) cutting (λ i k n a b. named_once t i k n a b) named (rw c.rest-rest.ensures.value at c.min-count.ensures) low some
     (λ k. ok_holds x e (rw c.rest-rest.ensures.value at (c.copy_old.ensures.copied k))) (rw c.rest-rest.ensures.value at c.copy_old.ensures.outside))
 
 pub returns-in-Data-clause-places : goal.returns-in-Data-clause-places
@@ -114,7 +114,7 @@ returns-in-Data-clause-places g c =
     let f = g.S.Storage.features c.args.storage.now in
     let A = g.S.Storage.bytes c.args.storage.now in
     let L = lent g.B.LowerLayer.as_layer_below c.args.below in
-    let low : c.is_lower-lower.result ≡ shows_below c.args.growth.mode = c.is_lower-lower.ensures in
+    let low : (is_absent c.kind_of_new-new_kind.result) ≡ shows_below c.args.growth.mode = c.kind_of_new-new_kind.ensures in
     let cutting : 0 < c.args.growth.size % c.args.growth.block.length = omega (arith, (rw c.rest-rest.ensures.value at c.if-rest-eq0.false)) in
     let some : c.args.growth.mode ≡ PreallocateMode.None → ⊥ = c.adds_nothing.ensures.some c.if-adds_nothing.false in
     let j = c.in-Data.number in
@@ -131,7 +131,7 @@ returns-in-Data-clause-bounded g c = λ most m1 m2.
     let E = entries_of t in
     let growth = c.args.growth in
     let f = g.S.Storage.features c.args.storage.now in
-    let low : c.is_lower-lower.result ≡ shows_below growth.mode = c.is_lower-lower.ensures in
+    let low : (is_absent c.kind_of_new-new_kind.result) ≡ shows_below growth.mode = c.kind_of_new-new_kind.ensures in
     let j = c.in-Data.number in
     let known = named_below t _ j (c.entry_at.ensures ∙ ap (λ x. Some x) c.in-Data.is) in
     let rest = rest_small growth.block.length c.requires.ready.positive growth.size in
@@ -140,8 +140,8 @@ returns-in-Data-clause-bounded g c = λ most m1 m2.
     record {
       counted = m1;
       no_longer = part_padded f growth.block.length j most (growth.size % growth.block.length) c.min-count.result _ _ c.requires.ready.positive less fits (rw c.rest-rest.ensures.value at c.copy_old.ensures.no_longer);
-      refusals = rw (← low) (if_refused f (lent g.B.LowerLayer.as_layer_below c.args.below) c.is_lower-lower.result growth.size c.min-count.result (j * growth.block.length + growth.size % growth.block.length) (most * growth.block.length) (IsCutRead growth.block.length growth.size E c.is_lower-lower.result growth.new_size) c.copy_old.result
-          (omega (arith, number_ends growth.block.length j most less, fits)) (reads_behind growth.block.length growth.size c.min-count.result growth.new_size E c.is_lower-lower.result (omega (arith, (rw c.rest-rest.ensures.value at c.min-count.ensures), c.requires.grows))) (rw c.rest-rest.ensures.value at c.copy_old.ensures.refusals));
+      refusals = rw (← low) (if_refused f (lent g.B.LowerLayer.as_layer_below c.args.below) (is_absent c.kind_of_new-new_kind.result) growth.size c.min-count.result (j * growth.block.length + growth.size % growth.block.length) (most * growth.block.length) (IsCutRead growth.block.length growth.size E (is_absent c.kind_of_new-new_kind.result) growth.new_size) c.copy_old.result
+          (omega (arith, number_ends growth.block.length j most less, fits)) (reads_behind growth.block.length growth.size c.min-count.result growth.new_size E (is_absent c.kind_of_new-new_kind.result) (omega (arith, (rw c.rest-rest.ensures.value at c.min-count.ensures), c.requires.grows))) (rw c.rest-rest.ensures.value at c.copy_old.ensures.refusals));
     }
 
 pub returns-in-Absent-clause-entry : goal.returns-in-Absent-clause-entry
@@ -150,8 +150,8 @@ returns-in-Absent-clause-entry g c =
     let q = ok_holds x e c.fill_taken.ensures.entries.done in
     inr (record { cuts = omega (arith, (rw c.rest-rest.ensures.value at c.if-rest-eq0.false)); empty = ap is_data (c.entry_at.ensures ∙ ap (λ y. Some y) c.in-Absent.is); number = q.0; entries = q.1 }))
 
-pub returns-else-not-lower-clause-entry : goal.returns-else-not-lower-clause-entry
-returns-else-not-lower-clause-entry g c =
+pub returns-else-not-leads_below-clause-entry : goal.returns-else-not-leads_below-clause-entry
+returns-else-not-leads_below-clause-entry g c =
     on_ok c.fill_taken-in-Zero.result (λ x e.
     let q = ok_holds x e c.fill_taken-in-Zero.ensures.entries.done in
     inr (record { cuts = omega (arith, (rw c.rest-rest.ensures.value at c.if-rest-eq0.false)); empty = ap is_data (c.entry_at.ensures ∙ ap (λ y. Some y) c.in-Zero.is); number = q.0; entries = q.1 }))
@@ -173,18 +173,18 @@ returns-in-Absent-clause-grown g c =
     let put = ok_holds x e c.fill_taken.ensures.entries.done in
     absent_put growth.mode growth.block.length growth.size (entries_of c.args.table.now) (entries_of c.fill_taken.new.table) (put.0) (c.requires.within cutting) (put.1) (c.entry_at.ensures ∙ ap (λ y. Some y) c.in-Absent.is) (c.adds_nothing.ensures.some c.if-adds_nothing.false))
 
-pub returns-then-not-lower-clause-grown : goal.returns-then-not-lower-clause-grown
-returns-then-not-lower-clause-grown g c =
+pub returns-then-not-leads_below-clause-grown : goal.returns-then-not-leads_below-clause-grown
+returns-then-not-leads_below-clause-grown g c =
     let growth = c.args.growth in
-    cut_zero growth.mode growth.block.length growth.size (entries_of c.args.table.now) (c.entry_at.ensures ∙ ap (λ y. Some y) c.in-Zero.is) (sym c.is_lower-lower.ensures ∙ c.if-not-lower.true)
+    cut_zero growth.mode growth.block.length growth.size (entries_of c.args.table.now) (c.entry_at.ensures ∙ ap (λ y. Some y) c.in-Zero.is) (sym c.kind_of_new-new_kind.ensures ∙ sym c.leads_below.ensures ∙ c.if-not-leads_below.true)
 
-pub returns-else-not-lower-clause-grown : goal.returns-else-not-lower-clause-grown
-returns-else-not-lower-clause-grown g c =
+pub returns-else-not-leads_below-clause-grown : goal.returns-else-not-leads_below-clause-grown
+returns-else-not-leads_below-clause-grown g c =
     let growth = c.args.growth in
     let cutting : 0 < growth.size % growth.block.length = omega (arith, (rw c.rest-rest.ensures.value at c.if-rest-eq0.false)) in
     on_ok c.fill_taken-in-Zero.result (λ x e.
     let put = ok_holds x e c.fill_taken-in-Zero.ensures.entries.done in
-    zero_put growth.mode growth.block.length growth.size (entries_of c.args.table.now) (entries_of c.fill_taken-in-Zero.new.table) (put.0) (c.requires.within cutting) (put.1) (c.entry_at.ensures ∙ ap (λ y. Some y) c.in-Zero.is) (sym c.is_lower-lower.ensures ∙ c.if-not-lower.false))
+    zero_put growth.mode growth.block.length growth.size (entries_of c.args.table.now) (entries_of c.fill_taken-in-Zero.new.table) (put.0) (c.requires.within cutting) (put.1) (c.entry_at.ensures ∙ ap (λ y. Some y) c.in-Zero.is) (sym c.kind_of_new-new_kind.ensures ∙ sym c.leads_below.ensures ∙ c.if-not-leads_below.false))
 
 pub returns-in-Data-clause-grown : goal.returns-in-Data-clause-grown
 returns-in-Data-clause-grown g c =

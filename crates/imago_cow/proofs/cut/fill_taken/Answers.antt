@@ -4,12 +4,13 @@ use Rattle.imago_storage.specs.Features.{len_align}
 use Rattle.std.specs.Prelude.{slice_set}
 use Rattle.imago_drivers.specs.LayerBelow.{lent}
 use Rattle.imago_cow.specs.declared.table.GuestBlock.{GuestBlock}
-use Rattle.imago_cow.specs.Table.{named_count}
+use Rattle.imago_cow.specs.Table.{named_count, is_absent}
 use Rattle.imago_cow.specs.TableView.{entries_of, count_of}
 use Rattle.imago_cow.specs.TableLaws.{held_below, held_apart}
 use Rattle.imago_cow.specs.Cut.{IsCutRead}
 use Rattle.imago_cow.proofs.MapSteps.{number_ends}
 use Rattle.imago_cow.proofs.CommitSteps.{set_entered}
+use Rattle.imago_cow.proofs.PrepareSteps.{empty_absent}
 use Rattle.imago_cow.proofs.CutSteps.{take_refused, filled_length, other_bytes}
 use Rattle.imago_cow.proofs.cut.fill_taken.Goals as goal
 
@@ -20,7 +21,7 @@ returns-in_err-number-clause-refusals g c = λ new_size h.
     let f = g.S.Storage.features c.args.storage.now in
     let A = g.S.Storage.bytes c.args.storage.now in
     let p = err_from_is_err_and c.from_residual.result c.from_residual.ensures.1 in
-    rw (p.1, p.2) (take_refused f (lent g.B.LowerLayer.as_layer_below c.args.below) cut.block.length (count_of c.args.table.now) (named_count E) (IsCutRead cut.block.length cut.size E cut.lower new_size) c.in_err-number.field-0.0
+    rw (p.1, p.2) (take_refused f (lent g.B.LowerLayer.as_layer_below c.args.below) cut.block.length (count_of c.args.table.now) (named_count E) (IsCutRead cut.block.length cut.size E (is_absent cut.new_kind) new_size) c.in_err-number.field-0.0
     (g.met.S.Storage.lawful c.args.storage.now) c.in_err-number.ensures.only (λ w. c.take_block.ensures.wraps (c.in_err-number.was ∙ ap (λ x. Err x) w)))
 
 pub returns-in-Ok-clause-entered : goal.returns-in-Ok-clause-entered
@@ -101,7 +102,7 @@ returns-in-Err-clause-refusals g c = λ new_size h.
     let B = g.S.Storage.bytes c.fill_both.new.storage in
     let held = c.in_ok-number.ensures.held in
     let known : number < max (count_of c.args.table.now) (named_count E + 1) = omega (arith, held_below c.take_block.new.table number held, c.take_block.ensures.added) in
-    c.in-Err.ensures.refusals (max (count_of c.args.table.now) (named_count E + 1) * cut.block.length) E new_size (number_ends cut.block.length number (max (count_of c.args.table.now) (named_count E + 1)) known) h c.requires.empty.leads_below
+    c.in-Err.ensures.refusals (max (count_of c.args.table.now) (named_count E + 1) * cut.block.length) E new_size (number_ends cut.block.length number (max (count_of c.args.table.now) (named_count E + 1)) known) h (empty_absent c.args.cut.kind _ c.requires.empty)
 
 pub returns-in-Ok-clause-entries : goal.returns-in-Ok-clause-entries
 returns-in-Ok-clause-entries g c =

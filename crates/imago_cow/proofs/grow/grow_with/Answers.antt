@@ -31,8 +31,8 @@ pub restore_cut-requires-clause-within : goal.restore_cut-requires-clause-within
 restore_cut-requires-clause-within g c =
     within_same c.empty_cut-was.result (c.args.growth.size / c.args.growth.block.length) (length (entries_of c.args.table.now)) (length (entries_of c.add_new.new.table)) (ap length c.in-Err.ensures.refused ∙ (c.in_ok-fill_cut.ensures.filled).len) c.empty_cut-was.ensures.within
 
-pub returns-in_err-fill_cut-clause-refused : goal.returns-in_err-fill_cut-clause-refused
-returns-in_err-fill_cut-clause-refused g c =
+pub returns-in_err-fill_cut-clause-call : goal.returns-in_err-fill_cut-clause-call
+returns-in_err-fill_cut-clause-call g c =
     let a = c.args in
     let growth = a.growth in
     let E = entries_of a.table.now in
@@ -55,13 +55,13 @@ returns-in_err-fill_cut-clause-refused g c =
     let e1 = c.fill_cut.ensures in
     let e = c.in_err-fill_cut.field-0.0 in
     let p = err_from_is_err_and c.from_residual.result c.from_residual.ensures.1 in
-    rw (p.1, p.2) (not_grown f k0 k1 A B B growth.size growth.block.length growth.new_size E E E n0 (count_of c.fill_cut.new.table) L growth.mode lower pos c.requires.grows ex low c.requires.some e
+    rw (p.1, p.2, c.in_err-fill_cut.ensures.entries) (not_grown f k0 k1 A B B growth.size growth.block.length growth.new_size E E E n0 (count_of c.fill_cut.new.table) L growth.mode lower pos c.requires.grows ex low c.requires.some e
     (cut_refused f k0 k1 A B B growth.size growth.block.length growth.new_size E E E n0 (count_of c.fill_cut.new.table) L growth.mode lower pos c.requires.grows ex low c.requires.some e1.places e1.call.no_shorter)
     ((e1.bounded most more fit).no_longer) c.in_err-fill_cut.ensures.call.faults
     (if_grow_refused f k0 A growth.size growth.block.length E n0 L growth.mode growth.new_size _ uses (cut_read growth.block.length growth.size growth.new_size E n0 growth.mode lower pos c.requires.grows ex low c.requires.some) e ((c.in_err-fill_cut.ensures.bounded most more fit).refusals)))
 
-pub returns-in-Err-clause-refused : goal.returns-in-Err-clause-refused
-returns-in-Err-clause-refused g c =
+pub returns-in-Err-clause-call : goal.returns-in-Err-clause-call
+returns-in-Err-clause-call g c =
     let a = c.args in
     let growth = a.growth in
     let E = entries_of a.table.now in
@@ -101,10 +101,11 @@ returns-in-Err-clause-refused g c =
     let e = c.in-Err.e in
     let err2 = c.in-Err.ensures in
     let then : CountsFaults {T = Unit {0}} (f.is_reliable && L.is_reliable) k1 k2 (Err e) = rw e1.call.features at err2.call.faults in
-    not_grown f k0 k2 A B D growth.size growth.block.length growth.new_size E M E n0 (count_of c.restore_cut.new.table) L growth.mode lower pos c.requires.grows ex low c.requires.some e
+    let back = c.restore_cut.ensures.restored E c.empty_cut-was.ensures.empty (subst (λ x. IsCutEntered growth.block.length growth.size E x) (sym c.in-Err.ensures.refused) entered) in
+    rw back (not_grown f k0 k2 A B D growth.size growth.block.length growth.new_size E M E n0 (count_of c.restore_cut.new.table) L growth.mode lower pos c.requires.grows ex low c.requires.some e
     (add_refused f k0 k2 A B D growth.size growth.block.length growth.new_size E M E n0 (count_of c.restore_cut.new.table) L growth.mode lower pos c.requires.grows ex low c.requires.some entered filled.len e1.places (rw e1.call.features at e2.bytes) (omega (arith, e1.call.no_shorter, e2.call.no_shorter)))
     longer (counts_then (f.is_reliable && L.is_reliable) k0 k1 k2 (Err e) first then)
-    (if_grow_refused f k0 A growth.size growth.block.length E n0 L growth.mode growth.new_size _ uses (added_read growth.block.length growth.size growth.new_size E n0 growth.mode lower pos c.requires.grows ex low c.requires.some M filled.len) e (rw e1.call.features at ((err2.bounded most wanted bc bn counted nf).refusals)))
+    (if_grow_refused f k0 A growth.size growth.block.length E n0 L growth.mode growth.new_size _ uses (added_read growth.block.length growth.size growth.new_size E n0 growth.mode lower pos c.requires.grows ex low c.requires.some M filled.len) e (rw e1.call.features at ((err2.bounded most wanted bc bn counted nf).refusals))))
 
 pub returns-in-Err-clause-entries : goal.returns-in-Err-clause-entries
 returns-in-Err-clause-entries g c =
@@ -113,8 +114,8 @@ returns-in-Err-clause-entries g c =
     let E = entries_of a.table.now in
     c.restore_cut.ensures.restored E c.empty_cut-was.ensures.empty (subst (λ x. IsCutEntered growth.block.length growth.size E x) (sym c.in-Err.ensures.refused) c.in_ok-fill_cut.ensures.entry)
 
-pub returns-clause-grown : goal.returns-clause-grown
-returns-clause-grown g c =
+pub returns-clause-call : goal.returns-clause-call
+returns-clause-call g c =
     let a = c.args in
     let growth = a.growth in
     let E = entries_of a.table.now in

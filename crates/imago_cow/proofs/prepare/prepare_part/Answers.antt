@@ -1,15 +1,15 @@
-use Rattle.std.proofs.Common.{◌≡◌, ◌+◌, ◌*◌, ◌%◌, ◌<◌, ◌≤◌, ◌⊎◌, ◌∙◌, ⊎_elim, inl, inr, None, ap, refl, arith}
+use Rattle.std.proofs.Common.{rules, ◌≡◌, ◌+◌, ◌*◌, ◌%◌, ◌<◌, ◌≤◌, ◌⊎◌, ◌∙◌, ⊎_elim, inl, inr, None, ap, refl, arith}
 use Rattle.std.proofs.lemmas.Bool.{cases_lt}
 use Rattle.imago_drivers.specs.Operation.{Write}
 use Rattle.imago_drivers.specs.LayerBelow.{lent}
 use Rattle.imago_cow.specs.declared.cow.Waiting.{Waiting}
 use Rattle.imago_cow.specs.Cow.{WaitsApart, data_count}
-use Rattle.imago_cow.specs.Table.{named_count}
+use Rattle.imago_cow.specs.Table.{named_count, is_absent}
 use Rattle.imago_cow.specs.TableView.{entries_of, count_of}
 use Rattle.imago_cow.specs.TableLaws.{held_apart}
 use Rattle.imago_cow.specs.GuestLaws.{rest_small}
 use Rattle.imago_cow.proofs.MapSteps.{number_ends}
-use Rattle.imago_cow.proofs.PrepareSteps.{empty_entry, one_more, prepared, prepared_unchanged, prepared_settled, length_within, round_refused, over_refused, full_wraps, full_refused}
+use Rattle.imago_cow.proofs.PrepareSteps.{kind_entry, empty_absent, empty_zero, one_more, prepared, prepared_unchanged, prepared_settled, length_within, round_refused, over_refused, full_wraps, full_refused}
 use Rattle.imago_cow.proofs.prepare.prepare_part.Goals as goal
 
 pub overflow_mul-start : goal.overflow_mul-start
@@ -115,7 +115,7 @@ returns-in-Ok-clause-waits g c =
       offset = refl;
       known = omega (arith, c.in_ok-number.ensures.count);
       apart = λ i h. held_apart c.take.new.self i number c.in_ok-number.ensures.held (rw e h);
-      free = empty_entry part.absent _ c.requires.part.empty.leads_below c.requires.part.empty.is_zero;
+      free = kind_entry part.kind _ c.requires.part.empty;
     } in
     record {
       held = c.in_ok-number.ensures.held;
@@ -127,7 +127,7 @@ returns-in-Ok-clause-waits g c =
     }
 
 pub returns-in-Ok-clause-prepared : goal.returns-in-Ok-clause-prepared
-returns-in-Ok-clause-prepared g c = λ most now_faults old_faults m some run storage offset long state.
+returns-in-Ok-clause-prepared g c = λ most now_faults old_faults m some run own.
     let part = c.args.part in
     let number = c.in_ok-number.number in
     let e = c.take.ensures.entries in
@@ -139,11 +139,11 @@ returns-in-Ok-clause-prepared g c = λ most now_faults old_faults m some run sto
       offset = refl;
       known = omega (arith, c.in_ok-number.ensures.count);
       apart = λ i h. held_apart c.take.new.self i number c.in_ok-number.ensures.held (rw e h);
-      free = empty_entry part.absent _ c.requires.part.empty.leads_below c.requires.part.empty.is_zero;
+      free = kind_entry part.kind _ c.requires.part.empty;
     } in
-    rw c.rest.ensures.value (prepared (g.S.Storage.features c.args.storage.now) old_faults now_faults (g.S.Storage.bytes c.args.storage.now) (g.S.Storage.bytes c.copy_round.new.storage) part.size part.block.length _ _ _ w c.requires.idle.ready.positive c.requires.idle.exact.covers apart c.take.ensures.added
-    (lent g.B.LowerLayer.as_layer_below c.args.below).at part.absent part.overwrite c.requires.part.empty.leads_below c.requires.part.empty.is_zero c.in-Ok.ensures.copied
-    part.offset most m refl some run storage (rw c.rest.ensures.value at offset) long state)
+    rw (e, c.rest.ensures.value) (prepared (g.S.Storage.features c.args.storage.now) old_faults now_faults (g.S.Storage.bytes c.args.storage.now) (g.S.Storage.bytes c.copy_round.new.storage) part.size part.block.length _ _ _ w c.requires.idle.ready.positive c.requires.idle.exact.covers apart c.take.ensures.added
+    (lent g.B.LowerLayer.as_layer_below c.args.below).at (is_absent part.kind) part.overwrite (empty_absent part.kind _ c.requires.part.empty) (empty_zero part.kind _ c.requires.part.empty) c.in-Ok.ensures.copied
+    part.offset most m refl some run own.storage (rw c.rest.ensures.value at own.offset) own.run own.state)
 
 pub returns-in-Ok-clause-unchanged : goal.returns-in-Ok-clause-unchanged
 returns-in-Ok-clause-unchanged g c = λ now_faults old_faults v.
@@ -158,9 +158,9 @@ returns-in-Ok-clause-unchanged g c = λ now_faults old_faults v.
       offset = refl;
       known = omega (arith, c.in_ok-number.ensures.count);
       apart = λ i h. held_apart c.take.new.self i number c.in_ok-number.ensures.held (rw e h);
-      free = empty_entry part.absent _ c.requires.part.empty.leads_below c.requires.part.empty.is_zero;
+      free = kind_entry part.kind _ c.requires.part.empty;
     } in
-    prepared_unchanged (g.S.Storage.features c.args.storage.now) old_faults now_faults (g.S.Storage.bytes c.args.storage.now) (g.S.Storage.bytes c.copy_round.new.storage) part.size part.block.length _ _ _ w c.requires.idle.ready.positive c.requires.idle.exact.covers apart c.take.ensures.added v c.copy_round.ensures.outside
+    rw e (prepared_unchanged (g.S.Storage.features c.args.storage.now) old_faults now_faults (g.S.Storage.bytes c.args.storage.now) (g.S.Storage.bytes c.copy_round.new.storage) part.size part.block.length _ _ _ w c.requires.idle.ready.positive c.requires.idle.exact.covers apart c.take.ensures.added v c.copy_round.ensures.outside)
 
 pub returns-in-Err-clause-unchanged : goal.returns-in-Err-clause-unchanged
 returns-in-Err-clause-unchanged g c = λ now_faults old_faults v.
@@ -175,9 +175,9 @@ returns-in-Err-clause-unchanged g c = λ now_faults old_faults v.
       offset = refl;
       known = omega (arith, c.in_ok-number.ensures.count);
       apart = λ i h. held_apart c.take.new.self i number c.in_ok-number.ensures.held (rw e h);
-      free = empty_entry part.absent _ c.requires.part.empty.leads_below c.requires.part.empty.is_zero;
+      free = kind_entry part.kind _ c.requires.part.empty;
     } in
-    rw c.release.ensures.count (prepared_unchanged (g.S.Storage.features c.args.storage.now) old_faults now_faults (g.S.Storage.bytes c.args.storage.now) (g.S.Storage.bytes c.copy_round.new.storage) part.size part.block.length _ _ _ w c.requires.idle.ready.positive c.requires.idle.exact.covers apart c.take.ensures.added v c.copy_round.ensures.outside)
+    rw (c.release.ensures.count, c.release.ensures.entries, e) (prepared_unchanged (g.S.Storage.features c.args.storage.now) old_faults now_faults (g.S.Storage.bytes c.args.storage.now) (g.S.Storage.bytes c.copy_round.new.storage) part.size part.block.length _ _ _ w c.requires.idle.ready.positive c.requires.idle.exact.covers apart c.take.ensures.added v c.copy_round.ensures.outside)
 
 pub returns-in-Ok-clause-settled : goal.returns-in-Ok-clause-settled
 returns-in-Ok-clause-settled g c =
@@ -192,7 +192,7 @@ returns-in-Ok-clause-settled g c =
       offset = refl;
       known = omega (arith, c.in_ok-number.ensures.count);
       apart = λ i h. held_apart c.take.new.self i number c.in_ok-number.ensures.held (rw e h);
-      free = empty_entry part.absent _ c.requires.part.empty.leads_below c.requires.part.empty.is_zero;
+      free = kind_entry part.kind _ c.requires.part.empty;
     } in
     prepared_settled (g.S.Storage.features c.args.storage.now) part.size part.block.length _ _ _ w c.requires.idle.ready.positive c.requires.idle.exact.covers apart c.take.ensures.added part.run c.requires.part.some
 
@@ -202,7 +202,7 @@ returns-in-Ok-clause-no_longer g c = λ most some.
     let number = c.in_ok-number.number in
     let e = c.take.ensures.entries in
     let under : part.offset < part.size = omega (arith, c.requires.part.some, c.requires.part.inside) in
-    let more = one_more part.block.length part.size (entries_of c.args.table.now) (count_of c.args.table.now) c.requires.idle.ready.positive c.requires.idle.exact.covers part.offset under (empty_entry part.absent _ c.requires.part.empty.leads_below c.requires.part.empty.is_zero) Write part.offset most tt (omega arith) (omega (arith, some)) in
+    let more = one_more part.block.length part.size (entries_of c.args.table.now) (count_of c.args.table.now) c.requires.idle.ready.positive c.requires.idle.exact.covers part.offset under (kind_entry part.kind _ c.requires.part.empty) Write part.offset most tt (omega arith) (omega (arith, some)) in
     let known : number < data_count part.block.length part.size (entries_of c.args.table.now) (count_of c.args.table.now) None Write part.offset most = omega (arith, more, c.in_ok-number.ensures.count, c.take.ensures.added) in
     length_within (g.S.Storage.features c.args.storage.now) part.block.length number _ _ _ c.requires.idle.ready.positive known c.copy_round.ensures.no_longer
 
@@ -212,7 +212,7 @@ returns-in-Err-clause-no_longer g c = λ most some.
     let number = c.in_ok-number.number in
     let e = c.take.ensures.entries in
     let under : part.offset < part.size = omega (arith, c.requires.part.some, c.requires.part.inside) in
-    let more = one_more part.block.length part.size (entries_of c.args.table.now) (count_of c.args.table.now) c.requires.idle.ready.positive c.requires.idle.exact.covers part.offset under (empty_entry part.absent _ c.requires.part.empty.leads_below c.requires.part.empty.is_zero) Write part.offset most tt (omega arith) (omega (arith, some)) in
+    let more = one_more part.block.length part.size (entries_of c.args.table.now) (count_of c.args.table.now) c.requires.idle.ready.positive c.requires.idle.exact.covers part.offset under (kind_entry part.kind _ c.requires.part.empty) Write part.offset most tt (omega arith) (omega (arith, some)) in
     let known : number < data_count part.block.length part.size (entries_of c.args.table.now) (count_of c.args.table.now) None Write part.offset most = omega (arith, more, c.in_ok-number.ensures.count, c.take.ensures.added) in
     length_within (g.S.Storage.features c.args.storage.now) part.block.length number _ _ _ c.requires.idle.ready.positive known c.copy_round.ensures.no_longer
 
@@ -222,10 +222,10 @@ returns-in-Err-clause-refusals g c = λ old_faults most some.
     let number = c.in_ok-number.number in
     let e = c.take.ensures.entries in
     let under : part.offset < part.size = omega (arith, c.requires.part.some, c.requires.part.inside) in
-    let more = one_more part.block.length part.size (entries_of c.args.table.now) (count_of c.args.table.now) c.requires.idle.ready.positive c.requires.idle.exact.covers part.offset under (empty_entry part.absent _ c.requires.part.empty.leads_below c.requires.part.empty.is_zero) Write part.offset most tt (omega arith) (omega (arith, some)) in
+    let more = one_more part.block.length part.size (entries_of c.args.table.now) (count_of c.args.table.now) c.requires.idle.ready.positive c.requires.idle.exact.covers part.offset under (kind_entry part.kind _ c.requires.part.empty) Write part.offset most tt (omega arith) (omega (arith, some)) in
     let known : number < data_count part.block.length part.size (entries_of c.args.table.now) (count_of c.args.table.now) None Write part.offset most = omega (arith, more, c.in_ok-number.ensures.count, c.take.ensures.added) in
-    round_refused (g.S.Storage.features c.args.storage.now) old_faults (g.S.Storage.bytes c.args.storage.now) part.size part.block.length (entries_of c.args.table.now) (count_of c.args.table.now) (lent g.B.LowerLayer.as_layer_below c.args.below) part.absent part.offset most number (number * part.block.length)
-    c.requires.idle.ready.positive under some c.requires.part.empty.leads_below refl known (empty_entry part.absent _ c.requires.part.empty.leads_below c.requires.part.empty.is_zero) part.overwrite part.run c.in-Err.e c.in-Err.ensures.refusals
+    round_refused (g.S.Storage.features c.args.storage.now) old_faults (g.S.Storage.bytes c.args.storage.now) part.size part.block.length (entries_of c.args.table.now) (count_of c.args.table.now) (lent g.B.LowerLayer.as_layer_below c.args.below) (is_absent part.kind) part.offset most number (number * part.block.length)
+    c.requires.idle.ready.positive under some (empty_absent part.kind _ c.requires.part.empty) refl known (kind_entry part.kind _ c.requires.part.empty) part.overwrite part.run c.in-Err.e c.in-Err.ensures.refusals
 
 pub returns-in-Err-clause-over : goal.returns-in-Err-clause-over
 returns-in-Err-clause-over g c = λ most some run over.
@@ -233,17 +233,17 @@ returns-in-Err-clause-over g c = λ most some run over.
     let number = c.in_ok-number.number in
     let e = c.take.ensures.entries in
     let under : part.offset < part.size = omega (arith, c.requires.part.some, c.requires.part.inside) in
-    let more = one_more part.block.length part.size (entries_of c.args.table.now) (count_of c.args.table.now) c.requires.idle.ready.positive c.requires.idle.exact.covers part.offset under (empty_entry part.absent _ c.requires.part.empty.leads_below c.requires.part.empty.is_zero) Write part.offset most tt (omega arith) (omega (arith, some)) in
+    let more = one_more part.block.length part.size (entries_of c.args.table.now) (count_of c.args.table.now) c.requires.idle.ready.positive c.requires.idle.exact.covers part.offset under (kind_entry part.kind _ c.requires.part.empty) Write part.offset most tt (omega arith) (omega (arith, some)) in
     let known : number < data_count part.block.length part.size (entries_of c.args.table.now) (count_of c.args.table.now) None Write part.offset most = omega (arith, more, c.in_ok-number.ensures.count, c.take.ensures.added) in
-    over_refused (g.S.Storage.features c.args.storage.now) part.size part.block.length (entries_of c.args.table.now) (count_of c.args.table.now) (lent g.B.LowerLayer.as_layer_below c.args.below) part.absent part.overwrite part.offset most part.run number (number * part.block.length)
-    c.requires.part.empty.leads_below refl known over run c.in-Err.e c.in-Err.ensures.refusals
+    over_refused (g.S.Storage.features c.args.storage.now) part.size part.block.length (entries_of c.args.table.now) (count_of c.args.table.now) (lent g.B.LowerLayer.as_layer_below c.args.below) (is_absent part.kind) part.overwrite part.offset most part.run number (number * part.block.length)
+    (empty_absent part.kind _ c.requires.part.empty) refl known over run c.in-Err.e c.in-Err.ensures.refusals
 
 pub returns-then-not-fits_next-clause-refusals : goal.returns-then-not-fits_next-clause-refusals
 returns-then-not-fits_next-clause-refusals g c = λ old_faults most some.
     let part = c.args.part in
     let full = c.fits_next.ensures.full c.if-not-fits_next.true in
     let under : part.offset < part.size = omega (arith, c.requires.part.some, c.requires.part.inside) in
-    let more = one_more part.block.length part.size (entries_of c.args.table.now) (count_of c.args.table.now) c.requires.idle.ready.positive c.requires.idle.exact.covers part.offset under (empty_entry part.absent _ c.requires.part.empty.leads_below c.requires.part.empty.is_zero) Write part.offset most tt (omega arith) (omega (arith, some)) in
+    let more = one_more part.block.length part.size (entries_of c.args.table.now) (count_of c.args.table.now) c.requires.idle.ready.positive c.requires.idle.exact.covers part.offset under (kind_entry part.kind _ c.requires.part.empty) Write part.offset most tt (omega arith) (omega (arith, some)) in
     full_refused (g.S.Storage.features c.args.storage.now) old_faults (g.S.Storage.bytes c.args.storage.now) part.size part.block.length (entries_of c.args.table.now) (count_of c.args.table.now) (lent g.B.LowerLayer.as_layer_below c.args.below) part.offset most
     (g.met.S.Storage.lawful c.args.storage.now) c.requires.idle.ready.positive (omega (arith, more, full.0)) (full.1)
 
@@ -252,7 +252,7 @@ returns-then-not-fits_next-clause-over g c = λ most some run over.
     let part = c.args.part in
     let full = c.fits_next.ensures.full c.if-not-fits_next.true in
     let under : part.offset < part.size = omega (arith, c.requires.part.some, c.requires.part.inside) in
-    let more = one_more part.block.length part.size (entries_of c.args.table.now) (count_of c.args.table.now) c.requires.idle.ready.positive c.requires.idle.exact.covers part.offset under (empty_entry part.absent _ c.requires.part.empty.leads_below c.requires.part.empty.is_zero) Write part.offset most tt (omega arith) (omega (arith, some)) in
+    let more = one_more part.block.length part.size (entries_of c.args.table.now) (count_of c.args.table.now) c.requires.idle.ready.positive c.requires.idle.exact.covers part.offset under (kind_entry part.kind _ c.requires.part.empty) Write part.offset most tt (omega arith) (omega (arith, some)) in
     inl (
       refl,
       full_wraps (g.S.Storage.features c.args.storage.now) part.block.length part.size (entries_of c.args.table.now) (count_of c.args.table.now) part.offset most
@@ -261,3 +261,8 @@ returns-then-not-fits_next-clause-over g c = λ most some run over.
 
 pub returns-in-Err-clause-released : goal.returns-in-Err-clause-released
 returns-in-Err-clause-released g c = c.release.ensures.held
+
+pub returns-in_err-number-clause-unchanged : goal.returns-in_err-number-clause-unchanged
+returns-in_err-number-clause-unchanged g c = λ now_faults old_faults waiting.
+    let same = c.in_err-number.ensures.unchanged in
+    rw (same.0, same.2) (search rules)

@@ -11,15 +11,15 @@ use Rattle.imago_cow.proofs.StoredSteps.{on_ok, ok_holds}
 use Rattle.imago_cow.proofs.CutSteps.{limit_refused}
 use Rattle.imago_cow.proofs.resize.add_new.Goals as goal
 
-pub returns-then-not-is_lower-clause-added : goal.returns-then-not-is_lower-clause-added
-returns-then-not-is_lower-clause-added g c =
+pub returns-then-not-leads_below-clause-added : goal.returns-then-not-leads_below-clause-added
+returns-then-not-leads_below-clause-added g c =
     let at = (lent g.B.LowerLayer.as_layer_below c.args.below).at in
     let keeps = (g.S.Storage.features c.args.storage.now).keeps_data in
     let growth = c.args.growth in
     let old = entries_of c.args.table.now in
     let new = entries_of c.add_blocks.new.table in
     let x = g.S.Storage.bytes c.args.storage.now in
-    let zero : shows_below growth.mode ≡ false = sym c.is_lower.ensures ∙ c.if-not-is_lower.true in
+    let zero : shows_below growth.mode ≡ false = sym c.kind_of_new.ensures ∙ sym c.leads_below.ensures ∙ c.if-not-leads_below.true in
     on_ok c.add_blocks.result (λ y e.
     let added = ok_holds y e c.add_blocks.ensures.added in
     let exact = ok_holds y e c.add_blocks.ensures.exact in
@@ -43,7 +43,7 @@ returns-clause-added g c =
     let y = g.S.Storage.bytes c.push_blocks.new.storage in
     let w = c.first_whole.ensures in
     let done = c.in_default.ensures.pushed in
-    let lower : shows_below growth.mode ≡ true = sym c.is_lower.ensures ∙ c.if-not-is_lower.false in
+    let lower : shows_below growth.mode ≡ true = sym c.kind_of_new.ensures ∙ sym c.leads_below.ensures ∙ c.if-not-leads_below.false in
     let lens : length (entries_of c.reserve.new.self) ≡ length old = ap length c.reserve.ensures.entries in
     let same : named_count (entries_of c.reserve.new.self) ≡ named_count old = ap named_count c.reserve.ensures.entries in
     let fewer : c.len-old.result ≤ c.first_whole.result = needs_no_fewer b growth.size growth.new_size c.len-old.result c.first_whole.result c.requires.grows w.begins (let t : c.len-old.result * b ≡ length old * b = ap (λ n. n * b) c.len-old.ensures in omega (arith, t, c.requires.idle.exact.near)) in
@@ -72,7 +72,7 @@ returns-in-Err-clause-bounded g c = λ most wanted covers near counted named.
     let one : c.first_whole.result ≡ wanted = one_whole b growth.new_size c.first_whole.result wanted w.begins w.near covers near in
     let same : named_count (entries_of c.reserve.new.self) ≡ named_count old = ap named_count c.reserve.ensures.entries in
     let starts : length (entries_of c.reserve.new.self) * b ≡ length old * b = ap (λ e. length e * b) c.reserve.ensures.entries in
-    let lower : shows_below growth.mode ≡ true = sym c.is_lower.ensures ∙ c.if-not-is_lower.false in
+    let lower : shows_below growth.mode ≡ true = sym c.kind_of_new.ensures ∙ sym c.leads_below.ensures ∙ c.if-not-leads_below.false in
     let enough = named lower in
     let s = c.in-Err.ensures.bounded most (omega (arith, c.reserve.ensures.count, counted)) (omega (arith, same, enough, one, c.len-old.ensures)) in
     record {
@@ -90,6 +90,6 @@ returns-clause-bounded g c = λ most wanted covers near counted named.
     let w = c.first_whole.ensures in
     let one : c.first_whole.result ≡ wanted = one_whole b growth.new_size c.first_whole.result wanted w.begins w.near covers near in
     let same : named_count (entries_of c.reserve.new.self) ≡ named_count old = ap named_count c.reserve.ensures.entries in
-    let enough = named (sym c.is_lower.ensures ∙ c.if-not-is_lower.false) in
+    let enough = named (sym c.kind_of_new.ensures ∙ sym c.leads_below.ensures ∙ c.if-not-leads_below.false) in
     let s = c.in_default.ensures.bounded most (omega (arith, c.reserve.ensures.count, counted)) (omega (arith, same, enough, one, c.len-old.ensures)) in
     record { counted = s.counted; no_longer = s.no_longer; refusals = tt }

@@ -84,7 +84,7 @@ returns-in_err-waiting g c =
     let p = err_from_is_err_and c.from_residual.result c.from_residual.ensures.1 in
     rw (p.1, p.2) (record {
       prepared = tt;
-      call = rw (none, e.call.features, e.table.entries) (record {
+      call = rw (none, e.call.features) (record {
         unchanged = e.unchanged n' n None;
         refused = refl;
         causes = tt;
@@ -120,11 +120,11 @@ returns g c =
     let m = c.to_commit.ensures in
     let S = k.settled in
     record {
-      prepared = rw (none, e.call.features, e.table.entries) (k.prepared c.args.count n' n c.to_commit.result some (rw c.rest-rest.ensures.value at c.min-run.ensures) m.storage m.offset m.length m.state);
-      call = rw (none, e.call.features, e.table.entries) (record {
+      prepared = rw (none, e.call.features) (k.prepared c.args.count n' n c.to_commit.result some (rw c.rest-rest.ensures.value at c.min-run.ensures) (record { storage = m.storage; offset = m.offset; run = m.length; state = m.state }));
+      call = rw (none, e.call.features) (record {
         unchanged = e.unchanged n' n (Some w);
         refused = tt;
-        causes = rw (m.length, ← k.waits.start) S;
+        causes = rw (e.table.entries, m.length, ← k.waits.start) S;
         lengths = record { no_shorter = λ i. e.call.no_shorter; no_longer = λ i. e.no_longer c.args.count some };
         faults = counts_as _ _ _ c.prepare_part.result (Ok c.to_commit.result) (λ x. let z : ⊥ = cc in absurd z) e.call.faults;
         refusals = tt;
