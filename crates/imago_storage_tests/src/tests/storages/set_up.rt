@@ -1,6 +1,6 @@
 //! What the tests share: bytes, texts and names, each made again where memory is refused once.
 use std::alloc::Global;
-use std::fmt::{Debug, Display};
+use std::fmt::Debug;
 use std::process::Abort;
 
 /// A value is the one that is expected. A call of this costs less proof than the macro in its
@@ -52,14 +52,6 @@ pub(super) fn owned(rt: &impl Abort, alloc: Global, text: &str) -> String {
     match String::from_str(alloc, text) {
         Ok(string) => string,
         Err(_) => String::from_str(alloc, text).expect(rt, "memory for a string"),
-    }
-}
-
-/// What is printed of a value.
-pub(super) fn printed<T: Display>(rt: &impl Abort, alloc: Global, value: &T) -> String {
-    match format!(in alloc; "{value}") {
-        Ok(text) => text,
-        Err(_) => format!(in alloc; "{value}").expect(rt, "memory for a text"),
     }
 }
 
