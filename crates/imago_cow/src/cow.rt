@@ -30,9 +30,9 @@ use crate::grow::grow;
 use crate::guest::{first_whole, make_absent, make_zero};
 use crate::map::{entry_at, map_place};
 use crate::named::all_shown;
-use crate::prepare::prepare_part;
-use crate::resize::{Growth, shrink};
-use crate::stored::{read_stored, write_stored};
+use crate::prepare_block::prepare_part;
+use crate::guest_blocks::{Growth, shrink};
+use crate::block_bytes::{read_stored, write_stored};
 use crate::table::{GuestBlock, Table, kind_of};
 use imago_drivers::drivers::{
     Format, FormatDriverInstance, PreallocateMode, PreparedDataMapping, ShallowMapping,
@@ -53,7 +53,7 @@ pub struct CowState {
 
 /// A prepared write whose bytes nothing shows yet.
 #[derive(Clone, Copy)]
-pub struct Waiting {
+pub(crate) struct Waiting {
     pub(crate) start: u64,
     pub(crate) length: u64,
     /// Where it stands in the storage.

@@ -14,7 +14,7 @@ ghost use Rattle.imago_cow.specs.Cow.{table_view};
 
 use crate::cut::{empty_cut, fill_cut, restore_cut};
 use crate::guest::first_whole;
-use crate::resize::{Growth, add_blocks, add_new, adds_nothing};
+use crate::guest_blocks::{Growth, add_blocks, add_new, adds_nothing};
 use crate::table::{Table, WithoutData};
 use imago_drivers::layer::LowerLayer;
 use imago_storage::error::Error;

@@ -5,6 +5,7 @@
 #![tactic(auto)]
 
 mod block;
+mod block_bytes;
 mod commit;
 mod copy;
 pub mod cow;
@@ -12,12 +13,11 @@ mod cut;
 mod free;
 mod grow;
 mod guest;
+mod guest_blocks;
 pub mod laws;
 mod map;
 mod named;
-mod prepare;
-mod resize;
+mod prepare_block;
 mod room;
-mod stored;
 pub mod table;
 mod zero;

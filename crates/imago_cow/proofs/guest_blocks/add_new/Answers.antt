@@ -9,7 +9,7 @@ use Rattle.imago_cow.proofs.ResizeSteps.{needs_no_fewer}
 use Rattle.imago_cow.proofs.FillSteps.{zero_extended, one_whole}
 use Rattle.imago_cow.proofs.StoredSteps.{on_ok, ok_holds}
 use Rattle.imago_cow.proofs.CutSteps.{limit_refused}
-use Rattle.imago_cow.proofs.resize.add_new.Goals as goal
+use Rattle.imago_cow.proofs.guest_blocks.add_new.Goals as goal
 
 pub returns-then-not-leads_below-clause-added : goal.returns-then-not-leads_below-clause-added
 returns-then-not-leads_below-clause-added g c =

@@ -4,7 +4,7 @@ use Rattle.imago_drivers.specs.Operation.{Read}
 use Rattle.imago_cow.specs.Cow.{cow_no_memory}
 use Rattle.imago_cow.proofs.DirectSteps.{refused_some, stands_in_data, direct_request}
 use Rattle.imago_cow.proofs.StoredSteps.{request_refused}
-use Rattle.imago_cow.proofs.stored.read_stored.Goals as goal
+use Rattle.imago_cow.proofs.block_bytes.read_stored.Goals as goal
 
 pub returns-clause-refusals : goal.returns-clause-refusals
 returns-clause-refusals g c = λ faults size block entries blocks waiting positive known.

@@ -10,7 +10,7 @@ use Rattle.imago_cow.specs.TableLaws.{held_apart}
 use Rattle.imago_cow.specs.GuestLaws.{rest_small}
 use Rattle.imago_cow.proofs.MapSteps.{number_ends}
 use Rattle.imago_cow.proofs.PrepareSteps.{kind_entry, empty_absent, empty_zero, one_more, prepared, prepared_unchanged, prepared_settled, length_within, round_refused, over_refused, full_wraps, full_refused}
-use Rattle.imago_cow.proofs.prepare.prepare_part.Goals as goal
+use Rattle.imago_cow.proofs.prepare_block.prepare_part.Goals as goal
 
 pub overflow_mul-start : goal.overflow_mul-start
 overflow_mul-start g c =

@@ -3,7 +3,7 @@ use Rattle.std.proofs.lemmas.Result.{IfOk-weaker, on_err_weaker}
 use Rattle.imago_cow.specs.TableView.{entries_of, held_of, count_of}
 use Rattle.imago_cow.proofs.GrowSteps.{addressed_after}
 use Rattle.imago_cow.proofs.PrepareSteps.{lowest_one}
-use Rattle.imago_cow.proofs.resize.take_block.Goals as goal
+use Rattle.imago_cow.proofs.guest_blocks.take_block.Goals as goal
 
 pub returns-clause-fits : goal.returns-clause-fits
 returns-clause-fits c = IfOk-weaker c.take.result _ _

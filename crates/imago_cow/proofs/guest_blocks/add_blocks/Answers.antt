@@ -3,7 +3,7 @@ use Rattle.std.proofs.lemmas.Result.{on_ok_weaker}
 use Rattle.imago_cow.specs.Table.{without_data}
 use Rattle.imago_cow.proofs.ResizeSteps.{are_added, exact_added, needs_no_fewer}
 use Rattle.imago_cow.proofs.FillSteps.{prefix_kept, named_kept}
-use Rattle.imago_cow.proofs.resize.add_blocks.Goals as goal
+use Rattle.imago_cow.proofs.guest_blocks.add_blocks.Goals as goal
 
 pub returns-clause-added : goal.returns-clause-added
 returns-clause-added c = on_ok_weaker c.grow.result (λ e. rw e (are_added (without_data c.args.kind) _ _)) c.grow.ensures.entries

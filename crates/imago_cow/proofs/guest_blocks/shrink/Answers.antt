@@ -1,7 +1,7 @@
 use Rattle.std.proofs.Common.{◌≤◌, arith}
 use Rattle.imago_cow.specs.TableView.{entries_of}
 use Rattle.imago_cow.proofs.ResizeSteps.{cut_disk, exact_cut, taken_again}
-use Rattle.imago_cow.proofs.resize.shrink.Goals as goal
+use Rattle.imago_cow.proofs.guest_blocks.shrink.Goals as goal
 
 pub returns-clause-shrunk : goal.returns-clause-shrunk
 returns-clause-shrunk c = λ f n bytes.

@@ -5,7 +5,7 @@ use Rattle.imago_drivers.specs.Lengths.{padded_to}
 use Rattle.imago_cow.specs.Table.{named_count}
 use Rattle.imago_cow.specs.TableView.{entries_of, count_of, KeepsRoom, IsReady}
 use Rattle.imago_cow.specs.Grown.{ArePushed}
-use Rattle.imago_cow.proofs.resize.push_blocks.Given as goal
+use Rattle.imago_cow.proofs.guest_blocks.push_blocks.Given as goal
 
 abbrev pub invariant-loop : goal.invariant-loop
 invariant-loop g l = record {

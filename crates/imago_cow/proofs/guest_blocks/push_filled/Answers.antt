@@ -10,7 +10,7 @@ use Rattle.imago_cow.proofs.FillSteps.{filled_length, take_refused, block_kept}
 use Rattle.imago_cow.proofs.CutSteps.{copy_refused}
 use Rattle.imago_cow.proofs.MapSteps.{number_ends}
 use Rattle.imago_cow.proofs.GrowSteps.{copied_place}
-use Rattle.imago_cow.proofs.resize.push_filled.Goals as goal
+use Rattle.imago_cow.proofs.guest_blocks.push_filled.Goals as goal
 
 pub returns-in-Ok-clause-pushed : goal.returns-in-Ok-clause-pushed
 returns-in-Ok-clause-pushed g c =

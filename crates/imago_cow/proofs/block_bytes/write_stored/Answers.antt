@@ -4,7 +4,7 @@ use Rattle.imago_drivers.specs.Operation.{Write}
 use Rattle.imago_cow.specs.Cow.{cow_no_memory}
 use Rattle.imago_cow.proofs.DirectSteps.{refused_some, direct_request}
 use Rattle.imago_cow.proofs.StoredSteps.{request_refused, cow_put, on_ok, on_err, ok_holds, err_holds}
-use Rattle.imago_cow.proofs.stored.write_stored.Goals as goal
+use Rattle.imago_cow.proofs.block_bytes.write_stored.Goals as goal
 
 pub returns-clause-written : goal.returns-clause-written
 returns-clause-written g c = λ size block entries. on_ok c.write_bytes.result (λ x e. cow_put size block entries _ _ false _ c.args.offset _ (λ k. ok_holds x e (c.write_bytes.ensures.written k)))

@@ -10,7 +10,7 @@ use Rattle.imago_cow.specs.Growth.{IsPushed, IsBounded}
 use Rattle.imago_cow.proofs.FillSteps.{pushing_more, counts_then}
 use Rattle.imago_cow.proofs.CutSteps.{limit_refused}
 use Rattle.imago_cow.proofs.WholeSteps.{times_more}
-use Rattle.imago_cow.proofs.resize.push_blocks.Goals as goal
+use Rattle.imago_cow.proofs.guest_blocks.push_blocks.Goals as goal
 
 pub push_filled-requires-clause-begins : goal.push_filled-requires-clause-begins
 push_filled-requires-clause-begins g c =
