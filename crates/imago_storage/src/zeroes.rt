@@ -1,7 +1,6 @@
 //! Zero writes of any range.
-ghost use Rattle.std.specs.Prelude.{◌≡◌, ◌≢◌, ℕ, ◌+◌, ◌-◌, ◌%◌, ◌<◌, ◌≤◌, ◌⊎◌, ◌^◌, length, max};
+ghost use Rattle.std.specs.Prelude.{◌≡◌, ◌≢◌, ℕ, ◌+◌, ◌-◌, ◌%◌, ◌<◌, ◌⊎◌, ◌^◌, ◌↔◌, length, max};
 ghost use Rattle.std.specs.Prelude.{min, replicate, OnOk, IfOk, IfErr, IsErrOf, IsOk, Ok, List};
-ghost use Rattle.std.specs.Prelude.{◌↔◌};
 ghost use Rattle.imago_storage.specs.Bytes.{splice, zero_extended, WriteOutcome};
 ghost use Rattle.imago_storage.specs.Calls.{IsRangeZeroing, ShowsNoChange, IsUnsupportedZeroing};
 ghost use Rattle.imago_storage.specs.Error.{IsExtRefusal, IsPureRefusal, IsZeroRefusal};
