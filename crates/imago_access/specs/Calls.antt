@@ -10,7 +10,7 @@ use Rattle.imago_drivers.specs.Reasons.{Reasons, allowed}
 use Rattle.imago_drivers.specs.Causes.{IsSettled, IsOnRange}
 use Rattle.imago_drivers.specs.View.{View}
 use Rattle.imago_drivers.specs.Changes.{IsChanged, into, partly, overwritten}
-use Rattle.imago_drivers.specs.Frame.{IsKind, IsUnchanged, ReachesNoMore}
+use Rattle.imago_drivers.specs.Frame.{IsKind, IsFramed, IsUnchanged, ReachesNoMore}
 use Rattle.imago_drivers.specs.Lengths.{GrowTo, AreNoShorter}
 use Rattle.imago_drivers.specs.Done.{lending_reasons}
 use Rattle.imago_access.specs.declared.access.FormatAccess.{FormatAccess}
@@ -43,6 +43,13 @@ FailsTest v op o n e =
     ⊎ ((e ≡ Error.BeyondDisk) × (v.abilities.is_writable ≡ true) × (Overflows op o n → ⊥)
     × (v.size < o + n)))
 
+-- A changing call may be made on the range: the driver is writable, no prepared mapping waits, and
+-- the range lies in the disk.
+pub record TakesChange {St : Type 0} (v : View St) (o n : ℕ) : Type 0 where
+  pub writable : v.abilities.is_writable ≡ true
+  pub spent : v.pending ≡ None
+  pub inside : o + n ≤ v.size
+
 -- The tests were made: they passed, or that one failed.
 pub record IsTested {St : Type 0} (v : View St) (op : Operation) (o n : ℕ)
     (result : Result Unit Error) : Type 0 where
@@ -53,6 +60,13 @@ pub record IsTested {St : Type 0} (v : View St) (op : Operation) (o n : ℕ)
 pub record IsKept {D St : Type 0} (view : D → View St) (old new : FormatAccess D) : Type 0 where
   pub below : backing new ≡ backing old
   pub kind : IsKind (view (driver old)) (view (driver new))
+
+-- What only a resize changes, or a discard: the size, which places are ends, and which lead to the
+-- layer below. The layers below stay too, and what the driver is good for.
+pub record KeepsShape {D St : Type 0} (view : D → View St) (old new : FormatAccess D) : Type 0 where
+  pub framed : IsFramed (view (driver old)) (view (driver new))
+  pub reaches : ReachesNoMore (view (driver old)) (view (driver new))
+  pub kept : IsKept view old new
 
 -- neither the driver's devices fail, nor those of a layer that it may be lent
 abbrev pub devices_reliable : {D St : Type 0} → (D → View St) → FormatAccess D → Bool

@@ -14,11 +14,18 @@ use Rattle.imago_drivers.specs.Prepared.{IsFor, IsPrepared}
 use Rattle.imago_drivers.specs.View.{View}
 use Rattle.imago_drivers.specs.Changes.{Change, IsChanged, into, partly, overwritten}
 use Rattle.imago_drivers.specs.Frame.{IsKind, ReachesNoMore}
+use Rattle.imago_access.specs.declared.write.Spending.{Spending}
+use Rattle.imago_access.specs.declared.write.Spending.TheVariants as By
 use Rattle.imago_access.specs.Framed.{StaysFramed}
 use Rattle.imago_drivers.specs.Done.{lending_reasons}
 use Rattle.imago_drivers.specs.Outside.{SharesBlock}
 use Rattle.imago_drivers.specs.Commit.{commit_moves}
 use Rattle.imago_access.specs.Moves.{MovesWithin}
+
+-- the mapping is committed, and not cancelled
+abbrev pub commits : Spending → Bool
+commits By.Commit = true
+commits By.Cancel = false
 
 -- a commit may take memory, of the driver or of what calls make of it
 abbrev pub CommitMayTakeMemory : {D St : Type 0} → (D → View St) → D → Type 0

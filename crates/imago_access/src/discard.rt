@@ -1,5 +1,6 @@
 //! Discarding ranges of an image.
-ghost use Rattle.std.specs.Prelude.{◌≡◌, ℕ, ◌+◌, ◌≤◌, ◌<◌, ◌^◌, List, None, true, IsOk};
+ghost use Rattle.std.specs.Prelude.{◌≡◌, ℕ, ◌+◌, ◌<◌, ◌^◌, List, None, IsOk};
+ghost use Rattle.imago_access.specs.Calls.{TakesChange};
 ghost use Rattle.imago_access.specs.Chain.{driver};
 ghost use Rattle.imago_access.specs.DiscardParts.{discard_by, IsDiscardedInParts};
 ghost use Rattle.imago_access.specs.Discarding.{HasLoosened, HasLoosenedPart, IsImageDiscard};
@@ -28,9 +29,7 @@ impl<D: FormatDriverInstance> FormatAccess<D> {
         offset: u64,
         count: u64,
     ) -> Result<(u64, u64), Error>
-        requires writable { (D.view (driver self.old)).abilities.is_writable ≡ true }
-        requires spent { (D.view (driver self.old)).pending ≡ None }
-        requires inside { offset + count ≤ (D.view (driver self.old)).size }
+        requires { TakesChange (D.view (driver self.old)) offset count }
         ensures loosened { HasLoosenedPart D.view call offset count self.old self.new result }
         ensures performed { discard_by D.calls call offset count (driver self.old) (driver self.new)
             result }
@@ -49,9 +48,7 @@ impl<D: FormatDriverInstance> FormatAccess<D> {
         offset: u64,
         count: u64,
     ) -> Result<(), Error>
-        requires writable { (D.view (driver self.old)).abilities.is_writable ≡ true }
-        requires spent { (D.view (driver self.old)).pending ≡ None }
-        requires inside { offset + count ≤ (D.view (driver self.old)).size }
+        requires takes { TakesChange (D.view (driver self.old)) offset count }
         requires fits { offset + count < 2 ^ 64 }
         ensures empty { count ≡ 0 → IsOk result × (self.new ≡ self.old) }
         ensures loosened { HasLoosened D.view call offset count self.old self.new result }

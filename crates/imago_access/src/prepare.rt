@@ -1,10 +1,9 @@
 //! Data mappings of an image.
 ghost use Rattle.std.specs.Prelude.{◌≡◌, ℕ, ◌+◌, ◌≤◌, ◌↔◌, None, true, false, length, IsTrue, IfOk};
 ghost use Rattle.std.specs.Prelude.{IfErr, OnOk, OnErr, IsErrOf};
-ghost use Rattle.imago_storage.specs.Faults.{CountsFaults};
 ghost use Rattle.imago_drivers.specs.Operation.{Write};
 ghost use Rattle.imago_drivers.specs.Causes.{IsSettled, IsOnRange};
-ghost use Rattle.imago_drivers.specs.Frame.{IsFramed, ReachesNoMore};
+ghost use Rattle.imago_drivers.specs.Frame.{UsesStorages};
 ghost use Rattle.imago_drivers.specs.Lengths.{GrowTo, GrowAt};
 ghost use Rattle.imago_drivers.specs.Parts.{storage_of, offset_of, length_of};
 ghost use Rattle.imago_drivers.specs.Pending.{ShowsRound};
@@ -14,7 +13,7 @@ ghost use Rattle.imago_drivers.specs.Prepared.{IsPrepared, IsDataMapping, IsFor,
 ghost use Rattle.imago_drivers.specs.Prepared.{IsWritten};
 ghost use Rattle.imago_drivers.specs.Commit.{IsCommit, IsCancel};
 ghost use Rattle.imago_access.specs.Chain.{driver, backing, disk_value};
-ghost use Rattle.imago_access.specs.Calls.{IsEnsured, IsPreparing, IsKept};
+ghost use Rattle.imago_access.specs.Calls.{IsEnsured, IsPreparing, KeepsShape};
 ghost use Rattle.imago_access.specs.Performed.{IsPreparedBy, IsEnsuredBy};
 ghost use Rattle.imago_access.specs.PreparedOnDisk.{ShowsSame, ShowsPreparedWrite, ShowsCommit};
 
@@ -121,15 +120,11 @@ impl<D: FormatDriverInstance> FormatAccess<D> {
             → IsSettled IsOnRange (D.view (driver self.old)).limits.cause
             (D.view (driver self.new)).limits.cause (D.view (driver self.old)).limits.copies
             (D.view (driver self.new)).limits.copies o (length source.now)) }
-        ensures reaches { ReachesNoMore (D.view (driver self.old)) (D.view (driver self.new)) }
-        ensures lengths { GrowAt (storage_of mapping.now) (offset_of mapping.now + at)
-            (length source.now) (D.view (driver self.old)).stores
-            (D.view (driver self.new)).stores }
-        ensures framed { IsFramed (D.view (driver self.old)) (D.view (driver self.new)) }
-        ensures same_size { (D.view (driver self.new)).size ≡ (D.view (driver self.old)).size }
-        ensures kept { IsKept D.view self.old self.new }
-        ensures faults { CountsFaults (D.view (driver self.old)).abilities.is_reliable
-            (D.view (driver self.old)).fault_count (D.view (driver self.new)).fault_count result }
+        ensures shape { KeepsShape D.view self.old self.new }
+        ensures storages { UsesStorages
+            (GrowAt (storage_of mapping.now) (offset_of mapping.now + at) (length source.now))
+            (D.view (driver self.old)).abilities.is_reliable (D.view (driver self.old))
+            (D.view (driver self.new)) result }
         ensures refusals { IfErr result
             (allowed
             (mapping_write_reasons (D.view (driver self.old)) mapping.now at

@@ -6,10 +6,12 @@ ghost use Rattle.imago_access.specs.Chain.{driver};
 ghost use Rattle.imago_access.specs.Disk.{disk, backed_value};
 ghost use Rattle.imago_access.specs.Runs.{reply_of, told_done, told_data, told_prepared};
 ghost use Rattle.imago_access.specs.Runs.{IsBufferRead, IsStep, IsRun};
+ghost use Rattle.imago_access.specs.Writing.{commits};
 ghost use Rattle.imago_access.specs.Histories.{IsFlatHistory};
 
 use crate::access::FormatAccess;
 use crate::mapping::Mapping;
+use crate::write::{MappingRequest, Spending};
 use imago_drivers::drivers::{FormatDriverInstance, PreallocateMode};
 use imago_storage::error::Error;
 use std::alloc::Global;
@@ -258,15 +260,31 @@ fn step<D: FormatDriverInstance>(alloc: Global, image: &mut FormatAccess<D>, cal
             overwrite,
             bytes,
             commit,
-        } => prepared_or_refused(image.write_mapping(
-            alloc, *offset, *length, *overwrite, bytes, *commit,
-        )),
+        } => {
+            let request = MappingRequest {
+                offset: *offset,
+                count: *length,
+                overwrite: *overwrite,
+            };
+            prepared_or_refused(image.write_mapping(alloc, request, bytes, spending_of(*commit)))
+        }
         Call::Resize { size, mode } => done_or_refused(image.resize(alloc, *size, *mode)),
         Call::ResizeGrow { size, mode } => done_or_refused(image.resize_grow(alloc, *size, *mode)),
         Call::ResizeShrink { size } => done_or_refused(image.resize_shrink(*size)),
         Call::Flush => done_or_refused(image.flush()),
         Call::Sync => done_or_refused(image.sync()),
         Call::InvalidateCache => done_or_refused(image.invalidate_cache()),
+    }
+}
+
+/// How a mapping is spent, by whether to commit it.
+fn spending_of(commit: bool) -> Spending
+    ensures { commits result ≡ commit }
+{
+    if commit {
+        Spending::Commit
+    } else {
+        Spending::Cancel
     }
 }
 

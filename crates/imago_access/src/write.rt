@@ -1,15 +1,14 @@
 //! Writing to an image.
-ghost use Rattle.std.specs.Prelude.{◌≡◌, ◌+◌, ◌^◌, ◌<◌, ◌≤◌, None, true, is_none, length, IfOk};
-ghost use Rattle.std.specs.Prelude.{IsOk};
+ghost use Rattle.std.specs.Prelude.{◌≡◌, ◌+◌, ◌^◌, ◌<◌, None, is_none, length, IfOk, IsOk};
 ghost use Rattle.imago_drivers.specs.Operation.{Write};
 ghost use Rattle.imago_drivers.specs.LayerBelow.{lent};
 ghost use Rattle.imago_drivers.specs.Place.{values};
 ghost use Rattle.imago_drivers.specs.Parts.{length_of, state_of};
 ghost use Rattle.imago_access.specs.Chain.{driver};
-ghost use Rattle.imago_access.specs.Calls.{IsTested, IsWrite, IsMappedWrite};
+ghost use Rattle.imago_access.specs.Calls.{IsTested, IsWrite, IsMappedWrite, TakesChange};
 ghost use Rattle.imago_access.specs.Performed.{IsFilledBy, IsThroughBy, IsFirstBy, AllWrittenBy};
 ghost use Rattle.imago_access.specs.Performed.{IsWrittenBy, IsMappedBy};
-ghost use Rattle.imago_access.specs.Writing.{CommitMayTakeMemory, WasPrepared, HasFilled};
+ghost use Rattle.imago_access.specs.Writing.{CommitMayTakeMemory, WasPrepared, HasFilled, commits};
 ghost use Rattle.imago_access.specs.Writing.{HasMapped, HasWritten, HasWrittenAll};
 
 use crate::access::{FormatAccess, below};
@@ -18,29 +17,47 @@ use imago_drivers::layer::LowerLayer;
 use imago_storage::error::Error;
 use std::alloc::Global;
 
+/// A mapping to prepare: of at most `count` bytes from `offset` on. With `overwrite` what isn't
+/// written of it may be anything.
+#[derive(Clone, Copy)]
+pub(crate) struct MappingRequest {
+    pub(crate) offset: u64,
+    pub(crate) count: u64,
+    pub(crate) overwrite: bool,
+}
+
+/// How a mapping is spent that was written to.
+#[derive(Clone, Copy)]
+pub(crate) enum Spending {
+    Commit,
+    Cancel,
+}
+
 /// Prepares a mapping of the range's first bytes, at most `count`, and writes what fits of the
 /// source to it. Where that is refused, the mapping is cancelled.
 fn fill_mapping<D: FormatDriverInstance, B: LowerLayer>(
     inner: &mut D,
     alloc: Global,
     below: Option<&B>,
-    offset: u64,
-    count: u64,
-    overwrite: bool,
+    request: MappingRequest,
     source: &[u8],
 ) -> Result<PreparedDataMapping<D::State>, Error>
-    requires writable { (D.view inner.old).abilities.is_writable ≡ true }
-    requires spent { (D.view inner.old).pending ≡ None }
-    requires inside { offset + count ≤ (D.view inner.old).size }
+    requires { TakesChange (D.view inner.old) request.offset request.count }
     ensures prepared { IfOk result
         (λ m. WasPrepared D.view
         (values (lent B.as_layer_below below.entry).at (D.view inner.old).place)
-        inner.old offset count overwrite (length_of m, is_none (state_of m))) }
+        inner.old request.offset request.count request.overwrite
+        (length_of m, is_none (state_of m))) }
     ensures filled { HasFilled (lent B.as_layer_below below.entry) (D.view inner.old)
-        (D.view inner.new) offset count overwrite source.now result }
-    ensures performed { IsFilledBy D.calls (lent B.as_layer_below below.entry) offset count
-        overwrite source.now inner.old inner.new result }
+        (D.view inner.new) request.offset request.count request.overwrite source.now result }
+    ensures performed { IsFilledBy D.calls (lent B.as_layer_below below.entry) request.offset
+        request.count request.overwrite source.now inner.old inner.new result }
 {
+    let MappingRequest {
+        offset,
+        count,
+        overwrite,
+    } = request;
     let mapping = inner.prepare_data_mapping(alloc, below, offset, count, overwrite)?;
     let fitting = source.len().min(mapping.length() as usize);
     if let Err(error) = inner.write_prepared(alloc, &mapping, &source[..fitting], 0) {
@@ -56,32 +73,32 @@ fn write_through<D: FormatDriverInstance, B: LowerLayer>(
     inner: &mut D,
     alloc: Global,
     below: Option<&B>,
-    offset: u64,
-    count: u64,
-    overwrite: bool,
+    request: MappingRequest,
     source: &[u8],
-    commit: bool,
+    spending: Spending,
 ) -> Result<(u64, bool), Error>
-    requires writable { (D.view inner.old).abilities.is_writable ≡ true }
-    requires spent { (D.view inner.old).pending ≡ None }
-    requires inside { offset + count ≤ (D.view inner.old).size }
+    requires { TakesChange (D.view inner.old) request.offset request.count }
     ensures told { IfOk result
         (WasPrepared D.view (values (lent B.as_layer_below below.entry).at (D.view inner.old).place)
-        inner.old offset count overwrite) }
+        inner.old request.offset request.count request.overwrite) }
     ensures mapped { HasMapped (lent B.as_layer_below below.entry)
-        (CommitMayTakeMemory D.view inner.old) (D.view inner.old) (D.view inner.new) offset count
-        overwrite source.now commit result }
-    ensures performed { IsThroughBy D.calls (lent B.as_layer_below below.entry) offset count
-        overwrite source.now commit inner.old inner.new result }
+        (CommitMayTakeMemory D.view inner.old) (D.view inner.old) (D.view inner.new)
+        request.offset request.count request.overwrite source.now (commits spending) result }
+    ensures performed { IsThroughBy D.calls (lent B.as_layer_below below.entry) request.offset
+        request.count request.overwrite source.now (commits spending) inner.old inner.new result }
 {
-    let mapping = fill_mapping(inner, alloc, below, offset, count, overwrite, source)?;
+    let mapping = fill_mapping(inner, alloc, below, request, source)?;
     let answer = (mapping.length(), mapping.is_nonblocking());
-    if !commit {
-        inner.cancel_data_mapping(mapping);
-        return Ok(answer);
+    match spending {
+        Spending::Cancel => {
+            inner.cancel_data_mapping(mapping);
+            Ok(answer)
+        }
+        Spending::Commit => {
+            inner.commit_data_mapping(mapping)?;
+            Ok(answer)
+        }
     }
-    inner.commit_data_mapping(mapping)?;
-    Ok(answer)
 }
 
 /// Writes the first bytes of a range, as many as one mapping holds, and answers how many these are.
@@ -93,25 +110,19 @@ pub(crate) fn write_first<D: FormatDriverInstance, B: LowerLayer>(
     offset: u64,
 ) -> Result<usize, Error>
     requires some { 0 < length source.now }
-    requires writable { (D.view inner.old).abilities.is_writable ≡ true }
-    requires spent { (D.view inner.old).pending ≡ None }
-    requires inside { offset + length source.now ≤ (D.view inner.old).size }
+    requires takes { TakesChange (D.view inner.old) offset (length source.now) }
     ensures written { HasWritten (lent B.as_layer_below below.entry)
         (CommitMayTakeMemory D.view inner.old) (D.view inner.old) (D.view inner.new) offset
         source.now result }
     ensures performed { IsFirstBy D.calls (lent B.as_layer_below below.entry) offset source.now
         inner.old inner.new result }
 {
-    let (count, _) = write_through(
-        inner,
-        alloc,
-        below,
+    let request = MappingRequest {
         offset,
-        source.len() as u64,
-        true,
-        source,
-        true,
-    )?;
+        count: source.len() as u64,
+        overwrite: true,
+    };
+    let (count, _) = write_through(inner, alloc, below, request, source, Spending::Commit)?;
     Ok(count as usize)
 }
 
@@ -123,9 +134,7 @@ fn write_all<D: FormatDriverInstance, B: LowerLayer>(
     source: &[u8],
     offset: u64,
 ) -> Result<(), Error>
-    requires writable { (D.view inner.old).abilities.is_writable ≡ true }
-    requires spent { (D.view inner.old).pending ≡ None }
-    requires inside { offset + length source.now ≤ (D.view inner.old).size }
+    requires takes { TakesChange (D.view inner.old) offset (length source.now) }
     requires fits { offset + length source.now < 2 ^ 64 }
     ensures empty { length source.now ≡ 0 → IsOk result × (inner.new ≡ inner.old) }
     ensures written { HasWrittenAll (lent B.as_layer_below below.entry)
@@ -163,30 +172,19 @@ impl<D: FormatDriverInstance> FormatAccess<D> {
     pub(crate) fn write_mapping(
         &mut self,
         alloc: Global,
-        offset: u64,
-        count: u64,
-        overwrite: bool,
+        request: MappingRequest,
         source: &[u8],
-        commit: bool,
+        spending: Spending,
     ) -> Result<(u64, bool), Error>
         requires { (D.view (driver self.old)).pending ≡ None }
-        ensures mapped { IsMappedWrite D.view self.old self.new offset count overwrite source.now
-            commit result }
-        ensures performed { IsMappedBy D.view D.calls self.old self.new offset count overwrite
-            source.now commit result }
+        ensures mapped { IsMappedWrite D.view self.old self.new request.offset request.count
+            request.overwrite source.now (commits spending) result }
+        ensures performed { IsMappedBy D.view D.calls self.old self.new request.offset
+            request.count request.overwrite source.now (commits spending) result }
     {
-        self.test_range(offset, count)?;
+        self.test_range(request.offset, request.count)?;
         let lower = below(&self.backing);
-        write_through(
-            &mut self.inner,
-            alloc,
-            lower,
-            offset,
-            count,
-            overwrite,
-            source,
-            commit,
-        )
+        write_through(&mut self.inner, alloc, lower, request, source, spending)
     }
 
     /// Writes the bytes at the offset. Nothing below the top layer changes.

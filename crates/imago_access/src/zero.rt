@@ -2,18 +2,17 @@
 ghost use Rattle.std.specs.Prelude.{◌≡◌, ℕ, ◌+◌, ◌-◌, ◌/◌, ◌<◌, ◌≤◌, ◌^◌, None, true, List, IsTrue};
 ghost use Rattle.std.specs.Prelude.{IfOk, IfErr, OnOk, IsOk, ◌⊎◌, length, slice_index, EachIndex};
 ghost use Rattle.imago_drivers.specs.Operation.{Zero, DiscardToZero};
-ghost use Rattle.imago_drivers.specs.LayerBelow.{lent};
 ghost use Rattle.imago_drivers.specs.Place.{Byte};
-ghost use Rattle.imago_access.specs.Chain.{driver, backing, disk_value, lent_image, as_layer_below};
-ghost use Rattle.imago_access.specs.Calls.{IsTested};
+ghost use Rattle.imago_access.specs.Chain.{driver, backing, disk_value, lent_image};
+ghost use Rattle.imago_access.specs.Calls.{IsTested, TakesChange};
 ghost use Rattle.imago_access.specs.ZeroCalls.{OnDriver, zero_by, AreGranulesBy, IsRoundedFrom};
 ghost use Rattle.imago_access.specs.ZeroCalls.{TriesGranules, IsZeroPiece, IsZeroedAsData};
 ghost use Rattle.imago_access.specs.ZeroCalls.{IsGapZeroed, IsNextZeroed, AllZeroedBy, IsZeroedBy};
 ghost use Rattle.imago_access.specs.ZeroCalls.{LacksZeroes, AreNull};
 ghost use Rattle.imago_access.specs.Performed.{IsFirstBy};
 ghost use Rattle.imago_access.specs.declared.zero.ZeroCall.TheVariants as Call;
-ghost use Rattle.imago_access.specs.Zeroing.{operation_of, AreZero, IsPartlyZeroed, Carries};
-ghost use Rattle.imago_access.specs.Zeroing.{HasZeroed, HasZeroedPart, IsZeroedByDriver};
+ghost use Rattle.imago_access.specs.Zeroing.{operation_of, AreZero, HasZeroed};
+ghost use Rattle.imago_access.specs.Zeroing.{HasZeroedPart, IsZeroedByDriver};
 ghost use Rattle.imago_access.specs.Zeroing.{IsZeroWrite, data_reasons, zero_reasons};
 
 use crate::access::{FormatAccess, below};
@@ -42,10 +41,8 @@ impl<D: FormatDriverInstance> FormatAccess<D> {
         offset: u64,
         count: u64,
     ) -> Result<(u64, u64), Error>
-        requires writable { (D.view (driver self.old)).abilities.is_writable ≡ true }
-        requires spent { (D.view (driver self.old)).pending ≡ None }
-        requires inside { offset + count ≤ (D.view (driver self.old)).size }
-        ensures zeroed { HasZeroedPart D.view (operation_of call) offset count self.old self.new
+        requires { TakesChange (D.view (driver self.old)) offset count }
+        ensures zeroed {HasZeroedPart D.view (operation_of call) offset count self.old self.new
             result }
         ensures performed { zero_by D.calls call offset count self.old self.new result }
     {
@@ -131,9 +128,7 @@ impl<D: FormatDriverInstance> FormatAccess<D> {
     /// before the range, or ends behind it, is zeroed where it maps as zero there.
     fn try_granules(&mut self, alloc: Global, offset: u64, count: u64)
         requires some { 0 < count }
-        requires writable { (D.view (driver self.old)).abilities.is_writable ≡ true }
-        requires spent { (D.view (driver self.old)).pending ≡ None }
-        requires inside { offset + count ≤ (D.view (driver self.old)).size }
+        requires takes { TakesChange (D.view (driver self.old)) offset count }
         requires fits { offset + count < 2 ^ 64 }
         ensures zeroed { IsZeroedByDriver D.view offset count self.old self.new }
         ensures performed { TriesGranules (zero_by D.calls Call.EnsureZero)
@@ -156,9 +151,7 @@ impl<D: FormatDriverInstance> FormatAccess<D> {
     ) -> Result<usize, Error>
         requires some { 0 < length zeroes.now }
         requires zeroes { EachIndex zeroes.now (λ k. slice_index zeroes.now k ≡ 0) }
-        requires writable { (D.view (driver self.old)).abilities.is_writable ≡ true }
-        requires spent { (D.view (driver self.old)).pending ≡ None }
-        requires inside { offset + length zeroes.now ≤ (D.view (driver self.old)).size }
+        requires takes { TakesChange (D.view (driver self.old)) offset (length zeroes.now) }
         ensures some { IfOk result (λ n. (0 < n) × (n ≤ length zeroes.now)) }
         ensures zeroed { HasZeroed D.view offset (length zeroes.now) (λ n. n)
             (data_reasons D.view self.old offset (length zeroes.now)) self.old self.new result }
@@ -181,9 +174,7 @@ impl<D: FormatDriverInstance> FormatAccess<D> {
     ) -> Result<u64, Error>
         requires some { 0 < count }
         requires zeroes { AreNull zeroes.old.items }
-        requires writable { (D.view (driver self.old)).abilities.is_writable ≡ true }
-        requires spent { (D.view (driver self.old)).pending ≡ None }
-        requires inside { offset + count ≤ (D.view (driver self.old)).size }
+        requires takes { TakesChange (D.view (driver self.old)) offset count }
         requires fits { offset + count < 2 ^ 64 }
         ensures some { IfOk result (λ n. (0 < n) × (n ≤ count)) }
         ensures zeroes { AreNull zeroes.new.items }
@@ -209,9 +200,7 @@ impl<D: FormatDriverInstance> FormatAccess<D> {
     /// is explicit zeroes takes no memory.
     fn zero_as_data(&mut self, alloc: Global, offset: u64, count: u64) -> Result<(), Error>
         requires some { 0 < count }
-        requires writable { (D.view (driver self.old)).abilities.is_writable ≡ true }
-        requires spent { (D.view (driver self.old)).pending ≡ None }
-        requires inside { offset + count ≤ (D.view (driver self.old)).size }
+        requires takes { TakesChange (D.view (driver self.old)) offset count }
         requires fits { offset + count < 2 ^ 64 }
         ensures zeroed { HasZeroed D.view offset count (λ u. count)
             (data_reasons D.view self.old offset count) self.old self.new result }
@@ -228,9 +217,7 @@ impl<D: FormatDriverInstance> FormatAccess<D> {
     /// Zeroes what the driver's own call left of a range: by whole granules as far as that goes,
     /// then as data.
     fn fill_zeroes(&mut self, alloc: Global, offset: u64, count: u64) -> Result<(), Error>
-        requires writable { (D.view (driver self.old)).abilities.is_writable ≡ true }
-        requires spent { (D.view (driver self.old)).pending ≡ None }
-        requires inside { offset + count ≤ (D.view (driver self.old)).size }
+        requires takes { TakesChange (D.view (driver self.old)) offset count }
         requires fits { offset + count < 2 ^ 64 }
         ensures empty { count ≡ 0 → IsOk result × (self.new ≡ self.old) }
         ensures zeroed { HasZeroed D.view offset count (λ u. count)
@@ -255,9 +242,7 @@ impl<D: FormatDriverInstance> FormatAccess<D> {
         count: u64,
     ) -> Result<u64, Error>
         requires some { 0 < count }
-        requires writable { (D.view (driver self.old)).abilities.is_writable ≡ true }
-        requires spent { (D.view (driver self.old)).pending ≡ None }
-        requires inside { offset + count ≤ (D.view (driver self.old)).size }
+        requires takes { TakesChange (D.view (driver self.old)) offset count }
         requires fits { offset + count < 2 ^ 64 }
         ensures some { IfOk result (λ n. (0 < n) × (n ≤ count)) }
         ensures whole { (D.view (driver self.old)).limits.whole (operation_of call) offset count
@@ -284,9 +269,7 @@ impl<D: FormatDriverInstance> FormatAccess<D> {
         offset: u64,
         count: u64,
     ) -> Result<(), Error>
-        requires writable { (D.view (driver self.old)).abilities.is_writable ≡ true }
-        requires spent { (D.view (driver self.old)).pending ≡ None }
-        requires inside { offset + count ≤ (D.view (driver self.old)).size }
+        requires takes { TakesChange (D.view (driver self.old)) offset count }
         requires fits { offset + count < 2 ^ 64 }
         ensures empty { count ≡ 0 → IsOk result × (self.new ≡ self.old) }
         ensures zeroed { HasZeroed D.view offset count (λ u. count)
@@ -300,9 +283,7 @@ impl<D: FormatDriverInstance> FormatAccess<D> {
         }
         Ok(())
     }
-}
 
-impl<D: FormatDriverInstance> FormatAccess<D> {
     /// The tests of a zero write or discard, in their order: the driver is writable, the range's
     /// end is within `u64`, and the range lies in the disk. They are the same for all of these
     /// calls.

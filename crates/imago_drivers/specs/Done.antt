@@ -1,4 +1,4 @@
-use Rattle.std.specs.Prelude.{◌≡◌, ℕ, ◌+◌, ◌≤◌, ◌⊎◌, max, false, IsTrue, Result, IfOk, OnErr}
+use Rattle.std.specs.Prelude.{◌≡◌, ℕ, ◌+◌, ◌≤◌, ◌⊎◌, max, Bool, false, IsTrue, Result, IfOk, OnErr}
 use Rattle.imago_storage.specs.declared.error.Error.{Error}
 use Rattle.imago_storage.specs.Padding.{Wraps}
 use Rattle.imago_drivers.specs.Operation.{Operation, Map, Read, Write}
@@ -9,7 +9,7 @@ use Rattle.imago_drivers.specs.Causes.{CauseOver}
 use Rattle.imago_drivers.specs.View.{View, EndsIn}
 use Rattle.imago_drivers.specs.Prepared.{IsFor}
 use Rattle.imago_drivers.specs.declared.mapping.PreparedDataMapping.{PreparedDataMapping}
-use Rattle.imago_drivers.specs.Changes.{Change, IsChanged, partly}
+use Rattle.imago_drivers.specs.Changes.{Change, IsChanged, partly, overwritten}
 
 -- A zero call or discard: what it did to the part that it answers, and, refused, to the range that
 -- it was asked for.
@@ -25,6 +25,13 @@ pub record HasDone {St : Type 0} (how : (ℕ → Value) → ℕ → Change) (op 
   pub refused : IsTrue old.abilities.keeps_data → (below : ℕ → Value)
       → OnErr result (IsChanged o n (partly (how below o)) (values below old.place)
       (values below new.place))
+
+-- An ensured data mapping: what it did to the part that it answers, and, refused, to the range that
+-- it was asked for.
+pub record HasEnsured (o n : ℕ) (overwrite : Bool) (old new : ℕ → Value)
+    (result : Result (ℕ × ℕ × ℕ) Error) : Type 0 where
+  pub done : IfOk result (λ r. IsChanged o r.2 (overwritten overwrite) old new)
+  pub torn : OnErr result (IsChanged o n (overwritten overwrite) old new)
 
 -- why a changing call on a range may be refused; a failed device shows in the count of faults
 abbrev pub range_reasons : {St : Type 0} → View St → Operation → ℕ → ℕ → Reasons

@@ -1,6 +1,8 @@
-use Rattle.std.specs.Prelude.{◌≡◌, ℕ, Bool}
+use Rattle.std.specs.Prelude.{◌≡◌, ℕ, Bool, None, Result}
+use Rattle.imago_storage.specs.declared.error.Error.{Error}
+use Rattle.imago_storage.specs.Faults.{CountsFaults}
 use Rattle.imago_drivers.specs.Place.{Lower, End, SamePlaces}
-use Rattle.imago_drivers.specs.View.{View}
+use Rattle.imago_drivers.specs.View.{View, Stores}
 
 -- What no call changes: what the driver is good for, how many storages it has, and what never
 -- changes in each of them.
@@ -26,3 +28,16 @@ pub record IsUnchanged {St : Type 0} (old new : View St) : Type 0 where
   pub framed : IsFramed old new
   pub places : SamePlaces old.abilities.keeps_data old.place new.place
   pub reaches : ReachesNoMore old new
+
+-- The call left nothing open: no place leads to the layer below that didn't lead there before, and
+-- no prepared mapping waits.
+pub record LeavesNothingOpen {St : Type 0} (old new : View St) : Type 0 where
+  pub reaches : ReachesNoMore old new
+  pub nothing_pending : new.pending ≡ None
+
+-- What the call did to the storages, beside their bytes: how long they became, and how failures of
+-- the device were counted.
+pub record UsesStorages {T St : Type 0} (grow : Stores → Stores → Type 0) (is_reliable : Bool)
+    (old new : View St) (result : Result T Error) : Type 0 where
+  pub lengths : grow old.stores new.stores
+  pub faults : CountsFaults is_reliable old.fault_count new.fault_count result

@@ -1,11 +1,10 @@
 //! The interface of a format driver.
 ghost use Rattle.std.specs.Prelude.{◌≡◌, ℕ, ◌+◌, ◌<◌, ◌≤◌, ◌⊎◌, ◌↔◌, ◌&&◌, Option, None, Bool};
 ghost use Rattle.std.specs.Prelude.{true, false, List, length, slice_index, slice_get, EachIndex};
-ghost use Rattle.std.specs.Prelude.{OnOk, OnErr, IfOk, IfErr, IfSome, IsOk, IsTrue, IsErrOf};
+ghost use Rattle.std.specs.Prelude.{OnOk, OnErr, IfOk, IfErr, IfSome, IsTrue, IsErrOf};
 ghost use Rattle.std.specs.Prelude.{MatchOption, is_some};
 ghost use Rattle.imago_storage.specs.Error.{IsExtRefusal};
 ghost use Rattle.imago_storage.specs.Bytes.{IsReadAt};
-ghost use Rattle.imago_storage.specs.Faults.{CountsFaults};
 ghost use Rattle.imago_drivers.specs.Parts.{storage_of, offset_of, length_of};
 ghost use Rattle.imago_drivers.specs.Operation.{Map, Read, Write, Zero, DiscardToZero};
 ghost use Rattle.imago_drivers.specs.Operation.{DiscardToAny, DiscardToBacking};
@@ -13,17 +12,16 @@ ghost use Rattle.imago_drivers.specs.Place.{Refused, values, PlacesStandAt, Byte
 ghost use Rattle.imago_drivers.specs.Outside.{StaysOutside};
 ghost use Rattle.imago_drivers.specs.Reasons.{Reasons, allowed, none};
 ghost use Rattle.imago_drivers.specs.LayerBelow.{lent};
-ghost use Rattle.imago_drivers.specs.Causes.{IsSettled, IsOnRange, AddsNone};
+ghost use Rattle.imago_drivers.specs.Causes.{IsSettled, IsOnRange};
 ghost use Rattle.imago_drivers.specs.Pending.{ShowsRound};
 ghost use Rattle.imago_drivers.specs.View.{View};
-ghost use Rattle.imago_drivers.specs.Changes.{IsChanged, zeroes, unspecified, overwritten};
-ghost use Rattle.imago_drivers.specs.Changes.{to_backing};
-ghost use Rattle.imago_drivers.specs.Frame.{IsKind, IsFramed, IsUnchanged, ReachesNoMore};
+ghost use Rattle.imago_drivers.specs.Changes.{zeroes, unspecified, to_backing};
+ghost use Rattle.imago_drivers.specs.Frame.{IsFramed, ReachesNoMore, LeavesNothingOpen};
+ghost use Rattle.imago_drivers.specs.Frame.{UsesStorages};
 ghost use Rattle.imago_drivers.specs.Mapping.{IsRight};
-ghost use Rattle.imago_drivers.specs.Done.{HasDone, map_reasons, stored_read_reasons};
+ghost use Rattle.imago_drivers.specs.Done.{HasEnsured, map_reasons, stored_read_reasons};
 ghost use Rattle.imago_drivers.specs.Done.{special_read_reasons, stored_write_reasons};
-ghost use Rattle.imago_drivers.specs.Done.{mapping_write_reasons, range_reasons, lending_reasons};
-ghost use Rattle.imago_drivers.specs.Done.{driver_reasons};
+ghost use Rattle.imago_drivers.specs.Done.{mapping_write_reasons, lending_reasons};
 ghost use Rattle.imago_drivers.specs.Prepared.{IsPrepared, IsForeignWrite, IsFor, IsPut, IsWritten};
 ghost use Rattle.imago_drivers.specs.Prepared.{IsDataMapping};
 ghost use Rattle.imago_drivers.specs.Commit.{IsCommit, IsCancel};
@@ -202,14 +200,10 @@ pub trait FormatDriverInstance: Display + Drop {
             → PlacesStandAt (view self.old).place storage offset (length source.now) o
             → IsSettled IsOnRange (view self.old).limits.cause (view self.new).limits.cause
             (view self.old).limits.copies (view self.new).limits.copies o (length source.now)) }
-        ensures reaches { ReachesNoMore (view self.old) (view self.new) }
-        ensures nothing_pending { (view self.new).pending ≡ None }
-        ensures lengths { GrowAt storage offset (length source.now) (view self.old).stores
-            (view self.new).stores }
+        ensures leaves { LeavesNothingOpen (view self.old) (view self.new) }
+        ensures storages { UsesStorages (GrowAt storage offset (length source.now))
+            (view self.old).abilities.is_reliable (view self.old) (view self.new) result }
         ensures framed { IsFramed (view self.old) (view self.new) }
-        ensures faults { CountsFaults (view self.old).abilities.is_reliable
-            (view self.old).fault_count
-            (view self.new).fault_count result }
         ensures refusals { IfErr result
             (allowed (stored_write_reasons (view self.old) storage offset (length source.now))) }
         ensures performed { calls.put storage source.now offset self.old self.new result };
@@ -330,12 +324,10 @@ pub trait FormatDriverInstance: Display + Drop {
             → IsSettled IsOnRange (view self.old).limits.cause (view self.new).limits.cause
             (view self.old).limits.copies (view self.new).limits.copies o (length source.now)) }
         ensures reaches { ReachesNoMore (view self.old) (view self.new) }
-        ensures lengths { GrowAt (storage_of mapping.now) (offset_of mapping.now + at)
-            (length source.now) (view self.old).stores (view self.new).stores }
+        ensures storages { UsesStorages
+            (GrowAt (storage_of mapping.now) (offset_of mapping.now + at) (length source.now))
+            (view self.old).abilities.is_reliable (view self.old) (view self.new) result }
         ensures framed { IsFramed (view self.old) (view self.new) }
-        ensures faults { CountsFaults (view self.old).abilities.is_reliable
-            (view self.old).fault_count
-            (view self.new).fault_count result }
         ensures refusals { IfErr result
             (allowed (mapping_write_reasons (view self.old) mapping.now at (length source.now))) }
         ensures performed { calls.filled mapping.now source.now at self.old self.new result };
@@ -376,31 +368,22 @@ pub trait FormatDriverInstance: Display + Drop {
         requires inside { offset + count ≤ (view self.old).size }
         ensures mapped { IfOk result (λ r. IsDataMapping offset count r.0 r.1 r.2 (view self.old)
             (view self.new)) }
-        ensures done { IsTrue (view self.old).abilities.keeps_data
-            → IfOk result
-            (λ r. IsChanged offset r.2 (overwritten overwrite)
+        ensures changed { IsTrue (view self.old).abilities.keeps_data
+            → HasEnsured offset count overwrite
             (values (lent B.as_layer_below below.entry).at (view self.old).place)
-            (values (lent B.as_layer_below below.entry).at (view self.new).place)) }
-        ensures torn { IsTrue (view self.old).abilities.keeps_data
-            → OnErr result
-            (IsChanged offset count (overwritten overwrite)
-            (values (lent B.as_layer_below below.entry).at (view self.old).place)
-            (values (lent B.as_layer_below below.entry).at (view self.new).place)) }
+            (values (lent B.as_layer_below below.entry).at (view self.new).place) result }
         ensures causes { IfOk result
             (λ r. IsSettled IsOnRange (view self.old).limits.cause (view self.new).limits.cause
             (view self.old).limits.copies (view self.new).limits.copies offset r.2) }
         ensures outside { StaysOutside (view self.old).abilities.keeps_data
             (view self.old).abilities.block offset count (view self.old).place
             (view self.new).place }
-        ensures reaches { ReachesNoMore (view self.old) (view self.new) }
-        ensures nothing_pending { (view self.new).pending ≡ None }
-        ensures lengths { GrowTo ((view self.old).limits.longest Write offset count)
-            (view self.old).stores (view self.new).stores }
-        ensures framed { IsFramed (view self.old) (view self.new) }
-        ensures faults { CountsFaults
+        ensures leaves { LeavesNothingOpen (view self.old) (view self.new) }
+        ensures storages { UsesStorages (GrowTo ((view self.old).limits.longest Write offset count))
             ((view self.old).abilities.is_reliable &&
             (lent B.as_layer_below below.entry).is_reliable)
-            (view self.old).fault_count (view self.new).fault_count result }
+            (view self.old) (view self.new) result }
+        ensures framed { IsFramed (view self.old) (view self.new) }
         ensures refusals { IfErr result
             (allowed
             (lending_reasons (view self.old) (lent B.as_layer_below below.entry) Write

@@ -1,7 +1,6 @@
 //! The driver of raw images.
-ghost use Rattle.std.specs.Prelude.{◌≡◌, ℕ, ◌+◌, ◌^◌, ◌<◌, ◌≤◌, ◌⊎◌, max, length, slice_index};
-ghost use Rattle.std.specs.Prelude.{IsTrue, IfOk, IfErr, OnOk, OnErr, IsOk, IsErrOf, Ok, true};
-ghost use Rattle.std.specs.Prelude.{false};
+ghost use Rattle.std.specs.Prelude.{◌≡◌, ℕ, ◌+◌, ◌^◌, ◌<◌, ◌≤◌, length, slice_index, IsTrue};
+ghost use Rattle.std.specs.Prelude.{IfOk, IfErr, OnOk, OnErr, IsOk, IsErrOf, Ok, true, false};
 ghost use Rattle.std.specs.String.{string_bytes};
 ghost use Rattle.imago_storage.specs.Bytes.{SameOutside};
 ghost use Rattle.imago_storage.specs.Calls.{IsRangeWrite};
@@ -495,8 +494,8 @@ fn zero_aligned_part<S: Storage>(
 /// Discards the part of a range that is aligned to the storage's discard alignment, and answers it.
 fn discard_part<S: Storage>(storage: &mut S, offset: u64, count: u64) -> Result<(u64, u64), Error>
     requires { offset + count < 2 ^ 64 }
-    ensures part { IfOk result (λ r. IsAnsweredPart (S.features storage.old).discard_align offset count
-        r.0 r.1) }
+    ensures part { IfOk result (λ r. IsAnsweredPart (S.features storage.old).discard_align offset
+        count r.0 r.1) }
     ensures discarded { IfOk result
         (λ r. SameOutside r.0 r.1 (S.bytes storage.old) (S.bytes storage.new)) }
     ensures same_length { length (S.bytes storage.new) ≡ length (S.bytes storage.old) }

@@ -142,62 +142,69 @@ impl<S: Storage> Sparse<S> {
     }
 }
 
-/// The bytes of a range of entries of that origin that stand in no storage.
-fn old_bytes<B: LowerLayer>(
-    alloc: Global,
-    below: Option<&B>,
+/// A range of entries that have one origin.
+#[derive(Clone, Copy)]
+struct Stretch {
     offset: u64,
     count: u64,
     origin: Origin,
+}
+
+/// The bytes of entries that stand in no storage.
+fn old_bytes<B: LowerLayer>(
+    alloc: Global,
+    below: Option<&B>,
+    stretch: Stretch,
 ) -> Result<Vec<u8>, Error>
-    requires { IsFree (Some origin) }
-    ensures count { IfOk result (λ v. length v.items ≡ «count») }
+    requires { IsFree (Some stretch.origin) }
+    ensures count { IfOk result (λ v. length v.items ≡ stretch.count) }
     ensures bytes { IfOk result
-        (λ v. HasOldBytes (lent B.as_layer_below below.entry).at offset origin v.items) }
+        (λ v. HasOldBytes (lent B.as_layer_below below.entry).at stretch.offset stretch.origin
+        v.items) }
     ensures device { IsErrOf result Error.Device
         → (lent B.as_layer_below below.entry).is_reliable ≡ false }
     ensures refusals { IfErr result
-        (allowed (copy_reasons (lent B.as_layer_below below.entry) origin offset count)) }
+        (allowed
+        (copy_reasons (lent B.as_layer_below below.entry) stretch.origin stretch.offset
+        stretch.count)) }
 {
-    let mut bytes = vec![in alloc; 0u8; count as usize]?;
+    let mut bytes = vec![in alloc; 0u8; stretch.count as usize]?;
     let Some(layer) = below else {
         return Ok(bytes);
     };
-    if origin != Origin::Lower {
+    if stretch.origin != Origin::Lower {
         return Ok(bytes);
     }
-    layer.read(alloc, &mut bytes, offset)?;
+    layer.read(alloc, &mut bytes, stretch.offset)?;
     Ok(bytes)
 }
 
-/// Writes what a range of entries of that origin shows into the first storage, where nothing shows
-/// it. For overwriting it writes nothing.
+/// Writes what a range of entries shows into the first storage, where nothing shows it. For
+/// overwriting it writes nothing.
 fn copy_shown<S: Storage, B: LowerLayer>(
     storages: &mut Pair<S>,
     alloc: Global,
     below: Option<&B>,
-    offset: u64,
-    count: u64,
-    origin: Origin,
+    stretch: Stretch,
     overwrite: bool,
 ) -> Result<(), Error>
-    requires { IsFree (Some origin) }
+    requires { IsFree (Some stretch.origin) }
     ensures copied { IsTrue (S.features storages.old.first).keeps_data
         → overwrite ≡ false
         → OnOk result
         ((p : ℕ)
-        → IsIn offset count p
-        → HasOldByte (lent B.as_layer_below below.entry).at p origin
+        → IsIn stretch.offset stretch.count p
+        → HasOldByte (lent B.as_layer_below below.entry).at p stretch.origin
         (slice_index (S.bytes storages.new.first) p)) }
     ensures outside { IsTrue (S.features storages.old.first).keeps_data
         → (p : ℕ)
-        → (p < offset) ⊎ (offset + count ≤ p)
+        → (p < stretch.offset) ⊎ (stretch.offset + stretch.count ≤ p)
         → slice_index (S.bytes storages.new.first) p ≡ slice_index (S.bytes storages.old.first) p }
     ensures second { S.bytes storages.new.second ≡ S.bytes storages.old.second }
     ensures no_shorter { length (S.bytes storages.old.first) ≤ length (S.bytes storages.new.first) }
     ensures no_longer { length (S.bytes storages.new.first)
         ≤ max (length (S.bytes storages.old.first))
-        (padded_to (S.features storages.old.first) offset count) }
+        (padded_to (S.features storages.old.first) stretch.offset stretch.count) }
     ensures first_features { S.features storages.new.first ≡ S.features storages.old.first }
     ensures second_features { S.features storages.new.second ≡ S.features storages.old.second }
     ensures faults { CountsFaults
@@ -208,13 +215,15 @@ fn copy_shown<S: Storage, B: LowerLayer>(
         (S.fault_count storages.new.first + S.fault_count storages.new.second + storages.new.faults)
         result }
     ensures refusals { IfErr result
-        (allowed (copy_reasons (lent B.as_layer_below below.entry) origin offset count)) }
+        (allowed
+        (copy_reasons (lent B.as_layer_below below.entry) stretch.origin stretch.offset
+        stretch.count)) }
 {
     if overwrite {
         return Ok(());
     }
-    match old_bytes(alloc, below, offset, count, origin) {
-        Ok(bytes) => write_bytes(&mut storages.first, alloc, &bytes, offset),
+    match old_bytes(alloc, below, stretch) {
+        Ok(bytes) => write_bytes(&mut storages.first, alloc, &bytes, stretch.offset),
         Err(Error::Device) => {
             storages.faults = storages.faults.saturating_add(1);
             Err(Error::Device)
@@ -407,15 +416,12 @@ impl<S: Storage> FormatDriverInstance for Sparse<S> {
         if let Some(index) = storage_index(origin) {
             return Ok(PreparedDataMapping::existing(index, offset, run));
         }
-        copy_shown(
-            &mut self.storages,
-            alloc,
-            below,
+        let stretch = Stretch {
             offset,
-            run,
+            count: run,
             origin,
-            overwrite,
-        )?;
+        };
+        copy_shown(&mut self.storages, alloc, below, stretch, overwrite)?;
         let ticket = self.tickets.wrapping_add(1);
         self.tickets = ticket;
         self.waiting = Some(Waiting {

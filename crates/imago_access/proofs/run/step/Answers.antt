@@ -28,5 +28,5 @@ pub returns-in-Prepared-clause-step : goal.returns-in-Prepared-clause-step
 returns-in-Prepared-clause-step g c =
     let w = c.write_mapping in
     let p = c.in-Prepared in
-    let h = subst (λ (bytes : List ℕ). IsMappedWrite g.D.FormatDriverInstance.view c.args.image.now w.new.self p.offset p.length p.overwrite bytes p.commit w.result × IsMappedBy g.D.FormatDriverInstance.view g.D.FormatDriverInstance.calls c.args.image.now w.new.self p.offset p.length p.overwrite bytes p.commit w.result) c.deref-in-Prepared.ensures.value (w.ensures.mapped, w.ensures.performed) in
+    let h = subst (λ (bytes : List ℕ). IsMappedWrite g.D.FormatDriverInstance.view c.args.image.now w.new.self p.offset p.length p.overwrite bytes p.commit w.result × IsMappedBy g.D.FormatDriverInstance.view g.D.FormatDriverInstance.calls c.args.image.now w.new.self p.offset p.length p.overwrite bytes p.commit w.result) c.deref-in-Prepared.ensures.value (rw c.spending_of.ensures at w.ensures.mapped, rw c.spending_of.ensures at w.ensures.performed) in
     rw c.in-Prepared.is (w.result, c.prepared_or_refused.ensures, h)

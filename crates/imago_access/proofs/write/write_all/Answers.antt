@@ -7,7 +7,7 @@ use Rattle.imago_access.proofs.Writes.{nothing_written, wrote_next, refused_next
 use Rattle.imago_access.proofs.write.write_all.Goals as goal
 
 pub loop-done-init : goal.loop-done-init
-loop-done-init g c = (nothing_written g.D.FormatDriverInstance.view (lent g.B.LowerLayer.as_layer_below c.args.below) c.args.inner.now c.args.offset c.args.source.now (g.met.D.FormatDriverInstance.causes_lawful c.args.inner.now) c.requires.spent, (λ z. refl), made_none (rest_by g.D.FormatDriverInstance.calls (lent g.B.LowerLayer.as_layer_below c.args.below) c.args.offset c.args.source.now) (length c.args.source.now) c.args.inner.now)
+loop-done-init g c = (nothing_written g.D.FormatDriverInstance.view (lent g.B.LowerLayer.as_layer_below c.args.below) c.args.inner.now c.args.offset c.args.source.now (g.met.D.FormatDriverInstance.causes_lawful c.args.inner.now) c.requires.takes.spent, (λ z. refl), made_none (rest_by g.D.FormatDriverInstance.calls (lent g.B.LowerLayer.as_layer_below c.args.below) c.args.offset c.args.source.now) (length c.args.source.now) c.args.inner.now)
 
 pub loop-done-preserved : goal.loop-done-preserved
 loop-done-preserved g c = (

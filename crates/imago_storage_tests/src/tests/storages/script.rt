@@ -97,6 +97,31 @@ pub(super) struct Script {
     pub(super) steps: &'static [Step],
 }
 
+/// What a call has to answer, and the bytes that the storage has to have then.
+#[derive(Clone, Copy)]
+struct Expected {
+    answer: Result<(), Error>,
+    left: Runs,
+}
+
+impl Expected {
+    /// The call is done.
+    fn done(left: Runs) -> Self {
+        Expected {
+            answer: Ok(()),
+            left,
+        }
+    }
+
+    /// The call is refused.
+    fn refused(error: Error, left: Runs) -> Self {
+        Expected {
+            answer: Err(error),
+            left,
+        }
+    }
+}
+
 /// Runs a script.
 pub(super) fn check(rt: &impl Abort, alloc: Global, script: &Script) {
     let bytes = runs(rt, alloc, script.given);
@@ -130,12 +155,14 @@ struct State {
 impl State {
     fn step(&mut self, rt: &impl Abort, alloc: Global, step: Step) {
         match step {
-            Step::Done(call, left) => self.make(rt, alloc, call, Ok(()), left),
+            Step::Done(call, left) => self.make(rt, alloc, call, Expected::done(left)),
             Step::AtOnce(call, left) => {
                 let told = self.subject.make(rt, alloc, call);
-                self.is_left(rt, alloc, call, told, Ok(()), left);
+                self.is_left(rt, alloc, call, told, Expected::done(left));
             }
-            Step::Refused(call, error, left) => self.make(rt, alloc, call, Err(error), left),
+            Step::Refused(call, error, left) => {
+                self.make(rt, alloc, call, Expected::refused(error, left));
+            }
             Step::Arm(pass, tear) => {
                 self.armed = Some((pass, tear));
                 self.subject.arm(rt, pass, tear);
@@ -155,13 +182,12 @@ impl State {
         rt: &impl Abort,
         alloc: Global,
         call: Call,
-        expected: Result<(), Error>,
-        left: Runs,
+        expected: Expected,
     ) {
         let before = copied(rt, alloc, self.subject.bytes());
-        let after = runs_of(rt, alloc, &self.subject, left);
+        let after = runs_of(rt, alloc, &self.subject, expected.left);
         let mut told = self.subject.make(rt, alloc, call);
-        if told.0 == Err(Error::Memory) && expected != told.0 {
+        if told.0 == Err(Error::Memory) && expected.answer != told.0 {
             let now = self.subject.bytes();
             assert!(rt;
                 is_old_or_new(&before, &after, now),
@@ -170,7 +196,7 @@ impl State {
             self.arm_again(rt);
             told = self.subject.make(rt, alloc, call);
         }
-        self.is_left(rt, alloc, call, told, expected, left);
+        self.is_left(rt, alloc, call, told, expected);
     }
 
     /// A call was answered as it has to be, and left what it has to.
@@ -180,14 +206,13 @@ impl State {
         alloc: Global,
         call: Call,
         (answer, size): Told,
-        expected: Result<(), Error>,
-        left: Runs,
+        expected: Expected,
     ) {
-        same(rt, &answer, &expected);
+        same(rt, &answer, &expected.answer);
         self.count(call, answer);
-        let bytes = runs_of(rt, alloc, &self.subject, left);
+        let bytes = runs_of(rt, alloc, &self.subject, expected.left);
         assert!(rt; self.subject.bytes() == bytes.as_slice(), "other bytes");
-        same(rt, &size, &Ok(total(left)));
+        same(rt, &size, &Ok(total(expected.left)));
         same(rt, &self.subject.faults(self.faults), &self.faults);
     }
 

@@ -5,8 +5,8 @@ use Rattle.imago_test_tables.proofs.sparse.copy_shown.Goals as goal
 
 pub returns-in-Ok-clause-copied : goal.returns-in-Ok-clause-copied
 returns-in-Ok-clause-copied g c = λ k over.
-    if_ok c.write_bytes.result (λ x e. copied_bytes _ _ _ c.in-Ok.bytes.items c.args.offset c.args.count c.args.origin c.in-Ok.ensures.count c.in-Ok.ensures.bytes
+    if_ok c.write_bytes.result (λ x e. copied_bytes _ _ _ c.in-Ok.bytes.items c.args.stretch.offset c.args.stretch.count c.args.stretch.origin c.in-Ok.ensures.count c.in-Ok.ensures.bytes
     (rw c.deref.ensures.value at (ok_of x e (c.write_bytes.ensures.written k))))
 
 pub returns-in-Ok-clause-refusals : goal.returns-in-Ok-clause-refusals
-returns-in-Ok-clause-refusals g c = ext_refused (lent g.B.LowerLayer.as_layer_below c.args.below) c.args.origin c.args.offset c.args.count c.write_bytes.result c.write_bytes.ensures.only
+returns-in-Ok-clause-refusals g c = ext_refused (lent g.B.LowerLayer.as_layer_below c.args.below) c.args.stretch.origin c.args.stretch.offset c.args.stretch.count c.write_bytes.result c.write_bytes.ensures.only

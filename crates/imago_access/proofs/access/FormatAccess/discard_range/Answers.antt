@@ -8,7 +8,7 @@ use Rattle.imago_access.proofs.access.FormatAccess.discard_range.Goals as goal
 
 pub loop-done-init : goal.loop-done-init
 loop-done-init g c = (
-  nothing_discarded g.D.FormatDriverInstance.view c.args.call c.args.offset c.args.count c.args.self.now (g.met.D.FormatDriverInstance.causes_lawful _) c.requires.spent,
+  nothing_discarded g.D.FormatDriverInstance.view c.args.call c.args.offset c.args.count c.args.self.now (g.met.D.FormatDriverInstance.causes_lawful _) c.requires.takes.spent,
   begins (discard_by g.D.FormatDriverInstance.calls c.args.call) c.args.offset c.args.count (driver c.args.self.now),
   λ z. refl,
 )

@@ -13,7 +13,7 @@ returns-clause-call g c =
     let x = c.args.self.now in
     let t = c.in_ok-test_range.ensures.passed in
     let r = c.ensure_data_mapping in
-    image_ensured v x r.new.self c.args.offset c.args.count c.args.overwrite r.result _ (lent_is v c.below-lower.result (backing x) c.below-lower.ensures) t.0 t.1 r.ensures.done r.ensures.torn r.ensures.reaches r.ensures.causes (stays _ _ r.ensures.framed r.ensures.lengths.no_shorter) r.ensures.outside r.ensures.nothing_pending r.ensures.faults r.ensures.refusals
+    image_ensured v x r.new.self c.args.offset c.args.count c.args.overwrite r.result _ (lent_is v c.below-lower.result (backing x) c.below-lower.ensures) t.0 t.1 (λ k. (r.ensures.changed k).done) (λ k. (r.ensures.changed k).torn) r.ensures.leaves.reaches r.ensures.causes (stays _ _ r.ensures.framed r.ensures.storages.lengths.no_shorter) r.ensures.outside r.ensures.leaves.nothing_pending r.ensures.storages.faults r.ensures.refusals
 
 pub returns-in_err-test_range-clause-call : goal.returns-in_err-test_range-clause-call
 returns-in_err-test_range-clause-call g c =

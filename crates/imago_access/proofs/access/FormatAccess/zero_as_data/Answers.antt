@@ -21,7 +21,7 @@ loop-done-preserved g c = (
 
 pub loop-done-init : goal.loop-done-init
 loop-done-init g c = (
-  nothing_zeroed g.D.FormatDriverInstance.view c.args.self.now c.args.offset c.args.count (g.met.D.FormatDriverInstance.causes_lawful _) c.requires.spent,
+  nothing_zeroed g.D.FormatDriverInstance.view c.args.self.now c.args.offset c.args.count (g.met.D.FormatDriverInstance.causes_lawful _) c.requires.takes.spent,
   made_none (behind (IsZeroPiece g.D.FormatDriverInstance.view g.D.FormatDriverInstance.calls) c.args.offset c.args.count) c.args.count c.args.self.now,
   search rules,
   λ none. refl,

@@ -8,7 +8,7 @@ use Rattle.imago_access.proofs.MadeSteps.{made_none, made_more, made_refused, ma
 use Rattle.imago_access.proofs.access.FormatAccess.zero_range.Goals as goal
 
 pub loop-done-init : goal.loop-done-init
-loop-done-init g c = (nothing_zeroed g.D.FormatDriverInstance.view c.args.self.now c.args.offset c.args.count (g.met.D.FormatDriverInstance.causes_lawful _) c.requires.spent, λ free. inl (refl, refl), (λ z. refl), made_none (behind (IsNextZeroed g.D.FormatDriverInstance.view g.D.FormatDriverInstance.calls c.args.call) c.args.offset c.args.count) c.args.count c.args.self.now)
+loop-done-init g c = (nothing_zeroed g.D.FormatDriverInstance.view c.args.self.now c.args.offset c.args.count (g.met.D.FormatDriverInstance.causes_lawful _) c.requires.takes.spent, λ free. inl (refl, refl), (λ z. refl), made_none (behind (IsNextZeroed g.D.FormatDriverInstance.view g.D.FormatDriverInstance.calls c.args.call) c.args.offset c.args.count) c.args.count c.args.self.now)
 
 pub loop-done-preserved : goal.loop-done-preserved
 loop-done-preserved g c =

@@ -13,8 +13,8 @@ returns-in-Cow-clause-framed g c = rw c.in-Cow.is c.ensure_data_mapping-in-Cow.e
 pub returns-in-Cow-clause-refusals : goal.returns-in-Cow-clause-refusals
 returns-in-Cow-clause-refusals g c = rw c.in-Cow.is c.ensure_data_mapping-in-Cow.ensures.refusals
 
-pub returns-in-Cow-clause-reaches : goal.returns-in-Cow-clause-reaches
-returns-in-Cow-clause-reaches g c = rw c.in-Cow.is c.ensure_data_mapping-in-Cow.ensures.reaches
+pub returns-in-Cow-clause-leaves : goal.returns-in-Cow-clause-leaves
+returns-in-Cow-clause-leaves g c = rw c.in-Cow.is c.ensure_data_mapping-in-Cow.ensures.leaves
 
 pub returns-in-Raw-clause-outside : goal.returns-in-Raw-clause-outside
 returns-in-Raw-clause-outside g c = rw c.in-Raw.is c.ensure_data_mapping.ensures.outside

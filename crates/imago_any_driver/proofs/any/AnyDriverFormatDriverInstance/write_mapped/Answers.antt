@@ -25,5 +25,5 @@ returns-in-Cow-clause-framed g c = rw c.in-Cow.is c.write_mapped-in-Cow.ensures.
 pub returns-in-Cow-clause-refusals : goal.returns-in-Cow-clause-refusals
 returns-in-Cow-clause-refusals g c = rw c.in-Cow.is c.write_mapped-in-Cow.ensures.refusals
 
-pub returns-in-Cow-clause-reaches : goal.returns-in-Cow-clause-reaches
-returns-in-Cow-clause-reaches g c = rw c.in-Cow.is c.write_mapped-in-Cow.ensures.reaches
+pub returns-in-Cow-clause-leaves : goal.returns-in-Cow-clause-leaves
+returns-in-Cow-clause-leaves g c = rw c.in-Cow.is c.write_mapped-in-Cow.ensures.leaves

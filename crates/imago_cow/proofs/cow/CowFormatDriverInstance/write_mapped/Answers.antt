@@ -2,7 +2,7 @@ use Rattle.std.proofs.Common.{◌≡◌, ◌+◌, arith, length}
 use Rattle.imago_cow.specs.TableView.{entries_of, count_of}
 use Rattle.imago_cow.specs.TableLaws.{named_below}
 use Rattle.imago_cow.proofs.StoredSteps.{on_ok}
-use Rattle.imago_cow.proofs.DriverSteps.{bytes_settled}
+use Rattle.imago_cow.proofs.DriverSteps.{bytes_settled, storage_faults}
 use Rattle.imago_cow.proofs.cow.CowFormatDriverInstance.write_mapped.Goals as goal
 
 pub returns-clause-written : goal.returns-clause-written
@@ -23,11 +23,14 @@ returns-clause-causes g c =
     on_ok c.write_stored.result (λ x e o q.
     bytes_settled (g.S.Storage.features s.storage) (g.S.Storage.features c.write_stored.new.storage) 0 0 (g.S.Storage.bytes s.storage) (g.S.Storage.bytes c.write_stored.new.storage) s.size s.block.length (entries_of s.table) (count_of s.table) s.waiting s.positive s.exact.covers c.write_stored.ensures.features o (length c.args.source.now))
 
-pub returns-clause-lengths : goal.returns-clause-lengths
-returns-clause-lengths g c =
+pub returns-clause-storages : goal.returns-clause-storages
+returns-clause-storages g c =
     let s = c.args.self.now in
     let z : c.args._storage ≡ 0 = omega (arith, c.requires.known) in
-    rw z (c.write_stored.ensures.lengths 0 s.size s.block.length (entries_of s.table) (count_of s.table) s.waiting)
+    record {
+      lengths = rw z (c.write_stored.ensures.lengths 0 s.size s.block.length (entries_of s.table) (count_of s.table) s.waiting);
+      faults = storage_faults _ _ s.faults _ _ c.write_stored.ensures.cause;
+    }
 
 pub returns-clause-refusals : goal.returns-clause-refusals
 returns-clause-refusals g c =

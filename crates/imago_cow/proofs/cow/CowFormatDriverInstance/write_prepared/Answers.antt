@@ -12,7 +12,7 @@ use Rattle.imago_cow.specs.Cow.{cow_view, cow_pending, WaitsApart}
 use Rattle.imago_cow.proofs.MapSteps.{number_ends}
 use Rattle.imago_cow.proofs.DirectSteps.{refused_some}
 use Rattle.imago_cow.proofs.StoredSteps.{on_ok, on_err, ok_holds, err_holds}
-use Rattle.imago_cow.proofs.DriverSteps.{bytes_settled, mapping_refused, existing_takes, waiting_takes, not_foreign, written_apart, round_stays}
+use Rattle.imago_cow.proofs.DriverSteps.{bytes_settled, storage_faults, mapping_refused, existing_takes, waiting_takes, not_foreign, written_apart, round_stays}
 use Rattle.imago_cow.proofs.WriteSteps.{own_is_written, no_stranger, pending_stays, round_other}
 use Rattle.imago_cow.proofs.cow.CowFormatDriverInstance.write_prepared.Goals as goal
 
@@ -124,8 +124,8 @@ returns-then-not-is_nonblocking-clause-causes g c =
     let inside : c.args.at + length c.args.source.now ≤ w.length = omega (arith, c.requires, own_w.2) in
     on_ok r (λ x e o q. bytes_settled f (g.S.Storage.features c.write_stored.new.storage) 0 0 A B s.size s.block.length (entries_of s.table) (count_of s.table) s.waiting s.positive s.exact.covers c.write_stored.ensures.features o (length c.args.source.now))
 
-pub returns-then-not-is_nonblocking-clause-lengths : goal.returns-then-not-is_nonblocking-clause-lengths
-returns-then-not-is_nonblocking-clause-lengths g c =
+pub returns-then-not-is_nonblocking-clause-storages : goal.returns-then-not-is_nonblocking-clause-storages
+returns-then-not-is_nonblocking-clause-storages g c =
     let s = c.args.self.now in
     let m = c.args.mapping.now in
     let f = g.S.Storage.features s.storage in
@@ -140,7 +140,10 @@ returns-then-not-is_nonblocking-clause-lengths g c =
     let n' = g.S.Storage.fault_count c.write_stored.new.storage + s.faults in
     let r = c.write_stored.result in
     let inside : c.args.at + length c.args.source.now ≤ w.length = omega (arith, c.requires, own_w.2) in
-    rw (own_w.0, own_w.1) (c.write_stored.ensures.lengths 0 s.size s.block.length (entries_of s.table) (count_of s.table) s.waiting)
+    record {
+      lengths = rw (own_w.0, own_w.1) (c.write_stored.ensures.lengths 0 s.size s.block.length (entries_of s.table) (count_of s.table) s.waiting);
+      faults = storage_faults _ _ s.faults _ _ c.write_stored.ensures.cause;
+    }
 
 pub returns-then-not-is_nonblocking-clause-refusals : goal.returns-then-not-is_nonblocking-clause-refusals
 returns-then-not-is_nonblocking-clause-refusals g c =
@@ -273,8 +276,8 @@ returns-clause-causes g c =
     let fits : c.args.at + length c.args.source.now ≤ c.length-count.result = omega (arith, c.requires, c.length-count.ensures) in
     on_ok r (λ x e o q. bytes_settled f (g.S.Storage.features c.write_stored-2.new.storage) 0 0 A B s.size s.block.length (entries_of s.table) (count_of s.table) s.waiting s.positive s.exact.covers c.write_stored-2.ensures.features o (length c.args.source.now))
 
-pub returns-clause-lengths : goal.returns-clause-lengths
-returns-clause-lengths g c =
+pub returns-clause-storages : goal.returns-clause-storages
+returns-clause-storages g c =
     let s = c.args.self.now in
     let m = c.args.mapping.now in
     let f = g.S.Storage.features s.storage in
@@ -287,7 +290,10 @@ returns-clause-lengths g c =
     let zero : m.storage ≡ 0 = omega (arith, c.storage-index.ensures, shown.0) in
     let all : BytesAreWritable (cow_place A s.size s.block.length (entries_of s.table)) 0 c.offset-start.result c.length-count.result = shown.1 in
     let fits : c.args.at + length c.args.source.now ≤ c.length-count.result = omega (arith, c.requires, c.length-count.ensures) in
-    rw (zero, ← c.offset-start.ensures) (c.write_stored-2.ensures.lengths 0 s.size s.block.length (entries_of s.table) (count_of s.table) s.waiting)
+    record {
+      lengths = rw (zero, ← c.offset-start.ensures) (c.write_stored-2.ensures.lengths 0 s.size s.block.length (entries_of s.table) (count_of s.table) s.waiting);
+      faults = storage_faults _ _ s.faults _ _ c.write_stored-2.ensures.cause;
+    }
 
 pub returns-clause-refusals : goal.returns-clause-refusals
 returns-clause-refusals g c =

@@ -1,4 +1,5 @@
-use Rattle.std.proofs.Common.{rules, ap, false, Ok, Err, ◌∙◌}
+use Rattle.std.proofs.Common.{rules, arith, ap, false, Ok, Err, ◌∙◌}
+use Rattle.std.proofs.lemmas.Grind.{common_steps}
 use Rattle.std.specs.Prelude.{IsErrOf}
 use Rattle.imago_storage.specs.declared.error.Error.{Error}
 use Rattle.imago_drivers.specs.LayerBelow.{lent}
@@ -11,10 +12,13 @@ returns-clause-mapped g c =
     let p = c.in_ok-mapping.ensures in
     ensured _ _ _ _ _ _ _ c.in_ok-mapping.mapping p.prepared p.call.unchanged c.in_ok-commit_data_mapping.ensures.call.done _ _ _ c.storage-storage.ensures c.offset-start.ensures c.length-length.ensures
 
-pub returns-clause-done : goal.returns-clause-done
-returns-clause-done g c = λ k.
+pub returns-clause-changed : goal.returns-clause-changed
+returns-clause-changed g c = λ k.
     let p = c.in_ok-mapping.ensures in
-    rw c.length-length.ensures (ensured_change _ _ _ _ _ _ _ c.in_ok-mapping.mapping p.prepared p.call.unchanged k false c.in_ok-commit_data_mapping.ensures.call.done)
+    record {
+      done = rw c.length-length.ensures (ensured_change _ _ _ _ _ _ _ c.in_ok-mapping.mapping p.prepared p.call.unchanged k false c.in_ok-commit_data_mapping.ensures.call.done);
+      torn = tt;
+    }
 
 pub returns-clause-causes : goal.returns-clause-causes
 returns-clause-causes g c =
@@ -23,20 +27,26 @@ returns-clause-causes g c =
     let at = is_at_start (V c.args.self.now) (V c.prepare_data_mapping.new.self) (V c.commit_data_mapping.new.self) _ c.args.offset c.args.count _ c.in_ok-mapping.mapping p.prepared p.call.unchanged in
     rw c.length-length.ensures (settled_twice _ _ _ _ _ _ _ _ p.call.causes (c.in_ok-commit_data_mapping.ensures.call.settled c.args.offset at))
 
-pub returns-in_err-commit_data_mapping-clause-reaches : goal.returns-in_err-commit_data_mapping-clause-reaches
-returns-in_err-commit_data_mapping-clause-reaches g c =
+pub returns-in_err-commit_data_mapping-clause-leaves : goal.returns-in_err-commit_data_mapping-clause-leaves
+returns-in_err-commit_data_mapping-clause-leaves g c =
     let V = g.Self.FormatDriverInstance.view in
-    reaches_twice (V c.args.self.now) (V c.prepare_data_mapping.new.self) (V c.commit_data_mapping.new.self) c.in_ok-mapping.ensures.call.unchanged.reaches c.commit_data_mapping.ensures.call.reaches
+    record {
+      reaches = reaches_twice (V c.args.self.now) (V c.prepare_data_mapping.new.self) (V c.commit_data_mapping.new.self) c.in_ok-mapping.ensures.call.unchanged.reaches c.commit_data_mapping.ensures.call.reaches;
+      nothing_pending = grind (arith, common_steps);
+    }
 
-pub returns-in_err-commit_data_mapping-clause-torn : goal.returns-in_err-commit_data_mapping-clause-torn
-returns-in_err-commit_data_mapping-clause-torn g c = λ k.
+pub returns-in_err-commit_data_mapping-clause-changed : goal.returns-in_err-commit_data_mapping-clause-changed
+returns-in_err-commit_data_mapping-clause-changed g c = λ k.
     let V = g.Self.FormatDriverInstance.view in
     let p = c.in_ok-mapping.ensures in
     let e = c.in_err-commit_data_mapping.ensures.call in
     let own : IsErrOf c.commit_data_mapping.result Error.ForeignMapping → ⊥ = λ x.
     never_foreign (V c.args.self.now) (V c.prepare_data_mapping.new.self) (V c.commit_data_mapping.new.self) _ c.args.offset c.args.count c.args.overwrite c.in_ok-mapping.mapping p.prepared p.call.unchanged ((c.commit_data_mapping.ensures.call.foreign).0 x) in
     let torn = rw c.in_err-commit_data_mapping.was at (c.commit_data_mapping.ensures.call.torn own) in
-    on_refusal _ _ (ensured_refused (V c.args.self.now) (V c.prepare_data_mapping.new.self) (V c.commit_data_mapping.new.self) _ c.args.offset c.args.count c.args.overwrite c.in_ok-mapping.mapping p.prepared p.call.unchanged k torn)
+    record {
+      done = search rules;
+      torn = on_refusal _ _ (ensured_refused (V c.args.self.now) (V c.prepare_data_mapping.new.self) (V c.commit_data_mapping.new.self) _ c.args.offset c.args.count c.args.overwrite c.in_ok-mapping.mapping p.prepared p.call.unchanged k torn);
+    }
 
 pub returns-in_err-commit_data_mapping-clause-refusals : goal.returns-in_err-commit_data_mapping-clause-refusals
 returns-in_err-commit_data_mapping-clause-refusals g c =
@@ -71,10 +81,13 @@ returns-in_err-commit_data_mapping-clause-outside g c =
     (V c.commit_data_mapping.new.self) _ c.args.offset c.args.count c.args.overwrite
     c.in_ok-mapping.mapping p.prepared p.call.unchanged c.commit_data_mapping.ensures.call.outside
 
-pub returns-clause-reaches : goal.returns-clause-reaches
-returns-clause-reaches g c =
+pub returns-clause-leaves : goal.returns-clause-leaves
+returns-clause-leaves g c =
     let V = g.Self.FormatDriverInstance.view in
     let p = c.in_ok-mapping.ensures in
-    reaches_twice (V c.args.self.now) (V c.prepare_data_mapping.new.self)
-    (V c.commit_data_mapping.new.self) p.call.unchanged.reaches
-    c.commit_data_mapping.ensures.call.reaches
+    record {
+      reaches = reaches_twice (V c.args.self.now) (V c.prepare_data_mapping.new.self)
+          (V c.commit_data_mapping.new.self) p.call.unchanged.reaches
+          c.commit_data_mapping.ensures.call.reaches;
+      nothing_pending = grind (arith, common_steps);
+    }
