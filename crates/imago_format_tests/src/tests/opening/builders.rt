@@ -1,12 +1,12 @@
 //! What builders keep, and which options they open storages with.
-use super::set_up::{stored, text};
+use super::set_up::{size_of, stored, text};
 use imago_drivers::builder::{
     FormatCreateBuilder, FormatCreateBuilderBase, FormatDriverBuilder, FormatDriverBuilderBase,
 };
 use imago_drivers::drivers::FormatDriverInstance;
-use imago_drivers::format::{Format, PreallocateMode};
+use imago_drivers::format::PreallocateMode;
 use imago_drivers::gate::PermissiveImplicitOpenGate;
-use imago_drivers::raw::{Raw, RawCreateBuilder, RawOpenBuilder};
+use imago_drivers::raw::{Raw, RawOpenBuilder};
 use imago_storage::error::Error;
 use imago_storage::mem::MemStorage;
 use imago_storage::storage::{Storage, StorageOpenOptions};
@@ -20,11 +20,14 @@ fn options(rt: &impl Abort, alloc: Global) -> StorageOpenOptions {
     opts.write(true).direct(true)
 }
 
-/// A gate is asked once for that path, with these options. No storage in memory is opened by its
-/// name.
+/// A builder of that path keeps its settings, and a gate is asked once for them. No storage in
+/// memory is opened by its name.
 fn asks<S: Storage>(rt: &impl Abort, alloc: Global, writable: bool, with_options: bool) {
     let mut gate = RecordingGate::new(alloc, PermissiveImplicitOpenGate::default());
     let builder: RawOpenBuilder<S> = opening(rt, alloc, writable, with_options);
+    assert_eq!(rt; builder.get_image_path(), Some("a.img"));
+    assert_eq!(rt; builder.get_writable(), writable);
+    assert_eq!(rt; builder.get_storage_open_options().is_some(), with_options);
     let opened = match builder.open(alloc, &mut gate) {
         Err(Error::Memory) => {
             let builder: RawOpenBuilder<S> = opening(rt, alloc, writable, with_options);
@@ -32,7 +35,7 @@ fn asks<S: Storage>(rt: &impl Abort, alloc: Global, writable: bool, with_options
         }
         answer => answer,
     };
-    assert!(rt; opened.is_err_and(|e| e == Error::Unsupported));
+    assert_eq!(rt; size_of(opened), Err(Error::Unsupported));
     let asked = gate.asked();
     assert_eq!(rt; asked.len(), 1);
     let Some(asked) = asked.first() else {
@@ -58,55 +61,17 @@ fn opening<S: Storage>(
     }
 }
 
-#[test]
-fn a_gate_is_asked_with_the_set_options(rt: HostRuntime) {
-    let alloc = rt.alloc();
+fn check_a_gate_is_asked_with_the_set_options(rt: &impl Abort, alloc: Global) {
     for writable in [false, true] {
         for with_options in [false, true] {
-            asks::<MemStorage>(&rt, alloc, writable, with_options);
+            asks::<MemStorage>(rt, alloc, writable, with_options);
         }
     }
 }
 
-/// A builder that opens keeps its path and what is set.
-fn keeps_opening<S: Storage>(rt: &impl Abort, alloc: Global) {
-    assert_eq!(rt; RawOpenBuilder::<S>::FORMAT, Format::Raw);
-    let builder: RawOpenBuilder<S> = opening(rt, alloc, false, false);
-    assert_eq!(rt; builder.get_image_path(), Some("a.img"));
-    assert!(rt; !builder.get_writable());
-    assert!(rt; builder.get_storage_open_options().is_none());
-    let builder: RawOpenBuilder<S> = opening(rt, alloc, true, true);
-    assert!(rt; builder.get_writable());
-    assert!(rt;
-        builder
-            .get_storage_open_options()
-            .is_some_and(|o| o.get_direct())
-    );
-}
-
-fn check_an_opening_builder_keeps_what_is_set(rt: &impl Abort, alloc: Global) {
-    keeps_opening::<MemStorage>(rt, alloc);
-}
-
 #[test]
-fn an_opening_builder_keeps_what_is_set(rt: HostRuntime) {
-    check_an_opening_builder_keeps_what_is_set(&rt, rt.alloc());
-}
-
-/// A builder that creates keeps what is set.
-fn keeps_creating<S: Storage>(rt: &impl Abort, storage: S) {
-    assert_eq!(rt; RawCreateBuilder::<S>::FORMAT, Format::Raw);
-    let builder = Raw::create_builder(storage);
-    assert_eq!(rt; builder.get_size(), 0);
-    assert_eq!(rt; builder.get_preallocate(), PreallocateMode::None);
-    let builder = builder.size(700).preallocate(PreallocateMode::FullAllocate);
-    assert_eq!(rt; builder.get_size(), 700);
-    assert_eq!(rt; builder.get_preallocate(), PreallocateMode::FullAllocate);
-}
-
-#[test]
-fn a_creating_builder_keeps_what_is_set(rt: HostRuntime) {
-    keeps_creating(&rt, stored(&rt, rt.alloc(), "a", 1));
+fn a_gate_is_asked_with_the_set_options(rt: HostRuntime) {
+    check_a_gate_is_asked_with_the_set_options(&rt, rt.alloc());
 }
 
 /// The options that a base makes.
@@ -134,8 +99,9 @@ fn makes_options<S: Storage>(rt: &impl Abort, alloc: Global, storage: S) {
     assert!(rt; opts.get_direct());
     base.set_write(true);
     assert!(rt; base.get_writable());
-    assert!(rt; made(alloc, &base).is_ok_and(|o| o.get_writable()));
-    assert!(rt; base.get_storage_opts().is_some_and(|o| o.get_writable()));
+    let opts = made(alloc, &base).expect(rt, "a copy");
+    assert!(rt; opts.get_writable());
+    assert!(rt; base.get_storage_opts().is_some());
     let opened = base.open_image(alloc, &mut PermissiveImplicitOpenGate::default());
     assert!(rt; opened.is_ok());
 }
@@ -149,22 +115,23 @@ fn a_base_makes_options(rt: HostRuntime) {
     check_a_base_makes_options(&rt, rt.alloc());
 }
 
-/// A base of a creation keeps what is set, and that storage of 3 bytes.
-fn keeps_storage<S: Storage>(rt: &impl Abort, storage: S) {
-    let mut base = FormatCreateBuilderBase::new(storage);
-    base.set_size(9);
-    base.set_preallocate(PreallocateMode::Zero);
-    assert_eq!(rt; base.get_size(), 9);
-    assert_eq!(rt; base.get_preallocate(), PreallocateMode::Zero);
+/// A builder that creates keeps what is set, and its base the storage of 3 bytes.
+fn keeps_creating<S: Storage>(rt: &impl Abort, first: S, second: S) {
+    let builder = Raw::create_builder(first).size(700);
+    let builder = builder.preallocate(PreallocateMode::FullAllocate);
+    assert_eq!(rt; builder.get_size(), 700);
+    assert_eq!(rt; builder.get_preallocate(), PreallocateMode::FullAllocate);
+    let base = FormatCreateBuilderBase::new(second);
     assert_eq!(rt; base.get_image_ref().size(), Ok(3));
     assert_eq!(rt; base.get_image().size(), Ok(3));
 }
 
-fn check_a_base_of_a_creation_keeps_its_storage(rt: &impl Abort, alloc: Global) {
-    keeps_storage(rt, stored(rt, alloc, "a", 3));
+fn check_a_creating_builder_keeps_what_is_set(rt: &impl Abort, alloc: Global) {
+    let first = stored(rt, alloc, "a", 3);
+    keeps_creating(rt, first, stored(rt, alloc, "a", 3));
 }
 
 #[test]
-fn a_base_of_a_creation_keeps_its_storage(rt: HostRuntime) {
-    check_a_base_of_a_creation_keeps_its_storage(&rt, rt.alloc());
+fn a_creating_builder_keeps_what_is_set(rt: HostRuntime) {
+    check_a_creating_builder_keeps_what_is_set(&rt, rt.alloc());
 }

@@ -14,14 +14,6 @@ use imago_test_storages::recording::{Recorded, Recording};
 use std::alloc::Global;
 use std::process::Abort;
 
-static MODES: [PreallocateMode; 5] = [
-    PreallocateMode::None,
-    PreallocateMode::Zero,
-    PreallocateMode::FormatAllocate,
-    PreallocateMode::FullAllocate,
-    PreallocateMode::WriteData,
-];
-
 /// A new image in a storage.
 fn create<S: Storage>(
     alloc: Global,
@@ -31,29 +23,6 @@ fn create<S: Storage>(
 ) -> Result<S, Error> {
     let builder = Raw::create_builder(storage);
     builder.size(size).preallocate(mode).create(alloc)
-}
-
-/// A new image in a storage of 3 bytes ff.
-fn created(rt: &impl Abort, alloc: Global, size: u64, mode: PreallocateMode) -> MemStorage {
-    match create(alloc, stored(rt, alloc, "a", 3), size, mode) {
-        Ok(storage) => storage,
-        Err(_) => {
-            let again = create(alloc, stored(rt, alloc, "a", 3), size, mode);
-            again.expect(rt, "a new image")
-        }
-    }
-}
-
-#[test]
-fn a_new_image_is_zero(rt: HostRuntime) {
-    let alloc = rt.alloc();
-    for &mode in &MODES {
-        for size in [0, 2, 3, 5] {
-            let storage = created(&rt, alloc, size, mode);
-            let zeroes = [0; 5];
-            assert_eq!(rt; Some(storage.as_bytes()), zeroes.get(..size as usize));
-        }
-    }
 }
 
 /// A storage of so many bytes ff whose next resizes fail, so many.
@@ -66,7 +35,7 @@ fn failing(rt: &impl Abort, alloc: Global, count: usize, resizes: u64) -> Faulty
 fn check_a_storage_that_is_not_emptied_is_as_it_was(rt: &impl Abort, alloc: Global) {
     let mut storage = failing(rt, alloc, 3, 1);
     let created = create(alloc, &mut storage, 5, PreallocateMode::None);
-    assert!(rt; created.is_err_and(|e| e == Error::Device));
+    assert_eq!(rt; created.err(), Some(Error::Device));
     assert_eq!(rt; storage.as_bytes(), [0xff; 3].as_slice());
     assert_eq!(rt; storage.faults(), 1);
 }
@@ -102,21 +71,6 @@ fn opened<S: Storage>(
     Ok((image.size(), image.writable()))
 }
 
-/// The same of 5 bytes in memory.
-fn opened_five(rt: &impl Abort, alloc: Global) -> Result<(u64, bool), Error> {
-    opened(alloc, stored(rt, alloc, "a", 3), 5, PreallocateMode::None)
-}
-
-#[test]
-fn a_new_image_is_opened_as_writable(rt: HostRuntime) {
-    let alloc = rt.alloc();
-    let answer = match opened_five(&rt, alloc) {
-        Err(Error::Memory) => opened_five(&rt, alloc),
-        answer => answer,
-    };
-    assert_eq!(rt; answer, Ok((5, true)));
-}
-
 /// The size of a new image of 5 bytes that is opened by no builder.
 fn not_opened<S: Storage>(alloc: Global, storage: S) -> Result<u64, Error> {
     let builder = Raw::create_builder(storage).size(5);
@@ -149,8 +103,9 @@ enum Way {
 
 static WAYS: [Way; 3] = [Way::InPlace, Way::Built, Way::Opened];
 
-/// Creates an image in a lent storage.
+/// Creates an image in a lent storage. One that is opened has its size, and is writable.
 fn make<S: Storage>(
+    rt: &impl Abort,
     alloc: Global,
     storage: &mut S,
     way: Way,
@@ -163,10 +118,11 @@ fn make<S: Storage>(
             Ok(_) => Ok(()),
             Err(refusal) => Err(refusal),
         },
-        Way::Opened => match opened(alloc, storage, size, mode) {
-            Ok(_) => Ok(()),
-            Err(refusal) => Err(refusal),
-        },
+        Way::Opened => {
+            let told = opened(alloc, storage, size, mode)?;
+            assert_eq!(rt; told, (size, true));
+            Ok(())
+        }
     }
 }
 
@@ -181,7 +137,7 @@ fn is_recorded(
     calls: &[Recorded],
 ) -> bool {
     let mut storage = Recording::new(stored(rt, alloc, "a", count));
-    let made = make(alloc, &mut storage, way, size, mode);
+    let made = make(rt, alloc, &mut storage, way, size, mode);
     if made == Err(Error::Memory) {
         return false;
     }

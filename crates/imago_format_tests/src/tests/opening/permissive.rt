@@ -27,12 +27,15 @@ fn by_gate<S: Storage>(alloc: Global, name: String, writable: bool) -> Opened {
     Ok((image.size(), image.writable()))
 }
 
+/// A name, whether writes are allowed, and the image of that storage.
+static NAMED: [(&str, bool, Opened); 3] = [
+    ("", false, Ok((0, false))),
+    ("a.img", false, Ok((5, false))),
+    ("dir/b.img", true, Ok((9, true))),
+];
+
 fn check_an_image_is_opened_by_the_name_of_its_storage(rt: &impl Abort, alloc: Global) {
-    for (name, writable, expected) in [
-        ("", false, Ok((0, false))),
-        ("a.img", false, Ok((5, false))),
-        ("dir/b.img", true, Ok((9, true))),
-    ] {
+    for &(name, writable, expected) in &NAMED {
         let path = text(rt, alloc, name);
         assert_eq!(rt; by_path::<Created>(path, writable), expected);
         let path = text(rt, alloc, name);
@@ -48,7 +51,7 @@ fn an_image_is_opened_by_the_name_of_its_storage(rt: HostRuntime) {
 fn check_the_permissive_gate_passes_refusals_on(rt: &impl Abort, alloc: Global) {
     let mut gate = PermissiveImplicitOpenGate::default();
     let opened: Result<Created, Error> = gate.open_storage(alloc, StorageOpenOptions::new());
-    assert!(rt; opened.is_err_and(|e| e == Error::NotFound));
+    assert_eq!(rt; opened.err(), Some(Error::NotFound));
 }
 
 #[test]
