@@ -42,7 +42,7 @@ impl<D: FormatDriverInstance> FormatAccess<D> {
         count: u64,
     ) -> Result<(u64, u64), Error>
         requires { TakesChange (D.view (driver self.old)) offset count }
-        ensures zeroed {HasZeroedPart D.view (operation_of call) offset count self.old self.new
+        ensures zeroed { HasZeroedPart D.view (operation_of call) offset count self.old self.new
             result }
         ensures performed { zero_by D.calls call offset count self.old self.new result }
     {

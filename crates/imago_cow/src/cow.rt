@@ -24,15 +24,15 @@ ghost use Rattle.imago_storage.specs.Error.{IsExtRefusal};
 ghost use Rattle.imago_cow.specs.CowLaws.{cow_lawful, cow_causes};
 
 use crate::block::BlockSize;
+use crate::block_bytes::{read_stored, write_stored};
 use crate::commit::enter_waiting;
 use crate::copy::Part;
 use crate::grow::grow;
 use crate::guest::{first_whole, make_absent, make_zero};
+use crate::guest_blocks::{Growth, shrink};
 use crate::map::{entry_at, map_place};
 use crate::named::all_shown;
 use crate::prepare_block::prepare_part;
-use crate::guest_blocks::{Growth, shrink};
-use crate::block_bytes::{read_stored, write_stored};
 use crate::table::{GuestBlock, Table, kind_of};
 use imago_drivers::drivers::{
     Format, FormatDriverInstance, PreallocateMode, PreparedDataMapping, ShallowMapping,

@@ -19,8 +19,8 @@ ghost use Rattle.imago_cow.specs.Cut.{AreInBlock, IsPutIn, shows_below};
 
 use crate::block::BlockSize;
 use crate::copy::{CopyStart, copy_old};
-use crate::map::entry_at;
 use crate::guest_blocks::{Growth, adds_nothing, kind_of_new, take_block};
+use crate::map::entry_at;
 use crate::table::{GuestBlock, Table, WithoutData, leads_below};
 use imago_drivers::layer::LowerLayer;
 use imago_storage::error::Error;

@@ -175,7 +175,11 @@ fn flat_mapping(
 }
 
 /// The mapping of the bytes of an extent from the `at`-th one on, whose storage has that index.
-fn extent_mapping(extent: &Extent<String>, storage: usize, at: u64) -> Result<(ShallowMapping, u64), Error>
+fn extent_mapping(
+    extent: &Extent<String>,
+    storage: usize,
+    at: u64,
+) -> Result<(ShallowMapping, u64), Error>
     requires inside { at < extent_size extent.now }
     requires fits { extent_size extent.now < 2 ^ 64 }
     ensures names { (bytes : ℕ → List ℕ)

@@ -177,13 +177,7 @@ impl State {
 
     /// Makes a call. Where it is refused for memory, each byte is old or new, and the next try has
     /// its memory.
-    fn make(
-        &mut self,
-        rt: &impl Abort,
-        alloc: Global,
-        call: Call,
-        expected: Expected,
-    ) {
+    fn make(&mut self, rt: &impl Abort, alloc: Global, call: Call, expected: Expected) {
         let before = copied(rt, alloc, self.subject.bytes());
         let after = runs_of(rt, alloc, &self.subject, expected.left);
         let mut told = self.subject.make(rt, alloc, call);
