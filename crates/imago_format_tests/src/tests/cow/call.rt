@@ -227,7 +227,8 @@ fn write_mapped<D: FormatDriverInstance, B: LowerLayer>(
     alloc: Global,
     driver: &mut D,
     lent: &B,
-    (offset, count): (u64, u64),
+    offset: u64,
+    count: u64,
     first: u8,
 ) -> Result<(u64, u64), Error> {
     assert!(rt; is_ready(&*driver, offset, count));
@@ -276,7 +277,7 @@ fn on_driver<D: FormatDriverInstance, B: LowerLayer>(
 ) -> Answer {
     match call {
         Call::Write(offset, count, first) => {
-            part(write_mapped(rt, alloc, driver, lent, (offset, count), first))
+            part(write_mapped(rt, alloc, driver, lent, offset, count, first))
         }
         Call::MapData(offset, count, overwrite) => {
             assert!(rt; is_ready(&*driver, offset, count));
