@@ -221,21 +221,21 @@ fn drive_in_steps<D: FormatDriverInstance, B: LowerLayer>(
     Ok(told)
 }
 
-/// Maps the first part of a range, and writes bytes that differ there. The part is answered.
+/// Maps the first part of a range, and writes what fits of the bytes there. The part is answered.
 fn write_mapped<D: FormatDriverInstance, B: LowerLayer>(
     rt: &impl Abort,
     alloc: Global,
     driver: &mut D,
     lent: &B,
     offset: u64,
-    count: u64,
-    first: u8,
+    bytes: &[u8],
 ) -> Result<(u64, u64), Error> {
+    let count = bytes.len() as u64;
     assert!(rt; is_ready(&*driver, offset, count));
     let mapped = driver.ensure_data_mapping(alloc, Some(lent), offset, count, false)?;
-    let bytes = numbers(rt, alloc, mapped.2, first);
-    assert!(rt; bytes.len() as u64 == mapped.2 && mapped.0 < driver.storage_count());
-    driver.write_mapped(alloc, mapped.0, &bytes, mapped.1)?;
+    let fitting = &bytes[..mapped.2 as usize];
+    assert!(rt; mapped.0 < driver.storage_count());
+    driver.write_mapped(alloc, mapped.0, fitting, mapped.1)?;
     Ok((offset, mapped.2))
 }
 
@@ -277,7 +277,8 @@ fn on_driver<D: FormatDriverInstance, B: LowerLayer>(
 ) -> Answer {
     match call {
         Call::Write(offset, count, first) => {
-            part(write_mapped(rt, alloc, driver, lent, offset, count, first))
+            let bytes = numbers(rt, alloc, count, first);
+            part(write_mapped(rt, alloc, driver, lent, offset, &bytes))
         }
         Call::MapData(offset, count, overwrite) => {
             assert!(rt; is_ready(&*driver, offset, count));
