@@ -1,4 +1,5 @@
 //! The example that the README gives.
+mod formats;
 mod laws;
 
 use crate::format::PreallocateMode;

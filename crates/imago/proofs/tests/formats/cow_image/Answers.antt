@@ -1,0 +1,6 @@
+use Rattle.std.proofs.Common.{refl}
+use Rattle.imago.proofs.tests.formats.cow_image.Goals as goal
+
+pub create-requires-clause-power : goal.create-requires-clause-power
+unfolding lib.Count.ones
+create-requires-clause-power c = refl
