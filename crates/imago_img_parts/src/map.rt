@@ -80,9 +80,10 @@ fn print_image<H: Host, W: Write>(
                 place: None,
             })?,
             Source::Stored(from) => {
+                let index = from.storage.saturating_add(from.layer);
                 if let (Some(path), Some(name)) = (
-                    image.paths.get(from.storage),
-                    printed.get(from.storage),
+                    image.paths.get(index),
+                    printed.get(index),
                 ) {
                     print_stored(host, path, name, piece, from, printer)?;
                 }
