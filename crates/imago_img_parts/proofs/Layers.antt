@@ -122,9 +122,14 @@ module _ {D St : Type 0} (view : D → View St) where
       let rest : (q : ℕ) → target_value (λ k. bytes (suc k)) (below_of (backing x) q) ≡ layers_value layers q =
       (λ q. ap (λ (b : Option (FormatAccess D)). target_value (λ k. bytes (suc k)) (below_of b q)) some
       ∙ same_value (λ k. bytes (suc k)) (storages_by more files) (deeper_bytes path more files) (target view y q) ∙ on q) in
-      let all : (p : ℕ) → target_value bytes (target view x p) ≡ layers_value (place ∷ layers) p = shows bytes x place layers rest (same (bytes 0) refl) in
-      (more, place ∷ layers, is, (Some next, layer, (others, are, (lower, chain))), sized,
-          subst (λ (ps : List (List ℕ)). (p : ℕ) → target_value (storages_by ps files) (target view x p) ≡ layers_value (place ∷ layers) p) (sym is) all)
+      let all : (p : ℕ) → target_value bytes (target view x p) ≡ layers_value (place ∷ layers) p = shows bytes x place layers rest (same (bytes 0) refl) in (
+        more,
+        place ∷ layers,
+        is,
+        (Some next, layer, (others, are, (lower, chain))),
+        sized,
+        subst (λ (ps : List (List ℕ)). (p : ℕ) → target_value (storages_by ps files) (target view x p) ≡ layers_value (place ∷ layers) p) (sym is) all,
+      )
 
 -- a qcow2 file of which the tables are in memory has each byte where the whole file has it
 pub qcow2_same :
@@ -207,7 +212,12 @@ module _ {D St : Type 0} (view : D → View St) (allow : Bool) where
       → IfSome known (λ files. IsChainImage allow files path size paths pieces)
   planned_told None path x paths size pieces law len covers h = tt
   planned_told (Some files) path x paths size pieces law len covers (others, layers, is, are, sized, on) =
-      let bytes = storages_by paths files in
-      (others, layers, is, are, len ∙ sized,
-      same_listed (λ p. target_value bytes (target view x p)) (layers_value layers) size (view (driver x)).size len (λ p. sym (on p))
-      ∙ law x pieces bytes covers)
+      let bytes = storages_by paths files in (
+        others,
+        layers,
+        is,
+        are,
+        len ∙ sized,
+        same_listed (λ p. target_value bytes (target view x p)) (layers_value layers) size (view (driver x)).size len (λ p. sym (on p))
+            ∙ law x pieces bytes covers,
+      )

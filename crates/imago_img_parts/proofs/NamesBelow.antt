@@ -41,7 +41,8 @@ told_name None path head name start count h n e z k r = tt
 told_name (Some files) path head name start count h n e z k r =
     let file = files path in
     let at : start ≡ be64 file 8 = e ∙ head_start file head h n in
-    let long : count ≡ be32 file 16 = k ∙ head_count file head h n in
-    (subst (λ (i : ℕ). 0 < i) at z,
-    subst (λ (i : ℕ). name ≡ bytes_at file (be64 file 8) i) long
-    (subst (λ (i : ℕ). name ≡ bytes_at file i count) at r))
+    let long : count ≡ be32 file 16 = k ∙ head_count file head h n in (
+      subst (λ (i : ℕ). 0 < i) at z,
+      subst (λ (i : ℕ). name ≡ bytes_at file (be64 file 8) i) long
+          (subst (λ (i : ℕ). name ≡ bytes_at file i count) at r),
+    )

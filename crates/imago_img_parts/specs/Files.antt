@@ -7,8 +7,8 @@ use Rattle.imago_plan.specs.PieceBytes.{plan_bytes}
 abbrev pub path_at : List (List ℕ) → ℕ → List ℕ
 path_at paths i = unwrap_or (slice_get paths i) []
 
--- the bytes of the storages of an image, which are the files of these paths: those of each layer begin
--- behind the first of the one above
+-- the bytes of the storages of an image, which are the files of these paths: those of each layer
+-- begin behind the first of the one above
 abbrev pub storages_by : List (List ℕ) → (List ℕ → List ℕ) → ℕ → ℕ → List ℕ
 storages_by paths files layer storage = files (path_at paths (storage + layer))
 

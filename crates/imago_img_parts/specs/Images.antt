@@ -46,8 +46,8 @@ abbrev pub AreLetThrough : Bool → List (List ℕ) → Type 0
 AreLetThrough allow names = allow ≡ false → AllStayBelow names
 
 -- An image of that path, which has that text, is opened as one of that format: of that size, in the
--- files of these paths, and as these pieces. Of a qcow2 image it is said where it is told what files
--- have.
+-- files of these paths, and as these pieces. Of a qcow2 image it is said where it is told what
+-- files have.
 abbrev pub IsImageOf :
     Bool → Bool → Option (List ℕ → List ℕ) → List ℕ → List ℕ → ImageFormat → ℕ → List (List ℕ)
     → List Piece → Type 0

@@ -120,12 +120,7 @@ fn raw_layer(alloc: Global, path: &str, size: u64) -> Result<Layer, Failure>
 }
 
 /// The layer of a qcow2 file of that length.
-fn qcow2_layer<H: Host>(
-    host: &H,
-    path: &str,
-    size: u64,
-    how: Opening,
-) -> Result<Layer, Failure>
+fn qcow2_layer<H: Host>(host: &H, path: &str, size: u64, how: Opening) -> Result<Layer, Failure>
     ensures { IfOk result (λ layer. (files : List ℕ → List ℕ)
         → H.contents host.now ≡ Some files → length (files path.now) ≡ size
         → IsLayerOf ⟦<AnyDriver<LoadedFile> as FormatDriverInstance>⟧.view
@@ -142,11 +137,7 @@ fn qcow2_layer<H: Host>(
 }
 
 /// A layer with nothing below it.
-fn alone(
-    alloc: Global,
-    path: &str,
-    driver: AnyDriver<LoadedFile>,
-) -> Result<Chain, AllocError>
+fn alone(alloc: Global, path: &str, driver: AnyDriver<LoadedFile>) -> Result<Chain, AllocError>
     ensures paths { IfOk result
         (λ chain. map string_bytes chain.paths.items ≡ path.now ∷ []) }
     ensures driver { IfOk result (λ chain. driver_of chain.image ≡ driver) }
@@ -224,8 +215,10 @@ fn chain_of<H: Host>(host: &H, path: &str, how: Opening) -> Result<Chain, Failur
     chain_from(host, path, ImageFormat::Qcow2, how, &mut way, MOST)
 }
 
-/// Where the bytes of the disk of a qcow2 file stand, and of what is below it. [`Reason::Loop`] is a
-/// chain of files that leads back, and [`Reason::TooManyBelow`] one of more than 200.
+/// Where the bytes of the disk of a qcow2 file stand, and of what is below it.
+///
+/// [`Reason::Loop`] is a chain of files that leads back, and [`Reason::TooManyBelow`] one of more
+/// than 200.
 pub fn planned_chain<H: Host>(host: &H, path: &str, how: Opening) -> Result<Planned, Failure>
     ensures { IfOk result (λ planned. IfSome (H.contents host.now)
         (λ files. IsChainImage how.allow_outside files path.now planned.size

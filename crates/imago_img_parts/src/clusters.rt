@@ -183,7 +183,9 @@ fn tell_twice<W: Write>(path: &str, all: &[Held], output: &mut W) -> io::Result<
     for held in all {
         if held.offset < last.end {
             let (offset, other) = (held.offset, held.start);
-            let one = last.start.saturating_add(offset.saturating_sub(last.offset));
+            let one = last
+                .start
+                .saturating_add(offset.saturating_sub(last.offset));
             writeln!(
                 output,
                 "{path:?}: the entries of {one} and {other} of the disk both name {offset}"

@@ -81,10 +81,7 @@ fn print_image<H: Host, W: Write>(
             })?,
             Source::Stored(from) => {
                 let index = from.storage.saturating_add(from.layer);
-                if let (Some(path), Some(name)) = (
-                    image.paths.get(index),
-                    printed.get(index),
-                ) {
+                if let (Some(path), Some(name)) = (image.paths.get(index), printed.get(index)) {
                     print_stored(host, path, name, piece, from, printer)?;
                 }
             }

@@ -47,11 +47,7 @@ pub fn loaded_file<H: Host>(host: &H, path: &str, count: u64) -> Result<LoadedFi
 }
 
 /// The driver of a file of that length.
-pub fn qcow2_driver<H: Host>(
-    host: &H,
-    path: &str,
-    count: u64,
-) -> Result<Qcow2<LoadedFile>, Failure>
+pub fn qcow2_driver<H: Host>(host: &H, path: &str, count: u64) -> Result<Qcow2<LoadedFile>, Failure>
     ensures { IfOk result (λ driver. (files : List ℕ → List ℕ)
         → H.contents host.now ≡ Some files → length (files path.now) ≡ count
         → HaveSameTables (files path.now) (loaded_bytes (storage_in driver))) }

@@ -58,11 +58,7 @@ fn features_of(
 }
 
 /// A name that stands in a file, if it does.
-fn named(
-    alloc: Global,
-    path: &str,
-    name: Option<Vec<u8>>,
-) -> Result<Option<String>, Failure> {
+fn named(alloc: Global, path: &str, name: Option<Vec<u8>>) -> Result<Option<String>, Failure> {
     match name {
         Some(name) => Ok(Some(text_of(alloc, path, name)?)),
         None => Ok(None),
@@ -70,11 +66,7 @@ fn named(
 }
 
 /// Looks at a qcow2 file of that length.
-pub fn report_on_qcow2<H: Host>(
-    host: &H,
-    path: &str,
-    count: u64,
-) -> Result<Qcow2Report, Failure> {
+pub fn report_on_qcow2<H: Host>(host: &H, path: &str, count: u64) -> Result<Qcow2Report, Failure> {
     report_of(host.alloc(), path, &qcow2_file(host, path, count)?)
 }
 
@@ -114,7 +106,11 @@ pub fn print_qcow2<W: Write>(report: &Qcow2Report, output: &mut W) -> io::Result
     for feature in &report.features {
         writeln!(output, "feature: {feature}")?;
     }
-    writeln!(output, "data: {} of {} clusters", report.stored, report.clusters)?;
+    writeln!(
+        output,
+        "data: {} of {} clusters",
+        report.stored, report.clusters
+    )?;
     if report.compressed > 0 {
         writeln!(output, "compressed: {} clusters", report.compressed)?;
     }
@@ -128,7 +124,10 @@ pub fn print_qcow2_json<W: Write>(
     output: &mut W,
 ) -> io::Result<()> {
     let (version, cluster) = (report.version, report.cluster);
-    write!(output, ", \"version\": {version}, \"cluster-size\": {cluster}")?;
+    write!(
+        output,
+        ", \"version\": {version}, \"cluster-size\": {cluster}"
+    )?;
     if let Some(name) = &report.backing {
         write!(output, ", \"backing-filename\": {}", quoted(alloc, name)?)?;
     }
@@ -137,8 +136,14 @@ pub fn print_qcow2_json<W: Write>(
         write!(output, ", \"backing-filename-format\": {format}")?;
     }
     let (clusters, stored, compressed) = (report.clusters, report.stored, report.compressed);
-    write!(output, ", \"clusters\": {clusters}, \"data-clusters\": {stored}")?;
-    write!(output, ", \"compressed-clusters\": {compressed}, \"features\": [")?;
+    write!(
+        output,
+        ", \"clusters\": {clusters}, \"data-clusters\": {stored}"
+    )?;
+    write!(
+        output,
+        ", \"compressed-clusters\": {compressed}, \"features\": ["
+    )?;
     let mut start = "";
     for feature in &report.features {
         write!(output, "{start}\"{feature}\"")?;

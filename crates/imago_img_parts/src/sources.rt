@@ -9,8 +9,8 @@ use imago_plan::piece::Location;
 use std::cell::Cell;
 use std::io::{self, ErrorKind};
 
-/// The storages of an image's layers: files, of which those of a layer begin behind the first of the
-/// one above. Only the lowest layer has more than one. Each is opened when its turn comes.
+/// The storages of an image's layers: files, of which those of a layer begin behind the first of
+/// the one above. Only the lowest layer has more than one. Each is opened when its turn comes.
 #[derive(Drop)]
 pub struct FileSources<'a, H> {
     host: &'a H,

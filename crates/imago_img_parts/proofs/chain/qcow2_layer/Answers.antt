@@ -9,7 +9,10 @@ returns g c = λ files known len.
     let file = files c.args.path.now in
     let driver = c.in_ok-driver.driver in
     let same = c.in_ok-driver.ensures files known len in
-    let below = known_is (g.H.Host.contents c.args.host.now) _ files known c.in_ok-below.ensures in
-    (qcow2_place file, (refl, below), qcow2_sized file _ same,
-    qcow2_same file _ same (subst (λ n. 512 ≤ n) driver.cluster_is driver.least)
-    c.same_tables_stand_alike.ensures.places)
+    let below = known_is (g.H.Host.contents c.args.host.now) _ files known c.in_ok-below.ensures in (
+      qcow2_place file,
+      (refl, below),
+      qcow2_sized file _ same,
+      qcow2_same file _ same (subst (λ n. 512 ≤ n) driver.cluster_is driver.least)
+          c.same_tables_stand_alike.ensures.places,
+    )

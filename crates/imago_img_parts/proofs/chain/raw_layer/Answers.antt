@@ -9,6 +9,9 @@ returns-in-Ok c = λ allow files len.
     let file = files c.args.path.now in
     let raw = c.in-Ok.raw in
     let sized : raw.size ≡ c.args.size =
-    c.in-Ok.ensures.opened.1 ∙ loaded_length c.new-file.result ∙ c.new-file.ensures.length in
-    (raw_place (length file) file, (refl, refl), sized ∙ sym len,
-    raw_placed raw.size c.args.size _ file sized len)
+    c.in-Ok.ensures.opened.1 ∙ loaded_length c.new-file.result ∙ c.new-file.ensures.length in (
+      raw_place (length file) file,
+      (refl, refl),
+      sized ∙ sym len,
+      raw_placed raw.size c.args.size _ file sized len,
+    )
