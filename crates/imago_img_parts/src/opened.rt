@@ -1,6 +1,6 @@
 //! Images in files, opened.
-ghost use Rattle.std.specs.Prelude.{◌≡◌, ℕ, List, not, true, map, length, replicate, Ok, IfOk, Option};
-ghost use Rattle.std.specs.Prelude.{IfSome};
+ghost use Rattle.std.specs.Prelude.{◌≡◌, ℕ, List, not, true, map, length, Ok, IfOk};
+ghost use Rattle.std.specs.Prelude.{Option, IfSome};
 ghost use Rattle.std.specs.String.{string_bytes};
 ghost use Rattle.imago_vmdk.specs.declared.line.Extent.{Extent};
 ghost use Rattle.imago_vmdk.specs.Line.{extent_with};
@@ -18,7 +18,6 @@ use crate::failure::{Failure, Reason};
 use crate::gate::FolderGate;
 use crate::host::Host;
 use crate::name::{path_beside, stays_below};
-
 use crate::text::{ImageFormat, descriptor_text, file_status, guessed_format};
 use imago_access::access::FormatAccess;
 use imago_drivers::builder::FormatDriverBuilder;
