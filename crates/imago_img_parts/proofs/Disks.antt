@@ -1,5 +1,5 @@
-use Rattle.std.proofs.Common.{◌≡◌, ℕ, Bool, List, Option, Some, None, Result, Ok, Err, map, length}
-use Rattle.std.proofs.Common.{OnOk, IfSome, sym, ap, subst, ◌∙◌, not, zero-add}
+use Rattle.std.proofs.Common.{◌≡◌, ℕ, Bool, List, Option, Some, None, Result, Ok, Err, map}
+use Rattle.std.proofs.Common.{length, OnOk, IfSome, sym, ap, subst, ◌∙◌, not, zero-add}
 use Rattle.std.specs.Prelude.{option_map, slice_index}
 use Rattle.imago_drivers.specs.Place.{Byte}
 use Rattle.imago_access.specs.Disk.{values_from}
@@ -10,8 +10,9 @@ use Rattle.imago_plan.specs.PieceBytes.{bytes_at, plan_bytes}
 use Rattle.imago_plan.specs.Differences.{IsFirstDifference, IfBoth}
 use Rattle.imago_plan.proofs.BytesAt.{read_bytes}
 use Rattle.imago_img_parts.specs.declared.text.ImageFormat.{ImageFormat}
-use Rattle.imago_img_parts.specs.declared.text.ImageFormat.TheVariants.{Raw, Vmdk}
+use Rattle.imago_img_parts.specs.declared.text.ImageFormat.TheVariants.{Raw, Vmdk, Qcow2}
 use Rattle.imago_img_parts.specs.Files.{path_at, storages_by, IsMade, piece_contents}
+use Rattle.imago_img_parts.specs.Layers.{layers_value}
 use Rattle.imago_img_parts.specs.Images.{IsImageOf}
 use Rattle.imago_img_parts.specs.Disks.{IsDiskOf, IsConverted, AreCompared}
 
@@ -23,7 +24,7 @@ all_of xs = sym (read_bytes xs 0 xs (λ k lt. ap (slice_index xs) (sym (zero-add
 pub disk_of_image :
     (strict allow : Bool) (path text : List ℕ) (format : ImageFormat) (size : ℕ)
     (paths : List (List ℕ)) (pieces : List Piece) (files : List ℕ → List ℕ)
-    → text ≡ files path → IsImageOf strict allow path text format size paths pieces
+    → text ≡ files path → IsImageOf strict allow (Some files) path text format size paths pieces
     → IsDiskOf strict files path format (plan_bytes (storages_by paths files) pieces)
 disk_of_image strict allow path text Raw size paths pieces files e (len, is, shows) =
     let own : files (path_at paths 0) ≡ files path = ap (λ (ps : List (List ℕ)). files (path_at ps 0)) is in
@@ -39,6 +40,9 @@ disk_of_image strict allow path text Vmdk size paths pieces files e (extents, re
       subst (λ (ps : List (List ℕ)). values_from (described_value (not strict) (storages_by ps files 0)) 0 size ≡ map Byte put) is
           (shows (storages_by paths files) own),
     )
+disk_of_image strict allow path text Qcow2 size paths pieces files e (others, layers, is, are, len, shows) =
+    let put = plan_bytes (storages_by paths files) pieces in
+    (allow, others, layers, are, subst (λ n. values_from (layers_value layers) 0 n ≡ map Byte put) len shows)
 
 -- the same of an opened image, with what a command did
 pub converted_image :
@@ -46,7 +50,7 @@ pub converted_image :
     (from to text : List ℕ) (format : ImageFormat) (size : ℕ) (paths : List (List ℕ))
     (pieces : List Piece)
     → IfSome said (λ f. format ≡ f) → IfSome old (λ files. text ≡ files from)
-    → IsImageOf strict allow from text format size paths pieces
+    → IsImageOf strict allow old from text format size paths pieces
     → IsMade old new to (piece_contents (option_map (storages_by paths) old) pieces)
     → IsConverted strict said old new from to
 converted_image strict allow said None new from to text format size paths pieces f e image made = tt
@@ -62,7 +66,7 @@ pub compared_images :
     (xs ys : List Piece) (found : Option ℕ)
     → IfSome said (λ z. f ≡ z) → IfSome said (λ z. g ≡ z)
     → IfSome known (λ files. left ≡ files first) → IfSome known (λ files. right ≡ files second)
-    → IsImageOf strict allow first left f n ps xs → IsImageOf strict allow second right g m qs ys
+    → IsImageOf strict allow known first left f n ps xs → IsImageOf strict allow known second right g m qs ys
     → IfBoth (option_map (storages_by ps) known) (option_map (storages_by qs) known)
     (λ x y. IsFirstDifference (plan_bytes x xs) (plan_bytes y ys) found)
     → IfSome known (λ files. AreCompared strict said files first second found)

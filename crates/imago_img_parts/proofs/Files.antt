@@ -1,5 +1,5 @@
-use Rattle.std.proofs.Common.{◌≡◌, ℕ, List, [], Option, Some, None, map, length}
-use Rattle.std.proofs.Common.{replicate, IfSome}
+use Rattle.std.proofs.Common.{◌≡◌, ℕ, List, [], ◌∷◌, Option, Some, None, map, length}
+use Rattle.std.proofs.Common.{replicate, IfSome, ◌+◌}
 use Rattle.std.proofs.Common.{Result, Ok, Err, IfOk}
 use Rattle.std.proofs.Common.{ap, subst, sym, ◌∙◌, refl, zero-add}
 use Rattle.std.specs.Prelude.{option_map, unwrap_or, slice_get, slice_index}
@@ -27,7 +27,7 @@ path_is f paths i s h = ap (λ o. unwrap_or o []) (slice_get-map f paths i ∙ a
 -- what a file gave is what the storage has
 pub file_read :
     (c : Option (List ℕ → List ℕ)) (paths : List (List ℕ)) (from : Location) (path buf : List ℕ)
-    → path_at paths from.storage ≡ path
+    → path_at paths (from.storage + from.layer) ≡ path
     → IfSome c (λ files. buf ≡ bytes_at (files path) from.offset (length buf))
     → IfSome (option_map (storages_by paths) c)
     (λ bytes. buf ≡ bytes_from bytes from (length buf))
@@ -37,7 +37,7 @@ file_read (Some files) paths from path buf e h =
 
 pub file_hole :
     (c : Option (List ℕ → List ℕ)) (paths : List (List ℕ)) (from : Location) (path : List ℕ) (n : ℕ)
-    → path_at paths from.storage ≡ path
+    → path_at paths (from.storage + from.layer) ≡ path
     → IfSome c (λ files. bytes_at (files path) from.offset n ≡ replicate n 0)
     → IfSome (option_map (storages_by paths) c)
     (λ bytes. bytes_from bytes from n ≡ replicate n 0)
@@ -113,3 +113,19 @@ pub with_text :
     → Q text → IfOk r (P text) → IfOk r (λ image. (x : List ℕ) × Q x × P x image)
 with_text (Ok image) Q P text q p = (text, q, p)
 with_text (Err e) Q P text q p = tt
+
+-- what was loaded of a file, by its path alone
+pub loaded_by :
+    {H : Type 0} (contents : H → Option (List ℕ → List ℕ)) (h host : H) (ps : List (List ℕ))
+    (path : List ℕ) (count : ℕ) (files : List ℕ → List ℕ) (own : List ℕ)
+    (Same : List ℕ → List ℕ → Type 0)
+    → h ≡ host → ps ≡ path ∷ [] → contents host ≡ Some files → length (files path) ≡ count
+    → ((bytes : ℕ → ℕ → List ℕ) → storages_in contents h ps ≡ Some bytes
+    → length (bytes 0 0) ≡ count → Same (bytes 0 0) own)
+    → Same (files path) own
+loaded_by {H} contents h host ps path count files own Same e is known len f =
+    let bytes = storages_by ps files in
+    let first : bytes 0 0 ≡ files path = ap (λ (qs : List (List ℕ)). files (path_at qs 0)) is in
+    let told : storages_in contents h ps ≡ Some bytes =
+    ap (option_map (storages_by ps)) (ap contents e ∙ known) in
+    subst (λ (xs : List ℕ). Same xs own) first (f bytes told (ap length first ∙ len))

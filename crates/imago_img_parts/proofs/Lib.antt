@@ -1,3 +1,5 @@
 mod LetThrough
 mod Files
 mod Disks
+mod Layers
+mod NamesBelow

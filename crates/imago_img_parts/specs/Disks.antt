@@ -1,18 +1,21 @@
 use Rattle.std.specs.Prelude.{◌≡◌, ℕ, Bool, not, List, map, Option, Some, None, Ok, IfSome}
-use Rattle.imago_drivers.specs.Place.{Byte}
+use Rattle.imago_drivers.specs.Place.{Place, Byte}
 use Rattle.imago_access.specs.Disk.{values_from}
 use Rattle.imago_vmdk.specs.declared.line.Extent.{Extent}
 use Rattle.imago_vmdk.specs.Reading.{reading_of}
 use Rattle.imago_vmdk.specs.Disk.{described_value}
+use Rattle.imago_qcow2.specs.Entry.{disk_size}
 use Rattle.imago_plan.specs.Differences.{IsFirstDifference}
 use Rattle.imago_img_parts.specs.declared.text.ImageFormat.{ImageFormat}
-use Rattle.imago_img_parts.specs.declared.text.ImageFormat.TheVariants.{Raw, Vmdk}
+use Rattle.imago_img_parts.specs.declared.text.ImageFormat.TheVariants.{Raw, Vmdk, Qcow2}
 use Rattle.imago_img_parts.specs.Files.{storages_by, IsMade}
+use Rattle.imago_img_parts.specs.Layers.{AreLayers, layers_value}
 use Rattle.imago_img_parts.specs.Images.{flat_names, storage_paths}
 
 -- The bytes of a disk that the image of a path has, among these files: of a raw image, the file's
 -- own. Of a VMDK image, those that its descriptor describes, where the storages of its FLAT extents
--- are the files of the names that it has for them.
+-- are the files of the names that it has for them. Of a qcow2 image, those that
+-- its file and those below it say, as many as its header has.
 abbrev pub IsDiskOf : Bool → (List ℕ → List ℕ) → List ℕ → ImageFormat → List ℕ → Type 0
 IsDiskOf strict files path Raw disk = disk ≡ files path
 IsDiskOf strict files path Vmdk disk =
@@ -22,6 +25,10 @@ IsDiskOf strict files path Vmdk disk =
     (described_value (not strict)
     (storages_by (storage_paths path (flat_names extents)) files 0)) 0 size
     ≡ map Byte disk)
+IsDiskOf strict files path Qcow2 disk =
+    (allow : Bool) × (others : List (List ℕ)) × (layers : List (ℕ → Place))
+    × AreLayers allow files path Qcow2 others layers
+    × (values_from (layers_value layers) 0 (disk_size (files path)) ≡ map Byte disk)
 
 -- the image of a path has that disk, opened as the format that was said, if one was
 abbrev pub HasDisk :

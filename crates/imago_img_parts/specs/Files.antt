@@ -1,4 +1,4 @@
-use Rattle.std.specs.Prelude.{◌≡◌, ◌≢◌, ℕ, List, [], Option, Some, None, option_map, slice_get}
+use Rattle.std.specs.Prelude.{◌≡◌, ◌≢◌, ℕ, ◌+◌, List, [], Option, Some, None, option_map, slice_get}
 use Rattle.std.specs.Prelude.{unwrap_or}
 use Rattle.imago_plan.specs.declared.piece.Piece.{Piece}
 use Rattle.imago_plan.specs.PieceBytes.{plan_bytes}
@@ -7,9 +7,10 @@ use Rattle.imago_plan.specs.PieceBytes.{plan_bytes}
 abbrev pub path_at : List (List ℕ) → ℕ → List ℕ
 path_at paths i = unwrap_or (slice_get paths i) []
 
--- the bytes of an image's storages, which are the files of these paths
+-- the bytes of the storages of an image, which are the files of these paths: those of each layer
+-- begin behind the first of the one above
 abbrev pub storages_by : List (List ℕ) → (List ℕ → List ℕ) → ℕ → ℕ → List ℕ
-storages_by paths files layer storage = files (path_at paths storage)
+storages_by paths files layer storage = files (path_at paths (storage + layer))
 
 -- the same, where a host says what its files have
 abbrev pub storages_in : {H : Type 0} → (H → Option (List ℕ → List ℕ)) → H → List (List ℕ)

@@ -1,4 +1,5 @@
-use Rattle.std.specs.Prelude.{◌≡◌, ℕ, Bool, true, false, not, List, [], ◌∷◌, map, length, Ok}
+use Rattle.std.specs.Prelude.{◌≡◌, ℕ, Bool, true, false, not, List, [], ◌∷◌, map, length, Ok, Option}
+use Rattle.std.specs.Prelude.{IfSome}
 use Rattle.imago_drivers.specs.Place.{Byte}
 use Rattle.imago_access.specs.Disk.{values_from}
 use Rattle.imago_vmdk.specs.declared.line.Extent.{Extent}
@@ -8,8 +9,9 @@ use Rattle.imago_vmdk.specs.Disk.{described_value}
 use Rattle.imago_plan.specs.declared.piece.Piece.{Piece}
 use Rattle.imago_plan.specs.PieceBytes.{bytes_at, plan_bytes}
 use Rattle.imago_img_parts.specs.declared.text.ImageFormat.{ImageFormat}
-use Rattle.imago_img_parts.specs.declared.text.ImageFormat.TheVariants.{Raw, Vmdk}
+use Rattle.imago_img_parts.specs.declared.text.ImageFormat.TheVariants.{Raw, Vmdk, Qcow2}
 use Rattle.imago_img_parts.specs.Names.{stays_below, path_beside}
+use Rattle.imago_img_parts.specs.Layers.{IsChainImage}
 
 -- the names of FLAT extents, in order
 abbrev pub flat_names : List (Extent (List ℕ)) → List (List ℕ)
@@ -44,12 +46,16 @@ abbrev pub AreLetThrough : Bool → List (List ℕ) → Type 0
 AreLetThrough allow names = allow ≡ false → AllStayBelow names
 
 -- An image of that path, which has that text, is opened as one of that format: of that size, in the
--- files of these paths, and as these pieces.
-abbrev pub IsImageOf : Bool → Bool → List ℕ → List ℕ → ImageFormat → ℕ → List (List ℕ) → List Piece
-    → Type 0
-IsImageOf strict allow path text Raw size paths pieces = (size ≡ length text) × (paths ≡ path ∷ [])
-    × ShowsRaw size pieces
-IsImageOf strict allow path text Vmdk size paths pieces =
+-- files of these paths, and as these pieces. Of a qcow2 image it is said where it is told what
+-- files have.
+abbrev pub IsImageOf :
+    Bool → Bool → Option (List ℕ → List ℕ) → List ℕ → List ℕ → ImageFormat → ℕ → List (List ℕ)
+    → List Piece → Type 0
+IsImageOf strict allow known path text Raw size paths pieces =
+    (size ≡ length text) × (paths ≡ path ∷ []) × ShowsRaw size pieces
+IsImageOf strict allow known path text Vmdk size paths pieces =
     (extents : List (Extent (List ℕ))) × (reading_of (not strict) text ≡ Ok (extents, size))
     × (paths ≡ storage_paths path (flat_names extents)) × AreLetThrough allow (flat_names extents)
     × ShowsDescribed (not strict) text size pieces
+IsImageOf strict allow known path text Qcow2 size paths pieces =
+    IfSome known (λ files. IsChainImage allow files path size paths pieces)

@@ -1,9 +1,11 @@
 //! Whether an image is in order.
 
+use crate::clusters::{cluster_runs, tell_faults};
 use crate::extents::{Folder, bytes_of, tell_fault};
 use crate::failure::Failure;
 use crate::host::Host;
 use crate::opened::{Opening, format_of};
+use crate::qcow2::qcow2_file;
 use crate::text::{ImageFormat, descriptor_text, file_status, read_start};
 use imago_storage::error::Error;
 use imago_vmdk::descriptor::{self, Descriptor};
@@ -28,6 +30,7 @@ pub fn check<H: Host, W: Write>(
             0
         }
         ImageFormat::Vmdk => check_vmdk(host, path, length, how, output)?,
+        ImageFormat::Qcow2 => check_qcow2(host, path, length, output)?,
     };
     let told = match faults {
         0 => writeln!(output, "No faults were found."),
@@ -36,6 +39,18 @@ pub fn check<H: Host, W: Write>(
     };
     told.map_err(Failure::Output)?;
     Ok(faults == 0)
+}
+
+/// Tells the faults of the clusters of a qcow2 file, and how many there are.
+fn check_qcow2<H: Host, W: Write>(
+    host: &H,
+    path: &str,
+    length: u64,
+    output: &mut W,
+) -> Result<u64, Failure> {
+    let file = qcow2_file(host, path, length)?;
+    let runs = Failure::or_image(host.alloc(), path, cluster_runs(host.alloc(), &file))?;
+    tell_faults(host.alloc(), path, &runs, length, output)
 }
 
 /// Tells the faults of a descriptor, and how many there are.

@@ -15,7 +15,8 @@ imago-img compare [--quiet] [OPENING] A B    whether two images show the same
 imago-img check [OPENING] FILE               whether a descriptor and its files are in order
 
 OPENING
-  -f raw|vmdk       the images' format; else what begins with a descriptor is VMDK
+  -f raw|vmdk|qcow2 the images' format; else what begins with a descriptor is VMDK,
+                    and what begins with the magic number of qcow2 is that
   --strict          refuses keys of a descriptor that aren't known
   --allow-outside   permits extents that aren't in the descriptor's folder
 
@@ -133,6 +134,7 @@ fn format_named(name: Option<&str>) -> Result<ImageFormat, Misuse> {
     match name {
         Some("raw") => Ok(ImageFormat::Raw),
         Some("vmdk") => Ok(ImageFormat::Vmdk),
+        Some("qcow2") => Ok(ImageFormat::Qcow2),
         _ => Err(Misuse::UnknownFormat),
     }
 }

@@ -1,6 +1,7 @@
 //! Why a command isn't done.
 ghost use Rattle.std.specs.Prelude.{◌≡◌, MatchResult, IsErr};
 
+use imago_loaded::loaded::LoadError;
 use imago_storage::error;
 use std::alloc::{AllocError, AllocFailed, Global};
 use std::io;
@@ -41,7 +42,7 @@ pub enum Misuse {
     #[error("an option that isn't known")]
     UnknownOption,
     /// `-f` without one of the formats behind it.
-    #[error("-f takes raw or vmdk")]
+    #[error("-f takes raw, vmdk or qcow2")]
     UnknownFormat,
     /// No command takes so many files.
     #[error("too many files")]
@@ -63,6 +64,21 @@ pub enum Reason {
     /// A VMDK image of another kind than a text descriptor with extents.
     #[error("a sparse VMDK image, which isn't supported; -f raw takes its bytes as they are")]
     Sparse,
+    /// A qcow2 image whose backing file of that name isn't beside it, nor below.
+    #[error("its backing file {0:?} isn't in its folder; --allow-outside permits it")]
+    BackingOutside(String),
+    /// A qcow2 image that says so of its backing file's format.
+    #[error("its backing file has the format {0:?}, which isn't supported")]
+    BackingFormat(String),
+    /// A VMDK image below another one.
+    #[error("a VMDK image, which isn't supported as a backing file")]
+    VmdkBelow,
+    /// A backing file that stands above itself, by these paths.
+    #[error("backing files lead in a circle: {0}")]
+    Loop(String),
+    /// A chain that goes on, by these paths.
+    #[error("more than 200 files stand one below the other: {0}")]
+    TooManyBelow(String),
     /// A descriptor whose extent of that name isn't beside it, nor below.
     #[error("its extent {0:?} isn't in the descriptor's folder; --allow-outside permits it")]
     Outside(String),
@@ -110,6 +126,14 @@ impl Failure {
         match answer {
             Ok(found) => Ok(found),
             Err(cause) => Err(Failure::of_file(alloc, path, Reason::Image(cause))),
+        }
+    }
+
+    /// That file can't be used, since it can't be loaded.
+    pub fn of_load(alloc: Global, path: &str, cause: LoadError) -> Failure {
+        match cause {
+            LoadError::Image(cause) => Failure::of_file(alloc, path, Reason::Image(cause)),
+            LoadError::Io(cause) => Failure::of_file(alloc, path, Reason::System(cause)),
         }
     }
 

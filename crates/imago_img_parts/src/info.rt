@@ -5,6 +5,7 @@ use crate::failure::Failure;
 use crate::host::Host;
 use crate::json::quoted;
 use crate::opened::{Opening, format_of};
+use crate::qcow2_info::{Qcow2Report, print_qcow2, print_qcow2_json, report_on_qcow2};
 use crate::text::{ImageFormat, descriptor_text, file_status};
 use imago_vmdk::descriptor;
 use imago_vmdk::line::Extent;
@@ -20,6 +21,8 @@ struct Report {
     /// The disk's size in bytes.
     size: u64,
     extents: Vec<Found>,
+    /// What else is told of a qcow2 image.
+    qcow2: Option<Qcow2Report>,
 }
 
 /// Tells the format, the size and the extents of an image, and warns of extents that their files
@@ -50,7 +53,13 @@ fn report_on<H: Host>(host: &H, path: &str, how: Opening) -> Result<Report, Fail
         format,
         size: length,
         extents: Vec::new(host.alloc()),
+        qcow2: None,
     };
+    if format == ImageFormat::Qcow2 {
+        let found = report_on_qcow2(host, path, length)?;
+        report.size = found.size;
+        report.qcow2 = Some(found);
+    }
     if format == ImageFormat::Vmdk {
         let text = descriptor_text(host, path, length)?;
         let said = descriptor::read(host.alloc(), !how.strict, &text);
@@ -91,6 +100,9 @@ fn print_text<W: Write>(path: &str, report: &Report, output: &mut W) -> io::Resu
     writeln!(output, "image: {path:?}")?;
     writeln!(output, "format: {}", report.format.name())?;
     writeln!(output, "size: {} bytes", report.size)?;
+    if let Some(found) = &report.qcow2 {
+        print_qcow2(found, output)?;
+    }
     for (extent, _) in &report.extents {
         match extent {
             Extent::Zero { sectors } => writeln!(
@@ -129,7 +141,12 @@ fn print_json<H: Host, W: Write>(
     let path = quoted(host.alloc(), path)?;
     let (format, size) = (report.format.name(), report.size);
     write!(output, "{{ \"filename\": {path}, \"format\": \"{format}\"")?;
-    write!(output, ", \"virtual-size\": {size}, \"extents\": [")?;
+    write!(output, ", \"virtual-size\": {size}")?;
+    if let Some(found) = &report.qcow2 {
+        print_qcow2_json(host.alloc(), found, output)?;
+        return writeln!(output, " }}");
+    }
+    write!(output, ", \"extents\": [")?;
     let mut start = "";
     for found in &report.extents {
         write!(output, "{start}")?;

@@ -5,7 +5,10 @@
 //! tests have one in memory.
 #![tactic(auto)]
 
+mod backing;
+mod chain;
 mod check;
+mod clusters;
 mod command;
 pub mod commands;
 mod compare;
@@ -20,6 +23,8 @@ mod map;
 pub mod name;
 mod opened;
 mod progress;
+mod qcow2;
+mod qcow2_info;
 pub mod run;
 mod sources;
 pub mod system;

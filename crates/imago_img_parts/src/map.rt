@@ -80,10 +80,8 @@ fn print_image<H: Host, W: Write>(
                 place: None,
             })?,
             Source::Stored(from) => {
-                if let (Some(path), Some(name)) = (
-                    image.paths.get(from.storage),
-                    printed.get(from.storage),
-                ) {
+                let index = from.storage.saturating_add(from.layer);
+                if let (Some(path), Some(name)) = (image.paths.get(index), printed.get(index)) {
                     print_stored(host, path, name, piece, from, printer)?;
                 }
             }

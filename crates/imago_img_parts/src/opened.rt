@@ -1,6 +1,6 @@
 //! Images in files, opened.
-ghost use Rattle.std.specs.Prelude.{◌≡◌, ℕ, List, not, true, map, length, replicate, Ok, IfOk};
-ghost use Rattle.std.specs.Prelude.{IfSome};
+ghost use Rattle.std.specs.Prelude.{◌≡◌, ℕ, List, not, true, map, length, Ok, IfOk};
+ghost use Rattle.std.specs.Prelude.{Option, IfSome};
 ghost use Rattle.std.specs.String.{string_bytes};
 ghost use Rattle.imago_vmdk.specs.declared.line.Extent.{Extent};
 ghost use Rattle.imago_vmdk.specs.Line.{extent_with};
@@ -12,6 +12,7 @@ ghost use Rattle.imago_img_parts.specs.declared.text.ImageFormat.TheVariants as 
 ghost use Rattle.imago_img_parts.specs.Images.{flat_names, storage_paths as paths_of};
 ghost use Rattle.imago_img_parts.specs.Images.{ShowsDescribed, ShowsRaw, AreLetThrough, IsImageOf};
 
+use crate::chain::{Planned, planned_chain};
 use crate::extents::Folder;
 use crate::failure::{Failure, Reason};
 use crate::gate::FolderGate;
@@ -59,7 +60,7 @@ pub struct OpenedImage {
 }
 
 /// The paths of an image's storages: its own, and those that its FLAT extents name.
-fn storage_paths(
+pub fn storage_paths(
     alloc: Global,
     path: &str,
     extents: &[Extent<String>],
@@ -97,13 +98,15 @@ pub fn open<H: Host>(host: &H, path: &str, how: Opening) -> Result<OpenedImage, 
     ensures said { IfOk result (λ image. IfSome how.format (λ said. image.format ≡ said)) }
     ensures image { IfOk result
         (λ image. (text : List ℕ) × IfSome (H.contents host.now) (λ files. text ≡ files path.now)
-        × IsImageOf how.strict how.allow_outside path.now text image.format image.size
+        × IsImageOf how.strict how.allow_outside (H.contents host.now) path.now text
+        image.format image.size
         (map string_bytes image.paths.items) image.pieces.items) }
 {
     let length = file_status(host, path)?.length;
     match format_of(host, path, how)? {
         ImageFormat::Raw => open_raw(host.alloc(), path, length, how),
         ImageFormat::Vmdk => open_vmdk(host, path, length, how),
+        ImageFormat::Qcow2 => open_qcow2(host, path, how),
     }
 }
 
@@ -119,9 +122,9 @@ fn planned_raw(alloc: Global, size: u64) -> Result<Vec<Piece>, Error>
 /// The raw image of a file of that length.
 fn open_raw(alloc: Global, path: &str, size: u64, how: Opening) -> Result<OpenedImage, Failure>
     ensures raw { IfOk result (λ image. image.format ≡ ImageFormat.Raw) }
-    ensures image { (text : List ℕ) → length text ≡ size
-        → IfOk result (λ image. IsImageOf how.strict how.allow_outside path.now text image.format
-        image.size (map string_bytes image.paths.items) image.pieces.items) }
+    ensures image { (known : Option (List ℕ → List ℕ)) (text : List ℕ) → length text ≡ size
+        → IfOk result (λ image. IsImageOf how.strict how.allow_outside known path.now text
+        image.format image.size (map string_bytes image.paths.items) image.pieces.items) }
 {
     let pieces = Failure::or_image(alloc, path, planned_raw(alloc, size))?;
     Ok(OpenedImage {
@@ -143,7 +146,8 @@ fn open_vmdk<H: Host>(
     ensures image { IfOk result (λ image. (text : List ℕ)
         × IfSome (H.contents host.now)
         (λ files. length (files path.now) ≡ count → text ≡ files path.now)
-        × IsImageOf how.strict how.allow_outside path.now text image.format image.size
+        × IsImageOf how.strict how.allow_outside (H.contents host.now) path.now text
+        image.format image.size
         (map string_bytes image.paths.items) image.pieces.items) }
 {
     let alloc = host.alloc();
@@ -158,6 +162,26 @@ fn open_vmdk<H: Host>(
     confine(host, path, &paths, how.allow_outside)?;
     Ok(OpenedImage {
         format: ImageFormat::Vmdk,
+        size,
+        pieces,
+        paths,
+    })
+}
+
+/// The qcow2 image whose file it is.
+fn open_qcow2<H: Host>(host: &H, path: &str, how: Opening) -> Result<OpenedImage, Failure>
+    ensures qcow2 { IfOk result (λ image. image.format ≡ ImageFormat.Qcow2) }
+    ensures image { (text : List ℕ) → IfOk result
+        (λ image. IsImageOf how.strict how.allow_outside (H.contents host.now) path.now text
+        image.format image.size (map string_bytes image.paths.items) image.pieces.items) }
+{
+    let Planned {
+        size,
+        pieces,
+        paths,
+    } = planned_chain(host, path, how)?;
+    Ok(OpenedImage {
+        format: ImageFormat::Qcow2,
         size,
         pieces,
         paths,

@@ -13,6 +13,8 @@ pub enum ImageFormat {
     Raw,
     /// The file is the text descriptor of a VMDK image.
     Vmdk,
+    /// The file is a qcow2 image.
+    Qcow2,
 }
 
 impl ImageFormat {
@@ -21,6 +23,7 @@ impl ImageFormat {
         match self {
             ImageFormat::Raw => "raw",
             ImageFormat::Vmdk => "vmdk",
+            ImageFormat::Qcow2 => "qcow2",
         }
     }
 }
@@ -30,6 +33,9 @@ const SIGNATURE: &[u8; 21] = b"# Disk DescriptorFile";
 
 /// What a sparse VMDK image begins with.
 const SPARSE: &[u8; 4] = b"KDMV";
+
+/// What each qcow2 image begins with.
+const QCOW2: &[u8; 4] = b"QFI\xfb";
 
 /// The most bytes that a descriptor has.
 const LONGEST_TEXT: u64 = 2097152;
@@ -47,7 +53,8 @@ pub fn file_status<H: Host>(host: &H, path: &str) -> Result<FileStatus, Failure>
 }
 
 /// The format of an image by the bytes that its file begins with: a VMDK image begins with a
-/// descriptor. A sparse VMDK image is refused, however long it is.
+/// descriptor, a qcow2 image with its magic number. A sparse VMDK image is refused, however long it
+/// is.
 pub fn guessed_format<H: Host>(host: &H, path: &str) -> Result<ImageFormat, Failure> {
     let mut head = [0u8; 21];
     read_start(host, path, &mut head)?;
@@ -56,6 +63,9 @@ pub fn guessed_format<H: Host>(host: &H, path: &str) -> Result<ImageFormat, Fail
     }
     if head.starts_with(SIGNATURE) {
         return Ok(ImageFormat::Vmdk);
+    }
+    if head.starts_with(QCOW2) {
+        return Ok(ImageFormat::Qcow2);
     }
     Ok(ImageFormat::Raw)
 }

@@ -2,6 +2,7 @@
 
 mod commands;
 mod loaded;
+mod qcow2;
 mod refusals;
 mod set_up;
 mod whole;

@@ -14,6 +14,16 @@ use std::alloc::Global;
 /// How many bytes of the file's start are its header.
 const HEADER: u64 = 112;
 
+/// The entries of a file's L1 table, as they stand in the file.
+#[derive(Clone, Copy)]
+struct L1Entries<'a> {
+    bytes: &'a [u8],
+    /// How many bytes a cluster of the file has.
+    cluster: u64,
+    /// How many bytes the file has.
+    size: u64,
+}
+
 /// Loads what the driver of qcow2 images looks at: the first cluster of a file of that length, its
 /// L1 table, and its L2 tables. The location names the file, and no offset in it.
 ///
@@ -35,15 +45,12 @@ pub fn load_tables<S: Sources>(
     loaded.load(alloc, sources, file, 0, l1.cluster)?;
     loaded.load(alloc, sources, file, l1.start, 8 * l1.count)?;
     let entries = read_part(alloc, sources, file, l1.start, 8 * l1.count)?;
-    load_l2_tables(
-        alloc,
-        sources,
-        file,
-        &entries,
-        l1.cluster,
+    let table = L1Entries {
+        bytes: &entries,
+        cluster: l1.cluster,
         size,
-        &mut loaded,
-    )?;
+    };
+    load_l2_tables(alloc, sources, file, table, &mut loaded)?;
     Ok(loaded)
 }
 
@@ -52,23 +59,21 @@ fn load_l2_tables<S: Sources>(
     alloc: Global,
     sources: &S,
     file: Location,
-    entries: &[u8],
-    cluster: u64,
-    size: u64,
+    table: L1Entries<'_>,
     loaded: &mut LoadedFile,
 ) -> Result<(), LoadError>
-    requires least { 512 ≤ cluster }
-    requires most { cluster ≤ 2097152 }
+    requires least { 512 ≤ table.cluster }
+    requires most { table.cluster ≤ 2097152 }
     ensures keeps { OnOk result (Keeps loaded.old loaded.new) }
-    ensures tables { OnOk result (AreLoaded entries.now cluster size (length entries.now / 8)
-        loaded.new) }
+    ensures tables { OnOk result (AreLoaded table.entry.bytes.now table.entry.cluster
+        table.entry.size (length table.entry.bytes.now / 8) loaded.new) }
     ensures bytes { OnOk result ((bytes : ℕ → ℕ → List ℕ) → S.contents sources.now ≡ Some bytes
         → HasBytesOf (bytes file.layer file.storage) loaded.old
         → HasBytesOf (bytes file.layer file.storage) loaded.new) }
 {
-    for index in 0..entries.len() as u64 / 8 {
-        let says = l2_table(entries, index, cluster, size);
-        load_l2_table(alloc, sources, file, says, cluster, loaded)?;
+    for index in 0..table.bytes.len() as u64 / 8 {
+        let says = l2_table(table.bytes, index, table.cluster, table.size);
+        load_l2_table(alloc, sources, file, says, table.cluster, loaded)?;
     }
     Ok(())
 }

@@ -48,13 +48,13 @@ static ROWS: [Row; 34] = [
         "info -f qed a.bin",
         2,
         "",
-        "imago-img: -f takes raw or vmdk; imago-img --help tells the commands\n",
+        "imago-img: -f takes raw, vmdk or qcow2; imago-img --help tells the commands\n",
     ),
     (
         "info -f",
         2,
         "",
-        "imago-img: -f takes raw or vmdk; imago-img --help tells the commands\n",
+        "imago-img: -f takes raw, vmdk or qcow2; imago-img --help tells the commands\n",
     ),
     // The file, and its format.
     (

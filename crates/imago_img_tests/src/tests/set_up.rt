@@ -100,6 +100,191 @@ static FILES: [FileRow; 22] = [
     ("disk.dev", 1, b"dev", Nature::Device),
 ];
 
+/// A file that is zero but for some parts: how long it is, and where these stand.
+type PartsRow = (&'static str, usize, &'static [(usize, &'static [u8])]);
+
+/// What the qcow2 images of the tests begin with: clusters of 512 bytes, and a disk of 2048. The L1
+/// table stands at 512, and names the L2 table at 1024.
+const VERSION_2: &[u8] = b"QFI\xfb\0\0\0\x02";
+const VERSION_3: &[u8] = b"QFI\xfb\0\0\0\x03";
+
+/// qcow2 images, and what they stand above or show. A name of a backing file stands at 200.
+static PARTS: [PartsRow; 14] = [
+    (
+        "one.qcow2",
+        2560,
+        &[
+            (0, VERSION_2),
+            (23, b"\x09"),
+            (30, b"\x08"),
+            (39, b"\x01"),
+            (46, b"\x02"),
+            (518, b"\x04"),
+            (1038, b"\x08"),
+            (1046, b"\x06"),
+            (1536, b"1"),
+            (2048, b"2"),
+        ],
+    ),
+    ("one.raw", 2048, &[(512, b"2"), (1024, b"1")]),
+    // The header extension at 104 has the format of the backing file.
+    (
+        "top.qcow2",
+        2048,
+        &[
+            (0, VERSION_3),
+            (15, b"\xc8\0\0\0\x09"),
+            (23, b"\x09"),
+            (30, b"\x08"),
+            (39, b"\x01"),
+            (46, b"\x02"),
+            (87, b"\x01"),
+            (99, b"\x04\0\0\0\x68"),
+            (104, b"\xe2\x79\x2a\xca\0\0\0\x05qcow2"),
+            (200, b"mid.qcow2"),
+            (518, b"\x04"),
+            (1030, b"\x06"),
+            (1536, b"t"),
+        ],
+    ),
+    (
+        "mid.qcow2",
+        2048,
+        &[
+            (0, VERSION_2),
+            (15, b"\xc8\0\0\0\x0e"),
+            (23, b"\x09"),
+            (30, b"\x08"),
+            (39, b"\x01"),
+            (46, b"\x02"),
+            (200, b"parts/base.raw"),
+            (518, b"\x04"),
+            (1038, b"\x06"),
+            (1536, b"m"),
+        ],
+    ),
+    (
+        "parts/base.raw",
+        1536,
+        &[(0, b"x"), (512, b"y"), (1024, b"b")],
+    ),
+    (
+        "top.raw",
+        2048,
+        &[(0, b"t"), (512, b"m"), (1024, b"b")],
+    ),
+    (
+        "outside.qcow2",
+        1024,
+        &[
+            (0, VERSION_2),
+            (15, b"\xc8\0\0\0\x0b"),
+            (23, b"\x09"),
+            (30, b"\x08"),
+            (39, b"\x01"),
+            (46, b"\x02"),
+            (200, b"/etc/secret"),
+        ],
+    ),
+    (
+        "linked.qcow2",
+        1024,
+        &[
+            (0, VERSION_2),
+            (15, b"\xc8\0\0\0\x08"),
+            (23, b"\x09"),
+            (30, b"\x08"),
+            (39, b"\x01"),
+            (46, b"\x02"),
+            (200, b"link.bin"),
+        ],
+    ),
+    (
+        "circle.qcow2",
+        1024,
+        &[
+            (0, VERSION_2),
+            (15, b"\xc8\0\0\0\x0c"),
+            (23, b"\x09"),
+            (30, b"\x08"),
+            (39, b"\x01"),
+            (46, b"\x02"),
+            (200, b"around.qcow2"),
+        ],
+    ),
+    (
+        "around.qcow2",
+        1024,
+        &[
+            (0, VERSION_2),
+            (15, b"\xc8\0\0\0\x0c"),
+            (23, b"\x09"),
+            (30, b"\x08"),
+            (39, b"\x01"),
+            (46, b"\x02"),
+            (200, b"circle.qcow2"),
+        ],
+    ),
+    (
+        "lost.qcow2",
+        1024,
+        &[
+            (0, VERSION_2),
+            (15, b"\xc8\0\0\0\x0b"),
+            (23, b"\x09"),
+            (30, b"\x08"),
+            (39, b"\x01"),
+            (46, b"\x02"),
+            (200, b"nowhere.raw"),
+        ],
+    ),
+    (
+        "other.qcow2",
+        1024,
+        &[
+            (0, VERSION_3),
+            (15, b"\xc8\0\0\0\x07"),
+            (23, b"\x09"),
+            (30, b"\x08"),
+            (39, b"\x01"),
+            (46, b"\x02"),
+            (99, b"\x04\0\0\0\x68"),
+            (104, b"\xe2\x79\x2a\xca\0\0\0\x04luks"),
+            (200, b"one.raw"),
+        ],
+    ),
+    (
+        "above.qcow2",
+        1024,
+        &[
+            (0, VERSION_2),
+            (15, b"\xc8\0\0\0\x09"),
+            (23, b"\x09"),
+            (30, b"\x08"),
+            (39, b"\x01"),
+            (46, b"\x02"),
+            (200, b"disk.vmdk"),
+        ],
+    ),
+    // The first entry has a bit that version 2 doesn't, two name 1536, and one passes the end.
+    (
+        "faulty.qcow2",
+        2048,
+        &[
+            (0, VERSION_2),
+            (23, b"\x09"),
+            (30, b"\x08"),
+            (39, b"\x01"),
+            (46, b"\x02"),
+            (518, b"\x04"),
+            (1030, b"\x06\x01"),
+            (1038, b"\x06"),
+            (1046, b"\x06"),
+            (1054, b"\x80"),
+        ],
+    ),
+];
+
 /// A host with the files, and with the words of a command line.
 fn set_up(alloc: Global, case: &Case) -> Result<(MemoryHost, Vec<String>), AllocError> {
     let mut host = MemoryHost::new(alloc, case.appends, case.finishes);
@@ -107,6 +292,9 @@ fn set_up(alloc: Global, case: &Case) -> Result<(MemoryHost, Vec<String>), Alloc
         let mut whole = vec![in alloc; 0u8; *zeroes]?;
         whole.extend_from_slice(bytes)?;
         host.add(path, &whole, *nature)?;
+    }
+    for (path, length, parts) in &PARTS {
+        host.add(path, &expected(alloc, *length, parts)?, Nature::Plain)?;
     }
     let mut words = Vec::new(alloc);
     for word in case.words.split(' ') {

@@ -9,7 +9,7 @@ loop-index-preserved g c =
     let loads = c.in_ok-load_l2_table.ensures in
     record {
       keeps = keeps_more _ c.loop-index.loaded _ inv.keeps loads.keeps;
-      tables = tables_more c.args.entries.now c.args.cluster c.args.size c.loop-index.index c.loop-index.loaded _
+      tables = tables_more c.args.table.bytes.now c.args.table.cluster c.args.table.size c.loop-index.index c.loop-index.loaded _
           loads.keeps inv.tables (λ at is. loads.there at (c.l2_table-says.ensures.says ∙ is));
       bytes = λ bytes known has. loads.bytes bytes known (inv.bytes bytes known has);
     }

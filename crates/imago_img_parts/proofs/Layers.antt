@@ -1,0 +1,223 @@
+-- What an image over files shows, layer by layer.
+use Rattle.std.proofs.Common.{◌≡◌, ℕ, suc, ◌+◌, ◌<◌, ◌≤◌, Bool, true, false, List, [], ◌∷◌, Option, Some, None}
+use Rattle.std.proofs.Common.{Box, Global, refl, sym, ap, ◌∙◌, subst, arith, length, map, IfSome, Result, Ok, Err, IfOk}
+use Rattle.std.specs.Prelude.{slice_index, if◌then◌else◌, nat_lt}
+use Rattle.imago_drivers.specs.Place.{Place, Stored, Zeroed, Special, Lower, Refused, End, Value, Byte, shown}
+use Rattle.imago_drivers.specs.Raw.{raw_place}
+use Rattle.imago_drivers.specs.View.{View}
+use Rattle.imago_access.specs.declared.access.FormatAccess.{FormatAccess, FormatAccess', out-FormatAccess, is-FormatAccess', back-FormatAccess-backing}
+use Rattle.imago_access.specs.Chain.{driver, backing, unboxed}
+use Rattle.imago_access.specs.Disk.{values_from}
+use Rattle.imago_access.specs.Target.{Target, target, target_here, followed}
+use Rattle.imago_access.proofs.DiskLists.{same_listed}
+use Rattle.imago_vmdk.specs.Disk.{with_bytes}
+use Rattle.imago_qcow2.specs.Entry.{cluster_length, disk_size, qcow2_place}
+use Rattle.imago_qcow2.specs.Disk.{HaveSameTables, StandsAlike}
+use Rattle.imago_qcow2.proofs.NumberSteps.{range64}
+use Rattle.imago_plan.specs.declared.piece.Piece.{Piece}
+use Rattle.imago_plan.specs.Pieces.{IsPlan}
+use Rattle.imago_plan.specs.PieceBytes.{plan_bytes}
+use Rattle.imago_plan.specs.StoredBytes.{target_value, disk_with}
+use Rattle.imago_loaded.proofs.Chain.{same_place, same_clusters}
+use Rattle.imago_img_parts.specs.declared.text.ImageFormat.{ImageFormat}
+use Rattle.imago_img_parts.specs.declared.text.ImageFormat.TheVariants.{Qcow2}
+use Rattle.imago_img_parts.specs.Files.{path_at, storages_by}
+use Rattle.imago_img_parts.specs.Layers.{layers_value, IsLayerOf, ShowsLayers, IsChainImage}
+
+-- a place of a layer, over what is below it
+followed_value :
+    (bytes : ℕ → ℕ → List ℕ) (deep : ℕ → Target) (below : ℕ → Value)
+    → ((q : ℕ) → target_value (λ k. bytes (suc k)) (deep q) ≡ below q)
+    → (place : Place) → target_value bytes (followed deep place) ≡ shown below (with_bytes (bytes 0) place)
+followed_value bytes deep below h (Lower q w) =
+    let t : Target = deep q in
+    let next : 1 + t.depth ≡ suc t.depth = omega arith in
+    ap (λ (z : ℕ). shown (λ (i : ℕ). Byte 0) (with_bytes (bytes z) t.place)) next ∙ h q
+followed_value bytes deep below h (Stored b s o w) = refl
+followed_value bytes deep below h (Zeroed e) = refl
+followed_value bytes deep below h (Special b o) = refl
+followed_value bytes deep below h (Refused e) = refl
+followed_value bytes deep below h End = refl
+
+-- what is read of a place, with bytes that are the same
+same_shown :
+    (b c : ℕ → List ℕ) → ((s : ℕ) → b s ≡ c s) → (place : Place)
+    → shown (λ (q : ℕ). Byte 0) (with_bytes b place) ≡ shown (λ (q : ℕ). Byte 0) (with_bytes c place)
+same_shown b c h (Stored byte s o w) = ap (λ (xs : List ℕ). shown (λ (q : ℕ). Byte 0) (Stored (slice_index xs o) s o w)) (h s)
+same_shown b c h (Lower q w) = refl
+same_shown b c h (Zeroed e) = refl
+same_shown b c h (Special byte o) = refl
+same_shown b c h (Refused e) = refl
+same_shown b c h End = refl
+
+same_value :
+    (bytes other : ℕ → ℕ → List ℕ) → ((k s : ℕ) → bytes k s ≡ other k s) → (t : Target)
+    → target_value bytes t ≡ target_value other t
+same_value bytes other h t = same_shown (bytes t.depth) (other t.depth) (h t.depth) t.place
+
+-- the storages of the layers below are those of the paths behind the first
+deeper_bytes :
+    (path : List ℕ) (more : List (List ℕ)) (files : List ℕ → List ℕ) (k s : ℕ)
+    → storages_by (path ∷ more) files (suc k) s ≡ storages_by more files k s
+deeper_bytes path more files k s =
+    let e : s + suc k ≡ suc (s + k) = omega arith in
+    ap (λ (i : ℕ). files (path_at (path ∷ more) i)) e
+
+-- a place of a raw file, with its bytes
+raw_by : (b : Bool) (byte : ℕ) (bytes : ℕ → List ℕ) (p : ℕ)
+    → with_bytes bytes (if b then Stored byte 0 p true else End) ≡ (if b then Stored (slice_index (bytes 0) p) 0 p true else End)
+raw_by true byte bytes p = refl
+raw_by false byte bytes p = refl
+
+pub raw_same : (n : ℕ) (own : List ℕ) (bytes : ℕ → List ℕ) (p : ℕ) → with_bytes bytes (raw_place n own p) ≡ raw_place n (bytes 0) p
+raw_same n own bytes p = raw_by (nat_lt p n) (slice_index own p) bytes p
+
+module _ {D St : Type 0} (view : D → View St) where
+  abbrev below_of : Option (FormatAccess D) → ℕ → Target
+  below_of None p = target_here End
+  below_of (Some x) p = target view x p
+
+  target_back : (inner : D) (b : Option (Box (FormatAccess D) Global)) (p : ℕ)
+      → target view (FormatAccess' inner (back-FormatAccess-backing D b)) p ≡ followed (below_of (unboxed b)) ((view inner).place p)
+  target_back inner None p = refl
+  target_back inner (Some b) p = refl
+
+  target_out : (x : FormatAccess D) (p : ℕ) → target view x p ≡ followed (below_of (backing x)) ((view (driver x)).place p)
+  target_out x p = ap (λ (y : FormatAccess D). target view y p) (is-FormatAccess' x) ∙ target_back (driver x) (out-FormatAccess D x).backing p
+
+  -- what an image shows, by what its driver and what is below it show
+  shows : (bytes : ℕ → ℕ → List ℕ) (x : FormatAccess D) (place : ℕ → Place) (below : List (ℕ → Place))
+      → ((q : ℕ) → target_value (λ k. bytes (suc k)) (below_of (backing x) q) ≡ layers_value below q)
+      → ((p : ℕ) → with_bytes (bytes 0) ((view (driver x)).place p) ≡ place p)
+      → (p : ℕ) → target_value bytes (target view x p) ≡ layers_value (place ∷ below) p
+  shows bytes x place below rest same p =
+      ap (target_value bytes) (target_out x p)
+      ∙ followed_value bytes (below_of (backing x)) (layers_value below) rest ((view (driver x)).place p)
+      ∙ ap (shown (layers_value below)) (same p)
+
+  -- a layer with nothing below it
+  pub alone_shows :
+      (allow : Bool) (files : List ℕ → List ℕ) (path : List ℕ) (format : ImageFormat)
+      (x : FormatAccess D) (paths : List (List ℕ))
+      → paths ≡ path ∷ [] → backing x ≡ None
+      → IsLayerOf view allow files path format (driver x) None
+      → ShowsLayers view allow files path format x paths
+  alone_shows allow files path format x paths is none (place, layer, sized, same) =
+      let rest : (bytes : ℕ → ℕ → List ℕ) (q : ℕ) → target_value (λ k. bytes (suc k)) (below_of (backing x) q) ≡ layers_value [] q =
+      (λ bytes q. ap (λ (b : Option (FormatAccess D)). target_value (λ k. bytes (suc k)) (below_of b q)) none) in
+      let bytes = storages_by paths files in
+      let own : bytes 0 0 ≡ files path = ap (λ (ps : List (List ℕ)). files (path_at ps 0)) is in
+      ([], place ∷ [], is, (None, layer, (refl, refl)), sized, shows bytes x place [] (rest bytes) (same (bytes 0) own))
+
+  -- a layer above others
+  pub over_shows :
+      (allow : Bool) (files : List ℕ → List ℕ) (path next : List ℕ) (format lower : ImageFormat)
+      (x y : FormatAccess D) (paths more : List (List ℕ))
+      → paths ≡ path ∷ more → backing x ≡ Some y
+      → IsLayerOf view allow files path format (driver x) (Some next)
+      → ShowsLayers view allow files next lower y more
+      → ShowsLayers view allow files path format x paths
+  over_shows allow files path next format lower x y paths more is some (place, layer, sized, same) (others, layers, are, chain, below_sized, on) =
+      let bytes = storages_by (path ∷ more) files in
+      let rest : (q : ℕ) → target_value (λ k. bytes (suc k)) (below_of (backing x) q) ≡ layers_value layers q =
+      (λ q. ap (λ (b : Option (FormatAccess D)). target_value (λ k. bytes (suc k)) (below_of b q)) some
+      ∙ same_value (λ k. bytes (suc k)) (storages_by more files) (deeper_bytes path more files) (target view y q) ∙ on q) in
+      let all : (p : ℕ) → target_value bytes (target view x p) ≡ layers_value (place ∷ layers) p = shows bytes x place layers rest (same (bytes 0) refl) in (
+        more,
+        place ∷ layers,
+        is,
+        (Some next, layer, (others, are, (lower, chain))),
+        sized,
+        subst (λ (ps : List (List ℕ)). (p : ℕ) → target_value (storages_by ps files) (target view x p) ≡ layers_value (place ∷ layers) p) (sym is) all,
+      )
+
+-- a qcow2 file of which the tables are in memory has each byte where the whole file has it
+pub qcow2_same :
+    (file own : List ℕ) → HaveSameTables file own → 512 ≤ cluster_length own
+    → ((a b : List ℕ) → HaveSameTables a b → 8 ≤ cluster_length a → (p : ℕ) → StandsAlike (qcow2_place a p) (qcow2_place b p))
+    → (bytes : ℕ → List ℕ) → bytes 0 ≡ file → (p : ℕ) → with_bytes bytes (qcow2_place own p) ≡ qcow2_place file p
+qcow2_same file own same least law bytes is p =
+    let here : HaveSameTables (bytes 0) own = subst (λ (xs : List ℕ). HaveSameTables xs own) (sym is) same in
+    same_place bytes own p (law (bytes 0) own here (same_clusters (bytes 0) own here least) p)
+    ∙ ap (λ (xs : List ℕ). qcow2_place xs p) is
+
+-- and its disk has the same size
+pub qcow2_sized : (file own : List ℕ) → HaveSameTables file own → disk_size own ≡ disk_size file
+qcow2_sized file own same = sym (range64 file own 0 112 same.header 24 (omega arith))
+
+-- a raw file, of which only the length is known, has each byte where the whole file has it
+pub raw_placed :
+    (m n : ℕ) (own file : List ℕ) → m ≡ n → length file ≡ n
+    → (bytes : ℕ → List ℕ) → bytes 0 ≡ file → (p : ℕ) → with_bytes bytes (raw_place m own p) ≡ raw_place (length file) file p
+raw_placed m n own file e len bytes is p =
+    raw_same m own bytes p ∙ ap (λ (xs : List ℕ). raw_place m xs p) is
+    ∙ ap (λ (k : ℕ). raw_place k file p) (e ∙ sym len)
+
+-- what is said of each host that tells what its files have, of a file as long as it tells
+pub told_layer :
+    {A E : Type 0} (r : Result A E) (known : Option (List ℕ → List ℕ)) (path : List ℕ) (n : ℕ)
+    (P : ImageFormat → (List ℕ → List ℕ) → A → Type 0) (format said : ImageFormat)
+    → format ≡ said → IfSome known (λ files. n ≡ length (files path))
+    → IfOk r (λ x. (files : List ℕ → List ℕ) → known ≡ Some files → length (files path) ≡ n → P said files x)
+    → IfOk r (λ x. IfSome known (λ files. P format files x))
+told_layer (Ok x) None path n P format said e h k = tt
+told_layer (Ok x) (Some files) path n P format said e h k =
+    subst (λ (f : ImageFormat). P f files x) (sym e) (k files refl (sym h))
+told_layer (Err e) known path n P format said f h k = tt
+
+pub told_raw :
+    {A E : Type 0} (r : Result A E) (known : Option (List ℕ → List ℕ)) (path : List ℕ) (n : ℕ)
+    (allow : Bool) (P : ImageFormat → Bool → (List ℕ → List ℕ) → A → Type 0)
+    (format said : ImageFormat)
+    → format ≡ said → IfSome known (λ files. n ≡ length (files path))
+    → IfOk r (λ x. (a : Bool) (files : List ℕ → List ℕ) → length (files path) ≡ n → P said a files x)
+    → IfOk r (λ x. IfSome known (λ files. P format allow files x))
+told_raw (Ok x) None path n allow P format said e h k = tt
+told_raw (Ok x) (Some files) path n allow P format said e h k =
+    subst (λ (f : ImageFormat). P f allow files x) (sym e) (k allow files (sym h))
+told_raw (Err e) known path n allow P format said f h k = tt
+
+module _ {D St : Type 0} (view : D → View St) (allow : Bool) where
+  pub alone_told :
+      (known : Option (List ℕ → List ℕ)) (path : List ℕ) (format : ImageFormat)
+      (inner : D) (x : FormatAccess D) (paths : List (List ℕ))
+      → paths ≡ path ∷ [] → driver x ≡ inner → backing x ≡ None
+      → IfSome known (λ files. IsLayerOf view allow files path format inner None)
+      → IfSome known (λ files. ShowsLayers view allow files path format x paths)
+  alone_told None path format inner x paths is own none h = tt
+  alone_told (Some files) path format inner x paths is own none h =
+      alone_shows view allow files path format x paths is none
+      (subst (λ (d : D). IsLayerOf view allow files path format d None) (sym own) h)
+
+  pub over_told :
+      (known : Option (List ℕ → List ℕ)) (path next : List ℕ) (format lower : ImageFormat)
+      (inner : D) (x y : FormatAccess D) (paths more : List (List ℕ))
+      → paths ≡ path ∷ more → driver x ≡ inner → backing x ≡ Some y
+      → IfSome known (λ files. IsLayerOf view allow files path format inner (Some next))
+      → IfSome known (λ files. ShowsLayers view allow files next lower y more)
+      → IfSome known (λ files. ShowsLayers view allow files path format x paths)
+  over_told None path next format lower inner x y paths more is own some h k = tt
+  over_told (Some files) path next format lower inner x y paths more is own some h k =
+      over_shows view allow files path next format lower x y paths more is some
+      (subst (λ (d : D). IsLayerOf view allow files path format d (Some next)) (sym own) h) k
+
+  -- the plan of an image that shows layers has the bytes of their disk
+  pub planned_told :
+      (known : Option (List ℕ → List ℕ)) (path : List ℕ) (x : FormatAccess D)
+      (paths : List (List ℕ)) (size : ℕ) (pieces : List Piece)
+      → ((image : FormatAccess D) (ps : List Piece) (bytes : ℕ → ℕ → List ℕ) → IsPlan view image ps
+      → disk_with view image bytes ≡ map Byte (plan_bytes bytes ps))
+      → size ≡ (view (driver x)).size → IsPlan view x pieces
+      → IfSome known (λ files. ShowsLayers view allow files path Qcow2 x paths)
+      → IfSome known (λ files. IsChainImage allow files path size paths pieces)
+  planned_told None path x paths size pieces law len covers h = tt
+  planned_told (Some files) path x paths size pieces law len covers (others, layers, is, are, sized, on) =
+      let bytes = storages_by paths files in (
+        others,
+        layers,
+        is,
+        are,
+        len ∙ sized,
+        same_listed (λ p. target_value bytes (target view x p)) (layers_value layers) size (view (driver x)).size len (λ p. sym (on p))
+            ∙ law x pieces bytes covers,
+      )

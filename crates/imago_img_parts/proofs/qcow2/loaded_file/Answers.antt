@@ -1,0 +1,12 @@
+use Rattle.std.proofs.Common.{map, ap, ◌∙◌}
+use Rattle.std.specs.String.{string_bytes}
+use Rattle.imago_qcow2.specs.Disk.{HaveSameTables}
+use Rattle.imago_img_parts.proofs.Files.{loaded_by}
+use Rattle.imago_img_parts.proofs.qcow2.loaded_file.Goals as goal
+
+pub returns-in-Ok : goal.returns-in-Ok
+returns-in-Ok g c = λ files known len.
+    let paths = ap (map string_bytes) (c.new-sources.ensures.paths ∙ c.deref.ensures.value)
+    ∙ c.in_ok-paths.ensures in
+    loaded_by g.H.Host.contents _ _ _ c.args.path.now c.args.count files _ HaveSameTables
+    c.new-sources.ensures.host paths known len c.in-Ok.ensures

@@ -1,0 +1,102 @@
+use Rattle.std.specs.Prelude.{◌≡◌, ℕ, ◌<◌, Bool, true, false, List, [], ◌∷◌, Option, Some, None, map}
+use Rattle.std.specs.Prelude.{length}
+use Rattle.imago_drivers.specs.Place.{Place, Value, Byte, shown}
+use Rattle.imago_drivers.specs.Raw.{raw_place}
+use Rattle.imago_drivers.specs.View.{View}
+use Rattle.imago_access.specs.declared.access.FormatAccess.{FormatAccess}
+use Rattle.imago_access.specs.Chain.{driver}
+use Rattle.imago_access.specs.Disk.{values_from}
+use Rattle.imago_access.specs.Target.{target}
+use Rattle.imago_vmdk.specs.Disk.{with_bytes}
+use Rattle.imago_qcow2.specs.Numbers.{be32, be64}
+use Rattle.imago_qcow2.specs.Entry.{disk_size, qcow2_place}
+use Rattle.imago_plan.specs.declared.piece.Piece.{Piece}
+use Rattle.imago_plan.specs.PieceBytes.{bytes_at, plan_bytes}
+use Rattle.imago_plan.specs.StoredBytes.{target_value}
+use Rattle.imago_img_parts.specs.declared.text.ImageFormat.{ImageFormat}
+use Rattle.imago_img_parts.specs.declared.text.ImageFormat.TheVariants.{Raw, Vmdk, Qcow2}
+use Rattle.imago_img_parts.specs.Names.{stays_below, path_beside}
+use Rattle.imago_img_parts.specs.Files.{storages_by}
+
+-- the name of the file below it that a qcow2 file has, if it has one
+abbrev pub SaysBacking : List ℕ → Option (List ℕ) → Type 0
+SaysBacking bytes None = be64 bytes 8 ≡ 0
+SaysBacking bytes (Some name) =
+    (0 < be64 bytes 8) × (name ≡ bytes_at bytes (be64 bytes 8) (be32 bytes 16))
+
+-- The path of the file below that of a qcow2 image, if there is one: the name that the image has
+-- stands for it. The name doesn't lead out of the image's folder, unless that is permitted.
+abbrev pub LeadsTo : Bool → (List ℕ → List ℕ) → List ℕ → Option (List ℕ) → Type 0
+LeadsTo allow files path None = SaysBacking (files path) None
+LeadsTo allow files path (Some next) =
+    (name : List ℕ) × SaysBacking (files path) (Some name)
+    × (allow ≡ false → stays_below name ≡ true) × (next ≡ path_beside path name)
+
+-- A layer that the file of a path is, in that format: what stands at each offset of its disk, and
+-- the path of the file below it, if there is one.
+abbrev pub IsLayer :
+    Bool → (List ℕ → List ℕ) → List ℕ → ImageFormat → (ℕ → Place) → Option (List ℕ) → Type 0
+IsLayer allow files path Raw place next =
+    (place ≡ raw_place (length (files path)) (files path)) × (next ≡ None)
+IsLayer allow files path Qcow2 place next =
+    (place ≡ qcow2_place (files path)) × LeadsTo allow files path next
+IsLayer allow files path Vmdk place next = ⊥
+
+-- a chain goes on with the file of the next path, and those below it, or ends
+abbrev pub GoesOn :
+    Option (List ℕ) → List (List ℕ) → List (ℕ → Place)
+    → (List ℕ → List (List ℕ) → Type 0) → Type 0
+GoesOn None others below rest = (others ≡ []) × (below ≡ [])
+GoesOn (Some next) others below rest =
+    (more : List (List ℕ)) × (others ≡ next ∷ more) × rest next more
+
+-- The layers of an image whose file has that path and that format, the top one first, and the paths
+-- of the files below it. Each lower one has some format.
+abbrev pub AreLayers :
+    Bool → (List ℕ → List ℕ) → List ℕ → ImageFormat → List (List ℕ) → List (ℕ → Place) → Type 0
+AreLayers allow files path format others [] = ⊥
+AreLayers allow files path format others (place ∷ below) =
+    (next : Option (List ℕ)) × IsLayer allow files path format place next
+    × GoesOn next others below
+    (λ p more. (lower : ImageFormat) × AreLayers allow files p lower more below)
+
+-- what a read of each offset gives of the disk of layers, the top one first: below the last one all
+-- is zero
+abbrev pub layers_value : List (ℕ → Place) → ℕ → Value
+layers_value [] p = Byte 0
+layers_value (place ∷ below) p = shown (layers_value below) (place p)
+
+-- the size of the disk that a layer's file has, in that format
+abbrev pub size_by : ImageFormat → List ℕ → ℕ
+size_by Raw bytes = length bytes
+size_by Qcow2 bytes = disk_size bytes
+size_by Vmdk bytes = 0
+
+-- a driver has each byte of the layer where the file has it, whatever the file's clusters hold
+abbrev pub IsLayerOf :
+    {D St : Type 0} → (D → View St) → Bool → (List ℕ → List ℕ) → List ℕ → ImageFormat → D
+    → Option (List ℕ) → Type 0
+IsLayerOf view allow files path format inner next =
+    (place : ℕ → Place) × IsLayer allow files path format place next
+    × ((view inner).size ≡ size_by format (files path))
+    × ((bytes : ℕ → List ℕ) → bytes 0 ≡ files path
+    → (p : ℕ) → with_bytes bytes ((view inner).place p) ≡ place p)
+
+-- an image over the files of these paths shows the layers of the first of them
+abbrev pub ShowsLayers :
+    {D St : Type 0} → (D → View St) → Bool → (List ℕ → List ℕ) → List ℕ → ImageFormat
+    → FormatAccess D → List (List ℕ) → Type 0
+ShowsLayers view allow files path format x paths =
+    (others : List (List ℕ)) × (layers : List (ℕ → Place)) × (paths ≡ path ∷ others)
+    × AreLayers allow files path format others layers
+    × ((view (driver x)).size ≡ size_by format (files path))
+    × ((p : ℕ) → target_value (storages_by paths files) (target view x p) ≡ layers_value layers p)
+
+-- The pieces of an image, which is a qcow2 image over others, have the bytes of its disk.
+abbrev pub IsChainImage :
+    Bool → (List ℕ → List ℕ) → List ℕ → ℕ → List (List ℕ) → List Piece → Type 0
+IsChainImage allow files path size paths pieces =
+    (others : List (List ℕ)) × (layers : List (ℕ → Place)) × (paths ≡ path ∷ others)
+    × AreLayers allow files path Qcow2 others layers × (size ≡ disk_size (files path))
+    × (values_from (layers_value layers) 0 size
+    ≡ map Byte (plan_bytes (storages_by paths files) pieces))

@@ -1,0 +1,238 @@
+//! Chains of qcow2 images, and what is below them.
+ghost use Rattle.std.specs.Prelude.{◌≡◌, ℕ, Bool, List, [], ◌∷◌, map, length, option_map};
+ghost use Rattle.std.specs.Prelude.{IfOk, IfSome, None, Some};
+ghost use Rattle.std.specs.String.{string_bytes};
+ghost use Rattle.imago_access.specs.Chain.{driver as driver_of, backing};
+ghost use Rattle.imago_img_parts.specs.declared.text.ImageFormat.TheVariants as ImageFormat;
+ghost use Rattle.imago_img_parts.specs.Layers.{IsLayerOf, ShowsLayers, IsChainImage};
+
+use crate::backing::{Backing, backing_of};
+use crate::failure::{Failure, Reason};
+use crate::host::Host;
+use crate::opened::{Opening, format_of, storage_paths};
+use crate::qcow2::qcow2_driver;
+use crate::text::{ImageFormat, file_status};
+use imago_access::access::FormatAccess;
+use imago_any_driver::any::AnyDriver;
+use imago_drivers::drivers::FormatDriverInstance;
+use imago_drivers::raw::Raw;
+use imago_loaded::loaded::LoadedFile;
+use imago_plan::laws::plans_show_stored_bytes;
+use imago_plan::piece::Piece;
+use imago_plan::plan::plan;
+use imago_qcow2::laws::same_tables_stand_alike;
+use std::alloc::{AllocError, Global};
+
+/// The most files that a chain has below its first.
+const MOST: usize = 199;
+
+/// An image above others.
+#[derive(Drop)]
+struct Chain {
+    /// The image, of which only headers and tables are in memory.
+    image: FormatAccess<AnyDriver<LoadedFile>>,
+    /// The files of its layers, the top one first.
+    paths: Vec<String>,
+}
+
+/// Where the bytes of an image's disk stand.
+#[derive(Drop)]
+pub struct Planned {
+    /// The disk's size in bytes.
+    pub size: u64,
+    pub pieces: Vec<Piece>,
+    /// The files of the image's layers, the top one first.
+    pub paths: Vec<String>,
+}
+
+/// A layer by itself, and the file below it, if there is one.
+#[derive(Drop)]
+struct Layer {
+    driver: AnyDriver<LoadedFile>,
+    below: Option<Backing>,
+}
+
+/// The files on the way down a chain.
+#[derive(Drop)]
+struct Way {
+    /// Each by its device, and its number there.
+    files: Vec<(u64, u64)>,
+    /// The paths, as they are printed.
+    told: String,
+}
+
+impl Way {
+    /// Goes on to a file. One that was on the way before is refused.
+    fn enter<H: Host>(&mut self, host: &H, path: &str) -> Result<(), Failure> {
+        let alloc = host.alloc();
+        let status = file_status(host, path)?;
+        let file = (status.device, status.inode);
+        let told = &self.told;
+        self.told = if self.files.is_empty() {
+            format!(in alloc; "{path:?}")?
+        } else {
+            format!(in alloc; "{told}, {path:?}")?
+        };
+        if self.files.contains(&file) {
+            return Err(Failure::of_file(alloc, path, Reason::Loop(self.told.clone()?)));
+        }
+        self.files.push(file)?;
+        Ok(())
+    }
+}
+
+/// The layer of a file, which is of that format.
+fn layer_of<H: Host>(
+    host: &H,
+    path: &str,
+    format: ImageFormat,
+    how: Opening,
+) -> Result<Layer, Failure>
+    ensures { IfOk result (λ layer. IfSome (H.contents host.now)
+        (λ files. IsLayerOf ⟦<AnyDriver<LoadedFile> as FormatDriverInstance>⟧.view
+        how.allow_outside files path.now format layer.driver
+        (option_map (λ b. string_bytes b.path) layer.below))) }
+{
+    let length = file_status(host, path)?.length;
+    match format {
+        ImageFormat::Raw => raw_layer(host.alloc(), path, length),
+        ImageFormat::Qcow2 => qcow2_layer(host, path, length, how),
+        ImageFormat::Vmdk => Err(Failure::of_file(host.alloc(), path, Reason::VmdkBelow)),
+    }
+}
+
+/// The layer of a raw file of that length.
+fn raw_layer(alloc: Global, path: &str, size: u64) -> Result<Layer, Failure>
+    ensures { IfOk result (λ layer. (allow : Bool) (files : List ℕ → List ℕ)
+        → length (files path.now) ≡ size
+        → IsLayerOf ⟦<AnyDriver<LoadedFile> as FormatDriverInstance>⟧.view
+        allow files path.now ImageFormat.Raw layer.driver
+        (option_map (λ b. string_bytes b.path) layer.below)) }
+{
+    let file = LoadedFile::new(alloc, size, 1);
+    match Raw::open_image(file, false) {
+        Ok(raw) => Ok(Layer {
+            driver: AnyDriver::Raw(raw),
+            below: None,
+        }),
+        Err(cause) => Err(Failure::of_file(alloc, path, Reason::Image(cause))),
+    }
+}
+
+/// The layer of a qcow2 file of that length.
+fn qcow2_layer<H: Host>(host: &H, path: &str, size: u64, how: Opening) -> Result<Layer, Failure>
+    ensures { IfOk result (λ layer. (files : List ℕ → List ℕ)
+        → H.contents host.now ≡ Some files → length (files path.now) ≡ size
+        → IsLayerOf ⟦<AnyDriver<LoadedFile> as FormatDriverInstance>⟧.view
+        how.allow_outside files path.now ImageFormat.Qcow2 layer.driver
+        (option_map (λ b. string_bytes b.path) layer.below)) }
+{
+    same_tables_stand_alike();
+    let driver = qcow2_driver(host, path, size)?;
+    let below = backing_of(host, path, &driver, how)?;
+    Ok(Layer {
+        driver: AnyDriver::Qcow2(driver),
+        below,
+    })
+}
+
+/// A layer with nothing below it.
+fn alone(alloc: Global, path: &str, driver: AnyDriver<LoadedFile>) -> Result<Chain, AllocError>
+    ensures paths { IfOk result
+        (λ chain. map string_bytes chain.paths.items ≡ path.now ∷ []) }
+    ensures driver { IfOk result (λ chain. driver_of chain.image ≡ driver) }
+    ensures below { IfOk result (λ chain. backing chain.image ≡ None) }
+{
+    Ok(Chain {
+        image: FormatAccess::new(driver),
+        paths: storage_paths(alloc, path, &[])?,
+    })
+}
+
+/// A layer above others.
+fn over(
+    alloc: Global,
+    path: &str,
+    driver: AnyDriver<LoadedFile>,
+    below: Chain,
+) -> Result<Chain, AllocError>
+    ensures paths { IfOk result (λ chain. map string_bytes chain.paths.items
+        ≡ path.now ∷ map string_bytes below.paths.items) }
+    ensures driver { IfOk result (λ chain. driver_of chain.image ≡ driver) }
+    ensures below { IfOk result (λ chain. backing chain.image ≡ Some below.image) }
+{
+    let Chain { image, mut paths } = below;
+    paths.insert(0, String::from_str(alloc, path)?)?;
+    Ok(Chain {
+        image: FormatAccess::with_backing(driver, Box::new(alloc, image)?),
+        paths,
+    })
+}
+
+/// The chain that begins with a file, and goes on with at most so many.
+fn chain_from<H: Host>(
+    host: &H,
+    path: &str,
+    format: ImageFormat,
+    how: Opening,
+    way: &mut Way,
+    most: usize,
+) -> Result<Chain, Failure>
+    ensures { IfOk result (λ chain. IfSome (H.contents host.now)
+        (λ files. ShowsLayers ⟦<AnyDriver<LoadedFile> as FormatDriverInstance>⟧.view
+        how.allow_outside files path.now format chain.image
+        (map string_bytes chain.paths.items))) }
+{
+    way.enter(host, path)?;
+    let alloc = host.alloc();
+    let Layer { driver, below } = layer_of(host, path, format, how)?;
+    let Some(next) = below else {
+        return Ok(alone(alloc, path, driver)?);
+    };
+    if most == 0 {
+        return Err(Failure::of_file(alloc, path, Reason::TooManyBelow(way.told.clone()?)));
+    }
+    let how_next = Opening {
+        format: next.format,
+        ..how
+    };
+    let format = format_of(host, &next.path, how_next)?;
+    let below = chain_from(host, &next.path, format, how, way, most - 1)?;
+    Ok(over(alloc, path, driver, below)?)
+}
+
+/// The chain that begins with a qcow2 file.
+fn chain_of<H: Host>(host: &H, path: &str, how: Opening) -> Result<Chain, Failure>
+    ensures { IfOk result (λ chain. IfSome (H.contents host.now)
+        (λ files. ShowsLayers ⟦<AnyDriver<LoadedFile> as FormatDriverInstance>⟧.view
+        how.allow_outside files path.now ImageFormat.Qcow2 chain.image
+        (map string_bytes chain.paths.items))) }
+{
+    let mut way = Way {
+        files: Vec::new(host.alloc()),
+        told: String::new(host.alloc()),
+    };
+    chain_from(host, path, ImageFormat::Qcow2, how, &mut way, MOST)
+}
+
+/// Where the bytes of the disk of a qcow2 file stand, and of what is below it.
+///
+/// [`Reason::Loop`] is a chain of files that leads back, and [`Reason::TooManyBelow`] one of more
+/// than 200.
+pub fn planned_chain<H: Host>(host: &H, path: &str, how: Opening) -> Result<Planned, Failure>
+    ensures { IfOk result (λ planned. IfSome (H.contents host.now)
+        (λ files. IsChainImage how.allow_outside files path.now planned.size
+        (map string_bytes planned.paths.items) planned.pieces.items)) }
+{
+    let chain = chain_of(host, path, how)?;
+    plans_show_stored_bytes::<AnyDriver<LoadedFile>>();
+    let size = chain.image.size();
+    match plan(host.alloc(), &chain.image) {
+        Ok(pieces) => Ok(Planned {
+            size,
+            pieces,
+            paths: chain.paths,
+        }),
+        Err(cause) => Err(Failure::of_file(host.alloc(), path, Reason::Image(cause))),
+    }
+}

@@ -1,0 +1,214 @@
+//! The clusters of a qcow2 file, as its disk has them.
+ghost use Rattle.std.specs.Prelude.{◌<◌, ◌≤◌, IfOk};
+
+use crate::failure::Failure;
+use crate::qcow2::Qcow2File;
+use imago_access::access::FormatAccess;
+use imago_access::mapping::Mapping;
+use imago_loaded::loaded::LoadedFile;
+use imago_qcow2::qcow2::Qcow2;
+use imago_storage::error::Error;
+use std::alloc::Global;
+use std::io::{self, Write};
+
+/// What clusters of a disk are.
+#[derive(Clone, Copy, PartialEq, Eq)]
+pub enum ClusterKind {
+    /// Data, from that offset of the file on.
+    Stored(u64),
+    /// Compressed data.
+    Compressed,
+    /// Entries that can't be meant.
+    Invalid,
+    /// Nothing in the file.
+    Absent,
+}
+
+/// Clusters of a disk, one behind the other, that are of one kind.
+#[derive(Clone, Copy)]
+pub struct ClusterRun {
+    /// Where the first one begins on the disk, in bytes.
+    pub start: u64,
+    /// How many bytes of the disk they are.
+    pub length: u64,
+    pub kind: ClusterKind,
+}
+
+impl ClusterRun {
+    /// Where the last one ends on the disk, in bytes.
+    fn end(&self) -> u64 {
+        self.start.saturating_add(self.length)
+    }
+}
+
+/// What the clusters at that offset of a disk are, and how many bytes, at most so many, are of that
+/// kind.
+fn run_at(
+    image: &FormatAccess<Qcow2<LoadedFile>>,
+    cluster: u64,
+    at: u64,
+    most: u64,
+) -> Result<ClusterRun, Error>
+    requires cluster { 0 < cluster }
+    requires some { 0 < most }
+    ensures some { IfOk result (λ run. 0 < run.length) }
+    ensures within { IfOk result (λ run. run.length ≤ most) }
+{
+    let (kind, length) = match image.get_mapping(at, most) {
+        Ok((Mapping::Raw { offset, .. }, count)) => (ClusterKind::Stored(offset), count),
+        Ok((Mapping::Special { .. }, count)) => (ClusterKind::Compressed, count),
+        Ok((_, count)) => (ClusterKind::Absent, count),
+        Err(Error::InvalidData) => (ClusterKind::Invalid, cluster - at % cluster),
+        Err(cause) => return Err(cause),
+    };
+    Ok(ClusterRun {
+        start: at,
+        length: length.clamp(1, most),
+        kind,
+    })
+}
+
+/// Puts a run to the others. Invalid clusters behind others are one run with them.
+fn put(runs: &mut Vec<ClusterRun>, next: ClusterRun) -> Result<(), Error> {
+    if next.kind == ClusterKind::Absent {
+        return Ok(());
+    }
+    let mut next = next;
+    if let Some(last) = runs.pop() {
+        let both_invalid = last.kind == ClusterKind::Invalid && next.kind == ClusterKind::Invalid;
+        if both_invalid && last.end() == next.start {
+            next.start = last.start;
+            next.length = last.length.saturating_add(next.length);
+        } else {
+            runs.push(last)?;
+        }
+    }
+    runs.push(next)?;
+    Ok(())
+}
+
+/// The clusters that a file has for its disk, by the disk's offsets.
+pub fn cluster_runs(alloc: Global, file: &Qcow2File) -> Result<Vec<ClusterRun>, Error>
+    requires { 0 < file.now.cluster }
+{
+    let size = file.image.size();
+    let mut runs = Vec::new(alloc);
+    let mut at = 0;
+    while at < size {
+        let run = run_at(&file.image, file.cluster, at, size - at)?;
+        put(&mut runs, run)?;
+        at += run.length;
+    }
+    Ok(runs)
+}
+
+/// How many clusters of that length runs of one kind are: data, or compressed data.
+pub fn count_clusters(runs: &[ClusterRun], cluster: u64, compressed: bool) -> u64
+    requires { 0 < cluster }
+{
+    let mut count: u64 = 0;
+    for run in runs {
+        let counts = match run.kind {
+            ClusterKind::Stored(_) => !compressed,
+            ClusterKind::Compressed => compressed,
+            _ => false,
+        };
+        if counts {
+            count = count.saturating_add(run.length.div_ceil(cluster));
+        }
+    }
+    count
+}
+
+/// Tells entries that can't be meant, and clusters that a file of that length doesn't hold, and how
+/// many runs of them there are.
+fn tell_misplaced<W: Write>(
+    path: &str,
+    runs: &[ClusterRun],
+    length: u64,
+    output: &mut W,
+) -> io::Result<u64> {
+    let mut faults: u64 = 0;
+    for run in runs {
+        let (start, end) = (run.start, run.end());
+        match run.kind {
+            ClusterKind::Invalid => writeln!(
+                output,
+                "{path:?}: the entries of {start} to {end} of the disk can't be meant"
+            )?,
+            ClusterKind::Stored(offset) if offset.saturating_add(run.length) > length => writeln!(
+                output,
+                "{path:?}: {start} to {end} of the disk passes the file's end: what lacks reads as 0"
+            )?,
+            _ => continue,
+        }
+        faults = faults.saturating_add(1);
+    }
+    Ok(faults)
+}
+
+/// Data of a disk, by its place in the file.
+#[derive(Clone, Copy)]
+struct Held {
+    offset: u64,
+    end: u64,
+    /// Where it begins on the disk.
+    start: u64,
+}
+
+/// The data of runs, by its places in the file.
+fn held_by_offset(alloc: Global, runs: &[ClusterRun]) -> Result<Vec<Held>, Error> {
+    let mut all = Vec::new(alloc);
+    for run in runs {
+        if let ClusterKind::Stored(offset) = run.kind {
+            all.push(Held {
+                offset,
+                end: offset.saturating_add(run.length),
+                start: run.start,
+            })?;
+        }
+    }
+    all.sort_unstable_by_key(|held| held.offset);
+    Ok(all)
+}
+
+/// Tells data of the file that two entries name, and how many times.
+fn tell_twice<W: Write>(path: &str, all: &[Held], output: &mut W) -> io::Result<u64> {
+    let mut faults: u64 = 0;
+    let mut last = Held {
+        offset: 0,
+        end: 0,
+        start: 0,
+    };
+    for held in all {
+        if held.offset < last.end {
+            let (offset, other) = (held.offset, held.start);
+            let one = last
+                .start
+                .saturating_add(offset.saturating_sub(last.offset));
+            writeln!(
+                output,
+                "{path:?}: the entries of {one} and {other} of the disk both name {offset}"
+            )?;
+            faults = faults.saturating_add(1);
+        }
+        if held.end > last.end {
+            last = *held;
+        }
+    }
+    Ok(faults)
+}
+
+/// Tells the faults of a file of that length, whose clusters those are, and how many there are.
+pub fn tell_faults<W: Write>(
+    alloc: Global,
+    path: &str,
+    runs: &[ClusterRun],
+    length: u64,
+    output: &mut W,
+) -> Result<u64, Failure> {
+    let misplaced = tell_misplaced(path, runs, length, output).map_err(Failure::Output)?;
+    let held = Failure::or_image(alloc, path, held_by_offset(alloc, runs))?;
+    let twice = tell_twice(path, &held, output).map_err(Failure::Output)?;
+    Ok(misplaced.saturating_add(twice))
+}

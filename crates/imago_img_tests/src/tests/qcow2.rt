@@ -1,0 +1,186 @@
+//! qcow2 images, alone and above others: what each command prints, and what is refused.
+
+use super::set_up::{Case, check_cases};
+
+/// A command line that makes no file, its status, its output, and what it tells as an error.
+type Row = (&'static str, u8, &'static str, &'static str);
+
+/// Command lines that make no file.
+static ROWS: [Row; 19] = [
+    // One image.
+    (
+        "info one.qcow2",
+        0,
+        "image: \"one.qcow2\"\nformat: qcow2\nsize: 2048 bytes\nversion: 2\ncluster: 512 bytes\n\
+        data: 2 of 4 clusters\n",
+        "",
+    ),
+    (
+        "info --json one.qcow2",
+        0,
+        "{ \"filename\": \"one.qcow2\", \"format\": \"qcow2\", \"virtual-size\": 2048, \"version\": 2, \
+        \"cluster-size\": 512, \"clusters\": 4, \"data-clusters\": 2, \"compressed-clusters\": 0, \
+        \"features\": [] }\n",
+        "",
+    ),
+    (
+        "map --json one.qcow2",
+        0,
+        "[{ \"start\": 0, \"length\": 512, \"depth\": 0, \"present\": true, \"zero\": true, \"data\": false},\n\
+        { \"start\": 512, \"length\": 1, \"depth\": 0, \"present\": true, \"zero\": false, \"data\": true, \"offset\": 2048, \"filename\": \"one.qcow2\"},\n\
+        { \"start\": 513, \"length\": 511, \"depth\": 0, \"present\": true, \"zero\": true, \"data\": false, \"offset\": 2049, \"filename\": \"one.qcow2\"},\n\
+        { \"start\": 1024, \"length\": 1, \"depth\": 0, \"present\": true, \"zero\": false, \"data\": true, \"offset\": 1536, \"filename\": \"one.qcow2\"},\n\
+        { \"start\": 1025, \"length\": 511, \"depth\": 0, \"present\": true, \"zero\": true, \"data\": false, \"offset\": 1537, \"filename\": \"one.qcow2\"},\n\
+        { \"start\": 1536, \"length\": 512, \"depth\": 0, \"present\": true, \"zero\": true, \"data\": false}]\n",
+        "",
+    ),
+    (
+        "compare one.qcow2 one.raw",
+        0,
+        "Images are identical.\n",
+        "",
+    ),
+    (
+        "compare one.qcow2 top.qcow2",
+        1,
+        "Content mismatch at offset 0!\n",
+        "",
+    ),
+    ("check one.qcow2", 0, "No faults were found.\n", ""),
+    // One above two others.
+    (
+        "info top.qcow2",
+        0,
+        "image: \"top.qcow2\"\nformat: qcow2\nsize: 2048 bytes\nversion: 3\ncluster: 512 bytes\n\
+        backing file: \"mid.qcow2\"\nbacking format: qcow2\nfeature: lazy refcounts\n\
+        data: 1 of 4 clusters\n",
+        "",
+    ),
+    (
+        "map top.qcow2",
+        0,
+        "start                length               kind offset               file\n\
+        0                    1                    data 1536                 top.qcow2\n\
+        1                    511                  zero 1537                 top.qcow2\n\
+        512                  1                    data 1536                 mid.qcow2\n\
+        513                  511                  zero 1537                 mid.qcow2\n\
+        1024                 1                    data 1024                 parts/base.raw\n\
+        1025                 511                  zero 1025                 parts/base.raw\n\
+        1536                 512                  zero\n",
+        "",
+    ),
+    ("compare top.qcow2 top.raw", 0, "Images are identical.\n", ""),
+    // What is refused.
+    (
+        "map -f qcow2 one.raw",
+        1,
+        "",
+        "imago-img: \"one.raw\": the image's data is invalid; imago-img check tells where\n",
+    ),
+    (
+        "map outside.qcow2",
+        1,
+        "",
+        "imago-img: \"outside.qcow2\": its backing file \"/etc/secret\" isn't in its folder; \
+        --allow-outside permits it\n",
+    ),
+    (
+        "map linked.qcow2",
+        1,
+        "",
+        "imago-img: \"linked.qcow2\": its backing file \"link.bin\" isn't in its folder; \
+        --allow-outside permits it\n",
+    ),
+    (
+        "convert circle.qcow2 out.raw",
+        1,
+        "",
+        "imago-img: \"circle.qcow2\": backing files lead in a circle: \
+        \"circle.qcow2\", \"around.qcow2\", \"circle.qcow2\"\n",
+    ),
+    (
+        "map lost.qcow2",
+        1,
+        "",
+        "imago-img: \"nowhere.raw\": entity not found\n",
+    ),
+    (
+        "map other.qcow2",
+        1,
+        "",
+        "imago-img: \"other.qcow2\": its backing file has the format \"luks\", which isn't supported\n",
+    ),
+    (
+        "map above.qcow2",
+        1,
+        "",
+        "imago-img: \"disk.vmdk\": a VMDK image, which isn't supported as a backing file\n",
+    ),
+    (
+        "convert faulty.qcow2 out.raw",
+        1,
+        "",
+        "imago-img: \"faulty.qcow2\": the image's data is invalid; imago-img check tells where\n",
+    ),
+    (
+        "check faulty.qcow2",
+        1,
+        "\"faulty.qcow2\": the entries of 0 to 512 of the disk can't be meant\n\
+        \"faulty.qcow2\": 1536 to 2048 of the disk passes the file's end: what lacks reads as 0\n\
+        \"faulty.qcow2\": the entries of 512 and 1024 of the disk both name 1536\n\
+        3 faults were found.\n",
+        "",
+    ),
+    (
+        "check -f qcow2 one.raw",
+        2,
+        "",
+        "imago-img: \"one.raw\": the image's data is invalid; imago-img check tells where\n",
+    ),
+];
+
+/// Disks that are written to raw files.
+static CONVERTED: [Case; 2] = [
+    Case {
+        words: "convert one.qcow2 out.raw",
+        appends: 99,
+        finishes: true,
+        status: 0,
+        output: "",
+        errors: "",
+        written: Some((2048, &[(512, b"2"), (1024, b"1")])),
+    },
+    Case {
+        words: "convert top.qcow2 out.raw",
+        appends: 99,
+        finishes: true,
+        status: 0,
+        output: "",
+        errors: "",
+        written: Some((2048, &[(0, b"t"), (512, b"m"), (1024, b"b")])),
+    },
+];
+
+#[test]
+fn qcow2_images_are_told_and_refused(rt: HostRuntime) {
+    for (words, status, output, errors) in &ROWS {
+        check_cases(
+            &rt,
+            rt.alloc(),
+            &[Case {
+                words,
+                appends: 99,
+                finishes: true,
+                status: *status,
+                output,
+                errors,
+                written: None,
+            }],
+        );
+    }
+}
+
+#[test]
+fn qcow2_images_are_converted(rt: HostRuntime) {
+    check_cases(&rt, rt.alloc(), &CONVERTED);
+}
