@@ -69,7 +69,12 @@ static ROWS: [Row; 19] = [
         1536                 512                  zero\n",
         "",
     ),
-    ("compare top.qcow2 top.raw", 0, "Images are identical.\n", ""),
+    (
+        "compare top.qcow2 top.raw",
+        0,
+        "Images are identical.\n",
+        "",
+    ),
     // What is refused.
     (
         "map -f qcow2 one.raw",

@@ -106,6 +106,7 @@ type PartsRow = (&'static str, usize, &'static [(usize, &'static [u8])]);
 /// What the qcow2 images of the tests begin with: clusters of 512 bytes, and a disk of 2048. The L1
 /// table stands at 512, and names the L2 table at 1024.
 const VERSION_2: &[u8] = b"QFI\xfb\0\0\0\x02";
+
 const VERSION_3: &[u8] = b"QFI\xfb\0\0\0\x03";
 
 /// qcow2 images, and what they stand above or show. A name of a backing file stands at 200.
@@ -168,11 +169,7 @@ static PARTS: [PartsRow; 14] = [
         1536,
         &[(0, b"x"), (512, b"y"), (1024, b"b")],
     ),
-    (
-        "top.raw",
-        2048,
-        &[(0, b"t"), (512, b"m"), (1024, b"b")],
-    ),
+    ("top.raw", 2048, &[(0, b"t"), (512, b"m"), (1024, b"b")]),
     (
         "outside.qcow2",
         1024,
