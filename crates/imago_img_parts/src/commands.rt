@@ -21,8 +21,8 @@ pub struct Comparison {
 }
 
 /// Writes the disk of an image to a raw file of that path. What the image's files have says what
-/// the new file then has: it is the disk that a descriptor describes of them, or the bytes of a raw
-/// image's file.
+/// the new file then has: it is the disk that a descriptor describes of them, that of a qcow2 image
+/// and those below it, or the bytes of a raw image's file.
 ///
 /// The path may be taken only where what it leads to is to be replaced, and never by a file of the
 /// image. Refused, no file was made or changed.
@@ -43,7 +43,7 @@ pub fn convert_image<H: Host>(
 }
 
 /// Where the disks of two images differ first, if they do: those that descriptors describe of their
-/// files, or the bytes of raw images' files.
+/// files, those of qcow2 images and the ones below, or the bytes of raw images' files.
 pub fn compare_images<H: Host>(
     host: &H,
     first: &str,
