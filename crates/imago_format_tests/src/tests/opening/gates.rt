@@ -49,9 +49,10 @@ fn open_named(
 }
 
 /// Opens three storages of one name by a gate that refuses its nth opening.
-fn open_but_nth(rt: &impl Abort, alloc: Global, nth: u64, expected: &[(&str, Result<u64, Error>)]) {
+fn open_but_nth(rt: &impl Abort, alloc: Global, nth: u64, expected: [Result<u64, Error>; 3]) {
     let mut gate = NthGate::new(named(rt, alloc, &["a", "a", "a"]), nth);
-    open_each(rt, alloc, &mut gate, expected);
+    let rows = expected.map(|answer| ("a", answer));
+    open_each(rt, alloc, &mut gate, &rows);
 }
 
 #[test]
@@ -99,7 +100,7 @@ fn a_gate_shows_what_it_hands_out_next(rt: HostRuntime) {
 fn check_options_without_a_name_open_nothing(rt: &impl Abort, alloc: Global) {
     let mut gate = named(rt, alloc, &["a"]);
     let opened = gate.open_storage(alloc, StorageOpenOptions::new());
-    assert_eq!(rt; opened.err(), Some(Error::NotFound));
+    assert!(rt; opened.is_err_and(|e| e == Error::NotFound));
     assert_eq!(rt; next(&gate, "a"), Some(Ok(1)));
 }
 
@@ -108,25 +109,14 @@ fn options_without_a_name_open_nothing(rt: HostRuntime) {
     check_options_without_a_name_open_nothing(&rt, rt.alloc());
 }
 
-const DENIED: Result<u64, Error> = Err(Error::Denied);
-
-/// Which opening is refused, and what three of one name answer.
-static NTH: [(u64, [(&str, Result<u64, Error>); 3]); 4] = [
-    (0, [("a", Ok(1)), ("a", Ok(2)), ("a", Ok(3))]),
-    (1, [("a", DENIED), ("a", Ok(1)), ("a", Ok(2))]),
-    (2, [("a", Ok(1)), ("a", DENIED), ("a", Ok(2))]),
-    (3, [("a", Ok(1)), ("a", Ok(2)), ("a", DENIED)]),
-];
-
-fn check_one_opening_is_refused(rt: &impl Abort, alloc: Global) {
-    for (nth, expected) in &NTH {
-        open_but_nth(rt, alloc, *nth, expected);
-    }
-}
-
 #[test]
 fn one_opening_is_refused(rt: HostRuntime) {
-    check_one_opening_is_refused(&rt, rt.alloc());
+    let alloc = rt.alloc();
+    let denied = Err(Error::Denied);
+    open_but_nth(&rt, alloc, 0, [Ok(1), Ok(2), Ok(3)]);
+    open_but_nth(&rt, alloc, 1, [denied, Ok(1), Ok(2)]);
+    open_but_nth(&rt, alloc, 2, [Ok(1), Err(Error::Denied), Ok(2)]);
+    open_but_nth(&rt, alloc, 3, [Ok(1), Ok(2), Err(Error::Denied)]);
 }
 
 fn check_what_was_handed_in_asks_no_gate(rt: &impl Abort, alloc: Global) {
