@@ -9,9 +9,9 @@ use Rattle.imago_vmdk.specs.declared.vmdk.Vmdk.{Vmdk}
 use Rattle.imago_vmdk.specs.Image.{extents_in, storages_of_extents}
 use Rattle.imago_vmdk.specs.Opened.{AreOpened}
 use Rattle.imago_vmdk.specs.VmdkBuilder.{IsVmdkOpening, IsVmdkImageOf}
-use Rattle.imago_img_parts.specs.declared.gate.FolderGate.{FolderGate}
-use Rattle.imago_img_parts.specs.Names.{stays_below}
-use Rattle.imago_img_parts.specs.Gate.{allows_outside, IsFolderOpening}
+use Rattle.imago_plan.specs.declared.gate.FolderGate.{FolderGate}
+use Rattle.imago_plan.specs.Names.{stays_below}
+use Rattle.imago_plan.specs.Gate.{allows_outside, IsFolderOpening}
 use Rattle.imago_img_parts.specs.Images.{flat_names, AllStayBelow}
 
 -- where a gate opened extents by their own names, none of these leads out of the folder

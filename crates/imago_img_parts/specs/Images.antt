@@ -10,7 +10,7 @@ use Rattle.imago_plan.specs.declared.piece.Piece.{Piece}
 use Rattle.imago_plan.specs.PieceBytes.{bytes_at, plan_bytes}
 use Rattle.imago_img_parts.specs.declared.text.ImageFormat.{ImageFormat}
 use Rattle.imago_img_parts.specs.declared.text.ImageFormat.TheVariants.{Raw, Vmdk, Qcow2}
-use Rattle.imago_img_parts.specs.Names.{stays_below, path_beside}
+use Rattle.imago_plan.specs.Names.{stays_below, path_beside}
 use Rattle.imago_img_parts.specs.Layers.{IsChainImage}
 
 -- the names of FLAT extents, in order

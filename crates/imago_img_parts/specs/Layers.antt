@@ -15,7 +15,7 @@ use Rattle.imago_plan.specs.PieceBytes.{bytes_at, plan_bytes}
 use Rattle.imago_plan.specs.StoredBytes.{target_value}
 use Rattle.imago_img_parts.specs.declared.text.ImageFormat.{ImageFormat}
 use Rattle.imago_img_parts.specs.declared.text.ImageFormat.TheVariants.{Raw, Vmdk, Qcow2}
-use Rattle.imago_img_parts.specs.Names.{stays_below, path_beside}
+use Rattle.imago_plan.specs.Names.{stays_below, path_beside}
 use Rattle.imago_img_parts.specs.Files.{storages_by}
 
 -- the name of the file below it that a qcow2 file has, if it has one

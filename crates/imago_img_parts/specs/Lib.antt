@@ -1,5 +1,3 @@
-pub mod Names
-pub mod Gate
 pub mod Files
 pub mod Layers
 pub mod Images

@@ -2,7 +2,7 @@
 
 use crate::failure::Failure;
 use crate::host::{FileKind, Host};
-use crate::name::{path_beside, stays_below};
+use imago_plan::name::{path_beside, stays_below};
 use std::io::{self, ErrorKind, Write};
 use std::path::Path;
 

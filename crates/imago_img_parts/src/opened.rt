@@ -15,9 +15,9 @@ ghost use Rattle.imago_img_parts.specs.Images.{ShowsDescribed, ShowsRaw, AreLetT
 use crate::chain::{Planned, planned_chain};
 use crate::extents::Folder;
 use crate::failure::{Failure, Reason};
-use crate::gate::FolderGate;
+use imago_plan::gate::FolderGate;
 use crate::host::Host;
-use crate::name::{path_beside, stays_below};
+use imago_plan::name::{path_beside, stays_below};
 use crate::text::{ImageFormat, descriptor_text, file_status, guessed_format};
 use imago_access::access::FormatAccess;
 use imago_drivers::builder::FormatDriverBuilder;

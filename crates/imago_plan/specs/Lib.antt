@@ -1,3 +1,5 @@
+pub mod Names
+pub mod Gate
 pub mod Pieces
 pub mod PieceBytes
 pub mod Copies

@@ -20,7 +20,7 @@ pub struct FolderGate {
 }
 
 impl FolderGate {
-    ghost use Rattle.imago_img_parts.specs.Gate.{allows_outside};
+    ghost use Rattle.imago_plan.specs.Gate.{allows_outside};
 
     /// A gate that lets names that lead elsewhere through, or not.
     pub fn new(allow_outside: bool) -> Self
@@ -31,7 +31,7 @@ impl FolderGate {
 }
 
 impl ImplicitOpenGate<MemStorage> for FolderGate {
-    ghost use Rattle.imago_img_parts.specs.Gate.{IsFolderOpening};
+    ghost use Rattle.imago_plan.specs.Gate.{IsFolderOpening};
 
     ghost opened = { IsFolderOpening };
 

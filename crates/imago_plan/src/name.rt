@@ -1,9 +1,9 @@
 //! Names of files in a descriptor.
 ghost use Rattle.std.specs.Prelude.{◌≡◌, IfOk};
 ghost use Rattle.std.specs.String.{string_bytes};
-ghost use Rattle.imago_img_parts.specs.Names.{leads_out as part_leads_out};
-ghost use Rattle.imago_img_parts.specs.Names.{stays_below as name_stays_below};
-ghost use Rattle.imago_img_parts.specs.Names.{path_beside as path_beside_file};
+ghost use Rattle.imago_plan.specs.Names.{leads_out as part_leads_out};
+ghost use Rattle.imago_plan.specs.Names.{stays_below as name_stays_below};
+ghost use Rattle.imago_plan.specs.Names.{path_beside as path_beside_file};
 
 use std::alloc::{AllocError, Global};
 use std::path::Path;
