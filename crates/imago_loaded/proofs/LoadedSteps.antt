@@ -7,12 +7,12 @@ use Rattle.std.specs.BTreeMap.{is_at, Updates}
 use Rattle.std.specs.Ordering.{nat_cmp}
 use Rattle.std.proofs.lemmas.Bool.{cases_eq, cases_lt}
 use Rattle.std.proofs.lemmas.Bool.Decides.{nat_tests}
-use Rattle.std.proofs.lemmas.Nat.{le-div}
+use Rattle.std.proofs.lemmas.Nat.{le-div, div-mul-add}
 use Rattle.std.proofs.lemmas.List.{get_or_past}
 use Rattle.std.proofs.lemmas.List.FromFn.{length-map-range_with_len, get_or-map-range_with_len}
 use Rattle.std.proofs.Math.Nat.{mod-lt, mod-add-div', div-mul-le_self}
 use Rattle.imago_storage.specs.declared.error.Error.{Error}
-use Rattle.imago_storage.specs.Bytes.{splice, OldOrNew, WriteOutcome}
+use Rattle.imago_storage.specs.Bytes.{splice, OldOrNew, WriteOutcome, IsReadAt}
 use Rattle.imago_storage.proofs.Splices.{splice_length}
 use Rattle.imago_plan.specs.PieceBytes.{bytes_at}
 use Rattle.imago_loaded.specs.declared.loaded.LoadedFile.{LoadedFile}
@@ -153,15 +153,42 @@ keeps_more a b c h k = record { len = k.len ∙ h.len; block = k.block ∙ h.blo
 pub there_stays : (a b : LoadedFile) (at n : ℕ) → Keeps a b → AreThere a at n → AreThere b at n
 there_stays a b at n keeps h p low high = let e : b.block ≡ a.block = keeps.block in rw e (keeps.kept (p / a.block) (h p low high))
 
--- what the block of an offset has there
-pub in_block : (f : LoadedFile) (p : ℕ) (xs : List ℕ) (v : Vec ℕ Global) → p < f.length → Some v ≡ block_at f (p / f.block) → xs ≡ v.items
-    → slice_index xs (p % f.block) ≡ slice_index (loaded_bytes f) p
-in_block f p xs v h e is =
-    ap (λ (ys : List ℕ). slice_index ys (p % f.block)) is
-    ∙ ap (λ (o : Option (Vec ℕ Global)). byte_in o (p % f.block)) e ∙ sym (byte_inside f p h)
+-- bytes behind an offset, in its block
+same_block : (p i k : ℕ) → p % k + i < k → (p + i) / k ≡ p / k
+same_block p i k h =
+    let split : p % k + p / k * k ≡ p = mod-add-div' p k in
+    let e : p + i ≡ p / k * k + (p % k + i) = omega (arith, split) in
+    ap (λ (n : ℕ). n / k) e ∙ div-mul-add (p / k) k (p % k + i) h
 
-pub in_none : (f : LoadedFile) (p : ℕ) → p < f.length → None ≡ block_at f (p / f.block) → 0 ≡ slice_index (loaded_bytes f) p
-in_none f p h e = ap (λ (o : Option (Vec ℕ Global)). byte_in o (p % f.block)) e ∙ sym (byte_inside f p h)
+same_rest : (p i k : ℕ) → p % k + i < k → (p + i) % k ≡ p % k + i
+same_rest p i k h =
+    let split : p % k + p / k * k ≡ p = mod-add-div' p k in
+    let further : (p + i) % k + (p + i) / k * k ≡ p + i = mod-add-div' (p + i) k in
+    let same : (p + i) / k * k ≡ p / k * k = ap (λ (n : ℕ). n * k) (same_block p i k h) in
+    omega (arith, split, further, same)
+
+byte_in_part : (f : LoadedFile) (p i : ℕ) → p + i < f.length → p % f.block + i < f.block
+    → slice_index (loaded_bytes f) (p + i) ≡ byte_in (block_at f (p / f.block)) (p % f.block + i)
+byte_in_part f p i inside within =
+    byte_inside f (p + i) inside
+    ∙ ap (λ (n : ℕ). byte_in (block_at f n) ((p + i) % f.block)) (same_block p i f.block within)
+    ∙ ap (byte_in (block_at f (p / f.block))) (same_rest p i f.block within)
+
+-- what is read of a block is read of the file
+pub in_block : (f : LoadedFile) (p : ℕ) (xs buf : List ℕ) (v : Vec ℕ Global) → p + length buf ≤ f.length → p % f.block + length buf ≤ f.block
+    → Some v ≡ block_at f (p / f.block) → xs ≡ v.items → IsReadAt xs (p % f.block) buf → IsReadAt (loaded_bytes f) p buf
+in_block f p xs buf v inside within e is read i lt =
+    read i lt
+    ∙ ap (λ (ys : List ℕ). slice_index ys (p % f.block + i)) is
+    ∙ ap (λ (o : Option (Vec ℕ Global)). byte_in o (p % f.block + i)) e
+    ∙ sym (byte_in_part f p i (omega (arith, inside, lt)) (omega (arith, within, lt)))
+
+pub in_none : (f : LoadedFile) (p : ℕ) (buf : List ℕ) → p + length buf ≤ f.length → p % f.block + length buf ≤ f.block
+    → None ≡ block_at f (p / f.block) → ((i : ℕ) → i < length buf → slice_index buf i ≡ 0) → IsReadAt (loaded_bytes f) p buf
+in_none f p buf inside within e zero i lt =
+    zero i lt
+    ∙ ap (λ (o : Option (Vec ℕ Global)). byte_in o (p % f.block + i)) e
+    ∙ sym (byte_in_part f p i (omega (arith, inside, lt)) (omega (arith, within, lt)))
 
 -- what holds of something that is known
 pub known_is : {A : Type 0} (o : Option A) (P : A → Type 0) (x : A) → o ≡ Some x → IfSome o P → P x

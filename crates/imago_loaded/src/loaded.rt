@@ -1,5 +1,5 @@
 //! A file of which some blocks are in memory.
-ghost use Rattle.std.specs.Prelude.{◌≡◌, ℕ, ◌+◌, ◌<◌, List, length, slice_index, Some};
+ghost use Rattle.std.specs.Prelude.{◌≡◌, ℕ, ◌+◌, ◌%◌, ◌<◌, ◌≤◌, List, length, Some};
 ghost use Rattle.std.specs.Prelude.{OnOk, IfOk};
 ghost use Rattle.imago_plan.specs.PieceBytes.{bytes_at};
 ghost use Rattle.imago_storage.specs.Bytes.{IsReadAt};
@@ -68,14 +68,18 @@ pub struct LoadedFile {
     ghost positive: { 0 < block },
 }
 
-/// The byte of that index, 0 past the end.
-fn byte_of(bytes: &[u8], index: usize) -> u8
-    ensures { result ≡ slice_index bytes.now index }
+/// Fills the buffer with the bytes of a block from the index on, with 0 past their end.
+#[tactic(auto, using(std::proofs::lemmas::List::places))]
+fn copy_out(bytes: &[u8], buf: &mut [u8], index: usize)
+    ensures { IsReadAt bytes.now index buf.new }
 {
-    match bytes.get(index) {
-        Some(byte) => *byte,
-        None => 0,
+    if index >= bytes.len() {
+        buf.fill(0);
+        return;
     }
+    let count = buf.len().min(bytes.len() - index);
+    buf[..count].copy_from_slice(&bytes[index..index + count]);
+    buf[count..].fill(0);
 }
 
 /// So many bytes of a file from the offset on, with 0 past its end. The location names the file.
@@ -114,27 +118,51 @@ impl LoadedFile {
         }
     }
 
-    /// The byte at that offset.
-    fn byte_at(&self, offset: u64) -> u8
-        ensures { result ≡ slice_index (loaded_bytes self.now) offset }
+    /// How many bytes from the offset on, which is inside the file, are of one block and inside the
+    /// file: at most that many.
+    fn part_at(&self, offset: u64, most: usize) -> usize
+        requires inside { offset < file_length self.now }
+        requires some { 0 < most }
+        ensures some { 0 < result }
+        ensures within { result ≤ most }
+        ensures inside { offset + result ≤ file_length self.now }
+        ensures block { offset % block_length self.now + result ≤ block_length self.now }
     {
-        if offset >= self.length {
-            return 0;
-        }
-        let rest = (offset % self.block) as usize;
+        let in_block = self.block - offset % self.block;
+        let in_file = self.length - offset;
+        in_block.min(in_file).min(most as u64) as usize
+    }
+
+    /// Fills the buffer with the bytes from the offset on, which are of one block.
+    fn fill_part(&self, buf: &mut [u8], offset: u64)
+        requires inside { offset + length buf.old ≤ file_length self.now }
+        requires block { offset % block_length self.now + length buf.old
+            ≤ block_length self.now }
+        ensures { IsReadAt (loaded_bytes self.now) offset buf.new }
+    {
+        let index = (offset % self.block) as usize;
         match self.blocks.get(&(offset / self.block)) {
-            Some(block) => byte_of(block, rest),
-            None => 0,
+            Some(block) => copy_out(block, buf, index),
+            None => buf.fill(0),
         }
     }
 
     /// Fills the buffer with the bytes from the offset on, with 0 past the end.
+    #[tactic(auto, using(std::proofs::lemmas::List::places, crate::proofs::LoadedSteps::byte_behind))]
     fn fill(&self, buf: &mut [u8], offset: u64)
         requires { offset + length buf.old < 18446744073709551616 }
         ensures { IsReadAt (loaded_bytes self.now) offset buf.new }
     {
-        for i in 0..buf.len() {
-            buf[i] = self.byte_at(offset + i as u64);
+        let mut done: usize = 0;
+        while done < buf.len() {
+            let at = offset + done as u64;
+            if at >= self.length {
+                buf[done..].fill(0);
+                return;
+            }
+            let end = done + self.part_at(at, buf.len() - done);
+            self.fill_part(&mut buf[done..end], at);
+            done = end;
         }
     }
 

@@ -1,7 +1,13 @@
-use Rattle.std.proofs.Common.{◌≡◌, ℕ, ◌+◌, ◌<◌, slice_index}
+use Rattle.std.proofs.Common.{◌≡◌, ℕ, ◌+◌, ◌-◌, ◌<◌, ◌≤◌, length}
+use Rattle.std.specs.Prelude.{slice_index}
 use Rattle.imago_loaded.specs.Loaded.{loaded_bytes}
 use Rattle.imago_loaded.proofs.loaded.LoadedFile.fill.Given as goal
 
-abbrev pub invariant-loop-i : goal.invariant-loop-i
-invariant-loop-i l =
-    (k : ℕ) → k < l.i → slice_index l.buf k ≡ slice_index (loaded_bytes l.self) (l.offset + k)
+abbrev pub invariant-loop-done : goal.invariant-loop-done
+invariant-loop-done l = record {
+  within : l.done ≤ length l.buf;
+  read : (k : ℕ) → k < l.done → slice_index l.buf k ≡ slice_index (loaded_bytes l.self) (l.offset + k);
+}
+
+abbrev pub decreases-loop-done : goal.decreases-loop-done
+decreases-loop-done l = length l.buf - l.done
