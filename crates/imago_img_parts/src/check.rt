@@ -5,8 +5,10 @@ use crate::extents::{Folder, bytes_of, tell_fault};
 use crate::failure::Failure;
 use crate::host::Host;
 use crate::opened::{Opening, format_of};
-use crate::qcow2::qcow2_file;
+use crate::qcow2::{qcow2_file, qcow2_head};
+use crate::qcow2_header::tell_header;
 use crate::text::{ImageFormat, descriptor_text, file_status, read_start};
+use imago_qcow2::layout::l1_table;
 use imago_storage::error::Error;
 use imago_vmdk::descriptor::{self, Descriptor};
 use imago_vmdk::line::{Extent, verdict};
@@ -16,7 +18,8 @@ use std::io::{self, Write};
 const SHOWN: usize = 200;
 
 /// Tells each fault of an image, and whether there is none: lines of a descriptor that can't be
-/// meant, and extents that their files don't hold.
+/// meant or aren't supported, and extents that their files don't hold; a header and entries of a
+/// qcow2 file that can't be meant or aren't supported.
 pub fn check<H: Host, W: Write>(
     host: &H,
     path: &str,
@@ -41,13 +44,17 @@ pub fn check<H: Host, W: Write>(
     Ok(faults == 0)
 }
 
-/// Tells the faults of the clusters of a qcow2 file, and how many there are.
+/// Tells the faults of the header of a qcow2 file, or else of its clusters, and how many there are.
 fn check_qcow2<H: Host, W: Write>(
     host: &H,
     path: &str,
     length: u64,
     output: &mut W,
 ) -> Result<u64, Failure> {
+    let head = qcow2_head(host, path)?;
+    if l1_table(&head, length).is_err() {
+        return tell_header(path, &head, length, output).map_err(Failure::Output);
+    }
     let file = qcow2_file(host, path, length)?;
     let runs = Failure::or_image(host.alloc(), path, cluster_runs(host.alloc(), &file))?;
     tell_faults(host.alloc(), path, &runs, length, output)

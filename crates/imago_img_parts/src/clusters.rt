@@ -120,9 +120,9 @@ pub fn count_clusters(runs: &[ClusterRun], cluster: u64, compressed: bool) -> u6
     count
 }
 
-/// Tells entries that can't be meant, and clusters that a file of that length doesn't hold, and how
-/// many runs of them there are.
-fn tell_misplaced<W: Write>(
+/// Tells entries that can't be meant, clusters that can't be read since they are compressed, and
+/// those that a file of that length doesn't hold, and how many runs of them there are.
+fn tell_unreadable<W: Write>(
     path: &str,
     runs: &[ClusterRun],
     length: u64,
@@ -135,6 +135,11 @@ fn tell_misplaced<W: Write>(
             ClusterKind::Invalid => writeln!(
                 output,
                 "{path:?}: the entries of {start} to {end} of the disk can't be meant"
+            )?,
+            ClusterKind::Compressed => writeln!(
+                output,
+                "{path:?}: the clusters at {start} to {end} of the disk are compressed, \
+                which isn't supported"
             )?,
             ClusterKind::Stored(offset) if offset.saturating_add(run.length) > length => writeln!(
                 output,
@@ -207,8 +212,8 @@ pub fn tell_faults<W: Write>(
     length: u64,
     output: &mut W,
 ) -> Result<u64, Failure> {
-    let misplaced = tell_misplaced(path, runs, length, output).map_err(Failure::Output)?;
+    let unreadable = tell_unreadable(path, runs, length, output).map_err(Failure::Output)?;
     let held = Failure::or_image(alloc, path, held_by_offset(alloc, runs))?;
     let twice = tell_twice(path, &held, output).map_err(Failure::Output)?;
-    Ok(misplaced.saturating_add(twice))
+    Ok(unreadable.saturating_add(twice))
 }

@@ -1,6 +1,7 @@
 //! Why a command isn't done.
 ghost use Rattle.std.specs.Prelude.{◌≡◌, MatchResult, IsErr};
 
+use crate::qcow2_header::HeaderFault;
 use imago_loaded::loaded::LoadError;
 use imago_storage::error;
 use std::alloc::{AllocError, AllocFailed, Global};
@@ -61,6 +62,9 @@ pub enum Reason {
     /// What the image layer answers.
     #[error("{0}{advice}", advice = advice_on(.0))]
     Image(error::Error),
+    /// A qcow2 image whose header is refused.
+    #[error("{0}")]
+    Header(HeaderFault),
     /// A VMDK image of another kind than a text descriptor with extents.
     #[error("a sparse VMDK image, which isn't supported; -f raw takes its bytes as they are")]
     Sparse,

@@ -4,17 +4,20 @@ ghost use Rattle.imago_qcow2.specs.Disk.{HaveSameTables};
 ghost use Rattle.imago_qcow2.specs.Qcow2Image.{storage_in};
 ghost use Rattle.imago_loaded.specs.Loaded.{loaded_bytes};
 
-use crate::failure::Failure;
+use crate::failure::{Failure, Reason};
 use crate::host::Host;
 use crate::opened::storage_paths;
+use crate::qcow2_header::header_fault;
 use crate::sources::FileSources;
 use crate::text::read_start;
 use imago_access::access::FormatAccess;
-use imago_loaded::loaded::LoadedFile;
+use imago_loaded::loaded::{LoadError, LoadedFile};
 use imago_loaded::tables::load_tables;
 use imago_plan::piece::Location;
-use imago_qcow2::layout::l1_table;
+use imago_qcow2::layout::{L1Table, l1_table};
 use imago_qcow2::qcow2::Qcow2;
+use imago_storage::error::Error;
+use std::alloc::Global;
 
 /// A qcow2 file by itself, without what is below it.
 #[derive(Drop)]
@@ -25,6 +28,43 @@ pub struct Qcow2File {
     pub head: [u8; 112],
     /// How many bytes a cluster has.
     pub cluster: u64,
+}
+
+/// The first bytes of a file.
+pub fn qcow2_head<H: Host>(host: &H, path: &str) -> Result<[u8; 112], Failure> {
+    let mut head = [0u8; 112];
+    read_start(host, path, &mut head)?;
+    Ok(head)
+}
+
+/// The L1 table of a file of that length that begins so, or what is wrong with its header.
+fn table_of(alloc: Global, path: &str, head: &[u8; 112], count: u64) -> Result<L1Table, Failure>
+    ensures { IfOk result (λ table. 512 ≤ table.cluster) }
+{
+    match l1_table(head, count) {
+        Ok(table) => Ok(table),
+        Err(_) => {
+            let fault = header_fault(head, count);
+            Err(Failure::of_file(alloc, path, Reason::Header(fault)))
+        }
+    }
+}
+
+/// Why a file of that length isn't loaded: what is wrong with its header, where that is why.
+fn not_loaded<H: Host>(host: &H, path: &str, count: u64, cause: LoadError) -> Failure {
+    if !matches!(
+        cause,
+        LoadError::Image(Error::InvalidData | Error::Unsupported)
+    ) {
+        return Failure::of_load(host.alloc(), path, cause);
+    }
+    match qcow2_head(host, path) {
+        Ok(head) => {
+            let fault = header_fault(&head, count);
+            Failure::of_file(host.alloc(), path, Reason::Header(fault))
+        }
+        Err(failure) => failure,
+    }
 }
 
 /// A file of that length of which what the driver looks at is in memory.
@@ -42,7 +82,7 @@ pub fn loaded_file<H: Host>(host: &H, path: &str, count: u64) -> Result<LoadedFi
     };
     match load_tables(host.alloc(), &sources, file, count) {
         Ok(loaded) => Ok(loaded),
-        Err(cause) => Err(Failure::of_load(host.alloc(), path, cause)),
+        Err(cause) => Err(not_loaded(host, path, count, cause)),
     }
 }
 
@@ -61,9 +101,8 @@ pub fn qcow2_driver<H: Host>(host: &H, path: &str, count: u64) -> Result<Qcow2<L
 pub fn qcow2_file<H: Host>(host: &H, path: &str, count: u64) -> Result<Qcow2File, Failure>
     ensures { IfOk result (λ file. 512 ≤ file.cluster) }
 {
-    let mut head = [0u8; 112];
-    read_start(host, path, &mut head)?;
-    let table = Failure::or_image(host.alloc(), path, l1_table(&head, count))?;
+    let head = qcow2_head(host, path)?;
+    let table = table_of(host.alloc(), path, &head, count)?;
     Ok(Qcow2File {
         image: FormatAccess::new(qcow2_driver(host, path, count)?),
         head,

@@ -1,6 +1,8 @@
 //! Command lines over files in memory: what each prints, its status, and the file that it makes.
 
+mod chains;
 mod commands;
+mod headers;
 mod loaded;
 mod qcow2;
 mod refusals;

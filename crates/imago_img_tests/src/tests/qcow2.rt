@@ -80,7 +80,7 @@ static ROWS: [Row; 19] = [
         "map -f qcow2 one.raw",
         1,
         "",
-        "imago-img: \"one.raw\": the image's data is invalid; imago-img check tells where\n",
+        "imago-img: \"one.raw\": no qcow2 image begins so\n",
     ),
     (
         "map outside.qcow2",
@@ -138,9 +138,9 @@ static ROWS: [Row; 19] = [
     ),
     (
         "check -f qcow2 one.raw",
-        2,
+        1,
+        "\"one.raw\": no qcow2 image begins so\n1 fault was found.\n",
         "",
-        "imago-img: \"one.raw\": the image's data is invalid; imago-img check tells where\n",
     ),
 ];
 

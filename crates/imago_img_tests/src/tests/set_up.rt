@@ -105,9 +105,9 @@ type PartsRow = (&'static str, usize, &'static [(usize, &'static [u8])]);
 
 /// What the qcow2 images of the tests begin with: clusters of 512 bytes, and a disk of 2048. The L1
 /// table stands at 512, and names the L2 table at 1024.
-const VERSION_2: &[u8] = b"QFI\xfb\0\0\0\x02";
+pub const VERSION_2: &[u8] = b"QFI\xfb\0\0\0\x02";
 
-const VERSION_3: &[u8] = b"QFI\xfb\0\0\0\x03";
+pub const VERSION_3: &[u8] = b"QFI\xfb\0\0\0\x03";
 
 /// qcow2 images, and what they stand above or show. A name of a backing file stands at 200.
 static PARTS: [PartsRow; 14] = [
@@ -282,8 +282,8 @@ static PARTS: [PartsRow; 14] = [
     ),
 ];
 
-/// A host with the files, and with the words of a command line.
-fn set_up(alloc: Global, case: &Case) -> Result<(MemoryHost, Vec<String>), AllocError> {
+/// A host with the files.
+fn set_up(alloc: Global, case: &Case) -> Result<MemoryHost, AllocError> {
     let mut host = MemoryHost::new(alloc, case.appends, case.finishes);
     for (path, zeroes, bytes, nature) in &FILES {
         let mut whole = vec![in alloc; 0u8; *zeroes]?;
@@ -293,11 +293,16 @@ fn set_up(alloc: Global, case: &Case) -> Result<(MemoryHost, Vec<String>), Alloc
     for (path, length, parts) in &PARTS {
         host.add(path, &expected(alloc, *length, parts)?, Nature::Plain)?;
     }
+    Ok(host)
+}
+
+/// The words of a command line.
+fn words_of(alloc: Global, line: &str) -> Result<Vec<String>, AllocError> {
     let mut words = Vec::new(alloc);
-    for word in case.words.split(' ') {
+    for word in line.split(' ') {
         words.push(String::from_str(alloc, word)?)?;
     }
-    Ok((host, words))
+    Ok(words)
 }
 
 /// The bytes that a new file is to have.
@@ -327,15 +332,35 @@ fn check_case(rt: &impl Abort, alloc: Global, case: &Case) {
     let words = case.words;
     let made = set_up(alloc, case);
     assert!(rt; made.is_ok(), "{words}");
-    let Ok((mut host, list)) = made else { return };
+    let Ok(mut host) = made else { return };
     let before = host.count();
+    check_line(
+        rt,
+        alloc,
+        &mut host,
+        words,
+        (case.status, case.output, case.errors),
+    );
+    check_files(rt, alloc, &host, case, before);
+}
+
+/// Tries a command line on files: its status, what it prints, and what it tells as errors.
+pub fn check_line(
+    rt: &impl Abort,
+    alloc: Global,
+    host: &mut MemoryHost,
+    line: &str,
+    wanted: (u8, &str, &str),
+) {
+    let made = words_of(alloc, line);
+    assert!(rt; made.is_ok(), "{line}");
+    let Ok(list) = made else { return };
     let mut output = Vec::new(alloc);
     let mut errors = Vec::new(alloc);
-    let status = run(&mut host, &list, &mut output, &mut errors);
-    check_text(rt, words, &output, case.output);
-    check_text(rt, words, &errors, case.errors);
-    assert_eq!(rt; status, case.status, "{words}");
-    check_files(rt, alloc, &host, case, before);
+    let status = run(host, &list, &mut output, &mut errors);
+    check_text(rt, line, &output, wanted.1);
+    check_text(rt, line, &errors, wanted.2);
+    assert_eq!(rt; status, wanted.0, "{line}");
 }
 
 /// What is printed is that text.
