@@ -22,6 +22,7 @@ use Rattle.imago_loaded.proofs.Chain.{same_place, same_clusters}
 use Rattle.imago_img_parts.specs.declared.text.ImageFormat.{ImageFormat}
 use Rattle.imago_img_parts.specs.declared.text.ImageFormat.TheVariants.{Qcow2}
 use Rattle.imago_img_parts.specs.Files.{path_at, storages_by}
+use Rattle.imago_img_parts.specs.Formats.{SaysFormat, IsFormatBy, IsFormatBelow}
 use Rattle.imago_img_parts.specs.Layers.{layers_value, IsLayerOf, ShowsLayers, IsChainImage}
 
 -- a place of a layer, over what is below it
@@ -115,9 +116,10 @@ module _ {D St : Type 0} (view : D → View St) where
       (x y : FormatAccess D) (paths more : List (List ℕ))
       → paths ≡ path ∷ more → backing x ≡ Some y
       → IsLayerOf view allow files path format (driver x) (Some next)
+      → IsFormatBelow (files path) (files next) lower
       → ShowsLayers view allow files next lower y more
       → ShowsLayers view allow files path format x paths
-  over_shows allow files path next format lower x y paths more is some (place, layer, sized, same) (others, layers, are, chain, below_sized, on) =
+  over_shows allow files path next format lower x y paths more is some (place, layer, sized, same) said (others, layers, are, chain, below_sized, on) =
       let bytes = storages_by (path ∷ more) files in
       let rest : (q : ℕ) → target_value (λ k. bytes (suc k)) (below_of (backing x) q) ≡ layers_value layers q =
       (λ q. ap (λ (b : Option (FormatAccess D)). target_value (λ k. bytes (suc k)) (below_of b q)) some
@@ -126,7 +128,7 @@ module _ {D St : Type 0} (view : D → View St) where
         more,
         place ∷ layers,
         is,
-        (Some next, layer, (others, are, (lower, chain))),
+        (Some next, layer, (others, are, (lower, said, chain))),
         sized,
         subst (λ (ps : List (List ℕ)). (p : ℕ) → target_value (storages_by ps files) (target view x p) ≡ layers_value (place ∷ layers) p) (sym is) all,
       )
@@ -194,12 +196,14 @@ module _ {D St : Type 0} (view : D → View St) (allow : Bool) where
       (inner : D) (x y : FormatAccess D) (paths more : List (List ℕ))
       → paths ≡ path ∷ more → driver x ≡ inner → backing x ≡ Some y
       → IfSome known (λ files. IsLayerOf view allow files path format inner (Some next))
+      → (said : Option ImageFormat) → IfSome known (λ files. SaysFormat (files path) said)
+      → IfSome known (λ files. IsFormatBy said (files next) lower)
       → IfSome known (λ files. ShowsLayers view allow files next lower y more)
       → IfSome known (λ files. ShowsLayers view allow files path format x paths)
-  over_told None path next format lower inner x y paths more is own some h k = tt
-  over_told (Some files) path next format lower inner x y paths more is own some h k =
+  over_told None path next format lower inner x y paths more is own some h said f g k = tt
+  over_told (Some files) path next format lower inner x y paths more is own some h said f g k =
       over_shows view allow files path next format lower x y paths more is some
-      (subst (λ (d : D). IsLayerOf view allow files path format d (Some next)) (sym own) h) k
+      (subst (λ (d : D). IsLayerOf view allow files path format d (Some next)) (sym own) h) (said, f, g) k
 
   -- the plan of an image that shows layers has the bytes of their disk
   pub planned_told :
@@ -221,3 +225,24 @@ module _ {D St : Type 0} (view : D → View St) (allow : Bool) where
         same_listed (λ p. target_value bytes (target view x p)) (layers_value layers) size (view (driver x)).size len (λ p. sym (on p))
             ∙ law x pieces bytes covers,
       )
+
+-- what is said of the format of a file below, if there is one
+pub told_format :
+    (o : Option (List ℕ → List ℕ)) (path : List ℕ) (A : Type 0) (said : A → Option ImageFormat) (below : Option A) (b : A)
+    → below ≡ Some b → IfSome o (λ files. IfSome below (λ x. SaysFormat (files path) (said x)))
+    → IfSome o (λ files. SaysFormat (files path) (said b))
+told_format None path A said below b e h = tt
+told_format (Some files) path A said below b e h = subst (λ (z : Option A). IfSome z (λ x. SaysFormat (files path) (said x))) e h
+
+-- what holds of a layer with nothing below it
+pub told_alone :
+    {A B E : Type 0} (r : Result A E) (below : A → Option B) (known : Option (List ℕ → List ℕ))
+    (P : (List ℕ → List ℕ) → B → Type 0)
+    → IfOk r (λ x. below x ≡ None) → IfOk r (λ x. IfSome known (λ files. IfSome (below x) (P files)))
+told_alone (Ok x) below None P h = tt
+told_alone {A} {B} (Ok x) below (Some files) P h = subst (λ (o : Option B). IfSome o (P files)) (sym h) tt
+told_alone (Err e) below known P h = tt
+
+pub if_some : {A : Type 0} (o : Option A) (P Q : A → Type 0) → ((x : A) → P x → Q x) → IfSome o P → IfSome o Q
+if_some None P Q f h = tt
+if_some (Some x) P Q f h = f x h

@@ -3,3 +3,4 @@ mod Files
 mod Disks
 mod Layers
 mod NamesBelow
+mod FormatBelow

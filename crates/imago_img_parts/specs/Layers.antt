@@ -17,6 +17,7 @@ use Rattle.imago_img_parts.specs.declared.text.ImageFormat.{ImageFormat}
 use Rattle.imago_img_parts.specs.declared.text.ImageFormat.TheVariants.{Raw, Vmdk, Qcow2}
 use Rattle.imago_plan.specs.Names.{stays_below, path_beside}
 use Rattle.imago_img_parts.specs.Files.{storages_by}
+use Rattle.imago_img_parts.specs.Formats.{IsFormatBelow}
 
 -- the name of the file below it that a qcow2 file has, if it has one
 abbrev pub SaysBacking : List ℕ → Option (List ℕ) → Type 0
@@ -51,14 +52,16 @@ GoesOn (Some next) others below rest =
     (more : List (List ℕ)) × (others ≡ next ∷ more) × rest next more
 
 -- The layers of an image whose file has that path and that format, the top one first, and the paths
--- of the files below it. Each lower one has some format.
+-- of the files below it. Each lower one has the format that the file above it says, or else its own
+-- first bytes.
 abbrev pub AreLayers :
     Bool → (List ℕ → List ℕ) → List ℕ → ImageFormat → List (List ℕ) → List (ℕ → Place) → Type 0
 AreLayers allow files path format others [] = ⊥
 AreLayers allow files path format others (place ∷ below) =
     (next : Option (List ℕ)) × IsLayer allow files path format place next
     × GoesOn next others below
-    (λ p more. (lower : ImageFormat) × AreLayers allow files p lower more below)
+    (λ p more. (lower : ImageFormat) × IsFormatBelow (files path) (files p) lower
+    × AreLayers allow files p lower more below)
 
 -- what a read of each offset gives of the disk of layers, the top one first: below the last one all
 -- is zero

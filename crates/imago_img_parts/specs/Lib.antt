@@ -1,4 +1,5 @@
 pub mod Files
+pub mod Formats
 pub mod Layers
 pub mod Images
 pub mod Disks

@@ -4,6 +4,7 @@ ghost use Rattle.std.specs.Prelude.{IfOk, IfSome, None, Some};
 ghost use Rattle.std.specs.String.{string_bytes};
 ghost use Rattle.imago_access.specs.Chain.{driver as driver_of, backing};
 ghost use Rattle.imago_img_parts.specs.declared.text.ImageFormat.TheVariants as ImageFormat;
+ghost use Rattle.imago_img_parts.specs.Formats.{SaysFormat};
 ghost use Rattle.imago_img_parts.specs.Layers.{IsLayerOf, ShowsLayers, IsChainImage};
 
 use crate::backing::{Backing, backing_of};
@@ -88,7 +89,9 @@ fn layer_of<H: Host>(
     format: ImageFormat,
     how: Opening,
 ) -> Result<Layer, Failure>
-    ensures { IfOk result (λ layer. IfSome (H.contents host.now)
+    ensures format { IfOk result (λ layer. IfSome (H.contents host.now)
+        (λ files. IfSome layer.below (λ b. SaysFormat (files path.now) b.format))) }
+    ensures layer { IfOk result (λ layer. IfSome (H.contents host.now)
         (λ files. IsLayerOf ⟦<AnyDriver<LoadedFile> as FormatDriverInstance>⟧.view
         how.allow_outside files path.now format layer.driver
         (option_map (λ b. string_bytes b.path) layer.below))) }
@@ -103,7 +106,8 @@ fn layer_of<H: Host>(
 
 /// The layer of a raw file of that length.
 fn raw_layer(alloc: Global, path: &str, size: u64) -> Result<Layer, Failure>
-    ensures { IfOk result (λ layer. (allow : Bool) (files : List ℕ → List ℕ)
+    ensures alone { IfOk result (λ layer. layer.below ≡ None) }
+    ensures layer { IfOk result (λ layer. (allow : Bool) (files : List ℕ → List ℕ)
         → length (files path.now) ≡ size
         → IsLayerOf ⟦<AnyDriver<LoadedFile> as FormatDriverInstance>⟧.view
         allow files path.now ImageFormat.Raw layer.driver
@@ -121,7 +125,10 @@ fn raw_layer(alloc: Global, path: &str, size: u64) -> Result<Layer, Failure>
 
 /// The layer of a qcow2 file of that length.
 fn qcow2_layer<H: Host>(host: &H, path: &str, size: u64, how: Opening) -> Result<Layer, Failure>
-    ensures { IfOk result (λ layer. (files : List ℕ → List ℕ)
+    ensures format { IfOk result (λ layer. (files : List ℕ → List ℕ)
+        → H.contents host.now ≡ Some files → length (files path.now) ≡ size
+        → IfSome layer.below (λ b. SaysFormat (files path.now) b.format)) }
+    ensures layer { IfOk result (λ layer. (files : List ℕ → List ℕ)
         → H.contents host.now ≡ Some files → length (files path.now) ≡ size
         → IsLayerOf ⟦<AnyDriver<LoadedFile> as FormatDriverInstance>⟧.view
         how.allow_outside files path.now ImageFormat.Qcow2 layer.driver

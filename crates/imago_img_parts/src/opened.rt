@@ -9,20 +9,21 @@ ghost use Rattle.imago_access.specs.Chain.{driver};
 ghost use Rattle.imago_vmdk.specs.Image.{is_opened, takes_unknown_keys, descriptor_in, extents_in};
 ghost use Rattle.imago_vmdk.specs.Reading.{reading_of, size_of};
 ghost use Rattle.imago_img_parts.specs.declared.text.ImageFormat.TheVariants as ImageFormat;
+ghost use Rattle.imago_img_parts.specs.Formats.{IsFormatBy};
 ghost use Rattle.imago_img_parts.specs.Images.{flat_names, storage_paths as paths_of};
 ghost use Rattle.imago_img_parts.specs.Images.{ShowsDescribed, ShowsRaw, AreLetThrough, IsImageOf};
 
 use crate::chain::{Planned, planned_chain};
 use crate::extents::Folder;
 use crate::failure::{Failure, Reason};
-use imago_plan::gate::FolderGate;
 use crate::host::Host;
-use imago_plan::name::{path_beside, stays_below};
 use crate::text::{ImageFormat, descriptor_text, file_status, guessed_format};
 use imago_access::access::FormatAccess;
 use imago_drivers::builder::FormatDriverBuilder;
 use imago_drivers::raw::Raw;
+use imago_plan::gate::FolderGate;
 use imago_plan::laws::{plans_of_raw, plans_of_vmdk};
+use imago_plan::name::{path_beside, stays_below};
 use imago_plan::piece::Piece;
 use imago_plan::plan::plan;
 use imago_storage::error::Error;
@@ -81,7 +82,9 @@ pub fn storage_paths(
 /// The format of an image: the one that is said, or else told from its first bytes. Only where it
 /// is said to be raw is a sparse VMDK image taken as its bytes are.
 pub fn format_of<H: Host>(host: &H, path: &str, how: Opening) -> Result<ImageFormat, Failure>
-    ensures { IfOk result (λ format. IfSome how.format (λ said. format ≡ said)) }
+    ensures said { IfOk result (λ format. IfSome how.format (λ said. format ≡ said)) }
+    ensures known { IfOk result (λ format. IfSome (H.contents host.now)
+        (λ files. IsFormatBy how.format (files path.now) format)) }
 {
     match how.format {
         Some(ImageFormat::Raw) => Ok(ImageFormat::Raw),

@@ -3,6 +3,7 @@ ghost use Rattle.std.specs.Prelude.{◌≡◌, ◌≤◌, ℕ, List, Some, IfOk,
 ghost use Rattle.imago_qcow2.specs.Disk.{HaveSameTables};
 ghost use Rattle.imago_qcow2.specs.Qcow2Image.{storage_in};
 ghost use Rattle.imago_loaded.specs.Loaded.{loaded_bytes};
+ghost use Rattle.imago_loaded.specs.Tables.{HaveSameStart};
 
 use crate::failure::{Failure, Reason};
 use crate::host::Host;
@@ -69,9 +70,12 @@ fn not_loaded<H: Host>(host: &H, path: &str, count: u64, cause: LoadError) -> Fa
 
 /// A file of that length of which what the driver looks at is in memory.
 pub fn loaded_file<H: Host>(host: &H, path: &str, count: u64) -> Result<LoadedFile, Failure>
-    ensures { IfOk result (λ loaded. (files : List ℕ → List ℕ)
+    ensures tables { IfOk result (λ loaded. (files : List ℕ → List ℕ)
         → H.contents host.now ≡ Some files → length (files path.now) ≡ count
         → HaveSameTables (files path.now) (loaded_bytes loaded)) }
+    ensures start { IfOk result (λ loaded. (files : List ℕ → List ℕ)
+        → H.contents host.now ≡ Some files → length (files path.now) ≡ count
+        → HaveSameStart (files path.now) (loaded_bytes loaded)) }
 {
     let paths = storage_paths(host.alloc(), path, &[])?;
     let sources = FileSources::new(host, &paths);
@@ -88,9 +92,12 @@ pub fn loaded_file<H: Host>(host: &H, path: &str, count: u64) -> Result<LoadedFi
 
 /// The driver of a file of that length.
 pub fn qcow2_driver<H: Host>(host: &H, path: &str, count: u64) -> Result<Qcow2<LoadedFile>, Failure>
-    ensures { IfOk result (λ driver. (files : List ℕ → List ℕ)
+    ensures tables { IfOk result (λ driver. (files : List ℕ → List ℕ)
         → H.contents host.now ≡ Some files → length (files path.now) ≡ count
         → HaveSameTables (files path.now) (loaded_bytes (storage_in driver))) }
+    ensures start { IfOk result (λ driver. (files : List ℕ → List ℕ)
+        → H.contents host.now ≡ Some files → length (files path.now) ≡ count
+        → HaveSameStart (files path.now) (loaded_bytes (storage_in driver))) }
 {
     let loaded = loaded_file(host, path, count)?;
     let alloc = host.alloc();

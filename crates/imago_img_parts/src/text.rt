@@ -1,6 +1,7 @@
 //! What an image file begins with, and the text of a descriptor.
-ghost use Rattle.std.specs.Prelude.{◌≡◌, length, IfOk, IfSome, OnOk};
+ghost use Rattle.std.specs.Prelude.{◌≡◌, length, Some, IfOk, IfSome, OnOk};
 ghost use Rattle.imago_plan.specs.PieceBytes.{bytes_at};
+ghost use Rattle.imago_img_parts.specs.Formats.{format_by_start, guessed};
 
 use crate::failure::{Failure, Reason};
 use crate::host::{FileKind, FileStatus, Host};
@@ -18,6 +19,21 @@ pub enum ImageFormat {
 }
 
 impl ImageFormat {
+    ghost use Rattle.imago_img_parts.specs.Formats.{format_named};
+
+    /// The format of that name, if one has it.
+    #[tactic(auto, unfolding(crate::specs::Formats::format_named))]
+    pub fn named(name: &str) -> Option<ImageFormat>
+        ensures { result ≡ format_named name.now }
+    {
+        match name {
+            "raw" => Some(ImageFormat::Raw),
+            "vmdk" => Some(ImageFormat::Vmdk),
+            "qcow2" => Some(ImageFormat::Qcow2),
+            _ => None,
+        }
+    }
+
     /// The name by which the command line and the output know it.
     pub fn name(self) -> &'static str {
         match self {
@@ -53,21 +69,35 @@ pub fn file_status<H: Host>(host: &H, path: &str) -> Result<FileStatus, Failure>
 }
 
 /// The format of an image by the bytes that its file begins with: a VMDK image begins with a
-/// descriptor, a qcow2 image with its magic number. A sparse VMDK image is refused, however long it
-/// is.
-pub fn guessed_format<H: Host>(host: &H, path: &str) -> Result<ImageFormat, Failure> {
-    let mut head = [0u8; 21];
-    read_start(host, path, &mut head)?;
+/// descriptor, a qcow2 image with its magic number. A sparse VMDK image has none.
+#[tactic(auto, unfolding(crate::specs::Formats::format_by_start))]
+fn guess(head: &[u8; 21]) -> Option<ImageFormat>
+    ensures { result ≡ format_by_start head.now }
+{
     if head.starts_with(SPARSE) {
-        return Err(Failure::of_file(host.alloc(), path, Reason::Sparse));
+        return None;
     }
     if head.starts_with(SIGNATURE) {
-        return Ok(ImageFormat::Vmdk);
+        return Some(ImageFormat::Vmdk);
     }
     if head.starts_with(QCOW2) {
-        return Ok(ImageFormat::Qcow2);
+        return Some(ImageFormat::Qcow2);
     }
-    Ok(ImageFormat::Raw)
+    Some(ImageFormat::Raw)
+}
+
+/// The format of an image by the bytes that its file begins with. A sparse VMDK image is refused,
+/// however long it is.
+pub fn guessed_format<H: Host>(host: &H, path: &str) -> Result<ImageFormat, Failure>
+    ensures { IfOk result (λ format. IfSome (H.contents host.now)
+        (λ files. guessed (files path.now) ≡ Some format)) }
+{
+    let mut head = [0u8; 21];
+    read_start(host, path, &mut head)?;
+    match guess(&head) {
+        Some(format) => Ok(format),
+        None => Err(Failure::of_file(host.alloc(), path, Reason::Sparse)),
+    }
 }
 
 /// Fills the buffer with the first bytes of a file, and with 0 past its end.

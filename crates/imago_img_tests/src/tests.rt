@@ -1,5 +1,6 @@
 //! Command lines over files in memory: what each prints, its status, and the file that it makes.
 
+mod below;
 mod chains;
 mod commands;
 mod headers;

@@ -2,7 +2,7 @@
 ghost use Rattle.std.specs.Prelude.{◌≡◌, ℕ, ◌/◌, ◌^◌, ◌<◌, ◌≤◌, List, length, Some, OnOk, IfOk};
 ghost use Rattle.imago_qcow2.specs.Disk.{HaveSameTables};
 ghost use Rattle.imago_loaded.specs.Loaded.{AreThere, HasBytesOf, Keeps, loaded_bytes};
-ghost use Rattle.imago_loaded.specs.Tables.{AreLoaded};
+ghost use Rattle.imago_loaded.specs.Tables.{AreLoaded, HaveSameStart};
 
 use crate::loaded::{LoadError, LoadedFile, read_part};
 use imago_plan::copy::Sources;
@@ -34,10 +34,14 @@ pub fn load_tables<S: Sources>(
     file: Location,
     size: u64,
 ) -> Result<LoadedFile, LoadError>
-    ensures { IfOk result (λ loaded. (bytes : ℕ → ℕ → List ℕ)
+    ensures tables { IfOk result (λ loaded. (bytes : ℕ → ℕ → List ℕ)
         → S.contents sources.now ≡ Some bytes
         → length (bytes file.layer file.storage) ≡ size
         → HaveSameTables (bytes file.layer file.storage) (loaded_bytes loaded)) }
+    ensures start { IfOk result (λ loaded. (bytes : ℕ → ℕ → List ℕ)
+        → S.contents sources.now ≡ Some bytes
+        → length (bytes file.layer file.storage) ≡ size
+        → HaveSameStart (bytes file.layer file.storage) (loaded_bytes loaded)) }
 {
     let head = read_part(alloc, sources, file, 0, HEADER)?;
     let l1 = l1_table(&head, size)?;

@@ -101,7 +101,7 @@ static FILES: [FileRow; 22] = [
 ];
 
 /// A file that is zero but for some parts: how long it is, and where these stand.
-type PartsRow = (&'static str, usize, &'static [(usize, &'static [u8])]);
+pub type PartsRow = (&'static str, usize, &'static [(usize, &'static [u8])]);
 
 /// What the qcow2 images of the tests begin with: clusters of 512 bytes, and a disk of 2048. The L1
 /// table stands at 512, and names the L2 table at 1024.
@@ -282,15 +282,15 @@ static PARTS: [PartsRow; 14] = [
     ),
 ];
 
-/// A host with the files.
-fn set_up(alloc: Global, case: &Case) -> Result<MemoryHost, AllocError> {
+/// A host with the files and some more.
+fn set_up(alloc: Global, case: &Case, more: &[PartsRow]) -> Result<MemoryHost, AllocError> {
     let mut host = MemoryHost::new(alloc, case.appends, case.finishes);
     for (path, zeroes, bytes, nature) in &FILES {
         let mut whole = vec![in alloc; 0u8; *zeroes]?;
         whole.extend_from_slice(bytes)?;
         host.add(path, &whole, *nature)?;
     }
-    for (path, length, parts) in &PARTS {
+    for (path, length, parts) in PARTS.iter().chain(more) {
         host.add(path, &expected(alloc, *length, parts)?, Nature::Plain)?;
     }
     Ok(host)
@@ -322,15 +322,20 @@ pub fn expected(
 
 /// Tries command lines, each on the files as they are at first.
 pub fn check_cases(rt: &impl Abort, alloc: Global, cases: &[Case]) {
+    check_cases_over(rt, alloc, &[], cases);
+}
+
+/// The same, where there are some more files.
+pub fn check_cases_over(rt: &impl Abort, alloc: Global, more: &[PartsRow], cases: &[Case]) {
     for case in cases {
-        check_case(rt, alloc, case);
+        check_case(rt, alloc, more, case);
     }
 }
 
 /// Tries a command line.
-fn check_case(rt: &impl Abort, alloc: Global, case: &Case) {
+fn check_case(rt: &impl Abort, alloc: Global, more: &[PartsRow], case: &Case) {
     let words = case.words;
-    let made = set_up(alloc, case);
+    let made = set_up(alloc, case, more);
     assert!(rt; made.is_ok(), "{words}");
     let Ok(mut host) = made else { return };
     let before = host.count();

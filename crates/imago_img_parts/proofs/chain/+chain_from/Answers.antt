@@ -5,8 +5,9 @@ use Rattle.imago_loaded.specs.Features.{loaded_features}
 use Rattle.imago_loaded.specs.Loaded.{loaded_bytes}
 use Rattle.imago_loaded.specs.declared.loaded.LoadedFile.{LoadedFile}
 use Rattle.imago_img_parts.specs.declared.backing.Backing.{Backing}
+use Rattle.imago_img_parts.specs.Formats.{IsFormatBy}
 use Rattle.imago_img_parts.specs.Layers.{IsLayerOf, ShowsLayers}
-use Rattle.imago_img_parts.proofs.Layers.{alone_told, over_told}
+use Rattle.imago_img_parts.proofs.Layers.{alone_told, over_told, told_format}
 use Rattle.imago_img_parts.proofs.chain.+chain_from.Goals as goal
 
 pub returns-in_default : goal.returns-in_default
@@ -23,7 +24,7 @@ returns-in_default g t c =
     c.args.how.allow_outside known c.args.path.now c.args.format layer.driver chain.image
     (map string_bytes chain.paths.items) c.in_ok-alone.ensures.paths
     c.in_ok-alone.ensures.driver c.in_ok-alone.ensures.below
-    (subst says c.in_default.is c.in_ok-driver.ensures)
+    (subst says c.in_default.is c.in_ok-driver.ensures.layer)
 
 pub returns : goal.returns
 returns g t c =
@@ -39,11 +40,15 @@ returns g t c =
     (view_over (λ (s : LoadedFile). loaded_features) (λ (s : LoadedFile). 0) loaded_bytes)
     c.args.how.allow_outside files next c.in_ok-format.format below.image
     (map string_bytes below.paths.items)) in
+    let by_format : List ℕ → Type 0 = λ next. IfSome known (λ files. IsFormatBy c.in-Some.next.format (files next) c.in_ok-format.format) in
     over_told
     (view_over (λ (s : LoadedFile). loaded_features) (λ (s : LoadedFile). 0) loaded_bytes)
     c.args.how.allow_outside known c.args.path.now (string_bytes c.in-Some.next.path)
     c.args.format c.in_ok-format.format layer.driver chain.image below.image
     (map string_bytes chain.paths.items) (map string_bytes below.paths.items)
     c.in_ok-over.ensures.paths c.in_ok-over.ensures.driver c.in_ok-over.ensures.below
-    (subst says c.in-Some.is c.in_ok-driver.ensures)
+    (subst says c.in-Some.is c.in_ok-driver.ensures.layer)
+    c.in-Some.next.format
+    (told_format known c.args.path.now Backing (λ b. b.format) layer.below c.in-Some.next c.in-Some.is c.in_ok-driver.ensures.format)
+    (subst by_format c.deref.ensures c.in_ok-format.ensures.known)
     (subst shows c.deref-2.ensures c.in_ok-below.ensures)

@@ -1,18 +1,28 @@
 use Rattle.std.proofs.Common.{refl, subst, ◌≤◌}
 use Rattle.imago_qcow2.specs.Entry.{qcow2_place}
 use Rattle.imago_loaded.proofs.LoadedSteps.{known_is}
-use Rattle.imago_img_parts.proofs.Layers.{qcow2_same, qcow2_sized}
+use Rattle.imago_img_parts.proofs.Layers.{qcow2_same, qcow2_sized, if_some}
+use Rattle.imago_img_parts.proofs.FormatBelow.{format_by_file}
 use Rattle.imago_img_parts.proofs.chain.qcow2_layer.Goals as goal
 
-pub returns : goal.returns
-returns g c = λ files known len.
+pub returns-clause-layer : goal.returns-clause-layer
+returns-clause-layer g c = λ files known len.
     let file = files c.args.path.now in
     let driver = c.in_ok-driver.driver in
-    let same = c.in_ok-driver.ensures files known len in
-    let below = known_is (g.H.Host.contents c.args.host.now) _ files known c.in_ok-below.ensures in (
+    let same = c.in_ok-driver.ensures.tables files known len in
+    let below = known_is (g.H.Host.contents c.args.host.now) _ files known c.in_ok-below.ensures.path in (
       qcow2_place file,
       (refl, below),
       qcow2_sized file _ same,
       qcow2_same file _ same (subst (λ n. 512 ≤ n) driver.cluster_is driver.least)
           c.same_tables_stand_alike.ensures.places,
     )
+
+pub returns-clause-format : goal.returns-clause-format
+returns-clause-format g c = λ files known len.
+    let driver = c.in_ok-driver.driver in
+    if_some c.in_ok-below.below _ _
+    (λ b. format_by_file (files c.args.path.now) _ (c.in_ok-driver.ensures.tables files known len)
+    (c.in_ok-driver.ensures.start files known len) (subst (λ n. 512 ≤ n) driver.cluster_is driver.least)
+    b.format)
+    c.in_ok-below.ensures.format

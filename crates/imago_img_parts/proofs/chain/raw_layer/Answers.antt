@@ -4,8 +4,8 @@ use Rattle.imago_loaded.proofs.LoadedSteps.{loaded_length}
 use Rattle.imago_img_parts.proofs.Layers.{raw_placed}
 use Rattle.imago_img_parts.proofs.chain.raw_layer.Goals as goal
 
-pub returns-in-Ok : goal.returns-in-Ok
-returns-in-Ok c = λ allow files len.
+pub returns-in-Ok-clause-layer : goal.returns-in-Ok-clause-layer
+returns-in-Ok-clause-layer c = λ allow files len.
     let file = files c.args.path.now in
     let raw = c.in-Ok.raw in
     let sized : raw.size ≡ c.args.size =

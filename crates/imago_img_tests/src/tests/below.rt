@@ -1,0 +1,190 @@
+//! What stands below a qcow2 image: of which format it is taken, and whether there is anything.
+
+use super::set_up::{Case, PartsRow, VERSION_2, VERSION_3, check_cases_over};
+use std::alloc::Global;
+use std::process::Abort;
+
+/// A command line that makes no file, its status, its output, and what it tells as an error.
+type Row = (&'static str, u8, &'static str, &'static str);
+
+/// qcow2 images whose disk of 2048 bytes is what is below, and files for below. A name of a backing
+/// file stands at 200, the header extension with its format at 104.
+static PARTS: [PartsRow; 8] = [
+    // A raw file that begins as a qcow2 image does, and one that begins as a sparse VMDK image.
+    ("begun.raw", 512, &[(0, b"QFI\xfb")]),
+    ("sparse.raw", 512, &[(0, b"KDMV")]),
+    (
+        "says_raw.qcow2",
+        1024,
+        &[
+            (0, VERSION_3),
+            (15, b"\xc8\0\0\0\x09"),
+            (23, b"\x09"),
+            (30, b"\x08"),
+            (39, b"\x01"),
+            (46, b"\x02"),
+            (99, b"\x04\0\0\0\x68"),
+            (104, b"\xe2\x79\x2a\xca\0\0\0\x03raw"),
+            (200, b"begun.raw"),
+        ],
+    ),
+    (
+        "says_raw_of_sparse.qcow2",
+        1024,
+        &[
+            (0, VERSION_3),
+            (15, b"\xc8\0\0\0\x0a"),
+            (23, b"\x09"),
+            (30, b"\x08"),
+            (39, b"\x01"),
+            (46, b"\x02"),
+            (99, b"\x04\0\0\0\x68"),
+            (104, b"\xe2\x79\x2a\xca\0\0\0\x03raw"),
+            (200, b"sparse.raw"),
+        ],
+    ),
+    (
+        "says_qcow2.qcow2",
+        1024,
+        &[
+            (0, VERSION_3),
+            (15, b"\xc8\0\0\0\x09"),
+            (23, b"\x09"),
+            (30, b"\x08"),
+            (39, b"\x01"),
+            (46, b"\x02"),
+            (99, b"\x04\0\0\0\x68"),
+            (104, b"\xe2\x79\x2a\xca\0\0\0\x05qcow2"),
+            (200, b"plain.raw"),
+        ],
+    ),
+    (
+        "says_none.qcow2",
+        1024,
+        &[
+            (0, VERSION_2),
+            (15, b"\xc8\0\0\0\x09"),
+            (23, b"\x09"),
+            (30, b"\x08"),
+            (39, b"\x01"),
+            (46, b"\x02"),
+            (200, b"one.qcow2"),
+        ],
+    ),
+    (
+        "says_none_of_raw.qcow2",
+        1024,
+        &[
+            (0, VERSION_2),
+            (15, b"\xc8\0\0\0\x09"),
+            (23, b"\x09"),
+            (30, b"\x08"),
+            (39, b"\x01"),
+            (46, b"\x02"),
+            (200, b"plain.raw"),
+        ],
+    ),
+    (
+        "says_none_of_sparse.qcow2",
+        1024,
+        &[
+            (0, VERSION_2),
+            (15, b"\xc8\0\0\0\x0a"),
+            (23, b"\x09"),
+            (30, b"\x08"),
+            (39, b"\x01"),
+            (46, b"\x02"),
+            (200, b"sparse.raw"),
+        ],
+    ),
+];
+
+/// The format of a file below: that of the name that the header has, or else what the file begins
+/// with, whatever the command line says of the first one.
+static FORMATS: [Row; 8] = [
+    (
+        "map says_raw.qcow2",
+        0,
+        "start                length               kind offset               file\n\
+        0                    4                    data 0                    begun.raw\n\
+        4                    508                  zero 4                    begun.raw\n\
+        512                  1536                 zero\n",
+        "",
+    ),
+    (
+        "map says_raw_of_sparse.qcow2",
+        0,
+        "start                length               kind offset               file\n\
+        0                    4                    data 0                    sparse.raw\n\
+        4                    508                  zero 4                    sparse.raw\n\
+        512                  1536                 zero\n",
+        "",
+    ),
+    (
+        "map says_qcow2.qcow2",
+        1,
+        "",
+        "imago-img: \"plain.raw\": the image's data is invalid; imago-img check tells where\n",
+    ),
+    (
+        "compare says_none.qcow2 one.raw",
+        0,
+        "Images are identical.\n",
+        "",
+    ),
+    (
+        "map says_none_of_raw.qcow2",
+        0,
+        "start                length               kind offset               file\n\
+        0                    2                    zero 0                    plain.raw\n\
+        2                    5                    data 2                    plain.raw\n\
+        7                    2041                 zero\n",
+        "",
+    ),
+    (
+        "map -f qcow2 says_none_of_raw.qcow2",
+        0,
+        "start                length               kind offset               file\n\
+        0                    2                    zero 0                    plain.raw\n\
+        2                    5                    data 2                    plain.raw\n\
+        7                    2041                 zero\n",
+        "",
+    ),
+    (
+        "map says_none_of_sparse.qcow2",
+        1,
+        "",
+        "imago-img: \"sparse.raw\": a sparse VMDK image, which isn't supported; -f raw takes its bytes as they are\n",
+    ),
+    (
+        "compare -f qcow2 says_none_of_raw.qcow2 says_raw.qcow2",
+        1,
+        "Content mismatch at offset 0!\n",
+        "",
+    ),
+];
+
+/// Tries command lines that make no file.
+fn check_rows(rt: &impl Abort, alloc: Global, rows: &[Row]) {
+    for (words, status, output, errors) in rows {
+        check_cases_over(
+            rt,
+            alloc,
+            &PARTS,
+            &[Case {
+                words,
+                appends: 99,
+                finishes: true,
+                status: *status,
+                output,
+                errors,
+                written: None,
+            }],
+        );
+    }
+}
+
+#[test]
+fn a_file_below_has_the_format_that_is_said(rt: HostRuntime) {
+    check_rows(&rt, rt.alloc(), &FORMATS);
+}
