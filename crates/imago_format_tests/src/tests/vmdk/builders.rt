@@ -236,8 +236,8 @@ fn set<S: Storage, B: FormatDriverBuilder<S>>(
     Ok(builder)
 }
 
-/// The builder of a case, which is told whether it accepts keys that aren't known. A storage that is
-/// handed in has a name.
+/// The builder of a case, which is told whether it accepts keys that aren't known. A storage that
+/// is handed in has a name.
 fn builder(alloc: Global, case: &Case) -> Result<VmdkOpenBuilder<MemStorage>, Error> {
     let builder = if case.at_path {
         VmdkOpenBuilder::new_path(name(alloc, "d")?)
@@ -259,8 +259,8 @@ fn printed<D: FormatDriverInstance>(alloc: Global, image: &D) -> Result<String, 
     }
 }
 
-/// The size of the disk that a builder with the settings of a case opens. One whose descriptor has a
-/// name is printed with it.
+/// The size of the disk that a builder with the settings of a case opens. One whose descriptor has
+/// a name is printed with it.
 fn size_by<S: Storage, B: FormatDriverBuilder<S>, G: ImplicitOpenGate<S>>(
     rt: &impl Abort,
     alloc: Global,
