@@ -13,7 +13,7 @@ use std::alloc::Global;
 use std::process::Abort;
 
 /// Which value a call is made on.
-#[derive(Clone, Copy, Debug, PartialEq, Eq)]
+#[derive(Clone, Copy, PartialEq, Eq)]
 pub(super) enum Level {
     Image,
     /// The image's driver. It is lent a layer with the bytes of the one below.
@@ -23,7 +23,7 @@ pub(super) enum Level {
 /// A write in steps: a range is prepared, bytes that differ are written from the `at`-th of the
 /// mapping on, as many as fit, and the mapping is committed or cancelled. Where the write is
 /// refused it is cancelled.
-#[derive(Clone, Copy, Debug, PartialEq, Eq)]
+#[derive(Clone, Copy)]
 pub(super) struct InSteps {
     pub(super) offset: u64,
     pub(super) count: u64,
@@ -35,7 +35,7 @@ pub(super) struct InSteps {
 }
 
 /// A changing call. Offsets and lengths are in bytes.
-#[derive(Clone, Copy, Debug, PartialEq, Eq)]
+#[derive(Clone, Copy)]
 pub(super) enum Call {
     /// Writes so many bytes that differ, the first of them that one. A driver maps the first part
     /// of the range, and writes there.
@@ -70,7 +70,7 @@ pub(super) enum Answer {
 pub(super) type Step = (Level, Call);
 
 /// What a guest block is.
-#[derive(Clone, Copy, Debug, PartialEq, Eq, Drop)]
+#[derive(Clone, Copy, PartialEq, Eq, Drop)]
 pub(super) enum Kind {
     Absent,
     Zero,
@@ -135,6 +135,35 @@ fn fitting(steps: InSteps, length: u64) -> u64 {
     steps.written.0.min(length.saturating_sub(steps.at))
 }
 
+/// Writes bytes into a mapping, as many as fit.
+fn write_inside<D: FormatDriverInstance>(
+    rt: &impl Abort,
+    alloc: Global,
+    image: &mut FormatAccess<D>,
+    mapping: &PreparedDataMapping<D::State>,
+    steps: InSteps,
+) -> Result<(), Error> {
+    let bytes = numbers(rt, alloc, fitting(steps, mapping.length()), steps.written.1);
+    let count = bytes.len() as u64;
+    assert!(rt; count <= mapping.length() && steps.at <= mapping.length() - count);
+    image.write_prepared(alloc, mapping, &bytes, steps.at)
+}
+
+/// Commits a mapping, or cancels it.
+fn spend<D: FormatDriverInstance>(
+    rt: &impl Abort,
+    image: &mut FormatAccess<D>,
+    mapping: PreparedDataMapping<D::State>,
+    commits: bool,
+) {
+    if commits {
+        assert_eq!(rt; image.commit_data_mapping(mapping), Ok(()));
+    } else {
+        image.cancel_data_mapping(mapping);
+    }
+    assert!(rt; is_spent(&*image));
+}
+
 /// Makes a write in steps on an image.
 fn write_in_steps<D: FormatDriverInstance>(
     rt: &impl Abort,
@@ -146,16 +175,8 @@ fn write_in_steps<D: FormatDriverInstance>(
     let mapping = image.prepare_data_mapping(alloc, steps.offset, steps.count, steps.overwrite)?;
     let told = (mapping.length(), !mapping.is_nonblocking());
     assert_eq!(rt; is_spent(&*image), !told.1);
-    let bytes = numbers(rt, alloc, fitting(steps, told.0), steps.written.1);
-    let count = bytes.len() as u64;
-    assert!(rt; count <= mapping.length() && steps.at <= mapping.length() - count);
-    let written = image.write_prepared(alloc, &mapping, &bytes, steps.at);
-    if written.is_ok() && steps.commits {
-        assert_eq!(rt; image.commit_data_mapping(mapping), Ok(()));
-    } else {
-        image.cancel_data_mapping(mapping);
-    }
-    assert!(rt; is_spent(&*image));
+    let written = write_inside(rt, alloc, image, &mapping, steps);
+    spend(rt, image, mapping, written.is_ok() && steps.commits);
     written?;
     Ok(told)
 }

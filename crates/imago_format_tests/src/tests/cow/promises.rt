@@ -1,19 +1,39 @@
 //! What a copy-on-write disk does with its data blocks, which mappings it refuses, and the sizes
 //! that it can have.
-use super::call::{Answer, Call, Level, is_spent};
+use super::call::{Answer, Call, Level, contents, is_spent, make};
 use super::set_up::{byte_at, equal, numbers, printed};
-use super::subject::{Fault, Image, PLAIN, above, contents_of, created, lent, make_on, storage_of};
+use super::subject::{Fault, Image, PLAIN, above, created};
 use imago_access::access::FormatAccess;
 use imago_access::run;
 use imago_access::run::Reply;
-use imago_cow::cow::CowState;
+use imago_cow::cow::{Cow, CowState};
 use imago_drivers::drivers::{FormatDriverInstance, PreparedDataMapping};
 use imago_storage::error::Error;
-use imago_test_storages::faulty::Tear;
+use imago_test_storages::faulty::{Faulty, Tear};
 use std::alloc::Global;
 use std::process::Abort;
 
 type Mapping = PreparedDataMapping<CowState>;
+
+/// What a disk in guest blocks tells besides. What is done with one is generic, and its type is
+/// named once, so that the proofs stay short.
+trait Blocks {
+    /// The length of a guest block.
+    fn block(&self) -> u64;
+
+    /// How many guest blocks are in data blocks.
+    fn used(&self) -> u64;
+}
+
+impl Blocks for Cow<Faulty> {
+    fn block(&self) -> u64 {
+        self.block_size()
+    }
+
+    fn used(&self) -> u64 {
+        self.blocks_used()
+    }
+}
 
 const FOREIGN: Result<(), Error> = Err(Error::ForeignMapping);
 
@@ -22,57 +42,150 @@ fn alone(rt: &impl Abort, alloc: Global, size: u64, block: u64, fault: Fault) ->
     FormatAccess::new(created(rt, alloc, (size, block), PLAIN, fault))
 }
 
-/// Prepares a range. What is refused for memory is made again.
-fn prepared(
+/// Prepares a range once.
+fn prepare<D: FormatDriverInstance>(
     rt: &impl Abort,
     alloc: Global,
-    image: &mut Image,
+    image: &mut FormatAccess<D>,
     (offset, count): (u64, u64),
     overwrite: bool,
-) -> Result<Mapping, Error> {
-    for _ in 0..2 {
-        assert!(rt; is_spent(&*image));
-        match image.prepare_data_mapping(alloc, offset, count, overwrite) {
-            Ok(mapping) => return Ok(mapping),
-            Err(Error::Memory) => {}
-            Err(refusal) => return Err(refusal),
-        }
-    }
-    Err(Error::Memory)
+) -> Result<PreparedDataMapping<D::State>, Error> {
+    assert!(rt; is_spent(&*image));
+    image.prepare_data_mapping(alloc, offset, count, overwrite)
 }
 
-/// Writes equal bytes over all of a mapping.
-fn write_to(
+/// Prepares a range. What is refused for memory is made again.
+fn prepared<D: FormatDriverInstance>(
     rt: &impl Abort,
     alloc: Global,
-    image: &mut Image,
-    mapping: &Mapping,
-) -> Result<(), Error> {
-    let bytes = equal(rt, alloc, mapping.length(), 0xee);
-    assert!(rt; bytes.len() as u64 <= mapping.length());
-    match image.write_prepared(alloc, mapping, &bytes, 0) {
-        Err(Error::Memory) => image.write_prepared(alloc, mapping, &bytes, 0),
+    image: &mut FormatAccess<D>,
+    range: (u64, u64),
+    overwrite: bool,
+) -> Result<PreparedDataMapping<D::State>, Error> {
+    match prepare(rt, alloc, image, range, overwrite) {
+        Err(Error::Memory) => prepare(rt, alloc, image, range, overwrite),
         other => other,
     }
 }
 
-fn commit(image: &mut Image, mapping: Mapping) -> Result<(), Error> {
+/// Writes bytes over all of a mapping once.
+fn write_once<D: FormatDriverInstance>(
+    rt: &impl Abort,
+    alloc: Global,
+    image: &mut FormatAccess<D>,
+    mapping: &PreparedDataMapping<D::State>,
+    bytes: &[u8],
+) -> Result<(), Error> {
+    assert!(rt; bytes.len() as u64 <= mapping.length());
+    image.write_prepared(alloc, mapping, bytes, 0)
+}
+
+/// Writes equal bytes over all of a mapping.
+fn write_to<D: FormatDriverInstance>(
+    rt: &impl Abort,
+    alloc: Global,
+    image: &mut FormatAccess<D>,
+    mapping: &PreparedDataMapping<D::State>,
+) -> Result<(), Error> {
+    let bytes = equal(rt, alloc, mapping.length(), 0xee);
+    match write_once(rt, alloc, image, mapping, &bytes) {
+        Err(Error::Memory) => write_once(rt, alloc, image, mapping, &bytes),
+        other => other,
+    }
+}
+
+fn commit<D: FormatDriverInstance>(
+    image: &mut FormatAccess<D>,
+    mapping: PreparedDataMapping<D::State>,
+) -> Result<(), Error> {
     image.commit_data_mapping(mapping)
 }
 
-fn cancel(image: &mut Image, mapping: Mapping) {
+fn cancel<D: FormatDriverInstance>(
+    image: &mut FormatAccess<D>,
+    mapping: PreparedDataMapping<D::State>,
+) {
     image.cancel_data_mapping(mapping);
 }
 
 /// Makes a call of an image that succeeds.
-fn on(rt: &impl Abort, alloc: Global, image: &mut Image, call: Call) {
-    let lent = lent(rt, alloc, false);
+fn on<D: FormatDriverInstance>(
+    rt: &impl Abort,
+    alloc: Global,
+    image: &mut FormatAccess<D>,
+    call: Call,
+) {
     let step = (Level::Image, call);
-    let mut answer = make_on(rt, alloc, image, &lent, step);
+    let mut answer = make(rt, alloc, image, &(), step);
     if answer == Answer::Refused(Error::Memory) {
-        answer = make_on(rt, alloc, image, &lent, step);
+        answer = make(rt, alloc, image, &(), step);
     }
     assert_eq!(rt; answer, Answer::Done);
+}
+
+/// The bytes of an image.
+fn shown<D: FormatDriverInstance>(
+    rt: &impl Abort,
+    alloc: Global,
+    image: &FormatAccess<D>,
+) -> Vec<u8> {
+    contents(rt, alloc, image)
+}
+
+/// The storage of a disk.
+fn storage_of<'a, D: FormatDriverInstance<Storage = Faulty>>(
+    rt: &impl Abort,
+    image: &'a FormatAccess<D>,
+) -> &'a Faulty {
+    image.inner().storage(0).expect(rt, "a storage")
+}
+
+/// How many guest blocks are in data blocks.
+fn used<D: FormatDriverInstance + Blocks>(image: &FormatAccess<D>) -> u64 {
+    image.inner().used()
+}
+
+/// What is made on a disk and looked at.
+#[derive(Clone, Copy)]
+enum Promise {
+    /// A data block is added only where none is free.
+    Blocks,
+    /// A mapping that doesn't wait is refused by name.
+    Strangers,
+    /// So is a cancelled one.
+    Cancelled,
+    /// A new disk has that size, block and count of blocks.
+    Created((u64, u64, u64)),
+    /// Zeroes of a whole guest block use no data.
+    Zeroed(&'static Zeroed),
+    /// All bytes are made the same.
+    Filled,
+    /// A list prepares and cancels.
+    List,
+}
+
+/// Makes that on a disk. There is another one, in guest blocks of 16.
+fn keep<D: FormatDriverInstance<Storage = Faulty, State = CowState> + Blocks>(
+    rt: &impl Abort,
+    alloc: Global,
+    (image, other): (&mut FormatAccess<D>, &mut FormatAccess<D>),
+    promise: Promise,
+) {
+    match promise {
+        Promise::Blocks => act_on_each(rt, alloc, image, &ROWS),
+        Promise::Strangers => refuse_strangers(rt, alloc, image, other),
+        Promise::Cancelled => refuse_cancelled(rt, alloc, image),
+        Promise::Created(row) => is_created(rt, alloc, image, row),
+        Promise::Zeroed(row) => are_zeroed(rt, alloc, image, row),
+        Promise::Filled => fill(rt, alloc, image),
+        Promise::List => cancel_by_a_list(rt, alloc, image),
+    }
+}
+
+/// The same of copy-on-write disks, whose type is named here alone.
+fn check(rt: &impl Abort, alloc: Global, image: &mut Image, promise: Promise) {
+    let mut other = alone(rt, alloc, 64, 16, Fault::Never);
+    keep(rt, alloc, (image, &mut other), promise);
 }
 
 /// What is done with a range of a disk.
@@ -106,48 +219,64 @@ static ROWS: [Row; 9] = [
 ];
 
 /// Prepares a range at that offset of the storage.
-fn prepared_at(
+fn prepared_at<D: FormatDriverInstance>(
     rt: &impl Abort,
     alloc: Global,
-    image: &mut Image,
+    image: &mut FormatAccess<D>,
     range: (u64, u64),
     overwrite: bool,
     at: u64,
-) -> Mapping {
+) -> PreparedDataMapping<D::State> {
     let mapping = prepared(rt, alloc, image, range, overwrite).expect(rt, "a mapping");
     assert_eq!(rt; (mapping.offset(), mapping.length()), (at, range.1));
     mapping
 }
 
+/// Does that with a range, which is prepared at that offset of the storage.
+fn act_on<D: FormatDriverInstance>(
+    rt: &impl Abort,
+    alloc: Global,
+    image: &mut FormatAccess<D>,
+    (range, act): ((u64, u64), Act),
+    at: u64,
+) {
+    match act {
+        Act::Refuse => match prepared(rt, alloc, image, range, false) {
+            Ok(mapping) => {
+                cancel(image, mapping);
+                assert!(rt; false, "prepared in spite of a fault");
+            }
+            Err(refusal) => assert_eq!(rt; refusal, Error::Device),
+        },
+        Act::Cancel(overwrite) => {
+            let mapping = prepared_at(rt, alloc, image, range, overwrite, at);
+            cancel(image, mapping);
+        }
+        Act::Commit(overwrite) => {
+            let mapping = prepared_at(rt, alloc, image, range, overwrite, at);
+            assert_eq!(rt; commit(image, mapping), Ok(()));
+        }
+        Act::Give => on(rt, alloc, image, Call::DiscardToBacking(range.0, range.1)),
+    }
+}
+
+/// The rows on a disk.
+fn act_on_each<D: FormatDriverInstance<Storage = Faulty> + Blocks>(
+    rt: &impl Abort,
+    alloc: Global,
+    image: &mut FormatAccess<D>,
+    rows: &[Row],
+) {
+    for &(range, act, at, expected, length) in rows {
+        act_on(rt, alloc, image, (range, act), at);
+        assert_eq!(rt; used(&*image), expected);
+        assert_eq!(rt; storage_of(rt, &*image).as_bytes().len() as u64, length);
+    }
+}
+
 fn check_a_data_block_is_added_only_where_none_is_free(rt: &impl Abort, alloc: Global) {
     let mut image = alone(rt, alloc, 64, 16, Fault::Storage(0, Tear::All));
-    for &(range, act, at, used, length) in &ROWS {
-        match act {
-            Act::Refuse => match prepared(rt, alloc, &mut image, range, false) {
-                Ok(mapping) => {
-                    cancel(&mut image, mapping);
-                    assert!(rt; false, "prepared in spite of a fault");
-                }
-                Err(refusal) => assert_eq!(rt; refusal, Error::Device),
-            },
-            Act::Cancel(overwrite) => {
-                let mapping = prepared_at(rt, alloc, &mut image, range, overwrite, at);
-                cancel(&mut image, mapping);
-            }
-            Act::Commit(overwrite) => {
-                let mapping = prepared_at(rt, alloc, &mut image, range, overwrite, at);
-                assert_eq!(rt; commit(&mut image, mapping), Ok(()));
-            }
-            Act::Give => on(
-                rt,
-                alloc,
-                &mut image,
-                Call::DiscardToBacking(range.0, range.1),
-            ),
-        }
-        assert_eq!(rt; image.inner().blocks_used(), used);
-        assert_eq!(rt; storage_of(rt, &image).as_bytes().len() as u64, length);
-    }
+    check(rt, alloc, &mut image, Promise::Blocks);
 }
 
 #[test]
@@ -170,10 +299,10 @@ fn state_of(mapping: &Mapping) -> Option<CowState> {
 
 /// A write into the mapping is refused by name, and so is its commit where it has a state. A cancel
 /// does nothing.
-fn is_foreign(
+fn is_foreign<D: FormatDriverInstance<State = CowState>>(
     rt: &impl Abort,
     alloc: Global,
-    image: &mut Image,
+    image: &mut FormatAccess<D>,
     (storage, range): (usize, (u64, u64)),
     state: Option<CowState>,
 ) {
@@ -200,30 +329,31 @@ static STRANGERS: [(usize, (u64, u64)); 7] = [
     (0, (u64::MAX, 1)),
 ];
 
-fn check_a_mapping_that_does_not_wait_is_refused_by_name(rt: &impl Abort, alloc: Global) {
-    let mut image = alone(rt, alloc, 64, 16, Fault::Never);
-    let mut other = alone(rt, alloc, 64, 16, Fault::Never);
-    let waiting = prepared_at(rt, alloc, &mut image, (3, 4), false, 3);
-    let state = state_of(&waiting);
-    is_foreign(rt, alloc, &mut other, (0, (3, 4)), state);
-    is_foreign(rt, alloc, &mut image, (0, (3, 4)), None);
+/// The mapping with that state is refused while that one waits, and so is each stranger.
+fn are_foreign<D: FormatDriverInstance<State = CowState>>(
+    rt: &impl Abort,
+    alloc: Global,
+    image: &mut FormatAccess<D>,
+    state: Option<CowState>,
+) {
+    is_foreign(rt, alloc, image, (0, (3, 4)), None);
     for &range in &STRANGERS {
-        is_foreign(rt, alloc, &mut image, range, state);
-        is_foreign(rt, alloc, &mut image, range, None);
+        is_foreign(rt, alloc, image, range, state);
+        is_foreign(rt, alloc, image, range, None);
     }
-    // what waits has its data block already
-    assert_eq!(rt; image.inner().blocks_used(), 1);
-    assert_eq!(rt; write_to(rt, alloc, &mut image, &waiting), Ok(()));
-    assert_eq!(rt; commit(&mut image, waiting), Ok(()));
-    is_foreign(rt, alloc, &mut image, (0, (3, 4)), state);
-    assert_eq!(rt; image.inner().blocks_used(), 1);
-    assert_eq!(rt; other.inner().blocks_used(), 0);
-    // places stand there now, but none behind the data block
+}
+
+/// Places stand in the data block now, but none behind it. Only what was written is shown.
+fn is_written_where_places_stand<D: FormatDriverInstance<State = CowState>>(
+    rt: &impl Abort,
+    alloc: Global,
+    image: &mut FormatAccess<D>,
+) {
     let existing = of_state(0, (9, 2), None);
-    assert_eq!(rt; write_to(rt, alloc, &mut image, &existing), Ok(()));
-    cancel(&mut image, existing);
-    is_foreign(rt, alloc, &mut image, (0, (15, 2)), None);
-    let shown = contents_of(rt, alloc, &image);
+    assert_eq!(rt; write_to(rt, alloc, image, &existing), Ok(()));
+    cancel(image, existing);
+    is_foreign(rt, alloc, image, (0, (15, 2)), None);
+    let shown = shown(rt, alloc, &*image);
     for (i, &byte) in shown.iter().enumerate() {
         let is_written = matches!(i, 3..=6 | 9..=10);
         assert_eq!(rt; byte == 0xee, is_written);
@@ -231,26 +361,61 @@ fn check_a_mapping_that_does_not_wait_is_refused_by_name(rt: &impl Abort, alloc:
     }
 }
 
+/// What one disk prepares is foreign to another one, and what it didn't prepare to itself.
+fn refuse_strangers<D: FormatDriverInstance<State = CowState> + Blocks>(
+    rt: &impl Abort,
+    alloc: Global,
+    image: &mut FormatAccess<D>,
+    other: &mut FormatAccess<D>,
+) {
+    let waiting = prepared_at(rt, alloc, image, (3, 4), false, 3);
+    let state = state_of(&waiting);
+    is_foreign(rt, alloc, other, (0, (3, 4)), state);
+    are_foreign(rt, alloc, image, state);
+    // what waits has its data block already
+    assert_eq!(rt; used(&*image), 1);
+    assert_eq!(rt; write_to(rt, alloc, image, &waiting), Ok(()));
+    assert_eq!(rt; commit(image, waiting), Ok(()));
+    is_foreign(rt, alloc, image, (0, (3, 4)), state);
+    assert_eq!(rt; used(&*image), 1);
+    assert_eq!(rt; used(&*other), 0);
+    is_written_where_places_stand(rt, alloc, image);
+}
+
+fn check_a_mapping_that_does_not_wait_is_refused_by_name(rt: &impl Abort, alloc: Global) {
+    let mut image = alone(rt, alloc, 64, 16, Fault::Never);
+    check(rt, alloc, &mut image, Promise::Strangers);
+}
+
 #[test]
 fn a_mapping_that_does_not_wait_is_refused_by_name(rt: HostRuntime) {
     check_a_mapping_that_does_not_wait_is_refused_by_name(&rt, rt.alloc());
 }
 
+/// What a disk has cancelled is foreign to it.
+fn refuse_cancelled<D: FormatDriverInstance<State = CowState> + Blocks>(
+    rt: &impl Abort,
+    alloc: Global,
+    image: &mut FormatAccess<D>,
+) {
+    let cancelled = prepared_at(rt, alloc, image, (3, 4), false, 3);
+    let state = state_of(&cancelled);
+    cancel(image, cancelled);
+    is_foreign(rt, alloc, image, (0, (3, 4)), state);
+    let waiting = prepared_at(rt, alloc, image, (3, 4), false, 3);
+    is_foreign(rt, alloc, image, (0, (3, 4)), state);
+    assert_eq!(rt; write_to(rt, alloc, image, &waiting), Ok(()));
+    assert_eq!(rt; commit(image, waiting), Ok(()));
+    on(rt, alloc, image, Call::DiscardToZero(0, 16));
+    is_foreign(rt, alloc, image, (0, (3, 4)), None);
+    assert_eq!(rt; used(&*image), 0);
+    let shown = shown(rt, alloc, &*image);
+    assert_eq!(rt; byte_at(&shown, 3), 0);
+}
+
 fn check_a_cancelled_mapping_is_refused_by_name(rt: &impl Abort, alloc: Global) {
     let mut image = alone(rt, alloc, 64, 16, Fault::Never);
-    let cancelled = prepared_at(rt, alloc, &mut image, (3, 4), false, 3);
-    let state = state_of(&cancelled);
-    cancel(&mut image, cancelled);
-    is_foreign(rt, alloc, &mut image, (0, (3, 4)), state);
-    let waiting = prepared_at(rt, alloc, &mut image, (3, 4), false, 3);
-    is_foreign(rt, alloc, &mut image, (0, (3, 4)), state);
-    assert_eq!(rt; write_to(rt, alloc, &mut image, &waiting), Ok(()));
-    assert_eq!(rt; commit(&mut image, waiting), Ok(()));
-    on(rt, alloc, &mut image, Call::DiscardToZero(0, 16));
-    is_foreign(rt, alloc, &mut image, (0, (3, 4)), None);
-    assert_eq!(rt; image.inner().blocks_used(), 0);
-    let shown = contents_of(rt, alloc, &image);
-    assert_eq!(rt; byte_at(&shown, 3), 0);
+    check(rt, alloc, &mut image, Promise::Cancelled);
 }
 
 #[test]
@@ -269,15 +434,25 @@ static CREATED: [(u64, u64, u64); 7] = [
     (1_048_577, 1_048_576, 2),
 ];
 
+/// A new disk of that size, which is then written, has so many guest blocks.
+fn is_created<D: FormatDriverInstance + Blocks>(
+    rt: &impl Abort,
+    alloc: Global,
+    image: &mut FormatAccess<D>,
+    (size, block, count): (u64, u64, u64),
+) {
+    assert_eq!(rt; image.inner().block(), block);
+    assert!(rt; shown(rt, alloc, &*image) == equal(rt, alloc, size, 0));
+    assert_eq!(rt; used(&*image), 0);
+    on(rt, alloc, image, Call::Write(0, size, 1));
+    assert!(rt; shown(rt, alloc, &*image) == numbers(rt, alloc, size, 1));
+    assert_eq!(rt; used(&*image), count);
+}
+
 fn check_disks_of_any_size_are_created(rt: &impl Abort, alloc: Global) {
-    for &(size, block, count) in &CREATED {
-        let mut image = alone(rt, alloc, size, block, Fault::Never);
-        assert_eq!(rt; image.inner().block_size(), block);
-        assert!(rt; contents_of(rt, alloc, &image) == equal(rt, alloc, size, 0));
-        assert_eq!(rt; image.inner().blocks_used(), 0);
-        on(rt, alloc, &mut image, Call::Write(0, size, 1));
-        assert!(rt; contents_of(rt, alloc, &image) == numbers(rt, alloc, size, 1));
-        assert_eq!(rt; image.inner().blocks_used(), count);
+    for &row in &CREATED {
+        let mut image = alone(rt, alloc, row.0, row.1, Fault::Never);
+        check(rt, alloc, &mut image, Promise::Created(row));
     }
 }
 
@@ -319,16 +494,26 @@ static ZEROED: [Zeroed; 4] = [
     ),
 ];
 
+/// The calls of a row on its disk, and what that is then.
+fn are_zeroed<D: FormatDriverInstance + Blocks>(
+    rt: &impl Abort,
+    alloc: Global,
+    image: &mut FormatAccess<D>,
+    &((size, _), calls, (text, length), expected): &Zeroed,
+) {
+    for &call in calls {
+        on(rt, alloc, image, call);
+    }
+    let (mapping, count) = image.get_mapping(0, size).expect(rt, "a mapping");
+    assert_eq!(rt; printed(rt, alloc, &mapping).as_str(), text);
+    assert_eq!(rt; count, length);
+    assert_eq!(rt; used(&*image), expected);
+}
+
 fn check_zeroes_of_a_whole_guest_block_use_no_data(rt: &impl Abort, alloc: Global) {
-    for &((size, block), calls, (text, length), used) in &ZEROED {
-        let mut image = alone(rt, alloc, size, block, Fault::Never);
-        for &call in calls {
-            on(rt, alloc, &mut image, call);
-        }
-        let (mapping, count) = image.get_mapping(0, size).expect(rt, "a mapping");
-        assert_eq!(rt; printed(rt, alloc, &mapping).as_str(), text);
-        assert_eq!(rt; count, length);
-        assert_eq!(rt; image.inner().blocks_used(), used);
+    for row in &ZEROED {
+        let mut image = alone(rt, alloc, row.0.0, row.0.1, Fault::Never);
+        check(rt, alloc, &mut image, Promise::Zeroed(row));
     }
 }
 
@@ -339,7 +524,11 @@ fn zeroes_of_a_whole_guest_block_use_no_data(rt: HostRuntime) {
 
 /// Runs a list that prepares the first guest block, writes a byte there, and cancels it. Answers
 /// whether there was memory for it.
-fn is_cancelled_by_a_list(rt: &impl Abort, alloc: Global, image: &mut Image) -> bool {
+fn is_cancelled_by_a_list<D: FormatDriverInstance>(
+    rt: &impl Abort,
+    alloc: Global,
+    image: &mut FormatAccess<D>,
+) -> bool {
     let mut replies = Vec::new(alloc);
     let calls = [run::Call::Prepared {
         offset: 0,
@@ -366,16 +555,57 @@ fn is_cancelled_by_a_list(rt: &impl Abort, alloc: Global, image: &mut Image) -> 
     }
 }
 
+/// Writes bytes from a disk's begin on, once.
+fn write_from_begin<D: FormatDriverInstance>(
+    rt: &impl Abort,
+    alloc: Global,
+    image: &mut FormatAccess<D>,
+    bytes: &[u8],
+) -> Result<(), Error> {
+    assert!(rt; is_spent(&*image));
+    image.write(alloc, bytes, 0)
+}
+
+/// Writes equal bytes over all of a disk of 16.
+fn fill<D: FormatDriverInstance>(rt: &impl Abort, alloc: Global, image: &mut FormatAccess<D>) {
+    let bytes = equal(rt, alloc, 16, 0x11);
+    let mut answer = write_from_begin(rt, alloc, image, &bytes);
+    if answer == Err(Error::Memory) {
+        answer = write_from_begin(rt, alloc, image, &bytes);
+    }
+    assert_eq!(rt; answer, Ok(()));
+}
+
 /// A disk of four guest blocks of 4, above one whose bytes are all the same, where there is memory
 /// for it.
 fn over_equal_bytes(rt: &impl Abort, alloc: Global) -> Option<Image> {
     let mut lower = alone(rt, alloc, 16, 4, Fault::Never);
-    let bytes = equal(rt, alloc, 16, 0x11);
-    assert!(rt; is_spent(&lower));
-    lower.write(alloc, &bytes, 0).ok()?;
+    check(rt, alloc, &mut lower, Promise::Filled);
     let below = Box::new(alloc, lower).ok()?;
     let driver = created(rt, alloc, (16, 4), PLAIN, Fault::Never);
     Some(above(rt, driver, Some(below)))
+}
+
+/// A list prepares and cancels on such a disk.
+fn cancel_by_a_list<D: FormatDriverInstance<Storage = Faulty> + Blocks>(
+    rt: &impl Abort,
+    alloc: Global,
+    image: &mut FormatAccess<D>,
+) {
+    if !is_cancelled_by_a_list(rt, alloc, image) {
+        assert!(rt; is_cancelled_by_a_list(rt, alloc, image));
+    }
+    assert!(rt; shown(rt, alloc, &*image) == equal(rt, alloc, 16, 0x11));
+    assert_eq!(rt; used(&*image), 0);
+    // the data block is free again, with the byte that was written and those that were copied round
+    // it
+    let stored = storage_of(rt, &*image).as_bytes();
+    assert!(rt; stored.get(..5) == Some(&[0xff, 0x11, 0x11, 0x11, 0x99]));
+    on(rt, alloc, image, Call::Write(0, 1, 1));
+    assert_eq!(rt; used(&*image), 1);
+    let shown = shown(rt, alloc, &*image);
+    assert_eq!(rt; byte_at(&shown, 0), 1);
+    assert_eq!(rt; byte_at(&shown, 1), 0x11);
 }
 
 fn check_a_list_prepares_and_cancels(rt: &impl Abort, alloc: Global) {
@@ -383,20 +613,7 @@ fn check_a_list_prepares_and_cancels(rt: &impl Abort, alloc: Global) {
         Some(image) => image,
         None => over_equal_bytes(rt, alloc).expect(rt, "memory for layers"),
     };
-    if !is_cancelled_by_a_list(rt, alloc, &mut image) {
-        assert!(rt; is_cancelled_by_a_list(rt, alloc, &mut image));
-    }
-    assert!(rt; contents_of(rt, alloc, &image) == equal(rt, alloc, 16, 0x11));
-    assert_eq!(rt; image.inner().blocks_used(), 0);
-    // the data block is free again, with the byte that was written and those that were copied round
-    // it
-    let stored = storage_of(rt, &image).as_bytes();
-    assert!(rt; stored.get(..5) == Some(&[0xff, 0x11, 0x11, 0x11, 0x99]));
-    on(rt, alloc, &mut image, Call::Write(0, 1, 1));
-    assert_eq!(rt; image.inner().blocks_used(), 1);
-    let shown = contents_of(rt, alloc, &image);
-    assert_eq!(rt; byte_at(&shown, 0), 1);
-    assert_eq!(rt; byte_at(&shown, 1), 0x11);
+    check(rt, alloc, &mut image, Promise::List);
 }
 
 #[test]

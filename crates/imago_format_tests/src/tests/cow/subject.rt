@@ -231,7 +231,7 @@ pub(super) fn longest(model: &Model, form: Form) -> u64 {
 }
 
 /// The storage of a disk.
-pub(super) fn storage_of<'a>(rt: &impl Abort, image: &'a Image) -> &'a Faulty {
+fn storage_of<'a>(rt: &impl Abort, image: &'a Image) -> &'a Faulty {
     image.inner().storage(0).expect(rt, "a storage")
 }
 

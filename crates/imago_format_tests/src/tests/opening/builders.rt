@@ -74,13 +74,21 @@ fn a_gate_is_asked_with_the_set_options(rt: HostRuntime) {
     check_a_gate_is_asked_with_the_set_options(&rt, rt.alloc());
 }
 
+/// The options that a base makes at once.
+fn made_once<S: Storage>(
+    alloc: Global,
+    base: &FormatDriverBuilderBase<S>,
+) -> Result<StorageOpenOptions, Error> {
+    base.make_storage_opts(alloc)
+}
+
 /// The options that a base makes.
 fn made<S: Storage>(
     alloc: Global,
     base: &FormatDriverBuilderBase<S>,
 ) -> Result<StorageOpenOptions, Error> {
-    match base.make_storage_opts(alloc) {
-        Err(Error::Memory) => base.make_storage_opts(alloc),
+    match made_once(alloc, base) {
+        Err(Error::Memory) => made_once(alloc, base),
         answer => answer,
     }
 }

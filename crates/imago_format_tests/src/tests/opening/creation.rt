@@ -14,6 +14,16 @@ use imago_test_storages::recording::{Recorded, Recording};
 use std::alloc::Global;
 use std::process::Abort;
 
+/// A new image of that size.
+fn created<S: Storage, B: FormatCreateBuilder<S>>(
+    alloc: Global,
+    builder: B,
+    size: u64,
+    mode: PreallocateMode,
+) -> Result<S, Error> {
+    builder.size(size).preallocate(mode).create(alloc)
+}
+
 /// A new image in a storage.
 fn create<S: Storage>(
     alloc: Global,
@@ -21,8 +31,7 @@ fn create<S: Storage>(
     size: u64,
     mode: PreallocateMode,
 ) -> Result<S, Error> {
-    let builder = Raw::create_builder(storage);
-    builder.size(size).preallocate(mode).create(alloc)
+    created(alloc, Raw::create_builder(storage), size, mode)
 }
 
 /// A storage of so many bytes ff whose next resizes fail, so many.

@@ -25,6 +25,17 @@ pub(super) fn stored(rt: &impl Abort, alloc: Global, name: &str, count: usize) -
     MemStorage::named(text(rt, alloc, name), bytes)
 }
 
+/// Puts a storage into a gate under that name, once. One that there is no memory for is given back.
+fn add(
+    rt: &impl Abort,
+    alloc: Global,
+    gate: &mut NamedGate<MemStorage>,
+    name: &str,
+    storage: MemStorage,
+) -> Result<(), MemStorage> {
+    gate.add(text(rt, alloc, name), storage)
+}
+
 /// A gate with a storage under each of these names. The first is 1 byte long, the second 2, and so
 /// on.
 pub(super) fn named(rt: &impl Abort, alloc: Global, names: &[&str]) -> NamedGate<MemStorage> {
@@ -33,8 +44,8 @@ pub(super) fn named(rt: &impl Abort, alloc: Global, names: &[&str]) -> NamedGate
     for name in names {
         count = count.saturating_add(1);
         let storage = stored(rt, alloc, name, count);
-        if let Err(storage) = gate.add(text(rt, alloc, name), storage) {
-            let added = gate.add(text(rt, alloc, name), storage);
+        if let Err(storage) = add(rt, alloc, &mut gate, name, storage) {
+            let added = add(rt, alloc, &mut gate, name, storage);
             assert!(rt; added.is_ok(), "memory for a storage");
         }
     }

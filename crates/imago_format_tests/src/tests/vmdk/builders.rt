@@ -2,11 +2,11 @@
 use super::set_up::{Gate, add, name, recorded, storage_of};
 use imago_drivers::builder::FormatDriverBuilder;
 use imago_drivers::drivers::FormatDriverInstance;
-use imago_drivers::gate::NamedGate;
+use imago_drivers::gate::{ImplicitOpenGate, NamedGate};
 use imago_storage::error::Error;
 use imago_storage::mem::MemStorage;
 use imago_storage::storage::{Storage, StorageOpenOptions};
-use imago_vmdk::vmdk::{Vmdk, VmdkOpenBuilder};
+use imago_vmdk::vmdk::VmdkOpenBuilder;
 use std::alloc::Global;
 use std::process::Abort;
 
@@ -18,7 +18,8 @@ struct Case {
     at_path: bool,
     write: bool,
     with_options: bool,
-    accept: bool,
+    /// Whether keys that aren't known are accepted, if that is told.
+    accept: Option<bool>,
     /// The size of the disk, or the refusal.
     answer: Result<u64, Error>,
     /// The names that are asked for.
@@ -40,7 +41,7 @@ static CASES: [Case; 16] = [
         at_path: false,
         write: false,
         with_options: false,
-        accept: false,
+        accept: None,
         answer: Ok(1024),
         asked: &["a", "b"],
     },
@@ -49,7 +50,7 @@ static CASES: [Case; 16] = [
         at_path: true,
         write: false,
         with_options: true,
-        accept: false,
+        accept: None,
         answer: Ok(1024),
         asked: &["d", "a", "b"],
     },
@@ -58,7 +59,7 @@ static CASES: [Case; 16] = [
         at_path: false,
         write: false,
         with_options: true,
-        accept: true,
+        accept: Some(true),
         answer: Ok(1024),
         asked: &["a", "b"],
     },
@@ -67,7 +68,7 @@ static CASES: [Case; 16] = [
         at_path: true,
         write: true,
         with_options: true,
-        accept: false,
+        accept: None,
         answer: Err(Error::Unsupported),
         asked: &[],
     },
@@ -76,7 +77,7 @@ static CASES: [Case; 16] = [
         at_path: false,
         write: false,
         with_options: false,
-        accept: false,
+        accept: None,
         answer: Err(Error::NotFound),
         asked: &["b", "c"],
     },
@@ -85,7 +86,7 @@ static CASES: [Case; 16] = [
         at_path: false,
         write: false,
         with_options: false,
-        accept: false,
+        accept: None,
         answer: Err(Error::InvalidData),
         asked: &[],
     },
@@ -94,7 +95,7 @@ static CASES: [Case; 16] = [
         at_path: false,
         write: false,
         with_options: false,
-        accept: false,
+        accept: None,
         answer: Err(Error::InvalidData),
         asked: &[],
     },
@@ -103,7 +104,7 @@ static CASES: [Case; 16] = [
         at_path: true,
         write: false,
         with_options: false,
-        accept: true,
+        accept: Some(true),
         answer: Ok(512),
         asked: &["d"],
     },
@@ -112,7 +113,7 @@ static CASES: [Case; 16] = [
         at_path: true,
         write: false,
         with_options: true,
-        accept: true,
+        accept: Some(true),
         answer: Ok(512),
         asked: &["d"],
     },
@@ -121,7 +122,7 @@ static CASES: [Case; 16] = [
         at_path: true,
         write: false,
         with_options: false,
-        accept: false,
+        accept: None,
         answer: Err(Error::InvalidData),
         asked: &["d"],
     },
@@ -130,7 +131,7 @@ static CASES: [Case; 16] = [
         at_path: true,
         write: false,
         with_options: false,
-        accept: true,
+        accept: Some(true),
         answer: Ok(1536),
         asked: &["d", "a", "b"],
     },
@@ -139,7 +140,7 @@ static CASES: [Case; 16] = [
         at_path: true,
         write: false,
         with_options: false,
-        accept: true,
+        accept: Some(true),
         answer: Ok(0),
         asked: &["d"],
     },
@@ -148,7 +149,7 @@ static CASES: [Case; 16] = [
         at_path: true,
         write: false,
         with_options: false,
-        accept: true,
+        accept: Some(true),
         answer: Err(Error::InvalidData),
         asked: &["d"],
     },
@@ -157,7 +158,7 @@ static CASES: [Case; 16] = [
         at_path: true,
         write: false,
         with_options: false,
-        accept: true,
+        accept: Some(true),
         answer: Err(Error::InvalidData),
         asked: &["d"],
     },
@@ -166,7 +167,7 @@ static CASES: [Case; 16] = [
         at_path: true,
         write: false,
         with_options: false,
-        accept: true,
+        accept: Some(true),
         answer: Err(Error::Unsupported),
         asked: &["d"],
     },
@@ -175,9 +176,40 @@ static CASES: [Case; 16] = [
         at_path: true,
         write: false,
         with_options: false,
-        accept: true,
+        accept: Some(true),
         answer: Err(Error::Unsupported),
         asked: &["d"],
+    },
+];
+
+/// Whether keys that aren't known are accepted is what was set, and they aren't at first.
+static ACCEPTED: [Case; 3] = [
+    Case {
+        text: ENCODED,
+        at_path: false,
+        write: false,
+        with_options: true,
+        accept: None,
+        answer: Err(Error::InvalidData),
+        asked: &[],
+    },
+    Case {
+        text: ENCODED,
+        at_path: false,
+        write: false,
+        with_options: true,
+        accept: Some(false),
+        answer: Err(Error::InvalidData),
+        asked: &[],
+    },
+    Case {
+        text: ENCODED,
+        at_path: false,
+        write: false,
+        with_options: true,
+        accept: Some(true),
+        answer: Ok(512),
+        asked: &[],
     },
 ];
 
@@ -187,28 +219,60 @@ fn options(alloc: Global) -> Result<StorageOpenOptions, Error> {
     Ok(opts.write(true).direct(true))
 }
 
-/// A builder with the settings of a case.
-fn set<S: Storage>(
+/// A builder with the settings of a case, which it keeps. Whether it writes is set twice.
+fn set<S: Storage, B: FormatDriverBuilder<S>>(
+    rt: &impl Abort,
     alloc: Global,
-    builder: VmdkOpenBuilder<S>,
+    builder: B,
     case: &Case,
-) -> Result<VmdkOpenBuilder<S>, Error> {
-    let builder = builder.accept_unknown_keys(case.accept).write(case.write);
+) -> Result<B, Error> {
+    let mut builder = builder.write(!case.write).write(case.write);
     if case.with_options {
-        Ok(builder.storage_open_options(options(alloc)?))
-    } else {
-        Ok(builder)
+        builder = builder.storage_open_options(options(alloc)?);
     }
+    assert!(rt; builder.get_image_path() == Some(if case.at_path { "d" } else { "d.vmdk" }));
+    assert!(rt; builder.get_writable() == case.write);
+    assert!(rt; builder.get_storage_open_options().is_some() == case.with_options);
+    Ok(builder)
 }
 
-/// The builder of a case.
+/// The builder of a case, which is told whether it accepts keys that aren't known. A storage that
+/// is handed in has a name.
 fn builder(alloc: Global, case: &Case) -> Result<VmdkOpenBuilder<MemStorage>, Error> {
     let builder = if case.at_path {
         VmdkOpenBuilder::new_path(name(alloc, "d")?)
     } else {
-        VmdkOpenBuilder::new(storage_of(alloc, case.text)?)
+        let bytes = storage_of(alloc, case.text)?.into_bytes();
+        VmdkOpenBuilder::new(MemStorage::named(name(alloc, "d.vmdk")?, bytes))
     };
-    set(alloc, builder, case)
+    match case.accept {
+        Some(accept) => Ok(builder.accept_unknown_keys(accept)),
+        None => Ok(builder),
+    }
+}
+
+/// What is printed of an image.
+fn printed<D: FormatDriverInstance>(alloc: Global, image: &D) -> Result<String, Error> {
+    match format!(in alloc; "{image}") {
+        Ok(text) => Ok(text),
+        Err(_) => Err(Error::Memory),
+    }
+}
+
+/// The size of the disk that a builder with the settings of a case opens. One whose descriptor has
+/// a name is printed with it.
+fn size_by<S: Storage, B: FormatDriverBuilder<S>, G: ImplicitOpenGate<S>>(
+    rt: &impl Abort,
+    alloc: Global,
+    builder: B,
+    gate: &mut G,
+    case: &Case,
+) -> Result<u64, Error> {
+    let image = set(rt, alloc, builder, case)?.open(alloc, gate)?;
+    assert!(rt; image.format() == B::FORMAT);
+    let text = printed(alloc, &image)?;
+    assert!(rt; case.at_path || text.as_str() == "vmdk[mem:d.vmdk]");
+    Ok(image.size())
 }
 
 /// The gate of a case.
@@ -231,96 +295,51 @@ fn are_asked(rt: &impl Abort, gate: &Gate, case: &Case) {
 }
 
 /// What opening answers, and the gate then.
-fn open(alloc: Global, case: &Case) -> Result<(Result<u64, Error>, Gate), Error> {
+fn open(rt: &impl Abort, alloc: Global, case: &Case) -> Result<(Result<u64, Error>, Gate), Error> {
     let mut gate = make_gate(alloc, case)?;
-    match builder(alloc, case)?.open(alloc, &mut gate) {
-        Ok(image) => Ok((Ok(image.size()), gate)),
+    match size_by(rt, alloc, builder(alloc, case)?, &mut gate, case) {
         Err(Error::Memory) => Err(Error::Memory),
-        Err(refusal) => Ok((Err(refusal), gate)),
+        answer => Ok((answer, gate)),
+    }
+}
+
+/// Each image is opened by its settings.
+fn open_each(rt: &impl Abort, alloc: Global, cases: &[Case]) {
+    for case in cases {
+        let mut opened = open(rt, alloc, case);
+        if opened.is_err() {
+            opened = open(rt, alloc, case);
+        }
+        assert!(rt; opened.is_ok());
+        if let Ok((answer, gate)) = opened {
+            assert!(rt; answer == case.answer);
+            are_asked(rt, &gate, case);
+        }
     }
 }
 
 #[test]
 fn images_are_opened_by_their_settings(rt: HostRuntime) {
-    for case in &CASES {
-        let mut opened = open(rt.alloc(), case);
-        if opened.is_err() {
-            opened = open(rt.alloc(), case);
-        }
-        assert!(rt; opened.is_ok());
-        if let Ok((answer, gate)) = opened {
-            assert!(rt; answer == case.answer);
-            are_asked(&rt, &gate, case);
-        }
-    }
-}
-
-/// The text of an image whose descriptor has that name, and whether its builder tells that path,
-/// and the image's format.
-fn texts(alloc: Global) -> Result<(String, bool), Error> {
-    let mut bytes = Vec::new(alloc);
-    if bytes.extend_from_slice(b"version=1").is_err() {
-        return Err(Error::Memory);
-    }
-    let builder = Vmdk::builder(MemStorage::named(name(alloc, "d.vmdk")?, bytes));
-    let is_named = builder.get_image_path() == Some("d.vmdk");
-    let mut gate = recorded(alloc, NamedGate::new(alloc), 0);
-    let image = builder.open(alloc, &mut gate)?;
-    let is_named = is_named && image.format() == VmdkOpenBuilder::<MemStorage>::FORMAT;
-    match format!(in alloc; "{image}") {
-        Ok(text) => Ok((text, is_named)),
-        Err(_) => Err(Error::Memory),
-    }
-}
-
-#[test]
-fn an_image_is_shown_by_its_descriptor(rt: HostRuntime) {
-    let mut shown = texts(rt.alloc());
-    if shown.is_err() {
-        shown = texts(rt.alloc());
-    }
-    assert!(rt; shown.is_ok());
-    if let Ok((text, is_named)) = shown {
-        assert!(rt; text.as_str() == "vmdk[mem:d.vmdk]");
-        assert!(rt; is_named);
-    }
-}
-
-/// What is opened of a descriptor with a key that isn't known, by a builder that is told at first
-/// whether it accepts such keys, if that is told, and what else there is to set then, which it
-/// keeps.
-fn opened_by(rt: &impl Abort, alloc: Global, accept: Option<bool>) -> Result<u64, Error> {
-    let mut builder = VmdkOpenBuilder::new(storage_of(alloc, ENCODED)?);
-    if let Some(accept) = accept {
-        builder = builder.accept_unknown_keys(accept);
-    }
-    let builder = builder.write(true).write(false);
-    let builder = builder.storage_open_options(options(alloc)?);
-    assert!(rt; !builder.get_writable());
-    assert!(rt; builder.get_storage_open_options().is_some());
-    let mut gate = recorded(alloc, NamedGate::new(alloc), 0);
-    let image = builder.open(alloc, &mut gate)?;
-    Ok(image.size())
-}
-
-/// Whether keys that aren't known are accepted is what was set, and they aren't at first.
-static ACCEPTED: [(Option<bool>, Result<u64, Error>); 3] = [
-    (None, Err(Error::InvalidData)),
-    (Some(false), Err(Error::InvalidData)),
-    (Some(true), Ok(512)),
-];
-
-fn check_a_builder_keeps_what_is_set(rt: &impl Abort, alloc: Global) {
-    for &(accept, answer) in &ACCEPTED {
-        let mut opened = opened_by(rt, alloc, accept);
-        if opened == Err(Error::Memory) {
-            opened = opened_by(rt, alloc, accept);
-        }
-        assert!(rt; opened == answer);
-    }
+    open_each(&rt, rt.alloc(), &CASES);
 }
 
 #[test]
 fn a_builder_keeps_what_is_set(rt: HostRuntime) {
-    check_a_builder_keeps_what_is_set(&rt, rt.alloc());
+    open_each(&rt, rt.alloc(), &ACCEPTED);
+}
+
+/// An image whose descriptor has a name.
+static SHOWN: [Case; 1] = [Case {
+    text: b"version=1",
+    at_path: false,
+    write: false,
+    with_options: false,
+    accept: None,
+    answer: Ok(0),
+    asked: &[],
+}];
+
+#[test]
+fn an_image_is_shown_by_its_descriptor(rt: HostRuntime) {
+    open_each(&rt, rt.alloc(), &SHOWN);
 }
