@@ -28,21 +28,33 @@ pub told_none :
     → start ≡ be64 head 8 → start ≡ 0
     → IfSome known (λ files. SaysBacking (files path) None)
 told_none None path head start h n e z = tt
-told_none (Some files) path head start h n e z = sym (head_start (files path) head h n) ∙ sym e ∙ z
+told_none (Some files) path head start h n e z =
+    inl (sym (head_start (files path) head h n) ∙ sym e ∙ z)
+
+-- a name without bytes
+pub told_empty :
+    (known : Option (List ℕ → List ℕ)) (path head : List ℕ) (count : ℕ)
+    → IfSome known (λ files. head ≡ bytes_at (files path) 0 (length head)) → length head ≡ 20
+    → count ≡ be32 head 16 → count ≡ 0
+    → IfSome known (λ files. SaysBacking (files path) None)
+told_empty None path head count h n e z = tt
+told_empty (Some files) path head count h n e z =
+    inr (sym (head_count (files path) head h n) ∙ sym e ∙ z)
 
 -- a name
 pub told_name :
     (known : Option (List ℕ → List ℕ)) (path head name : List ℕ) (start count : ℕ)
     → IfSome known (λ files. head ≡ bytes_at (files path) 0 (length head)) → length head ≡ 20
-    → start ≡ be64 head 8 → 0 < start → count ≡ be32 head 16
+    → start ≡ be64 head 8 → 0 < start → count ≡ be32 head 16 → 0 < count
     → IfSome known (λ files. name ≡ bytes_at (files path) start count)
     → IfSome known (λ files. SaysBacking (files path) (Some name))
-told_name None path head name start count h n e z k r = tt
-told_name (Some files) path head name start count h n e z k r =
+told_name None path head name start count h n e z k some r = tt
+told_name (Some files) path head name start count h n e z k some r =
     let file = files path in
     let at : start ≡ be64 file 8 = e ∙ head_start file head h n in
     let long : count ≡ be32 file 16 = k ∙ head_count file head h n in (
       subst (λ (i : ℕ). 0 < i) at z,
+      subst (λ (i : ℕ). 0 < i) long some,
       subst (λ (i : ℕ). name ≡ bytes_at file (be64 file 8) i) long
           (subst (λ (i : ℕ). name ≡ bytes_at file i count) at r),
     )

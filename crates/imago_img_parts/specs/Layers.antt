@@ -1,4 +1,4 @@
-use Rattle.std.specs.Prelude.{◌≡◌, ℕ, ◌<◌, Bool, true, false, List, [], ◌∷◌, Option, Some, None, map}
+use Rattle.std.specs.Prelude.{◌≡◌, ℕ, ◌<◌, ◌⊎◌, Bool, true, false, List, [], ◌∷◌, Option, Some, None, map}
 use Rattle.std.specs.Prelude.{length}
 use Rattle.imago_drivers.specs.Place.{Place, Value, Byte, shown}
 use Rattle.imago_drivers.specs.Raw.{raw_place}
@@ -19,11 +19,12 @@ use Rattle.imago_plan.specs.Names.{stays_below, path_beside}
 use Rattle.imago_img_parts.specs.Files.{storages_by}
 use Rattle.imago_img_parts.specs.Formats.{IsFormatBelow}
 
--- the name of the file below it that a qcow2 file has, if it has one
+-- the name of the file below it that a qcow2 file has, if it has one: no bytes are no name
 abbrev pub SaysBacking : List ℕ → Option (List ℕ) → Type 0
-SaysBacking bytes None = be64 bytes 8 ≡ 0
+SaysBacking bytes None = (be64 bytes 8 ≡ 0) ⊎ (be32 bytes 16 ≡ 0)
 SaysBacking bytes (Some name) =
-    (0 < be64 bytes 8) × (name ≡ bytes_at bytes (be64 bytes 8) (be32 bytes 16))
+    (0 < be64 bytes 8) × (0 < be32 bytes 16)
+    × (name ≡ bytes_at bytes (be64 bytes 8) (be32 bytes 16))
 
 -- The path of the file below that of a qcow2 image, if there is one: the name that the image has
 -- stands for it. The name doesn't lead out of the image's folder, unless that is permitted.

@@ -1,5 +1,4 @@
 //! What is wrong with the header of a qcow2 file that isn't opened.
-
 ghost use Rattle.std.specs.Prelude.{◌+◌, ◌<◌, ◌≤◌};
 
 use std::io::{self, Write};

@@ -57,11 +57,11 @@ fn features_of(
     Ok(names)
 }
 
-/// A name that stands in a file, if it does.
+/// A name that stands in a file, if it does. One without bytes is none.
 fn named(alloc: Global, path: &str, name: Option<Vec<u8>>) -> Result<Option<String>, Failure> {
     match name {
-        Some(name) => Ok(Some(text_of(alloc, path, name)?)),
-        None => Ok(None),
+        Some(name) if !name.is_empty() => Ok(Some(text_of(alloc, path, name)?)),
+        _ => Ok(None),
     }
 }
 

@@ -9,7 +9,7 @@ type Row = (&'static str, u8, &'static str, &'static str);
 
 /// qcow2 images whose disk of 2048 bytes is what is below, and files for below. A name of a backing
 /// file stands at 200, the header extension with its format at 104.
-static PARTS: [PartsRow; 8] = [
+static PARTS: [PartsRow; 9] = [
     // A raw file that begins as a qcow2 image does, and one that begins as a sparse VMDK image.
     ("begun.raw", 512, &[(0, b"QFI\xfb")]),
     ("sparse.raw", 512, &[(0, b"KDMV")]),
@@ -97,6 +97,19 @@ static PARTS: [PartsRow; 8] = [
             (200, b"sparse.raw"),
         ],
     ),
+    // A name of no bytes.
+    (
+        "nameless.qcow2",
+        1024,
+        &[
+            (0, VERSION_2),
+            (15, b"\xc8\0\0\0\0"),
+            (23, b"\x09"),
+            (30, b"\x08"),
+            (39, b"\x01"),
+            (46, b"\x02"),
+        ],
+    ),
 ];
 
 /// The format of a file below: that of the name that the header has, or else what the file begins
@@ -164,6 +177,24 @@ static FORMATS: [Row; 8] = [
     ),
 ];
 
+/// A name of no bytes is no file below.
+static NAMELESS: [Row; 2] = [
+    (
+        "map nameless.qcow2",
+        0,
+        "start                length               kind offset               file\n\
+        0                    2048                 zero\n",
+        "",
+    ),
+    (
+        "info nameless.qcow2",
+        0,
+        "image: \"nameless.qcow2\"\nformat: qcow2\nsize: 2048 bytes\nversion: 2\ncluster: 512 bytes\n\
+        data: 0 of 4 clusters\n",
+        "",
+    ),
+];
+
 /// Tries command lines that make no file.
 fn check_rows(rt: &impl Abort, alloc: Global, rows: &[Row]) {
     for (words, status, output, errors) in rows {
@@ -187,4 +218,9 @@ fn check_rows(rt: &impl Abort, alloc: Global, rows: &[Row]) {
 #[test]
 fn a_file_below_has_the_format_that_is_said(rt: HostRuntime) {
     check_rows(&rt, rt.alloc(), &FORMATS);
+}
+
+#[test]
+fn a_name_without_bytes_is_no_file_below(rt: HostRuntime) {
+    check_rows(&rt, rt.alloc(), &NAMELESS);
 }
