@@ -9,10 +9,11 @@ use Rattle.imago_storage.specs.declared.error.Error.{Error}
 use Rattle.imago_qcow2.specs.Numbers.{be32, be64}
 use Rattle.imago_qcow2.specs.Header.{own_length}
 use Rattle.imago_qcow2.specs.Entry.{cluster_length}
-use Rattle.imago_qcow2.specs.Backing.{format_by, format_from, extensions_end, format_of}
+use Rattle.imago_qcow2.specs.Backing.{format_by, format_from, extensions_end, format_of, IsFormatName}
 use Rattle.imago_qcow2.specs.Disk.{HaveSameTables}
 use Rattle.imago_qcow2.proofs.NumberSteps.{range32, range64}
-use Rattle.std.proofs.Common.{length}
+use Rattle.std.proofs.Common.{length, subst, IfOk, Global, MatchResult, IsErr}
+use Rattle.std.specs.declared.vec.Vec.{Vec}
 use Rattle.std.proofs.lemmas.List.FromFn.{length-map-range_with_len}
 use Rattle.imago_plan.specs.PieceBytes.{bytes_at}
 use Rattle.imago_plan.proofs.BytesAt.{read_bytes}
@@ -45,6 +46,7 @@ count_of (Err e) = 0
 inside_by : (t u v w : Bool) (at end count p k : ℕ) (x : Result (Option (ℕ × ℕ)) Error)
     → (if t then (if u then Err Error.InvalidData else (if v then Ok None else (if w then Ok (Some (at + 8, count)) else x))) else Ok None) ≡ Ok (Some (p, k))
     → (u ≡ false → at + 8 + count ≤ end) → (x ≡ Ok (Some (p, k)) → p + k ≤ end) → p + k ≤ end
+unfolding start_of count_of
 inside_by false u v w at end count p k x h room rest = let z : ⊥ = cc h in absurd z
 inside_by true true v w at end count p k x h room rest = let z : ⊥ = cc h in absurd z
 inside_by true false true w at end count p k x h room rest = let z : ⊥ = cc h in absurd z
@@ -156,3 +158,23 @@ format_by_file file own tables start least said h =
     let under : extensions_end own ≤ cluster_length file = omega (arith, i, e) in
     same_said file own (format_same file own (cluster_length file) start long under)
     (λ at k lt. bytes_same file own (cluster_length file) start at k (omega (arith, lt, under))) said h
+
+-- the name that was read stands for what is said
+pub format_said :
+    {E F : Type 0} (bytes : List ℕ) (answer : Result (Option (Vec ℕ Global)) E)
+    (r : Result (Option (Vec ℕ Global)) F) (name : Vec ℕ Global) (text : List ℕ) (f : ImageFormat)
+    → IfOk answer (IsFormatName bytes) → MatchResult answer (λ x. r ≡ Ok x) (λ e. IsErr r)
+    → r ≡ Ok (Some name) → text ≡ name.items → format_named text ≡ Some f
+    → SaysFormat bytes (Some f)
+format_said {E} {F} bytes (Ok x) r name text f h m e t k =
+    let here : IsFormatName bytes (Some name) =
+    subst (λ (z : Result (Option (Vec ℕ Global)) F). IfOk z (IsFormatName bytes)) (sym m ∙ e) h in (
+      here.0,
+      length name.items,
+      here.1,
+      ap format_named (sym (read_bytes bytes here.0 name.items here.2) ∙ sym t) ∙ k,
+    )
+format_said {E} {F} bytes (Err d) r name text f h m e t k =
+    let no : IsErr {T = Option (Vec ℕ Global)} {E = F} (Ok (Some name)) =
+    subst (λ (z : Result (Option (Vec ℕ Global)) F). IsErr z) e m in
+    let z : ⊥ = cc no in absurd z

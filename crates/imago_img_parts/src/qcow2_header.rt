@@ -15,18 +15,30 @@ pub enum HeaderFault {
     Version(u32),
     #[error("the header says encryption, which isn't supported")]
     Encryption,
-    /// An incompatible feature, by its name.
-    #[error("the header says {0}, which isn't supported")]
-    Feature(&'static str),
+    /// The incompatible feature of an image that is marked as corrupt.
+    #[error("the header says corrupt, which isn't supported")]
+    Corrupt,
+    /// That of data in a file of their own.
+    #[error("the header says external data file, which isn't supported")]
+    ExternalData,
+    /// That of L2 entries with subclusters.
+    #[error("the header says extended L2 entries, which isn't supported")]
+    ExtendedEntries,
     /// An incompatible feature that has no name, by its bit.
     #[error("the header says unknown bit {0}, which isn't supported")]
     UnknownBit(u32),
     /// A cluster of less than 512 bytes or more than 2 MiB, by the base 2 logarithm.
     #[error("the header says clusters of 2^{0} bytes, which can't be meant")]
     ClusterBits(u32),
-    /// Its own length, the width of a reference count, or the kind of compression.
-    #[error("the header's {0} can't be meant")]
-    Added(&'static str),
+    /// Its own length.
+    #[error("the header's own length can't be meant")]
+    OwnLength,
+    /// How many bits a reference count has.
+    #[error("the header's width of reference counts can't be meant")]
+    RefcountWidth,
+    /// How clusters are compressed.
+    #[error("the header's kind of compression can't be meant")]
+    Compression,
     /// A name that is too long, or behind the first cluster.
     #[error("the header's name of a backing file passes its room")]
     BackingName,
@@ -73,9 +85,9 @@ fn feature_fault(features: u64, bit: u32) -> Option<HeaderFault>
     }
     match bit {
         0 | 3 => None,
-        1 => Some(HeaderFault::Feature("corrupt")),
-        2 => Some(HeaderFault::Feature("external data file")),
-        4 => Some(HeaderFault::Feature("extended L2 entries")),
+        1 => Some(HeaderFault::Corrupt),
+        2 => Some(HeaderFault::ExternalData),
+        4 => Some(HeaderFault::ExtendedEntries),
         _ => Some(HeaderFault::UnknownBit(bit)),
     }
 }
@@ -98,14 +110,14 @@ fn added_fault(head: &[u8; 112], cluster: u64) -> Option<HeaderFault> {
     }
     let own = number32(head, 100);
     if own < 104 || own % 8 != 0 || own as u64 > cluster {
-        return Some(HeaderFault::Added("own length"));
+        return Some(HeaderFault::OwnLength);
     }
     if number32(head, 96) > 6 {
-        return Some(HeaderFault::Added("width of reference counts"));
+        return Some(HeaderFault::RefcountWidth);
     }
     let compression = if own > 104 { head[104] } else { 0 };
     if (compression == 0) != (number64(head, 72) < 8) {
-        return Some(HeaderFault::Added("kind of compression"));
+        return Some(HeaderFault::Compression);
     }
     None
 }
@@ -158,6 +170,17 @@ pub fn header_fault(head: &[u8; 112], length: u64) -> HeaderFault {
     table_fault(head, cluster)
 }
 
+/// Whether an incompatible feature is what is wrong.
+fn is_feature(fault: HeaderFault) -> bool {
+    matches!(
+        fault,
+        HeaderFault::Corrupt
+            | HeaderFault::ExternalData
+            | HeaderFault::ExtendedEntries
+            | HeaderFault::UnknownBit(_)
+    )
+}
+
 /// Tells what is wrong with a header that is refused, each feature by itself, and how many faults
 /// that is.
 pub fn tell_header<W: Write>(
@@ -167,7 +190,7 @@ pub fn tell_header<W: Write>(
     output: &mut W,
 ) -> io::Result<u64> {
     let fault = header_fault(head, length);
-    if !matches!(fault, HeaderFault::Feature(_) | HeaderFault::UnknownBit(_)) {
+    if !is_feature(fault) {
         writeln!(output, "{path:?}: {fault}")?;
         return Ok(1);
     }

@@ -137,7 +137,7 @@ static FORMATS: [Row; 8] = [
         "map says_qcow2.qcow2",
         1,
         "",
-        "imago-img: \"plain.raw\": the image's data is invalid; imago-img check tells where\n",
+        "imago-img: \"plain.raw\": no qcow2 image begins so\n",
     ),
     (
         "compare says_none.qcow2 one.raw",
