@@ -10,22 +10,26 @@ fn name_of(alloc: Global, number: u64) -> Result<String, AllocError> {
     format!(in alloc; "{number}")
 }
 
-/// An image of 512 bytes that has no data, above the file of that name.
+/// The first bytes of an image of 512 bytes that has no data, above a file whose name, which is
+/// to stand at 200, has no bytes yet.
+static HEAD: [(usize, &[u8]); 6] = [
+    (0, VERSION_2),
+    (15, b"\xc8"),
+    (23, b"\x09"),
+    (30, b"\x02"),
+    (39, b"\x01"),
+    (46, b"\x02"),
+];
+
+/// Such an image above the file of that name.
 fn above(alloc: Global, name: &str) -> Result<Vec<u8>, AllocError> {
-    expected(
-        alloc,
-        1024,
-        &[
-            (0, VERSION_2),
-            (15, b"\xc8"),
-            (19, &[name.len() as u8]),
-            (23, b"\x09"),
-            (30, b"\x02"),
-            (39, b"\x01"),
-            (46, b"\x02"),
-            (200, name.as_bytes()),
-        ],
-    )
+    let mut bytes = expected(alloc, 200, &HEAD)?;
+    if let Some(count) = bytes.get_mut(19) {
+        *count = name.len().min(255) as u8;
+    }
+    bytes.extend_from_slice(name.as_bytes())?;
+    bytes.resize(1024, 0)?;
+    Ok(bytes)
 }
 
 /// So many images from number 0 on, each above the next one, and the last one above the file of
