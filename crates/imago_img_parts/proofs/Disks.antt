@@ -40,9 +40,9 @@ disk_of_image strict allow path text Vmdk size paths pieces files e (extents, re
       subst (λ (ps : List (List ℕ)). values_from (described_value (not strict) (storages_by ps files 0)) 0 size ≡ map Byte put) is
           (shows (storages_by paths files) own),
     )
-disk_of_image strict allow path text Qcow2 size paths pieces files e (others, layers, is, are, len, shows) =
+disk_of_image strict allow path text Qcow2 size paths pieces files e (layers, are, len, shows) =
     let put = plan_bytes (storages_by paths files) pieces in
-    (allow, others, layers, are, subst (λ n. values_from (layers_value layers) 0 n ≡ map Byte put) len shows)
+    (allow, paths, layers, are, subst (λ n. values_from (layers_value layers) 0 n ≡ map Byte put) len shows)
 
 -- the same of an opened image, with what a command did
 pub converted_image :

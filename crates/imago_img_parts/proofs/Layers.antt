@@ -10,7 +10,7 @@ use Rattle.imago_access.specs.Chain.{driver, backing, unboxed}
 use Rattle.imago_access.specs.Disk.{values_from}
 use Rattle.imago_access.specs.Target.{Target, target, target_here, followed}
 use Rattle.imago_access.proofs.DiskLists.{same_listed}
-use Rattle.imago_vmdk.specs.Disk.{with_bytes}
+use Rattle.imago_vmdk.specs.Disk.{described_place, with_bytes}
 use Rattle.imago_qcow2.specs.Entry.{cluster_length, disk_size, qcow2_place}
 use Rattle.imago_qcow2.specs.Disk.{HaveSameTables, StandsAlike}
 use Rattle.imago_qcow2.proofs.NumberSteps.{range64}
@@ -20,10 +20,10 @@ use Rattle.imago_plan.specs.PieceBytes.{plan_bytes}
 use Rattle.imago_plan.specs.StoredBytes.{target_value, disk_with}
 use Rattle.imago_loaded.proofs.Chain.{same_place, same_clusters}
 use Rattle.imago_img_parts.specs.declared.text.ImageFormat.{ImageFormat}
-use Rattle.imago_img_parts.specs.declared.text.ImageFormat.TheVariants.{Qcow2}
+use Rattle.imago_img_parts.specs.declared.text.ImageFormat.TheVariants.{Raw, Vmdk, Qcow2}
 use Rattle.imago_img_parts.specs.Files.{path_at, storages_by}
 use Rattle.imago_img_parts.specs.Formats.{SaysFormat, IsFormatBy, IsFormatBelow}
-use Rattle.imago_img_parts.specs.Layers.{layers_value, IsLayerOf, ShowsLayers, IsChainImage}
+use Rattle.imago_img_parts.specs.Layers.{layers_value, IsLayer, IsLayerOf, ShowsLayers, IsChainImage}
 
 -- a place of a layer, over what is below it
 followed_value :
@@ -73,6 +73,14 @@ raw_by false byte bytes p = refl
 pub raw_same : (n : ℕ) (own : List ℕ) (bytes : ℕ → List ℕ) (p : ℕ) → with_bytes bytes (raw_place n own p) ≡ raw_place n (bytes 0) p
 raw_same n own bytes p = raw_by (nat_lt p n) (slice_index own p) bytes p
 
+-- the first storage of a layer is its file
+own_first : (strict allow : Bool) (files : List ℕ → List ℕ) (path : List ℕ) (format : ImageFormat)
+    (own : List (List ℕ)) (place : ℕ → Place) (next : Option (List ℕ))
+    → IsLayer strict allow files path format own place next → path_at own 0 ≡ path
+own_first strict allow files path Raw own place next h = ap (λ (ps : List (List ℕ)). path_at ps 0) (h.0)
+own_first strict allow files path Qcow2 own place next h = ap (λ (ps : List (List ℕ)). path_at ps 0) (h.0)
+own_first strict allow files path Vmdk own place next (extents, size, reading, is, through, at, end) = ap (λ (ps : List (List ℕ)). path_at ps 0) is
+
 module _ {D St : Type 0} (view : D → View St) where
   abbrev below_of : Option (FormatAccess D) → ℕ → Target
   below_of None p = target_here End
@@ -98,37 +106,37 @@ module _ {D St : Type 0} (view : D → View St) where
 
   -- a layer with nothing below it
   pub alone_shows :
-      (allow : Bool) (files : List ℕ → List ℕ) (path : List ℕ) (format : ImageFormat)
-      (x : FormatAccess D) (paths : List (List ℕ))
-      → paths ≡ path ∷ [] → backing x ≡ None
-      → IsLayerOf view allow files path format (driver x) None
-      → ShowsLayers view allow files path format x paths
-  alone_shows allow files path format x paths is none (place, layer, sized, same) =
+      (strict allow : Bool) (files : List ℕ → List ℕ) (path : List ℕ) (format : ImageFormat)
+      (x : FormatAccess D) (own paths : List (List ℕ))
+      → paths ≡ own → backing x ≡ None
+      → IsLayerOf view strict allow files path format (driver x) own None
+      → ShowsLayers view strict allow files path format x paths
+  alone_shows strict allow files path format x own paths is none (place, layer, sized, same) =
       let rest : (bytes : ℕ → ℕ → List ℕ) (q : ℕ) → target_value (λ k. bytes (suc k)) (below_of (backing x) q) ≡ layers_value [] q =
       (λ bytes q. ap (λ (b : Option (FormatAccess D)). target_value (λ k. bytes (suc k)) (below_of b q)) none) in
       let bytes = storages_by paths files in
-      let own : bytes 0 0 ≡ files path = ap (λ (ps : List (List ℕ)). files (path_at ps 0)) is in
-      ([], place ∷ [], is, (None, layer, (refl, refl)), sized, shows bytes x place [] (rest bytes) (same (bytes 0) own))
+      let all : (s : ℕ) → bytes 0 s ≡ storages_by own files 0 s = (λ s. ap (λ (ps : List (List ℕ)). files (path_at ps (s + 0))) is) in
+      let first : bytes 0 0 ≡ files path = all 0 ∙ ap files (own_first strict allow files path format own place None layer) in
+      (place ∷ [], (own, None, layer, (is, refl)), sized, shows bytes x place [] (rest bytes) (same (bytes 0) first (λ no. all)))
 
   -- a layer above others
   pub over_shows :
-      (allow : Bool) (files : List ℕ → List ℕ) (path next : List ℕ) (format lower : ImageFormat)
-      (x y : FormatAccess D) (paths more : List (List ℕ))
+      (strict allow : Bool) (files : List ℕ → List ℕ) (path next : List ℕ) (format lower : ImageFormat)
+      (x y : FormatAccess D) (own paths more : List (List ℕ))
       → paths ≡ path ∷ more → backing x ≡ Some y
-      → IsLayerOf view allow files path format (driver x) (Some next)
+      → IsLayerOf view strict allow files path format (driver x) own (Some next)
       → IsFormatBelow (files path) (files next) lower
-      → ShowsLayers view allow files next lower y more
-      → ShowsLayers view allow files path format x paths
-  over_shows allow files path next format lower x y paths more is some (place, layer, sized, same) said (others, layers, are, chain, below_sized, on) =
+      → ShowsLayers view strict allow files next lower y more
+      → ShowsLayers view strict allow files path format x paths
+  over_shows strict allow files path next format lower x y own paths more is some (place, layer, sized, same) said (layers, chain, below_sized, on) =
       let bytes = storages_by (path ∷ more) files in
       let rest : (q : ℕ) → target_value (λ k. bytes (suc k)) (below_of (backing x) q) ≡ layers_value layers q =
       (λ q. ap (λ (b : Option (FormatAccess D)). target_value (λ k. bytes (suc k)) (below_of b q)) some
       ∙ same_value (λ k. bytes (suc k)) (storages_by more files) (deeper_bytes path more files) (target view y q) ∙ on q) in
-      let all : (p : ℕ) → target_value bytes (target view x p) ≡ layers_value (place ∷ layers) p = shows bytes x place layers rest (same (bytes 0) refl) in (
-        more,
+      let none : Some next ≡ None → (s : ℕ) → bytes 0 s ≡ storages_by own files 0 s = (λ no. let z : ⊥ = cc no in absurd z) in
+      let all : (p : ℕ) → target_value bytes (target view x p) ≡ layers_value (place ∷ layers) p = shows bytes x place layers rest (same (bytes 0) refl none) in (
         place ∷ layers,
-        is,
-        (Some next, layer, (others, are, (lower, said, chain))),
+        (own, Some next, layer, (more, is, (lower, said, chain))),
         sized,
         subst (λ (ps : List (List ℕ)). (p : ℕ) → target_value (storages_by ps files) (target view x p) ≡ layers_value (place ∷ layers) p) (sym is) all,
       )
@@ -169,41 +177,41 @@ told_layer (Err e) known path n P format said f h k = tt
 
 pub told_raw :
     {A E : Type 0} (r : Result A E) (known : Option (List ℕ → List ℕ)) (path : List ℕ) (n : ℕ)
-    (allow : Bool) (P : ImageFormat → Bool → (List ℕ → List ℕ) → A → Type 0)
+    (strict allow : Bool) (P : ImageFormat → Bool → Bool → (List ℕ → List ℕ) → A → Type 0)
     (format said : ImageFormat)
     → format ≡ said → IfSome known (λ files. n ≡ length (files path))
-    → IfOk r (λ x. (a : Bool) (files : List ℕ → List ℕ) → length (files path) ≡ n → P said a files x)
-    → IfOk r (λ x. IfSome known (λ files. P format allow files x))
-told_raw (Ok x) None path n allow P format said e h k = tt
-told_raw (Ok x) (Some files) path n allow P format said e h k =
-    subst (λ (f : ImageFormat). P f allow files x) (sym e) (k allow files (sym h))
-told_raw (Err e) known path n allow P format said f h k = tt
+    → IfOk r (λ x. (s a : Bool) (files : List ℕ → List ℕ) → length (files path) ≡ n → P said s a files x)
+    → IfOk r (λ x. IfSome known (λ files. P format strict allow files x))
+told_raw (Ok x) None path n strict allow P format said e h k = tt
+told_raw (Ok x) (Some files) path n strict allow P format said e h k =
+    subst (λ (f : ImageFormat). P f strict allow files x) (sym e) (k strict allow files (sym h))
+told_raw (Err e) known path n strict allow P format said f h k = tt
 
-module _ {D St : Type 0} (view : D → View St) (allow : Bool) where
+module _ {D St : Type 0} (view : D → View St) (strict allow : Bool) where
   pub alone_told :
       (known : Option (List ℕ → List ℕ)) (path : List ℕ) (format : ImageFormat)
-      (inner : D) (x : FormatAccess D) (paths : List (List ℕ))
-      → paths ≡ path ∷ [] → driver x ≡ inner → backing x ≡ None
-      → IfSome known (λ files. IsLayerOf view allow files path format inner None)
-      → IfSome known (λ files. ShowsLayers view allow files path format x paths)
-  alone_told None path format inner x paths is own none h = tt
-  alone_told (Some files) path format inner x paths is own none h =
-      alone_shows view allow files path format x paths is none
-      (subst (λ (d : D). IsLayerOf view allow files path format d None) (sym own) h)
+      (inner : D) (x : FormatAccess D) (own : List (List ℕ))
+      → driver x ≡ inner → backing x ≡ None
+      → IfSome known (λ files. IsLayerOf view strict allow files path format inner own None)
+      → IfSome known (λ files. ShowsLayers view strict allow files path format x own)
+  alone_told None path format inner x own same none h = tt
+  alone_told (Some files) path format inner x own same none h =
+      alone_shows view strict allow files path format x own own refl none
+      (subst (λ (d : D). IsLayerOf view strict allow files path format d own None) (sym same) h)
 
   pub over_told :
       (known : Option (List ℕ → List ℕ)) (path next : List ℕ) (format lower : ImageFormat)
-      (inner : D) (x y : FormatAccess D) (paths more : List (List ℕ))
+      (inner : D) (x y : FormatAccess D) (own paths more : List (List ℕ))
       → paths ≡ path ∷ more → driver x ≡ inner → backing x ≡ Some y
-      → IfSome known (λ files. IsLayerOf view allow files path format inner (Some next))
+      → IfSome known (λ files. IsLayerOf view strict allow files path format inner own (Some next))
       → (said : Option ImageFormat) → IfSome known (λ files. SaysFormat (files path) said)
       → IfSome known (λ files. IsFormatBy said (files next) lower)
-      → IfSome known (λ files. ShowsLayers view allow files next lower y more)
-      → IfSome known (λ files. ShowsLayers view allow files path format x paths)
-  over_told None path next format lower inner x y paths more is own some h said f g k = tt
-  over_told (Some files) path next format lower inner x y paths more is own some h said f g k =
-      over_shows view allow files path next format lower x y paths more is some
-      (subst (λ (d : D). IsLayerOf view allow files path format d (Some next)) (sym own) h) (said, f, g) k
+      → IfSome known (λ files. ShowsLayers view strict allow files next lower y more)
+      → IfSome known (λ files. ShowsLayers view strict allow files path format x paths)
+  over_told None path next format lower inner x y own paths more is same some h said f g k = tt
+  over_told (Some files) path next format lower inner x y own paths more is same some h said f g k =
+      over_shows view strict allow files path next format lower x y own paths more is some
+      (subst (λ (d : D). IsLayerOf view strict allow files path format d own (Some next)) (sym same) h) (said, f, g) k
 
   -- the plan of an image that shows layers has the bytes of their disk
   pub planned_told :
@@ -212,14 +220,12 @@ module _ {D St : Type 0} (view : D → View St) (allow : Bool) where
       → ((image : FormatAccess D) (ps : List Piece) (bytes : ℕ → ℕ → List ℕ) → IsPlan view image ps
       → disk_with view image bytes ≡ map Byte (plan_bytes bytes ps))
       → size ≡ (view (driver x)).size → IsPlan view x pieces
-      → IfSome known (λ files. ShowsLayers view allow files path Qcow2 x paths)
-      → IfSome known (λ files. IsChainImage allow files path size paths pieces)
+      → IfSome known (λ files. ShowsLayers view strict allow files path Qcow2 x paths)
+      → IfSome known (λ files. IsChainImage strict allow files path size paths pieces)
   planned_told None path x paths size pieces law len covers h = tt
-  planned_told (Some files) path x paths size pieces law len covers (others, layers, is, are, sized, on) =
+  planned_told (Some files) path x paths size pieces law len covers (layers, are, sized, on) =
       let bytes = storages_by paths files in (
-        others,
         layers,
-        is,
         are,
         len ∙ sized,
         same_listed (λ p. target_value bytes (target view x p)) (layers_value layers) size (view (driver x)).size len (λ p. sym (on p))
@@ -246,3 +252,23 @@ told_alone (Err e) below known P h = tt
 pub if_some : {A : Type 0} (o : Option A) (P Q : A → Type 0) → ((x : A) → P x → Q x) → IfSome o P → IfSome o Q
 if_some None P Q f h = tt
 if_some (Some x) P Q f h = f x h
+
+-- a place, with bytes that are the same
+same_with : (b c : ℕ → List ℕ) → ((s : ℕ) → b s ≡ c s) → (place : Place) → with_bytes b place ≡ with_bytes c place
+same_with b c h (Stored byte s o w) = ap (λ (xs : List ℕ). Stored (slice_index xs o) s o w) (h s)
+same_with b c h (Lower q w) = refl
+same_with b c h (Zeroed e) = refl
+same_with b c h (Special byte o) = refl
+same_with b c h (Refused e) = refl
+same_with b c h End = refl
+
+-- a VMDK image whose descriptor is in memory has each byte where its files have it
+pub vmdk_same :
+    (accept keys : Bool) (own files bytes : ℕ → List ℕ) (place : ℕ → Place) → keys ≡ accept
+    → ((p : ℕ) → place p ≡ described_place keys own p)
+    → ((a : Bool) (old new : ℕ → List ℕ) (p : ℕ) → new 0 ≡ old 0 → described_place a new p ≡ with_bytes new (described_place a old p))
+    → files 0 ≡ own 0 → ((s : ℕ) → bytes s ≡ files s)
+    → (p : ℕ) → with_bytes bytes (place p) ≡ described_place accept files p
+vmdk_same accept keys own files bytes place e says law same all p =
+    same_with bytes files all (place p) ∙ ap (with_bytes files) (says p) ∙ sym (law keys own files p same)
+    ∙ ap (λ (b : Bool). described_place b files p) e

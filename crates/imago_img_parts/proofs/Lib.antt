@@ -1,6 +1,7 @@
 mod LetThrough
 mod Files
 mod Disks
+mod Described
 mod Layers
 mod NamesBelow
 mod FormatBelow

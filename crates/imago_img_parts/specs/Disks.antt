@@ -10,7 +10,7 @@ use Rattle.imago_img_parts.specs.declared.text.ImageFormat.{ImageFormat}
 use Rattle.imago_img_parts.specs.declared.text.ImageFormat.TheVariants.{Raw, Vmdk, Qcow2}
 use Rattle.imago_img_parts.specs.Files.{storages_by, IsMade}
 use Rattle.imago_img_parts.specs.Layers.{AreLayers, layers_value}
-use Rattle.imago_img_parts.specs.Images.{flat_names, storage_paths}
+use Rattle.imago_img_parts.specs.Extents.{flat_names, storage_paths}
 
 -- The bytes of a disk that the image of a path has, among these files: of a raw image, the file's
 -- own. Of a VMDK image, those that its descriptor describes, where the storages of its FLAT extents
@@ -26,8 +26,8 @@ IsDiskOf strict files path Vmdk disk =
     (storages_by (storage_paths path (flat_names extents)) files 0)) 0 size
     ≡ map Byte disk)
 IsDiskOf strict files path Qcow2 disk =
-    (allow : Bool) × (others : List (List ℕ)) × (layers : List (ℕ → Place))
-    × AreLayers allow files path Qcow2 others layers
+    (allow : Bool) × (paths : List (List ℕ)) × (layers : List (ℕ → Place))
+    × AreLayers strict allow files path Qcow2 paths layers
     × (values_from (layers_value layers) 0 (disk_size (files path)) ≡ map Byte disk)
 
 -- the image of a path has that disk, opened as the format that was said, if one was

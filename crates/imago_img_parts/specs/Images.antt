@@ -1,28 +1,16 @@
-use Rattle.std.specs.Prelude.{◌≡◌, ℕ, Bool, true, false, not, List, [], ◌∷◌, map, length, Ok, Option}
+use Rattle.std.specs.Prelude.{◌≡◌, ℕ, Bool, not, List, [], ◌∷◌, map, length, Ok, Option}
 use Rattle.std.specs.Prelude.{IfSome}
 use Rattle.imago_drivers.specs.Place.{Byte}
 use Rattle.imago_access.specs.Disk.{values_from}
 use Rattle.imago_vmdk.specs.declared.line.Extent.{Extent}
-use Rattle.imago_vmdk.specs.declared.line.Extent.TheVariants as Extent
 use Rattle.imago_vmdk.specs.Reading.{reading_of}
 use Rattle.imago_vmdk.specs.Disk.{described_value}
 use Rattle.imago_plan.specs.declared.piece.Piece.{Piece}
 use Rattle.imago_plan.specs.PieceBytes.{bytes_at, plan_bytes}
 use Rattle.imago_img_parts.specs.declared.text.ImageFormat.{ImageFormat}
 use Rattle.imago_img_parts.specs.declared.text.ImageFormat.TheVariants.{Raw, Vmdk, Qcow2}
-use Rattle.imago_plan.specs.Names.{stays_below, path_beside}
+use Rattle.imago_img_parts.specs.Extents.{flat_names, storage_paths, AreLetThrough}
 use Rattle.imago_img_parts.specs.Layers.{IsChainImage}
-
--- the names of FLAT extents, in order
-abbrev pub flat_names : List (Extent (List ℕ)) → List (List ℕ)
-flat_names [] = []
-flat_names (Extent.Zero sectors ∷ extents) = flat_names extents
-flat_names (Extent.NoAccess sectors ∷ extents) = flat_names extents
-flat_names (Extent.Flat sectors name offset writable ∷ extents) = name ∷ flat_names extents
-
--- the paths of an image's storages: its own, and those that such names stand for
-abbrev pub storage_paths : List ℕ → List (List ℕ) → List (List ℕ)
-storage_paths path names = path ∷ map (path_beside path) names
 
 -- Whatever the storages' bytes are, those of the pieces are the disk that this descriptor
 -- describes.
@@ -35,15 +23,6 @@ ShowsDescribed accept text size pieces =
 abbrev pub ShowsRaw : ℕ → List Piece → Type 0
 ShowsRaw size pieces = (bytes : ℕ → ℕ → List ℕ) → plan_bytes bytes pieces
     ≡ bytes_at (bytes 0 0) 0 size
-
--- no name leads out of the folder
-abbrev pub AllStayBelow : List (List ℕ) → Type 0
-AllStayBelow [] = Unit {0}
-AllStayBelow (name ∷ names) = (stays_below name ≡ true) × AllStayBelow names
-
--- the same, unless that is permitted
-abbrev pub AreLetThrough : Bool → List (List ℕ) → Type 0
-AreLetThrough allow names = allow ≡ false → AllStayBelow names
 
 -- An image of that path, which has that text, is opened as one of that format: of that size, in the
 -- files of these paths, and as these pieces. Of a qcow2 image it is said where it is told what
@@ -58,4 +37,4 @@ IsImageOf strict allow known path text Vmdk size paths pieces =
     × (paths ≡ storage_paths path (flat_names extents)) × AreLetThrough allow (flat_names extents)
     × ShowsDescribed (not strict) text size pieces
 IsImageOf strict allow known path text Qcow2 size paths pieces =
-    IfSome known (λ files. IsChainImage allow files path size paths pieces)
+    IfSome known (λ files. IsChainImage strict allow files path size paths pieces)

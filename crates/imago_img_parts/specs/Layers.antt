@@ -1,5 +1,5 @@
-use Rattle.std.specs.Prelude.{◌≡◌, ℕ, ◌<◌, ◌⊎◌, Bool, true, false, List, [], ◌∷◌, Option, Some, None, map}
-use Rattle.std.specs.Prelude.{length}
+use Rattle.std.specs.Prelude.{◌≡◌, ℕ, ◌<◌, ◌⊎◌, Bool, true, false, not, List, [], ◌∷◌, Option, Some, None, map}
+use Rattle.std.specs.Prelude.{length, Ok}
 use Rattle.imago_drivers.specs.Place.{Place, Value, Byte, shown}
 use Rattle.imago_drivers.specs.Raw.{raw_place}
 use Rattle.imago_drivers.specs.View.{View}
@@ -7,7 +7,9 @@ use Rattle.imago_access.specs.declared.access.FormatAccess.{FormatAccess}
 use Rattle.imago_access.specs.Chain.{driver}
 use Rattle.imago_access.specs.Disk.{values_from}
 use Rattle.imago_access.specs.Target.{target}
-use Rattle.imago_vmdk.specs.Disk.{with_bytes}
+use Rattle.imago_vmdk.specs.declared.line.Extent.{Extent}
+use Rattle.imago_vmdk.specs.Reading.{reading_of}
+use Rattle.imago_vmdk.specs.Disk.{described_place, with_bytes}
 use Rattle.imago_qcow2.specs.Numbers.{be32, be64}
 use Rattle.imago_qcow2.specs.Entry.{disk_size, qcow2_place}
 use Rattle.imago_plan.specs.declared.piece.Piece.{Piece}
@@ -18,6 +20,7 @@ use Rattle.imago_img_parts.specs.declared.text.ImageFormat.TheVariants.{Raw, Vmd
 use Rattle.imago_plan.specs.Names.{stays_below, path_beside}
 use Rattle.imago_img_parts.specs.Files.{storages_by}
 use Rattle.imago_img_parts.specs.Formats.{IsFormatBelow}
+use Rattle.imago_img_parts.specs.Extents.{flat_names, storage_paths, AreLetThrough, size_read}
 
 -- the name of the file below it that a qcow2 file has, if it has one: no bytes are no name
 abbrev pub SaysBacking : List ℕ → Option (List ℕ) → Type 0
@@ -34,35 +37,44 @@ LeadsTo allow files path (Some next) =
     (name : List ℕ) × SaysBacking (files path) (Some name)
     × (allow ≡ false → stays_below name ≡ true) × (next ≡ path_beside path name)
 
--- A layer that the file of a path is, in that format: what stands at each offset of its disk, and
--- the path of the file below it, if there is one.
+-- A layer that the file of a path is, in that format: the paths of its storages, the file's own
+-- first, what stands at each offset of its disk, and the path of the file below it, if there is
+-- one. Nothing is below a VMDK image, whose descriptor names the files of its FLAT extents.
 abbrev pub IsLayer :
-    Bool → (List ℕ → List ℕ) → List ℕ → ImageFormat → (ℕ → Place) → Option (List ℕ) → Type 0
-IsLayer allow files path Raw place next =
-    (place ≡ raw_place (length (files path)) (files path)) × (next ≡ None)
-IsLayer allow files path Qcow2 place next =
-    (place ≡ qcow2_place (files path)) × LeadsTo allow files path next
-IsLayer allow files path Vmdk place next = ⊥
+    Bool → Bool → (List ℕ → List ℕ) → List ℕ → ImageFormat → List (List ℕ) → (ℕ → Place)
+    → Option (List ℕ) → Type 0
+IsLayer strict allow files path Raw own place next = (own ≡ path ∷ [])
+    × (place ≡ raw_place (length (files path)) (files path)) × (next ≡ None)
+IsLayer strict allow files path Qcow2 own place next = (own ≡ path ∷ [])
+    × (place ≡ qcow2_place (files path)) × LeadsTo allow files path next
+IsLayer strict allow files path Vmdk own place next =
+    (extents : List (Extent (List ℕ))) × (size : ℕ)
+    × (reading_of (not strict) (files path) ≡ Ok (extents, size))
+    × (own ≡ storage_paths path (flat_names extents)) × AreLetThrough allow (flat_names extents)
+    × (place ≡ described_place (not strict) (storages_by own files 0)) × (next ≡ None)
 
--- a chain goes on with the file of the next path, and those below it, or ends
+-- A chain goes on with the file of the next path, and those below it, or ends with a layer's own
+-- files. All paths are those of its files, in order.
 abbrev pub GoesOn :
-    Option (List ℕ) → List (List ℕ) → List (ℕ → Place)
+    List ℕ → List (List ℕ) → Option (List ℕ) → List (List ℕ) → List (ℕ → Place)
     → (List ℕ → List (List ℕ) → Type 0) → Type 0
-GoesOn None others below rest = (others ≡ []) × (below ≡ [])
-GoesOn (Some next) others below rest =
-    (more : List (List ℕ)) × (others ≡ next ∷ more) × rest next more
+GoesOn path own None paths below rest = (paths ≡ own) × (below ≡ [])
+GoesOn path own (Some next) paths below rest =
+    (more : List (List ℕ)) × (paths ≡ path ∷ more) × rest next more
 
 -- The layers of an image whose file has that path and that format, the top one first, and the paths
--- of the files below it. Each lower one has the format that the file above it says, or else its own
+-- of all their files. Each lower one has the format that the file above it says, or else its own
 -- first bytes.
 abbrev pub AreLayers :
-    Bool → (List ℕ → List ℕ) → List ℕ → ImageFormat → List (List ℕ) → List (ℕ → Place) → Type 0
-AreLayers allow files path format others [] = ⊥
-AreLayers allow files path format others (place ∷ below) =
-    (next : Option (List ℕ)) × IsLayer allow files path format place next
-    × GoesOn next others below
+    Bool → Bool → (List ℕ → List ℕ) → List ℕ → ImageFormat → List (List ℕ) → List (ℕ → Place)
+    → Type 0
+AreLayers strict allow files path format paths [] = ⊥
+AreLayers strict allow files path format paths (place ∷ below) =
+    (own : List (List ℕ)) × (next : Option (List ℕ))
+    × IsLayer strict allow files path format own place next
+    × GoesOn path own next paths below
     (λ p more. (lower : ImageFormat) × IsFormatBelow (files path) (files p) lower
-    × AreLayers allow files p lower more below)
+    × AreLayers strict allow files p lower more below)
 
 -- what a read of each offset gives of the disk of layers, the top one first: below the last one all
 -- is zero
@@ -71,36 +83,37 @@ layers_value [] p = Byte 0
 layers_value (place ∷ below) p = shown (layers_value below) (place p)
 
 -- the size of the disk that a layer's file has, in that format
-abbrev pub size_by : ImageFormat → List ℕ → ℕ
-size_by Raw bytes = length bytes
-size_by Qcow2 bytes = disk_size bytes
-size_by Vmdk bytes = 0
+abbrev pub size_by : Bool → ImageFormat → List ℕ → ℕ
+size_by strict Raw bytes = length bytes
+size_by strict Qcow2 bytes = disk_size bytes
+size_by strict Vmdk bytes = size_read (reading_of (not strict) bytes)
 
--- a driver has each byte of the layer where the file has it, whatever the file's clusters hold
+-- A driver has each byte of the layer where the files have it, whatever else than headers and
+-- tables these have. Those of its own that aren't the first are looked at in the last layer alone.
 abbrev pub IsLayerOf :
-    {D St : Type 0} → (D → View St) → Bool → (List ℕ → List ℕ) → List ℕ → ImageFormat → D
-    → Option (List ℕ) → Type 0
-IsLayerOf view allow files path format inner next =
-    (place : ℕ → Place) × IsLayer allow files path format place next
-    × ((view inner).size ≡ size_by format (files path))
+    {D St : Type 0} → (D → View St) → Bool → Bool → (List ℕ → List ℕ) → List ℕ → ImageFormat → D
+    → List (List ℕ) → Option (List ℕ) → Type 0
+IsLayerOf view strict allow files path format inner own next =
+    (place : ℕ → Place) × IsLayer strict allow files path format own place next
+    × ((view inner).size ≡ size_by strict format (files path))
     × ((bytes : ℕ → List ℕ) → bytes 0 ≡ files path
+    → (next ≡ None → (s : ℕ) → bytes s ≡ storages_by own files 0 s)
     → (p : ℕ) → with_bytes bytes ((view inner).place p) ≡ place p)
 
 -- an image over the files of these paths shows the layers of the first of them
 abbrev pub ShowsLayers :
-    {D St : Type 0} → (D → View St) → Bool → (List ℕ → List ℕ) → List ℕ → ImageFormat
+    {D St : Type 0} → (D → View St) → Bool → Bool → (List ℕ → List ℕ) → List ℕ → ImageFormat
     → FormatAccess D → List (List ℕ) → Type 0
-ShowsLayers view allow files path format x paths =
-    (others : List (List ℕ)) × (layers : List (ℕ → Place)) × (paths ≡ path ∷ others)
-    × AreLayers allow files path format others layers
-    × ((view (driver x)).size ≡ size_by format (files path))
+ShowsLayers view strict allow files path format x paths =
+    (layers : List (ℕ → Place)) × AreLayers strict allow files path format paths layers
+    × ((view (driver x)).size ≡ size_by strict format (files path))
     × ((p : ℕ) → target_value (storages_by paths files) (target view x p) ≡ layers_value layers p)
 
 -- The pieces of an image, which is a qcow2 image over others, have the bytes of its disk.
 abbrev pub IsChainImage :
-    Bool → (List ℕ → List ℕ) → List ℕ → ℕ → List (List ℕ) → List Piece → Type 0
-IsChainImage allow files path size paths pieces =
-    (others : List (List ℕ)) × (layers : List (ℕ → Place)) × (paths ≡ path ∷ others)
-    × AreLayers allow files path Qcow2 others layers × (size ≡ disk_size (files path))
+    Bool → Bool → (List ℕ → List ℕ) → List ℕ → ℕ → List (List ℕ) → List Piece → Type 0
+IsChainImage strict allow files path size paths pieces =
+    (layers : List (ℕ → Place)) × AreLayers strict allow files path Qcow2 paths layers
+    × (size ≡ disk_size (files path))
     × (values_from (layers_value layers) 0 size
     ≡ map Byte (plan_bytes (storages_by paths files) pieces))

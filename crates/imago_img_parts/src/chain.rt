@@ -1,4 +1,4 @@
-//! Chains of qcow2 images, and what is below them.
+//! Chains of qcow2 images, and what is below them: a raw image, a VMDK image, or nothing.
 ghost use Rattle.std.specs.Prelude.{◌≡◌, ℕ, Bool, List, [], ◌∷◌, map, length, option_map};
 ghost use Rattle.std.specs.Prelude.{IfOk, IfSome, None, Some};
 ghost use Rattle.std.specs.String.{string_bytes};
@@ -13,6 +13,7 @@ use crate::host::Host;
 use crate::opened::{Opening, format_of, storage_paths};
 use crate::qcow2::qcow2_driver;
 use crate::text::{ImageFormat, file_status};
+use crate::vmdk::{VmdkFile, vmdk_file};
 use imago_access::access::FormatAccess;
 use imago_any_driver::any::AnyDriver;
 use imago_drivers::drivers::FormatDriverInstance;
@@ -22,6 +23,7 @@ use imago_plan::laws::plans_show_stored_bytes;
 use imago_plan::piece::Piece;
 use imago_plan::plan::plan;
 use imago_qcow2::laws::same_tables_stand_alike;
+use imago_vmdk::laws::{places_of_bytes, same_stands};
 use std::alloc::{AllocError, Global};
 
 /// The most files that a chain has below its first.
@@ -32,7 +34,7 @@ const MOST: usize = 199;
 struct Chain {
     /// The image, of which only headers and tables are in memory.
     image: FormatAccess<AnyDriver<LoadedFile>>,
-    /// The files of its layers, the top one first.
+    /// The files of its layers' storages, those of the top one first.
     paths: Vec<String>,
 }
 
@@ -42,7 +44,7 @@ pub struct Planned {
     /// The disk's size in bytes.
     pub size: u64,
     pub pieces: Vec<Piece>,
-    /// The files of the image's layers, the top one first.
+    /// The files of the layers' storages, those of the top one first.
     pub paths: Vec<String>,
 }
 
@@ -50,6 +52,8 @@ pub struct Planned {
 #[derive(Drop)]
 struct Layer {
     driver: AnyDriver<LoadedFile>,
+    /// The files of its storages, its own first.
+    paths: Vec<String>,
     below: Option<Backing>,
 }
 
@@ -93,30 +97,32 @@ fn layer_of<H: Host>(
         (λ files. IfSome layer.below (λ b. SaysFormat (files path.now) b.format))) }
     ensures layer { IfOk result (λ layer. IfSome (H.contents host.now)
         (λ files. IsLayerOf ⟦<AnyDriver<LoadedFile> as FormatDriverInstance>⟧.view
-        how.allow_outside files path.now format layer.driver
-        (option_map (λ b. string_bytes b.path) layer.below))) }
+        how.strict how.allow_outside files path.now format layer.driver
+        (map string_bytes layer.paths.items) (option_map (λ b. string_bytes b.path) layer.below))) }
 {
     let length = file_status(host, path)?.length;
     match format {
         ImageFormat::Raw => raw_layer(host.alloc(), path, length),
         ImageFormat::Qcow2 => qcow2_layer(host, path, length, how),
-        ImageFormat::Vmdk => Err(Failure::of_file(host.alloc(), path, Reason::VmdkBelow)),
+        ImageFormat::Vmdk => vmdk_layer(host, path, length, how),
     }
 }
 
 /// The layer of a raw file of that length.
 fn raw_layer(alloc: Global, path: &str, size: u64) -> Result<Layer, Failure>
     ensures alone { IfOk result (λ layer. layer.below ≡ None) }
-    ensures layer { IfOk result (λ layer. (allow : Bool) (files : List ℕ → List ℕ)
+    ensures layer { IfOk result (λ layer. (strict allow : Bool) (files : List ℕ → List ℕ)
         → length (files path.now) ≡ size
         → IsLayerOf ⟦<AnyDriver<LoadedFile> as FormatDriverInstance>⟧.view
-        allow files path.now ImageFormat.Raw layer.driver
-        (option_map (λ b. string_bytes b.path) layer.below)) }
+        strict allow files path.now ImageFormat.Raw layer.driver
+        (map string_bytes layer.paths.items) (option_map (λ b. string_bytes b.path) layer.below)) }
 {
+    let paths = storage_paths(alloc, path, &[])?;
     let file = LoadedFile::new(alloc, size, 1);
     match Raw::open_image(file, false) {
         Ok(raw) => Ok(Layer {
             driver: AnyDriver::Raw(raw),
+            paths,
             below: None,
         }),
         Err(cause) => Err(Failure::of_file(alloc, path, Reason::Image(cause))),
@@ -131,28 +137,35 @@ fn qcow2_layer<H: Host>(host: &H, path: &str, size: u64, how: Opening) -> Result
     ensures layer { IfOk result (λ layer. (files : List ℕ → List ℕ)
         → H.contents host.now ≡ Some files → length (files path.now) ≡ size
         → IsLayerOf ⟦<AnyDriver<LoadedFile> as FormatDriverInstance>⟧.view
-        how.allow_outside files path.now ImageFormat.Qcow2 layer.driver
-        (option_map (λ b. string_bytes b.path) layer.below)) }
+        how.strict how.allow_outside files path.now ImageFormat.Qcow2 layer.driver
+        (map string_bytes layer.paths.items) (option_map (λ b. string_bytes b.path) layer.below)) }
 {
     same_tables_stand_alike();
     let driver = qcow2_driver(host, path, size)?;
     let below = backing_of(host, path, &driver, how)?;
     Ok(Layer {
         driver: AnyDriver::Qcow2(driver),
+        paths: storage_paths(host.alloc(), path, &[])?,
         below,
     })
 }
 
-/// A layer with nothing below it.
-fn alone(alloc: Global, path: &str, driver: AnyDriver<LoadedFile>) -> Result<Chain, AllocError>
-    ensures paths { IfOk result
-        (λ chain. map string_bytes chain.paths.items ≡ path.now ∷ []) }
-    ensures driver { IfOk result (λ chain. driver_of chain.image ≡ driver) }
-    ensures below { IfOk result (λ chain. backing chain.image ≡ None) }
+/// The layer of a descriptor of that length.
+fn vmdk_layer<H: Host>(host: &H, path: &str, size: u64, how: Opening) -> Result<Layer, Failure>
+    ensures alone { IfOk result (λ layer. layer.below ≡ None) }
+    ensures layer { IfOk result (λ layer. (files : List ℕ → List ℕ)
+        → H.contents host.now ≡ Some files → length (files path.now) ≡ size
+        → IsLayerOf ⟦<AnyDriver<LoadedFile> as FormatDriverInstance>⟧.view
+        how.strict how.allow_outside files path.now ImageFormat.Vmdk layer.driver
+        (map string_bytes layer.paths.items) (option_map (λ b. string_bytes b.path) layer.below)) }
 {
-    Ok(Chain {
-        image: FormatAccess::new(driver),
-        paths: storage_paths(alloc, path, &[])?,
+    same_stands();
+    let VmdkFile { driver, paths } = vmdk_file(host, path, size, how)?;
+    places_of_bytes(&driver);
+    Ok(Layer {
+        driver: AnyDriver::Vmdk(driver),
+        paths,
+        below: None,
     })
 }
 
@@ -187,14 +200,21 @@ fn chain_from<H: Host>(
 ) -> Result<Chain, Failure>
     ensures { IfOk result (λ chain. IfSome (H.contents host.now)
         (λ files. ShowsLayers ⟦<AnyDriver<LoadedFile> as FormatDriverInstance>⟧.view
-        how.allow_outside files path.now format chain.image
+        how.strict how.allow_outside files path.now format chain.image
         (map string_bytes chain.paths.items))) }
 {
     way.enter(host, path)?;
     let alloc = host.alloc();
-    let Layer { driver, below } = layer_of(host, path, format, how)?;
+    let Layer {
+        driver,
+        paths,
+        below,
+    } = layer_of(host, path, format, how)?;
     let Some(next) = below else {
-        return Ok(alone(alloc, path, driver)?);
+        return Ok(Chain {
+            image: FormatAccess::new(driver),
+            paths,
+        });
     };
     if most == 0 {
         return Err(Failure::of_file(alloc, path, Reason::TooManyBelow(way.told.clone()?)));
@@ -212,7 +232,7 @@ fn chain_from<H: Host>(
 fn chain_of<H: Host>(host: &H, path: &str, how: Opening) -> Result<Chain, Failure>
     ensures { IfOk result (λ chain. IfSome (H.contents host.now)
         (λ files. ShowsLayers ⟦<AnyDriver<LoadedFile> as FormatDriverInstance>⟧.view
-        how.allow_outside files path.now ImageFormat.Qcow2 chain.image
+        how.strict how.allow_outside files path.now ImageFormat.Qcow2 chain.image
         (map string_bytes chain.paths.items))) }
 {
     let mut way = Way {
@@ -228,7 +248,7 @@ fn chain_of<H: Host>(host: &H, path: &str, how: Opening) -> Result<Chain, Failur
 /// than 200.
 pub fn planned_chain<H: Host>(host: &H, path: &str, how: Opening) -> Result<Planned, Failure>
     ensures { IfOk result (λ planned. IfSome (H.contents host.now)
-        (λ files. IsChainImage how.allow_outside files path.now planned.size
+        (λ files. IsChainImage how.strict how.allow_outside files path.now planned.size
         (map string_bytes planned.paths.items) planned.pieces.items)) }
 {
     let chain = chain_of(host, path, how)?;

@@ -74,9 +74,6 @@ pub enum Reason {
     /// A qcow2 image that says so of its backing file's format.
     #[error("its backing file has the format {0:?}, which isn't supported")]
     BackingFormat(String),
-    /// A VMDK image below another one.
-    #[error("a VMDK image, which isn't supported as a backing file")]
-    VmdkBelow,
     /// A backing file that stands above itself, by these paths.
     #[error("backing files lead in a circle: {0}")]
     Loop(String),

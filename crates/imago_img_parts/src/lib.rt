@@ -28,3 +28,4 @@ pub mod run;
 mod sources;
 pub mod system;
 mod text;
+mod vmdk;

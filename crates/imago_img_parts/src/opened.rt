@@ -1,36 +1,36 @@
 //! Images in files, opened.
-ghost use Rattle.std.specs.Prelude.{◌≡◌, ℕ, List, not, true, map, length, Ok, IfOk};
+ghost use Rattle.std.specs.Prelude.{◌≡◌, ℕ, List, true, map, length, IfOk};
 ghost use Rattle.std.specs.Prelude.{Option, IfSome};
 ghost use Rattle.std.specs.String.{string_bytes};
 ghost use Rattle.imago_vmdk.specs.declared.line.Extent.{Extent};
 ghost use Rattle.imago_vmdk.specs.Line.{extent_with};
-ghost use Rattle.std.specs.List.{sum_by};
 ghost use Rattle.imago_access.specs.Chain.{driver};
-ghost use Rattle.imago_vmdk.specs.Image.{is_opened, takes_unknown_keys, descriptor_in, extents_in};
-ghost use Rattle.imago_vmdk.specs.Reading.{reading_of, size_of};
+ghost use Rattle.imago_access.specs.Disk.{values_from};
+ghost use Rattle.imago_drivers.specs.Place.{Byte};
+ghost use Rattle.imago_vmdk.specs.Image.{is_opened, takes_unknown_keys, descriptor_in};
+ghost use Rattle.imago_vmdk.specs.Disk.{described_value};
+ghost use Rattle.imago_plan.specs.PieceBytes.{plan_bytes};
+ghost use Rattle.imago_loaded.specs.Loaded.{loaded_bytes};
 ghost use Rattle.imago_img_parts.specs.declared.text.ImageFormat.TheVariants as ImageFormat;
 ghost use Rattle.imago_img_parts.specs.Formats.{IsFormatBy};
-ghost use Rattle.imago_img_parts.specs.Images.{flat_names, storage_paths as paths_of};
-ghost use Rattle.imago_img_parts.specs.Images.{ShowsDescribed, ShowsRaw, AreLetThrough, IsImageOf};
+ghost use Rattle.imago_img_parts.specs.Extents.{flat_names, storage_paths as paths_of};
+ghost use Rattle.imago_img_parts.specs.Images.{ShowsRaw, IsImageOf};
 
 use crate::chain::{Planned, planned_chain};
-use crate::extents::Folder;
-use crate::failure::{Failure, Reason};
+use crate::failure::Failure;
 use crate::host::Host;
-use crate::text::{ImageFormat, descriptor_text, file_status, guessed_format};
+use crate::text::{ImageFormat, file_status, guessed_format};
+use crate::vmdk::{VmdkFile, vmdk_file};
 use imago_access::access::FormatAccess;
-use imago_drivers::builder::FormatDriverBuilder;
+use imago_drivers::drivers::FormatDriverInstance;
 use imago_drivers::raw::Raw;
-use imago_plan::gate::FolderGate;
+use imago_loaded::loaded::LoadedFile;
 use imago_plan::laws::{plans_of_raw, plans_of_vmdk};
-use imago_plan::name::{path_beside, stays_below};
+use imago_plan::name::path_beside;
 use imago_plan::piece::Piece;
 use imago_plan::plan::plan;
 use imago_storage::error::Error;
-use imago_storage::mem::MemStorage;
 use imago_storage::null::Null;
-use imago_storage::storage::Storage;
-use imago_vmdk::descriptor;
 use imago_vmdk::line::Extent;
 use imago_vmdk::vmdk::Vmdk;
 use std::alloc::{AllocError, Global};
@@ -154,18 +154,12 @@ fn open_vmdk<H: Host>(
         (map string_bytes image.paths.items) image.pieces.items) }
 {
     let alloc = host.alloc();
-    let text = descriptor_text(host, path, count)?;
-    let said = descriptor::read(alloc, !how.strict, &text);
-    let extents = Failure::or_image(alloc, path, said)?.extents;
-    let (size, pieces) = match planned_vmdk(alloc, text, how) {
-        Ok(planned) => planned,
-        Err(cause) => return Err(not_planned(alloc, path, &extents, cause)),
-    };
-    let paths = storage_paths(alloc, path, &extents)?;
-    confine(host, path, &paths, how.allow_outside)?;
+    let VmdkFile { driver, paths } = vmdk_file(host, path, count, how)?;
+    let image = FormatAccess::new(driver);
+    let pieces = Failure::or_image(alloc, path, planned_vmdk(alloc, &image))?;
     Ok(OpenedImage {
         format: ImageFormat::Vmdk,
-        size,
+        size: image.size(),
         pieces,
         paths,
     })
@@ -191,76 +185,18 @@ fn open_qcow2<H: Host>(host: &H, path: &str, how: Opening) -> Result<OpenedImage
     })
 }
 
-/// The size of the disk that a descriptor describes, in bytes, and where its bytes stand.
-fn planned_vmdk(alloc: Global, text: Vec<u8>, how: Opening) -> Result<(u64, Vec<Piece>), Error>
-    ensures shows { IfOk result (λ r. ShowsDescribed (not how.strict) text.items r.0 r.1.items) }
-    ensures names { IfOk result (λ r. (extents : List (Extent (List ℕ)))
-        × (reading_of (not how.strict) text.items ≡ Ok (extents, r.0))
-        × AreLetThrough how.allow_outside (flat_names extents)) }
+/// Where the bytes of the disk stand that an opened descriptor describes.
+fn planned_vmdk(alloc: Global, image: &FormatAccess<Vmdk<LoadedFile>>) -> Result<Vec<Piece>, Error>
+    requires { is_opened (driver image.now) ≡ true }
+    ensures { IfOk result (λ pieces.
+        (bytes : ℕ → ℕ → List ℕ)
+        → bytes 0 0 ≡ loaded_bytes (descriptor_in (driver image.now))
+        → values_from (described_value (takes_unknown_keys (driver image.now)) (bytes 0)) 0
+        (⟦<Vmdk<LoadedFile> as FormatDriverInstance>⟧.view (driver image.now)).size
+        ≡ map Byte (plan_bytes bytes pieces.items)) }
 {
-    let image = opened_vmdk(alloc, text, how)?;
-    plans_of_vmdk(&image);
-    let pieces = plan(alloc, &image)?;
-    Ok((image.size(), pieces))
-}
-
-/// The image that a descriptor describes, over extents that are empty.
-fn opened_vmdk(
-    alloc: Global,
-    text: Vec<u8>,
-    how: Opening,
-) -> Result<FormatAccess<Vmdk<MemStorage>>, Error>
-    ensures opened { IfOk result (λ x. is_opened (driver x) ≡ true) }
-    ensures keys { IfOk result (λ x. takes_unknown_keys (driver x) ≡ not how.strict) }
-    ensures text { IfOk result
-        (λ x. ⟦<MemStorage as Storage>⟧.bytes (descriptor_in (driver x)) ≡ text.items) }
-    ensures reading { IfOk result (λ x. reading_of (not how.strict) text.items
-        ≡ Ok (extents_in (driver x), sum_by size_of (extents_in (driver x)))) }
-    ensures names { IfOk result
-        (λ x. AreLetThrough how.allow_outside (flat_names (extents_in (driver x)))) }
-{
-    let builder = Vmdk::builder(MemStorage::new(text)).accept_unknown_keys(!how.strict);
-    let image = builder.open(alloc, FolderGate::new(how.allow_outside))?;
-    Ok(FormatAccess::new(image))
-}
-
-/// Tells why a descriptor with those extents isn't opened: with the first name that isn't let
-/// through, where that is why.
-fn not_planned(alloc: Global, path: &str, extents: &[Extent<String>], cause: Error) -> Failure {
-    if cause == Error::Denied {
-        for extent in extents {
-            if let Extent::Flat { name, .. } = extent {
-                if !stays_below(name) {
-                    return outside(alloc, path, name);
-                }
-            }
-        }
-    }
-    Failure::of_file(alloc, path, Reason::Image(cause))
-}
-
-/// A descriptor's extent of that name isn't in its folder.
-fn outside(alloc: Global, path: &str, name: &str) -> Failure {
-    match String::from_str(alloc, name) {
-        Ok(name) => Failure::of_file(alloc, path, Reason::Outside(name)),
-        Err(_) => Failure::Memory,
-    }
-}
-
-/// Refuses files that links lead out of the descriptor's folder.
-fn confine<H: Host>(
-    host: &H,
-    path: &str,
-    paths: &[String],
-    allow_outside: bool,
-) -> Result<(), Failure> {
-    let folder = Folder::of(host, path, allow_outside)?;
-    for named in paths.iter().skip(1) {
-        if Failure::or_system(host.alloc(), named, folder.leaves(host, named))? {
-            return Err(outside(host.alloc(), path, named));
-        }
-    }
-    Ok(())
+    plans_of_vmdk(image);
+    plan(alloc, image)
 }
 
 /// Refuses an image of whose files one isn't there, or isn't a file.

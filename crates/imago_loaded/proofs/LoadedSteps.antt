@@ -8,9 +8,10 @@ use Rattle.std.specs.Ordering.{nat_cmp}
 use Rattle.std.proofs.lemmas.Bool.{cases_eq, cases_lt}
 use Rattle.std.proofs.lemmas.Bool.Decides.{nat_tests}
 use Rattle.std.proofs.lemmas.Nat.{le-div, div-mul-add}
+use Rattle.std.proofs.lemmas.Grind.{same_number_lists}
 use Rattle.std.proofs.lemmas.List.{get_or_past}
 use Rattle.std.proofs.lemmas.List.FromFn.{length-map-range_with_len, get_or-map-range_with_len}
-use Rattle.std.proofs.Math.Nat.{mod-lt, mod-add-div', div-mul-le_self}
+use Rattle.std.proofs.Math.Nat.{mod-lt, mod-add-div', div-mul-le_self, div-eq_of_lt, mod-eq_of_lt}
 use Rattle.imago_storage.specs.declared.error.Error.{Error}
 use Rattle.imago_storage.specs.Bytes.{splice, OldOrNew, WriteOutcome, IsReadAt}
 use Rattle.imago_storage.proofs.Splices.{splice_length}
@@ -220,3 +221,17 @@ load_done old mid new at n number positive some keeps before done loads =
 pub same_range : (file : List ℕ) (f : LoadedFile) (at n : ℕ) → HasBytesOf file f → length file ≡ f.length → 0 < f.block
     → AreThere f at n → (i : ℕ) → i < n → slice_index file (at + i) ≡ slice_index (loaded_bytes f) (at + i)
 same_range file f at n has len positive there i h = same_byte file f has len positive (at + i) (there (at + i) (omega arith) (omega (arith, h)))
+
+-- a file of one block, which is all of it
+pub whole_bytes : (f : LoadedFile) (v : Vec ℕ Global) → f.length ≡ length v.items → f.length ≤ f.block
+    → block_at f 0 ≡ Some v → loaded_bytes f ≡ v.items
+whole_bytes f v len small here =
+    let n : length (loaded_bytes f) ≡ f.length = loaded_length f in
+    same_number_lists (loaded_bytes f) v.items (n ∙ len)
+    (λ k lt.
+    let inside : k < f.length = omega (arith, lt, n) in
+    let under : k < f.block = omega (arith, inside, small) in
+    byte_inside f k inside
+    ∙ ap (λ (q : ℕ). byte_in (block_at f q) (k % f.block)) (div-eq_of_lt under)
+    ∙ ap (byte_in (block_at f 0)) (mod-eq_of_lt under)
+    ∙ ap (λ (o : Option (Vec ℕ Global)). byte_in o k) here)

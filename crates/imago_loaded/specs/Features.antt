@@ -1,12 +1,14 @@
-use Rattle.std.specs.Prelude.{false, refl}
+use Rattle.std.specs.Prelude.{true, false, refl}
 use Rattle.imago_storage.specs.Features.{Features, AsData, AreAlignments}
 use Rattle.imago_storage.specs.Mem.{null_features}
 
--- Blocks of a file in memory: what is written isn't kept, and nothing fails.
+-- Blocks of a file in memory: what is written isn't kept, and nothing fails. A relative name stands
+-- for itself.
 abbrev pub loaded_features : Features
 loaded_features = record null_features {
   zeroes = AsData;
   offers_resize = false;
+  resolves_paths = true;
 }
 
 pub loaded_lawful : AreAlignments loaded_features

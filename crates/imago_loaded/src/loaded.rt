@@ -118,6 +118,20 @@ impl LoadedFile {
         }
     }
 
+    /// A file that has these bytes, all in memory.
+    pub fn whole(alloc: Global, bytes: Vec<u8>) -> Result<Self, AllocError>
+        ensures { IfOk result (λ file. loaded_bytes file ≡ bytes.items) }
+    {
+        let length = bytes.len() as u64;
+        let mut blocks = BTreeMap::new(alloc);
+        blocks.insert(0, bytes)?;
+        Ok(LoadedFile {
+            length,
+            block: length.max(1),
+            blocks,
+        })
+    }
+
     /// How many bytes from the offset on, which is inside the file, are of one block and inside the
     /// file: at most that many.
     fn part_at(&self, offset: u64, most: usize) -> usize
@@ -275,10 +289,9 @@ impl Storage for LoadedFile {
         Ok(self.length)
     }
 
+    /// Names are not relative to one another: the same text comes back.
     fn resolve_relative_path(&self, alloc: Global, relative: &str) -> Result<String, Error> {
-        let _ = alloc;
-        let _ = relative;
-        Err(Error::Unsupported)
+        Ok(String::from_str(alloc, relative)?)
     }
 
     fn get_filename(&self) -> Option<&str> {

@@ -9,7 +9,7 @@ type Row = (&'static str, u8, &'static str, &'static str);
 
 /// qcow2 images whose disk of 2048 bytes is what is below, and files for below. A name of a backing
 /// file stands at 200, the header extension with its format at 104.
-static PARTS: [PartsRow; 9] = [
+static PARTS: [PartsRow; 16] = [
     // A raw file that begins as a qcow2 image does, and one that begins as a sparse VMDK image.
     ("begun.raw", 512, &[(0, b"QFI\xfb")]),
     ("sparse.raw", 512, &[(0, b"KDMV")]),
@@ -110,6 +110,105 @@ static PARTS: [PartsRow; 9] = [
             (46, b"\x02"),
         ],
     ),
+    // Above VMDK images.
+    (
+        "says_vmdk.qcow2",
+        1024,
+        &[
+            (0, VERSION_3),
+            (15, b"\xc8\0\0\0\x09"),
+            (23, b"\x09"),
+            (30, b"\x08"),
+            (39, b"\x01"),
+            (46, b"\x02"),
+            (99, b"\x04\0\0\0\x68"),
+            (104, b"\xe2\x79\x2a\xca\0\0\0\x04vmdk"),
+            (200, b"disk.vmdk"),
+        ],
+    ),
+    (
+        "says_vmdk_of_raw.qcow2",
+        1024,
+        &[
+            (0, VERSION_3),
+            (15, b"\xc8\0\0\0\x09"),
+            (23, b"\x09"),
+            (30, b"\x08"),
+            (39, b"\x01"),
+            (46, b"\x02"),
+            (99, b"\x04\0\0\0\x68"),
+            (104, b"\xe2\x79\x2a\xca\0\0\0\x04vmdk"),
+            (200, b"plain.raw"),
+        ],
+    ),
+    (
+        "two_above.qcow2",
+        2048,
+        &[
+            (0, VERSION_2),
+            (15, b"\xc8\0\0\0\x0b"),
+            (23, b"\x09"),
+            (30, b"\x08"),
+            (39, b"\x01"),
+            (46, b"\x02"),
+            (200, b"above.qcow2"),
+            (518, b"\x04"),
+            (1030, b"\x06"),
+            (1536, b"t"),
+        ],
+    ),
+    (
+        "above_outside.qcow2",
+        1024,
+        &[
+            (0, VERSION_2),
+            (15, b"\xc8\0\0\0\x0c"),
+            (23, b"\x09"),
+            (30, b"\x08"),
+            (39, b"\x01"),
+            (46, b"\x02"),
+            (200, b"outside.vmdk"),
+        ],
+    ),
+    (
+        "above_linked.qcow2",
+        1024,
+        &[
+            (0, VERSION_2),
+            (15, b"\xc8\0\0\0\x0b"),
+            (23, b"\x09"),
+            (30, b"\x08"),
+            (39, b"\x01"),
+            (46, b"\x02"),
+            (200, b"linked.vmdk"),
+        ],
+    ),
+    (
+        "above_missing.qcow2",
+        1024,
+        &[
+            (0, VERSION_2),
+            (15, b"\xc8\0\0\0\x0c"),
+            (23, b"\x09"),
+            (30, b"\x08"),
+            (39, b"\x01"),
+            (46, b"\x02"),
+            (200, b"missing.vmdk"),
+        ],
+    ),
+    (
+        "above_barred.qcow2",
+        1024,
+        &[
+            (0, VERSION_2),
+            (15, b"\xc8\0\0\0\x0b"),
+            (23, b"\x09"),
+            (30, b"\x08"),
+            (39, b"\x01"),
+            (46, b"\x02"),
+            (200, b"barred.vmdk"),
+        ],
+    ),
 ];
 
 /// The format of a file below: that of the name that the header has, or else what the file begins
@@ -195,6 +294,109 @@ static NAMELESS: [Row; 2] = [
     ),
 ];
 
+/// The lowest image is a VMDK image.
+static ABOVE_VMDK: [Row; 11] = [
+    (
+        "map above.qcow2",
+        0,
+        "start                length               kind offset               file\n\
+        0                    3                    zero 0                    a.bin\n\
+        3                    3                    data 3                    a.bin\n\
+        6                    506                  zero 6                    a.bin\n\
+        512                  1024                 zero\n\
+        1536                 3                    data 512                  parts/b.bin\n\
+        1539                 509                  zero 515                  parts/b.bin\n",
+        "",
+    ),
+    (
+        "map --json two_above.qcow2",
+        0,
+        "[{ \"start\": 0, \"length\": 1, \"depth\": 0, \"present\": true, \"zero\": false, \"data\": true, \"offset\": 1536, \"filename\": \"two_above.qcow2\"},\n\
+        { \"start\": 1, \"length\": 511, \"depth\": 0, \"present\": true, \"zero\": true, \"data\": false, \"offset\": 1537, \"filename\": \"two_above.qcow2\"},\n\
+        { \"start\": 512, \"length\": 1024, \"depth\": 0, \"present\": true, \"zero\": true, \"data\": false},\n\
+        { \"start\": 1536, \"length\": 3, \"depth\": 2, \"present\": true, \"zero\": false, \"data\": true, \"offset\": 512, \"filename\": \"parts/b.bin\"},\n\
+        { \"start\": 1539, \"length\": 509, \"depth\": 2, \"present\": true, \"zero\": true, \"data\": false, \"offset\": 515, \"filename\": \"parts/b.bin\"}]\n",
+        "",
+    ),
+    (
+        "compare says_vmdk.qcow2 disk.vmdk",
+        0,
+        "Images are identical.\n",
+        "",
+    ),
+    (
+        "compare two_above.qcow2 disk.vmdk",
+        1,
+        "Content mismatch at offset 0!\n",
+        "",
+    ),
+    (
+        "info above.qcow2",
+        0,
+        "image: \"above.qcow2\"\nformat: qcow2\nsize: 2048 bytes\nversion: 2\ncluster: 512 bytes\n\
+        backing file: \"disk.vmdk\"\ndata: 0 of 4 clusters\n",
+        "",
+    ),
+    (
+        "map says_vmdk_of_raw.qcow2",
+        1,
+        "",
+        "imago-img: \"plain.raw\": the driver or storage does not support this operation; imago-img check tells where\n",
+    ),
+    (
+        "map above_outside.qcow2",
+        1,
+        "",
+        "imago-img: \"outside.vmdk\": its extent \"/etc/secret\" isn't in the descriptor's folder; --allow-outside permits it\n",
+    ),
+    (
+        "map above_linked.qcow2",
+        1,
+        "",
+        "imago-img: \"linked.vmdk\": its extent \"link.bin\" isn't in the descriptor's folder; --allow-outside permits it\n",
+    ),
+    (
+        "convert above_missing.qcow2 out.raw",
+        1,
+        "",
+        "imago-img: \"nowhere.bin\": entity not found\n",
+    ),
+    (
+        "convert above_barred.qcow2 out.raw",
+        1,
+        "",
+        "imago-img: \"above_barred.qcow2\": this part of the disk may not be accessed\n",
+    ),
+    (
+        "convert --force above.qcow2 parts/b.bin",
+        1,
+        "",
+        "imago-img: \"parts/b.bin\": a file of the image that is read is never replaced\n",
+    ),
+];
+
+/// Disks above VMDK images that are written to raw files.
+static CONVERTED: [Case; 2] = [
+    Case {
+        words: "convert two_above.qcow2 out.raw",
+        appends: 99,
+        finishes: true,
+        status: 0,
+        output: "",
+        errors: "",
+        written: Some((2048, &[(0, b"t"), (1536, b"xyz")])),
+    },
+    Case {
+        words: "convert --allow-outside above_outside.qcow2 out.raw",
+        appends: 99,
+        finishes: true,
+        status: 0,
+        output: "",
+        errors: "",
+        written: Some((2048, &[(0, b"top")])),
+    },
+];
+
 /// Tries command lines that make no file.
 fn check_rows(rt: &impl Abort, alloc: Global, rows: &[Row]) {
     for (words, status, output, errors) in rows {
@@ -223,4 +425,14 @@ fn a_file_below_has_the_format_that_is_said(rt: HostRuntime) {
 #[test]
 fn a_name_without_bytes_is_no_file_below(rt: HostRuntime) {
     check_rows(&rt, rt.alloc(), &NAMELESS);
+}
+
+#[test]
+fn a_vmdk_image_stands_below(rt: HostRuntime) {
+    check_rows(&rt, rt.alloc(), &ABOVE_VMDK);
+}
+
+#[test]
+fn a_disk_above_a_vmdk_image_is_converted(rt: HostRuntime) {
+    check_cases_over(&rt, rt.alloc(), &PARTS, &CONVERTED);
 }

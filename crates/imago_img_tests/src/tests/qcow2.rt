@@ -116,10 +116,10 @@ static ROWS: [Row; 19] = [
         "imago-img: \"other.qcow2\": its backing file has the format \"luks\", which isn't supported\n",
     ),
     (
-        "map above.qcow2",
+        "map --strict above.qcow2",
         1,
         "",
-        "imago-img: \"disk.vmdk\": a VMDK image, which isn't supported as a backing file\n",
+        "imago-img: \"disk.vmdk\": the image's data is invalid; imago-img check tells where\n",
     ),
     (
         "convert faulty.qcow2 out.raw",

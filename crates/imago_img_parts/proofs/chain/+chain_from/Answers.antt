@@ -13,17 +13,15 @@ use Rattle.imago_img_parts.proofs.chain.+chain_from.Goals as goal
 pub returns-in_default : goal.returns-in_default
 returns-in_default g t c =
     let known = g.H.Host.contents c.args.host.now in
-    let chain = c.in_ok-alone.field-0 in
     let layer = c.in_ok-driver.field-0 in
     let says : Option Backing → Type 0 = λ b. IfSome known (λ files. IsLayerOf
     (view_over (λ (s : LoadedFile). loaded_features) (λ (s : LoadedFile). 0) loaded_bytes)
-    c.args.how.allow_outside files c.args.path.now c.args.format layer.driver
-    (option_map (λ (x : Backing). string_bytes x.path) b)) in
+    c.args.how.strict c.args.how.allow_outside files c.args.path.now c.args.format layer.driver
+    (map string_bytes layer.paths.items) (option_map (λ (x : Backing). string_bytes x.path) b)) in
     alone_told
     (view_over (λ (s : LoadedFile). loaded_features) (λ (s : LoadedFile). 0) loaded_bytes)
-    c.args.how.allow_outside known c.args.path.now c.args.format layer.driver chain.image
-    (map string_bytes chain.paths.items) c.in_ok-alone.ensures.paths
-    c.in_ok-alone.ensures.driver c.in_ok-alone.ensures.below
+    c.args.how.strict c.args.how.allow_outside known c.args.path.now c.args.format layer.driver c.new.result
+    (map string_bytes layer.paths.items) c.new.ensures.driver c.new.ensures.backing
     (subst says c.in_default.is c.in_ok-driver.ensures.layer)
 
 pub returns : goal.returns
@@ -34,18 +32,18 @@ returns g t c =
     let layer = c.in_ok-driver.field-0 in
     let says : Option Backing → Type 0 = λ b. IfSome known (λ files. IsLayerOf
     (view_over (λ (s : LoadedFile). loaded_features) (λ (s : LoadedFile). 0) loaded_bytes)
-    c.args.how.allow_outside files c.args.path.now c.args.format layer.driver
-    (option_map (λ (x : Backing). string_bytes x.path) b)) in
+    c.args.how.strict c.args.how.allow_outside files c.args.path.now c.args.format layer.driver
+    (map string_bytes layer.paths.items) (option_map (λ (x : Backing). string_bytes x.path) b)) in
     let shows : List ℕ → Type 0 = λ next. IfSome known (λ files. ShowsLayers
     (view_over (λ (s : LoadedFile). loaded_features) (λ (s : LoadedFile). 0) loaded_bytes)
-    c.args.how.allow_outside files next c.in_ok-format.format below.image
+    c.args.how.strict c.args.how.allow_outside files next c.in_ok-format.format below.image
     (map string_bytes below.paths.items)) in
     let by_format : List ℕ → Type 0 = λ next. IfSome known (λ files. IsFormatBy c.in-Some.next.format (files next) c.in_ok-format.format) in
     over_told
     (view_over (λ (s : LoadedFile). loaded_features) (λ (s : LoadedFile). 0) loaded_bytes)
-    c.args.how.allow_outside known c.args.path.now (string_bytes c.in-Some.next.path)
+    c.args.how.strict c.args.how.allow_outside known c.args.path.now (string_bytes c.in-Some.next.path)
     c.args.format c.in_ok-format.format layer.driver chain.image below.image
-    (map string_bytes chain.paths.items) (map string_bytes below.paths.items)
+    (map string_bytes layer.paths.items) (map string_bytes chain.paths.items) (map string_bytes below.paths.items)
     c.in_ok-over.ensures.paths c.in_ok-over.ensures.driver c.in_ok-over.ensures.below
     (subst says c.in-Some.is c.in_ok-driver.ensures.layer)
     c.in-Some.next.format

@@ -12,10 +12,10 @@ returns-clause-layer g c = λ files known len.
     let same = c.in_ok-driver.ensures.tables files known len in
     let below = known_is (g.H.Host.contents c.args.host.now) _ files known c.in_ok-below.ensures.path in (
       qcow2_place file,
-      (refl, below),
+      (c.in_ok-storage_paths.ensures, refl, below),
       qcow2_sized file _ same,
-      qcow2_same file _ same (subst (λ n. 512 ≤ n) driver.cluster_is driver.least)
-          c.same_tables_stand_alike.ensures.places,
+      λ bytes is none. qcow2_same file _ same (subst (λ n. 512 ≤ n) driver.cluster_is driver.least)
+          c.same_tables_stand_alike.ensures.places bytes is,
     )
 
 pub returns-clause-format : goal.returns-clause-format
