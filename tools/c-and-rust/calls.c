@@ -68,7 +68,7 @@ static void scripts(void)
     runs("size\nread 0 x\nsize\n", 2, "err NotFound\nbad line 2\n");
     runs("\xff\xfe\n", 2, "bad line 1\n");
     runs("hex b 0102030405060708\nopen raw b ro\nmem c 0 00 1 1\nopen cow c 4\nwrite 1 ff\nread 0 8\ndiscard backing 0 4\nread 0 8\nresize 6 zero\nmap 0 9\n",
-         0, "ok\nok\nok\nok\nok\nok 01ff030405060708\nok\nok 0102030405060708\nok\nok 6 1/0:0x0/ro\n");
+         0, "ok\nok\nok\nok\nok\nok 01ff030405060708\nok\nok 0102030405060708\nok\nok 4 1/0:0x0/ro\n");
 }
 
 #define TEXT(literal) (const uint8_t *)(literal), sizeof(literal) - 1
