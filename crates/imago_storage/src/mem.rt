@@ -36,9 +36,7 @@ pub struct MemStorage {
     ghost zero_whole: { zero_align % req_align ≡ 0 },
 }
 
-/// Adds zeroes up to that length. Room is asked for as a `Vec` does, for twice the bytes or more,
-/// so that many small growths take linear time; where that is refused, exactly the new bytes are
-/// asked for.
+/// Adds zeroes up to that length.
 fn grow(bytes: &mut Vec<u8>, len: u64) -> Result<(), Error>
     ensures ok { OnOk result
         (bytes.new.items ≡ bytes.old.items ++ replicate (len - length bytes.old.items) 0) }
@@ -49,11 +47,25 @@ fn grow(bytes: &mut Vec<u8>, len: u64) -> Result<(), Error>
     if len <= bytes.len() as u64 {
         return Ok(());
     }
-    let more = len as usize - bytes.len();
+    lengthen(bytes, len as usize)
+}
+
+/// Adds zeroes up to that length. Room is asked for as a `Vec` does, for twice the bytes or more,
+/// so that many small growths take linear time; where that is refused, exactly the new bytes are
+/// asked for. It isn't a part of [`grow`], so that a write inside the length takes no time for it.
+#[inline(never)]
+fn lengthen(bytes: &mut Vec<u8>, len: usize) -> Result<(), Error>
+    requires { length bytes.old.items ≤ len }
+    ensures ok { OnOk result
+        (bytes.new.items ≡ bytes.old.items ++ replicate (len - length bytes.old.items) 0) }
+    ensures err { OnErr result (bytes.new.items ≡ bytes.old.items) }
+    ensures memory { IfErr result (λ e. e ≡ Error.Memory) }
+{
+    let more = len - bytes.len();
     if bytes.reserve(more).is_err() {
         bytes.reserve_exact(more)?;
     }
-    bytes.resize(len as usize, 0)?;
+    bytes.resize(len, 0)?;
     Ok(())
 }
 
