@@ -62,10 +62,10 @@ module _ {D St : Type 0} (view : D → View St) (never_fails : (d : D) → (view
       let e : min n ((view (driver x)).size - o) ≡ n = omega (arith, inside) in
       subst (λ (m : ℕ). (m ≡ 0) ⊎ takes_no_memory view x o m) (sym e) (⊎_elim (λ some. inr (inl (own_memory x o n some whole none))) (λ (z : n ≤ 0). inl (omega (arith, z))) (cases_lt 0 n))
 
--- Images of raw drivers over storages that never fail, by their drivers' features, bytes, size and writability.
-module _ {R : Type 0} (f : R → Features) (bytes : R → List ℕ) (size : R → ℕ) (writable : R → Bool) (never_fails : (r : R) → (f r).is_reliable ≡ true) where
+-- Images of raw drivers over storages that never fail, by their drivers' features, bytes, size, writability and count of faults.
+module _ {R : Type 0} (f : R → Features) (bytes : R → List ℕ) (size : R → ℕ) (writable : R → Bool) (faults : R → ℕ) (never_fails : (r : R) → (f r).is_reliable ≡ true) (no_faults : (r : R) → faults r ≡ 0) where
   abbrev pub raw_images : R → View Unit
-  raw_images r = raw_view (f r) 0 (bytes r) (size r) (writable r)
+  raw_images r = raw_view (f r) (faults r) (bytes r) (size r) (writable r)
 
   leads_nowhere : (r : R) (p q : ℕ) (w : Bool) → (raw_images r).place p ≡ Lower q w → ⊥
   leads_nowhere r p q w e = raw_lower (size r) (bytes r) p q w e
@@ -85,16 +85,23 @@ module _ {R : Type 0} (f : R → Features) (bytes : R → List ℕ) (size : R �
     no_end : (o n : ℕ) → o + n ≤ size (driver x) → EndsIn (raw_images (driver x)).place o n → ⊥
     no_end o n inside h = let s = raw_in (size (driver x)) (bytes (driver x)) (h.0) (omega (arith, h.1.1, inside)) in let t = h.2 in cc
 
+    counts : faults (driver x) + 1 < 2 ^ 64
+    counts = let k = no_faults (driver x) in omega (arith, k)
+
     is_sound : writable (driver x) ≡ true → IsSound raw_images x
-    is_sound w = record { writable = w; reliable = devices_are_reliable raw_images (λ r. never_fails r) leads_nowhere x; counts = omega arith }
+    is_sound w = record { writable = w; reliable = devices_are_reliable raw_images (λ r. never_fails r) leads_nowhere x; counts = counts }
+
+    fits_too : size d < 2 ^ 64 → size (driver x) < 2 ^ 64
+    fits_too fits = subst (λ (r : R). size r < 2 ^ 64) is fits
 
     -- a read inside the disk
-    pub read_inside : ReadsSucceed raw_images → (o n : ℕ) (result : Result Unit Error) → o + n ≤ size (driver x) → HasRoom (f (driver x)) o n → IfErr result (allowed (read_reasons raw_images x o n))
+    pub read_inside : ReadsSucceed raw_images → (o n : ℕ) (result : Result Unit Error) → o + n ≤ size (driver x) → size d < 2 ^ 64 → (size (driver x) < 2 ^ 64 → HasRoom (f (driver x)) o n) → IfErr result (allowed (read_reasons raw_images x o n))
         → Succeeds (IsAlignedRequest (f (driver x)) o n × (MayRunOut (f (driver x)).read_memory (length (bytes (driver x))) (o + n) → ⊥)) result
-    read_inside law o n result inside room h =
+    read_inside law o n result inside fits room h =
+        let has : HasRoom (f (driver x)) o n = room (fits_too fits) in
         let s = law x o n result (chain_is_reliable raw_images (λ r. never_fails r) leads_nowhere x) (λ e c. ⊎_elim
-        (λ a. no_cause Read o n refl (λ u. room) e (own_cause raw_images (λ r. never_fails r) leads_nowhere x Read o n e a))
-        (λ a. no_cause Map o n refl (λ u. room) e (own_cause raw_images (λ r. never_fails r) leads_nowhere x Map o n e a)) c) h in
+        (λ a. no_cause Read o n refl (λ u. has) e (own_cause raw_images (λ r. never_fails r) leads_nowhere x Read o n e a))
+        (λ a. no_cause Map o n refl (λ u. has) e (own_cause raw_images (λ r. never_fails r) leads_nowhere x Map o n e a)) c) h in
         record { refusals = s.refusals; sure = λ k. s.sure (own_memory_to_read raw_images (λ r. never_fails r) leads_nowhere x o n inside inside (inside, k.0, k.1)) }
 
     -- a mapping of any range
@@ -103,27 +110,29 @@ module _ {R : Type 0} (f : R → Features) (bytes : R → List ℕ) (size : R �
         (λ e c. no_cause Map o (max n 1) refl (λ u. absurd u) e (own_cause raw_images (λ r. never_fails r) leads_nowhere x Map o (max n 1) e c)) h
 
     -- a write inside the disk
-    pub write_inside : WritesSucceed raw_images → (new : FormatAccess R) (o : ℕ) (source : List ℕ) (result : Result Unit Error) → writable (driver x) ≡ true → o + length source ≤ size (driver x) → HasRoom (f (driver x)) o (length source)
+    pub write_inside : WritesSucceed raw_images → (new : FormatAccess R) (o : ℕ) (source : List ℕ) (result : Result Unit Error) → writable (driver x) ≡ true → o + length source ≤ size (driver x) → size d < 2 ^ 64 → (size (driver x) < 2 ^ 64 → HasRoom (f (driver x)) o (length source))
         → IsWrite raw_images x new o source result
         → Succeeds (IsAlignedRequest (f (driver x)) o (length source) × (MayRunOut (f (driver x)).write_memory (length (bytes (driver x))) (o + length source) → ⊥)) result
-    write_inside law new o source result w inside room h =
-        let s = law x new o source result (record { sound = is_sound w; inside = inside; no_end = no_end o (length source) inside; no_cause = no_change_cause Write o (length source) refl (λ u. room) }) h in
+    write_inside law new o source result w inside fits room h =
+        let s = law x new o source result (record { sound = is_sound w; inside = inside; no_end = no_end o (length source) inside; no_cause = no_change_cause Write o (length source) refl (λ u. room (fits_too fits)) }) h in
         record { refusals = s.refusals; sure = λ k. s.sure (inside, (inside, k.0, k.1), λ c. c.2) }
 
     -- a zero write inside the disk, where the storage zeroes in place
-    pub zero_write_inside : ZeroWritesSucceed raw_images → (new : FormatAccess R) (o n : ℕ) (result : Result Unit Error) → writable (driver x) ≡ true → o + n ≤ size (driver x) → size d < 2 ^ 64 → HasRoom (f (driver x)) o n
+    pub zero_write_inside : ZeroWritesSucceed raw_images → (new : FormatAccess R) (o n : ℕ) (result : Result Unit Error) → writable (driver x) ≡ true → o + n ≤ size (driver x) → size d < 2 ^ 64 → (size (driver x) < 2 ^ 64 → HasRoom (f (driver x)) o n)
         → (f (driver x)).zeroes ≡ InPlace → IsZeroWrite raw_images Zero x new o n result
         → Succeeds (IsAlignedTo (f (driver x)).zero_align o n × (MayRunOut (f (driver x)).zero_memory (length (bytes (driver x))) (o + n) → ⊥)) result
     zero_write_inside law new o n result w inside fits room in_place h =
+        let fit : size (driver x) < 2 ^ 64 = fits_too fits in
+        let has : HasRoom (f (driver x)) o n = room fit in
         let s = law x new Zero o n result (record {
           sound = is_sound w;
           reliable = chain_is_reliable raw_images (λ r. never_fails r) leads_nowhere x;
           inside = inside;
-          fits = λ z. omega (arith, z, inside, subst (λ (r : R). size r < 2 ^ 64) is fits);
+          fits = λ z. omega (arith, z, inside, fit);
           no_end = no_end o n inside;
-          no_cause = λ e c. absurd (⊎_elim (λ a. no_cause Zero o n refl (λ u. room) e a) (λ b. ⊎_elim
-              (λ a. no_change_cause Write o n refl (λ u. room) e a)
-              (λ a. no_cause Map o n refl (λ u. room) e (own_cause raw_images (λ r. never_fails r) leads_nowhere x Map o n e a)) b) c);
+          no_cause = λ e c. absurd (⊎_elim (λ a. no_cause Zero o n refl (λ u. has) e a) (λ b. ⊎_elim
+              (λ a. no_change_cause Write o n refl (λ u. has) e a)
+              (λ a. no_cause Map o n refl (λ u. has) e (own_cause raw_images (λ r. never_fails r) leads_nowhere x Map o n e a)) b) c);
         }) h in
         let t = memory_alone result s in
         record { refusals = t.refusals; sure = λ k. t.sure (record { inside = inside; aligned = k.0; in_place = in_place; no_growth = k.1 }, k.0) }
@@ -134,7 +143,7 @@ module _ {R : Type 0} (f : R → Features) (bytes : R → List ℕ) (size : R �
       sound = is_sound w;
       reliable = chain_is_reliable raw_images (λ r. never_fails r) leads_nowhere x;
       inside = inside;
-      fits = λ z. omega (arith, z, inside, subst (λ (r : R). size r < 2 ^ 64) is fits);
+      fits = λ z. omega (arith, z, inside, fits_too fits);
       no_end = no_end o n inside;
       no_cause = λ e c. absurd (no_cause DiscardToAny o n refl (λ u. absurd u) e c);
     }
@@ -142,23 +151,20 @@ module _ {R : Type 0} (f : R → Features) (bytes : R → List ℕ) (size : R �
     -- a flush, a sync, or an invalidation of caches
     pub flush_of_all : (relation : R → R → Result Unit Error → Type 0) → FlushesSucceed raw_images relation → (new : FormatAccess R) (result : Result Unit Error) → IsFlushed raw_images relation x new result
         → Succeeds (MayRunOut (f (driver x)).other_memory 0 0 → ⊥) result
-    flush_of_all relation law new result h = law x new result (record { reliable = never_fails (driver x); counts = omega arith }) (no_cause Flush 0 0 refl (λ u. absurd u)) h
+    flush_of_all relation law new result h = law x new result (record { reliable = never_fails (driver x); counts = counts }) (no_cause Flush 0 0 refl (λ u. absurd u)) h
 
--- What holds of a range inside the disk of a driver, by what holds of the same driver under another name.
-module _ {R : Type 0} (size : R → ℕ) (d r : R) (is : d ≡ r) (o n : ℕ) (inside : o + n ≤ size r) where
+-- What holds of a range inside a disk that is shorter than 2 ^ 64 bytes.
+module _ (size o n : ℕ) (inside : o + n ≤ size) where
   -- it doesn't grow a storage that the disk stands in
-  pub no_growth : (bytes : R → List ℕ) → size d ≤ length (bytes d) → length (bytes r) < o + n → ⊥
-  no_growth bytes stored grows = let k = subst (λ (y : R). size y ≤ length (bytes y)) is stored in omega (arith, k, inside, grows)
-
-  pub range_ends : size d < 2 ^ 64 → o + n < 2 ^ 64
-  range_ends fits = omega (arith, inside, subst (λ (y : R). size y < 2 ^ 64) is fits)
+  pub no_growth : (len : ℕ) → size ≤ len → len < o + n → ⊥
+  no_growth len stored grows = omega (arith, stored, inside, grows)
 
   -- where each alignment is 1, it has room, and is aligned
-  pub null_room : size d < 2 ^ 64 → HasRoom null_features o n
-  null_room fits = let k = range_ends fits in omega (arith, k)
+  pub null_room : size < 2 ^ 64 → HasRoom null_features o n
+  null_room fits = omega (arith, inside, fits)
 
-  pub null_aligned : size d < 2 ^ 64 → IsAlignedTo 1 o n
-  null_aligned fits = record { start = omega arith; whole = omega arith; ends = range_ends fits }
+  pub null_aligned : size < 2 ^ 64 → IsAlignedTo 1 o n
+  null_aligned fits = record { start = omega arith; whole = omega arith; ends = omega (arith, inside, fits) }
 
-  pub null_request : size d < 2 ^ 64 → IsAlignedRequest null_features o n
-  null_request fits = record { start = omega arith; whole = omega arith; ends = range_ends fits }
+  pub null_request : size < 2 ^ 64 → IsAlignedRequest null_features o n
+  null_request fits = record { start = omega arith; whole = omega arith; ends = omega (arith, inside, fits) }

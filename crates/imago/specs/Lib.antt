@@ -1,5 +1,7 @@
 -- The disk of a chain of qcow2 files.
 pub mod Qcow2Chain
+-- Storages whose devices never fail.
+pub mod Faultless
 -- The definitions that the contracts of the re-exported items cite.
 pub use Rattle.imago_storage.specs.Error
 pub use Rattle.imago_storage.specs.Bytes

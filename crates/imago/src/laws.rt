@@ -13,6 +13,7 @@ ghost use Rattle.imago_vmdk.specs.Image.{is_opened, takes_unknown_keys};
 ghost use Rattle.imago_vmdk.specs.Disk.{described_value};
 ghost use Rattle.imago.specs.Qcow2Chain.{files_of, files_value};
 
+mod faultless;
 pub mod in_memory;
 pub mod over_null;
 pub mod round_trip;

@@ -17,8 +17,6 @@ pub mod format;
 pub mod laws;
 pub mod plan;
 pub mod storage;
-#[cfg(test)]
-mod tests;
 
 pub use access::{FormatAccess, Mapping};
 pub use imago_access::run;

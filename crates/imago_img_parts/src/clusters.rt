@@ -5,8 +5,7 @@ use crate::failure::Failure;
 use crate::qcow2::Qcow2File;
 use imago_access::access::FormatAccess;
 use imago_access::mapping::Mapping;
-use imago_loaded::loaded::LoadedFile;
-use imago_qcow2::qcow2::Qcow2;
+use imago_drivers::drivers::FormatDriverInstance;
 use imago_storage::error::Error;
 use std::alloc::Global;
 use std::io::{self, Write};
@@ -43,8 +42,8 @@ impl ClusterRun {
 
 /// What the clusters at that offset of a disk are, and how many bytes, at most so many, are of that
 /// kind.
-fn run_at(
-    image: &FormatAccess<Qcow2<LoadedFile>>,
+fn run_at<D: FormatDriverInstance>(
+    image: &FormatAccess<D>,
     cluster: u64,
     at: u64,
     most: u64,

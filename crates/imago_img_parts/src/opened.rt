@@ -7,6 +7,7 @@ ghost use Rattle.imago_vmdk.specs.Line.{extent_with};
 ghost use Rattle.imago_access.specs.Chain.{driver};
 ghost use Rattle.imago_access.specs.Disk.{values_from};
 ghost use Rattle.imago_drivers.specs.Place.{Byte};
+ghost use Rattle.imago_drivers.specs.RawImage.{size_of};
 ghost use Rattle.imago_vmdk.specs.Image.{is_opened, takes_unknown_keys, descriptor_in};
 ghost use Rattle.imago_vmdk.specs.Disk.{described_value};
 ghost use Rattle.imago_plan.specs.PieceBytes.{plan_bytes};
@@ -31,6 +32,7 @@ use imago_plan::piece::Piece;
 use imago_plan::plan::plan;
 use imago_storage::error::Error;
 use imago_storage::null::Null;
+use imago_storage::storage::Storage;
 use imago_vmdk::line::Extent;
 use imago_vmdk::vmdk::Vmdk;
 use std::alloc::{AllocError, Global};
@@ -113,13 +115,20 @@ pub fn open<H: Host>(host: &H, path: &str, how: Opening) -> Result<OpenedImage, 
     }
 }
 
+/// Where the bytes of a raw image's disk stand.
+fn plan_of_raw<S: Storage>(alloc: Global, image: &FormatAccess<Raw<S>>) -> Result<Vec<Piece>, Error>
+    ensures { IfOk result (λ pieces. ShowsRaw (size_of (driver image.now)) pieces.items) }
+{
+    plans_of_raw(image);
+    plan(alloc, image)
+}
+
 /// Where the bytes of a raw disk stand that has that many.
 fn planned_raw(alloc: Global, size: u64) -> Result<Vec<Piece>, Error>
     ensures { IfOk result (λ pieces. ShowsRaw «size» pieces.items) }
 {
     let image = FormatAccess::new(Raw::open_image(Null::new(size), false)?);
-    plans_of_raw(&image);
-    plan(alloc, &image)
+    plan_of_raw(alloc, &image)
 }
 
 /// The raw image of a file of that length.

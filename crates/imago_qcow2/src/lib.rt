@@ -1,7 +1,7 @@
 //! The driver of qcow2 images of versions 2 and 3, read-only.
 //!
-//! [`qcow2`] has the driver, [`header`] what a file's header says, and [`entry`] what the entries
-//! of its tables say.
+//! [`qcow2`] has the driver, [`header`] what a file's header says, [`entry`] what the entries of its
+//! tables say, and [`number`] the numbers that both are made of.
 #![tactic(auto)]
 
 mod backing;
@@ -10,7 +10,7 @@ pub mod header;
 pub mod laws;
 pub mod layout;
 mod map;
-mod number;
+pub mod number;
 pub mod qcow2;
 mod qcow2_builder;
 mod table;

@@ -7,11 +7,7 @@ ghost use Rattle.imago_drivers.specs.Room.{HasRoom};
 ghost use Rattle.imago_drivers.specs.RawImage.{storage_in, size_of, writability_of};
 ghost use Rattle.imago_access.specs.Chain.{driver};
 
-use super::drivers::{raw_image_stands_in_its_storage, raw_images_refuse_nothing};
-use super::images::{
-    discards_succeed, flushes_succeed, mappings_succeed, reads_succeed, writes_succeed,
-    zero_writes_succeed,
-};
+use super::faultless;
 use crate::error::Error;
 use crate::mem::MemStorage;
 use crate::raw::Raw;
@@ -34,9 +30,7 @@ pub fn read(
         (⟦<MemStorage as Storage>⟧.features (storage_in (driver image.now))) offset
         (length buf.old) → IsOk result }
 {
-    reads_succeed::<Raw<MemStorage>>();
-    raw_images_refuse_nothing(image.inner());
-    image.read(alloc, buf, offset)
+    faultless::read(alloc, image, buf, offset)
 }
 
 /// A mapping of any range succeeds.
@@ -47,9 +41,7 @@ pub fn get_mapping(
 ) -> Result<(Mapping, u64), Error>
     ensures { IsOk result }
 {
-    mappings_succeed::<Raw<MemStorage>>();
-    raw_images_refuse_nothing(image.inner());
-    image.get_mapping(offset, max_length)
+    faultless::get_mapping(image, offset, max_length)
 }
 
 /// A write inside the disk of a writable image, with room for its padding, is refused for want of
@@ -69,11 +61,7 @@ pub fn write(
         (⟦<MemStorage as Storage>⟧.features (storage_in (driver image.old))) offset
         (length source.now) → IsOk result }
 {
-    writes_succeed::<Raw<MemStorage>>();
-    let raw = image.inner();
-    raw_images_refuse_nothing(raw);
-    raw_image_stands_in_its_storage(raw);
-    image.write(alloc, source, offset)
+    faultless::write(alloc, image, source, offset)
 }
 
 /// A zero write inside the disk of a writable image, with room for its padding, is refused for want
@@ -93,11 +81,7 @@ pub fn write_zeroes(
         (⟦<MemStorage as Storage>⟧.features (storage_in (driver image.old))).zero_align offset count
         → IsOk result }
 {
-    zero_writes_succeed::<Raw<MemStorage>>();
-    let raw = image.inner();
-    raw_images_refuse_nothing(raw);
-    raw_image_stands_in_its_storage(raw);
-    image.write_zeroes(alloc, offset, count)
+    faultless::write_zeroes(alloc, image, offset, count)
 }
 
 /// A discard inside the disk of a writable image is refused for want of memory alone. One that is
@@ -116,18 +100,12 @@ pub fn discard_to_any(
         count
         → IsOk result }
 {
-    discards_succeed::<Raw<MemStorage>>();
-    let raw = image.inner();
-    raw_images_refuse_nothing(raw);
-    raw_image_stands_in_its_storage(raw);
-    image.discard_to_any(alloc, offset, count)
+    faultless::discard_to_any(alloc, image, offset, count)
 }
 
 /// A flush succeeds.
 pub fn flush(image: &mut FormatAccess<Raw<MemStorage>>) -> Result<(), Error>
     ensures { IsOk result }
 {
-    flushes_succeed::<Raw<MemStorage>>();
-    raw_images_refuse_nothing(image.inner());
-    image.flush()
+    faultless::flush(image)
 }

@@ -4,11 +4,7 @@ ghost use Rattle.std.specs.Prelude.{◌≡◌, ◌+◌, ◌≤◌, true, length,
 ghost use Rattle.imago_drivers.specs.RawImage.{size_of, writability_of};
 ghost use Rattle.imago_access.specs.Chain.{driver};
 
-use super::drivers::{raw_image_stands_in_its_storage, raw_images_refuse_nothing};
-use super::images::{
-    discards_succeed, flushes_succeed, mappings_succeed, reads_succeed, writes_succeed,
-    zero_writes_succeed,
-};
+use super::faultless;
 use crate::error::Error;
 use crate::null::Null;
 use crate::raw::Raw;
@@ -25,11 +21,7 @@ pub fn read(
     requires inside { offset + length buf.old ≤ size_of (driver image.now) }
     ensures { IsOk result }
 {
-    reads_succeed::<Raw<Null>>();
-    let raw = image.inner();
-    raw_images_refuse_nothing(raw);
-    raw_image_stands_in_its_storage(raw);
-    image.read(alloc, buf, offset)
+    faultless::read(alloc, image, buf, offset)
 }
 
 /// A mapping of any range succeeds.
@@ -40,9 +32,7 @@ pub fn get_mapping(
 ) -> Result<(Mapping, u64), Error>
     ensures { IsOk result }
 {
-    mappings_succeed::<Raw<Null>>();
-    raw_images_refuse_nothing(image.inner());
-    image.get_mapping(offset, max_length)
+    faultless::get_mapping(image, offset, max_length)
 }
 
 /// A write inside the disk of a writable image succeeds.
@@ -56,11 +46,7 @@ pub fn write(
     requires inside { offset + length source.now ≤ size_of (driver image.old) }
     ensures { IsOk result }
 {
-    writes_succeed::<Raw<Null>>();
-    let raw = image.inner();
-    raw_images_refuse_nothing(raw);
-    raw_image_stands_in_its_storage(raw);
-    image.write(alloc, source, offset)
+    faultless::write(alloc, image, source, offset)
 }
 
 /// A zero write inside the disk of a writable image succeeds.
@@ -74,11 +60,7 @@ pub fn write_zeroes(
     requires inside { offset + count ≤ size_of (driver image.old) }
     ensures { IsOk result }
 {
-    zero_writes_succeed::<Raw<Null>>();
-    let raw = image.inner();
-    raw_images_refuse_nothing(raw);
-    raw_image_stands_in_its_storage(raw);
-    image.write_zeroes(alloc, offset, count)
+    faultless::write_zeroes(alloc, image, offset, count)
 }
 
 /// A discard inside the disk of a writable image succeeds.
@@ -92,18 +74,12 @@ pub fn discard_to_any(
     requires inside { offset + count ≤ size_of (driver image.old) }
     ensures { IsOk result }
 {
-    discards_succeed::<Raw<Null>>();
-    let raw = image.inner();
-    raw_images_refuse_nothing(raw);
-    raw_image_stands_in_its_storage(raw);
-    image.discard_to_any(alloc, offset, count)
+    faultless::discard_to_any(alloc, image, offset, count)
 }
 
 /// A flush succeeds.
 pub fn flush(image: &mut FormatAccess<Raw<Null>>) -> Result<(), Error>
     ensures { IsOk result }
 {
-    flushes_succeed::<Raw<Null>>();
-    raw_images_refuse_nothing(image.inner());
-    image.flush()
+    faultless::flush(image)
 }

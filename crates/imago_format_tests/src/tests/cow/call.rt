@@ -320,7 +320,7 @@ fn on_driver<D: FormatDriverInstance, B: LowerLayer>(
 }
 
 /// Makes a call once.
-pub(super) fn make<D: FormatDriverInstance, B: LowerLayer>(
+fn make<D: FormatDriverInstance, B: LowerLayer>(
     rt: &impl Abort,
     alloc: Global,
     image: &mut FormatAccess<D>,
@@ -333,8 +333,42 @@ pub(super) fn make<D: FormatDriverInstance, B: LowerLayer>(
     }
 }
 
+/// Makes a call of an image that succeeds. What is refused for memory is made again.
+pub(super) fn on<D: FormatDriverInstance>(
+    rt: &impl Abort,
+    alloc: Global,
+    image: &mut FormatAccess<D>,
+    call: Call,
+) {
+    let mut answer = on_image(rt, alloc, image, call);
+    if answer == Answer::Refused(Error::Memory) {
+        answer = on_image(rt, alloc, image, call);
+    }
+    assert_eq!(rt; answer, Answer::Done);
+}
+
+/// Makes a call once on an image, whose driver is lent an image of another driver.
+pub(super) fn make_lent<D: FormatDriverInstance, E: FormatDriverInstance>(
+    rt: &impl Abort,
+    alloc: Global,
+    image: &mut FormatAccess<D>,
+    lent: &FormatAccess<E>,
+    step: Step,
+) -> Answer {
+    make(rt, alloc, image, lent, step)
+}
+
+/// The bytes of an image.
+pub(super) fn shown<D: FormatDriverInstance>(
+    rt: &impl Abort,
+    alloc: Global,
+    image: &FormatAccess<D>,
+) -> Vec<u8> {
+    contents(rt, alloc, image)
+}
+
 /// The bytes of a layer.
-pub(super) fn contents<B: LowerLayer>(rt: &impl Abort, alloc: Global, layer: &B) -> Vec<u8> {
+fn contents<B: LowerLayer>(rt: &impl Abort, alloc: Global, layer: &B) -> Vec<u8> {
     let mut bytes = equal(rt, alloc, layer.size(), 0x77);
     let mut answer = layer.read(alloc, &mut bytes, 0);
     if answer == Err(Error::Memory) {

@@ -1,7 +1,7 @@
 //! Three copy-on-write disks above one another.
-use super::call::{Answer, Call, Level};
+use super::call::{Call, on};
 use super::set_up::printed;
-use super::subject::{Fault, Image, PLAIN, above, contents_of, created, lent, make_on};
+use super::subject::{Fault, Image, PLAIN, above, contents_of, created};
 use imago_access::access::FormatAccess;
 use imago_access::mapping::Mapping;
 use imago_storage::error::Error;
@@ -102,12 +102,10 @@ static ROWS: [Row; 15] = [
     ),
 ];
 
-/// Makes a call of an image that succeeds.
-fn on(rt: &impl Abort, alloc: Global, image: &mut Image, call: Call) {
-    let lent = lent(rt, alloc, false);
-    let step = (Level::Image, call);
-    if make_on(rt, alloc, image, &lent, step) == Answer::Refused(Error::Memory) {
-        assert_eq!(rt; make_on(rt, alloc, image, &lent, step), Answer::Done);
+/// Makes calls of an image that succeed.
+fn on_each(rt: &impl Abort, alloc: Global, image: &mut Image, calls: &[Call]) {
+    for &call in calls {
+        on(rt, alloc, image, call);
     }
 }
 
@@ -123,9 +121,7 @@ fn layer(
         None => FormatAccess::new(driver),
         Some(_) => above(rt, driver, below),
     };
-    for &call in calls {
-        on(rt, alloc, &mut image, call);
-    }
+    on_each(rt, alloc, &mut image, calls);
     image
 }
 
@@ -152,7 +148,7 @@ fn check_three_disks_stand_on_one_another(rt: &impl Abort, alloc: Global) {
         None => layers(rt, alloc).expect(rt, "memory for layers"),
     };
     for &(call, range, (text, length), bytes) in &ROWS {
-        on(rt, alloc, &mut image, call);
+        on_each(rt, alloc, &mut image, &[call]);
         let (mapping, count) = mapped(&image, range).expect(rt, "a mapping");
         assert_eq!(rt; printed(rt, alloc, &mapping).as_str(), text);
         assert_eq!(rt; count, length);

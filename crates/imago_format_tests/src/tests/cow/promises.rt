@@ -1,6 +1,6 @@
 //! What a copy-on-write disk does with its data blocks, which mappings it refuses, and the sizes
 //! that it can have.
-use super::call::{Answer, Call, Level, contents, is_spent, make};
+use super::call::{Call, is_spent, on, shown};
 use super::set_up::{byte_at, equal, numbers, printed};
 use super::subject::{Fault, Image, PLAIN, above, created};
 use imago_access::access::FormatAccess;
@@ -106,30 +106,6 @@ fn cancel<D: FormatDriverInstance>(
     mapping: PreparedDataMapping<D::State>,
 ) {
     image.cancel_data_mapping(mapping);
-}
-
-/// Makes a call of an image that succeeds.
-fn on<D: FormatDriverInstance>(
-    rt: &impl Abort,
-    alloc: Global,
-    image: &mut FormatAccess<D>,
-    call: Call,
-) {
-    let step = (Level::Image, call);
-    let mut answer = make(rt, alloc, image, &(), step);
-    if answer == Answer::Refused(Error::Memory) {
-        answer = make(rt, alloc, image, &(), step);
-    }
-    assert_eq!(rt; answer, Answer::Done);
-}
-
-/// The bytes of an image.
-fn shown<D: FormatDriverInstance>(
-    rt: &impl Abort,
-    alloc: Global,
-    image: &FormatAccess<D>,
-) -> Vec<u8> {
-    contents(rt, alloc, image)
 }
 
 /// The storage of a disk.

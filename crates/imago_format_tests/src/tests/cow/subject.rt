@@ -1,6 +1,6 @@
 //! The disks that the tests are made on. Each function names the types of one, so that the proofs
 //! of the tests stay short.
-use super::call::{Answer, Call, Kind, Level, Step, contents, kinds, make};
+use super::call::{Answer, Call, Kind, Level, Step, kinds, make_lent, on, shown};
 use super::model::{BLOCK, Model};
 use super::set_up::{equal, numbers};
 use imago_access::access::FormatAccess;
@@ -9,7 +9,7 @@ use imago_drivers::drivers::{FormatDriverInstance, PreallocateMode};
 use imago_drivers::raw::Raw;
 use imago_storage::error::Error;
 use imago_storage::mem::MemStorage;
-use imago_storage::storage::is_alignment;
+use imago_storage::storage::{Storage, is_alignment};
 use imago_test_storages::faulty::{Faulty, Tear};
 use std::alloc::Global;
 use std::mem::replace;
@@ -110,11 +110,7 @@ fn lower(rt: &impl Abort, alloc: Global, fails: bool) -> Image {
     let fault = if fails { Fault::Below } else { Fault::Never };
     let driver = created(rt, alloc, (LOWER_SIZE, BLOCK), PLAIN, fault);
     let mut image = FormatAccess::new(driver);
-    let row = (Level::Image, Call::Write(0, LOWER_SIZE, LOWER));
-    let lent = lent(rt, alloc, false);
-    if make_on(rt, alloc, &mut image, &lent, row) == Answer::Refused(Error::Memory) {
-        assert_eq!(rt; make_on(rt, alloc, &mut image, &lent, row), Answer::Done);
-    }
+    on(rt, alloc, &mut image, Call::Write(0, LOWER_SIZE, LOWER));
     image
 }
 
@@ -131,6 +127,11 @@ pub(super) fn lent(rt: &impl Abort, alloc: Global, fails: bool) -> Lent {
     let bytes = numbers(rt, alloc, LOWER_SIZE, LOWER);
     let mut storage = Faulty::new(MemStorage::new(bytes));
     storage.fail_reads(fails);
+    raw_of(rt, storage)
+}
+
+/// The raw image in a storage, which may not be written.
+fn raw_of<S: Storage>(rt: &impl Abort, storage: S) -> FormatAccess<Raw<S>> {
     FormatAccess::new(Raw::open_image(storage, false).expect(rt, "a raw image"))
 }
 
@@ -240,18 +241,12 @@ fn lent_storage<'a>(rt: &impl Abort, image: &'a Lent) -> &'a Faulty {
     image.inner().storage(0).expect(rt, "a storage")
 }
 
-pub(super) fn make_on(
-    rt: &impl Abort,
-    alloc: Global,
-    image: &mut Image,
-    lent: &Lent,
-    step: Step,
-) -> Answer {
-    make(rt, alloc, image, lent, step)
+fn make_on(rt: &impl Abort, alloc: Global, image: &mut Image, lent: &Lent, step: Step) -> Answer {
+    make_lent(rt, alloc, image, lent, step)
 }
 
 pub(super) fn contents_of(rt: &impl Abort, alloc: Global, image: &Image) -> Vec<u8> {
-    contents(rt, alloc, image)
+    shown(rt, alloc, image)
 }
 
 fn kinds_of(rt: &impl Abort, alloc: Global, image: &Image) -> Vec<Kind> {

@@ -84,23 +84,25 @@ fn mapped(mapping: ShallowMapping, count: u64) -> Answer {
         ShallowMapping::Raw {
             storage,
             offset,
-            writable: true,
-        } => Answer::Raw(storage, offset, count),
-        ShallowMapping::Raw {
-            storage,
-            offset,
-            writable: false,
-        } => Answer::RawReadOnly(storage, offset, count),
-        ShallowMapping::Indirect {
-            offset,
-            writable: true,
-        } => Answer::Below(offset, count),
-        ShallowMapping::Indirect {
-            offset,
-            writable: false,
-        } => Answer::BelowReadOnly(offset, count),
-        ShallowMapping::Zero { explicit: true } => Answer::Zeroes(count),
-        ShallowMapping::Zero { explicit: false } => Answer::Part(0, count),
+            writable,
+        } => {
+            if writable {
+                return Answer::Raw(storage, offset, count);
+            }
+            Answer::RawReadOnly(storage, offset, count)
+        }
+        ShallowMapping::Indirect { offset, writable } => {
+            if writable {
+                return Answer::Below(offset, count);
+            }
+            Answer::BelowReadOnly(offset, count)
+        }
+        ShallowMapping::Zero { explicit } => {
+            if explicit {
+                return Answer::Zeroes(count);
+            }
+            Answer::Part(0, count)
+        }
         ShallowMapping::Special { offset } => Answer::Special(offset, count),
         ShallowMapping::Eof => {
             if count == 0 {

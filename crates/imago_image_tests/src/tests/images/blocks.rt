@@ -199,9 +199,12 @@ static SHORT_PARTS: [(Call, Answer); 4] = [
     ),
 ];
 
+fn check_a_driver_in_blocks_does_one_of_them(rt: &impl Abort, alloc: Global) {
+    on(rt, alloc, (16, 0xff), (4, false), &PARTS);
+    on(rt, alloc, (14, 0xff), (4, true), &SHORT_PARTS);
+}
+
 #[test]
 fn a_driver_in_blocks_does_one_of_them(rt: HostRuntime) {
-    let alloc = rt.alloc();
-    on(&rt, alloc, (16, 0xff), (4, false), &PARTS);
-    on(&rt, alloc, (14, 0xff), (4, true), &SHORT_PARTS);
+    check_a_driver_in_blocks_does_one_of_them(&rt, rt.alloc());
 }

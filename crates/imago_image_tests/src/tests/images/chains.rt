@@ -40,16 +40,20 @@ fn above_each<S: Storage>(
     Some(image)
 }
 
-/// Such layers, so often, above a raw image, where there is memory for them.
+/// A raw image for such layers to stand on.
+fn lowest<S: Storage>(rt: &impl Abort, storage: S) -> FormatAccess<TestDriver<S>> {
+    let raw = Raw::open_image(storage, true).expect(rt, "a raw image");
+    alone(TestDriver::Raw(raw))
+}
+
+/// Such layers, so often, above an image, where there is memory for them.
 fn layers<S: Storage>(
-    rt: &impl Abort,
     alloc: Global,
-    storage: S,
+    below: FormatAccess<TestDriver<S>>,
     (kinds, times): (&[Kind], usize),
     size: u64,
 ) -> Option<FormatAccess<TestDriver<S>>> {
-    let raw = Raw::open_image(storage, true).expect(rt, "a raw image");
-    let mut image = alone(TestDriver::Raw(raw));
+    let mut image = below;
     for _ in 0..times {
         image = above_each(alloc, kinds, size, image)?;
     }
@@ -65,7 +69,7 @@ fn on_storage<S: Storage>(
     size: u64,
     calls: &[(Call, Answer)],
 ) -> bool {
-    match layers(rt, alloc, storage, (kinds, times), size) {
+    match layers(alloc, lowest(rt, storage), (kinds, times), size) {
         Some(mut image) => {
             script(rt, alloc, &mut image, calls);
             true

@@ -3,7 +3,7 @@
 use super::answer::Answer;
 use super::driver;
 use super::driver::Give;
-use super::image::{Call, above, alone, on_two, script};
+use super::image::{Call, on_two, script, two};
 use super::runs::run_two;
 use super::set_up::stored;
 use imago_access::access::FormatAccess;
@@ -218,6 +218,17 @@ fn last_asked<S: Storage>(image: &FormatAccess<CopyOnce<S>>) -> Option<bool> {
     image.inner().overwrites()
 }
 
+/// Makes a call. Answers what the driver was asked last.
+fn asked_by<S: Storage>(
+    rt: &impl Abort,
+    alloc: Global,
+    image: &mut FormatAccess<CopyOnce<S>>,
+    call: (Call, Answer),
+) -> Option<bool> {
+    script(rt, alloc, image, &[call]);
+    last_asked(&*image)
+}
+
 /// Makes those calls, and looks at what the driver is asked.
 fn are_asked<S: Storage>(
     rt: &impl Abort,
@@ -225,18 +236,18 @@ fn are_asked<S: Storage>(
     image: &mut FormatAccess<CopyOnce<S>>,
     asked: &[(Call, Answer, bool)],
 ) {
-    assert_eq!(rt; last_asked(&*image), None);
     for &(call, answer, overwrites) in asked {
-        script(rt, alloc, image, &[(call, answer)]);
-        assert_eq!(rt; last_asked(&*image), Some(overwrites));
+        assert_eq!(rt;
+            asked_by(rt, alloc, image, (call, answer)),
+            Some(overwrites)
+        );
     }
 }
 
 /// The same of an image above one of the bytes 1 to 8. Answers whether there was memory for both.
 fn is_told<S: Storage>(rt: &impl Abort, alloc: Global, lower: S, upper: S) -> bool {
-    let mut below = alone(CopyOnce::new(lower, 8));
-    script(rt, alloc, &mut below, &COUNTED);
-    match above(alloc, CopyOnce::new(upper, 8), below) {
+    let lower = (CopyOnce::new(lower, 8), COUNTED.as_slice());
+    match two(rt, alloc, lower, CopyOnce::new(upper, 8)) {
         Some(mut image) => {
             are_asked(rt, alloc, &mut image, &ASKED);
             true

@@ -130,31 +130,44 @@ fn length_of<S: Storage>(storage: &S) -> Answer {
     }
 }
 
-/// Looks at the storage of that index.
+/// The storage that a call looks at.
+fn index_of(rt: &impl Abort, call: Call) -> usize {
+    match call {
+        Call::StorageLength(index) | Call::Stored(index, _, _) | Call::Probe(index) => index,
+        _ => rt.abort(),
+    }
+}
+
+/// Looks at a storage of a driver.
+fn look_at<D: FormatDriverInstance>(
+    rt: &impl Abort,
+    alloc: Global,
+    storage: &D::Storage,
+    call: Call,
+) -> Answer {
+    match call {
+        Call::StorageLength(_) => length_of(storage),
+        Call::Stored(_, offset, bytes) => read_storage(rt, alloc, storage, offset, bytes),
+        _ => match D::probe(alloc, storage) {
+            Ok(found) => Answer::Is(found),
+            Err(refusal) => Answer::Refused(refusal),
+        },
+    }
+}
+
+/// Looks at the storage of that index, or at all of them.
 pub(super) fn look<D: FormatDriverInstance>(
     rt: &impl Abort,
     alloc: Global,
     driver: &D,
     call: Call,
 ) -> Answer {
-    match call {
-        Call::StorageLength(index) => match driver.storage(index) {
-            Some(storage) => length_of(storage),
-            None => Answer::Missing,
-        },
-        Call::Stored(index, offset, bytes) => match driver.storage(index) {
-            Some(storage) => read_storage(rt, alloc, storage, offset, bytes),
-            None => Answer::Missing,
-        },
-        Call::Probe(index) => {
-            let storage = driver.storage(index).expect(rt, "a storage");
-            match D::probe(alloc, storage) {
-                Ok(found) => Answer::Is(found),
-                Err(refusal) => Answer::Refused(refusal),
-            }
-        }
-        Call::Collect(bytes) => collect(rt, alloc, driver, bytes),
-        _ => rt.abort(),
+    if let Call::Collect(bytes) = call {
+        return collect(rt, alloc, driver, bytes);
+    }
+    match driver.storage(index_of(rt, call)) {
+        Some(storage) => look_at::<D>(rt, alloc, storage, call),
+        None => Answer::Missing,
     }
 }
 

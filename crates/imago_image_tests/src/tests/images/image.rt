@@ -353,8 +353,26 @@ pub(super) fn make<D: FormatDriverInstance>(
     }
 }
 
-/// Makes the calls, each of which answers like that. One that is refused for memory leaves the
-/// size, and is made again. Answers whether any was.
+/// Makes a call. One that is refused for memory leaves the size, and is made again, unless that is
+/// expected. Answers whether it was made again, too.
+fn make_again<D: FormatDriverInstance>(
+    rt: &impl Abort,
+    alloc: Global,
+    image: &mut FormatAccess<D>,
+    call: Call,
+    expected: Answer,
+) -> (Answer, bool) {
+    let size = image.size();
+    let answer = make(rt, alloc, image, call);
+    if answer != Answer::Refused(Error::Memory) || answer == expected {
+        return (answer, false);
+    }
+    assert_eq!(rt; image.size(), size);
+    (make(rt, alloc, image, call), true)
+}
+
+/// Makes the calls, each of which answers like that once it has its memory. Answers whether any was
+/// made again.
 pub(super) fn script<D: FormatDriverInstance>(
     rt: &impl Abort,
     alloc: Global,
@@ -363,14 +381,9 @@ pub(super) fn script<D: FormatDriverInstance>(
 ) -> bool {
     let mut again = false;
     for (i, &(call, expected)) in calls.iter().enumerate() {
-        let size = image.size();
-        let mut answer = make(rt, alloc, image, call);
-        if answer == Answer::Refused(Error::Memory) && answer != expected {
-            assert_eq!(rt; image.size(), size);
-            answer = make(rt, alloc, image, call);
-            again = true;
-        }
+        let (answer, is_again) = make_again(rt, alloc, image, call, expected);
         assert_eq!(rt; answer, expected, "call {i}");
+        again |= is_again;
     }
     again
 }
@@ -415,18 +428,29 @@ pub(super) fn on_raw<S: Storage>(
     on_driver(rt, alloc, driver, calls)
 }
 
+/// An image of a driver above an image of another one, on which the first calls are made before,
+/// where there is memory for it.
+pub(super) fn two<D: FormatDriverInstance>(
+    rt: &impl Abort,
+    alloc: Global,
+    (lower, first): (D, &[(Call, Answer)]),
+    upper: D,
+) -> Option<FormatAccess<D>> {
+    let mut below = alone(lower);
+    script(rt, alloc, &mut below, first);
+    above(alloc, upper, below)
+}
+
 /// The calls on an image of a driver above an image of another one, on which the first calls are
 /// made before. Answers whether there was memory for both.
 pub(super) fn on_two<D: FormatDriverInstance>(
     rt: &impl Abort,
     alloc: Global,
-    (lower, first): (D, &[(Call, Answer)]),
+    lower: (D, &[(Call, Answer)]),
     upper: D,
     calls: &[(Call, Answer)],
 ) -> bool {
-    let mut below = alone(lower);
-    script(rt, alloc, &mut below, first);
-    match above(alloc, upper, below) {
+    match two(rt, alloc, lower, upper) {
         Some(mut image) => {
             script(rt, alloc, &mut image, calls);
             true

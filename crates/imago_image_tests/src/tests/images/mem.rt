@@ -37,6 +37,11 @@ fn on(
     on_raw(rt, alloc, storage, writable, calls);
 }
 
+/// The raw image of these bytes.
+fn raw_of(rt: &impl Abort, alloc: Global, bytes: &[u8], writable: bool) -> Raw<MemStorage> {
+    Raw::open_image(storing(rt, alloc, bytes), writable).expect(rt, "a raw image")
+}
+
 /// The calls on a writable raw image in that storage.
 pub(super) fn on_storage(
     rt: &impl Abort,
@@ -239,13 +244,12 @@ static STRANGERS: [(Call, Answer); 3] = [
 ];
 
 /// Commits a mapping with a state that wasn't prepared, which is refused. Nothing has changed then.
-fn commit_stranger<S: Storage>(
+fn commit_stranger<D: FormatDriverInstance<State = ()>>(
     rt: &impl Abort,
     alloc: Global,
-    storage: S,
+    driver: D,
     calls: &[(Call, Answer)],
 ) {
-    let driver = Raw::open_image(storage, true).expect(rt, "a raw image");
     let mut image = alone(driver);
     let refused = image.commit_data_mapping(PreparedDataMapping::to_commit(0, 0, 4, ()));
     assert_eq!(rt; refused, Err(Error::ForeignMapping));
@@ -267,7 +271,7 @@ fn data_mappings(rt: HostRuntime) {
 }
 
 fn check_a_mapping_that_was_not_prepared_is_not_committed(rt: &impl Abort, alloc: Global) {
-    commit_stranger(rt, alloc, storing(rt, alloc, &[0; 8]), &EIGHT);
+    commit_stranger(rt, alloc, raw_of(rt, alloc, &[0; 8], true), &EIGHT);
 }
 
 #[test]
@@ -460,8 +464,12 @@ static REFUSED: [(Call, Answer); 4] = [
 
 /// Runs the calls three times on one image. At most one of the runs has no memory, and the replies
 /// of the others are kept.
-fn run_thrice<S: Storage>(rt: &impl Abort, alloc: Global, storage: S, calls: &[(Call, Answer)]) {
-    let driver = Raw::open_image(storage, false).expect(rt, "a raw image");
+fn run_thrice<D: FormatDriverInstance>(
+    rt: &impl Abort,
+    alloc: Global,
+    driver: D,
+    calls: &[(Call, Answer)],
+) {
     let mut image = alone(driver);
     let mut replies = Vec::new(alloc);
     let mut done: usize = 0;
@@ -474,7 +482,7 @@ fn run_thrice<S: Storage>(rt: &impl Abort, alloc: Global, storage: S, calls: &[(
 }
 
 fn check_a_run_appends_and_goes_on_after_a_refusal(rt: &impl Abort, alloc: Global) {
-    run_thrice(rt, alloc, storing(rt, alloc, &[1, 2, 3, 4]), &REFUSED);
+    run_thrice(rt, alloc, raw_of(rt, alloc, &[1, 2, 3, 4], false), &REFUSED);
 }
 
 #[test]
@@ -483,7 +491,7 @@ fn a_run_appends_and_goes_on_after_a_refusal(rt: HostRuntime) {
 }
 
 /// The size of what is below a driver, and its bytes from the offset on.
-fn seen_from_above<B: LowerLayer>(
+fn seen_once<B: LowerLayer>(
     alloc: Global,
     below: &B,
     offset: u64,
@@ -493,14 +501,22 @@ fn seen_from_above<B: LowerLayer>(
     Ok((below.size(), buf))
 }
 
+/// The same. What is refused for memory is made again.
+fn seen_from_above<B: LowerLayer>(
+    alloc: Global,
+    below: &B,
+    offset: u64,
+) -> Result<(u64, [u8; 3]), Error> {
+    match seen_once(alloc, below, offset) {
+        Err(Error::Memory) => seen_once(alloc, below, offset),
+        answer => answer,
+    }
+}
+
 /// A driver above an image of that storage sees its size, and its last bytes.
 fn is_seen<S: Storage>(rt: &impl Abort, alloc: Global, storage: S) {
     let driver = Raw::open_image(storage, false).expect(rt, "a raw image");
-    let image = alone(driver);
-    let seen = match seen_from_above(alloc, &image, 2) {
-        Err(Error::Memory) => seen_from_above(alloc, &image, 2),
-        answer => answer,
-    };
+    let seen = seen_from_above(alloc, &alone(driver), 2);
     assert_eq!(rt; seen, Ok((4, [3, 4, 0])));
 }
 
@@ -582,15 +598,12 @@ fn put<D: FormatDriverInstance>(image: &mut FormatAccess<D>, inner: D) -> bool {
 
 /// Puts another driver, which may not write, in the place of an image's driver, and makes the calls
 /// then. Answers whether there was memory for the image.
-fn exchange<S: Storage>(
+fn exchange<D: FormatDriverInstance>(
     rt: &impl Abort,
     alloc: Global,
-    (lower, upper, other): (S, S, S),
+    (lower, upper, other): (D, D, D),
     calls: &[(Call, Answer)],
 ) -> bool {
-    let lower = Raw::open_image(lower, false).expect(rt, "a raw image");
-    let upper = Raw::open_image(upper, true).expect(rt, "a raw image");
-    let other = Raw::open_image(other, false).expect(rt, "a raw image");
     match above(alloc, upper, alone(lower)) {
         Some(mut image) => {
             assert!(rt; !put(&mut image, other));
@@ -604,14 +617,10 @@ fn exchange<S: Storage>(
 /// Puts the bytes 7 and 8 in the place of 4 bytes ff above 8 bytes 11. Answers whether there was
 /// memory for the image.
 fn exchanged(rt: &impl Abort, alloc: Global) -> bool {
-    let lower = storing(rt, alloc, &[0x11; 8]);
-    let upper = storing(rt, alloc, &[0xff; 4]);
-    exchange(
-        rt,
-        alloc,
-        (lower, upper, storing(rt, alloc, &[7, 8])),
-        &EXCHANGED,
-    )
+    let lower = raw_of(rt, alloc, &[0x11; 8], false);
+    let upper = raw_of(rt, alloc, &[0xff; 4], true);
+    let other = raw_of(rt, alloc, &[7, 8], false);
+    exchange(rt, alloc, (lower, upper, other), &EXCHANGED)
 }
 
 #[test]

@@ -1,7 +1,7 @@
 //! The same calls as a list for `run`, and the replies.
 use super::answer::{Answer, data, prepared};
 use super::driver::Give;
-use super::image::{Call, above, alone, is_spent, script};
+use super::image::{Call, alone, is_spent, two};
 use super::set_up::{copied, printed, runs};
 use imago_access::access::FormatAccess;
 use imago_access::run::{self, Reply};
@@ -115,6 +115,19 @@ fn told(rt: &impl Abort, alloc: Global, call: Call, reply: &Reply) -> Answer {
     }
 }
 
+/// The replies are the answers to the calls. Answers whether there was memory for each.
+fn are_told(rt: &impl Abort, alloc: Global, calls: &[(Call, Answer)], replies: &[Reply]) -> bool {
+    assert_eq!(rt; replies.len(), calls.len());
+    for (i, (&(call, expected), reply)) in calls.iter().zip(replies).enumerate() {
+        let answer = told(rt, alloc, call, reply);
+        if answer == Answer::Refused(Error::Memory) && answer != expected {
+            return false;
+        }
+        assert_eq!(rt; answer, expected, "call {i}");
+    }
+    true
+}
+
 /// Runs the calls as one list, each of which is answered like that, and appends the replies.
 /// Answers whether there was memory for it.
 pub(super) fn by_run<D: FormatDriverInstance>(
@@ -131,16 +144,12 @@ pub(super) fn by_run<D: FormatDriverInstance>(
         assert_eq!(rt; replies.len(), before);
         return false;
     }
-    let new = replies.get(before..).expect(rt, "replies");
-    assert_eq!(rt; new.len(), calls.len());
-    for (i, (&(call, expected), reply)) in calls.iter().zip(new).enumerate() {
-        let answer = told(rt, alloc, call, reply);
-        if answer == Answer::Refused(Error::Memory) && answer != expected {
-            return false;
-        }
-        assert_eq!(rt; answer, expected, "call {i}");
-    }
-    true
+    are_told(
+        rt,
+        alloc,
+        calls,
+        replies.get(before..).expect(rt, "replies"),
+    )
 }
 
 /// Runs the calls as one list on the raw image that a storage is. Answers whether there was memory
@@ -162,13 +171,11 @@ pub(super) fn run_raw<S: Storage>(
 pub(super) fn run_two<D: FormatDriverInstance>(
     rt: &impl Abort,
     alloc: Global,
-    (lower, first): (D, &[(Call, Answer)]),
+    lower: (D, &[(Call, Answer)]),
     upper: D,
     calls: &[(Call, Answer)],
 ) -> bool {
-    let mut below = alone(lower);
-    script(rt, alloc, &mut below, first);
-    match above(alloc, upper, below) {
+    match two(rt, alloc, lower, upper) {
         Some(mut image) => by_run(rt, alloc, &mut image, calls, &mut Vec::new(alloc)),
         None => false,
     }

@@ -177,6 +177,19 @@ fn lowest(rt: &impl Abort, alloc: Global, form: Form) -> Sparse<Faulty> {
     sparse(rt, first, second, table(rt, alloc, LOWER_SIZE, true))
 }
 
+/// An image of a driver, above one of the other driver, if there is one, where there is memory for
+/// it.
+fn stacked<D: FormatDriverInstance>(
+    alloc: Global,
+    driver: D,
+    below: Option<D>,
+) -> Option<FormatAccess<D>> {
+    match below {
+        Some(below) => above(alloc, driver, alone(below)),
+        None => Some(alone(driver)),
+    }
+}
+
 /// An image of a table, whose storage fails at that call, where there is memory for it.
 fn opened_table(
     rt: &impl Abort,
@@ -187,10 +200,11 @@ fn opened_table(
     let first = armed(rt, alloc, form, fault, false);
     let second = armed(rt, alloc, form, fault, true);
     let driver = sparse(rt, first, second, table(rt, alloc, SIZE, false));
-    match form.kind {
-        Kind::Chain => above(alloc, driver, alone(lowest(rt, alloc, form))),
-        _ => Some(alone(driver)),
-    }
+    let below = match form.kind {
+        Kind::Chain => Some(lowest(rt, alloc, form)),
+        _ => None,
+    };
+    stacked(alloc, driver, below)
 }
 
 /// An image of one storage.

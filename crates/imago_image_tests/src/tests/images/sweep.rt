@@ -349,33 +349,61 @@ fn use_on(rt: &impl Abort, alloc: Global, subject: &mut Subject, disk: &mut Disk
     }
 }
 
-/// Makes a call that a fault is waiting for, and answers whether it met the fault. The image is
-/// used on then.
-fn is_refused(rt: &impl Abort, alloc: Global, form: Form, row: Row, fault: Fault) -> bool {
+/// An image on which a call was made, what it has to show, and what the call answered.
+type Called = (Subject, Disk, Answer);
+
+/// Makes a call on a new image, which a fault is waiting for.
+fn called(rt: &impl Abort, alloc: Global, form: Form, row: Row, fault: Fault) -> Called {
     let mut disk = first_disk(rt, alloc, form.kind);
     let mut subject = Subject::open(rt, alloc, form, fault);
-    let mut answer = step(rt, alloc, &mut subject, &mut disk, row);
-    if answer == MEMORY {
-        disk = first_disk(rt, alloc, form.kind);
-        subject = Subject::open(rt, alloc, form, fault);
-        answer = step(rt, alloc, &mut subject, &mut disk, row);
+    let answer = step(rt, alloc, &mut subject, &mut disk, row);
+    (subject, disk, answer)
+}
+
+/// The same. What is refused for memory is made again, on another image.
+fn called_again(rt: &impl Abort, alloc: Global, form: Form, row: Row, fault: Fault) -> Called {
+    let first = called(rt, alloc, form, row, fault);
+    if first.2 == MEMORY {
+        return called(rt, alloc, form, row, fault);
     }
+    first
+}
+
+/// Makes the call that met a fault again, and uses the image on. Its device has failed once, and
+/// the layer below is as it was.
+fn goes_on(rt: &impl Abort, alloc: Global, subject: &mut Subject, disk: &mut Disk, row: Row) {
+    step_on(rt, alloc, subject, disk, row);
+    use_on(rt, alloc, subject, disk);
+    let (faults, below) = subject.end(rt, alloc);
+    assert_eq!(rt; faults, 1);
+    assert!(rt; below == disk.below, "the layer below has changed");
+}
+
+/// The call of a row answers so where a fault is waiting for it. Answers whether it met the fault.
+fn meets_the_fault(rt: &impl Abort, form: Form, row: Row, answer: Answer) -> bool {
     let offered = is_offered(form.kind, row.0);
     assert!(rt;
         offered || answer == NOT_OFFERED,
         "a call that isn't offered"
     );
     if !offered || !is_refusal(answer) {
-        assert_eq!(rt; subject.end(rt, alloc).0, 0);
         return false;
     }
     assert_eq!(rt; answer, DEVICE);
-    step_on(rt, alloc, &mut subject, &mut disk, row);
-    use_on(rt, alloc, &mut subject, &mut disk);
-    let (faults, below) = subject.end(rt, alloc);
-    assert_eq!(rt; faults, 1);
-    assert!(rt; below == disk.below, "the layer below has changed");
     true
+}
+
+/// Makes a call that a fault is waiting for, and answers whether it met the fault. The image is
+/// used on then.
+fn is_refused(rt: &impl Abort, alloc: Global, form: Form, row: Row, fault: Fault) -> bool {
+    let (mut subject, mut disk, answer) = called_again(rt, alloc, form, row, fault);
+    let is_met = meets_the_fault(rt, form, row, answer);
+    if is_met {
+        goes_on(rt, alloc, &mut subject, &mut disk, row);
+    } else {
+        assert_eq!(rt; subject.end(rt, alloc).0, 0);
+    }
+    is_met
 }
 
 /// How many calls of the first storage, or of the second, a call makes: it is refused at each of

@@ -1,9 +1,11 @@
 use Rattle.std.proofs.Common.{refl}
-use Rattle.imago.proofs.RawImages.{memory_alone, ready_to_discard}
 use Rattle.imago.proofs.laws.in_memory.discard_to_any.Goals as goal
 
+pub discard_to_any-requires-clause-faultless : goal.discard_to_any-requires-clause-faultless
+discard_to_any-requires-clause-faultless c = λ s. (refl, refl)
+
 pub returns-clause-only : goal.returns-clause-only
-returns-clause-only c = (memory_alone c.discard_to_any.result (c.discards_succeed.ensures c.args.image.now c.discard_to_any.new.self _ c.args.offset c.args.count c.discard_to_any.result (ready_to_discard _ _ _ _ (λ r. refl) c.args.image.now c.inner-raw.result.now c.inner-raw.ensures c.raw_images_refuse_nothing.ensures c.args.offset c.args.count c.requires.writable c.requires.inside c.raw_image_stands_in_its_storage.ensures.fits) c.discard_to_any.ensures)).refusals
+returns-clause-only c = c.discard_to_any.ensures.succeeds.refusals
 
 pub returns-clause-aligned : goal.returns-clause-aligned
-returns-clause-aligned c = λ a. (memory_alone c.discard_to_any.result (c.discards_succeed.ensures c.args.image.now c.discard_to_any.new.self _ c.args.offset c.args.count c.discard_to_any.result (ready_to_discard _ _ _ _ (λ r. refl) c.args.image.now c.inner-raw.result.now c.inner-raw.ensures c.raw_images_refuse_nothing.ensures c.args.offset c.args.count c.requires.writable c.requires.inside c.raw_image_stands_in_its_storage.ensures.fits) c.discard_to_any.ensures)).sure ((c.requires.inside, a, λ z. z), a)
+returns-clause-aligned c = λ a. c.discard_to_any.ensures.succeeds.sure (a, λ z. z)

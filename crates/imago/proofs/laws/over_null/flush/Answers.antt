@@ -1,6 +1,8 @@
 use Rattle.std.proofs.Common.{refl}
-use Rattle.imago.proofs.RawImages.{flush_of_all}
 use Rattle.imago.proofs.laws.over_null.flush.Goals as goal
 
+pub flush-requires : goal.flush-requires
+flush-requires c = record { faultless = λ s. (refl, refl) }
+
 pub returns : goal.returns
-returns c = (flush_of_all _ _ _ _ (λ r. refl) c.args.image.now c.inner.result.now c.inner.ensures c.raw_images_refuse_nothing.ensures _ c.flushes_succeed.ensures.flushed c.flush.new.self c.flush.result c.flush.ensures).sure (λ z. z)
+returns c = c.flush.ensures.sure (λ z. z)

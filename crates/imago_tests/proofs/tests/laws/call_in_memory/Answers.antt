@@ -1,5 +1,5 @@
 use Rattle.std.proofs.Common.{arith}
-use Rattle.imago.proofs.tests.laws.call_in_memory.Goals as goal
+use Rattle.imago_tests.proofs.tests.laws.call_in_memory.Goals as goal
 
 pub read-requires-clause-room : goal.read-requires-clause-room
 read-requires-clause-room c = c.in_ok-in_memory_image.ensures.room 512 16 (omega arith)

@@ -7,19 +7,19 @@ ghost use Rattle.imago_drivers.specs.Room.{HasRoom};
 ghost use Rattle.imago_vmdk.specs.Image.{is_opened};
 ghost use Rattle.imago_access.specs.Chain.{driver};
 
-use crate::cow::Cow;
-use crate::error::Error;
-use crate::format::PreallocateMode;
-use crate::laws::{
+use imago::cow::Cow;
+use imago::error::Error;
+use imago::format::PreallocateMode;
+use imago::laws::{
     data_blocks, descriptors, drivers, images, in_memory, over_null, plans, qcow2_disk,
     qcow2_files, round_trip, runs_of_cow, storages, vmdk_disk,
 };
-use crate::mem::MemStorage;
-use crate::null::Null;
-use crate::qcow2::Qcow2;
-use crate::raw::Raw;
-use crate::vmdk::Vmdk;
-use crate::{DenyImplicitOpenGate, FormatAccess, FormatDriverInstance, Storage};
+use imago::mem::MemStorage;
+use imago::null::Null;
+use imago::qcow2::Qcow2;
+use imago::raw::Raw;
+use imago::vmdk::Vmdk;
+use imago::{DenyImplicitOpenGate, FormatAccess, FormatDriverInstance, Storage};
 use imago_cow::table::Table;
 use std::alloc::Global;
 use std::test::Fail;

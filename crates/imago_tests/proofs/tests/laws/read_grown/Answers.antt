@@ -1,7 +1,7 @@
 use Rattle.std.proofs.Common.{◌≡◌, ◌∙◌, sym, subst, length}
 use Rattle.imago_storage.specs.Features.{Features, IsAlignedRequest}
 use Rattle.imago_drivers.specs.Room.{HasRoom}
-use Rattle.imago.proofs.tests.laws.read_grown.Goals as goal
+use Rattle.imago_tests.proofs.tests.laws.read_grown.Goals as goal
 
 -- what holds of the features at first holds of those behind three calls that keep them
 carried : (P : Features → Type 0) (a b c d : Features) → b ≡ a → c ≡ b → d ≡ c → P a → P d

@@ -1,5 +1,5 @@
 use Rattle.std.proofs.Common.{arith}
-use Rattle.imago.proofs.tests.laws.call_behind_growth.Goals as goal
+use Rattle.imago_tests.proofs.tests.laws.call_behind_growth.Goals as goal
 
 pub read_grown-requires-clause-room : goal.read_grown-requires-clause-room
 read_grown-requires-clause-room c = c.in_ok-in_memory_image.ensures.room 2032 16 (omega arith)
