@@ -13,6 +13,7 @@ use Rattle.imago_img_parts.specs.declared.text.ImageFormat.{ImageFormat}
 use Rattle.imago_img_parts.specs.declared.text.ImageFormat.TheVariants.{Raw, Vmdk, Qcow2}
 use Rattle.imago_img_parts.specs.Files.{path_at, storages_by, IsMade, piece_contents}
 use Rattle.imago_img_parts.specs.Layers.{layers_value}
+use Rattle.imago_img_parts.specs.Formats.{IsFormatBy}
 use Rattle.imago_img_parts.specs.Images.{IsImageOf}
 use Rattle.imago_img_parts.specs.Disks.{IsDiskOf, IsConverted, AreCompared}
 
@@ -49,7 +50,7 @@ pub converted_image :
     (strict allow : Bool) (said : Option ImageFormat) (old new : Option (List ℕ → List ℕ))
     (from to text : List ℕ) (format : ImageFormat) (size : ℕ) (paths : List (List ℕ))
     (pieces : List Piece)
-    → IfSome said (λ f. format ≡ f) → IfSome old (λ files. text ≡ files from)
+    → IfSome old (λ files. IsFormatBy said (files from) format) → IfSome old (λ files. text ≡ files from)
     → IsImageOf strict allow old from text format size paths pieces
     → IsMade old new to (piece_contents (option_map (storages_by paths) old) pieces)
     → IsConverted strict said old new from to
@@ -64,7 +65,8 @@ pub compared_images :
     (strict allow : Bool) (said : Option ImageFormat) (known : Option (List ℕ → List ℕ))
     (first second left right : List ℕ) (f g : ImageFormat) (n m : ℕ) (ps qs : List (List ℕ))
     (xs ys : List Piece) (found : Option ℕ)
-    → IfSome said (λ z. f ≡ z) → IfSome said (λ z. g ≡ z)
+    → IfSome known (λ files. IsFormatBy said (files first) f)
+    → IfSome known (λ files. IsFormatBy said (files second) g)
     → IfSome known (λ files. left ≡ files first) → IfSome known (λ files. right ≡ files second)
     → IsImageOf strict allow known first left f n ps xs → IsImageOf strict allow known second right g m qs ys
     → IfBoth (option_map (storages_by ps) known) (option_map (storages_by qs) known)

@@ -9,6 +9,7 @@ use Rattle.imago_plan.specs.Differences.{IsFirstDifference}
 use Rattle.imago_img_parts.specs.declared.text.ImageFormat.{ImageFormat}
 use Rattle.imago_img_parts.specs.declared.text.ImageFormat.TheVariants.{Raw, Vmdk, Qcow2}
 use Rattle.imago_img_parts.specs.Files.{storages_by, IsMade}
+use Rattle.imago_img_parts.specs.Formats.{IsFormatBy}
 use Rattle.imago_img_parts.specs.Layers.{AreLayers, layers_value}
 use Rattle.imago_img_parts.specs.Extents.{flat_names, storage_paths}
 
@@ -30,11 +31,13 @@ IsDiskOf strict files path Qcow2 disk =
     × AreLayers strict allow files path Qcow2 paths layers
     × (values_from (layers_value layers) 0 (disk_size (files path)) ≡ map Byte disk)
 
--- the image of a path has that disk, opened as the format that was said, if one was
+-- the image of a path has that disk, opened as the format that was said, or else as the one that its
+-- first bytes tell
 abbrev pub HasDisk :
     Bool → Option ImageFormat → (List ℕ → List ℕ) → List ℕ → List ℕ → Type 0
 HasDisk strict said files path disk =
-    (format : ImageFormat) × IfSome said (λ f. format ≡ f) × IsDiskOf strict files path format disk
+    (format : ImageFormat) × IsFormatBy said (files path) format
+    × IsDiskOf strict files path format disk
 
 -- The file of one path now has the disk that the image of another path had, and all other files
 -- have what they had, where that is told.

@@ -101,6 +101,8 @@ pub fn format_of<H: Host>(host: &H, path: &str, how: Opening) -> Result<ImageFor
 /// Opens the image of that file. The files of its extents are named, and not opened.
 pub fn open<H: Host>(host: &H, path: &str, how: Opening) -> Result<OpenedImage, Failure>
     ensures said { IfOk result (λ image. IfSome how.format (λ said. image.format ≡ said)) }
+    ensures format { IfOk result (λ image. IfSome (H.contents host.now)
+        (λ files. IsFormatBy how.format (files path.now) image.format)) }
     ensures image { IfOk result
         (λ image. (text : List ℕ) × IfSome (H.contents host.now) (λ files. text ≡ files path.now)
         × IsImageOf how.strict how.allow_outside (H.contents host.now) path.now text

@@ -1,6 +1,7 @@
 //! What is wrong with the header of a qcow2 file that isn't opened.
-ghost use Rattle.std.specs.Prelude.{◌+◌, ◌<◌, ◌≤◌};
+ghost use Rattle.std.specs.Prelude.{◌<◌};
 
+use imago_qcow2::number::{number32, number64};
 use std::io::{self, Write};
 use thiserror::Error;
 
@@ -51,20 +52,6 @@ pub enum HeaderFault {
     /// An L1 table that isn't in the file.
     #[error("the header says an L1 table that passes the file's end")]
     TableBehindEnd,
-}
-
-/// The number of the 4 bytes at that offset of a header, the highest first.
-fn number32(head: &[u8; 112], at: usize) -> u32
-    requires { at + 4 ≤ 112 }
-{
-    u32::from_be_bytes([head[at], head[at + 1], head[at + 2], head[at + 3]])
-}
-
-/// The number of the 8 bytes at that offset.
-fn number64(head: &[u8; 112], at: usize) -> u64
-    requires { at + 8 ≤ 112 }
-{
-    (number32(head, at) as u64) * 4294967296 + (number32(head, at + 4) as u64)
 }
 
 /// The incompatible features that a header says; version 2 has none.

@@ -62,10 +62,16 @@ fn raw_image<S: Storage>(file: S) -> Result<Image<S>, Error> {
     Ok(FormatAccess::new(AnyDriver::from(raw)))
 }
 
-/// The image that a descriptor describes. It has no file beside the descriptor.
-fn vmdk_image<S: Storage>(alloc: Global, file: S) -> Result<Image<S>, Error> {
+/// The driver of what a descriptor describes. It has no file beside the descriptor.
+fn opened_vmdk<S: Storage>(alloc: Global, file: S) -> Result<Vmdk<S>, Error> {
     let mut vmdk = Vmdk::open_image(alloc, file, false)?;
     vmdk.open_implicit_dependencies_gated(alloc, &mut DenyImplicitOpenGate::default())?;
+    Ok(vmdk)
+}
+
+/// The image that a descriptor describes.
+fn vmdk_image<S: Storage>(alloc: Global, file: S) -> Result<Image<S>, Error> {
+    let vmdk = opened_vmdk(alloc, file)?;
     Ok(FormatAccess::new(AnyDriver::from(vmdk)))
 }
 
@@ -198,9 +204,14 @@ fn keeps_file(rt: &impl Abort, alloc: Global, kind: Kind, file: &[u8]) -> Result
     Ok(())
 }
 
+/// Which format a file has.
+fn format_in<S: Storage>(alloc: Global, file: S) -> Result<Format, Error> {
+    detect(alloc, &file)
+}
+
 /// Which format a file of those bytes has.
 fn format_of(alloc: Global, bytes: &[u8]) -> Result<Format, Error> {
-    detect(alloc, &stored(alloc, bytes)?)
+    format_in(alloc, stored(alloc, bytes)?)
 }
 
 fn check_formats(rt: &impl Abort, alloc: Global) -> Result<(), Error> {

@@ -13,5 +13,5 @@ returns g c =
     (g.H.Host.contents c.args.host.now) c.args.first.now c.args.second.now on_left.0 on_right.0
     left.format right.format left.size right.size (map string_bytes left.paths.items)
     (map string_bytes right.paths.items) left.pieces.items right.pieces.items
-    c.in_ok-difference.difference c.in_ok-left.ensures.said c.in_ok-right.ensures.said
+    c.in_ok-difference.difference c.in_ok-left.ensures.format c.in_ok-right.ensures.format
     on_left.1 on_right.1 on_left.2 on_right.2 c.in_ok-difference.ensures

@@ -12,6 +12,6 @@ returns-clause-converted g c =
     on_ok c.convert.result _ _
     (converted_image c.args.how.strict c.args.how.allow_outside c.args.how.format old new
     c.args.from.now c.args.to.now opened.0 image.format image.size
-    (map string_bytes image.paths.items) image.pieces.items c.in_ok-image.ensures.said
+    (map string_bytes image.paths.items) image.pieces.items c.in_ok-image.ensures.format
     opened.1 opened.2)
     c.convert.ensures.made

@@ -3,4 +3,4 @@ use Rattle.imago_tests.proofs.tests.formats.cow_image.Goals as goal
 
 pub create-requires-clause-power : goal.create-requires-clause-power
 unfolding lib.Count.ones
-create-requires-clause-power c = refl
+create-requires-clause-power g c = refl
