@@ -61,16 +61,15 @@ impl fmt::Display for Mapping {
                 layer,
                 storage,
                 offset,
-                writable: true,
-            } => write!(f, "{layer}/{storage}:0x{offset:x}/rw"),
-            Mapping::Raw {
-                layer,
-                storage,
-                offset,
-                writable: false,
-            } => write!(f, "{layer}/{storage}:0x{offset:x}/ro"),
-            Mapping::Zero { explicit: true } => write!(f, "<zero:explicit>"),
-            Mapping::Zero { explicit: false } => write!(f, "<zero:unallocated>"),
+                writable,
+            } => {
+                let access = if *writable { "rw" } else { "ro" };
+                write!(f, "{layer}/{storage}:0x{offset:x}/{access}")
+            }
+            Mapping::Zero { explicit } => {
+                let kind = if *explicit { "explicit" } else { "unallocated" };
+                write!(f, "<zero:{kind}>")
+            }
             Mapping::Eof => write!(f, "<eof>"),
             Mapping::Special { layer, offset } => write!(f, "<special:{layer}:0x{offset:x}>"),
         }

@@ -30,3 +30,6 @@ returns-in-Prepared-clause-step g c =
     let p = c.in-Prepared in
     let h = subst (λ (bytes : List ℕ). IsMappedWrite g.D.FormatDriverInstance.view c.args.image.now w.new.self p.offset p.length p.overwrite bytes p.commit w.result × IsMappedBy g.D.FormatDriverInstance.view g.D.FormatDriverInstance.calls c.args.image.now w.new.self p.offset p.length p.overwrite bytes p.commit w.result) c.deref-in-Prepared.ensures.value (rw c.spending_of.ensures at w.ensures.mapped, rw c.spending_of.ensures at w.ensures.performed) in
     rw c.in-Prepared.is (w.result, c.prepared_or_refused.ensures, h)
+
+pub returns-in-Sync-clause-step : goal.returns-in-Sync-clause-step
+returns-in-Sync-clause-step g c = rw c.in-Sync.is (c.sync.result, c.done_or_refused-in-Sync.ensures, c.sync.ensures)
