@@ -103,10 +103,22 @@ fn on_layers(
     assert!(rt; done, "memory was refused twice");
 }
 
-/// The calls on an image of one kind of place with nothing below it.
-fn on_pattern(rt: &impl Abort, alloc: Global, kind: Kind, size: u64, calls: &[(Call, Answer)]) {
-    let driver: TestDriver<MemStorage> = TestDriver::Pattern(Pattern::new(kind, size));
+/// The calls on an image of one kind of place with nothing below it, as a layer above storages of
+/// one type has it.
+fn on_kind<S: Storage>(
+    rt: &impl Abort,
+    alloc: Global,
+    kind: Kind,
+    size: u64,
+    calls: &[(Call, Answer)],
+) {
+    let driver: TestDriver<S> = TestDriver::Pattern(Pattern::new(kind, size));
     on_driver(rt, alloc, driver, calls);
+}
+
+/// The same where storages are in memory.
+fn on_pattern(rt: &impl Abort, alloc: Global, kind: Kind, size: u64, calls: &[(Call, Answer)]) {
+    on_kind::<MemStorage>(rt, alloc, kind, size, calls);
 }
 
 static READ_WRITE: [(Call, Answer); 1] = [(Call::Map(0, 512, "1/0:0x0/rw"), Answer::Length(512))];

@@ -21,17 +21,33 @@ const NOT_OFFERED: Answer = Answer::Refused(Error::Unsupported);
 /// What makes the bytes 1 to 8 of the layer below.
 static COUNTED: [(Call, Answer); 1] = [(Call::Write(0, &[1, 2, 3, 4, 5, 6, 7, 8]), DONE)];
 
-/// The driver of an image of 8 bytes, over a storage of other bytes, whose first write copies what
-/// is below.
-fn copying(rt: &impl Abort, alloc: Global) -> CopyOnce<MemStorage> {
-    CopyOnce::new(stored(rt, alloc, &[(8, 0x11)]), 8)
+/// The driver of an image of 8 bytes, whose first write copies what is below.
+fn copying<S: Storage>(storage: S) -> CopyOnce<S> {
+    CopyOnce::new(storage, 8)
+}
+
+/// A storage of 8 other bytes.
+fn elevens(rt: &impl Abort, alloc: Global) -> MemStorage {
+    stored(rt, alloc, &[(8, 0x11)])
 }
 
 /// The calls on such an image above one of the bytes 1 to 8. Answers whether there was memory for
 /// both.
+fn on_storages<S: Storage>(
+    rt: &impl Abort,
+    alloc: Global,
+    lower: S,
+    upper: S,
+    calls: &[(Call, Answer)],
+) -> bool {
+    let lower = (copying(lower), COUNTED.as_slice());
+    on_two(rt, alloc, lower, copying(upper), calls)
+}
+
+/// The same in memory.
 fn on_once(rt: &impl Abort, alloc: Global, calls: &[(Call, Answer)]) -> bool {
-    let lower = copying(rt, alloc);
-    on_two(rt, alloc, (lower, &COUNTED), copying(rt, alloc), calls)
+    let lower = elevens(rt, alloc);
+    on_storages(rt, alloc, lower, elevens(rt, alloc), calls)
 }
 
 /// The calls on such an image above one of the bytes 1 to 8.
@@ -119,9 +135,21 @@ static LISTED: [(Call, Answer); 6] = [
 ];
 
 /// Runs the calls as a list. Answers whether there was memory for it.
+fn listed_on<S: Storage>(
+    rt: &impl Abort,
+    alloc: Global,
+    lower: S,
+    upper: S,
+    calls: &[(Call, Answer)],
+) -> bool {
+    let lower = (copying(lower), COUNTED.as_slice());
+    run_two(rt, alloc, lower, copying(upper), calls)
+}
+
+/// The same in memory.
 fn listed_once(rt: &impl Abort, alloc: Global, calls: &[(Call, Answer)]) -> bool {
-    let lower = copying(rt, alloc);
-    run_two(rt, alloc, (lower, &COUNTED), copying(rt, alloc), calls)
+    let lower = elevens(rt, alloc);
+    listed_on(rt, alloc, lower, elevens(rt, alloc), calls)
 }
 
 /// Runs the calls as a list.
@@ -236,6 +264,7 @@ fn are_asked<S: Storage>(
     image: &mut FormatAccess<CopyOnce<S>>,
     asked: &[(Call, Answer, bool)],
 ) {
+    assert_eq!(rt; last_asked(&*image), None);
     for &(call, answer, overwrites) in asked {
         assert_eq!(rt;
             asked_by(rt, alloc, image, (call, answer)),
@@ -246,8 +275,8 @@ fn are_asked<S: Storage>(
 
 /// The same of an image above one of the bytes 1 to 8. Answers whether there was memory for both.
 fn is_told<S: Storage>(rt: &impl Abort, alloc: Global, lower: S, upper: S) -> bool {
-    let lower = (CopyOnce::new(lower, 8), COUNTED.as_slice());
-    match two(rt, alloc, lower, CopyOnce::new(upper, 8)) {
+    let lower = (copying(lower), COUNTED.as_slice());
+    match two(rt, alloc, lower, copying(upper)) {
         Some(mut image) => {
             are_asked(rt, alloc, &mut image, &ASKED);
             true
@@ -258,8 +287,8 @@ fn is_told<S: Storage>(rt: &impl Abort, alloc: Global, lower: S, upper: S) -> bo
 
 /// The same in memory.
 fn is_told_once(rt: &impl Abort, alloc: Global) -> bool {
-    let lower = stored(rt, alloc, &[(8, 0x11)]);
-    is_told(rt, alloc, lower, stored(rt, alloc, &[(8, 0x11)]))
+    let lower = elevens(rt, alloc);
+    is_told(rt, alloc, lower, elevens(rt, alloc))
 }
 
 #[test]

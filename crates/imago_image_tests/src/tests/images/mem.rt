@@ -37,9 +37,9 @@ fn on(
     on_raw(rt, alloc, storage, writable, calls);
 }
 
-/// The raw image of these bytes.
-fn raw_of(rt: &impl Abort, alloc: Global, bytes: &[u8], writable: bool) -> Raw<MemStorage> {
-    Raw::open_image(storing(rt, alloc, bytes), writable).expect(rt, "a raw image")
+/// The raw image that a storage is.
+fn raw_of<S: Storage>(rt: &impl Abort, storage: S, writable: bool) -> Raw<S> {
+    Raw::open_image(storage, writable).expect(rt, "a raw image")
 }
 
 /// The calls on a writable raw image in that storage.
@@ -256,6 +256,16 @@ fn commit_stranger<D: FormatDriverInstance<State = ()>>(
     script(rt, alloc, &mut image, calls);
 }
 
+/// The same on a writable raw image.
+fn commit_stranger_to<S: Storage>(
+    rt: &impl Abort,
+    alloc: Global,
+    storage: S,
+    calls: &[(Call, Answer)],
+) {
+    commit_stranger(rt, alloc, raw_of(rt, storage, true), calls);
+}
+
 /// On 8 zeroes, as they were.
 static EIGHT: [(Call, Answer); 1] = [(Call::Read(0, &[0; 8]), Answer::Done)];
 
@@ -271,7 +281,7 @@ fn data_mappings(rt: HostRuntime) {
 }
 
 fn check_a_mapping_that_was_not_prepared_is_not_committed(rt: &impl Abort, alloc: Global) {
-    commit_stranger(rt, alloc, raw_of(rt, alloc, &[0; 8], true), &EIGHT);
+    commit_stranger_to(rt, alloc, storing(rt, alloc, &[0; 8]), &EIGHT);
 }
 
 #[test]
@@ -481,8 +491,13 @@ fn run_thrice<D: FormatDriverInstance>(
     assert!(rt; done >= 2 && replies.len() >= 8);
 }
 
+/// The same on a raw image that may not be written.
+fn run_thrice_on<S: Storage>(rt: &impl Abort, alloc: Global, storage: S, calls: &[(Call, Answer)]) {
+    run_thrice(rt, alloc, raw_of(rt, storage, false), calls);
+}
+
 fn check_a_run_appends_and_goes_on_after_a_refusal(rt: &impl Abort, alloc: Global) {
-    run_thrice(rt, alloc, raw_of(rt, alloc, &[1, 2, 3, 4], false), &REFUSED);
+    run_thrice_on(rt, alloc, storing(rt, alloc, &[1, 2, 3, 4]), &REFUSED);
 }
 
 #[test]
@@ -515,8 +530,8 @@ fn seen_from_above<B: LowerLayer>(
 
 /// A driver above an image of that storage sees its size, and its last bytes.
 fn is_seen<S: Storage>(rt: &impl Abort, alloc: Global, storage: S) {
-    let driver = Raw::open_image(storage, false).expect(rt, "a raw image");
-    let seen = seen_from_above(alloc, &alone(driver), 2);
+    let image = alone(raw_of(rt, storage, false));
+    let seen = seen_from_above(alloc, &image, 2);
     assert_eq!(rt; seen, Ok((4, [3, 4, 0])));
 }
 
@@ -535,9 +550,8 @@ fn above_raw<S: Storage>(
     (upper, writable): (S, bool),
     calls: &[(Call, Answer)],
 ) -> bool {
-    let lower = Raw::open_image(lower, false).expect(rt, "a raw image");
-    let upper = Raw::open_image(upper, writable).expect(rt, "a raw image");
-    on_two(rt, alloc, (lower, &[]), upper, calls)
+    let lower = raw_of(rt, lower, false);
+    on_two(rt, alloc, (lower, &[]), raw_of(rt, upper, writable), calls)
 }
 
 /// The same of images in memory.
@@ -614,13 +628,25 @@ fn exchange<D: FormatDriverInstance>(
     }
 }
 
+/// The same of raw images.
+fn exchange_raw<S: Storage>(
+    rt: &impl Abort,
+    alloc: Global,
+    (lower, upper, other): (S, S, S),
+    calls: &[(Call, Answer)],
+) -> bool {
+    let lower = raw_of(rt, lower, false);
+    let upper = raw_of(rt, upper, true);
+    exchange(rt, alloc, (lower, upper, raw_of(rt, other, false)), calls)
+}
+
 /// Puts the bytes 7 and 8 in the place of 4 bytes ff above 8 bytes 11. Answers whether there was
 /// memory for the image.
 fn exchanged(rt: &impl Abort, alloc: Global) -> bool {
-    let lower = raw_of(rt, alloc, &[0x11; 8], false);
-    let upper = raw_of(rt, alloc, &[0xff; 4], true);
-    let other = raw_of(rt, alloc, &[7, 8], false);
-    exchange(rt, alloc, (lower, upper, other), &EXCHANGED)
+    let lower = storing(rt, alloc, &[0x11; 8]);
+    let upper = storing(rt, alloc, &[0xff; 4]);
+    let other = storing(rt, alloc, &[7, 8]);
+    exchange_raw(rt, alloc, (lower, upper, other), &EXCHANGED)
 }
 
 #[test]

@@ -74,6 +74,11 @@ fn was_reached(rt: &impl Abort, storage: &Recording, expected: &[Recorded]) {
     assert_eq!(rt; storage.calls(), expected);
 }
 
+/// A storage has these bytes, and no other.
+fn are_left(rt: &impl Abort, bytes: &[u8], expected: &[u8]) {
+    assert!(rt; bytes == expected, "other bytes are left");
+}
+
 /// In blocks of 4096: only the aligned part of a range is discarded.
 static CALLS: [(Call, Answer); 12] = [
     (Call::Drive(driver::Call::Flush), DONE),
@@ -167,11 +172,7 @@ pub(super) fn each_reaches(rt: &impl Abort, alloc: Global, rows: &[Row]) {
     for &(call, answer, reached, left) in rows {
         let storage = on(rt, alloc, &[(call, answer)]);
         was_reached(rt, &storage, reached);
-        let expected = runs(rt, alloc, left);
-        assert!(rt;
-            storage.as_bytes() == expected.as_slice(),
-            "other bytes are left"
-        );
+        are_left(rt, storage.as_bytes(), &runs(rt, alloc, left));
     }
 }
 
@@ -217,6 +218,16 @@ fn left_by(rt: &impl Abort, alloc: Global, calls: &[Recorded], left: &[(usize, u
     bytes
 }
 
+/// Makes a call on a writable raw image over such a storage, which is lent to it: the device fails
+/// once. Answers whether there was memory for it.
+fn fails(rt: &impl Abort, alloc: Global, storage: &mut Faulty, call: Call) -> bool {
+    if on_raw(rt, alloc, &mut *storage, true, &[(call, DEVICE)]) {
+        return false;
+    }
+    assert_eq!(rt; storage.faults(), 1);
+    true
+}
+
 /// Makes the call of a row where the device fails behind so many of its calls: it is refused, and
 /// makes no other. Answers whether there was memory for it.
 fn stops(rt: &impl Abort, alloc: Global, row: &Row, pass: usize) -> bool {
@@ -227,16 +238,11 @@ fn stops(rt: &impl Abort, alloc: Global, row: &Row, pass: usize) -> bool {
     let Some(mut storage) = failing(rt, alloc, failed, pass as u64) else {
         return true;
     };
-    if on_raw(rt, alloc, &mut storage, true, &[(call, DEVICE)]) {
-        return false;
+    let done = fails(rt, alloc, &mut storage, call);
+    if done {
+        are_left(rt, storage.as_bytes(), &left_by(rt, alloc, made, left));
     }
-    let expected = left_by(rt, alloc, made, left);
-    assert!(rt;
-        storage.as_bytes() == expected.as_slice(),
-        "other bytes are left"
-    );
-    assert_eq!(rt; storage.faults(), 1);
-    true
+    done
 }
 
 /// Makes the call of each row where the device fails at each of its calls in turn.

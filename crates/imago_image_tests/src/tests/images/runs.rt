@@ -128,6 +128,18 @@ fn are_told(rt: &impl Abort, alloc: Global, calls: &[(Call, Answer)], replies: &
     true
 }
 
+/// Runs a list of calls, and appends the replies. Answers whether there was memory for it.
+fn run_list<D: FormatDriverInstance>(
+    rt: &impl Abort,
+    alloc: Global,
+    image: &mut FormatAccess<D>,
+    list: &[run::Call],
+    replies: &mut Vec<Reply>,
+) -> bool {
+    assert!(rt; is_spent(&*image));
+    run::run(alloc, image, list, replies).is_ok()
+}
+
 /// Runs the calls as one list, each of which is answered like that, and appends the replies.
 /// Answers whether there was memory for it.
 pub(super) fn by_run<D: FormatDriverInstance>(
@@ -137,10 +149,8 @@ pub(super) fn by_run<D: FormatDriverInstance>(
     calls: &[(Call, Answer)],
     replies: &mut Vec<Reply>,
 ) -> bool {
-    let list = list(rt, alloc, calls);
     let before = replies.len();
-    assert!(rt; is_spent(&*image));
-    if run::run(alloc, image, &list, replies).is_err() {
+    if !run_list(rt, alloc, image, &list(rt, alloc, calls), replies) {
         assert_eq!(rt; replies.len(), before);
         return false;
     }
@@ -150,6 +160,17 @@ pub(super) fn by_run<D: FormatDriverInstance>(
         calls,
         replies.get(before..).expect(rt, "replies"),
     )
+}
+
+/// Runs the calls as one list on an image of a driver with nothing below it. Answers whether there
+/// was memory for it.
+fn run_driver<D: FormatDriverInstance>(
+    rt: &impl Abort,
+    alloc: Global,
+    driver: D,
+    calls: &[(Call, Answer)],
+) -> bool {
+    by_run(rt, alloc, &mut alone(driver), calls, &mut Vec::new(alloc))
 }
 
 /// Runs the calls as one list on the raw image that a storage is. Answers whether there was memory
@@ -162,8 +183,7 @@ pub(super) fn run_raw<S: Storage>(
     calls: &[(Call, Answer)],
 ) -> bool {
     let driver = Raw::open_image(storage, writable).expect(rt, "a raw image");
-    let mut image = alone(driver);
-    by_run(rt, alloc, &mut image, calls, &mut Vec::new(alloc))
+    run_driver(rt, alloc, driver, calls)
 }
 
 /// Runs the calls as one list on an image of a driver above an image of another one, on which the

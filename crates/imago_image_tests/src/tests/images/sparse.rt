@@ -66,7 +66,12 @@ fn disk(rt: &impl Abort, alloc: Global, table: &[Origin], size: u64) -> Disk {
 }
 
 /// The calls on a disk with nothing below it.
-fn on_disk(rt: &impl Abort, alloc: Global, disk: Disk, calls: &[(driver::Call, Answer)]) {
+fn on_disk<S: Storage>(
+    rt: &impl Abort,
+    alloc: Global,
+    disk: Sparse<S>,
+    calls: &[(driver::Call, Answer)],
+) {
     driver::on_driver(rt, alloc, disk, calls);
 }
 
@@ -286,6 +291,18 @@ fn upper(rt: &impl Abort, alloc: Global, table: &[Origin], fail: Option<u64>) ->
     made(rt, alloc, table, 4, failing_commits(fail)).expect(rt, "a table that fits")
 }
 
+/// The calls on an image of a disk above one of another disk. Answers whether there was memory for
+/// both.
+fn on_disks<S: Storage>(
+    rt: &impl Abort,
+    alloc: Global,
+    lower: Sparse<S>,
+    upper: Sparse<S>,
+    calls: &[(Call, Answer)],
+) -> bool {
+    on_two(rt, alloc, (lower, &[]), upper, calls)
+}
+
 /// The calls on an image of such a disk above one of twos. Answers whether there was memory for
 /// both.
 fn on_once(
@@ -295,7 +312,7 @@ fn on_once(
     calls: &[(Call, Answer)],
 ) -> bool {
     let twos = disk(rt, alloc, &[SECOND; 4], 4);
-    on_two(rt, alloc, (twos, &[]), upper(rt, alloc, table, fail), calls)
+    on_disks(rt, alloc, twos, upper(rt, alloc, table, fail), calls)
 }
 
 /// The calls on an image of such a disk above one of twos.
@@ -344,11 +361,23 @@ static LISTED: [(Call, Answer); 8] = [
     (Call::Size, Answer::Length(4)),
 ];
 
+/// Runs the calls as a list on an image of a disk above one of another disk. Answers whether there
+/// was memory for it.
+fn listed_on<S: Storage>(
+    rt: &impl Abort,
+    alloc: Global,
+    lower: Sparse<S>,
+    upper: Sparse<S>,
+    calls: &[(Call, Answer)],
+) -> bool {
+    run_two(rt, alloc, (lower, &[]), upper, calls)
+}
+
 /// Runs those calls. Answers whether there was memory for it.
 fn runs_listed(rt: &impl Abort, alloc: Global) -> bool {
     let twos = disk(rt, alloc, &[SECOND; 4], 4);
     let upper = upper(rt, alloc, &[FIRST, LOWER, NONE, BAR], None);
-    run_two(rt, alloc, (twos, &[]), upper, &LISTED)
+    listed_on(rt, alloc, twos, upper, &LISTED)
 }
 
 #[test]
