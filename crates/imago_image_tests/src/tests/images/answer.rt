@@ -1,6 +1,7 @@
 //! What calls on drivers and images answer.
 use imago_drivers::drivers::ShallowMapping;
 use imago_storage::error::Error;
+use std::process::Abort;
 
 /// What a call answers. Offsets and lengths are in bytes.
 #[derive(Clone, Copy, Debug, PartialEq, Eq, Drop)]
@@ -35,6 +36,11 @@ pub(super) enum Answer {
     /// The alignments of requests and of memory.
     Aligns(usize, usize),
     Refused(Error),
+}
+
+/// The call of that index in a table is answered like that.
+pub(super) fn is_answered(rt: &impl Abort, index: usize, answer: Answer, expected: Answer) {
+    assert_eq!(rt; answer, expected, "call {index}");
 }
 
 /// The answer to a call that answers nothing.

@@ -1,7 +1,7 @@
 //! Calls on a driver with nothing below it, and what each answers.
 ghost use Rattle.std.specs.Prelude.{◌≡◌, ◌+◌, ◌≤◌, IsTrue, None, true};
 
-use super::answer::{Answer, data, done, part, place, prepared};
+use super::answer::{Answer, data, done, is_answered, part, place, prepared};
 use super::set_up::{buffer, printed};
 use imago_drivers::drivers::{Format, FormatDriverInstance, PreallocateMode, PreparedDataMapping};
 use imago_drivers::raw::Raw;
@@ -415,7 +415,7 @@ pub(super) fn script<D: FormatDriverInstance>(
             assert_eq!(rt; driver.size(), size);
             answer = make(rt, alloc, driver, call);
         }
-        assert_eq!(rt; answer, expected, "call {i}");
+        is_answered(rt, i, answer, expected);
     }
 }
 

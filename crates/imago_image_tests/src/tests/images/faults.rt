@@ -15,9 +15,15 @@ const DONE: Answer = Answer::Done;
 
 const DEVICE: Answer = Answer::Refused(Error::Device);
 
-/// The calls on a writable raw image over a storage that fails, which is lent to it.
-fn on(rt: &impl Abort, alloc: Global, storage: &mut Faulty, calls: &[(Call, Answer)]) {
-    on_raw(rt, alloc, storage, true, calls);
+/// The calls on a writable raw image over a storage that fails, which is lent to it. Answers
+/// whether any call was made again.
+pub(super) fn on(
+    rt: &impl Abort,
+    alloc: Global,
+    storage: &mut Faulty,
+    calls: &[(Call, Answer)],
+) -> bool {
+    on_raw(rt, alloc, storage, true, calls)
 }
 
 /// Runs the calls as a list on such an image. Answers whether there was memory for it.

@@ -2,7 +2,7 @@
 ghost use Rattle.std.specs.Prelude.{◌≡◌, IsTrue, None};
 ghost use Rattle.imago_access.specs.Chain.{driver};
 
-use super::answer::{Answer, data, done, place, prepared};
+use super::answer::{Answer, data, done, is_answered, place, prepared};
 use super::driver;
 use super::driver::Give;
 use super::set_up::{buffer, numbers, printed, runs};
@@ -382,7 +382,7 @@ pub(super) fn script<D: FormatDriverInstance>(
     let mut again = false;
     for (i, &(call, expected)) in calls.iter().enumerate() {
         let (answer, is_again) = make_again(rt, alloc, image, call, expected);
-        assert_eq!(rt; answer, expected, "call {i}");
+        is_answered(rt, i, answer, expected);
         again |= is_again;
     }
     again

@@ -427,11 +427,16 @@ fn mapped_writes(rt: HostRuntime) {
     check_mapped_writes(&rt, rt.alloc());
 }
 
-fn check_no_layer_has_no_bytes(rt: &impl Abort, alloc: Global) {
+/// What is below a driver has no bytes, and is read as zeroes.
+fn has_no_bytes<B: LowerLayer>(rt: &impl Abort, alloc: Global, below: &B) {
     let mut buf = [1; 4];
-    assert_eq!(rt; LowerLayer::size(&()), 0);
-    assert_eq!(rt; LowerLayer::read(&(), alloc, &mut buf, 3), Ok(()));
+    assert_eq!(rt; below.size(), 0);
+    assert_eq!(rt; below.read(alloc, &mut buf, 3), Ok(()));
     assert_eq!(rt; buf, [0; 4]);
+}
+
+fn check_no_layer_has_no_bytes(rt: &impl Abort, alloc: Global) {
+    has_no_bytes(rt, alloc, &());
 }
 
 #[test]

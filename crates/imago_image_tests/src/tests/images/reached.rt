@@ -1,10 +1,10 @@
 //! What of an image's and a driver's calls reaches the storage.
 use super::answer::Answer;
-use super::driver;
 use super::driver::Give;
 use super::image::{Call, on_raw};
 use super::runs::run_raw;
 use super::set_up::{in_blocks, runs, stored};
+use super::{driver, faults};
 use imago_drivers::drivers::PreallocateMode;
 use imago_storage::error::Error;
 use imago_storage::mem::MemStorage;
@@ -221,7 +221,7 @@ fn left_by(rt: &impl Abort, alloc: Global, calls: &[Recorded], left: &[(usize, u
 /// Makes a call on a writable raw image over such a storage, which is lent to it: the device fails
 /// once. Answers whether there was memory for it.
 fn fails(rt: &impl Abort, alloc: Global, storage: &mut Faulty, call: Call) -> bool {
-    if on_raw(rt, alloc, &mut *storage, true, &[(call, DEVICE)]) {
+    if faults::on(rt, alloc, &mut *storage, &[(call, DEVICE)]) {
         return false;
     }
     assert_eq!(rt; storage.faults(), 1);

@@ -52,11 +52,10 @@ pub(super) fn in_blocks(rt: &impl Abort, storage: MemStorage, align: usize) -> M
 
 /// A copy.
 pub(super) fn copied(rt: &impl Abort, alloc: Global, bytes: &[u8]) -> Vec<u8> {
-    let mut copy = buffer(rt, alloc, bytes.len());
-    for (to, &byte) in copy.iter_mut().zip(bytes) {
-        *to = byte;
+    match Vec::from_slice(alloc, bytes) {
+        Ok(copy) => copy,
+        Err(_) => Vec::from_slice(alloc, bytes).expect(rt, "memory for bytes"),
     }
-    copy
 }
 
 /// A storage of these bytes.

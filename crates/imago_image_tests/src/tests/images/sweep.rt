@@ -453,18 +453,33 @@ fn is_resize(kind: Kind, (_, effect): Row) -> bool {
     }
 }
 
+/// The row of that index makes so many calls.
+fn makes(rt: &impl Abort, index: usize, found: u64, expected: u64) {
+    assert_eq!(rt; found, expected, "row {index}");
+}
+
+/// Sweeps over a row with that tear. It makes so many calls of the first storage, and of the
+/// second, if there is one.
+fn sweep_torn(
+    rt: &impl Abort,
+    alloc: Global,
+    form: Form,
+    (index, row): (usize, Row),
+    tear: Tear,
+    (first, second): (u64, Option<u64>),
+) {
+    makes(rt, index, reached(rt, alloc, form, row, tear, false), first);
+    if let Some(second) = second {
+        makes(rt, index, reached(rt, alloc, form, row, tear, true), second);
+    }
+}
+
 /// Sweeps over the rows with each tear, and with a refused resize. Each row makes so many calls.
 fn sweep(rt: &impl Abort, alloc: Global, form: Form, rows: &[Counted]) {
     for (i, &(call, effect, counts)) in rows.iter().enumerate() {
         let row = (call, effect);
-        let (first, second) = calls_of(form, counts);
         for &tear in &TEARS {
-            let found = reached(rt, alloc, form, row, tear, false);
-            assert_eq!(rt; found, first, "row {i}");
-            if let Some(second) = second {
-                let found = reached(rt, alloc, form, row, tear, true);
-                assert_eq!(rt; found, second, "row {i}");
-            }
+            sweep_torn(rt, alloc, form, (i, row), tear, calls_of(form, counts));
         }
         let resizes = is_refused(rt, alloc, form, row, Fault::Resize);
         assert_eq!(rt; resizes, is_resize(form.kind, row), "row {i}");
