@@ -2,6 +2,7 @@
 ghost use Rattle.std.specs.Prelude.{◌≡◌, IsTrue, None};
 ghost use Rattle.imago_access.specs.Chain.{driver};
 
+use super::files::{opened_vmdk, stored};
 use imago::any::{AnyDriver, detect};
 use imago::cow::Cow;
 use imago::error::Error;
@@ -9,8 +10,7 @@ use imago::format::Format;
 use imago::mem::MemStorage;
 use imago::qcow2::Qcow2;
 use imago::raw::Raw;
-use imago::vmdk::Vmdk;
-use imago::{DenyImplicitOpenGate, FormatAccess, FormatDriverInstance, Storage};
+use imago::{FormatAccess, FormatDriverInstance, Storage};
 use std::alloc::Global;
 use std::process::Abort;
 use std::test::Fail;
@@ -37,11 +37,6 @@ static PARTS: [(usize, &[u8]); 8] = [
     (1536, b"data"),
 ];
 
-/// A storage with those bytes.
-fn stored(alloc: Global, bytes: &[u8]) -> Result<MemStorage, Error> {
-    Ok(MemStorage::new(Vec::from_slice(alloc, bytes)?))
-}
-
 /// The file of that qcow2 image.
 fn qcow2_file(alloc: Global) -> Result<MemStorage, Error> {
     let mut file = vec![in alloc; 0u8; 2048]?;
@@ -56,37 +51,38 @@ fn qcow2_file(alloc: Global) -> Result<MemStorage, Error> {
 /// An image of any format.
 type Image<S> = FormatAccess<AnyDriver<S>>;
 
-/// A writable raw image.
-fn raw_image<S: Storage>(file: S) -> Result<Image<S>, Error> {
-    let raw = Raw::open_image(file, true)?;
-    Ok(FormatAccess::new(AnyDriver::from(raw)))
+/// The driver of a writable raw image.
+fn raw_driver<S: Storage>(file: S) -> Result<AnyDriver<S>, Error> {
+    Ok(AnyDriver::from(Raw::open_image(file, true)?))
 }
 
-/// The driver of what a descriptor describes. It has no file beside the descriptor.
-fn opened_vmdk<S: Storage>(alloc: Global, file: S) -> Result<Vmdk<S>, Error> {
-    let mut vmdk = Vmdk::open_image(alloc, file, false)?;
-    vmdk.open_implicit_dependencies_gated(alloc, &mut DenyImplicitOpenGate::default())?;
-    Ok(vmdk)
+/// The driver of the image that a descriptor describes.
+fn vmdk_driver<S: Storage>(alloc: Global, file: S) -> Result<AnyDriver<S>, Error> {
+    Ok(AnyDriver::from(opened_vmdk(alloc, file)?))
 }
 
-/// The image that a descriptor describes.
-fn vmdk_image<S: Storage>(alloc: Global, file: S) -> Result<Image<S>, Error> {
-    let vmdk = opened_vmdk(alloc, file)?;
-    Ok(FormatAccess::new(AnyDriver::from(vmdk)))
+/// The driver of a qcow2 image.
+fn qcow2_driver<S: Storage>(alloc: Global, file: S) -> Result<AnyDriver<S>, Error> {
+    Ok(AnyDriver::from(Qcow2::open_image(alloc, file, false)?))
 }
 
-/// A qcow2 image above another image.
-fn qcow2_image<S: Storage>(alloc: Global, file: S, below: Image<S>) -> Result<Image<S>, Error> {
-    let qcow2 = Qcow2::open_image(alloc, file, false)?;
-    let below = Box::new(alloc, below)?;
-    Ok(FormatAccess::with_backing(AnyDriver::from(qcow2), below))
+/// The driver of a copy-on-write disk of 1024 bytes, in blocks of 512.
+fn cow_driver<S: Storage>(alloc: Global, file: S) -> Result<AnyDriver<S>, Error> {
+    Ok(AnyDriver::from(Cow::create(alloc, file, 1024, 512)?))
 }
 
-/// A copy-on-write disk of 1024 bytes, in blocks of 512, above another image.
-fn cow_image<S: Storage>(alloc: Global, file: S, below: Image<S>) -> Result<Image<S>, Error> {
-    let cow = Cow::create(alloc, file, 1024, 512)?;
-    let below = Box::new(alloc, below)?;
-    Ok(FormatAccess::with_backing(AnyDriver::from(cow), below))
+/// An image with nothing below it.
+fn alone<S: Storage>(driver: AnyDriver<S>) -> Image<S> {
+    FormatAccess::new(driver)
+}
+
+/// An image above another one.
+fn above<S: Storage>(
+    alloc: Global,
+    driver: AnyDriver<S>,
+    below: Image<S>,
+) -> Result<Image<S>, Error> {
+    Ok(FormatAccess::with_backing(driver, Box::new(alloc, below)?))
 }
 
 /// Which image is made.
@@ -102,20 +98,36 @@ enum Kind {
     Cow,
 }
 
+/// The text as a raw image.
+fn text_image(alloc: Global) -> Result<Image<MemStorage>, Error> {
+    Ok(alone(raw_driver(stored(alloc, TEXT)?)?))
+}
+
+/// The disk of the descriptor.
+fn described_image(alloc: Global) -> Result<Image<MemStorage>, Error> {
+    Ok(alone(vmdk_driver(alloc, stored(alloc, DESCRIPTOR)?)?))
+}
+
+/// The qcow2 file above the text.
+fn qcow2_image(alloc: Global) -> Result<Image<MemStorage>, Error> {
+    let driver = qcow2_driver(alloc, qcow2_file(alloc)?)?;
+    above(alloc, driver, text_image(alloc)?)
+}
+
+/// A copy-on-write disk above that.
+fn cow_image(alloc: Global) -> Result<Image<MemStorage>, Error> {
+    let driver = cow_driver(alloc, stored(alloc, b"")?)?;
+    above(alloc, driver, qcow2_image(alloc)?)
+}
+
 /// An image of each kind, in memory.
 fn made(alloc: Global, kind: Kind) -> Result<Image<MemStorage>, Error> {
-    if let Kind::Vmdk = kind {
-        return vmdk_image(alloc, stored(alloc, DESCRIPTOR)?);
+    match kind {
+        Kind::Raw => text_image(alloc),
+        Kind::Vmdk => described_image(alloc),
+        Kind::Qcow2 => qcow2_image(alloc),
+        Kind::Cow => cow_image(alloc),
     }
-    let text = raw_image(stored(alloc, TEXT)?)?;
-    if let Kind::Raw = kind {
-        return Ok(text);
-    }
-    let qcow2 = qcow2_image(alloc, qcow2_file(alloc)?, text)?;
-    if let Kind::Qcow2 = kind {
-        return Ok(qcow2);
-    }
-    cow_image(alloc, stored(alloc, b"")?, qcow2)
 }
 
 /// Whether a changing call may be made: no prepared mapping waits to be spent.
@@ -155,16 +167,32 @@ fn shows<D: FormatDriverInstance>(
     Ok(())
 }
 
-/// Writes bytes to an image, which has that then. Answers what the write did.
-fn written_shows<D: FormatDriverInstance>(
+/// The first file of an image has those bytes.
+fn keeps<D: FormatDriverInstance<Storage = MemStorage>>(
+    rt: &impl Abort,
+    image: &FormatAccess<D>,
+    file: &[u8],
+) {
+    assert_eq!(rt;
+        image.inner().storage(0).map(MemStorage::as_bytes),
+        Some(file)
+    );
+}
+
+/// Writes bytes to an image, which has that first file then, if one is told, and shows that. Answers
+/// what the write did.
+fn written_shows<D: FormatDriverInstance<Storage = MemStorage>>(
     rt: &impl Abort,
     alloc: Global,
     image: FormatAccess<D>,
     written: (&[u8], u64),
-    expected: Shown,
+    (expected, file): (Shown, Option<&[u8]>),
 ) -> Result<Result<(), Error>, Error> {
     let mut image = image;
     let answer = write(rt, alloc, &mut image, written);
+    if let Some(file) = file {
+        keeps(rt, &image, file);
+    }
     shows(rt, alloc, &image, expected)?;
     Ok(answer)
 }
@@ -175,32 +203,21 @@ fn on(
     alloc: Global,
     kind: Kind,
     written: (&[u8], u64),
-    expected: Shown,
+    expected: (Shown, Option<&[u8]>),
 ) -> Result<Result<(), Error>, Error> {
     written_shows(rt, alloc, made(alloc, kind)?, written, expected)
 }
 
-/// A write to an image is refused, and leaves its first file as it was.
-fn keeps<D: FormatDriverInstance<Storage = MemStorage>>(
+/// A write to an image of that kind is refused, and leaves its disk and its first file as they
+/// were.
+fn refuses_writes(
     rt: &impl Abort,
     alloc: Global,
-    image: FormatAccess<D>,
-    file: &[u8],
-) {
-    let mut image = image;
-    assert_eq!(rt;
-        write(rt, alloc, &mut image, (b"new", 0)),
-        Err(Error::ReadOnly)
-    );
-    assert_eq!(rt;
-        image.inner().storage(0).map(MemStorage::as_bytes),
-        Some(file)
-    );
-}
-
-/// The same of an image of that kind.
-fn keeps_file(rt: &impl Abort, alloc: Global, kind: Kind, file: &[u8]) -> Result<(), Error> {
-    keeps(rt, alloc, made(alloc, kind)?, file);
+    kind: Kind,
+    (shown, file): (Shown, &[u8]),
+) -> Result<(), Error> {
+    let answer = on(rt, alloc, kind, (b"new", 0), (shown, Some(file)))?;
+    assert_eq!(rt; answer, Err(Error::ReadOnly));
     Ok(())
 }
 
@@ -244,13 +261,22 @@ const CHANGED: Shown = (1024, &[(5, *b"text"), (509, *b"\0new"), (512, *b"wata")
 
 fn check_each_format(rt: &impl Abort, alloc: Global) -> Result<(), Error> {
     let read_only = Err(Error::ReadOnly);
-    assert_eq!(rt; on(rt, alloc, Kind::Raw, (b"", 0), OF_TEXT)?, Ok(()));
-    assert_eq!(rt; on(rt, alloc, Kind::Vmdk, (b"new", 0), ZEROES)?, read_only);
     assert_eq!(rt;
-        on(rt, alloc, Kind::Qcow2, (b"new", 512), OF_QCOW2)?,
+        on(rt, alloc, Kind::Raw, (b"", 0), (OF_TEXT, None))?,
+        Ok(())
+    );
+    assert_eq!(rt;
+        on(rt, alloc, Kind::Vmdk, (b"new", 0), (ZEROES, None))?,
         read_only
     );
-    assert_eq!(rt; on(rt, alloc, Kind::Cow, (b"new", 510), CHANGED)?, Ok(()));
+    assert_eq!(rt;
+        on(rt, alloc, Kind::Qcow2, (b"new", 512), (OF_QCOW2, None))?,
+        read_only
+    );
+    assert_eq!(rt;
+        on(rt, alloc, Kind::Cow, (b"new", 510), (CHANGED, None))?,
+        Ok(())
+    );
     Ok(())
 }
 
@@ -263,7 +289,8 @@ fn each_format_is_read_and_written(rt: HostRuntime) -> Result<(), Fail> {
 #[test]
 fn read_only_formats_refuse_writes(rt: HostRuntime) -> Result<(), Fail> {
     let alloc = rt.alloc();
-    keeps_file(&rt, alloc, Kind::Vmdk, DESCRIPTOR)?;
-    keeps_file(&rt, alloc, Kind::Qcow2, qcow2_file(alloc)?.as_bytes())?;
+    refuses_writes(&rt, alloc, Kind::Vmdk, (ZEROES, DESCRIPTOR))?;
+    let file = qcow2_file(alloc)?;
+    refuses_writes(&rt, alloc, Kind::Qcow2, (OF_QCOW2, file.as_bytes()))?;
     Ok(())
 }

@@ -1,12 +1,14 @@
 //! Each law is called at types that it is for: a premise that none of them meets would be seen
 //! here.
-ghost use Rattle.std.specs.Prelude.{◌≡◌, ℕ, ◌+◌, ◌≤◌, true, length, IfOk, IsOk};
+ghost use Rattle.std.specs.Prelude.{◌≡◌, ℕ, ◌+◌, ◌≤◌, true, None, length};
+ghost use Rattle.std.specs.Prelude.{IfOk, IsOk, OnOk};
 ghost use Rattle.imago_storage.specs.Features.{IsAlignedRequest};
 ghost use Rattle.imago_drivers.specs.RawImage.{storage_in, size_of, writability_of};
 ghost use Rattle.imago_drivers.specs.Room.{HasRoom};
 ghost use Rattle.imago_vmdk.specs.Image.{is_opened};
 ghost use Rattle.imago_access.specs.Chain.{driver};
 
+use super::files::{opened_vmdk, stored};
 use imago::cow::Cow;
 use imago::error::Error;
 use imago::format::PreallocateMode;
@@ -19,7 +21,7 @@ use imago::null::Null;
 use imago::qcow2::Qcow2;
 use imago::raw::Raw;
 use imago::vmdk::Vmdk;
-use imago::{DenyImplicitOpenGate, FormatAccess, FormatDriverInstance, Storage};
+use imago::{FormatAccess, FormatDriverInstance, Storage};
 use imago_cow::table::Table;
 use std::alloc::Global;
 use std::test::Fail;
@@ -35,12 +37,6 @@ fn call_laws_of_storages(null: &Null) {
     drivers::mapping_past_a_raw_image();
 }
 
-/// The laws of raw images.
-fn call_laws_of_raw_images<S: Storage>(raw: &Raw<S>) {
-    drivers::raw_images_refuse_nothing(raw);
-    drivers::raw_image_stands_in_its_storage(raw);
-}
-
 /// The laws of descriptors, and the lines that are written out.
 fn call_laws_of_descriptors() {
     descriptors::same_stands();
@@ -53,38 +49,11 @@ fn call_laws_of_descriptors() {
     descriptors::whole_descriptors();
 }
 
-/// The laws of VMDK images.
-fn call_laws_of_vmdk<S: Storage>(image: &FormatAccess<Vmdk<S>>)
-    requires { is_opened (driver image.now) ≡ true }
-{
-    descriptors::places_of_bytes(image.inner());
-    descriptors::disk_of_bytes(image.inner());
-    vmdk_disk(image);
-    plans::plans_of_vmdk(image);
-}
-
-/// The laws of qcow2 images.
-fn call_laws_of_qcow2<S: Storage>(image: &FormatAccess<Qcow2<S>>) {
-    qcow2_files::same_tables_stand_alike();
-    qcow2_files::worked_l2_entries();
-    qcow2_files::worked_l1_entries();
-    qcow2_files::disk_of_bytes(image.inner());
-    qcow2_disk(image);
-}
-
 /// The laws of tables of data blocks.
 fn call_laws_of_tables(table: &Table) {
     data_blocks::each_data_block_is_used_once(table);
     data_blocks::data_blocks_are_counted(table);
     data_blocks::lowest_unused_ones();
-}
-
-/// The laws of copy-on-write disks.
-fn call_laws_of_cow<S: Storage>(image: &FormatAccess<Cow<S>>) {
-    data_blocks::data_blocks_of_a_disk(image.inner());
-    data_blocks::data_blocks_of_a_disk_are_counted(image.inner());
-    data_blocks::a_disk_keeps_what_its_storage_keeps(image.inner());
-    runs_of_cow(image, image);
 }
 
 /// The laws of images.
@@ -114,41 +83,81 @@ fn call_laws_of_images<D: FormatDriverInstance>() {
     plans::top_layers_lead_nowhere::<D>();
 }
 
-/// Each law, at the drivers of this library.
-fn call_laws(alloc: Global) -> Result<(), Error> {
-    call_laws_of_storages(&Null::new(512));
-    call_laws_of_raw_images(&Raw::open_image(MemStorage::new(Vec::new(alloc)), true)?);
-    call_laws_of_raw_images(&Raw::open_image(Null::new(512), true)?);
-    plans::plans_of_raw(&FormatAccess::new(Raw::open_image(Null::new(512), true)?));
-    call_laws_of_descriptors();
-    call_laws_of_tables(&Table::new(alloc, 4)?);
-    let cow = Cow::create(alloc, MemStorage::new(Vec::new(alloc)), 4096, 512)?;
-    call_laws_of_cow(&FormatAccess::new(cow));
-    call_laws_of_images::<Raw<MemStorage>>();
-    call_laws_of_images::<Raw<Null>>();
-    call_laws_of_images::<Vmdk<MemStorage>>();
-    call_laws_of_images::<Cow<MemStorage>>();
+/// The laws of images, for the drivers of this library.
+fn call_laws_of_drivers<S: Storage>() {
+    call_laws_of_images::<Raw<S>>();
+    call_laws_of_images::<Vmdk<S>>();
+    call_laws_of_images::<Cow<S>>();
+}
+
+/// The laws of raw images, at the one in that storage.
+fn call_laws_of_raw<S: Storage>(storage: S) -> Result<(), Error> {
+    let raw = Raw::open_image(storage, true)?;
+    drivers::raw_images_refuse_nothing(&raw);
+    drivers::raw_image_stands_in_its_storage(&raw);
+    plans::plans_of_raw(&FormatAccess::new(raw));
     Ok(())
 }
 
-/// The laws of VMDK images, at one whose extent is opened.
-fn call_laws_at_an_opened_image(alloc: Global) -> Result<(), Error> {
-    let text = Vec::from_slice(alloc, b"version=1\nRW 1 ZERO\n")?;
-    let mut vmdk = Vmdk::open_image(alloc, MemStorage::new(text), false)?;
-    vmdk.open_implicit_dependencies_gated(alloc, &mut DenyImplicitOpenGate::default())?;
-    call_laws_of_vmdk(&FormatAccess::new(vmdk));
+/// The laws of VMDK images, at the one that a descriptor describes.
+fn call_laws_of_vmdk<S: Storage>(alloc: Global, descriptor: S) -> Result<(), Error> {
+    let vmdk = opened_vmdk(alloc, descriptor)?;
+    descriptors::places_of_bytes(&vmdk);
+    descriptors::disk_of_bytes(&vmdk);
+    let image = FormatAccess::new(vmdk);
+    vmdk_disk(&image);
+    plans::plans_of_vmdk(&image);
     Ok(())
 }
 
-/// The laws of qcow2 images, at one of version 2, in clusters of 512 bytes, whose disk has no byte.
-fn call_laws_at_a_qcow2_image(alloc: Global) -> Result<(), Error> {
+/// The laws of qcow2 images, at the one in that file.
+fn call_laws_of_qcow2<S: Storage>(alloc: Global, file: S) -> Result<(), Error> {
+    qcow2_files::same_tables_stand_alike();
+    qcow2_files::worked_l2_entries();
+    qcow2_files::worked_l1_entries();
+    let qcow2 = Qcow2::open_image(alloc, file, false)?;
+    qcow2_files::disk_of_bytes(&qcow2);
+    qcow2_disk(&FormatAccess::new(qcow2));
+    Ok(())
+}
+
+/// The laws of copy-on-write disks, at a new one in that storage.
+fn call_laws_of_cow<S: Storage>(alloc: Global, storage: S) -> Result<(), Error> {
+    let cow = Cow::create(alloc, storage, 4096, 512)?;
+    data_blocks::data_blocks_of_a_disk(&cow);
+    data_blocks::data_blocks_of_a_disk_are_counted(&cow);
+    data_blocks::a_disk_keeps_what_its_storage_keeps(&cow);
+    let image = FormatAccess::new(cow);
+    runs_of_cow(&image, &image);
+    Ok(())
+}
+
+/// The file of a qcow2 image of version 2, in clusters of 512 bytes, whose disk has no byte.
+fn empty_qcow2(alloc: Global) -> Result<MemStorage, Error> {
     let mut file = vec![in alloc; 0u8; 512]?;
     file[..4].copy_from_slice(b"QFI\xfb");
     file[7] = 2;
     file[23] = 9;
-    let image = Qcow2::open_image(alloc, MemStorage::new(file), false)?;
-    call_laws_of_qcow2(&FormatAccess::new(image));
-    Ok(())
+    Ok(MemStorage::new(file))
+}
+
+/// The laws of each format, at images of it.
+fn call_laws_at_images(alloc: Global) -> Result<(), Error> {
+    call_laws_of_raw(stored(alloc, b"")?)?;
+    call_laws_of_raw(Null::new(512))?;
+    call_laws_of_cow(alloc, stored(alloc, b"")?)?;
+    call_laws_of_vmdk(alloc, stored(alloc, b"version=1\nRW 1 ZERO\n")?)?;
+    call_laws_of_qcow2(alloc, empty_qcow2(alloc)?)
+}
+
+/// Each law.
+fn call_laws(alloc: Global) -> Result<(), Error> {
+    call_laws_of_storages(&Null::new(512));
+    call_laws_of_descriptors();
+    call_laws_of_tables(&Table::new(alloc, 4)?);
+    call_laws_of_drivers::<MemStorage>();
+    call_laws_of_drivers::<Null>();
+    call_laws_at_images(alloc)
 }
 
 /// A writable raw image of 1024 bytes in memory.
@@ -177,29 +186,43 @@ fn null_image() -> Result<FormatAccess<Raw<Null>>, Error>
 /// Each call that succeeds in memory.
 fn call_in_memory(alloc: Global) -> Result<(), Error> {
     let mut buf = [0; 16];
-    in_memory::read(alloc, &in_memory_image(alloc)?, &mut buf, 512)?;
-    in_memory::get_mapping(&in_memory_image(alloc)?, 512, 16)?;
-    in_memory::write(alloc, &mut in_memory_image(alloc)?, &[1; 16], 512)?;
+    let mut image = in_memory_image(alloc)?;
+    in_memory::read(alloc, &image, &mut buf, 512)?;
+    in_memory::get_mapping(&image, 512, 16)?;
+    in_memory::write(alloc, &mut image, &[1; 16], 512)?;
     in_memory::write_zeroes(alloc, &mut in_memory_image(alloc)?, 512, 16)?;
     in_memory::discard_to_any(alloc, &mut in_memory_image(alloc)?, 512, 16)?;
-    in_memory::flush(&mut in_memory_image(alloc)?)?;
-    round_trip::write_then_read(
-        alloc,
-        &mut in_memory_image(alloc)?,
-        &[1; 16],
-        &mut buf,
-        1000,
-    )
+    in_memory::flush(&mut image)?;
+    round_trip::write_then_read(alloc, &mut image, &[1; 16], &mut buf, 1000)
 }
 
 /// Each call that succeeds where nothing is kept.
 fn call_over_null(alloc: Global) -> Result<(), Error> {
-    over_null::read(alloc, &null_image()?, &mut [0; 16], 512)?;
-    over_null::get_mapping(&null_image()?, 512, 16)?;
-    over_null::write(alloc, &mut null_image()?, &[1; 16], 512)?;
+    let mut image = null_image()?;
+    over_null::read(alloc, &image, &mut [0; 16], 512)?;
+    over_null::get_mapping(&image, 512, 16)?;
+    over_null::write(alloc, &mut image, &[1; 16], 512)?;
     over_null::write_zeroes(alloc, &mut null_image()?, 512, 16)?;
     over_null::discard_to_any(alloc, &mut null_image()?, 512, 16)?;
-    over_null::flush(&mut null_image()?)
+    over_null::flush(&mut image)
+}
+
+/// Grows an image, flushes it, and writes to its start.
+fn grow_and_write<D: FormatDriverInstance>(
+    alloc: Global,
+    image: &mut FormatAccess<D>,
+    new_size: u64,
+    source: &[u8],
+) -> Result<(), Error>
+    requires { (D.view (driver image.old)).pending ≡ None }
+    ensures grown { OnOk result (new_size ≤ (D.view (driver image.new)).size) }
+    ensures kept { OnOk result ((index : ℕ)
+        → (D.view (driver image.new)).stores.features index
+        ≡ (D.view (driver image.old)).stores.features index) }
+{
+    image.resize_grow(alloc, new_size, PreallocateMode::Zero)?;
+    image.flush()?;
+    image.write(alloc, source, 0)
 }
 
 /// Grows an image in memory, flushes it, writes to it, and reads inside its new size. The read
@@ -220,9 +243,7 @@ fn read_grown(
         (length buf.old) }
     ensures { IfOk result IsOk }
 {
-    image.resize_grow(alloc, new_size, PreallocateMode::Zero)?;
-    image.flush()?;
-    image.write(alloc, source, 0)?;
+    grow_and_write(alloc, image, new_size, source)?;
     Ok(in_memory::read(alloc, image, buf, offset))
 }
 
@@ -242,8 +263,6 @@ fn call_behind_growth(alloc: Global) -> Result<(), Error> {
 #[test]
 fn laws_are_called_at_their_types(rt: HostRuntime) -> Result<(), Fail> {
     call_laws(rt.alloc())?;
-    call_laws_at_an_opened_image(rt.alloc())?;
-    call_laws_at_a_qcow2_image(rt.alloc())?;
     Ok(())
 }
 

@@ -1,5 +1,5 @@
 use Rattle.std.proofs.Common.{refl}
-use Rattle.imago_tests.proofs.tests.formats.cow_image.Goals as goal
+use Rattle.imago_tests.proofs.tests.formats.cow_driver.Goals as goal
 
 pub create-requires-clause-power : goal.create-requires-clause-power
 unfolding lib.Count.ones

@@ -1,6 +1,6 @@
 use Rattle.std.proofs.Common.{refl}
-use Rattle.imago_tests.proofs.tests.laws.call_laws.Goals as goal
+use Rattle.imago_tests.proofs.tests.laws.call_laws_of_cow.Goals as goal
 
 pub create-requires-clause-power : goal.create-requires-clause-power
 unfolding lib.Count.ones
-create-requires-clause-power c = refl
+create-requires-clause-power g c = refl
