@@ -26,6 +26,12 @@ WriteOutcome_unchanged keeps old target q e is le = rw is (record {
   no_longer = le;
 })
 
+-- a write that is made as a whole or not at all
+pub WriteOutcome_whole : {T : Type 0} (keeps : Bool) (old target now : List ℕ) (r : Result T Error) → OnOk r (now ≡ target) → OnErr r (now ≡ old)
+    → length old ≤ length target → WriteOutcome keeps old target now r
+WriteOutcome_whole keeps old target now (Ok x) made kept le = rw made (record { done = λ _. refl; len = refl; refused = λ _. tt; no_shorter = le; no_longer = omega arith })
+WriteOutcome_whole keeps old target now (Err e) made kept le = rw kept (WriteOutcome_unchanged keeps old target (Err e) e refl le)
+
 -- the same success, with another value
 pub WriteOutcome_ok : {T U : Type 0} (keeps : Bool) (old target now : List ℕ) (r : Result T Error) (x : T) (y : U) → r ≡ Ok x
     → WriteOutcome keeps old target now r → WriteOutcome {T = U} keeps old target now (Ok y)

@@ -1,4 +1,4 @@
-use Rattle.std.proofs.Common.{◌≡◌, ℕ, ◌<◌, ◌≤◌, ◌⊎◌, arith, inl, inr, refl, sym, ◌∙◌, Result, Ok, Err, IsErrOf}
+use Rattle.std.proofs.Common.{◌≡◌, ℕ, ◌+◌, ◌-◌, ◌<◌, ◌≤◌, ◌⊎◌, arith, inl, inr, refl, sym, ◌∙◌, Result, Ok, Err, IsErrOf}
 use Rattle.imago_storage.specs.declared.error.Error.{Error}
 use Rattle.imago_storage.specs.declared.error.Error.TheVariants.{Unsupported, Memory}
 use Rattle.imago_storage.specs.declared.options.ZeroKind.{ZeroKind}
@@ -6,7 +6,7 @@ use Rattle.imago_storage.specs.Features.{Features, len_align, zero_piece}
 use Rattle.imago_storage.specs.IoCount.{IoCount, IsEdgedWork}
 use Rattle.imago_storage.specs.Maintenance.{Maintenance}
 use Rattle.imago_storage.specs.Padding.{aligned_start, aligned_end, IsAlignedPart}
-use Rattle.imago_storage.specs.Zeroes.{HasPart, IsPartAndEdges, IsPartThenData, IsZeroedInParts}
+use Rattle.imago_storage.specs.Zeroes.{HasPart, IsZeroCall, IsPartAndEdges, IsPartThenData, IsZeroedInParts}
 
 -- a range whose aligned part ends behind its start has that part, and no other one does
 pub has_part : (f : Features) (at n start end : ℕ) → IsAlignedPart f.zero_align at n start end → start < end → HasPart f at n
@@ -16,6 +16,17 @@ pub has_no_part : (f : Features) (at n start end : ℕ) → IsAlignedPart f.zero
 has_no_part f at n start end p none has = omega (arith, p.is_start, p.is_end, none, has)
 
 module _ {S : Type 0} (calls : Maintenance S) (work_of : S → IoCount) (f : Features) (kind : ZeroKind) (at n start end : ℕ) (p : IsAlignedPart f.zero_align at n start end) where
+  -- the part is the whole range, so nothing stands beside it
+  pub part_alone : (old new : S) (result : Result (Unit {0}) Error) → start ≡ at → end ≡ at + n → IsZeroCall calls work_of f kind start (end - start) old new result
+      → IsPartAndEdges calls work_of f kind at n start end old new result
+  part_alone old new result first last call = record {
+    answer = result;
+    between = new;
+    part = call;
+    refused = λ e is. (refl, is);
+    edges = λ made. (rw (first, last) (record { pieces = 0; few = omega arith; work = record { reads = omega arith; bytes_read = omega arith; writes = omega arith; bytes_written = omega arith; longest_write = omega arith } }), λ is. absurd (cc));
+  }
+
   -- the part was unsupported, so the whole was written as data
   pub part_then_data : (old mid new : S) (result : Result (Unit {0}) Error) → result ≡ Err Unsupported
       → ((mid ≡ old) × IsErrOf result Memory) ⊎ IsPartAndEdges calls work_of f kind at n start end old mid result

@@ -4,3 +4,6 @@ use Rattle.imago_storage.proofs.request.discard_any.Goals as goal
 
 pub returns-in-Err-Unsupported : goal.returns-in-Err-Unsupported
 returns-in-Err-Unsupported g c = grind (arith, common_steps)
+
+pub returns-in_default-pure_discard : goal.returns-in_default-pure_discard
+returns-in_default-pure_discard g c = grind (arith, common_steps)

@@ -1,9 +1,11 @@
-use Rattle.std.proofs.Common.{◌+◌, ◌-◌, ◌≤◌, length, arith, inl, refl}
+use Rattle.std.proofs.Common.{◌≡◌, ◌+◌, ◌-◌, ◌≤◌, length, arith, inl, inr, refl}
 use Rattle.std.proofs.lemmas.Result.{err_from_is_err_and}
 use Rattle.imago_storage.specs.Features.{len_align}
-use Rattle.imago_storage.proofs.Outcomes.{RequestMayRunOut_more, ZeroesMayRunOut_more, same_refusal}
+use Rattle.imago_storage.proofs.Outcomes.{OnOk_map, RequestMayRunOut_more, ZeroesMayRunOut_more, same_refusal}
 use Rattle.imago_storage.proofs.Padding.{len_positive}
+use Rattle.imago_storage.proofs.ZeroCalls.{part_alone}
 use Rattle.imago_storage.proofs.ZeroRanges.{HasZeroed_refused, HasZeroed_unchanged}
+use Rattle.imago_storage.proofs.ZeroWraps.{no_edges}
 use Rattle.imago_storage.proofs.zeroes.zero_part_and_edges.Goals as goal
 
 pub returns-in_err-stock-clause-written : goal.returns-in_err-stock-clause-written
@@ -39,3 +41,20 @@ returns-clause-early g c = λ m none.
     let may = rw c.in_ok-zero_aligned.ensures.features at (c.zero_edges.ensures.memory m) in
     let end : c.args.range.offset + c.args.range.count + (len_align f - 1) ≤ c.args.range.offset + c.args.range.count + (len_align f - 1) = omega arith in
     absurd (none (inl (RequestMayRunOut_more f f _ _ _ _ refl longer end may)))
+
+pub returns-then-range-2-clause-written : goal.returns-then-range-2-clause-written
+returns-then-range-2-clause-written g c =
+    let last : c.args.range.end ≡ c.args.range.offset + c.args.range.count = cc in
+    let all : c.args.range.end - c.args.range.start ≡ c.args.range.count = omega (arith, last) in
+    rw c.if-range.true at (rw all at c.zero_aligned.ensures.written)
+
+pub returns-then-range-2-clause-fits : goal.returns-then-range-2-clause-fits
+returns-then-range-2-clause-fits g c =
+    let f = g.S.Storage.features c.args.storage.now in
+    let last : c.args.range.end ≡ c.args.range.offset + c.args.range.count = cc in
+    OnOk_map c.zero_aligned.result (λ _. no_edges f c.args.range.offset c.args.range.count c.args.range.start c.args.range.end c.requires.part c.if-range.true last) c.zero_aligned.ensures.written.written.len
+
+pub returns-then-range-2-clause-performed : goal.returns-then-range-2-clause-performed
+returns-then-range-2-clause-performed g c =
+    let last : c.args.range.end ≡ c.args.range.offset + c.args.range.count = cc in
+    inr (part_alone _ _ _ _ _ _ _ _ c.requires.part _ _ _ c.if-range.true last c.zero_aligned.ensures.performed)

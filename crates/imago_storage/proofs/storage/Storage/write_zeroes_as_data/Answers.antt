@@ -109,3 +109,9 @@ pub returns-clause-written : goal.returns-clause-written
 returns-clause-written g c =
     let all : c.loop-done.done ≡ c.args.count = omega (arith, c.loop-done.invariant.counted, c.loop-done-test.false) in
     rw all at c.loop-done.invariant.written
+
+pub returns-then-remainder-ne0-clause-unsupported : goal.returns-then-remainder-ne0-clause-unsupported
+returns-then-remainder-ne0-clause-unsupported g c = grind (arith, common_steps)
+
+pub returns-clause-unsupported : goal.returns-clause-unsupported
+returns-clause-unsupported g c = grind (arith, common_steps)
