@@ -98,36 +98,20 @@ enum Kind {
     Cow,
 }
 
-/// The text as a raw image.
-fn text_image(alloc: Global) -> Result<Image<MemStorage>, Error> {
-    Ok(alone(raw_driver(stored(alloc, TEXT)?)?))
-}
-
-/// The disk of the descriptor.
-fn described_image(alloc: Global) -> Result<Image<MemStorage>, Error> {
-    Ok(alone(vmdk_driver(alloc, stored(alloc, DESCRIPTOR)?)?))
-}
-
-/// The qcow2 file above the text.
-fn qcow2_image(alloc: Global) -> Result<Image<MemStorage>, Error> {
-    let driver = qcow2_driver(alloc, qcow2_file(alloc)?)?;
-    above(alloc, driver, text_image(alloc)?)
-}
-
-/// A copy-on-write disk above that.
-fn cow_image(alloc: Global) -> Result<Image<MemStorage>, Error> {
-    let driver = cow_driver(alloc, stored(alloc, b"")?)?;
-    above(alloc, driver, qcow2_image(alloc)?)
-}
-
 /// An image of each kind, in memory.
 fn made(alloc: Global, kind: Kind) -> Result<Image<MemStorage>, Error> {
-    match kind {
-        Kind::Raw => text_image(alloc),
-        Kind::Vmdk => described_image(alloc),
-        Kind::Qcow2 => qcow2_image(alloc),
-        Kind::Cow => cow_image(alloc),
+    if let Kind::Vmdk = kind {
+        return Ok(alone(vmdk_driver(alloc, stored(alloc, DESCRIPTOR)?)?));
     }
+    let text = alone(raw_driver(stored(alloc, TEXT)?)?);
+    if let Kind::Raw = kind {
+        return Ok(text);
+    }
+    let qcow2 = above(alloc, qcow2_driver(alloc, qcow2_file(alloc)?)?, text)?;
+    if let Kind::Qcow2 = kind {
+        return Ok(qcow2);
+    }
+    above(alloc, cow_driver(alloc, stored(alloc, b"")?)?, qcow2)
 }
 
 /// Whether a changing call may be made: no prepared mapping waits to be spent.

@@ -186,25 +186,29 @@ fn null_image() -> Result<FormatAccess<Raw<Null>>, Error>
 /// Each call that succeeds in memory.
 fn call_in_memory(alloc: Global) -> Result<(), Error> {
     let mut buf = [0; 16];
-    let mut image = in_memory_image(alloc)?;
-    in_memory::read(alloc, &image, &mut buf, 512)?;
-    in_memory::get_mapping(&image, 512, 16)?;
-    in_memory::write(alloc, &mut image, &[1; 16], 512)?;
+    in_memory::read(alloc, &in_memory_image(alloc)?, &mut buf, 512)?;
+    in_memory::get_mapping(&in_memory_image(alloc)?, 512, 16)?;
+    in_memory::write(alloc, &mut in_memory_image(alloc)?, &[1; 16], 512)?;
     in_memory::write_zeroes(alloc, &mut in_memory_image(alloc)?, 512, 16)?;
     in_memory::discard_to_any(alloc, &mut in_memory_image(alloc)?, 512, 16)?;
-    in_memory::flush(&mut image)?;
-    round_trip::write_then_read(alloc, &mut image, &[1; 16], &mut buf, 1000)
+    in_memory::flush(&mut in_memory_image(alloc)?)?;
+    round_trip::write_then_read(
+        alloc,
+        &mut in_memory_image(alloc)?,
+        &[1; 16],
+        &mut buf,
+        1000,
+    )
 }
 
 /// Each call that succeeds where nothing is kept.
 fn call_over_null(alloc: Global) -> Result<(), Error> {
-    let mut image = null_image()?;
-    over_null::read(alloc, &image, &mut [0; 16], 512)?;
-    over_null::get_mapping(&image, 512, 16)?;
-    over_null::write(alloc, &mut image, &[1; 16], 512)?;
+    over_null::read(alloc, &null_image()?, &mut [0; 16], 512)?;
+    over_null::get_mapping(&null_image()?, 512, 16)?;
+    over_null::write(alloc, &mut null_image()?, &[1; 16], 512)?;
     over_null::write_zeroes(alloc, &mut null_image()?, 512, 16)?;
     over_null::discard_to_any(alloc, &mut null_image()?, 512, 16)?;
-    over_null::flush(&mut image)
+    over_null::flush(&mut null_image()?)
 }
 
 /// Grows an image, flushes it, and writes to its start.
