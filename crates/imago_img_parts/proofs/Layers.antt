@@ -15,7 +15,6 @@ use Rattle.imago_qcow2.specs.Entry.{cluster_length, disk_size, qcow2_place}
 use Rattle.imago_qcow2.specs.Disk.{HaveSameTables, StandsAlike}
 use Rattle.imago_qcow2.proofs.NumberSteps.{range64}
 use Rattle.imago_plan.specs.declared.piece.Piece.{Piece}
-use Rattle.imago_plan.specs.Pieces.{IsPlan}
 use Rattle.imago_plan.specs.PieceBytes.{plan_bytes}
 use Rattle.imago_plan.specs.StoredBytes.{target_value, disk_with}
 use Rattle.imago_loaded.proofs.Chain.{same_place, same_clusters}
@@ -217,19 +216,18 @@ module _ {D St : Type 0} (view : D → View St) (strict allow : Bool) where
   pub planned_told :
       (known : Option (List ℕ → List ℕ)) (path : List ℕ) (x : FormatAccess D)
       (paths : List (List ℕ)) (size : ℕ) (pieces : List Piece)
-      → ((image : FormatAccess D) (ps : List Piece) (bytes : ℕ → ℕ → List ℕ) → IsPlan view image ps
-      → disk_with view image bytes ≡ map Byte (plan_bytes bytes ps))
-      → size ≡ (view (driver x)).size → IsPlan view x pieces
+      → ((bytes : ℕ → ℕ → List ℕ) → disk_with view x bytes ≡ map Byte (plan_bytes bytes pieces))
+      → size ≡ (view (driver x)).size
       → IfSome known (λ files. ShowsLayers view strict allow files path Qcow2 x paths)
       → IfSome known (λ files. IsChainImage strict allow files path size paths pieces)
-  planned_told None path x paths size pieces law len covers h = tt
-  planned_told (Some files) path x paths size pieces law len covers (layers, are, sized, on) =
+  planned_told None path x paths size pieces shows len h = tt
+  planned_told (Some files) path x paths size pieces shows len (layers, are, sized, on) =
       let bytes = storages_by paths files in (
         layers,
         are,
         len ∙ sized,
         same_listed (λ p. target_value bytes (target view x p)) (layers_value layers) size (view (driver x)).size len (λ p. sym (on p))
-            ∙ law x pieces bytes covers,
+            ∙ shows bytes,
       )
 
 -- what is said of the format of a file below, if there is one

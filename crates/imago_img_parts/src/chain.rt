@@ -3,6 +3,9 @@ ghost use Rattle.std.specs.Prelude.{◌≡◌, ℕ, Bool, List, [], ◌∷◌, m
 ghost use Rattle.std.specs.Prelude.{IfOk, IfSome, None, Some};
 ghost use Rattle.std.specs.String.{string_bytes};
 ghost use Rattle.imago_access.specs.Chain.{driver as driver_of, backing};
+ghost use Rattle.imago_drivers.specs.Place.{Byte};
+ghost use Rattle.imago_plan.specs.PieceBytes.{plan_bytes};
+ghost use Rattle.imago_plan.specs.StoredBytes.{disk_with};
 ghost use Rattle.imago_img_parts.specs.declared.text.ImageFormat.TheVariants as ImageFormat;
 ghost use Rattle.imago_img_parts.specs.Formats.{SaysFormat};
 ghost use Rattle.imago_img_parts.specs.Layers.{IsLayerOf, ShowsLayers, IsChainImage};
@@ -69,20 +72,39 @@ struct Way {
 impl Way {
     /// Goes on to a file. One that was on the way before is refused.
     fn enter<H: Host>(&mut self, host: &H, path: &str) -> Result<(), Failure> {
-        let alloc = host.alloc();
         let status = file_status(host, path)?;
+        self.tell(host.alloc(), path)?;
         let file = (status.device, status.inode);
-        let told = &self.told;
-        self.told = if self.files.is_empty() {
-            format!(in alloc; "{path:?}")?
-        } else {
-            format!(in alloc; "{told}, {path:?}")?
-        };
         if self.files.contains(&file) {
-            return Err(Failure::of_file(alloc, path, Reason::Loop(self.told.clone()?)));
+            return Err(in_circle(host.alloc(), path, &self.told));
         }
         self.files.push(file)?;
         Ok(())
+    }
+
+    /// Puts a path to those that are told.
+    fn tell(&mut self, alloc: Global, path: &str) -> Result<(), AllocError> {
+        if !self.told.is_empty() {
+            self.told.push_str(", ")?;
+        }
+        let path = format!(in alloc; "{path:?}")?;
+        self.told.push_str(&path)
+    }
+}
+
+/// The files on the way to one lead in a circle.
+fn in_circle(alloc: Global, path: &str, told: &str) -> Failure {
+    match String::from_str(alloc, told) {
+        Ok(told) => Failure::of_file(alloc, path, Reason::Loop(told)),
+        Err(_) => Failure::Memory,
+    }
+}
+
+/// Too many files are on the way to one, which isn't the last.
+fn too_many_below(alloc: Global, path: &str, told: &str) -> Failure {
+    match String::from_str(alloc, told) {
+        Ok(told) => Failure::of_file(alloc, path, Reason::TooManyBelow(told)),
+        Err(_) => Failure::Memory,
     }
 }
 
@@ -169,6 +191,28 @@ fn vmdk_layer<H: Host>(host: &H, path: &str, size: u64, how: Opening) -> Result<
     })
 }
 
+/// The paths of a chain's files, with one above them.
+fn paths_over(alloc: Global, path: &str, below: Vec<String>) -> Result<Vec<String>, AllocError>
+    ensures { IfOk result
+        (λ paths. map string_bytes paths.items ≡ path.now ∷ map string_bytes below.items) }
+{
+    let mut paths = below;
+    paths.insert(0, String::from_str(alloc, path)?)?;
+    Ok(paths)
+}
+
+/// A driver's image above another one.
+fn image_over<D: FormatDriverInstance>(
+    alloc: Global,
+    driver: D,
+    below: FormatAccess<D>,
+) -> Result<FormatAccess<D>, AllocError>
+    ensures driver { IfOk result (λ image. driver_of image ≡ driver) }
+    ensures below { IfOk result (λ image. backing image ≡ Some below) }
+{
+    Ok(FormatAccess::with_backing(driver, Box::new(alloc, below)?))
+}
+
 /// A layer above others.
 fn over(
     alloc: Global,
@@ -181,10 +225,10 @@ fn over(
     ensures driver { IfOk result (λ chain. driver_of chain.image ≡ driver) }
     ensures below { IfOk result (λ chain. backing chain.image ≡ Some below.image) }
 {
-    let Chain { image, mut paths } = below;
-    paths.insert(0, String::from_str(alloc, path)?)?;
+    let Chain { image, paths } = below;
+    let paths = paths_over(alloc, path, paths)?;
     Ok(Chain {
-        image: FormatAccess::with_backing(driver, Box::new(alloc, image)?),
+        image: image_over(alloc, driver, image)?,
         paths,
     })
 }
@@ -217,7 +261,7 @@ fn chain_from<H: Host>(
         });
     };
     if most == 0 {
-        return Err(Failure::of_file(alloc, path, Reason::TooManyBelow(way.told.clone()?)));
+        return Err(too_many_below(alloc, path, &way.told));
     }
     let how_next = Opening {
         format: next.format,
@@ -242,6 +286,23 @@ fn chain_of<H: Host>(host: &H, path: &str, how: Opening) -> Result<Chain, Failur
     chain_from(host, path, ImageFormat::Qcow2, how, &mut way, MOST)
 }
 
+/// How many bytes the disk of an image has, and where they stand.
+fn planned_disk<D: FormatDriverInstance>(
+    alloc: Global,
+    path: &str,
+    image: &FormatAccess<D>,
+) -> Result<(u64, Vec<Piece>), Failure>
+    ensures size { IfOk result (λ planned. planned.0 ≡ (D.view (driver_of image.now)).size) }
+    ensures pieces { IfOk result (λ planned. (bytes : ℕ → ℕ → List ℕ)
+        → disk_with D.view image.now bytes ≡ map Byte (plan_bytes bytes planned.1.items)) }
+{
+    plans_show_stored_bytes::<D>();
+    match plan(alloc, image) {
+        Ok(pieces) => Ok((image.size(), pieces)),
+        Err(cause) => Err(Failure::of_file(alloc, path, Reason::Image(cause))),
+    }
+}
+
 /// Where the bytes of the disk of a qcow2 file stand, and of what is below it.
 ///
 /// [`Reason::Loop`] is a chain of files that leads back, and [`Reason::TooManyBelow`] one of more
@@ -252,14 +313,10 @@ pub fn planned_chain<H: Host>(host: &H, path: &str, how: Opening) -> Result<Plan
         (map string_bytes planned.paths.items) planned.pieces.items)) }
 {
     let chain = chain_of(host, path, how)?;
-    plans_show_stored_bytes::<AnyDriver<LoadedFile>>();
-    let size = chain.image.size();
-    match plan(host.alloc(), &chain.image) {
-        Ok(pieces) => Ok(Planned {
-            size,
-            pieces,
-            paths: chain.paths,
-        }),
-        Err(cause) => Err(Failure::of_file(host.alloc(), path, Reason::Image(cause))),
-    }
+    let (size, pieces) = planned_disk(host.alloc(), path, &chain.image)?;
+    Ok(Planned {
+        size,
+        pieces,
+        paths: chain.paths,
+    })
 }

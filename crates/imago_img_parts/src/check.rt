@@ -26,22 +26,36 @@ pub fn check<H: Host, W: Write>(
     how: Opening,
     output: &mut W,
 ) -> Result<bool, Failure> {
-    let length = file_status(host, path)?.length;
-    let faults = match format_of(host, path, how)? {
-        ImageFormat::Raw => {
-            read_start(host, path, &mut [0u8; 1])?;
-            0
-        }
-        ImageFormat::Vmdk => check_vmdk(host, path, length, how, output)?,
-        ImageFormat::Qcow2 => check_qcow2(host, path, length, output)?,
-    };
-    let told = match faults {
+    let faults = check_format(host, path, how, output)?;
+    tell_count(faults, output).map_err(Failure::Output)?;
+    Ok(faults == 0)
+}
+
+/// Tells how many faults there are.
+fn tell_count<W: Write>(faults: u64, output: &mut W) -> io::Result<()> {
+    match faults {
         0 => writeln!(output, "No faults were found."),
         1 => writeln!(output, "1 fault was found."),
         _ => writeln!(output, "{faults} faults were found."),
-    };
-    told.map_err(Failure::Output)?;
-    Ok(faults == 0)
+    }
+}
+
+/// Tells the faults of an image by its format, and how many there are.
+fn check_format<H: Host, W: Write>(
+    host: &H,
+    path: &str,
+    how: Opening,
+    output: &mut W,
+) -> Result<u64, Failure> {
+    let length = file_status(host, path)?.length;
+    match format_of(host, path, how)? {
+        ImageFormat::Raw => {
+            read_start(host, path, &mut [0u8; 1])?;
+            Ok(0)
+        }
+        ImageFormat::Vmdk => check_vmdk(host, path, length, how, output),
+        ImageFormat::Qcow2 => check_qcow2(host, path, length, output),
+    }
 }
 
 /// Tells the faults of the header of a qcow2 file, or else of its clusters, and how many there are.
@@ -56,8 +70,9 @@ fn check_qcow2<H: Host, W: Write>(
         return tell_header(path, &head, length, output).map_err(Failure::Output);
     }
     let file = qcow2_file(host, path, length)?;
-    let runs = Failure::or_image(host.alloc(), path, cluster_runs(host.alloc(), &file))?;
-    tell_faults(host.alloc(), path, &runs, length, output)
+    let alloc = host.alloc();
+    let runs = Failure::or_image(alloc, path, cluster_runs(alloc, &file.image, file.cluster))?;
+    tell_faults(alloc, path, &runs, length, output)
 }
 
 /// Tells the faults of a descriptor, and how many there are.
@@ -72,13 +87,26 @@ fn check_vmdk<H: Host, W: Write>(
     let faults = check_lines(path, !how.strict, &text, output).map_err(Failure::Output)?;
     match descriptor::read(host.alloc(), !how.strict, &text) {
         Ok(described) => check_extents(host, path, &described, how, output),
-        Err(Error::Memory) => Err(Failure::Memory),
-        Err(cause) if faults == 0 => {
-            writeln!(output, "{path:?}: {}", whole_fault(cause)).map_err(Failure::Output)?;
-            Ok(1)
-        }
-        Err(_) => Ok(faults),
+        Err(cause) => tell_whole(path, faults, cause, output),
     }
+}
+
+/// Tells what is wrong with a descriptor that isn't read, where none of its lines is at fault, and
+/// how many faults there are with those of its lines.
+fn tell_whole<W: Write>(
+    path: &str,
+    faults: u64,
+    cause: Error,
+    output: &mut W,
+) -> Result<u64, Failure> {
+    if cause == Error::Memory {
+        return Err(Failure::Memory);
+    }
+    if faults > 0 {
+        return Ok(faults);
+    }
+    writeln!(output, "{path:?}: {}", whole_fault(cause)).map_err(Failure::Output)?;
+    Ok(1)
 }
 
 /// What is wrong with a descriptor none of whose lines is at fault.
@@ -109,6 +137,7 @@ fn check_lines<W: Write>(
     Ok(faults)
 }
 
+/// Tells a line of a descriptor, and why it can't be meant. One that is too long isn't shown.
 fn tell_line<W: Write>(
     path: &str,
     number: u64,
@@ -116,17 +145,21 @@ fn tell_line<W: Write>(
     cause: Error,
     output: &mut W,
 ) -> io::Result<()> {
-    let reason = match cause {
+    write!(output, "{path:?}, line {number}: ")?;
+    let Ok(line) = str::from_utf8(line) else {
+        return writeln!(output, "isn't UTF-8");
+    };
+    if line.len() <= SHOWN {
+        write!(output, "{line:?} ")?;
+    }
+    writeln!(output, "{}", line_fault(cause))
+}
+
+/// What is wrong with a line.
+fn line_fault(cause: Error) -> &'static str {
+    match cause {
         Error::InvalidData => "can't be meant",
         _ => "isn't supported",
-    };
-    match str::from_utf8(line) {
-        Ok(line) if line.len() <= SHOWN => writeln!(
-            output,
-            "{path:?}, line {number}: {line:?} {reason}"
-        ),
-        Ok(_) => writeln!(output, "{path:?}, line {number}: {reason}"),
-        Err(_) => writeln!(output, "{path:?}, line {number}: isn't UTF-8"),
     }
 }
 

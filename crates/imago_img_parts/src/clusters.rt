@@ -2,7 +2,6 @@
 ghost use Rattle.std.specs.Prelude.{◌<◌, ◌≤◌, IfOk};
 
 use crate::failure::Failure;
-use crate::qcow2::Qcow2File;
 use imago_access::access::FormatAccess;
 use imago_access::mapping::Mapping;
 use imago_drivers::drivers::FormatDriverInstance;
@@ -86,15 +85,19 @@ fn put(runs: &mut Vec<ClusterRun>, next: ClusterRun) -> Result<(), Error> {
     Ok(())
 }
 
-/// The clusters that a file has for its disk, by the disk's offsets.
-pub fn cluster_runs(alloc: Global, file: &Qcow2File) -> Result<Vec<ClusterRun>, Error>
-    requires { 0 < file.now.cluster }
+/// The clusters of that length that an image has for its disk, by the disk's offsets.
+pub fn cluster_runs<D: FormatDriverInstance>(
+    alloc: Global,
+    image: &FormatAccess<D>,
+    cluster: u64,
+) -> Result<Vec<ClusterRun>, Error>
+    requires { 0 < cluster }
 {
-    let size = file.image.size();
+    let size = image.size();
     let mut runs = Vec::new(alloc);
     let mut at = 0;
     while at < size {
-        let run = run_at(&file.image, file.cluster, at, size - at)?;
+        let run = run_at(image, cluster, at, size - at)?;
         put(&mut runs, run)?;
         at += run.length;
     }
@@ -119,6 +122,23 @@ pub fn count_clusters(runs: &[ClusterRun], cluster: u64, compressed: bool) -> u6
     count
 }
 
+/// What the clusters of a run are, and why they can't be read in a file of that length, if they
+/// can't.
+fn run_fault(run: &ClusterRun, length: u64) -> Option<(&'static str, &'static str)> {
+    match run.kind {
+        ClusterKind::Invalid => Some(("the entries of ", "can't be meant")),
+        ClusterKind::Compressed => Some((
+            "the clusters at ",
+            "are compressed, which isn't supported",
+        )),
+        ClusterKind::Stored(offset) if offset.saturating_add(run.length) > length => Some((
+            "",
+            "passes the file's end: what lacks reads as 0",
+        )),
+        _ => None,
+    }
+}
+
 /// Tells entries that can't be meant, clusters that can't be read since they are compressed, and
 /// those that a file of that length doesn't hold, and how many runs of them there are.
 fn tell_unreadable<W: Write>(
@@ -129,24 +149,14 @@ fn tell_unreadable<W: Write>(
 ) -> io::Result<u64> {
     let mut faults: u64 = 0;
     for run in runs {
-        let (start, end) = (run.start, run.end());
-        match run.kind {
-            ClusterKind::Invalid => writeln!(
+        if let Some((what, fault)) = run_fault(run, length) {
+            let (start, end) = (run.start, run.end());
+            writeln!(
                 output,
-                "{path:?}: the entries of {start} to {end} of the disk can't be meant"
-            )?,
-            ClusterKind::Compressed => writeln!(
-                output,
-                "{path:?}: the clusters at {start} to {end} of the disk are compressed, \
-                which isn't supported"
-            )?,
-            ClusterKind::Stored(offset) if offset.saturating_add(run.length) > length => writeln!(
-                output,
-                "{path:?}: {start} to {end} of the disk passes the file's end: what lacks reads as 0"
-            )?,
-            _ => continue,
+                "{path:?}: {what}{start} to {end} of the disk {fault}"
+            )?;
+            faults = faults.saturating_add(1);
         }
-        faults = faults.saturating_add(1);
     }
     Ok(faults)
 }

@@ -12,10 +12,47 @@ use crate::progress::Progress;
 use crate::sources::FileSources;
 use crate::text::file_status;
 use imago_plan::copy::{Target, copy};
-use std::io::ErrorKind;
+use std::alloc::{AllocError, Global};
+use std::io::{self, ErrorKind};
 
 /// How much is read at a time, in bytes.
 const CHUNK: usize = 1048576;
+
+/// Why a target isn't filled.
+#[derive(Drop)]
+enum Unfilled {
+    /// The file of that path can't be read or written.
+    File(String, io::Error),
+    /// Memory was refused.
+    Memory,
+}
+
+impl Unfilled {
+    /// What the system answers for that file is why.
+    fn by_file(alloc: Global, path: &str, cause: io::Error) -> Unfilled {
+        match String::from_str(alloc, path) {
+            Ok(path) => Unfilled::File(path, cause),
+            Err(_) => Unfilled::Memory,
+        }
+    }
+
+    /// The same as a command's failure.
+    fn into_failure(self) -> Failure {
+        match self {
+            Unfilled::File(path, cause) => Failure::OfFile {
+                path,
+                reason: Reason::System(cause),
+            },
+            Unfilled::Memory => Failure::Memory,
+        }
+    }
+}
+
+impl From<AllocError> for Unfilled {
+    fn from(_refused: AllocError) -> Unfilled {
+        Unfilled::Memory
+    }
+}
 
 /// Writes the disk of an image to a file of that path. What is zero there stays a hole.
 ///
@@ -55,7 +92,10 @@ fn fill_shown<H: Host>(
         (λ bytes. plan_bytes bytes image.now.pieces.items)) }
 {
     let mut target = Progress::new(target, host, show, image.size);
-    let filled = fill(host, image, &mut target, to);
+    let filled = match fill(host, image, &mut target, to) {
+        Ok(()) => Ok(()),
+        Err(unfilled) => Err(unfilled.into_failure()),
+    };
     (target.into_target(), filled)
 }
 
@@ -65,7 +105,7 @@ fn fill<H: Host, T: Target>(
     image: &OpenedImage,
     target: &mut T,
     to: &str,
-) -> Result<(), Failure>
+) -> Result<(), Unfilled>
     ensures { OnOk result
         (IsAppendedOf (storages_in H.contents host.now (map string_bytes image.now.paths.items))
         (T.contents target.old) (T.contents target.new)
@@ -77,7 +117,7 @@ fn fill<H: Host, T: Target>(
         Ok(()) => Ok(()),
         Err(cause) => {
             let path = sources.failed_path().unwrap_or(to);
-            Err(Failure::of_file(host.alloc(), path, Reason::System(cause)))
+            Err(Unfilled::by_file(host.alloc(), path, cause))
         }
     }
 }
@@ -109,24 +149,52 @@ fn test_target<H: Host>(
     to: &str,
     replace: bool,
 ) -> Result<(), Failure> {
-    let there = match host.status(to) {
-        Ok(there) => Some(there),
-        Err(cause) if cause.kind() == ErrorKind::NotFound => None,
-        Err(cause) => return Err(Failure::of_file(host.alloc(), to, Reason::System(cause))),
+    let there = status_there(host, to)?;
+    let is_source = has_file(host, image, there)?;
+    let Some(there) = there else {
+        return Ok(());
     };
+    match target_fault(there, is_source, replace) {
+        Some(reason) => Err(Failure::of_file(host.alloc(), to, reason)),
+        None => Ok(()),
+    }
+}
+
+/// What the file of a path is, if there is one.
+fn status_there<H: Host>(host: &H, path: &str) -> Result<Option<FileStatus>, Failure> {
+    match host.status(path) {
+        Ok(there) => Ok(Some(there)),
+        Err(cause) if cause.kind() == ErrorKind::NotFound => Ok(None),
+        Err(cause) => Err(Failure::of_file(host.alloc(), path, Reason::System(cause))),
+    }
+}
+
+/// Whether a file, if there is one, is one of an image, whose files all are looked at.
+fn has_file<H: Host>(
+    host: &H,
+    image: &OpenedImage,
+    there: Option<FileStatus>,
+) -> Result<bool, Failure> {
     let mut is_source = false;
     for path in &image.paths {
         let source = file_status(host, path)?;
         is_source |= there.is_some_and(|there| is_same_file(there, source));
     }
-    let reason = match there {
-        None => return Ok(()),
-        Some(_) if is_source => Reason::IsSource,
-        Some(_) if !replace => Reason::Exists,
-        Some(there) if there.kind != FileKind::Regular => Reason::NotReplaced,
-        Some(_) => return Ok(()),
-    };
-    Err(Failure::of_file(host.alloc(), to, reason))
+    Ok(is_source)
+}
+
+/// Why a file isn't replaced, which may be one of the image that is read.
+fn target_fault(there: FileStatus, is_source: bool, replace: bool) -> Option<Reason> {
+    if is_source {
+        return Some(Reason::IsSource);
+    }
+    if !replace {
+        return Some(Reason::Exists);
+    }
+    if there.kind != FileKind::Regular {
+        return Some(Reason::NotReplaced);
+    }
+    None
 }
 
 /// Whether two are one file.

@@ -108,21 +108,23 @@ pub fn tell_fault<W: Write>(
     end: u64,
     file: &ExtentFile,
 ) -> io::Result<bool> {
+    if let ExtentFile::Length(length) = file {
+        if end <= *length {
+            return Ok(false);
+        }
+    }
+    write!(output, "{start}{name:?}: ")?;
     match file {
-        ExtentFile::Length(length) if end <= *length => return Ok(false),
         ExtentFile::Length(length) => writeln!(
             output,
-            "{start}{name:?}: {length} bytes, and its extent ends at {end}: what lacks reads as 0"
+            "{length} bytes, and its extent ends at {end}: what lacks reads as 0"
         )?,
         ExtentFile::Outside => writeln!(
             output,
-            "{start}{name:?}: not in the descriptor's folder; --allow-outside permits it"
+            "not in the descriptor's folder; --allow-outside permits it"
         )?,
-        ExtentFile::NotAFile => writeln!(
-            output,
-            "{start}{name:?}: neither a regular file nor a block device"
-        )?,
-        ExtentFile::Refused(cause) => writeln!(output, "{start}{name:?}: {cause}")?,
+        ExtentFile::NotAFile => writeln!(output, "neither a regular file nor a block device")?,
+        ExtentFile::Refused(cause) => writeln!(output, "{cause}")?,
     }
     Ok(true)
 }

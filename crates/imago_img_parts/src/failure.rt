@@ -105,6 +105,13 @@ fn advice_on(cause: &error::Error) -> &'static str {
     }
 }
 
+impl Reason {
+    /// Whether the image layer answers that memory was refused.
+    fn is_memory(&self) -> bool {
+        matches!(self, Reason::Image(error::Error::Memory))
+    }
+}
+
 impl Failure {
     /// What the system answers for a file, or why the file can't be used.
     pub fn or_system<T>(alloc: Global, path: &str, answer: io::Result<T>) -> Result<T, Failure>
@@ -140,7 +147,7 @@ impl Failure {
 
     /// That file can't be used, for that reason.
     pub fn of_file(alloc: Global, path: &str, reason: Reason) -> Failure {
-        if let Reason::Image(error::Error::Memory) = reason {
+        if reason.is_memory() {
             return Failure::Memory;
         }
         match String::from_str(alloc, path) {

@@ -7,7 +7,7 @@ use crate::json::quoted;
 use crate::opened::{Opening, format_of};
 use crate::qcow2_info::{Qcow2Report, print_qcow2, print_qcow2_json, report_on_qcow2};
 use crate::text::{ImageFormat, descriptor_text, file_status};
-use imago_vmdk::descriptor;
+use imago_vmdk::descriptor::{self, Descriptor};
 use imago_vmdk::line::Extent;
 use std::io::{self, Write};
 
@@ -48,33 +48,80 @@ pub fn info<H: Host, W: Write, E: Write>(
 /// Looks at an image, and for the files of its extents.
 fn report_on<H: Host>(host: &H, path: &str, how: Opening) -> Result<Report, Failure> {
     let length = file_status(host, path)?.length;
-    let format = format_of(host, path, how)?;
-    let mut report = Report {
-        format,
-        size: length,
-        extents: Vec::new(host.alloc()),
-        qcow2: None,
-    };
-    if format == ImageFormat::Qcow2 {
-        let found = report_on_qcow2(host, path, length)?;
-        report.size = found.size;
-        report.qcow2 = Some(found);
-    }
-    if format == ImageFormat::Vmdk {
-        let text = descriptor_text(host, path, length)?;
-        let said = descriptor::read(host.alloc(), !how.strict, &text);
-        let described = Failure::or_image(host.alloc(), path, said)?;
-        report.size = described.size;
-        let folder = Folder::of(host, path, how.allow_outside)?;
-        for extent in described.extents {
-            let file = match &extent {
-                Extent::Flat { name, .. } => Some(folder.find(host, name)?),
-                _ => None,
-            };
-            report.extents.push((extent, file))?;
+    match format_of(host, path, how)? {
+        ImageFormat::Raw => Ok(Report {
+            format: ImageFormat::Raw,
+            size: length,
+            extents: Vec::new(host.alloc()),
+            qcow2: None,
+        }),
+        ImageFormat::Vmdk => report_on_vmdk(host, path, length, how),
+        ImageFormat::Qcow2 => {
+            let found = report_on_qcow2(host, path, length)?;
+            Ok(Report {
+                format: ImageFormat::Qcow2,
+                size: found.size,
+                extents: Vec::new(host.alloc()),
+                qcow2: Some(found),
+            })
         }
     }
-    Ok(report)
+}
+
+/// Looks at a descriptor of that length, and for the files of its extents.
+fn report_on_vmdk<H: Host>(
+    host: &H,
+    path: &str,
+    length: u64,
+    how: Opening,
+) -> Result<Report, Failure> {
+    let described = described_by(host, path, length, how)?;
+    Ok(Report {
+        format: ImageFormat::Vmdk,
+        size: described.size,
+        extents: found_extents(host, path, described.extents, how)?,
+        qcow2: None,
+    })
+}
+
+/// What a descriptor of that length describes.
+fn described_by<H: Host>(
+    host: &H,
+    path: &str,
+    length: u64,
+    how: Opening,
+) -> Result<Descriptor, Failure> {
+    let text = descriptor_text(host, path, length)?;
+    let said = descriptor::read(host.alloc(), !how.strict, &text);
+    Failure::or_image(host.alloc(), path, said)
+}
+
+/// The extents of a descriptor, and what is found under their names.
+fn found_extents<H: Host>(
+    host: &H,
+    path: &str,
+    extents: Vec<Extent<String>>,
+    how: Opening,
+) -> Result<Vec<Found>, Failure> {
+    let folder = Folder::of(host, path, how.allow_outside)?;
+    let mut all = Vec::new(host.alloc());
+    for extent in extents {
+        let file = file_of(host, &folder, &extent)?;
+        all.push((extent, file))?;
+    }
+    Ok(all)
+}
+
+/// What is found under the name of an extent, if it has one.
+fn file_of<H: Host>(
+    host: &H,
+    folder: &Folder<'_>,
+    extent: &Extent<String>,
+) -> Result<Option<ExtentFile>, Failure> {
+    match extent {
+        Extent::Flat { name, .. } => Ok(Some(folder.find(host, name)?)),
+        _ => Ok(None),
+    }
 }
 
 /// Warns of extents that their files don't hold. That it can't be told is no failure.
@@ -96,6 +143,7 @@ fn warn<E: Write>(report: &Report, warnings: &mut E) {
     }
 }
 
+/// Prints it as lines.
 fn print_text<W: Write>(path: &str, report: &Report, output: &mut W) -> io::Result<()> {
     writeln!(output, "image: {path:?}")?;
     writeln!(output, "format: {}", report.format.name())?;
@@ -104,34 +152,32 @@ fn print_text<W: Write>(path: &str, report: &Report, output: &mut W) -> io::Resu
         print_qcow2(found, output)?;
     }
     for (extent, _) in &report.extents {
-        match extent {
-            Extent::Zero { sectors } => writeln!(
-                output,
-                "extent: ZERO, {} bytes",
-                bytes_of(*sectors)
-            )?,
-            Extent::NoAccess { sectors } => writeln!(
-                output,
-                "extent: NOACCESS, {} bytes",
-                bytes_of(*sectors)
-            )?,
-            Extent::Flat {
-                sectors,
-                name,
-                offset,
-                ..
-            } => {
-                let (count, offset) = (bytes_of(*sectors), bytes_of(*offset));
-                writeln!(
-                    output,
-                    "extent: FLAT, {count} bytes from {offset} of {name:?}"
-                )?;
-            }
-        }
+        print_extent(extent, output)?;
     }
     Ok(())
 }
 
+/// The kind of an extent, as a descriptor has it.
+fn kind_of(extent: &Extent<String>) -> &'static str {
+    match extent {
+        Extent::Zero { .. } => "ZERO",
+        Extent::NoAccess { .. } => "NOACCESS",
+        Extent::Flat { .. } => "FLAT",
+    }
+}
+
+/// Prints an extent as a line.
+fn print_extent<W: Write>(extent: &Extent<String>, output: &mut W) -> io::Result<()> {
+    let (kind, count) = (kind_of(extent), bytes_of(extent.sectors()));
+    write!(output, "extent: {kind}, {count} bytes")?;
+    if let Extent::Flat { name, offset, .. } = extent {
+        let offset = bytes_of(*offset);
+        write!(output, " from {offset} of {name:?}")?;
+    }
+    writeln!(output)
+}
+
+/// Prints it as a JSON object.
 fn print_json<H: Host, W: Write>(
     host: &H,
     path: &str,
@@ -150,20 +196,16 @@ fn print_json<H: Host, W: Write>(
     let mut start = "";
     for found in &report.extents {
         write!(output, "{start}")?;
-        print_extent(host, found, output)?;
+        print_found(host, found, output)?;
         start = ",";
     }
     writeln!(output, "] }}")
 }
 
-fn print_extent<H: Host, W: Write>(host: &H, found: &Found, output: &mut W) -> io::Result<()> {
+/// Prints an extent as a JSON object.
+fn print_found<H: Host, W: Write>(host: &H, found: &Found, output: &mut W) -> io::Result<()> {
     let (extent, file) = found;
-    let kind = match extent {
-        Extent::Zero { .. } => "ZERO",
-        Extent::NoAccess { .. } => "NOACCESS",
-        Extent::Flat { .. } => "FLAT",
-    };
-    let length = bytes_of(extent.sectors());
+    let (kind, length) = (kind_of(extent), bytes_of(extent.sectors()));
     write!(output, "\n{{ \"type\": \"{kind}\", \"length\": {length}")?;
     if let Extent::Flat { name, offset, .. } = extent {
         let (name, offset) = (quoted(host.alloc(), name)?, bytes_of(*offset));

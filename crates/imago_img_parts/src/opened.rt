@@ -11,21 +11,19 @@ ghost use Rattle.imago_drivers.specs.RawImage.{size_of};
 ghost use Rattle.imago_vmdk.specs.Image.{is_opened, takes_unknown_keys, descriptor_in};
 ghost use Rattle.imago_vmdk.specs.Disk.{described_value};
 ghost use Rattle.imago_plan.specs.PieceBytes.{plan_bytes};
-ghost use Rattle.imago_loaded.specs.Loaded.{loaded_bytes};
 ghost use Rattle.imago_img_parts.specs.declared.text.ImageFormat.TheVariants as ImageFormat;
 ghost use Rattle.imago_img_parts.specs.Formats.{IsFormatBy};
 ghost use Rattle.imago_img_parts.specs.Extents.{flat_names, storage_paths as paths_of};
 ghost use Rattle.imago_img_parts.specs.Images.{ShowsRaw, IsImageOf};
 
 use crate::chain::{Planned, planned_chain};
-use crate::failure::Failure;
+use crate::failure::{Failure, Reason};
 use crate::host::Host;
 use crate::text::{ImageFormat, file_status, guessed_format};
 use crate::vmdk::{VmdkFile, vmdk_file};
 use imago_access::access::FormatAccess;
 use imago_drivers::drivers::FormatDriverInstance;
 use imago_drivers::raw::Raw;
-use imago_loaded::loaded::LoadedFile;
 use imago_plan::laws::{plans_of_raw, plans_of_vmdk};
 use imago_plan::name::path_beside;
 use imago_plan::piece::Piece;
@@ -164,13 +162,11 @@ fn open_vmdk<H: Host>(
         image.format image.size
         (map string_bytes image.paths.items) image.pieces.items) }
 {
-    let alloc = host.alloc();
     let VmdkFile { driver, paths } = vmdk_file(host, path, count, how)?;
-    let image = FormatAccess::new(driver);
-    let pieces = Failure::or_image(alloc, path, planned_vmdk(alloc, &image))?;
+    let (size, pieces) = planned_vmdk(host.alloc(), path, driver)?;
     Ok(OpenedImage {
         format: ImageFormat::Vmdk,
-        size: image.size(),
+        size,
         pieces,
         paths,
     })
@@ -196,18 +192,27 @@ fn open_qcow2<H: Host>(host: &H, path: &str, how: Opening) -> Result<OpenedImage
     })
 }
 
-/// Where the bytes of the disk stand that an opened descriptor describes.
-fn planned_vmdk(alloc: Global, image: &FormatAccess<Vmdk<LoadedFile>>) -> Result<Vec<Piece>, Error>
-    requires { is_opened (driver image.now) ≡ true }
-    ensures { IfOk result (λ pieces.
-        (bytes : ℕ → ℕ → List ℕ)
-        → bytes 0 0 ≡ loaded_bytes (descriptor_in (driver image.now))
-        → values_from (described_value (takes_unknown_keys (driver image.now)) (bytes 0)) 0
-        (⟦<Vmdk<LoadedFile> as FormatDriverInstance>⟧.view (driver image.now)).size
-        ≡ map Byte (plan_bytes bytes pieces.items)) }
+/// How many bytes the disk has that an opened descriptor describes, and where they stand.
+fn planned_vmdk<S: Storage>(
+    alloc: Global,
+    path: &str,
+    driver: Vmdk<S>,
+) -> Result<(u64, Vec<Piece>), Failure>
+    requires { is_opened driver ≡ true }
+    ensures size { IfOk result (λ planned. planned.0
+        ≡ (⟦<Vmdk<S> as FormatDriverInstance>⟧.view driver).size) }
+    ensures pieces { IfOk result (λ planned. (bytes : ℕ → ℕ → List ℕ)
+        → bytes 0 0 ≡ S.bytes (descriptor_in driver)
+        → values_from (described_value (takes_unknown_keys driver) (bytes 0)) 0
+        (⟦<Vmdk<S> as FormatDriverInstance>⟧.view driver).size
+        ≡ map Byte (plan_bytes bytes planned.1.items)) }
 {
-    plans_of_vmdk(image);
-    plan(alloc, image)
+    let image = FormatAccess::new(driver);
+    plans_of_vmdk(&image);
+    match plan(alloc, &image) {
+        Ok(pieces) => Ok((image.size(), pieces)),
+        Err(cause) => Err(Failure::of_file(alloc, path, Reason::Image(cause))),
+    }
 }
 
 /// Refuses an image of whose files one isn't there, or isn't a file.

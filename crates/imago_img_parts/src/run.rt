@@ -87,10 +87,7 @@ fn obey<H: Host, W: Write, E: Write>(
             printed.map_err(Failure::Output)?;
         }
         Command::Info { path, json } => info(&*host, path, how, json, output, errors)?,
-        Command::Map { path, json } => {
-            let image = open(&*host, path, how)?;
-            map(&*host, &image, json, output)?;
-        }
+        Command::Map { path, json } => map_file(&*host, path, how, json, output)?,
         Command::Convert {
             from,
             to,
@@ -108,6 +105,18 @@ fn obey<H: Host, W: Write, E: Write>(
         }
     }
     Ok(Outcome::Fine)
+}
+
+/// Tells where the bytes of the disk of a file's image stand.
+fn map_file<H: Host, W: Write>(
+    host: &H,
+    path: &str,
+    how: Opening,
+    json: bool,
+    output: &mut W,
+) -> Result<(), Failure> {
+    let image = open(host, path, how)?;
+    map(host, &image, json, output)
 }
 
 /// The outcome of a question.

@@ -48,5 +48,5 @@ returns g t c =
     (subst says c.in-Some.is c.in_ok-driver.ensures.layer)
     c.in-Some.next.format
     (told_format known c.args.path.now Backing (λ b. b.format) layer.below c.in-Some.next c.in-Some.is c.in_ok-driver.ensures.format)
-    (subst by_format c.deref.ensures c.in_ok-format.ensures.known)
-    (subst shows c.deref-2.ensures c.in_ok-below.ensures)
+    (subst by_format c.deref-2.ensures c.in_ok-format.ensures.known)
+    (subst shows c.deref-3.ensures c.in_ok-below.ensures)

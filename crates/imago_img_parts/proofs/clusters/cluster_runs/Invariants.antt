@@ -2,7 +2,7 @@ use Rattle.std.proofs.Common.{◌-◌, ◌≤◌}
 use Rattle.imago_img_parts.proofs.clusters.cluster_runs.Given as goal
 
 abbrev pub invariant-loop-at : goal.invariant-loop-at
-invariant-loop-at l = l.at ≤ l.size
+invariant-loop-at g l = l.at ≤ l.size
 
 abbrev pub decreases-loop-at : goal.decreases-loop-at
-decreases-loop-at l = l.size - l.at
+decreases-loop-at g l = l.size - l.at

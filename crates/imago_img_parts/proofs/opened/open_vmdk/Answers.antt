@@ -1,6 +1,5 @@
-use Rattle.std.proofs.Common.{map, Ok, refl}
+use Rattle.std.proofs.Common.{map}
 use Rattle.std.specs.String.{string_bytes}
-use Rattle.imago_access.specs.Chain.{driver}
 use Rattle.imago_loaded.specs.Loaded.{loaded_bytes}
 use Rattle.imago_img_parts.proofs.Described.{described_image}
 use Rattle.imago_img_parts.proofs.opened.open_vmdk.Goals as goal
@@ -12,8 +11,7 @@ returns-clause-image g c =
       loaded_bytes v.descriptor,
       c.in_ok-driver.ensures.text,
       described_image c.args.how.strict c.args.how.allow_outside (g.H.Host.contents c.args.host.now)
-          c.args.path.now v (driver c.new-image.result) c.size.result (map string_bytes file.paths.items)
-          c.planned_vmdk.result c.in_ok-pieces.pieces (Ok c.in_ok-pieces.pieces)
-          c.new-image.ensures.driver c.in_ok-driver.ensures.keys c.size.ensures v.read
-          c.in_ok-driver.ensures.paths c.in_ok-driver.ensures.names refl c.in_ok-pieces.ensures c.planned_vmdk.ensures,
+          c.args.path.now v c.in_ok-size.size (map string_bytes file.paths.items) c.in_ok-size.pieces.items
+          c.in_ok-driver.ensures.keys c.in_ok-size.ensures.size v.read
+          c.in_ok-driver.ensures.paths c.in_ok-driver.ensures.names c.in_ok-size.ensures.pieces,
     )
