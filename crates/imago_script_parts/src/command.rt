@@ -102,66 +102,130 @@ fn offset(bytes: &[u8]) -> Option<u64> {
 /// The command that a line is, of those that have no bytes.
 fn short_command(line: &[u8]) -> Option<Command<'_>> {
     let (words, count) = words_of(line)?;
-    match words.get(..count)? {
-        &["mem", name, length, fill, mem_align, req_align] => Some(Command::Mem {
-            name,
-            length: number(length)?,
-            byte: byte(fill)?,
-            mem_align: Alignment::of(mem_align)?,
-            req_align: Alignment::of(req_align)?,
-        }),
-        &["null", name, size] => Some(Command::Null {
-            name,
-            size: number(size)?,
-        }),
-        &["open", "raw", name, access] => Some(Command::OpenRaw {
-            name,
-            writable: writability(access)?,
-        }),
-        &["open", "vmdk", name] => Some(Command::OpenVmdk { name, lax: false }),
-        &["open", "vmdk", name, "lax"] => Some(Command::OpenVmdk { name, lax: true }),
-        &["open", "cow", name, block] => Some(Command::OpenCow {
-            name,
-            block: BlockSize::of(block)?,
-        }),
-        &["probe", name] => Some(Command::Probe { name }),
-        &["show"] => Some(Command::Show),
-        words => Some(Command::Call(call_of(words)?)),
+    let (first, rest) = words.get(..count)?.split_first()?;
+    match *first {
+        "mem" => mem_of(rest),
+        "null" => null_of(rest),
+        "probe" => probe_of(rest),
+        "open" => opening_of(rest),
+        "show" if rest.is_empty() => Some(Command::Show),
+        name => Some(Command::Call(call_of(name, rest)?)),
     }
 }
 
-/// The call that words are, of those that have no bytes.
-fn call_of(words: &[&str]) -> Option<Call> {
+/// The storage of equal bytes that words describe.
+fn mem_of<'a>(words: &[&'a str]) -> Option<Command<'a>> {
+    let &[name, length, fill, mem_align, req_align] = words else {
+        return None;
+    };
+    Some(Command::Mem {
+        name,
+        length: number(length)?,
+        byte: byte(fill)?,
+        mem_align: Alignment::of(mem_align)?,
+        req_align: Alignment::of(req_align)?,
+    })
+}
+
+/// The null storage that words describe.
+fn null_of<'a>(words: &[&'a str]) -> Option<Command<'a>> {
+    let &[name, size] = words else {
+        return None;
+    };
+    let size = number(size)?;
+    Some(Command::Null { name, size })
+}
+
+/// The probe of the storage that a word names.
+fn probe_of<'a>(words: &[&'a str]) -> Option<Command<'a>> {
+    let &[name] = words else {
+        return None;
+    };
+    Some(Command::Probe { name })
+}
+
+/// The opening that words describe: a format, a storage's name, and at most one word more.
+fn opening_of<'a>(words: &[&'a str]) -> Option<Command<'a>> {
     match words {
-        &["size"] => Some(Call::Size),
-        &["read", offset, length] => read_of(number(offset)?, number(length)?),
-        &["zero", offset, length] => Some(Call::WriteZeroes {
-            offset: number(offset)?,
-            length: number(length)?,
-        }),
-        &["discard", to, offset, length] => discard_of(to, number(offset)?, number(length)?),
-        &["map", offset, most] => Some(Call::GetMapping {
-            offset: number(offset)?,
-            max_length: number(most)?,
-        }),
-        &["data", offset, length, overwrite] => Some(Call::EnsureData {
-            offset: number(offset)?,
-            length: number(length)?,
-            overwrite: overwriting(overwrite)?,
-        }),
-        &["resize", size, growth] => Some(Call::Resize {
+        &[format, name] if format == "vmdk" => Some(Command::OpenVmdk { name, lax: false }),
+        &[format, name, option] => opening_with(format, name, option),
+        _ => None,
+    }
+}
+
+/// The opening of a storage in a format, with an option.
+fn opening_with<'a>(format: &str, name: &'a str, option: &str) -> Option<Command<'a>> {
+    match format {
+        "raw" => {
+            let writable = writability(option)?;
+            Some(Command::OpenRaw { name, writable })
+        }
+        "vmdk" if option == "lax" => Some(Command::OpenVmdk { name, lax: true }),
+        "cow" => {
+            let block = BlockSize::of(option)?;
+            Some(Command::OpenCow { name, block })
+        }
+        _ => None,
+    }
+}
+
+/// The call of that name on what words spell, of those that have no bytes.
+fn call_of(name: &str, words: &[&str]) -> Option<Call> {
+    match words {
+        &[] => plain_call_of(name),
+        &[size] if name == "shrink" => Some(Call::ResizeShrink {
             size: number(size)?,
-            mode: mode(growth)?,
         }),
-        &["grow", size, growth] => Some(Call::ResizeGrow {
-            size: number(size)?,
-            mode: mode(growth)?,
+        &[first, second] => call_of_two(name, first, second),
+        &[first, second, third] => call_of_three(name, first, second, third),
+        _ => None,
+    }
+}
+
+/// The call of that name that has no arguments.
+fn plain_call_of(name: &str) -> Option<Call> {
+    match name {
+        "size" => Some(Call::Size),
+        "flush" => Some(Call::Flush),
+        "sync" => Some(Call::Sync),
+        _ => None,
+    }
+}
+
+/// The call of that name that has two arguments.
+fn call_of_two(name: &str, first: &str, second: &str) -> Option<Call> {
+    let start = number(first)?;
+    match name {
+        "read" => read_of(start, number(second)?),
+        "zero" => Some(Call::WriteZeroes {
+            offset: start,
+            length: number(second)?,
         }),
-        &["shrink", size] => Some(Call::ResizeShrink {
-            size: number(size)?,
+        "map" => Some(Call::GetMapping {
+            offset: start,
+            max_length: number(second)?,
         }),
-        &["flush"] => Some(Call::Flush),
-        &["sync"] => Some(Call::Sync),
+        "resize" => Some(Call::Resize {
+            size: start,
+            mode: mode(second)?,
+        }),
+        "grow" => Some(Call::ResizeGrow {
+            size: start,
+            mode: mode(second)?,
+        }),
+        _ => None,
+    }
+}
+
+/// The call of that name that has three arguments.
+fn call_of_three(name: &str, first: &str, second: &str, third: &str) -> Option<Call> {
+    match name {
+        "discard" => discard_of(first, number(second)?, number(third)?),
+        "data" => Some(Call::EnsureData {
+            offset: number(first)?,
+            length: number(second)?,
+            overwrite: overwriting(third)?,
+        }),
         _ => None,
     }
 }

@@ -52,12 +52,16 @@ pub fn word(bytes: &[u8]) -> Option<&str> {
 /// are. `None` where the line isn't made of words, or has more than any command.
 pub fn words_of(line: &[u8]) -> Option<([&str; MOST_WORDS], usize)> {
     let mut words = [""; MOST_WORDS];
-    let mut count = 0;
-    for part in line.split(|byte| *byte == b' ') {
-        *words.get_mut(count)? = word(part)?;
-        count += 1;
+    let mut rest = line;
+    for place in 0..MOST_WORDS {
+        let (part, behind) = cut_at(b' ', rest);
+        words[place] = word(part)?;
+        if part.len() == rest.len() {
+            return Some((words, place + 1));
+        }
+        rest = behind;
     }
-    Some((words, count))
+    None
 }
 
 /// Whether that is a word: bytes that print, and at least one.
