@@ -1,5 +1,5 @@
 -- The name of a backing file, as it was read.
-use Rattle.std.proofs.Common.{◌≡◌, ℕ, ◌+◌, ◌<◌, ◌≤◌, List, Option, Some, None, IfSome, length}
+use Rattle.std.proofs.Common.{◌≡◌, ℕ, ◌+◌, ◌<◌, List, Option, Some, None, IfSome, length}
 use Rattle.std.proofs.Common.{ap, sym, subst, ◌∙◌, arith, zero-add, inl, inr}
 use Rattle.std.specs.Prelude.{slice_index}
 use Rattle.imago_qcow2.specs.Numbers.{be32, be64}

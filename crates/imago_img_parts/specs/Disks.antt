@@ -1,4 +1,4 @@
-use Rattle.std.specs.Prelude.{◌≡◌, ℕ, Bool, not, List, map, Option, Some, None, Ok, IfSome}
+use Rattle.std.specs.Prelude.{◌≡◌, ℕ, Bool, not, List, map, Option, Some, None, Ok}
 use Rattle.imago_drivers.specs.Place.{Place, Byte}
 use Rattle.imago_access.specs.Disk.{values_from}
 use Rattle.imago_vmdk.specs.declared.line.Extent.{Extent}

@@ -1,4 +1,4 @@
-use Rattle.std.proofs.Common.{map, option_map, subst, sym, ap, ◌∙◌, IfSome, None, Some, Option, List, ℕ}
+use Rattle.std.proofs.Common.{map, option_map, subst, IfSome, Option, List, ℕ}
 use Rattle.std.specs.String.{string_bytes}
 use Rattle.imago_any_driver.specs.AnyDriver.{view_over}
 use Rattle.imago_loaded.specs.Features.{loaded_features}
