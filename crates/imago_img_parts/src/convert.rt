@@ -12,47 +12,10 @@ use crate::progress::Progress;
 use crate::sources::FileSources;
 use crate::text::file_status;
 use imago_plan::copy::{Target, copy};
-use std::alloc::{AllocError, Global};
-use std::io::{self, ErrorKind};
+use std::io::ErrorKind;
 
 /// How much is read at a time, in bytes.
 const CHUNK: usize = 1048576;
-
-/// Why a target isn't filled.
-#[derive(Drop)]
-enum Unfilled {
-    /// The file of that path can't be read or written.
-    File(String, io::Error),
-    /// Memory was refused.
-    Memory,
-}
-
-impl Unfilled {
-    /// What the system answers for that file is why.
-    fn by_file(alloc: Global, path: &str, cause: io::Error) -> Unfilled {
-        match String::from_str(alloc, path) {
-            Ok(path) => Unfilled::File(path, cause),
-            Err(_) => Unfilled::Memory,
-        }
-    }
-
-    /// The same as a command's failure.
-    fn into_failure(self) -> Failure {
-        match self {
-            Unfilled::File(path, cause) => Failure::OfFile {
-                path,
-                reason: Reason::System(cause),
-            },
-            Unfilled::Memory => Failure::Memory,
-        }
-    }
-}
-
-impl From<AllocError> for Unfilled {
-    fn from(_refused: AllocError) -> Unfilled {
-        Unfilled::Memory
-    }
-}
 
 /// Writes the disk of an image to a file of that path. What is zero there stays a hole.
 ///
@@ -92,10 +55,7 @@ fn fill_shown<H: Host>(
         (λ bytes. plan_bytes bytes image.now.pieces.items)) }
 {
     let mut target = Progress::new(target, host, show, image.size);
-    let filled = match fill(host, image, &mut target, to) {
-        Ok(()) => Ok(()),
-        Err(unfilled) => Err(unfilled.into_failure()),
-    };
+    let filled = fill(host, image, &mut target, to);
     (target.into_target(), filled)
 }
 
@@ -105,7 +65,7 @@ fn fill<H: Host, T: Target>(
     image: &OpenedImage,
     target: &mut T,
     to: &str,
-) -> Result<(), Unfilled>
+) -> Result<(), Failure>
     ensures { OnOk result
         (IsAppendedOf (storages_in H.contents host.now (map string_bytes image.now.paths.items))
         (T.contents target.old) (T.contents target.new)
@@ -117,7 +77,7 @@ fn fill<H: Host, T: Target>(
         Ok(()) => Ok(()),
         Err(cause) => {
             let path = sources.failed_path().unwrap_or(to);
-            Err(Unfilled::by_file(host.alloc(), path, cause))
+            Err(Failure::of_file(host.alloc(), path, Reason::System(cause)))
         }
     }
 }

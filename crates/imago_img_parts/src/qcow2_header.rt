@@ -6,7 +6,7 @@ use std::io::{self, Write};
 use thiserror::Error;
 
 /// Why the header of a qcow2 file is refused.
-#[derive(Clone, Copy, Debug, Error)]
+#[derive(Clone, Copy, Debug, PartialEq, Eq, Error)]
 pub enum HeaderFault {
     /// The file is too short for one, or begins otherwise.
     #[error("no qcow2 image begins so")]
@@ -16,24 +16,42 @@ pub enum HeaderFault {
     Version(u32),
     #[error("the header says encryption, which isn't supported")]
     Encryption,
-    /// An incompatible feature, by its name.
-    #[error("the header says {0}, which isn't supported")]
-    Feature(&'static str),
+    /// The incompatible feature of an image that is marked as corrupt.
+    #[error("the header says corrupt, which isn't supported")]
+    Corrupt,
+    /// That of data in a file of their own.
+    #[error("the header says external data file, which isn't supported")]
+    ExternalData,
+    /// That of L2 entries with subclusters.
+    #[error("the header says extended L2 entries, which isn't supported")]
+    ExtendedEntries,
     /// An incompatible feature that has no name, by its bit.
     #[error("the header says unknown bit {0}, which isn't supported")]
     UnknownBit(u32),
     /// A cluster of less than 512 bytes or more than 2 MiB, by the base 2 logarithm.
     #[error("the header says clusters of 2^{0} bytes, which can't be meant")]
     ClusterBits(u32),
-    /// One of the numbers that version 3 adds, by what it tells.
-    #[error("the header's {0} can't be meant")]
-    Added(&'static str),
+    /// Its own length.
+    #[error("the header's own length can't be meant")]
+    OwnLength,
+    /// How many bits a reference count has.
+    #[error("the header's width of reference counts can't be meant")]
+    RefcountWidth,
+    /// How clusters are compressed.
+    #[error("the header's kind of compression can't be meant")]
+    Compression,
     /// A name that is too long, or behind the first cluster.
     #[error("the header's name of a backing file passes its room")]
     BackingName,
-    /// An L1 table, by what is wrong with it.
-    #[error("the header says an L1 table that {0}")]
-    Table(&'static str),
+    /// An L1 table that hasn't an entry for each L2 table of the disk.
+    #[error("the header says an L1 table that is too short for the disk")]
+    ShortTable,
+    /// An L1 table that isn't at a cluster's start.
+    #[error("the header says an L1 table that doesn't begin at a cluster's start")]
+    UnevenTable,
+    /// An L1 table that isn't in the file.
+    #[error("the header says an L1 table that passes the file's end")]
+    TableBehindEnd,
 }
 
 /// The incompatible features that a header says; version 2 has none.
@@ -54,9 +72,9 @@ fn feature_fault(features: u64, bit: u32) -> Option<HeaderFault>
     }
     match bit {
         0 | 3 => None,
-        1 => Some(HeaderFault::Feature("corrupt")),
-        2 => Some(HeaderFault::Feature("external data file")),
-        4 => Some(HeaderFault::Feature("extended L2 entries")),
+        1 => Some(HeaderFault::Corrupt),
+        2 => Some(HeaderFault::ExternalData),
+        4 => Some(HeaderFault::ExtendedEntries),
         _ => Some(HeaderFault::UnknownBit(bit)),
     }
 }
@@ -79,14 +97,14 @@ fn added_fault(head: &[u8; 112], cluster: u64) -> Option<HeaderFault> {
     }
     let own = number32(head, 100);
     if own < 104 || own % 8 != 0 || own as u64 > cluster {
-        return Some(HeaderFault::Added("own length"));
+        return Some(HeaderFault::OwnLength);
     }
     if number32(head, 96) > 6 {
-        return Some(HeaderFault::Added("width of reference counts"));
+        return Some(HeaderFault::RefcountWidth);
     }
     let compression = if own > 104 { head[104] } else { 0 };
     if (compression == 0) != (number64(head, 72) < 8) {
-        return Some(HeaderFault::Added("kind of compression"));
+        return Some(HeaderFault::Compression);
     }
     None
 }
@@ -102,12 +120,12 @@ fn table_fault(head: &[u8; 112], cluster: u64) -> HeaderFault {
     let count = number32(head, 36) as u64;
     let per_entry = (cluster / 8).saturating_mul(cluster);
     if count.saturating_mul(per_entry) < number64(head, 24) {
-        return HeaderFault::Table("is too short for the disk");
+        return HeaderFault::ShortTable;
     }
     if number64(head, 40).checked_rem(cluster) != Some(0) {
-        return HeaderFault::Table("doesn't begin at a cluster's start");
+        return HeaderFault::UnevenTable;
     }
-    HeaderFault::Table("passes the file's end")
+    HeaderFault::TableBehindEnd
 }
 
 /// The first fault of a header that is refused, in a file of that length.
@@ -141,7 +159,13 @@ pub fn header_fault(head: &[u8; 112], length: u64) -> HeaderFault {
 
 /// Whether an incompatible feature is what is wrong.
 fn is_feature(fault: HeaderFault) -> bool {
-    matches!(fault, HeaderFault::Feature(_) | HeaderFault::UnknownBit(_))
+    matches!(
+        fault,
+        HeaderFault::Corrupt
+            | HeaderFault::ExternalData
+            | HeaderFault::ExtendedEntries
+            | HeaderFault::UnknownBit(_)
+    )
 }
 
 /// Tells what is wrong with a header that is refused, each feature by itself, and how many faults
