@@ -10,6 +10,7 @@ mod run;
 mod set_up;
 mod subject;
 mod sweep;
+mod trial;
 
 use imago_cow::table::{GuestBlock, Table, WithoutData};
 use std::alloc::Global;

@@ -2,7 +2,7 @@
 ghost use Rattle.std.specs.Prelude.{◌≡◌, ◌+◌, ◌≤◌, IsTrue, None, true};
 ghost use Rattle.imago_access.specs.Chain.{driver};
 
-use super::set_up::{equal, numbers};
+use super::set_up::{equal, numbers, printed};
 use imago_access::access::FormatAccess;
 use imago_drivers::drivers::{
     FormatDriverInstance, PreallocateMode, PreparedDataMapping, ShallowMapping,
@@ -135,18 +135,46 @@ fn fitting(steps: InSteps, length: u64) -> u64 {
     steps.written.0.min(length.saturating_sub(steps.at))
 }
 
-/// Writes bytes into a mapping, as many as fit.
-fn write_inside<D: FormatDriverInstance>(
+/// Prepares a range of an image, once.
+pub(super) fn prepare<D: FormatDriverInstance>(
+    rt: &impl Abort,
+    alloc: Global,
+    image: &mut FormatAccess<D>,
+    (offset, count): (u64, u64),
+    overwrite: bool,
+) -> Result<PreparedDataMapping<D::State>, Error> {
+    assert!(rt; is_spent(&*image));
+    image.prepare_data_mapping(alloc, offset, count, overwrite)
+}
+
+/// Writes bytes into a mapping of an image, from the `at`-th on, once.
+pub(super) fn write_prepared<D: FormatDriverInstance>(
     rt: &impl Abort,
     alloc: Global,
     image: &mut FormatAccess<D>,
     mapping: &PreparedDataMapping<D::State>,
-    steps: InSteps,
+    bytes: &[u8],
+    at: u64,
 ) -> Result<(), Error> {
-    let bytes = numbers(rt, alloc, fitting(steps, mapping.length()), steps.written.1);
     let count = bytes.len() as u64;
-    assert!(rt; count <= mapping.length() && steps.at <= mapping.length() - count);
-    image.write_prepared(alloc, mapping, &bytes, steps.at)
+    assert!(rt; count <= mapping.length() && at <= mapping.length() - count);
+    image.write_prepared(alloc, mapping, bytes, at)
+}
+
+/// Commits a mapping of an image.
+pub(super) fn commit<D: FormatDriverInstance>(
+    image: &mut FormatAccess<D>,
+    mapping: PreparedDataMapping<D::State>,
+) -> Result<(), Error> {
+    image.commit_data_mapping(mapping)
+}
+
+/// Cancels a mapping of an image.
+pub(super) fn cancel<D: FormatDriverInstance>(
+    image: &mut FormatAccess<D>,
+    mapping: PreparedDataMapping<D::State>,
+) {
+    image.cancel_data_mapping(mapping);
 }
 
 /// Commits a mapping, or cancels it.
@@ -157,9 +185,9 @@ fn spend<D: FormatDriverInstance>(
     commits: bool,
 ) {
     if commits {
-        assert_eq!(rt; image.commit_data_mapping(mapping), Ok(()));
+        assert_eq!(rt; commit(image, mapping), Ok(()));
     } else {
-        image.cancel_data_mapping(mapping);
+        cancel(image, mapping);
     }
     assert!(rt; is_spent(&*image));
 }
@@ -171,14 +199,27 @@ fn write_in_steps<D: FormatDriverInstance>(
     image: &mut FormatAccess<D>,
     steps: InSteps,
 ) -> Result<(u64, bool), Error> {
-    assert!(rt; is_spent(&*image));
-    let mapping = image.prepare_data_mapping(alloc, steps.offset, steps.count, steps.overwrite)?;
+    let range = (steps.offset, steps.count);
+    let mapping = prepare(rt, alloc, image, range, steps.overwrite)?;
     let told = (mapping.length(), !mapping.is_nonblocking());
     assert_eq!(rt; is_spent(&*image), !told.1);
-    let written = write_inside(rt, alloc, image, &mapping, steps);
+    let bytes = numbers(rt, alloc, fitting(steps, told.0), steps.written.1);
+    let written = write_prepared(rt, alloc, image, &mapping, &bytes, steps.at);
     spend(rt, image, mapping, written.is_ok() && steps.commits);
     written?;
     Ok(told)
+}
+
+/// Writes bytes into an image, from that offset on, once.
+pub(super) fn write_at<D: FormatDriverInstance>(
+    rt: &impl Abort,
+    alloc: Global,
+    image: &mut FormatAccess<D>,
+    bytes: &[u8],
+    offset: u64,
+) -> Result<(), Error> {
+    assert!(rt; is_spent(&*image));
+    image.write(alloc, bytes, offset)
 }
 
 /// Makes a call on an image.
@@ -188,14 +229,25 @@ fn on_image<D: FormatDriverInstance>(
     image: &mut FormatAccess<D>,
     call: Call,
 ) -> Answer {
-    if let Call::Prepare(steps) = call {
-        return prepared(write_in_steps(rt, alloc, image, steps));
+    match call {
+        Call::Prepare(steps) => prepared(write_in_steps(rt, alloc, image, steps)),
+        Call::Write(offset, count, first) => {
+            let bytes = numbers(rt, alloc, count, first);
+            done(write_at(rt, alloc, image, &bytes, offset))
+        }
+        _ => change_spent(rt, alloc, image, call),
     }
+}
+
+/// Makes a call on an image that neither writes nor prepares.
+fn change_spent<D: FormatDriverInstance>(
+    rt: &impl Abort,
+    alloc: Global,
+    image: &mut FormatAccess<D>,
+    call: Call,
+) -> Answer {
     assert!(rt; is_spent(&*image));
     match call {
-        Call::Write(offset, count, first) => {
-            done(image.write(alloc, &numbers(rt, alloc, count, first), offset))
-        }
         Call::WriteZeroes(offset, count) => done(image.write_zeroes(alloc, offset, count)),
         Call::DiscardToZero(offset, count) => done(image.discard_to_zero(alloc, offset, count)),
         Call::DiscardToAny(offset, count) => done(image.discard_to_any(alloc, offset, count)),
@@ -211,7 +263,7 @@ fn on_image<D: FormatDriverInstance>(
         Call::Grow(size, mode) => done(image.resize_grow(alloc, size, mode)),
         Call::Resize(size, mode) => done(image.resize(alloc, size, mode)),
         Call::Shrink(size) => done(image.resize_shrink(size)),
-        Call::Prepare(_) => rt.abort(),
+        Call::Write(_, _, _) | Call::Prepare(_) => rt.abort(),
     }
 }
 
@@ -267,25 +319,20 @@ fn give_up<D: FormatDriverInstance>(
     driver: &mut D,
     call: Call,
 ) -> Answer {
-    match call {
-        Call::WriteZeroes(offset, count) => {
-            assert!(rt; is_ready(&*driver, offset, count));
-            part(driver.ensure_zero_mapping(alloc, offset, count))
-        }
-        Call::DiscardToZero(offset, count) => {
-            assert!(rt; is_ready(&*driver, offset, count));
-            part(driver.discard_to_zero(alloc, offset, count))
-        }
-        Call::DiscardToAny(offset, count) => {
-            assert!(rt; is_ready(&*driver, offset, count));
-            part(driver.discard_to_any(alloc, offset, count))
-        }
-        Call::DiscardToBacking(offset, count) => {
-            assert!(rt; is_ready(&*driver, offset, count));
-            part(driver.discard_to_backing(alloc, offset, count))
-        }
+    let (offset, count) = match call {
+        Call::WriteZeroes(offset, count)
+        | Call::DiscardToZero(offset, count)
+        | Call::DiscardToAny(offset, count)
+        | Call::DiscardToBacking(offset, count) => (offset, count),
         _ => rt.abort(),
-    }
+    };
+    assert!(rt; is_ready(&*driver, offset, count));
+    part(match call {
+        Call::WriteZeroes(_, _) => driver.ensure_zero_mapping(alloc, offset, count),
+        Call::DiscardToZero(_, _) => driver.discard_to_zero(alloc, offset, count),
+        Call::DiscardToAny(_, _) => driver.discard_to_any(alloc, offset, count),
+        _ => driver.discard_to_backing(alloc, offset, count),
+    })
 }
 
 /// Makes a call on a driver, which is lent that layer.
@@ -376,6 +423,17 @@ fn contents<B: LowerLayer>(rt: &impl Abort, alloc: Global, layer: &B) -> Vec<u8>
     }
     assert_eq!(rt; answer, Ok(()));
     bytes
+}
+
+/// What a range of an image is, as that is printed, and how much of it.
+pub(super) fn told_mapping<D: FormatDriverInstance>(
+    rt: &impl Abort,
+    alloc: Global,
+    image: &FormatAccess<D>,
+    (offset, count): (u64, u64),
+) -> (String, u64) {
+    let (mapping, count) = image.get_mapping(offset, count).expect(rt, "a mapping");
+    (printed(rt, alloc, &mapping), count)
 }
 
 /// What the guest block that begins at an offset is. Its mapping names all of it, as far as the

@@ -1,9 +1,11 @@
 //! A disk whose end cuts a guest block, grown in each mode.
 use super::call::{Answer, Call, Level};
 use super::set_up::byte_at;
-use super::subject::{Fault, PLAIN, Subject};
-use imago_drivers::drivers::PreallocateMode;
+use super::subject::{Disk, Fault, LentDriver, PLAIN, Subject};
+use super::trial::{Trial, try_cow};
+use imago_drivers::drivers::{FormatDriverInstance, PreallocateMode};
 use imago_storage::error::Error;
+use imago_test_storages::faulty::Faulty;
 use std::alloc::Global;
 use std::process::Abort;
 
@@ -106,7 +108,10 @@ fn are_shown(bytes: &[u8], runs: &[(u64, Shown)]) -> bool {
 }
 
 /// Makes a call of an image that succeeds.
-fn on(rt: &impl Abort, alloc: Global, subject: &mut Subject, call: Call) {
+fn on<
+    D: FormatDriverInstance<Storage = Faulty> + Disk,
+    E: FormatDriverInstance<Storage = Faulty> + LentDriver,
+>(rt: &impl Abort, alloc: Global, subject: &mut Subject<D, E>, call: Call) {
     let step = (Level::Image, call);
     let mut answer = subject.make(rt, alloc, step);
     if answer == Answer::Refused(Error::Memory) {
@@ -115,9 +120,13 @@ fn on(rt: &impl Abort, alloc: Global, subject: &mut Subject, call: Call) {
     assert_eq!(rt; answer, Answer::Done);
 }
 
-fn check_a_cut_guest_block_is_filled_as_the_mode_says(rt: &impl Abort, alloc: Global) {
+/// A disk of each row is grown.
+pub(super) fn grow_each<
+    D: FormatDriverInstance<Storage = Faulty> + Disk,
+    E: FormatDriverInstance<Storage = Faulty> + LentDriver,
+>(rt: &impl Abort, alloc: Global) {
     for &(before, mode, runs, used) in &ROWS {
-        let mut subject = Subject::open(rt, alloc, SIZE, PLAIN, Fault::Never);
+        let mut subject = Subject::<D, E>::open(rt, alloc, SIZE, PLAIN, Fault::Never);
         on(rt, alloc, &mut subject, before);
         on(rt, alloc, &mut subject, Call::Grow(GROWN, mode));
         let shown = subject.contents(rt, alloc);
@@ -128,5 +137,5 @@ fn check_a_cut_guest_block_is_filled_as_the_mode_says(rt: &impl Abort, alloc: Gl
 
 #[test]
 fn a_cut_guest_block_is_filled_as_the_mode_says(rt: HostRuntime) {
-    check_a_cut_guest_block_is_filled_as_the_mode_says(&rt, rt.alloc());
+    try_cow(&rt, rt.alloc(), Trial::Growth);
 }

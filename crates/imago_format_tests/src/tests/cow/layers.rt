@@ -1,10 +1,10 @@
 //! Three copy-on-write disks above one another.
-use super::call::{Call, on};
-use super::set_up::printed;
-use super::subject::{Fault, Image, PLAIN, above, contents_of, created};
+use super::call::{Call, on, shown, told_mapping};
+use super::subject::{Disk, Fault, PLAIN, above, created};
+use super::trial::{Trial, try_cow};
 use imago_access::access::FormatAccess;
-use imago_access::mapping::Mapping;
-use imago_storage::error::Error;
+use imago_drivers::drivers::FormatDriverInstance;
+use imago_test_storages::faulty::Faulty;
 use std::alloc::Global;
 use std::process::Abort;
 
@@ -103,19 +103,24 @@ static ROWS: [Row; 15] = [
 ];
 
 /// Makes calls of an image that succeed.
-fn on_each(rt: &impl Abort, alloc: Global, image: &mut Image, calls: &[Call]) {
+fn on_each<D: FormatDriverInstance<Storage = Faulty> + Disk>(
+    rt: &impl Abort,
+    alloc: Global,
+    image: &mut FormatAccess<D>,
+    calls: &[Call],
+) {
     for &call in calls {
         on(rt, alloc, image, call);
     }
 }
 
 /// A layer above others, or the lowest.
-fn layer(
+fn layer<D: FormatDriverInstance<Storage = Faulty> + Disk>(
     rt: &impl Abort,
     alloc: Global,
     (size, block, calls): Layer,
-    below: Option<Box<Image>>,
-) -> Image {
+    below: Option<Box<FormatAccess<D>>>,
+) -> FormatAccess<D> {
     let driver = created(rt, alloc, (size, block), PLAIN, Fault::Never);
     let mut image = match below {
         None => FormatAccess::new(driver),
@@ -125,46 +130,52 @@ fn layer(
     image
 }
 
-/// A layer to stand on, where there is memory for it.
-fn boxed(alloc: Global, image: Image) -> Option<Box<Image>> {
-    Box::new(alloc, image).ok()
-}
-
 /// The three layers, where there is memory for them.
-fn layers(rt: &impl Abort, alloc: Global) -> Option<Image> {
-    let bottom = boxed(alloc, layer(rt, alloc, BOTTOM, None))?;
-    let middle = boxed(alloc, layer(rt, alloc, MIDDLE, Some(bottom)))?;
+fn layers<D: FormatDriverInstance<Storage = Faulty> + Disk>(
+    rt: &impl Abort,
+    alloc: Global,
+) -> Option<FormatAccess<D>> {
+    let bottom = Box::new(alloc, layer(rt, alloc, BOTTOM, None)).ok()?;
+    let middle = Box::new(alloc, layer(rt, alloc, MIDDLE, Some(bottom))).ok()?;
     Some(layer(rt, alloc, TOP, Some(middle)))
 }
 
-/// What a range of an image is.
-fn mapped(image: &Image, (offset, count): (u64, u64)) -> Result<(Mapping, u64), Error> {
-    image.get_mapping(offset, count)
+/// The disk begins with these bytes, and the layers below it are as they were.
+fn are_shown<D: FormatDriverInstance<Storage = Faulty> + Disk>(
+    rt: &impl Abort,
+    alloc: Global,
+    image: &FormatAccess<D>,
+    bytes: &[u8],
+) {
+    assert!(rt;
+        shown(rt, alloc, image).get(..16) == Some(bytes),
+        "other bytes are shown"
+    );
+    let middle = image.backing().expect(rt, "a layer");
+    assert!(rt; shown(rt, alloc, middle).as_slice() == OF_MIDDLE.as_slice());
+    let bottom = middle.backing().expect(rt, "a layer");
+    assert!(rt; shown(rt, alloc, bottom).as_slice() == OF_BOTTOM.as_slice());
 }
 
-fn check_three_disks_stand_on_one_another(rt: &impl Abort, alloc: Global) {
-    let mut image = match layers(rt, alloc) {
+/// The rows on three disks that stand on one another.
+pub(super) fn stand_on_one_another<D: FormatDriverInstance<Storage = Faulty> + Disk>(
+    rt: &impl Abort,
+    alloc: Global,
+) {
+    let mut image = match layers::<D>(rt, alloc) {
         Some(image) => image,
         None => layers(rt, alloc).expect(rt, "memory for layers"),
     };
     for &(call, range, (text, length), bytes) in &ROWS {
-        on_each(rt, alloc, &mut image, &[call]);
-        let (mapping, count) = mapped(&image, range).expect(rt, "a mapping");
-        assert_eq!(rt; printed(rt, alloc, &mapping).as_str(), text);
+        on(rt, alloc, &mut image, call);
+        let (mapping, count) = told_mapping(rt, alloc, &image, range);
+        assert_eq!(rt; mapping.as_str(), text);
         assert_eq!(rt; count, length);
-        let shown = contents_of(rt, alloc, &image);
-        assert!(rt;
-            shown.get(..16) == Some(bytes.as_slice()),
-            "other bytes are shown"
-        );
-        let middle = image.backing().expect(rt, "a layer");
-        assert!(rt; contents_of(rt, alloc, middle).as_slice() == OF_MIDDLE.as_slice());
-        let bottom = middle.backing().expect(rt, "a layer");
-        assert!(rt; contents_of(rt, alloc, bottom).as_slice() == OF_BOTTOM.as_slice());
+        are_shown(rt, alloc, &image, &bytes);
     }
 }
 
 #[test]
 fn three_disks_stand_on_one_another(rt: HostRuntime) {
-    check_three_disks_stand_on_one_another(&rt, rt.alloc());
+    try_cow(&rt, rt.alloc(), Trial::Layers);
 }

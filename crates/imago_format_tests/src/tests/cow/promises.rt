@@ -1,12 +1,15 @@
 //! What a copy-on-write disk does with its data blocks, which mappings it refuses, and the sizes
 //! that it can have.
-use super::call::{Call, is_spent, on, shown};
-use super::set_up::{byte_at, equal, numbers, printed};
-use super::subject::{Fault, Image, PLAIN, above, created};
+use super::call::{
+    Call, cancel, commit, is_spent, on, prepare, shown, told_mapping, write_at, write_prepared,
+};
+use super::set_up::{byte_at, equal, numbers};
+use super::subject::{Disk, Fault, PLAIN, above, created, storage_of};
+use super::trial::{Trial, try_cow};
 use imago_access::access::FormatAccess;
 use imago_access::run;
 use imago_access::run::Reply;
-use imago_cow::cow::{Cow, CowState};
+use imago_cow::cow::CowState;
 use imago_drivers::drivers::{FormatDriverInstance, PreparedDataMapping};
 use imago_storage::error::Error;
 use imago_test_storages::faulty::{Faulty, Tear};
@@ -15,43 +18,16 @@ use std::process::Abort;
 
 type Mapping = PreparedDataMapping<CowState>;
 
-/// What a disk in guest blocks tells besides. What is done with one is generic, and its type is
-/// named once, so that the proofs stay short.
-trait Blocks {
-    /// The length of a guest block.
-    fn block(&self) -> u64;
-
-    /// How many guest blocks are in data blocks.
-    fn used(&self) -> u64;
-}
-
-impl Blocks for Cow<Faulty> {
-    fn block(&self) -> u64 {
-        self.block_size()
-    }
-
-    fn used(&self) -> u64 {
-        self.blocks_used()
-    }
-}
-
 const FOREIGN: Result<(), Error> = Err(Error::ForeignMapping);
 
 /// A disk with nothing below it.
-fn alone(rt: &impl Abort, alloc: Global, size: u64, block: u64, fault: Fault) -> Image {
-    FormatAccess::new(created(rt, alloc, (size, block), PLAIN, fault))
-}
-
-/// Prepares a range once.
-fn prepare<D: FormatDriverInstance>(
+fn alone<D: FormatDriverInstance<Storage = Faulty, State = CowState> + Disk>(
     rt: &impl Abort,
     alloc: Global,
-    image: &mut FormatAccess<D>,
-    (offset, count): (u64, u64),
-    overwrite: bool,
-) -> Result<PreparedDataMapping<D::State>, Error> {
-    assert!(rt; is_spent(&*image));
-    image.prepare_data_mapping(alloc, offset, count, overwrite)
+    parts: (u64, u64),
+    fault: Fault,
+) -> FormatAccess<D> {
+    FormatAccess::new(created(rt, alloc, parts, PLAIN, fault))
 }
 
 /// Prepares a range. What is refused for memory is made again.
@@ -68,18 +44,6 @@ fn prepared<D: FormatDriverInstance>(
     }
 }
 
-/// Writes bytes over all of a mapping once.
-fn write_once<D: FormatDriverInstance>(
-    rt: &impl Abort,
-    alloc: Global,
-    image: &mut FormatAccess<D>,
-    mapping: &PreparedDataMapping<D::State>,
-    bytes: &[u8],
-) -> Result<(), Error> {
-    assert!(rt; bytes.len() as u64 <= mapping.length());
-    image.write_prepared(alloc, mapping, bytes, 0)
-}
-
 /// Writes equal bytes over all of a mapping.
 fn write_to<D: FormatDriverInstance>(
     rt: &impl Abort,
@@ -88,80 +52,50 @@ fn write_to<D: FormatDriverInstance>(
     mapping: &PreparedDataMapping<D::State>,
 ) -> Result<(), Error> {
     let bytes = equal(rt, alloc, mapping.length(), 0xee);
-    match write_once(rt, alloc, image, mapping, &bytes) {
-        Err(Error::Memory) => write_once(rt, alloc, image, mapping, &bytes),
+    match write_prepared(rt, alloc, image, mapping, &bytes, 0) {
+        Err(Error::Memory) => write_prepared(rt, alloc, image, mapping, &bytes, 0),
         other => other,
     }
 }
 
-fn commit<D: FormatDriverInstance>(
-    image: &mut FormatAccess<D>,
-    mapping: PreparedDataMapping<D::State>,
-) -> Result<(), Error> {
-    image.commit_data_mapping(mapping)
-}
-
-fn cancel<D: FormatDriverInstance>(
-    image: &mut FormatAccess<D>,
-    mapping: PreparedDataMapping<D::State>,
-) {
-    image.cancel_data_mapping(mapping);
-}
-
-/// The storage of a disk.
-fn storage_of<'a, D: FormatDriverInstance<Storage = Faulty>>(
-    rt: &impl Abort,
-    image: &'a FormatAccess<D>,
-) -> &'a Faulty {
-    image.inner().storage(0).expect(rt, "a storage")
-}
-
 /// How many guest blocks are in data blocks.
-fn used<D: FormatDriverInstance + Blocks>(image: &FormatAccess<D>) -> u64 {
+fn used<D: FormatDriverInstance<Storage = Faulty, State = CowState> + Disk>(
+    image: &FormatAccess<D>,
+) -> u64 {
     image.inner().used()
 }
 
 /// What is made on a disk and looked at.
 #[derive(Clone, Copy)]
-enum Promise {
+pub(super) enum Promise {
     /// A data block is added only where none is free.
     Blocks,
     /// A mapping that doesn't wait is refused by name.
     Strangers,
     /// So is a cancelled one.
     Cancelled,
-    /// A new disk has that size, block and count of blocks.
-    Created((u64, u64, u64)),
+    /// A new disk has its size, its block and its count of blocks.
+    Created,
     /// Zeroes of a whole guest block use no data.
-    Zeroed(&'static Zeroed),
-    /// All bytes are made the same.
-    Filled,
+    Zeroed,
     /// A list prepares and cancels.
     List,
 }
 
-/// Makes that on a disk. There is another one, in guest blocks of 16.
-fn keep<D: FormatDriverInstance<Storage = Faulty, State = CowState> + Blocks>(
+/// Makes that on disks.
+pub(super) fn keep<D: FormatDriverInstance<Storage = Faulty, State = CowState> + Disk>(
     rt: &impl Abort,
     alloc: Global,
-    (image, other): (&mut FormatAccess<D>, &mut FormatAccess<D>),
     promise: Promise,
 ) {
     match promise {
-        Promise::Blocks => act_on_each(rt, alloc, image, &ROWS),
-        Promise::Strangers => refuse_strangers(rt, alloc, image, other),
-        Promise::Cancelled => refuse_cancelled(rt, alloc, image),
-        Promise::Created(row) => is_created(rt, alloc, image, row),
-        Promise::Zeroed(row) => are_zeroed(rt, alloc, image, row),
-        Promise::Filled => fill(rt, alloc, image),
-        Promise::List => cancel_by_a_list(rt, alloc, image),
+        Promise::Blocks => act_on_each::<D>(rt, alloc),
+        Promise::Strangers => refuse_strangers::<D>(rt, alloc),
+        Promise::Cancelled => refuse_cancelled::<D>(rt, alloc),
+        Promise::Created => are_created::<D>(rt, alloc),
+        Promise::Zeroed => are_zeroed::<D>(rt, alloc),
+        Promise::List => cancel_by_a_list::<D>(rt, alloc),
     }
-}
-
-/// The same of copy-on-write disks, whose type is named here alone.
-fn check(rt: &impl Abort, alloc: Global, image: &mut Image, promise: Promise) {
-    let mut other = alone(rt, alloc, 64, 16, Fault::Never);
-    keep(rt, alloc, (image, &mut other), promise);
 }
 
 /// What is done with a range of a disk.
@@ -237,27 +171,21 @@ fn act_on<D: FormatDriverInstance>(
 }
 
 /// The rows on a disk.
-fn act_on_each<D: FormatDriverInstance<Storage = Faulty> + Blocks>(
+fn act_on_each<D: FormatDriverInstance<Storage = Faulty, State = CowState> + Disk>(
     rt: &impl Abort,
     alloc: Global,
-    image: &mut FormatAccess<D>,
-    rows: &[Row],
 ) {
-    for &(range, act, at, expected, length) in rows {
-        act_on(rt, alloc, image, (range, act), at);
-        assert_eq!(rt; used(&*image), expected);
-        assert_eq!(rt; storage_of(rt, &*image).as_bytes().len() as u64, length);
+    let mut image = alone::<D>(rt, alloc, (64, 16), Fault::Storage(0, Tear::All));
+    for &(range, act, at, expected, length) in &ROWS {
+        act_on(rt, alloc, &mut image, (range, act), at);
+        assert_eq!(rt; used(&image), expected);
+        assert_eq!(rt; storage_of(rt, &image).as_bytes().len() as u64, length);
     }
-}
-
-fn check_a_data_block_is_added_only_where_none_is_free(rt: &impl Abort, alloc: Global) {
-    let mut image = alone(rt, alloc, 64, 16, Fault::Storage(0, Tear::All));
-    check(rt, alloc, &mut image, Promise::Blocks);
 }
 
 #[test]
 fn a_data_block_is_added_only_where_none_is_free(rt: HostRuntime) {
-    check_a_data_block_is_added_only_where_none_is_free(&rt, rt.alloc());
+    try_cow(&rt, rt.alloc(), Trial::Promise(Promise::Blocks));
 }
 
 /// A mapping of bytes of a storage, with that state if there is one.
@@ -270,7 +198,21 @@ fn of_state(storage: usize, (offset, count): (u64, u64), state: Option<CowState>
 
 /// What a mapping holds.
 fn state_of(mapping: &Mapping) -> Option<CowState> {
-    mapping.state().copied()
+    match mapping.state() {
+        Some(state) => Some(*state),
+        None => None,
+    }
+}
+
+/// Equal bytes are written over all of a mapping, which is committed.
+fn are_written_and_committed<D: FormatDriverInstance>(
+    rt: &impl Abort,
+    alloc: Global,
+    image: &mut FormatAccess<D>,
+    mapping: PreparedDataMapping<D::State>,
+) {
+    assert_eq!(rt; write_to(rt, alloc, image, &mapping), Ok(()));
+    assert_eq!(rt; commit(image, mapping), Ok(()));
 }
 
 /// A write into the mapping is refused by name, and so is its commit where it has a state. A cancel
@@ -331,72 +273,59 @@ fn is_written_where_places_stand<D: FormatDriverInstance<State = CowState>>(
     is_foreign(rt, alloc, image, (0, (15, 2)), None);
     let shown = shown(rt, alloc, &*image);
     for (i, &byte) in shown.iter().enumerate() {
-        let is_written = matches!(i, 3..=6 | 9..=10);
-        assert_eq!(rt; byte == 0xee, is_written);
-        assert!(rt; is_written || byte == 0);
+        let is_written = (3 <= i && i <= 6) || (9 <= i && i <= 10);
+        assert_eq!(rt; byte, if is_written { 0xee } else { 0 });
     }
 }
 
 /// What one disk prepares is foreign to another one, and what it didn't prepare to itself.
-fn refuse_strangers<D: FormatDriverInstance<State = CowState> + Blocks>(
+fn refuse_strangers<D: FormatDriverInstance<Storage = Faulty, State = CowState> + Disk>(
     rt: &impl Abort,
     alloc: Global,
-    image: &mut FormatAccess<D>,
-    other: &mut FormatAccess<D>,
 ) {
-    let waiting = prepared_at(rt, alloc, image, (3, 4), false, 3);
+    let mut image = alone::<D>(rt, alloc, (64, 16), Fault::Never);
+    let mut other = alone::<D>(rt, alloc, (64, 16), Fault::Never);
+    let waiting = prepared_at(rt, alloc, &mut image, (3, 4), false, 3);
     let state = state_of(&waiting);
-    is_foreign(rt, alloc, other, (0, (3, 4)), state);
-    are_foreign(rt, alloc, image, state);
+    is_foreign(rt, alloc, &mut other, (0, (3, 4)), state);
+    are_foreign(rt, alloc, &mut image, state);
     // what waits has its data block already
-    assert_eq!(rt; used(&*image), 1);
-    assert_eq!(rt; write_to(rt, alloc, image, &waiting), Ok(()));
-    assert_eq!(rt; commit(image, waiting), Ok(()));
-    is_foreign(rt, alloc, image, (0, (3, 4)), state);
-    assert_eq!(rt; used(&*image), 1);
-    assert_eq!(rt; used(&*other), 0);
-    is_written_where_places_stand(rt, alloc, image);
-}
-
-fn check_a_mapping_that_does_not_wait_is_refused_by_name(rt: &impl Abort, alloc: Global) {
-    let mut image = alone(rt, alloc, 64, 16, Fault::Never);
-    check(rt, alloc, &mut image, Promise::Strangers);
+    assert_eq!(rt; used(&image), 1);
+    are_written_and_committed(rt, alloc, &mut image, waiting);
+    is_foreign(rt, alloc, &mut image, (0, (3, 4)), state);
+    assert_eq!(rt; used(&image), 1);
+    assert_eq!(rt; used(&other), 0);
+    is_written_where_places_stand(rt, alloc, &mut image);
 }
 
 #[test]
 fn a_mapping_that_does_not_wait_is_refused_by_name(rt: HostRuntime) {
-    check_a_mapping_that_does_not_wait_is_refused_by_name(&rt, rt.alloc());
+    try_cow(&rt, rt.alloc(), Trial::Promise(Promise::Strangers));
 }
 
 /// What a disk has cancelled is foreign to it.
-fn refuse_cancelled<D: FormatDriverInstance<State = CowState> + Blocks>(
+fn refuse_cancelled<D: FormatDriverInstance<Storage = Faulty, State = CowState> + Disk>(
     rt: &impl Abort,
     alloc: Global,
-    image: &mut FormatAccess<D>,
 ) {
-    let cancelled = prepared_at(rt, alloc, image, (3, 4), false, 3);
+    let mut image = alone::<D>(rt, alloc, (64, 16), Fault::Never);
+    let cancelled = prepared_at(rt, alloc, &mut image, (3, 4), false, 3);
     let state = state_of(&cancelled);
-    cancel(image, cancelled);
-    is_foreign(rt, alloc, image, (0, (3, 4)), state);
-    let waiting = prepared_at(rt, alloc, image, (3, 4), false, 3);
-    is_foreign(rt, alloc, image, (0, (3, 4)), state);
-    assert_eq!(rt; write_to(rt, alloc, image, &waiting), Ok(()));
-    assert_eq!(rt; commit(image, waiting), Ok(()));
-    on(rt, alloc, image, Call::DiscardToZero(0, 16));
-    is_foreign(rt, alloc, image, (0, (3, 4)), None);
-    assert_eq!(rt; used(&*image), 0);
-    let shown = shown(rt, alloc, &*image);
+    cancel(&mut image, cancelled);
+    is_foreign(rt, alloc, &mut image, (0, (3, 4)), state);
+    let waiting = prepared_at(rt, alloc, &mut image, (3, 4), false, 3);
+    is_foreign(rt, alloc, &mut image, (0, (3, 4)), state);
+    are_written_and_committed(rt, alloc, &mut image, waiting);
+    on(rt, alloc, &mut image, Call::DiscardToZero(0, 16));
+    is_foreign(rt, alloc, &mut image, (0, (3, 4)), None);
+    assert_eq!(rt; used(&image), 0);
+    let shown = shown(rt, alloc, &image);
     assert_eq!(rt; byte_at(&shown, 3), 0);
-}
-
-fn check_a_cancelled_mapping_is_refused_by_name(rt: &impl Abort, alloc: Global) {
-    let mut image = alone(rt, alloc, 64, 16, Fault::Never);
-    check(rt, alloc, &mut image, Promise::Cancelled);
 }
 
 #[test]
 fn a_cancelled_mapping_is_refused_by_name(rt: HostRuntime) {
-    check_a_cancelled_mapping_is_refused_by_name(&rt, rt.alloc());
+    try_cow(&rt, rt.alloc(), Trial::Promise(Promise::Cancelled));
 }
 
 /// A size, a guest block's length, and how many of them there are.
@@ -411,30 +340,33 @@ static CREATED: [(u64, u64, u64); 7] = [
 ];
 
 /// A new disk of that size, which is then written, has so many guest blocks.
-fn is_created<D: FormatDriverInstance + Blocks>(
+fn is_created<D: FormatDriverInstance<Storage = Faulty, State = CowState> + Disk>(
     rt: &impl Abort,
     alloc: Global,
-    image: &mut FormatAccess<D>,
     (size, block, count): (u64, u64, u64),
 ) {
+    let mut image = alone::<D>(rt, alloc, (size, block), Fault::Never);
     assert_eq!(rt; image.inner().block(), block);
-    assert!(rt; shown(rt, alloc, &*image) == equal(rt, alloc, size, 0));
-    assert_eq!(rt; used(&*image), 0);
-    on(rt, alloc, image, Call::Write(0, size, 1));
-    assert!(rt; shown(rt, alloc, &*image) == numbers(rt, alloc, size, 1));
-    assert_eq!(rt; used(&*image), count);
+    assert!(rt; shown(rt, alloc, &image) == equal(rt, alloc, size, 0));
+    assert_eq!(rt; used(&image), 0);
+    on(rt, alloc, &mut image, Call::Write(0, size, 1));
+    assert!(rt; shown(rt, alloc, &image) == numbers(rt, alloc, size, 1));
+    assert_eq!(rt; used(&image), count);
 }
 
-fn check_disks_of_any_size_are_created(rt: &impl Abort, alloc: Global) {
+/// So is each disk of the rows.
+fn are_created<D: FormatDriverInstance<Storage = Faulty, State = CowState> + Disk>(
+    rt: &impl Abort,
+    alloc: Global,
+) {
     for &row in &CREATED {
-        let mut image = alone(rt, alloc, row.0, row.1, Fault::Never);
-        check(rt, alloc, &mut image, Promise::Created(row));
+        is_created::<D>(rt, alloc, row);
     }
 }
 
 #[test]
 fn disks_of_any_size_are_created(rt: HostRuntime) {
-    check_disks_of_any_size_are_created(&rt, rt.alloc());
+    try_cow(&rt, rt.alloc(), Trial::Promise(Promise::Created));
 }
 
 /// A size and a guest block's length, the calls on the disk, what it is then from its beginning on,
@@ -471,31 +403,34 @@ static ZEROED: [Zeroed; 4] = [
 ];
 
 /// The calls of a row on its disk, and what that is then.
-fn are_zeroed<D: FormatDriverInstance + Blocks>(
+fn is_zeroed<D: FormatDriverInstance<Storage = Faulty, State = CowState> + Disk>(
     rt: &impl Abort,
     alloc: Global,
-    image: &mut FormatAccess<D>,
-    &((size, _), calls, (text, length), expected): &Zeroed,
+    &(parts, calls, (text, length), expected): &Zeroed,
 ) {
+    let mut image = alone::<D>(rt, alloc, parts, Fault::Never);
     for &call in calls {
-        on(rt, alloc, image, call);
+        on(rt, alloc, &mut image, call);
     }
-    let (mapping, count) = image.get_mapping(0, size).expect(rt, "a mapping");
-    assert_eq!(rt; printed(rt, alloc, &mapping).as_str(), text);
+    let (mapping, count) = told_mapping(rt, alloc, &image, (0, parts.0));
+    assert_eq!(rt; mapping.as_str(), text);
     assert_eq!(rt; count, length);
-    assert_eq!(rt; used(&*image), expected);
+    assert_eq!(rt; used(&image), expected);
 }
 
-fn check_zeroes_of_a_whole_guest_block_use_no_data(rt: &impl Abort, alloc: Global) {
+/// So is each disk of the rows.
+fn are_zeroed<D: FormatDriverInstance<Storage = Faulty, State = CowState> + Disk>(
+    rt: &impl Abort,
+    alloc: Global,
+) {
     for row in &ZEROED {
-        let mut image = alone(rt, alloc, row.0.0, row.0.1, Fault::Never);
-        check(rt, alloc, &mut image, Promise::Zeroed(row));
+        is_zeroed::<D>(rt, alloc, row);
     }
 }
 
 #[test]
 fn zeroes_of_a_whole_guest_block_use_no_data(rt: HostRuntime) {
-    check_zeroes_of_a_whole_guest_block_use_no_data(&rt, rt.alloc());
+    try_cow(&rt, rt.alloc(), Trial::Promise(Promise::Zeroed));
 }
 
 /// Runs a list that prepares the first guest block, writes a byte there, and cancels it. Answers
@@ -531,68 +466,55 @@ fn is_cancelled_by_a_list<D: FormatDriverInstance>(
     }
 }
 
-/// Writes bytes from a disk's begin on, once.
-fn write_from_begin<D: FormatDriverInstance>(
-    rt: &impl Abort,
-    alloc: Global,
-    image: &mut FormatAccess<D>,
-    bytes: &[u8],
-) -> Result<(), Error> {
-    assert!(rt; is_spent(&*image));
-    image.write(alloc, bytes, 0)
-}
-
 /// Writes equal bytes over all of a disk of 16.
 fn fill<D: FormatDriverInstance>(rt: &impl Abort, alloc: Global, image: &mut FormatAccess<D>) {
     let bytes = equal(rt, alloc, 16, 0x11);
-    let mut answer = write_from_begin(rt, alloc, image, &bytes);
+    let mut answer = write_at(rt, alloc, image, &bytes, 0);
     if answer == Err(Error::Memory) {
-        answer = write_from_begin(rt, alloc, image, &bytes);
+        answer = write_at(rt, alloc, image, &bytes, 0);
     }
     assert_eq!(rt; answer, Ok(()));
 }
 
 /// A disk of four guest blocks of 4, above one whose bytes are all the same, where there is memory
 /// for it.
-fn over_equal_bytes(rt: &impl Abort, alloc: Global) -> Option<Image> {
-    let mut lower = alone(rt, alloc, 16, 4, Fault::Never);
-    check(rt, alloc, &mut lower, Promise::Filled);
+fn over_equal_bytes<D: FormatDriverInstance<Storage = Faulty, State = CowState> + Disk>(
+    rt: &impl Abort,
+    alloc: Global,
+) -> Option<FormatAccess<D>> {
+    let mut lower = alone(rt, alloc, (16, 4), Fault::Never);
+    fill(rt, alloc, &mut lower);
     let below = Box::new(alloc, lower).ok()?;
     let driver = created(rt, alloc, (16, 4), PLAIN, Fault::Never);
     Some(above(rt, driver, Some(below)))
 }
 
 /// A list prepares and cancels on such a disk.
-fn cancel_by_a_list<D: FormatDriverInstance<Storage = Faulty> + Blocks>(
+fn cancel_by_a_list<D: FormatDriverInstance<Storage = Faulty, State = CowState> + Disk>(
     rt: &impl Abort,
     alloc: Global,
-    image: &mut FormatAccess<D>,
 ) {
-    if !is_cancelled_by_a_list(rt, alloc, image) {
-        assert!(rt; is_cancelled_by_a_list(rt, alloc, image));
+    let mut image = match over_equal_bytes::<D>(rt, alloc) {
+        Some(image) => image,
+        None => over_equal_bytes(rt, alloc).expect(rt, "memory for layers"),
+    };
+    if !is_cancelled_by_a_list(rt, alloc, &mut image) {
+        assert!(rt; is_cancelled_by_a_list(rt, alloc, &mut image));
     }
-    assert!(rt; shown(rt, alloc, &*image) == equal(rt, alloc, 16, 0x11));
-    assert_eq!(rt; used(&*image), 0);
+    assert!(rt; shown(rt, alloc, &image) == equal(rt, alloc, 16, 0x11));
+    assert_eq!(rt; used(&image), 0);
     // the data block is free again, with the byte that was written and those that were copied round
     // it
-    let stored = storage_of(rt, &*image).as_bytes();
+    let stored = storage_of(rt, &image).as_bytes();
     assert!(rt; stored.get(..5) == Some(&[0xff, 0x11, 0x11, 0x11, 0x99]));
-    on(rt, alloc, image, Call::Write(0, 1, 1));
-    assert_eq!(rt; used(&*image), 1);
-    let shown = shown(rt, alloc, &*image);
+    on(rt, alloc, &mut image, Call::Write(0, 1, 1));
+    assert_eq!(rt; used(&image), 1);
+    let shown = shown(rt, alloc, &image);
     assert_eq!(rt; byte_at(&shown, 0), 1);
     assert_eq!(rt; byte_at(&shown, 1), 0x11);
 }
 
-fn check_a_list_prepares_and_cancels(rt: &impl Abort, alloc: Global) {
-    let mut image = match over_equal_bytes(rt, alloc) {
-        Some(image) => image,
-        None => over_equal_bytes(rt, alloc).expect(rt, "memory for layers"),
-    };
-    check(rt, alloc, &mut image, Promise::List);
-}
-
 #[test]
 fn a_list_prepares_and_cancels(rt: HostRuntime) {
-    check_a_list_prepares_and_cancels(&rt, rt.alloc());
+    try_cow(&rt, rt.alloc(), Trial::Promise(Promise::List));
 }

@@ -2,8 +2,10 @@
 use super::call::{Call, InSteps, Level, Step};
 use super::model::in_block;
 use super::run::Run;
-use super::subject::{Fault, PLAIN};
-use imago_drivers::drivers::PreallocateMode;
+use super::subject::{Disk, Fault, LentDriver, PLAIN};
+use super::trial::{Trial, try_cow};
+use imago_drivers::drivers::{FormatDriverInstance, PreallocateMode};
+use imago_test_storages::faulty::Faulty;
 use std::alloc::Global;
 use std::process::Abort;
 
@@ -83,9 +85,12 @@ impl Numbers {
 }
 
 /// Makes calls that follow from a first number.
-fn follow(rt: &impl Abort, alloc: Global, state: u64) {
+pub(super) fn follow<
+    D: FormatDriverInstance<Storage = Faulty> + Disk,
+    E: FormatDriverInstance<Storage = Faulty> + LentDriver,
+>(rt: &impl Abort, alloc: Global, state: u64) {
     let mut numbers = Numbers { state };
-    let mut run = Run::open(rt, alloc, SIZE, PLAIN, Fault::Never);
+    let mut run = Run::<D, E>::open(rt, alloc, SIZE, PLAIN, Fault::Never);
     for _ in 0..CALLS {
         let level = match numbers.next(2) {
             0 => Level::Image,
@@ -99,5 +104,5 @@ fn follow(rt: &impl Abort, alloc: Global, state: u64) {
 
 #[test]
 fn a_thousand_calls_are_followed(rt: HostRuntime) {
-    follow(&rt, rt.alloc(), 7);
+    try_cow(&rt, rt.alloc(), Trial::Random(7));
 }

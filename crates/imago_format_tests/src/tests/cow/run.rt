@@ -1,8 +1,10 @@
 //! A disk beside what it has to show.
 use super::call::{Answer, Call, Level, Step};
 use super::model::Model;
-use super::subject::{Fault, Form, Subject, first_model, longest};
+use super::subject::{Disk, Fault, Form, LentDriver, Subject, first_model, longest};
+use imago_drivers::drivers::FormatDriverInstance;
 use imago_storage::error::Error;
+use imago_test_storages::faulty::Faulty;
 use std::alloc::Global;
 use std::process::Abort;
 
@@ -10,8 +12,8 @@ pub(super) const MEMORY: Answer = Answer::Refused(Error::Memory);
 
 /// A disk, what it has to show, and where it is stored.
 #[derive(Drop)]
-pub(super) struct Run {
-    pub(super) subject: Subject,
+pub(super) struct Run<D, E> {
+    pub(super) subject: Subject<D, E>,
     pub(super) model: Model,
     form: Form,
 }
@@ -21,7 +23,10 @@ pub(super) fn is_refusal(answer: Answer) -> bool {
     matches!(answer, Answer::Refused(_))
 }
 
-impl Run {
+impl<
+    D: FormatDriverInstance<Storage = Faulty> + Disk,
+    E: FormatDriverInstance<Storage = Faulty> + LentDriver,
+> Run<D, E> {
     /// Makes a call once, and compares what it leaves.
     pub(super) fn step(&mut self, rt: &impl Abort, alloc: Global, step: Step) -> Answer {
         let answer = self.subject.make(rt, alloc, step);
@@ -73,7 +78,13 @@ impl Run {
     }
 
     /// A disk of that size above the layer.
-    pub(super) fn open(rt: &impl Abort, alloc: Global, size: u64, form: Form, fault: Fault) -> Run {
+    pub(super) fn open(
+        rt: &impl Abort,
+        alloc: Global,
+        size: u64,
+        form: Form,
+        fault: Fault,
+    ) -> Self {
         Run {
             subject: Subject::open(rt, alloc, size, form, fault),
             model: first_model(rt, alloc, size),

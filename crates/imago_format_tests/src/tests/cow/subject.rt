@@ -1,5 +1,4 @@
-//! The disks that the tests are made on. Each function names the types of one, so that the proofs
-//! of the tests stay short.
+//! The disks that the tests are made on.
 use super::call::{Answer, Call, Kind, Level, Step, kinds, make_lent, on, shown};
 use super::model::{BLOCK, Model};
 use super::set_up::{equal, numbers};
@@ -9,17 +8,60 @@ use imago_drivers::drivers::{FormatDriverInstance, PreallocateMode};
 use imago_drivers::raw::Raw;
 use imago_storage::error::Error;
 use imago_storage::mem::MemStorage;
-use imago_storage::storage::{Storage, is_alignment};
+use imago_storage::storage::is_alignment;
 use imago_test_storages::faulty::{Faulty, Tear};
 use std::alloc::Global;
 use std::mem::replace;
 use std::process::Abort;
 
-/// A copy-on-write disk, above others or alone.
-pub(super) type Image = FormatAccess<Cow<Faulty>>;
+/// A driver of disks in guest blocks, over a storage that fails when it is told to.
+pub(super) trait Disk {
+    /// A disk of that size in blocks, where there is memory for its table.
+    fn create(
+        rt: &impl Abort,
+        alloc: Global,
+        storage: Faulty,
+        parts: (u64, u64),
+    ) -> Result<Self, Error>;
 
-/// A layer that a driver is lent.
-pub(super) type Lent = FormatAccess<Raw<Faulty>>;
+    /// The length of a guest block.
+    fn block(&self) -> u64;
+
+    /// How many guest blocks are in data blocks.
+    fn used(&self) -> u64;
+}
+
+impl Disk for Cow<Faulty> {
+    fn create(
+        rt: &impl Abort,
+        alloc: Global,
+        storage: Faulty,
+        (size, block): (u64, u64),
+    ) -> Result<Self, Error> {
+        assert!(rt; block.is_power_of_two() && block <= 1_048_576);
+        Cow::create(alloc, storage, size, block)
+    }
+
+    fn block(&self) -> u64 {
+        self.block_size()
+    }
+
+    fn used(&self) -> u64 {
+        self.blocks_used()
+    }
+}
+
+/// A driver of images that other drivers are lent.
+pub(super) trait LentDriver {
+    /// The image in a storage, which may not be written.
+    fn open(rt: &impl Abort, storage: Faulty) -> Self;
+}
+
+impl LentDriver for Raw<Faulty> {
+    fn open(rt: &impl Abort, storage: Faulty) -> Self {
+        Raw::open_image(storage, false).expect(rt, "a raw image")
+    }
+}
 
 /// The first of the bytes of the layer below. They differ from offset to offset, and none is zero.
 const LOWER: u8 = 150;
@@ -47,12 +89,12 @@ pub(super) enum Fault {
     Below,
 }
 
-/// A disk above another one, and a raw image with the bytes of that one, which the driver is lent.
+/// A disk above another one, and an image with the bytes of that one, which the driver is lent.
 #[derive(Drop)]
-pub(super) struct Subject {
-    image: Image,
-    lent: Lent,
-    /// The layer below fails, and so does the raw image.
+pub(super) struct Subject<D, E> {
+    image: FormatAccess<D>,
+    lent: FormatAccess<E>,
+    /// The layer below fails, and so does the lent image.
     fails: bool,
 }
 
@@ -72,41 +114,38 @@ fn device(rt: &impl Abort, alloc: Global, form: Form, fault: Fault) -> Faulty {
 /// The simplest storage.
 pub(super) const PLAIN: Form = Form { align: 1 };
 
-/// A disk of that size in blocks, where there is memory for its table.
-fn on_storage(
-    rt: &impl Abort,
-    alloc: Global,
-    storage: Faulty,
-    (size, block): (u64, u64),
-) -> Result<Cow<Faulty>, Error> {
-    assert!(rt; block.is_power_of_two() && block <= 1_048_576);
-    Cow::create(alloc, storage, size, block)
-}
-
-/// The same, over a storage that fails at that call.
-pub(super) fn created(
+/// A disk of that size in blocks, over a storage that fails at that call.
+pub(super) fn created<D: FormatDriverInstance<Storage = Faulty> + Disk>(
     rt: &impl Abort,
     alloc: Global,
     parts: (u64, u64),
     form: Form,
     fault: Fault,
-) -> Cow<Faulty> {
-    match on_storage(rt, alloc, device(rt, alloc, form, fault), parts) {
+) -> D {
+    match D::create(rt, alloc, device(rt, alloc, form, fault), parts) {
         Ok(driver) => driver,
         Err(_) => {
             let storage = device(rt, alloc, form, fault);
-            on_storage(rt, alloc, storage, parts).expect(rt, "memory for a table")
+            D::create(rt, alloc, storage, parts).expect(rt, "memory for a table")
         }
     }
 }
 
 /// A driver above an image.
-pub(super) fn above(rt: &impl Abort, driver: Cow<Faulty>, below: Option<Box<Image>>) -> Image {
+pub(super) fn above<D: FormatDriverInstance>(
+    rt: &impl Abort,
+    driver: D,
+    below: Option<Box<FormatAccess<D>>>,
+) -> FormatAccess<D> {
     FormatAccess::with_backing(driver, below.expect(rt, "memory for a layer"))
 }
 
 /// The layer below, all of it in data blocks. Each read of it fails, or none.
-fn lower(rt: &impl Abort, alloc: Global, fails: bool) -> Image {
+fn lower<D: FormatDriverInstance<Storage = Faulty> + Disk>(
+    rt: &impl Abort,
+    alloc: Global,
+    fails: bool,
+) -> FormatAccess<D> {
     let fault = if fails { Fault::Below } else { Fault::Never };
     let driver = created(rt, alloc, (LOWER_SIZE, BLOCK), PLAIN, fault);
     let mut image = FormatAccess::new(driver);
@@ -115,27 +154,34 @@ fn lower(rt: &impl Abort, alloc: Global, fails: bool) -> Image {
 }
 
 /// The layer below, where there is memory for it.
-fn boxed_lower(rt: &impl Abort, alloc: Global, fails: bool) -> Option<Box<Image>> {
+fn boxed_lower<D: FormatDriverInstance<Storage = Faulty> + Disk>(
+    rt: &impl Abort,
+    alloc: Global,
+    fails: bool,
+) -> Option<Box<FormatAccess<D>>> {
     match Box::new(alloc, lower(rt, alloc, fails)) {
         Ok(below) => Some(below),
         Err(_) => Box::new(alloc, lower(rt, alloc, fails)).ok(),
     }
 }
 
-/// A raw image with the bytes of the layer below. Each read of it fails, or none.
-pub(super) fn lent(rt: &impl Abort, alloc: Global, fails: bool) -> Lent {
+/// An image with the bytes of the layer below, which a driver is lent. Each read of it fails, or
+/// none.
+fn lent<E: FormatDriverInstance<Storage = Faulty> + LentDriver>(
+    rt: &impl Abort,
+    alloc: Global,
+    fails: bool,
+) -> FormatAccess<E> {
     let bytes = numbers(rt, alloc, LOWER_SIZE, LOWER);
     let mut storage = Faulty::new(MemStorage::new(bytes));
     storage.fail_reads(fails);
-    raw_of(rt, storage)
+    FormatAccess::new(E::open(rt, storage))
 }
 
-/// The raw image in a storage, which may not be written.
-fn raw_of<S: Storage>(rt: &impl Abort, storage: S) -> FormatAccess<Raw<S>> {
-    FormatAccess::new(Raw::open_image(storage, false).expect(rt, "a raw image"))
-}
-
-impl Subject {
+impl<
+    D: FormatDriverInstance<Storage = Faulty> + Disk,
+    E: FormatDriverInstance<Storage = Faulty> + LentDriver,
+> Subject<D, E> {
     /// A disk of that size above the layer, over a storage that fails at that call.
     pub(super) fn open(
         rt: &impl Abort,
@@ -143,7 +189,7 @@ impl Subject {
         size: u64,
         form: Form,
         fault: Fault,
-    ) -> Subject {
+    ) -> Self {
         let fault = match fault {
             Fault::Below => Fault::Never,
             other => other,
@@ -170,22 +216,22 @@ impl Subject {
 
     /// Makes a call once.
     pub(super) fn make(&mut self, rt: &impl Abort, alloc: Global, step: Step) -> Answer {
-        make_on(rt, alloc, &mut self.image, &self.lent, step)
+        make_lent(rt, alloc, &mut self.image, &self.lent, step)
     }
 
     /// The bytes of the disk.
     pub(super) fn contents(&self, rt: &impl Abort, alloc: Global) -> Vec<u8> {
-        contents_of(rt, alloc, &self.image)
+        shown(rt, alloc, &self.image)
     }
 
     /// What its guest blocks are.
     pub(super) fn kinds(&self, rt: &impl Abort, alloc: Global) -> Vec<Kind> {
-        kinds_of(rt, alloc, &self.image)
+        kinds(rt, alloc, self.image.inner(), BLOCK)
     }
 
     /// How many data blocks are used.
     pub(super) fn used(&self) -> u64 {
-        self.image.inner().blocks_used()
+        self.image.inner().used()
     }
 
     /// The length of the disk's storage.
@@ -198,11 +244,11 @@ impl Subject {
         storage_of(rt, &self.image).faults()
     }
 
-    /// The bytes of the layer below, which the raw image has too.
+    /// The bytes of the layer below, which the lent image has too.
     pub(super) fn below(&self, rt: &impl Abort, alloc: Global) -> Vec<u8> {
-        let below = contents_of(rt, alloc, self.image.backing().expect(rt, "a layer below"));
+        let below = shown(rt, alloc, self.image.backing().expect(rt, "a layer below"));
         assert!(rt;
-            lent_storage(rt, &self.lent).as_bytes() == below.as_slice(),
+            storage_of(rt, &self.lent).as_bytes() == below.as_slice(),
             "the lent layer has changed"
         );
         below
@@ -231,24 +277,10 @@ pub(super) fn longest(model: &Model, form: Form) -> u64 {
         .max(OLD_LENGTH)
 }
 
-/// The storage of a disk.
-fn storage_of<'a>(rt: &impl Abort, image: &'a Image) -> &'a Faulty {
+/// The storage of an image.
+pub(super) fn storage_of<'a, D: FormatDriverInstance<Storage = Faulty>>(
+    rt: &impl Abort,
+    image: &'a FormatAccess<D>,
+) -> &'a Faulty {
     image.inner().storage(0).expect(rt, "a storage")
-}
-
-/// The storage of a raw image.
-fn lent_storage<'a>(rt: &impl Abort, image: &'a Lent) -> &'a Faulty {
-    image.inner().storage(0).expect(rt, "a storage")
-}
-
-fn make_on(rt: &impl Abort, alloc: Global, image: &mut Image, lent: &Lent, step: Step) -> Answer {
-    make_lent(rt, alloc, image, lent, step)
-}
-
-pub(super) fn contents_of(rt: &impl Abort, alloc: Global, image: &Image) -> Vec<u8> {
-    shown(rt, alloc, image)
-}
-
-fn kinds_of(rt: &impl Abort, alloc: Global, image: &Image) -> Vec<Kind> {
-    kinds(rt, alloc, image.inner(), BLOCK)
 }

@@ -4,10 +4,11 @@
 //! A new call is a row of `RANGES` or `SIZES`.
 use super::call::{Answer, Call, InSteps, Level, Step};
 use super::run::{MEMORY, Run, is_refusal};
-use super::subject::{Fault, Form, PLAIN, Subject};
-use imago_drivers::drivers::PreallocateMode;
+use super::subject::{Disk, Fault, Form, LentDriver, PLAIN, Subject};
+use super::trial::{Trial, try_cow};
+use imago_drivers::drivers::{FormatDriverInstance, PreallocateMode};
 use imago_storage::error::Error;
-use imago_test_storages::faulty::Tear;
+use imago_test_storages::faulty::{Faulty, Tear};
 use std::alloc::Global;
 use std::process::Abort;
 
@@ -59,7 +60,7 @@ macro_rules! in_steps {
 }
 
 /// A call, and one that is made before.
-type Row = (Call, Call);
+pub(super) type Row = (Call, Call);
 
 /// The calls on ranges that an image has and a driver too.
 static RANGES: [Row; 17] = [
@@ -125,7 +126,10 @@ static USES: [Call; 3] = [
 
 /// A disk on which what is done first has been done, and then that call, where there was memory for
 /// it.
-fn begun(rt: &impl Abort, alloc: Global, form: Form, fault: Fault, before: Call) -> Option<Run> {
+fn begun<
+    D: FormatDriverInstance<Storage = Faulty> + Disk,
+    E: FormatDriverInstance<Storage = Faulty> + LentDriver,
+>(rt: &impl Abort, alloc: Global, form: Form, fault: Fault, before: Call) -> Option<Run<D, E>> {
     let mut run = Run::open(rt, alloc, SIZE, form, fault);
     for &call in &FIRST {
         if !run.begin(rt, alloc, call) {
@@ -142,7 +146,10 @@ fn begun(rt: &impl Abort, alloc: Global, form: Form, fault: Fault, before: Call)
 }
 
 /// Such a disk.
-fn opened(rt: &impl Abort, alloc: Global, form: Form, fault: Fault, before: Call) -> Run {
+fn opened<
+    D: FormatDriverInstance<Storage = Faulty> + Disk,
+    E: FormatDriverInstance<Storage = Faulty> + LentDriver,
+>(rt: &impl Abort, alloc: Global, form: Form, fault: Fault, before: Call) -> Run<D, E> {
     match begun(rt, alloc, form, fault, before) {
         Some(run) => run,
         None => begun(rt, alloc, form, fault, before).expect(rt, "memory for a disk"),
@@ -150,9 +157,12 @@ fn opened(rt: &impl Abort, alloc: Global, form: Form, fault: Fault, before: Call
 }
 
 /// How often the disk's storage fails in what is done first, where there is memory for it.
-fn failures(rt: &impl Abort, alloc: Global, form: Form, pass: u64) -> Option<u64> {
+fn failures<
+    D: FormatDriverInstance<Storage = Faulty> + Disk,
+    E: FormatDriverInstance<Storage = Faulty> + LentDriver,
+>(rt: &impl Abort, alloc: Global, form: Form, pass: u64) -> Option<u64> {
     let fault = Fault::Storage(pass, Tear::Nothing);
-    let mut subject = Subject::open(rt, alloc, SIZE, form, fault);
+    let mut subject = Subject::<D, E>::open(rt, alloc, SIZE, form, fault);
     for &call in &FIRST {
         if subject.make(rt, alloc, (Level::Image, call)) == MEMORY {
             return None;
@@ -162,11 +172,14 @@ fn failures(rt: &impl Abort, alloc: Global, form: Form, pass: u64) -> Option<u64
 }
 
 /// How many calls what is done first makes of the disk's storage.
-fn made_first(rt: &impl Abort, alloc: Global, form: Form) -> u64 {
+fn made_first<
+    D: FormatDriverInstance<Storage = Faulty> + Disk,
+    E: FormatDriverInstance<Storage = Faulty> + LentDriver,
+>(rt: &impl Abort, alloc: Global, form: Form) -> u64 {
     for pass in 0..LIMIT {
-        let failed = match failures(rt, alloc, form, pass) {
+        let failed = match failures::<D, E>(rt, alloc, form, pass) {
             Some(failed) => failed,
-            None => failures(rt, alloc, form, pass).expect(rt, "memory for a disk"),
+            None => failures::<D, E>(rt, alloc, form, pass).expect(rt, "memory for a disk"),
         };
         if failed == 0 {
             return pass;
@@ -177,14 +190,11 @@ fn made_first(rt: &impl Abort, alloc: Global, form: Form) -> u64 {
 
 /// Makes a call that a fault is waiting for, and answers whether it met the fault. The disk is used
 /// on then.
-fn is_refused(
-    rt: &impl Abort,
-    alloc: Global,
-    form: Form,
-    (before, step): (Call, Step),
-    fault: Fault,
-) -> bool {
-    let mut run = opened(rt, alloc, form, fault, before);
+fn is_refused<
+    D: FormatDriverInstance<Storage = Faulty> + Disk,
+    E: FormatDriverInstance<Storage = Faulty> + LentDriver,
+>(rt: &impl Abort, alloc: Global, form: Form, (before, step): (Call, Step), fault: Fault) -> bool {
+    let mut run = opened::<D, E>(rt, alloc, form, fault, before);
     let mut answer = run.step(rt, alloc, step);
     if answer == MEMORY {
         run = opened(rt, alloc, form, fault, before);
@@ -202,24 +212,30 @@ fn is_refused(
 }
 
 /// Makes a call with a failure at each call of the storage, until it meets none.
-fn sweep_row(rt: &impl Abort, alloc: Global, form: Form, row: (Call, Step), first: u64) {
+fn sweep_row<
+    D: FormatDriverInstance<Storage = Faulty> + Disk,
+    E: FormatDriverInstance<Storage = Faulty> + LentDriver,
+>(rt: &impl Abort, alloc: Global, form: Form, row: (Call, Step), first: u64) {
     for &tear in &TEARS {
         for pass in first..LIMIT {
-            if !is_refused(rt, alloc, form, row, Fault::Storage(pass, tear)) {
+            if !is_refused::<D, E>(rt, alloc, form, row, Fault::Storage(pass, tear)) {
                 break;
             }
             assert!(rt; pass < LIMIT - 1, "it fails without an end");
         }
     }
-    is_refused(rt, alloc, form, row, Fault::Below);
+    is_refused::<D, E>(rt, alloc, form, row, Fault::Below);
 }
 
 /// The same of each of the rows, over storages with that alignment.
-fn sweep(rt: &impl Abort, alloc: Global, level: Level, align: usize, rows: &[Row]) {
+pub(super) fn sweep<
+    D: FormatDriverInstance<Storage = Faulty> + Disk,
+    E: FormatDriverInstance<Storage = Faulty> + LentDriver,
+>(rt: &impl Abort, alloc: Global, (level, align): (Level, usize), rows: &[Row]) {
     let form = Form { align };
-    let first = made_first(rt, alloc, form);
+    let first = made_first::<D, E>(rt, alloc, form);
     for &(before, call) in rows {
-        sweep_row(rt, alloc, form, (before, (level, call)), first);
+        sweep_row::<D, E>(rt, alloc, form, (before, (level, call)), first);
     }
 }
 
@@ -228,44 +244,52 @@ static ALIGNS: [usize; 3] = [8, 64, 512];
 
 #[test]
 fn calls_of_an_image_on_ranges_fail_anywhere(rt: HostRuntime) {
-    sweep(&rt, rt.alloc(), Level::Image, 1, &RANGES);
+    try_cow(&rt, rt.alloc(), Trial::Sweep((Level::Image, 1), &RANGES));
 }
 
 #[test]
 fn calls_of_an_image_in_long_requests_fail_anywhere(rt: HostRuntime) {
     for &align in &ALIGNS {
-        sweep(&rt, rt.alloc(), Level::Image, align, &RANGES);
+        try_cow(
+            &rt,
+            rt.alloc(),
+            Trial::Sweep((Level::Image, align), &RANGES),
+        );
     }
 }
 
 #[test]
 fn calls_of_a_driver_on_ranges_fail_anywhere(rt: HostRuntime) {
-    sweep(&rt, rt.alloc(), Level::Driver, 1, &RANGES);
+    try_cow(&rt, rt.alloc(), Trial::Sweep((Level::Driver, 1), &RANGES));
 }
 
 #[test]
 fn calls_of_a_driver_in_long_requests_fail_anywhere(rt: HostRuntime) {
     for &align in &ALIGNS {
-        sweep(&rt, rt.alloc(), Level::Driver, align, &RANGES);
+        try_cow(
+            &rt,
+            rt.alloc(),
+            Trial::Sweep((Level::Driver, align), &RANGES),
+        );
     }
 }
 
 #[test]
 fn resizes_of_an_image_fail_anywhere(rt: HostRuntime) {
     for &align in &ALIGNS {
-        sweep(&rt, rt.alloc(), Level::Image, align, &SIZES);
+        try_cow(&rt, rt.alloc(), Trial::Sweep((Level::Image, align), &SIZES));
     }
 }
 
 #[test]
 fn resizes_of_a_driver_fail_anywhere(rt: HostRuntime) {
-    sweep(&rt, rt.alloc(), Level::Driver, 1, &SIZES);
+    try_cow(&rt, rt.alloc(), Trial::Sweep((Level::Driver, 1), &SIZES));
 }
 
 #[test]
 fn more_calls_of_an_image_fail_anywhere(rt: HostRuntime) {
     for &align in &ALIGNS {
-        sweep(&rt, rt.alloc(), Level::Image, align, &MORE);
+        try_cow(&rt, rt.alloc(), Trial::Sweep((Level::Image, align), &MORE));
     }
 }
 
@@ -289,15 +313,22 @@ static READS_NOTHING: [Row; 4] = [
     (NONE, in_steps!(20, false, true)),
 ];
 
-#[test]
-fn a_layer_below_that_fails_is_told(rt: HostRuntime) {
-    let alloc = rt.alloc();
+/// Calls are refused where the layer below fails, if they read it.
+pub(super) fn fail_below<
+    D: FormatDriverInstance<Storage = Faulty> + Disk,
+    E: FormatDriverInstance<Storage = Faulty> + LentDriver,
+>(rt: &impl Abort, alloc: Global) {
     for &(before, call) in &READS {
         let row = (before, (Level::Image, call));
-        assert!(&rt; is_refused(&rt, alloc, PLAIN, row, Fault::Below));
+        assert!(rt; is_refused::<D, E>(rt, alloc, PLAIN, row, Fault::Below));
     }
     for &(before, call) in &READS_NOTHING {
         let row = (before, (Level::Image, call));
-        assert!(&rt; !is_refused(&rt, alloc, PLAIN, row, Fault::Below));
+        assert!(rt; !is_refused::<D, E>(rt, alloc, PLAIN, row, Fault::Below));
     }
+}
+
+#[test]
+fn a_layer_below_that_fails_is_told(rt: HostRuntime) {
+    try_cow(&rt, rt.alloc(), Trial::Below);
 }
