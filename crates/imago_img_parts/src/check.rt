@@ -6,8 +6,8 @@ use crate::failure::Failure;
 use crate::host::Host;
 use crate::opened::{Opening, format_of};
 use crate::qcow2::{qcow2_file, qcow2_head};
-use crate::qcow2_header::tell_header;
 use crate::text::{ImageFormat, descriptor_text, file_status, read_start};
+use imago_qcow2::fault::HeaderFault;
 use imago_qcow2::layout::l1_table;
 use imago_storage::error::Error;
 use imago_vmdk::descriptor::{self, Descriptor};
@@ -66,13 +66,30 @@ fn check_qcow2<H: Host, W: Write>(
     output: &mut W,
 ) -> Result<u64, Failure> {
     let head = qcow2_head(host, path)?;
-    if l1_table(&head, length).is_err() {
-        return tell_header(path, &head, length, output).map_err(Failure::Output);
+    if let Err(fault) = l1_table(&head, length) {
+        return tell_header(path, fault, output).map_err(Failure::Output);
     }
     let file = qcow2_file(host, path, length)?;
     let alloc = host.alloc();
     let runs = Failure::or_image(alloc, path, cluster_runs(alloc, &file.image, file.cluster))?;
     tell_faults(alloc, path, &runs, length, output)
+}
+
+/// Tells what is wrong with a header, each feature by itself, and how many faults that is.
+fn tell_header<W: Write>(path: &str, fault: HeaderFault, output: &mut W) -> io::Result<u64> {
+    let HeaderFault::Features(features) = fault else {
+        writeln!(output, "{path:?}: {fault}")?;
+        return Ok(1);
+    };
+    let mut faults: u64 = 0;
+    for bit in 0..64 {
+        let feature = features & 1 << bit;
+        if feature != 0 {
+            writeln!(output, "{path:?}: {}", HeaderFault::Features(feature))?;
+            faults = faults.saturating_add(1);
+        }
+    }
+    Ok(faults)
 }
 
 /// Tells the faults of a descriptor, and how many there are.

@@ -1,8 +1,8 @@
 //! Why a command isn't done.
 ghost use Rattle.std.specs.Prelude.{◌≡◌, MatchResult, IsErr};
 
-use crate::qcow2_header::HeaderFault;
 use imago_loaded::loaded::LoadError;
+use imago_qcow2::fault::HeaderFault;
 use imago_storage::error;
 use std::alloc::{AllocError, AllocFailed, Global};
 use std::io;
@@ -141,6 +141,7 @@ impl Failure {
     pub fn of_load(alloc: Global, path: &str, cause: LoadError) -> Failure {
         match cause {
             LoadError::Image(cause) => Failure::of_file(alloc, path, Reason::Image(cause)),
+            LoadError::Header(fault) => Failure::of_file(alloc, path, Reason::Header(fault)),
             LoadError::Io(cause) => Failure::of_file(alloc, path, Reason::System(cause)),
         }
     }

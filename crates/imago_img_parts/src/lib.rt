@@ -22,7 +22,6 @@ mod map;
 mod opened;
 mod progress;
 mod qcow2;
-mod qcow2_header;
 mod qcow2_info;
 pub mod run;
 mod sources;

@@ -8,16 +8,14 @@ ghost use Rattle.imago_loaded.specs.Tables.{HaveSameStart};
 use crate::failure::{Failure, Reason};
 use crate::host::Host;
 use crate::opened::storage_paths;
-use crate::qcow2_header::header_fault;
 use crate::sources::FileSources;
 use crate::text::read_start;
 use imago_access::access::FormatAccess;
-use imago_loaded::loaded::{LoadError, LoadedFile};
+use imago_loaded::loaded::LoadedFile;
 use imago_loaded::tables::load_tables;
 use imago_plan::piece::Location;
 use imago_qcow2::layout::{L1Table, l1_table};
 use imago_qcow2::qcow2::Qcow2;
-use imago_storage::error::Error;
 use std::alloc::Global;
 
 /// A qcow2 file by itself, without what is below it.
@@ -44,27 +42,7 @@ fn table_of(alloc: Global, path: &str, head: &[u8; 112], count: u64) -> Result<L
 {
     match l1_table(head, count) {
         Ok(table) => Ok(table),
-        Err(_) => {
-            let fault = header_fault(head, count);
-            Err(Failure::of_file(alloc, path, Reason::Header(fault)))
-        }
-    }
-}
-
-/// Why a file of that length isn't loaded: what is wrong with its header, where that is why.
-fn not_loaded<H: Host>(host: &H, path: &str, count: u64, cause: LoadError) -> Failure {
-    if !matches!(
-        cause,
-        LoadError::Image(Error::InvalidData | Error::Unsupported)
-    ) {
-        return Failure::of_load(host.alloc(), path, cause);
-    }
-    match qcow2_head(host, path) {
-        Ok(head) => {
-            let fault = header_fault(&head, count);
-            Failure::of_file(host.alloc(), path, Reason::Header(fault))
-        }
-        Err(failure) => failure,
+        Err(fault) => Err(Failure::of_file(alloc, path, Reason::Header(fault))),
     }
 }
 
@@ -86,7 +64,7 @@ pub fn loaded_file<H: Host>(host: &H, path: &str, count: u64) -> Result<LoadedFi
     };
     match load_tables(host.alloc(), &sources, file, count) {
         Ok(loaded) => Ok(loaded),
-        Err(cause) => Err(not_loaded(host, path, count, cause)),
+        Err(cause) => Err(Failure::of_load(host.alloc(), path, cause)),
     }
 }
 

@@ -10,6 +10,7 @@ ghost use Rattle.imago_loaded.specs.Features.{loaded_features, loaded_lawful};
 
 use imago_plan::copy::Sources;
 use imago_plan::piece::Location;
+use imago_qcow2::fault::HeaderFault;
 use imago_storage::error::Error;
 use imago_storage::storage::{
     PreallocateMode, Storage, StorageCreateOptions, StorageOpenOptions, ZeroKind,
@@ -22,9 +23,12 @@ use thiserror::Error;
 /// Why a part of a file isn't loaded.
 #[derive(Debug, Drop, Error)]
 pub enum LoadError {
-    /// There is no memory, or the file isn't of the format.
+    /// There is no memory, or a part passes the greatest offset.
     #[error("{0}")]
     Image(Error),
+    /// The header of a qcow2 file is refused.
+    #[error("{0}")]
+    Header(HeaderFault),
     /// The source refused.
     #[error("{0}")]
     Io(io::Error),
@@ -33,6 +37,12 @@ pub enum LoadError {
 impl From<Error> for LoadError {
     fn from(error: Error) -> LoadError {
         LoadError::Image(error)
+    }
+}
+
+impl From<HeaderFault> for LoadError {
+    fn from(fault: HeaderFault) -> LoadError {
+        LoadError::Header(fault)
     }
 }
 

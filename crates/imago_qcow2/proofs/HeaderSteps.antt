@@ -1,7 +1,6 @@
 -- The headers of two lists of bytes that begin alike.
-use Rattle.std.proofs.Common.{◌≡◌, ℕ, ◌+◌, ◌<◌, ◌≤◌, ◌⊎◌, inl, List, length, Result, Ok, Err, refl, sym, ap, ◌∙◌, arith}
-use Rattle.std.specs.Prelude.{slice_index, IfOk, IfErr}
-use Rattle.imago_storage.specs.declared.error.Error.{Error}
+use Rattle.std.proofs.Common.{◌≡◌, ℕ, ◌+◌, ◌<◌, ◌≤◌, List, length, refl, ap, ◌∙◌, arith}
+use Rattle.std.specs.Prelude.{slice_index}
 use Rattle.imago_storage.specs.Bytes.{IsReadAt}
 use Rattle.imago_qcow2.specs.declared.header.Header.{Header}
 use Rattle.imago_qcow2.specs.Numbers.{be32, be64}
@@ -56,18 +55,6 @@ module _ (bytes head : List ℕ) (same : (i : ℕ) → i < 112 → slice_index h
     inside = s.inside;
     covers = s.covers;
   }
-
-  pub sound_ok : (file : ℕ) (x : Result Header Error) → IfOk x (λ h. IsSound head file h) → IfOk x (λ h. IsSound bytes file h)
-  sound_ok file (Ok h) s = sound_same file h s
-  sound_ok file (Err e) s = tt
-
-pub is_ok : (x y : Result Header Error) → x ≡ y → IfOk x (λ h. y ≡ Ok h)
-is_ok (Ok h) y e = sym e
-is_ok (Err r) y e = tt
-
-pub is_err : (P : Error → Type 0) (x y : Result Header Error) → x ≡ y → IfErr x (λ r. (y ≡ Err r) ⊎ P r)
-is_err P (Ok h) y e = tt
-is_err P (Err r) y e = inl (sym e)
 
 -- what was read of a file's begin begins like it
 pub head_same : (bytes head : List ℕ) → IsReadAt bytes 0 head → 112 ≤ length head → (i : ℕ) → i < 112 → slice_index head i ≡ slice_index bytes i

@@ -1,5 +1,6 @@
 pub mod Numbers
 pub mod Entry
+pub mod Fault
 pub mod Header
 pub mod Tables
 pub mod Backing

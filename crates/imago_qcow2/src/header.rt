@@ -1,12 +1,13 @@
 //! The header of an image's file.
 ghost use Rattle.std.specs.Prelude.{◌≡◌, ◌≤◌, ◌<◌, ◌^◌, ◌+◌, ◌*◌, ◌/◌, length, OnOk, IfOk};
 ghost use Rattle.imago_qcow2.specs.Numbers.{be32, be64};
+ghost use Rattle.imago_qcow2.specs.Fault.{answer_of};
 ghost use Rattle.imago_qcow2.specs.Header.{features_of, own_length, magic_fault, support_fault};
 ghost use Rattle.imago_qcow2.specs.Header.{added_fault, bounds_fault, table_fault, size_fault};
 ghost use Rattle.imago_qcow2.specs.Header.{name_fault, header_of, IsSound};
 
+use crate::fault::HeaderFault;
 use crate::number::{number32, number64};
-use imago_storage::error::Error;
 
 /// How many bytes of the file's start are looked at as its header.
 pub(crate) const HEADER: usize = 112;
@@ -33,12 +34,12 @@ pub struct Header {
 
 /// Whether a file of that length, which begins so, is no qcow2 image.
 #[tactic(auto, unfolding(crate::specs::Header::magic_fault))]
-fn check_magic(head: &[u8], file: u64) -> Result<(), Error>
+fn check_magic(head: &[u8], file: u64) -> Result<(), HeaderFault>
     requires { 112 ≤ length head.now }
-    ensures { result ≡ magic_fault head.now file }
+    ensures { answer_of result ≡ magic_fault head.now file }
 {
     if file < 72 || number32(head, 0) != 1363560955 {
-        return Err(Error::InvalidData);
+        return Err(HeaderFault::NoImage);
     }
     Ok(())
 }
@@ -71,86 +72,95 @@ fn own_length_of(head: &[u8]) -> u32
 /// incompatible feature but bit 0, that the image wasn't closed, and bit 3, that compressed
 /// clusters aren't deflated.
 #[tactic(auto, unfolding(crate::specs::Header::support_fault))]
-fn check_support(head: &[u8]) -> Result<(), Error>
+fn check_support(head: &[u8]) -> Result<(), HeaderFault>
     requires { 112 ≤ length head.now }
-    ensures fault { result ≡ support_fault head.now }
+    ensures fault { answer_of result ≡ support_fault head.now }
 {
     let version = number32(head, 4);
-    if version < 2 || version > 3 || number32(head, 32) != 0 {
-        return Err(Error::Unsupported);
+    if version < 2 || version > 3 {
+        return Err(HeaderFault::Version(version));
+    }
+    if number32(head, 32) != 0 {
+        return Err(HeaderFault::Encryption);
     }
     let features = features(head);
     if features > 15 || features / 2 % 4 != 0 {
-        return Err(Error::Unsupported);
+        return Err(HeaderFault::Features(features & !9));
     }
     Ok(())
 }
 
 /// Which of the numbers that version 3 adds is out of bounds.
 #[tactic(auto, unfolding(crate::specs::Header::added_fault))]
-fn check_added(head: &[u8], cluster: u64) -> Result<(), Error>
+fn check_added(head: &[u8], cluster: u64) -> Result<(), HeaderFault>
     requires { 112 ≤ length head.now }
-    ensures { result ≡ added_fault head.now cluster }
+    ensures { answer_of result ≡ added_fault head.now cluster }
 {
     if number32(head, 4) < 3 {
         return Ok(());
     }
     let own = number32(head, 100);
-    if own < 104 || own % 8 != 0 || own as u64 > cluster || number32(head, 96) > 6 {
-        return Err(Error::InvalidData);
+    if own < 104 || own % 8 != 0 || own as u64 > cluster {
+        return Err(HeaderFault::OwnLength);
+    }
+    if number32(head, 96) > 6 {
+        return Err(HeaderFault::RefcountWidth);
     }
     let compression = if own > 104 { head[104] } else { 0 };
     if (compression == 0) != (number64(head, 72) < 8) {
-        return Err(Error::InvalidData);
+        return Err(HeaderFault::Compression);
     }
     Ok(())
 }
 
 /// Whether a cluster's length is out of bounds.
 #[tactic(auto, unfolding(crate::specs::Header::bounds_fault))]
-fn check_bounds(head: &[u8]) -> Result<(), Error>
+fn check_bounds(head: &[u8]) -> Result<(), HeaderFault>
     requires { 112 ≤ length head.now }
-    ensures fault { result ≡ bounds_fault head.now }
+    ensures fault { answer_of result ≡ bounds_fault head.now }
     ensures least { OnOk result (9 ≤ be32 head.now 20) }
     ensures most { OnOk result (be32 head.now 20 ≤ 21) }
 {
     let bits = number32(head, 20);
     if bits < 9 || bits > 21 {
-        return Err(Error::InvalidData);
+        return Err(HeaderFault::ClusterBits(bits));
     }
     Ok(())
 }
 
 /// Whether the L1 table isn't on a cluster's bounds, or not in the file.
 #[tactic(auto, unfolding(crate::specs::Header::table_fault))]
-fn check_table(head: &[u8], file: u64, cluster: u64) -> Result<(), Error>
+fn check_table(head: &[u8], file: u64, cluster: u64) -> Result<(), HeaderFault>
     requires len { 112 ≤ length head.now }
     requires positive { 512 ≤ cluster }
-    ensures fault { result ≡ table_fault head.now file cluster }
+    ensures fault { answer_of result ≡ table_fault head.now file cluster }
     ensures inside { OnOk result (be64 head.now 40 + be32 head.now 36 * 8 ≤ file) }
 {
     let start = number64(head, 40);
     let count = number32(head, 36) as u64;
-    if start % cluster != 0 || file < count * 8 || file - count * 8 < start {
-        return Err(Error::InvalidData);
+    if start % cluster != 0 {
+        return Err(HeaderFault::UnevenTable);
+    }
+    if file < count * 8 || file - count * 8 < start {
+        return Err(HeaderFault::TableBehindEnd);
     }
     Ok(())
 }
 
 /// Whether the L1 table has too few entries for the disk.
 #[tactic(auto, unfolding(crate::specs::Header::size_fault))]
-fn check_size(head: &[u8], cluster: u64) -> Result<(), Error>
+fn check_size(head: &[u8], cluster: u64) -> Result<(), HeaderFault>
     requires len { 112 ≤ length head.now }
     requires positive { 512 ≤ cluster }
     requires most { cluster ≤ 2097152 }
-    ensures fault { result ≡ size_fault head.now cluster }
+    ensures fault { answer_of result ≡ size_fault head.now cluster }
     ensures covers { OnOk result (be64 head.now 24 ≤ be32 head.now 36 * (cluster / 8 * cluster)) }
 {
     let size = number64(head, 24);
     let count = number32(head, 36) as u64;
     if let Some(most) = count.checked_mul(cluster / 8 * cluster) {
         if most < size {
-            return Err(Error::InvalidData);
+            return Err(HeaderFault::ShortTable);
         }
     }
     Ok(())
@@ -158,9 +168,9 @@ fn check_size(head: &[u8], cluster: u64) -> Result<(), Error>
 
 /// Whether there is a name of a backing file that is too long, or not in the first cluster.
 #[tactic(auto, unfolding(crate::specs::Header::name_fault))]
-fn check_name(head: &[u8], cluster: u64) -> Result<(), Error>
+fn check_name(head: &[u8], cluster: u64) -> Result<(), HeaderFault>
     requires len { 112 ≤ length head.now }
-    ensures { result ≡ name_fault head.now cluster }
+    ensures { answer_of result ≡ name_fault head.now cluster }
 {
     let name = number64(head, 8);
     let count = number32(head, 16) as u64;
@@ -168,7 +178,7 @@ fn check_name(head: &[u8], cluster: u64) -> Result<(), Error>
         return Ok(());
     }
     if count > 1023 || name > cluster || count > cluster - name {
-        return Err(Error::InvalidData);
+        return Err(HeaderFault::BackingName);
     }
     Ok(())
 }
@@ -186,9 +196,9 @@ pub(crate) fn cluster_of_bits(bits: u32) -> u64
 
 /// What the header of a file of that length says, or its first fault.
 #[tactic(auto, unfolding(crate::specs::Header::header_of))]
-pub(crate) fn read_header(head: &[u8], file: u64) -> Result<Header, Error>
+pub(crate) fn read_header(head: &[u8], file: u64) -> Result<Header, HeaderFault>
     requires { 112 ≤ length head.now }
-    ensures header { result ≡ header_of head.now file }
+    ensures header { answer_of result ≡ header_of head.now file }
     ensures sound { IfOk result (λ h. IsSound head.now file h) }
 {
     check_magic(head, file)?;

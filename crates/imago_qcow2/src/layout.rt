@@ -1,14 +1,15 @@
 //! Where the tables of an image lie in its file: for who keeps these alone in memory.
 ghost use Rattle.std.specs.Prelude.{◌≡◌, ℕ, ◌+◌, ◌*◌, ◌^◌, ◌<◌, ◌≤◌, length, IfOk, IfErr, Err};
 ghost use Rattle.imago_qcow2.specs.Numbers.{be64};
+ghost use Rattle.imago_qcow2.specs.Fault.{error_of};
 ghost use Rattle.imago_qcow2.specs.Header.{header_of};
 ghost use Rattle.imago_qcow2.specs.Entry.{cluster_length, l1_start, table_in_entry};
 ghost use Rattle.imago_qcow2.specs.Opening.{table_count};
 
 use crate::entry::{L2Table, table_in};
+use crate::fault::HeaderFault;
 use crate::header::{cluster_of_bits, read_header};
 use crate::number::number64;
-use imago_storage::error::Error;
 
 /// The L1 table of a file, as far as the disk needs it.
 #[derive(Clone, Copy, Debug, PartialEq, Eq)]
@@ -22,9 +23,9 @@ pub struct L1Table {
 }
 
 /// Where the L1 table of a file of that length lies, by the first 112 bytes of the file, with 0
-/// past its end. What the header is refused for is what [`open`](crate::qcow2::Qcow2::open_image)
-/// refuses it for.
-pub fn l1_table(head: &[u8], file: u64) -> Result<L1Table, Error>
+/// past its end. The fault of a header is the one for which
+/// [`open_image`](crate::qcow2::Qcow2::open_image) refuses it.
+pub fn l1_table(head: &[u8], file: u64) -> Result<L1Table, HeaderFault>
     requires { 112 ≤ length head.now }
     ensures start { IfOk result (λ t. t.start ≡ l1_start head.now) }
     ensures count { IfOk result (λ t. t.count ≡ table_count head.now) }
@@ -32,7 +33,7 @@ pub fn l1_table(head: &[u8], file: u64) -> Result<L1Table, Error>
     ensures least { IfOk result (λ t. 512 ≤ t.cluster) }
     ensures most { IfOk result (λ t. t.cluster ≤ 2097152) }
     ensures inside { IfOk result (λ t. t.start + 8 * t.count ≤ file) }
-    ensures refused { IfErr result (λ e. header_of head.now file ≡ Err e) }
+    ensures refused { IfErr result (λ f. header_of head.now file ≡ Err (error_of f)) }
 {
     let header = read_header(head, file)?;
     let cluster = cluster_of_bits(header.cluster_bits);

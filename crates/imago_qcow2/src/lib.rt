@@ -1,11 +1,12 @@
 //! The driver of qcow2 images of versions 2 and 3, read-only.
 //!
-//! [`qcow2`] has the driver, [`header`] what a file's header says, [`entry`] what the entries of its
-//! tables say, and [`number`] the numbers that both are made of.
+//! [`qcow2`] has the driver, [`header`] what a file's header says, [`fault`] why one is refused,
+//! [`entry`] what the entries of its tables say, and [`number`] the numbers that these are made of.
 #![tactic(auto)]
 
 mod backing;
 pub mod entry;
+pub mod fault;
 pub mod header;
 pub mod laws;
 pub mod layout;

@@ -80,7 +80,10 @@ fn header_in<S: Storage>(storage: &S, alloc: Global, file: u64) -> Result<Header
 {
     let mut head = [0u8; HEADER];
     storage.read(alloc, &mut head, 0)?;
-    read_header(&head, file)
+    match read_header(&head, file) {
+        Ok(header) => Ok(header),
+        Err(fault) => Err(fault.error()),
+    }
 }
 
 /// Whether a storage has the magic number, and a version that is known.

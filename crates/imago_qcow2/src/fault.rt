@@ -1,0 +1,96 @@
+//! Why the header of a file is refused.
+ghost use Rattle.std.specs.Prelude.{◌≡◌};
+ghost use Rattle.imago_qcow2.specs.Fault.{error_of};
+
+use imago_storage::error;
+use thiserror::Error;
+
+/// Why the header of a file is refused.
+#[derive(Clone, Copy, Debug, PartialEq, Eq, Error)]
+pub enum HeaderFault {
+    /// The file is too short for one, or begins otherwise.
+    #[error("no qcow2 image begins so")]
+    NoImage,
+    /// Another version than 2 and 3.
+    #[error("the header says version {0}, which isn't supported")]
+    Version(u32),
+    /// Any encryption.
+    #[error("the header says encryption, which isn't supported")]
+    Encryption,
+    /// Incompatible features that aren't supported, each by its bit. The lowest one is told.
+    #[error("the header says {feature}, which isn't supported", feature = lowest(*.0))]
+    Features(u64),
+    /// A cluster of less than 512 bytes or more than 2 MiB, by the base 2 logarithm.
+    #[error("the header says clusters of 2^{0} bytes, which can't be meant")]
+    ClusterBits(u32),
+    /// Its own length.
+    #[error("the header's own length can't be meant")]
+    OwnLength,
+    /// How many bits a reference count has.
+    #[error("the header's width of reference counts can't be meant")]
+    RefcountWidth,
+    /// How clusters are compressed.
+    #[error("the header's kind of compression can't be meant")]
+    Compression,
+    /// A name that is too long, or behind the first cluster.
+    #[error("the header's name of a backing file passes its room")]
+    BackingName,
+    /// An L1 table that hasn't an entry for each L2 table of the disk.
+    #[error("the header says an L1 table that is too short for the disk")]
+    ShortTable,
+    /// An L1 table that isn't at a cluster's start.
+    #[error("the header says an L1 table that doesn't begin at a cluster's start")]
+    UnevenTable,
+    /// An L1 table that isn't in the file.
+    #[error("the header says an L1 table that passes the file's end")]
+    TableBehindEnd,
+}
+
+/// An incompatible feature that isn't supported.
+#[derive(Clone, Copy, Debug, PartialEq, Eq, Error)]
+enum Feature {
+    /// The image is marked as corrupt.
+    #[error("corrupt")]
+    Corrupt,
+    /// The data stand in a file of their own.
+    #[error("external data file")]
+    ExternalData,
+    /// L2 entries have subclusters.
+    #[error("extended L2 entries")]
+    ExtendedEntries,
+    /// One that has no name, by its bit.
+    #[error("unknown bit {0}")]
+    Unknown(u32),
+}
+
+/// The feature of the lowest bit that is set.
+fn lowest(features: u64) -> Feature {
+    match features.trailing_zeros() {
+        1 => Feature::Corrupt,
+        2 => Feature::ExternalData,
+        4 => Feature::ExtendedEntries,
+        bit => Feature::Unknown(bit),
+    }
+}
+
+impl HeaderFault {
+    /// What the image's opening answers for this fault.
+    pub fn error(self) -> error::Error
+        ensures { result ≡ error_of self }
+    {
+        match self {
+            HeaderFault::Version(_) | HeaderFault::Encryption | HeaderFault::Features(_) => {
+                error::Error::Unsupported
+            }
+            HeaderFault::NoImage
+            | HeaderFault::ClusterBits(_)
+            | HeaderFault::OwnLength
+            | HeaderFault::RefcountWidth
+            | HeaderFault::Compression
+            | HeaderFault::BackingName
+            | HeaderFault::ShortTable
+            | HeaderFault::UnevenTable
+            | HeaderFault::TableBehindEnd => error::Error::InvalidData,
+        }
+    }
+}
