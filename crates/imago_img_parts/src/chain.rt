@@ -34,9 +34,9 @@ const MOST: usize = 199;
 
 /// An image above others.
 #[derive(Drop)]
-struct Chain {
-    /// The image, of which only headers and tables are in memory.
-    image: FormatAccess<AnyDriver<LoadedFile>>,
+struct Chain<D: FormatDriverInstance> {
+    /// The image.
+    image: FormatAccess<D>,
     /// The files of its layers' storages, those of the top one first.
     paths: Vec<String>,
 }
@@ -214,12 +214,12 @@ fn image_over<D: FormatDriverInstance>(
 }
 
 /// A layer above others.
-fn over(
+fn over<D: FormatDriverInstance>(
     alloc: Global,
     path: &str,
-    driver: AnyDriver<LoadedFile>,
-    below: Chain,
-) -> Result<Chain, AllocError>
+    driver: D,
+    below: Chain<D>,
+) -> Result<Chain<D>, AllocError>
     ensures paths { IfOk result (λ chain. map string_bytes chain.paths.items
         ≡ path.now ∷ map string_bytes below.paths.items) }
     ensures driver { IfOk result (λ chain. driver_of chain.image ≡ driver) }
@@ -233,7 +233,8 @@ fn over(
     })
 }
 
-/// The chain that begins with a file, and goes on with at most so many.
+/// The chain that begins with a file, and goes on with at most so many. Only headers and tables are
+/// in memory.
 fn chain_from<H: Host>(
     host: &H,
     path: &str,
@@ -241,7 +242,7 @@ fn chain_from<H: Host>(
     how: Opening,
     way: &mut Way,
     most: usize,
-) -> Result<Chain, Failure>
+) -> Result<Chain<AnyDriver<LoadedFile>>, Failure>
     ensures { IfOk result (λ chain. IfSome (H.contents host.now)
         (λ files. ShowsLayers ⟦<AnyDriver<LoadedFile> as FormatDriverInstance>⟧.view
         how.strict how.allow_outside files path.now format chain.image
@@ -273,7 +274,11 @@ fn chain_from<H: Host>(
 }
 
 /// The chain that begins with a qcow2 file.
-fn chain_of<H: Host>(host: &H, path: &str, how: Opening) -> Result<Chain, Failure>
+fn chain_of<H: Host>(
+    host: &H,
+    path: &str,
+    how: Opening,
+) -> Result<Chain<AnyDriver<LoadedFile>>, Failure>
     ensures { IfOk result (λ chain. IfSome (H.contents host.now)
         (λ files. ShowsLayers ⟦<AnyDriver<LoadedFile> as FormatDriverInstance>⟧.view
         how.strict how.allow_outside files path.now ImageFormat.Qcow2 chain.image

@@ -82,7 +82,7 @@ fn tell_header<W: Write>(path: &str, fault: HeaderFault, output: &mut W) -> io::
         return Ok(1);
     };
     let mut faults: u64 = 0;
-    for bit in 0..64 {
+    for bit in 0..64u32 {
         let feature = features & 1 << bit;
         if feature != 0 {
             writeln!(output, "{path:?}: {}", HeaderFault::Features(feature))?;

@@ -16,13 +16,14 @@ use imago_loaded::tables::load_tables;
 use imago_plan::piece::Location;
 use imago_qcow2::layout::{L1Table, l1_table};
 use imago_qcow2::qcow2::Qcow2;
+use imago_storage::storage::Storage;
 use std::alloc::Global;
 
 /// A qcow2 file by itself, without what is below it.
 #[derive(Drop)]
-pub struct Qcow2File {
+pub struct Qcow2File<S: Storage> {
     /// The image, with nothing below.
-    pub image: FormatAccess<Qcow2<LoadedFile>>,
+    pub image: FormatAccess<Qcow2<S>>,
     /// The first bytes of the file.
     pub head: [u8; 112],
     /// How many bytes a cluster has.
@@ -83,7 +84,11 @@ pub fn qcow2_driver<H: Host>(host: &H, path: &str, count: u64) -> Result<Qcow2<L
 }
 
 /// A qcow2 file of that length by itself.
-pub fn qcow2_file<H: Host>(host: &H, path: &str, count: u64) -> Result<Qcow2File, Failure>
+pub fn qcow2_file<H: Host>(
+    host: &H,
+    path: &str,
+    count: u64,
+) -> Result<Qcow2File<LoadedFile>, Failure>
     ensures { IfOk result (λ file. 512 ≤ file.cluster) }
 {
     let head = qcow2_head(host, path)?;

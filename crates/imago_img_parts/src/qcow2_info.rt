@@ -100,8 +100,11 @@ fn format_name_below<S: Storage>(
 }
 
 /// What a file says of the one below it.
-fn names_below(alloc: Global, path: &str, file: &Qcow2File) -> Result<NamesBelow, Failure> {
-    let image = file.image.inner();
+fn names_below<S: Storage>(
+    alloc: Global,
+    path: &str,
+    image: &Qcow2<S>,
+) -> Result<NamesBelow, Failure> {
     Ok(NamesBelow {
         name: name_below(alloc, path, image)?,
         format: format_name_below(alloc, path, image)?,
@@ -126,7 +129,11 @@ fn counts_of<D: FormatDriverInstance>(
 }
 
 /// Tells what a file is.
-fn report_of(alloc: Global, path: &str, file: &Qcow2File) -> Result<Qcow2Report, Failure>
+fn report_of<S: Storage>(
+    alloc: Global,
+    path: &str,
+    file: &Qcow2File<S>,
+) -> Result<Qcow2Report, Failure>
     requires { 512 ≤ file.now.cluster }
 {
     let counts = counts_of(alloc, path, &file.image, file.cluster)?;
@@ -135,7 +142,7 @@ fn report_of(alloc: Global, path: &str, file: &Qcow2File) -> Result<Qcow2Report,
         head: file.head,
         cluster: file.cluster,
         counts,
-        below: names_below(alloc, path, file)?,
+        below: names_below(alloc, path, file.image.inner())?,
     })
 }
 
