@@ -31,8 +31,8 @@ IsDiskOf strict files path Qcow2 disk =
     × AreLayers strict allow files path Qcow2 paths layers
     × (values_from (layers_value layers) 0 (disk_size (files path)) ≡ map Byte disk)
 
--- the image of a path has that disk, opened as the format that was said, or else as the one that its
--- first bytes tell
+-- the image of a path has that disk, opened as the format that was said, or else as the one that
+-- its first bytes tell
 abbrev pub HasDisk :
     Bool → Option ImageFormat → (List ℕ → List ℕ) → List ℕ → List ℕ → Type 0
 HasDisk strict said files path disk =

@@ -1,5 +1,5 @@
-use Rattle.std.specs.Prelude.{◌≡◌, ℕ, ◌<◌, ◌⊎◌, Bool, true, false, not, List, [], ◌∷◌, Option, Some, None, map}
-use Rattle.std.specs.Prelude.{length, Ok}
+use Rattle.std.specs.Prelude.{◌≡◌, ℕ, ◌<◌, ◌⊎◌, Bool, true, false, not, List, [], ◌∷◌, map}
+use Rattle.std.specs.Prelude.{Option, Some, None, length, Ok}
 use Rattle.imago_drivers.specs.Place.{Place, Value, Byte, shown}
 use Rattle.imago_drivers.specs.Raw.{raw_place}
 use Rattle.imago_drivers.specs.View.{View}

@@ -27,7 +27,8 @@ struct L1Entries<'a> {
 /// Loads what the driver of qcow2 images looks at: the first cluster of a file of that length, its
 /// L1 table, and its L2 tables. The location names the file, and no offset in it.
 ///
-/// [`LoadError::Header`] is a header that the driver refuses too, and [`LoadError::Image`] no memory.
+/// [`LoadError::Header`] is a header that the driver refuses too, and [`LoadError::Image`] no
+/// memory.
 pub fn load_tables<S: Sources>(
     alloc: Global,
     sources: &S,

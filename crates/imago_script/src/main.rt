@@ -1,4 +1,5 @@
-//! The program `imago-script`: it reads commands on disk images from its standard input, and prints a line for each.
+//! The program `imago-script`: it reads commands on disk images from its standard input, and prints
+//! a line for each.
 #![tactic(auto)]
 
 #[cfg(test)]

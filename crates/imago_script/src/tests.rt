@@ -20,8 +20,9 @@ fn outcome(alloc: Global, mut text: &[u8]) -> (u8, Vec<u8>) {
 /// The line that tells of refused memory.
 const NO_MEMORY: &[u8] = b"err OutOfMemory\n";
 
-/// Whether a script told that memory was refused. Where it ended for that, this is its last line, behind those that it was to
-/// print. Where the output itself had no room, it can't be told there: the output is a beginning of what was to be printed.
+/// Whether a script told that memory was refused. Where it ended for that, this is its last line,
+/// behind those that it was to print. Where the output itself had no room, it can't be told there:
+/// the output is a beginning of what was to be printed.
 fn ran_out(status: u8, output: &[u8], printed: &[u8]) -> bool {
     if status == 1 {
         if printed.starts_with(output) {
@@ -39,7 +40,8 @@ fn ran_out(status: u8, output: &[u8], printed: &[u8]) -> bool {
 
 /// A script prints that, and ends with that status.
 ///
-/// A test's run refuses one request for memory at most. So a script that ran out of it runs again, and has its memory then.
+/// A test's run refuses one request for memory at most. So a script that ran out of it runs again,
+/// and has its memory then.
 fn check(rt: &(impl Abort + AllocGlobal), text: &[u8], printed: &str, status: u8) {
     let (got, output) = outcome(rt.alloc(), text);
     if got == status && output.as_slice() == printed.as_bytes() {

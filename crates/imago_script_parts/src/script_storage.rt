@@ -42,11 +42,13 @@ impl Storage for ScriptStorage {
 
     ghost features = { by_kind ⟦<MemStorage as Storage>⟧.features ⟦<Null as Storage>⟧.features };
 
-    ghost fault_count = { by_kind ⟦<MemStorage as Storage>⟧.fault_count ⟦<Null as Storage>⟧.fault_count };
+    ghost fault_count = { by_kind ⟦<MemStorage as Storage>⟧.fault_count
+        ⟦<Null as Storage>⟧.fault_count };
 
     ghost work = { by_kind ⟦<MemStorage as Storage>⟧.work ⟦<Null as Storage>⟧.work };
 
-    ghost maintenance = { maintenance_by_kind ⟦<MemStorage as Storage>⟧.maintenance ⟦<Null as Storage>⟧.maintenance };
+    ghost maintenance = { maintenance_by_kind ⟦<MemStorage as Storage>⟧.maintenance
+        ⟦<Null as Storage>⟧.maintenance };
 
     ghost openings = { no_openings };
 

@@ -32,7 +32,8 @@ pub struct Session {
     storages: NamedGate<ScriptStorage>,
     image: Option<Image>,
     ghost spent: { ForSome image
-        (λ i. (⟦<AnyDriver<ScriptStorage> as FormatDriverInstance>⟧.view (driver i)).pending ≡ None) },
+        (λ i. (⟦<AnyDriver<ScriptStorage> as FormatDriverInstance>⟧.view (driver i)).pending
+        ≡ None) },
 }
 
 impl Session {

@@ -126,9 +126,13 @@ impl<S: Storage> FormatDriverInstance for Choppy<S> {
           × (b.cut ≡ a.cut) × (b.is_granular ≡ a.is_granular);
       invalidated = λ a b r. ⟦<Raw<S> as FormatDriverInstance>⟧.calls.invalidated a.raw b.raw r
           × (b.cut ≡ a.cut) × (b.is_granular ≡ a.is_granular);
-      discarded_to_any = λ o n a b r. of_part ⟦<Raw<S> as FormatDriverInstance>⟧.calls.discarded_to_any o n a.raw b.raw r × (b.cut ≡ a.cut)
+      discarded_to_any = λ o n a b r. of_part
+          ⟦<Raw<S> as FormatDriverInstance>⟧.calls.discarded_to_any o n a.raw b.raw r
+          × (b.cut ≡ a.cut)
           × (b.is_granular ≡ a.is_granular);
-      discarded_to_backing = λ o n a b r. of_part ⟦<Raw<S> as FormatDriverInstance>⟧.calls.discarded_to_backing o n a.raw b.raw r × (b.cut ≡ a.cut)
+      discarded_to_backing = λ o n a b r. of_part
+          ⟦<Raw<S> as FormatDriverInstance>⟧.calls.discarded_to_backing o n a.raw b.raw r
+          × (b.cut ≡ a.cut)
           × (b.is_granular ≡ a.is_granular);
     } };
 

@@ -56,9 +56,15 @@ impl<S: Storage> FormatDriverInstance for TestDriver<S> {
     ghost probe_reasons = { ⟦<Raw<S> as FormatDriverInstance>⟧.probe_reasons };
 
     ghost calls = { record any_calls {
-      flushed = by_driver ⟦<Raw<S> as FormatDriverInstance>⟧.calls.flushed ⟦<Choppy<S> as FormatDriverInstance>⟧.calls.flushed ⟦<Pattern as FormatDriverInstance>⟧.calls.flushed;
-      synced = by_driver ⟦<Raw<S> as FormatDriverInstance>⟧.calls.synced ⟦<Choppy<S> as FormatDriverInstance>⟧.calls.synced ⟦<Pattern as FormatDriverInstance>⟧.calls.synced;
-      invalidated = by_driver ⟦<Raw<S> as FormatDriverInstance>⟧.calls.invalidated ⟦<Choppy<S> as FormatDriverInstance>⟧.calls.invalidated ⟦<Pattern as FormatDriverInstance>⟧.calls.invalidated;
+      flushed = by_driver ⟦<Raw<S> as FormatDriverInstance>⟧.calls.flushed
+          ⟦<Choppy<S> as FormatDriverInstance>⟧.calls.flushed
+          ⟦<Pattern as FormatDriverInstance>⟧.calls.flushed;
+      synced = by_driver ⟦<Raw<S> as FormatDriverInstance>⟧.calls.synced
+          ⟦<Choppy<S> as FormatDriverInstance>⟧.calls.synced
+          ⟦<Pattern as FormatDriverInstance>⟧.calls.synced;
+      invalidated = by_driver ⟦<Raw<S> as FormatDriverInstance>⟧.calls.invalidated
+          ⟦<Choppy<S> as FormatDriverInstance>⟧.calls.invalidated
+          ⟦<Pattern as FormatDriverInstance>⟧.calls.invalidated;
       discarded_to_any = λ o n. by_driver
           (⟦<Raw<S> as FormatDriverInstance>⟧.calls.discarded_to_any o n)
           (⟦<Choppy<S> as FormatDriverInstance>⟧.calls.discarded_to_any o n)

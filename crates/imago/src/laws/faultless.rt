@@ -1,5 +1,5 @@
-//! Which calls of raw images succeed over storages whose devices never fail. Each function makes the
-//! call of [`FormatAccess`] that it is named for; what lies below the image doesn't matter. The
+//! Which calls of raw images succeed over storages whose devices never fail. Each function makes
+//! the call of [`FormatAccess`] that it is named for; what lies below the image doesn't matter. The
 //! modules beside this one say it of their own storages.
 ghost use Rattle.std.specs.Prelude.{◌≡◌, ◌+◌, ◌≤◌, ◌<◌, ◌^◌, true, length, IsOk};
 ghost use Rattle.imago_storage.specs.Features.{InPlace, MayRunOut};

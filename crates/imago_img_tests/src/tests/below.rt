@@ -266,7 +266,8 @@ static FORMATS: [Row; 8] = [
         "map says_none_of_sparse.qcow2",
         1,
         "",
-        "imago-img: \"sparse.raw\": a sparse VMDK image, which isn't supported; -f raw takes its bytes as they are\n",
+        "imago-img: \"sparse.raw\": a sparse VMDK image, which isn't supported; -f raw takes its \
+         bytes as they are\n",
     ),
     (
         "compare -f qcow2 says_none_of_raw.qcow2 says_raw.qcow2",
@@ -288,7 +289,8 @@ static NAMELESS: [Row; 2] = [
     (
         "info nameless.qcow2",
         0,
-        "image: \"nameless.qcow2\"\nformat: qcow2\nsize: 2048 bytes\nversion: 2\ncluster: 512 bytes\n\
+        "image: \"nameless.qcow2\"\nformat: qcow2\nsize: 2048 bytes\nversion: 2\n\
+         cluster: 512 bytes\n\
         data: 0 of 4 clusters\n",
         "",
     ),
@@ -311,11 +313,16 @@ static ABOVE_VMDK: [Row; 11] = [
     (
         "map --json two_above.qcow2",
         0,
-        "[{ \"start\": 0, \"length\": 1, \"depth\": 0, \"present\": true, \"zero\": false, \"data\": true, \"offset\": 1536, \"filename\": \"two_above.qcow2\"},\n\
-        { \"start\": 1, \"length\": 511, \"depth\": 0, \"present\": true, \"zero\": true, \"data\": false, \"offset\": 1537, \"filename\": \"two_above.qcow2\"},\n\
-        { \"start\": 512, \"length\": 1024, \"depth\": 0, \"present\": true, \"zero\": true, \"data\": false},\n\
-        { \"start\": 1536, \"length\": 3, \"depth\": 2, \"present\": true, \"zero\": false, \"data\": true, \"offset\": 512, \"filename\": \"parts/b.bin\"},\n\
-        { \"start\": 1539, \"length\": 509, \"depth\": 2, \"present\": true, \"zero\": true, \"data\": false, \"offset\": 515, \"filename\": \"parts/b.bin\"}]\n",
+        "[{ \"start\": 0, \"length\": 1, \"depth\": 0, \"present\": true, \"zero\": false, \
+         \"data\": true, \"offset\": 1536, \"filename\": \"two_above.qcow2\"},\n\
+        { \"start\": 1, \"length\": 511, \"depth\": 0, \"present\": true, \"zero\": true, \
+        \"data\": false, \"offset\": 1537, \"filename\": \"two_above.qcow2\"},\n\
+        { \"start\": 512, \"length\": 1024, \"depth\": 0, \"present\": true, \"zero\": true, \
+        \"data\": false},\n\
+        { \"start\": 1536, \"length\": 3, \"depth\": 2, \"present\": true, \"zero\": false, \
+        \"data\": true, \"offset\": 512, \"filename\": \"parts/b.bin\"},\n\
+        { \"start\": 1539, \"length\": 509, \"depth\": 2, \"present\": true, \"zero\": true, \
+        \"data\": false, \"offset\": 515, \"filename\": \"parts/b.bin\"}]\n",
         "",
     ),
     (
@@ -341,19 +348,22 @@ static ABOVE_VMDK: [Row; 11] = [
         "map says_vmdk_of_raw.qcow2",
         1,
         "",
-        "imago-img: \"plain.raw\": the driver or storage does not support this operation; imago-img check tells where\n",
+        "imago-img: \"plain.raw\": the driver or storage does not support this operation; \
+         imago-img check tells where\n",
     ),
     (
         "map above_outside.qcow2",
         1,
         "",
-        "imago-img: \"outside.vmdk\": its extent \"/etc/secret\" isn't in the descriptor's folder; --allow-outside permits it\n",
+        "imago-img: \"outside.vmdk\": its extent \"/etc/secret\" isn't in the descriptor's folder; \
+         --allow-outside permits it\n",
     ),
     (
         "map above_linked.qcow2",
         1,
         "",
-        "imago-img: \"linked.vmdk\": its extent \"link.bin\" isn't in the descriptor's folder; --allow-outside permits it\n",
+        "imago-img: \"linked.vmdk\": its extent \"link.bin\" isn't in the descriptor's folder; \
+         --allow-outside permits it\n",
     ),
     (
         "convert above_missing.qcow2 out.raw",

@@ -12,8 +12,10 @@ static CASES: [Case; 7] = [
         output: "image: \"disk.vmdk\"\nformat: vmdk\nsize: 2048 bytes\n\
             extent: FLAT, 512 bytes from 0 of \"a.bin\"\nextent: ZERO, 1024 bytes\n\
             extent: FLAT, 512 bytes from 512 of \"parts/b.bin\"\n",
-        errors: "imago-img: warning: \"a.bin\": 6 bytes, and its extent ends at 512: what lacks reads as 0\n\
-            imago-img: warning: \"parts/b.bin\": 515 bytes, and its extent ends at 1024: what lacks reads as 0\n",
+        errors: "imago-img: warning: \"a.bin\": 6 bytes, and its extent ends at 512: what lacks \
+            reads as 0\n\
+            imago-img: warning: \"parts/b.bin\": 515 bytes, and its extent ends at 1024: what \
+            lacks reads as 0\n",
         written: None,
     },
     Case {
@@ -21,12 +23,18 @@ static CASES: [Case; 7] = [
         appends: 0,
         finishes: true,
         status: 0,
-        output: "[{ \"start\": 0, \"length\": 3, \"depth\": 0, \"present\": true, \"zero\": true, \"data\": false, \"offset\": 0, \"filename\": \"a.bin\"},\n\
-            { \"start\": 3, \"length\": 3, \"depth\": 0, \"present\": true, \"zero\": false, \"data\": true, \"offset\": 3, \"filename\": \"a.bin\"},\n\
-            { \"start\": 6, \"length\": 506, \"depth\": 0, \"present\": true, \"zero\": true, \"data\": false, \"offset\": 6, \"filename\": \"a.bin\"},\n\
-            { \"start\": 512, \"length\": 1024, \"depth\": 0, \"present\": true, \"zero\": true, \"data\": false},\n\
-            { \"start\": 1536, \"length\": 3, \"depth\": 0, \"present\": true, \"zero\": false, \"data\": true, \"offset\": 512, \"filename\": \"parts/b.bin\"},\n\
-            { \"start\": 1539, \"length\": 509, \"depth\": 0, \"present\": true, \"zero\": true, \"data\": false, \"offset\": 515, \"filename\": \"parts/b.bin\"}]\n",
+        output: "[{ \"start\": 0, \"length\": 3, \"depth\": 0, \"present\": true, \"zero\": true, \
+            \"data\": false, \"offset\": 0, \"filename\": \"a.bin\"},\n\
+            { \"start\": 3, \"length\": 3, \"depth\": 0, \"present\": true, \"zero\": false, \
+            \"data\": true, \"offset\": 3, \"filename\": \"a.bin\"},\n\
+            { \"start\": 6, \"length\": 506, \"depth\": 0, \"present\": true, \"zero\": true, \
+            \"data\": false, \"offset\": 6, \"filename\": \"a.bin\"},\n\
+            { \"start\": 512, \"length\": 1024, \"depth\": 0, \"present\": true, \"zero\": true, \
+            \"data\": false},\n\
+            { \"start\": 1536, \"length\": 3, \"depth\": 0, \"present\": true, \"zero\": false, \
+            \"data\": true, \"offset\": 512, \"filename\": \"parts/b.bin\"},\n\
+            { \"start\": 1539, \"length\": 509, \"depth\": 0, \"present\": true, \"zero\": true, \
+            \"data\": false, \"offset\": 515, \"filename\": \"parts/b.bin\"}]\n",
         errors: "",
         written: None,
     },
@@ -50,7 +58,8 @@ static CASES: [Case; 7] = [
             105,
             &[(
                 0,
-                b"# Disk DescriptorFile\nversion=1\nencoding=\"UTF-8\"\nRW 1 FLAT \"a.bin\" 0\nRW 2 ZERO\nRW 1 FLAT \"parts/b.bin\" 1\n",
+                b"# Disk DescriptorFile\nversion=1\nencoding=\"UTF-8\"\nRW 1 FLAT \"a.bin\" 0\n\
+                RW 2 ZERO\nRW 1 FLAT \"parts/b.bin\" 1\n",
             )],
         )),
     },
@@ -78,7 +87,8 @@ static CASES: [Case; 7] = [
         finishes: true,
         status: 1,
         output: "\"a.bin\": 6 bytes, and its extent ends at 512: what lacks reads as 0\n\
-            \"parts/b.bin\": 515 bytes, and its extent ends at 1024: what lacks reads as 0\n2 faults were found.\n",
+            \"parts/b.bin\": 515 bytes, and its extent ends at 1024: what lacks reads as 0\n\
+            2 faults were found.\n",
         errors: "",
         written: None,
     },

@@ -1,4 +1,5 @@
-//! What `check` tells of qcow2 files that aren't supported or can't be meant, and `info` as an error.
+//! What `check` tells of qcow2 files that aren't supported or can't be meant, and `info` as an
+//! error.
 
 use super::set_up::{VERSION_3, check_line, expected};
 use crate::memory_host::{MemoryHost, Nature};

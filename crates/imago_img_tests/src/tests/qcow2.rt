@@ -18,7 +18,8 @@ static ROWS: [Row; 19] = [
     (
         "info --json one.qcow2",
         0,
-        "{ \"filename\": \"one.qcow2\", \"format\": \"qcow2\", \"virtual-size\": 2048, \"version\": 2, \
+        "{ \"filename\": \"one.qcow2\", \"format\": \"qcow2\", \"virtual-size\": 2048, \
+         \"version\": 2, \
         \"cluster-size\": 512, \"clusters\": 4, \"data-clusters\": 2, \"compressed-clusters\": 0, \
         \"features\": [] }\n",
         "",
@@ -26,12 +27,18 @@ static ROWS: [Row; 19] = [
     (
         "map --json one.qcow2",
         0,
-        "[{ \"start\": 0, \"length\": 512, \"depth\": 0, \"present\": true, \"zero\": true, \"data\": false},\n\
-        { \"start\": 512, \"length\": 1, \"depth\": 0, \"present\": true, \"zero\": false, \"data\": true, \"offset\": 2048, \"filename\": \"one.qcow2\"},\n\
-        { \"start\": 513, \"length\": 511, \"depth\": 0, \"present\": true, \"zero\": true, \"data\": false, \"offset\": 2049, \"filename\": \"one.qcow2\"},\n\
-        { \"start\": 1024, \"length\": 1, \"depth\": 0, \"present\": true, \"zero\": false, \"data\": true, \"offset\": 1536, \"filename\": \"one.qcow2\"},\n\
-        { \"start\": 1025, \"length\": 511, \"depth\": 0, \"present\": true, \"zero\": true, \"data\": false, \"offset\": 1537, \"filename\": \"one.qcow2\"},\n\
-        { \"start\": 1536, \"length\": 512, \"depth\": 0, \"present\": true, \"zero\": true, \"data\": false}]\n",
+        "[{ \"start\": 0, \"length\": 512, \"depth\": 0, \"present\": true, \"zero\": true, \
+         \"data\": false},\n\
+        { \"start\": 512, \"length\": 1, \"depth\": 0, \"present\": true, \"zero\": false, \
+        \"data\": true, \"offset\": 2048, \"filename\": \"one.qcow2\"},\n\
+        { \"start\": 513, \"length\": 511, \"depth\": 0, \"present\": true, \"zero\": true, \
+        \"data\": false, \"offset\": 2049, \"filename\": \"one.qcow2\"},\n\
+        { \"start\": 1024, \"length\": 1, \"depth\": 0, \"present\": true, \"zero\": false, \
+        \"data\": true, \"offset\": 1536, \"filename\": \"one.qcow2\"},\n\
+        { \"start\": 1025, \"length\": 511, \"depth\": 0, \"present\": true, \"zero\": true, \
+        \"data\": false, \"offset\": 1537, \"filename\": \"one.qcow2\"},\n\
+        { \"start\": 1536, \"length\": 512, \"depth\": 0, \"present\": true, \"zero\": true, \
+        \"data\": false}]\n",
         "",
     ),
     (
@@ -113,7 +120,8 @@ static ROWS: [Row; 19] = [
         "map other.qcow2",
         1,
         "",
-        "imago-img: \"other.qcow2\": its backing file has the format \"luks\", which isn't supported\n",
+        "imago-img: \"other.qcow2\": its backing file has the format \"luks\", which isn't \
+         supported\n",
     ),
     (
         "map --strict above.qcow2",

@@ -12,7 +12,8 @@ static ROWS: [Row; 34] = [
         "info",
         2,
         "",
-        "imago-img: not the files or options of this command; imago-img --help tells the commands\n",
+        "imago-img: not the files or options of this command; imago-img --help tells the \
+         commands\n",
     ),
     (
         "copy a.bin",
@@ -30,13 +31,15 @@ static ROWS: [Row; 34] = [
         "info --force a.bin",
         2,
         "",
-        "imago-img: not the files or options of this command; imago-img --help tells the commands\n",
+        "imago-img: not the files or options of this command; imago-img --help tells the \
+         commands\n",
     ),
     (
         "check --json a.bin",
         2,
         "",
-        "imago-img: not the files or options of this command; imago-img --help tells the commands\n",
+        "imago-img: not the files or options of this command; imago-img --help tells the \
+         commands\n",
     ),
     (
         "map --verbose a.bin",
@@ -73,25 +76,29 @@ static ROWS: [Row; 34] = [
         "convert sparse.vmdk out.raw",
         1,
         "",
-        "imago-img: \"sparse.vmdk\": a sparse VMDK image, which isn't supported; -f raw takes its bytes as they are\n",
+        "imago-img: \"sparse.vmdk\": a sparse VMDK image, which isn't supported; -f raw takes its \
+         bytes as they are\n",
     ),
     (
         "info -f vmdk sparse.vmdk",
         1,
         "",
-        "imago-img: \"sparse.vmdk\": a sparse VMDK image, which isn't supported; -f raw takes its bytes as they are\n",
+        "imago-img: \"sparse.vmdk\": a sparse VMDK image, which isn't supported; -f raw takes its \
+         bytes as they are\n",
     ),
     (
         "check sparse.vmdk",
         2,
         "",
-        "imago-img: \"sparse.vmdk\": a sparse VMDK image, which isn't supported; -f raw takes its bytes as they are\n",
+        "imago-img: \"sparse.vmdk\": a sparse VMDK image, which isn't supported; -f raw takes its \
+         bytes as they are\n",
     ),
     (
         "info -f vmdk plain.raw",
         1,
         "",
-        "imago-img: \"plain.raw\": the driver or storage does not support this operation; imago-img check tells where\n",
+        "imago-img: \"plain.raw\": the driver or storage does not support this operation; \
+         imago-img check tells where\n",
     ),
     (
         "info --strict disk.vmdk",
@@ -110,19 +117,22 @@ static ROWS: [Row; 34] = [
         "convert outside.vmdk out.raw",
         1,
         "",
-        "imago-img: \"outside.vmdk\": its extent \"/etc/secret\" isn't in the descriptor's folder; --allow-outside permits it\n",
+        "imago-img: \"outside.vmdk\": its extent \"/etc/secret\" isn't in the descriptor's folder; \
+         --allow-outside permits it\n",
     ),
     (
         "map above.vmdk",
         1,
         "",
-        "imago-img: \"above.vmdk\": its extent \"parts/../../b.bin\" isn't in the descriptor's folder; --allow-outside permits it\n",
+        "imago-img: \"above.vmdk\": its extent \"parts/../../b.bin\" isn't in the descriptor's \
+         folder; --allow-outside permits it\n",
     ),
     (
         "convert linked.vmdk out.raw",
         1,
         "",
-        "imago-img: \"linked.vmdk\": its extent \"link.bin\" isn't in the descriptor's folder; --allow-outside permits it\n",
+        "imago-img: \"linked.vmdk\": its extent \"link.bin\" isn't in the descriptor's folder; \
+         --allow-outside permits it\n",
     ),
     (
         "convert missing.vmdk out.raw",
@@ -197,13 +207,16 @@ static ROWS: [Row; 34] = [
     (
         "check faulty.vmdk",
         1,
-        "\"faulty.vmdk\", line 3: \"RW x FLAT \\\"a.bin\\\" 0\" can't be meant\n\"faulty.vmdk\", line 4: \"RW 1 SPARSE \\\"a.bin\\\"\" isn't supported\n\"faulty.vmdk\", line 5: isn't UTF-8\n3 faults were found.\n",
+        "\"faulty.vmdk\", line 3: \"RW x FLAT \\\"a.bin\\\" 0\" can't be meant\n\
+         \"faulty.vmdk\", line 4: \"RW 1 SPARSE \\\"a.bin\\\"\" isn't supported\n\
+         \"faulty.vmdk\", line 5: isn't UTF-8\n3 faults were found.\n",
         "",
     ),
     (
         "check later.vmdk",
         1,
-        "\"later.vmdk\": no line says one of the versions 1 to 3, or the file begins as a sparse image\n1 fault was found.\n",
+        "\"later.vmdk\": no line says one of the versions 1 to 3, or the file begins as a sparse \
+         image\n1 fault was found.\n",
         "",
     ),
 ];

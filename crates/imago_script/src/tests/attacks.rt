@@ -84,8 +84,9 @@ fn tells_of(line: &[u8], number: u64) -> bool {
     }
 }
 
-/// Whether a script may print that and end with that status: each command is answered by a line, the first one that is malformed
-/// by the last line, and there is no other line. Lines that end before that byte of the script are answered as in `printed`.
+/// Whether a script may print that and end with that status: each command is answered by a line,
+/// the first one that is malformed by the last line, and there is no other line. Lines that end
+/// before that byte of the script are answered as in `printed`.
 fn is_outcome(text: &[u8], same: usize, printed: &[u8], status: u8, output: &[u8]) -> bool {
     let mut answers = output.split(|byte| *byte == b'\n');
     let mut known = printed.split(|byte| *byte == b'\n');
@@ -116,9 +117,11 @@ fn is_outcome(text: &[u8], same: usize, printed: &[u8], status: u8, output: &[u8
     status == 0 && answers.next() == Some(b"".as_slice()) && answers.next().is_none()
 }
 
-/// A changed script ends as it may. What stands before that byte is as in the one that prints `PRINTED`.
+/// A changed script ends as it may. What stands before that byte is as in the one that prints
+/// `PRINTED`.
 ///
-/// A test's run refuses one request for memory at most. So a script that ran out of it runs again, and has its memory then.
+/// A test's run refuses one request for memory at most. So a script that ran out of it runs again,
+/// and has its memory then.
 fn check(rt: &(impl Abort + AllocGlobal), text: &[u8], same: usize) {
     let (status, output) = outcome(rt.alloc(), text);
     if is_outcome(text, same, PRINTED, status, &output) {
@@ -226,7 +229,8 @@ fn long_outcome(
 /// How many times a piece stands in a long line: 1 MiB are 16384 of 64 bytes.
 const PIECES: usize = 16384;
 
-/// Scripts with a long line: what stands before the pieces, a piece, and what stands behind them; what it prints, and its status.
+/// Scripts with a long line: what stands before the pieces, a piece, and what stands behind them;
+/// what it prints, and its status.
 const LONG_LINES: [(&[u8], &[u8], &[u8], &[u8], u8); 14] = [
     (b"#", &[b'a'; 64], b"\nsize\n", b"err NotFound\n", 0),
     (b"", &[b'\n'; 64], b"size\n", b"err NotFound\n", 0),

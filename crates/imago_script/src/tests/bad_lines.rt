@@ -115,7 +115,8 @@ fn each_ends_the_script(rt: HostRuntime) {
     check_each_ends_the_script(&rt);
 }
 
-/// Scripts with a bad line, and what they print: the lines before it are done, those behind it aren't.
+/// Scripts with a bad line, and what they print: the lines before it are done, those behind it
+/// aren't.
 const SCRIPTS: [(&str, &str); 6] = [
     ("read 0 16777217\nsize\n", "bad line 1\n"),
     ("size\nsize!\nsize\n", "err NotFound\nbad line 2\n"),
@@ -125,7 +126,8 @@ const SCRIPTS: [(&str, &str); 6] = [
         "ok\nok\nok ff\nbad line 4\n",
     ),
     (
-        "mem a 1 5A 9223372036854775808 1\nmem b 1 00 1 9223372036854775808\nmem c 1 00 1 9223372036854775809\n",
+        "mem a 1 5A 9223372036854775808 1\nmem b 1 00 1 9223372036854775808\n\
+         mem c 1 00 1 9223372036854775809\n",
         "ok\nok\nbad line 3\n",
     ),
     ("size\r\nsize\r\n", "bad line 1\n"),

@@ -4,13 +4,16 @@
 pub(super) const EXAMPLES: [(&str, &str, &str); 6] = [
     (
         "alignment",
-        "# A storage that takes requests of whole blocks of 4 bytes alone, and a disk of 10 bytes on it.
+        "# A storage that takes requests of whole blocks of 4 bytes alone, and a disk of 10 bytes
+# on it.
 mem a 10 a5 4 4
 open raw a rw
-# One byte is written: its block is read, changed, and written back. The bytes around it stay as they were.
+# One byte is written: its block is read, changed, and written back. The bytes around it stay as
+# they were.
 write 5 01
 read 3 5
-# The disk ends inside its last block. A write there makes the storage longer, by zeroes, and the disk stays.
+# The disk ends inside its last block. A write there makes the storage longer, by zeroes, and the
+# disk stays.
 write 9 02
 size
 read 8 4
@@ -39,7 +42,8 @@ ok a50200000000
     ),
     (
         "cow",
-        "# A disk of 16 bytes that isn't to be changed. Above it a copy-on-write disk, in blocks of 4 bytes, whose data go to a storage of their own.
+        "# A disk of 16 bytes that isn't to be changed. Above it a copy-on-write disk, in blocks of
+# 4 bytes, whose data go to a storage of their own.
 hex base 101112131415161718191a1b1c1d1e1f
 open raw base ro
 mem top 0 00 1 1
@@ -47,7 +51,8 @@ open cow top 4
 show
 # All of it leads to the layer below, block by block.
 map 0 16
-# A write takes a block of the storage, and copies there what the rest of its block was. The other blocks still lead below.
+# A write takes a block of the storage, and copies there what the rest of its block was. The other
+# blocks still lead below.
 write 5 aabb
 read 0 16
 map 4 12
@@ -62,7 +67,8 @@ mem upper 0 00 1 1
 open cow upper 8
 write 0 cc
 read 0 16
-# Layer 0 is the upper disk, layer 1 the first one, whose block of zeroes isn't the upper disk's own, and layer 2 the disk below.
+# Layer 0 is the upper disk, layer 1 the first one, whose block of zeroes isn't the upper disk's
+# own, and layer 2 the disk below.
 map 0 16
 map 8 8
 map 12 4
@@ -121,12 +127,14 @@ ok 000000010200
         "# A disk of 16 bytes on a storage that takes requests of whole blocks of 8 bytes alone.
 mem a 16 ff 8 8
 open raw a rw
-# What a range is: bytes of storage 0 of the top layer, from the same offset on, which may be written.
+# What a range is: bytes of storage 0 of the top layer, from the same offset on, which may be
+# written.
 map 3 100
 # Zeroes at any range: the blocks at its ends keep their other bytes.
 zero 3 4
 read 0 8
-# A discard to backing gives up whole blocks alone. There is no layer below, so what is given up is zero.
+# A discard to backing gives up whole blocks alone. There is no layer below, so what is given up is
+# zero.
 discard backing 3 13
 read 0 16
 # Where the data of a range are to be written. Nothing changes.
@@ -206,7 +214,8 @@ ok 0000
     ),
     (
         "vmdk",
-        "# A text descriptor of three extents, each of one sector: of a file, zeroes, and of another file from its second sector on.
+        "# A text descriptor of three extents, each of one sector: of a file, zeroes, and of
+# another file from its second sector on.
 hex disk.vmdk 76657273696f6e3d310a5257203120464c41542022612e696d67220a52572031205a45524f0a52444f4e4c59203120464c41542022622e696d672220310a
 mem a.img 512 aa 1 1
 mem b.img 600 bb 1 1
@@ -222,7 +231,8 @@ read 510 4
 read 1022 4
 # The second file ends inside its second sector: behind it zeroes are read.
 read 1110 4
-# What ranges are: bytes of the storages 1 and 2, since the descriptor's is storage 0, and explicit zeroes.
+# What ranges are: bytes of the storages 1 and 2, since the descriptor's is storage 0, and explicit
+# zeroes.
 map 0 1536
 map 512 1536
 map 1024 1536

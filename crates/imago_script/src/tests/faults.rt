@@ -112,8 +112,8 @@ const TEXT: &[u8] =
 const PRINTED: &[u8] =
     b"ok\nok\nok 01020000\nerr UnexpectedEof\nok raw[mem:a]\nerr NotFound\nbad line 7\n";
 
-/// What an output keeps of a script that is read a byte at a time, and its status, where it has room for so many bytes and takes so
-/// many at a time.
+/// What an output keeps of a script that is read a byte at a time, and its status, where it has
+/// room for so many bytes and takes so many at a time.
 fn kept(alloc: Global, room: usize, most: usize) -> (u8, Vec<u8>) {
     let mut input = SlowReader {
         text: TEXT,

@@ -163,8 +163,8 @@ fn keeps<D: FormatDriverInstance<Storage = MemStorage>>(
     );
 }
 
-/// Writes bytes to an image, which has that first file then, if one is told, and shows that. Answers
-/// what the write did.
+/// Writes bytes to an image, which has that first file then, if one is told, and shows that.
+/// Answers what the write did.
 fn written_shows<D: FormatDriverInstance<Storage = MemStorage>>(
     rt: &impl Abort,
     alloc: Global,

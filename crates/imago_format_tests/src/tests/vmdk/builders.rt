@@ -33,7 +33,11 @@ const ENCODED: &[u8] = b"version=1\nencoding=\"UTF-8\"\nRW 1 ZERO\n";
 /// Laid out as QEMU writes `twoGbMaxExtentFlat`, with the line for the encoding that other programs
 /// add.
 const LAID_OUT: &[u8] =
-    b"# Disk DescriptorFile\nversion=1\nencoding=\"UTF-8\"\nCID=1c8a4d02\nparentCID=ffffffff\ncreateType=\"twoGbMaxExtentFlat\"\n\n# Extent description\nRW 2 FLAT \"a\" 0\nRW 1 FLAT \"b\" 0\n\n# The Disk Data Base\n#DDB\n\nddb.virtualHWVersion = \"4\"\nddb.geometry.cylinders = \"1\"\nddb.geometry.heads = \"16\"\nddb.geometry.sectors = \"63\"\nddb.adapterType = \"ide\"\nddb.toolsVersion = \"2147483647\"\n";
+    b"# Disk DescriptorFile\nversion=1\nencoding=\"UTF-8\"\nCID=1c8a4d02\nparentCID=ffffffff\n\
+    createType=\"twoGbMaxExtentFlat\"\n\n# Extent description\nRW 2 FLAT \"a\" 0\n\
+    RW 1 FLAT \"b\" 0\n\n# The Disk Data Base\n#DDB\n\nddb.virtualHWVersion = \"4\"\n\
+    ddb.geometry.cylinders = \"1\"\nddb.geometry.heads = \"16\"\nddb.geometry.sectors = \"63\"\n\
+    ddb.adapterType = \"ide\"\nddb.toolsVersion = \"2147483647\"\n";
 
 static CASES: [Case; 16] = [
     Case {

@@ -15,11 +15,20 @@ type Answer = Result<u64, Error>;
 /// What `qemu-img create -f vmdk -o subformat=monolithicFlat disk.vmdk 1M` writes, by the template
 /// in QEMU's `block/vmdk.c`.
 const MONOLITHIC_FLAT: &[u8] =
-    b"# Disk DescriptorFile\nversion=1\nCID=7ab3a6c1\nparentCID=ffffffff\ncreateType=\"monolithicFlat\"\n\n# Extent description\nRW 2048 FLAT \"disk-flat.vmdk\" 0\n\n# The Disk Data Base\n#DDB\n\nddb.virtualHWVersion = \"4\"\nddb.geometry.cylinders = \"2\"\nddb.geometry.heads = \"16\"\nddb.geometry.sectors = \"63\"\nddb.adapterType = \"ide\"\nddb.toolsVersion = \"2147483647\"\n";
+    b"# Disk DescriptorFile\nversion=1\nCID=7ab3a6c1\nparentCID=ffffffff\n\
+    createType=\"monolithicFlat\"\n\n# Extent description\nRW 2048 FLAT \"disk-flat.vmdk\" 0\n\n\
+    # The Disk Data Base\n#DDB\n\nddb.virtualHWVersion = \"4\"\nddb.geometry.cylinders = \"2\"\n\
+    ddb.geometry.heads = \"16\"\nddb.geometry.sectors = \"63\"\nddb.adapterType = \"ide\"\n\
+    ddb.toolsVersion = \"2147483647\"\n";
 
 /// The same for `subformat=twoGbMaxExtentFlat` and 5 GiB.
 const TWO_GB_MAX_EXTENT_FLAT: &[u8] =
-    b"# Disk DescriptorFile\nversion=1\nCID=1c8a4d02\nparentCID=ffffffff\ncreateType=\"twoGbMaxExtentFlat\"\n\n# Extent description\nRW 4194304 FLAT \"disk-f001.vmdk\" 0\nRW 4194304 FLAT \"disk-f002.vmdk\" 0\nRW 2097152 FLAT \"disk-f003.vmdk\" 0\n\n# The Disk Data Base\n#DDB\n\nddb.virtualHWVersion = \"4\"\nddb.geometry.cylinders = \"10402\"\nddb.geometry.heads = \"16\"\nddb.geometry.sectors = \"63\"\nddb.adapterType = \"ide\"\nddb.toolsVersion = \"2147483647\"\n";
+    b"# Disk DescriptorFile\nversion=1\nCID=1c8a4d02\nparentCID=ffffffff\n\
+    createType=\"twoGbMaxExtentFlat\"\n\n# Extent description\n\
+    RW 4194304 FLAT \"disk-f001.vmdk\" 0\nRW 4194304 FLAT \"disk-f002.vmdk\" 0\n\
+    RW 2097152 FLAT \"disk-f003.vmdk\" 0\n\n# The Disk Data Base\n#DDB\n\n\
+    ddb.virtualHWVersion = \"4\"\nddb.geometry.cylinders = \"10402\"\nddb.geometry.heads = \"16\"\n\
+    ddb.geometry.sectors = \"63\"\nddb.adapterType = \"ide\"\nddb.toolsVersion = \"2147483647\"\n";
 
 /// A descriptor, what opening it answers, and whether it is told to be one.
 type Row = (&'static [u8], Answer, bool);
