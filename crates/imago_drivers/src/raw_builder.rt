@@ -175,7 +175,8 @@ impl<S: Storage> RawCreateBuilder<S> {
         f: F,
     ) -> Result<Raw<S>, Error>
         requires { F.IsAlwaysCallable f }
-        ensures created { IsRawCreatedOpen S.bytes S.features S.fault_count S.maintenance ⟦<Raw<S> as FormatDriverInstance>⟧.view
+        ensures created { IsRawCreatedOpen S.bytes S.features S.fault_count S.maintenance
+            ⟦<Raw<S> as FormatDriverInstance>⟧.view
             ⟦<Raw<S> as FormatDriverInstance>⟧.calls raw_open_settings G.opened gate (F.post f)
             (raw_create_settings self) result }
         ensures writable { IfOk result
