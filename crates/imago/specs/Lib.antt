@@ -17,6 +17,7 @@ pub use Rattle.imago_storage.specs.MemParts
 pub use Rattle.imago_storage.specs.Padding
 pub use Rattle.imago_storage.specs.Blocks
 pub use Rattle.imago_storage.specs.Zeroes
+pub use Rattle.imago_storage.specs.Steps as WriteSteps
 pub use Rattle.imago_storage.specs.Calls as StorageCalls
 pub use Rattle.imago_drivers.specs.Operation
 pub use Rattle.imago_drivers.specs.Place
@@ -86,11 +87,13 @@ pub use Rattle.imago_cow.specs.Guest as GuestBlocks
 pub use Rattle.imago_cow.specs.Cow
 pub use Rattle.imago_cow.specs.CowLaws
 pub use Rattle.imago_cow.specs.CowImage
+pub use Rattle.imago_cow.specs.CopyCalls
 pub use Rattle.imago_cow.specs.CowCalls
 pub use Rattle.imago_cow.specs.Grown as GrownBlocks
 pub use Rattle.imago_cow.specs.Copies as CopiedBlocks
 pub use Rattle.imago_cow.specs.Worked as WorkedDataBlocks
 pub use Rattle.imago_any_driver.specs.Restated as RestatedViews
+pub use Rattle.imago_any_driver.specs.AnyCalls
 pub use Rattle.imago_any_driver.specs.AnyDriver
 pub use Rattle.imago_access.specs.Chain
 pub use Rattle.imago_access.specs.Text
@@ -119,6 +122,14 @@ pub use Rattle.imago_access.specs.Success
 pub use Rattle.imago_access.specs.Alignments
 pub use Rattle.imago_access.specs.Lending
 pub use Rattle.imago_access.specs.ChainLaws
+pub use Rattle.imago_file.specs.Contents as FileContents
+pub use Rattle.imago_file.specs.Features as FileFeatures
+pub use Rattle.imago_file.specs.FileCalls
+pub use Rattle.imago_file.specs.FileGate
+pub use Rattle.imago_file.specs.GateParts as FileGateParts
+pub use Rattle.imago_file.specs.Names as FileNames
+pub use Rattle.imago_file.specs.Opening as FileOpening
+pub use Rattle.imago_file.specs.MemoryFile
 pub use Rattle.imago_plan.specs.Pieces
 pub use Rattle.imago_plan.specs.PieceBytes
 pub use Rattle.imago_plan.specs.StoredBytes
@@ -159,6 +170,9 @@ pub use Rattle.imago_access.specs.declared.access.FormatAccess
 pub use Rattle.imago_access.specs.declared.mapping.Mapping as DeclaredMapping
 pub use Rattle.imago_access.specs.declared.run.Call
 pub use Rattle.imago_access.specs.declared.run.Reply
+pub use Rattle.imago_file.specs.declared.file.FileStorage
+pub use Rattle.imago_file.specs.declared.host.MemoryFile as DeclaredMemoryFile
+pub use Rattle.imago_file.specs.declared.gate.FileGate as DeclaredFileGate
 pub use Rattle.imago_plan.specs.declared.piece.Location
 pub use Rattle.imago_plan.specs.declared.piece.Source
 pub use Rattle.imago_plan.specs.declared.piece.Piece

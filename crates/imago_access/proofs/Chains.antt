@@ -4,7 +4,7 @@ use Rattle.imago_drivers.specs.Operation.{Operation, Read}
 use Rattle.imago_drivers.specs.Place.{Value, Place, Lower, End, shown, values}
 use Rattle.imago_drivers.specs.View.{View}
 use Rattle.imago_access.specs.declared.access.FormatAccess.{FormatAccess, FormatAccess', out-FormatAccess, is-FormatAccess', back-FormatAccess-backing}
-use Rattle.imago_access.specs.Chain.{driver, backing, unboxed, disk_value, is_reliable, IsReached, chain_cause, cause_below, chain_no_memory, no_memory_below, may_take_memory, may_take_memory_below, lent_image}
+use Rattle.imago_access.specs.Chain.{driver, backing, unboxed, disk_value, is_reliable, tells_bytes, IsReached, chain_cause, cause_below, chain_no_memory, no_memory_below, may_take_memory, may_take_memory_below, lent_image}
 use Rattle.imago_access.specs.ChainLaws.{reached_wider}
 use Rattle.imago_access.specs.Target.{Target, target, followed, deeper, target_here}
 
@@ -39,6 +39,28 @@ module _ {D St : Type 0} (view : D → View St) where
 
   pub reliable_lower : (x y : FormatAccess D) → backing x ≡ Some y → is_reliable view y ≡ false → is_reliable view x ≡ false
   reliable_lower x y h k = reliable_out x ∙ and_false _ _ (ap (λ (b : Option (FormatAccess D)). (lent_image view b).is_reliable) h ∙ k)
+
+  told_back : (inner : D) (b : Option (Box (FormatAccess D) Global)) → tells_bytes view (FormatAccess' inner (back-FormatAccess-backing D b)) ≡ ((view inner).abilities.tells_bytes && (lent_image view (unboxed b)).tells_bytes)
+  told_back inner None = refl
+  told_back inner (Some b) = refl
+
+  pub told_out : (x : FormatAccess D) → tells_bytes view x ≡ ((view (driver x)).abilities.tells_bytes && (lent_image view (backing x)).tells_bytes)
+  told_out x = ap (tells_bytes view) (is-FormatAccess' x) ∙ told_back (driver x) (out-FormatAccess D x).backing
+
+  and_first : (a b : Bool) → (a && b) ≡ true → a ≡ true
+  and_first true b h = refl
+  and_first false b h = h
+
+  and_second : (a b : Bool) → (a && b) ≡ true → b ≡ true
+  and_second true b h = h
+  and_second false b h = let z : ⊥ = cc in absurd z
+
+  -- where an image tells its bytes, its driver does, and the image below
+  pub told_here : (x : FormatAccess D) → tells_bytes view x ≡ true → (view (driver x)).abilities.tells_bytes ≡ true
+  told_here x h = and_first _ _ (sym (told_out x) ∙ h)
+
+  pub told_lower : (x y : FormatAccess D) → backing x ≡ Some y → tells_bytes view x ≡ true → tells_bytes view y ≡ true
+  told_lower x y b h = ap (λ (c : Option (FormatAccess D)). (lent_image view c).tells_bytes) (sym b) ∙ and_second _ _ (sym (told_out x) ∙ h)
 
   abbrev target_of : Option (FormatAccess D) → ℕ → Target
   target_of None p = target_here End

@@ -10,7 +10,7 @@ use Rattle.imago_access.specs.declared.access.FormatAccess.{FormatAccess}
 use Rattle.imago_access.specs.Chain.{driver, backing, chain_no_memory}
 use Rattle.imago_access.specs.Target.{Target, target, deeper, target_here}
 use Rattle.imago_access.specs.Ways.{NamesOrEnds, IsPart, part_length, LeadsDown}
-use Rattle.imago_access.proofs.Chains.{value_lower, reliable_lower, target_lower, cause_lower, memory_lower, no_memory_lower}
+use Rattle.imago_access.proofs.Chains.{value_lower, reliable_lower, told_lower, target_lower, cause_lower, memory_lower, no_memory_lower}
 
 and_true : (g : Bool) → (g && true) ≡ g
 and_true true = refl
@@ -40,6 +40,7 @@ module _ {D St : Type 0} (view : D → View St) (x : FormatAccess D) (o most : �
     causes = λ op i m e p h c. c;
     memory = λ i m p h c. c;
     reliable = λ h. h;
+    told = λ h. h;
     within = omega arith;
     empty = λ h. h;
     whole = λ h. (refl, h);
@@ -56,6 +57,7 @@ module _ {D St : Type 0} (view : D → View St) (x : FormatAccess D) (o most : �
       causes = λ op i k e p h c. down.causes op i k e p (omega (arith, part.within)) c;
       memory = λ i k p h c. down.memory i k p (omega (arith, part.within)) c;
       reliable = down.reliable;
+      told = down.told;
       within = omega (arith, part.within, down.within);
       empty = λ h. down.empty (part.empty h);
       whole = λ h. let k = down.whole h in let s : n ≡ left = all k.1 in (s ∙ k.0, subst (λ (c : ℕ). chain_no_memory view layer at c) (sym s) k.1);
@@ -78,6 +80,7 @@ module _ {D St : Type 0} (view : D → View St) (x : FormatAccess D) (o most : �
           let d : q + (i + j) ≡ q + i + j = omega arith in
           (j, lt, v, rw (a, d) at (named (i + j) (omega arith)))) c);
       reliable = λ h. down.reliable (reliable_lower view layer y b h);
+      told = λ h. told_lower view layer y b (down.told h);
       within = omega (arith, part.within, down.within);
       empty = λ h. down.empty (part.empty h);
       whole = λ h. let k = down.whole h in let r : n ≡ left = all k.1 in (r ∙ k.0, no_memory_lower view layer y at n q b (subst (λ (c : ℕ). chain_no_memory view layer at c) (sym r) k.1) (λ j lt. (j, lt, v, named j lt)));

@@ -20,9 +20,9 @@ use Rattle.imago_access.specs.Calls.{devices_reliable, FailsTest, Overflows, IsL
 use Rattle.imago_access.specs.Discarding.{discard_of, loosened, IsLoosened, HasLoosened, HasLoosenedPart, discard_reasons}
 use Rattle.imago_access.specs.Zeroing.{IsFree}
 use Rattle.imago_access.proofs.Images.{driver_with, backing_with, changed_image, not_failed}
-use Rattle.imago_access.proofs.Weaker.{allowed_more, refused_more}
+use Rattle.imago_access.proofs.Weaker.{allowed_more, refused_more, and_left}
 use Rattle.imago_access.proofs.Written.{framed_twice, same_frame}
-use Rattle.imago_access.proofs.Writes.{and_left, rose_more}
+use Rattle.imago_access.proofs.Writes.{rose_more}
 use Rattle.imago_access.proofs.ZeroLoops.{same_devices}
 use Rattle.imago_drivers.specs.Outside.{StaysOutside}
 use Rattle.imago_access.specs.Moves.{MovesWithin}
@@ -258,7 +258,7 @@ not_loosened view call x o n = unchanged _ (repeatable call (view (driver x)).ab
 -- what is promised of a discard but for the driver's own calls
 abbrev pub IsLoosenedRange : {D St : Type 0} (view : D → View St) (call : DiscardCall) (x new : FormatAccess D) (o n : ℕ) (result : Result (Unit {0}) Error) → Type 0
 IsLoosenedRange view call x new o n result = IsRangeCall view (discard_of call) o n (n ≡ 0) (settles (discard_of call)) (discard_reasons (view (driver x)) (discard_of call) o n) ⊥ (λ u. 0)
-    (λ u. IsLoosened view call o n x new) (IsLoosened view call o n x new) x new result
+    (view (driver x)).abilities.keeps_data (λ u. IsLoosened view call o n x new) (IsLoosened view call o n x new) x new result
 
 -- a discard that passed its tests
 pub range_call : {D St : Type 0} (view : D → View St) (call : DiscardCall) (x new : FormatAccess D) (o n : ℕ) (result : Result (Unit {0}) Error) → (view (driver x)).abilities.is_writable ≡ true → o + n ≤ (view (driver x)).size

@@ -2,17 +2,19 @@ use Rattle.std.proofs.Common.{◌≡◌, ℕ, ◌+◌, ◌-◌, ◌<◌, ◌≤�
 use Rattle.std.proofs.Math.Path.{fun_ext}
 use Rattle.std.proofs.lemmas.Bool.{cases_lt}
 use Rattle.std.proofs.lemmas.List.{get_or_past, take_all, get_or-replicate, length-replicate}
-use Rattle.std.specs.Prelude.{IsTrue, IfOk, IfErr, not}
+use Rattle.std.specs.Prelude.{IsTrue, IfOk, IfErr, OnOk, not}
 use Rattle.imago_storage.specs.declared.error.Error.{Error}
 use Rattle.imago_drivers.specs.declared.format.PreallocateMode.{PreallocateMode}
-use Rattle.imago_drivers.specs.Operation.{Operation, Write, Zero, DiscardToZero, DiscardToAny, DiscardToBacking}
-use Rattle.imago_drivers.specs.Place.{Value, Byte}
+use Rattle.imago_drivers.specs.Operation.{Operation, Write, Zero, DiscardToZero, DiscardToAny, DiscardToBacking, Grow, Shrink}
+use Rattle.imago_drivers.specs.Place.{Value, Byte, HasValues}
 use Rattle.imago_drivers.specs.LayerBelow.{IsUnreadableIn, ReadBound}
 use Rattle.imago_drivers.specs.Reasons.{Reasons, allowed}
 use Rattle.imago_drivers.specs.View.{View, Abilities}
 use Rattle.imago_drivers.specs.CallRelations.{Calls}
 use Rattle.imago_drivers.specs.Laws.{IsLawful, AreCauses}
 use Rattle.imago_drivers.specs.Changes.{IsChanged, into, partly, overwritten, given_back, zeroes}
+use Rattle.imago_access.proofs.Chains.{told_out}
+use Rattle.imago_access.proofs.Weaker.{and_left, and_right, and_both}
 use Rattle.imago_access.specs.declared.access.FormatAccess.{FormatAccess}
 use Rattle.imago_access.specs.declared.run.Call.{Call}
 use Rattle.imago_access.specs.declared.run.Call.TheVariants as C
@@ -21,16 +23,16 @@ use Rattle.imago_access.specs.declared.run.Reply.TheVariants as R
 use Rattle.imago_access.specs.declared.discard.DiscardCall.TheVariants as X
 use Rattle.imago_access.specs.Zeroing.{IsZeroWrite}
 use Rattle.imago_access.specs.Discarding.{IsLoosened, IsImageDiscard}
-use Rattle.imago_access.specs.Chain.{driver, backing, disk_value, lent_image, read_cause, read_reasons}
+use Rattle.imago_access.specs.Chain.{driver, backing, disk_value, lent_image, read_cause, read_reasons, keeps_data, tells_bytes}
 use Rattle.imago_access.specs.ChainLaws.{image_is_layer}
 use Rattle.imago_access.specs.Target.{target}
 use Rattle.imago_access.specs.Calls.{IsKept, IsWrite, IsMappedWrite, FailsTest, write_refusals, Overflows, IsRangeCall}
 use Rattle.imago_access.specs.Sizes.{IsSameImage, IsResize, IsResizeTo, IsFlushed, HasGrown, HasShrunk}
 use Rattle.imago_access.specs.Writing.{filled, shown_length}
 use Rattle.imago_access.specs.Runs.{Answers, told_done, told_mapping, told_data, told_prepared, IsReadRefusal, IsBufferRead, IsMapped, IsDataMapped, IsStep, IsRun}
-use Rattle.imago_access.specs.Disk.{values_from, disk, backed_value, value_at, splice, OldOrNewValues, IsTestRefusal, IsSpliced, IsTorn, IsExtended, IsSameWrite, IsEndRefusal, IsZeroed, IsPartlyZeroed, IsUnspecifiedIn, IsGivenBack, IsFilledIn, IsPartlyFilled}
+use Rattle.imago_access.specs.Disk.{values_from, disk, backed_value, value_at, splice, OldOrNewValues, IsTestRefusal, IsSpliced, IsTorn, IsExtended, IsSameWrite, IsEndRefusal, IsZeroed, IsPartlyZeroed, IsUnspecifiedIn, IsGivenBack, IsFilledIn, IsPartlyFilled, WritesDisk, ZeroesDisk, DiscardsOfDisk, ResizesDisk, IsPartOf}
 use Rattle.imago_access.specs.Histories.{DoneOrRefused, IsDataOf, IsMappingOf, IsPart, IsDataStep, IsSame, IsFlatStep, IsFlatHistory}
-use Rattle.imago_access.proofs.Targets.{target_shows, mapped_value}
+use Rattle.imago_access.proofs.Targets.{target_shows, target_faulty, mapped_value}
 use Rattle.imago_access.proofs.DiskLists.{filled_list, partly_filled, overwritten_list, listed_at, from_length, same_listed, spliced, written_list, torn_list, torn_values, cut_list, grown_list, extended_by, is_extended_none}
 
 bool_cases : (b : Bool) → (b ≡ true) ⊎ (b ≡ false)
@@ -96,23 +98,26 @@ module _ {D St : Type 0} (view : D → View St) where
       ap (λ (a : Abilities). given_back a.takes_backing (lent_image view (backing new)).at) k.kind.abilities
       ∙ ap (λ (b : _). given_back (view (driver old)).abilities.takes_backing (lent_image view b).at) k.below
 
-  same_disk : (old new : FormatAccess D) → IsTrue (view (driver old)).abilities.keeps_data → IsSameImage view old new → disk view new ≡ disk view old
-  same_disk old new k h = same_listed (disk_value view old) (disk_value view new) _ _ h.size (h.values k)
+  same_disk_kept : (old new : FormatAccess D) → IsTrue (view (driver old)).abilities.keeps_data → IsSameImage view old new → disk view new ≡ disk view old
+  same_disk_kept old new k h = same_listed (disk_value view old) (disk_value view new) _ _ h.size (h.values k)
+
+  same_disk : (old new : FormatAccess D) → IsTrue (keeps_data view old) → IsSameImage view old new → disk view new ≡ disk view old
+  same_disk old new k h = same_disk_kept old new (and_left _ _ k) h
 
   pub disk_length : (x : FormatAccess D) → length (disk view x) ≡ (view (driver x)).size
   disk_length x = from_length (disk_value view x) 0 (view (driver x)).size
 
-  flushed : (relation : D → D → Result Unit Error → Type 0) (old new : FormatAccess D) (r : Reply) → IsTrue (view (driver old)).abilities.keeps_data → Answers told_done r (IsFlushed view relation old new) → IsSame (disk view old) r (disk view new)
+  flushed : (relation : D → D → Result Unit Error → Type 0) (old new : FormatAccess D) (r : Reply) → IsTrue (keeps_data view old) → Answers told_done r (IsFlushed view relation old new) → IsSame (disk view old) r (disk view new)
   flushed relation old new r k h = done_or_refused told_done r (IsFlushed view relation old new) _ _ (λ u x. same_disk old new k x.unchanged) (λ e x. same_disk old new k x.unchanged) h
 
-  resized : (old new : FormatAccess D) (op : Operation) (n : ℕ) (effect : Type 0) (done : Type 0) (r : Reply) → IsTrue (view (driver old)).abilities.keeps_data → (effect → done)
+  resized : (old new : FormatAccess D) (op : Operation) (n : ℕ) (effect : Type 0) (done : Type 0) (r : Reply) → IsTrue (keeps_data view old) → (effect → done)
       → Answers told_done r (IsResize view op n effect old new) → DoneOrRefused told_done r (λ u. done) (λ e. disk view new ≡ disk view old)
   resized old new op n effect done r k f h = done_or_refused told_done r (IsResize view op n effect old new) (λ u. done) _ (λ u x. f x.done) (λ e x. same_disk old new k x.unchanged) h
 
   pub shrunk : (old new : FormatAccess D) (n : ℕ) → IsTrue (view (driver old)).abilities.keeps_data → HasShrunk view n old new → disk view new ≡ take n (disk view old)
   shrunk old new n k h = cut_list (disk_value view old) (disk_value view new) (view (driver old)).size (view (driver new)).size n h.size (h.stays k)
 
-  pub grown : (old new : FormatAccess D) (mode : PreallocateMode) (n : ℕ) → IsTrue (view (driver old)).abilities.keeps_data → HasGrown view mode n old new → IsExtended mode (backed_value view old) n (disk view old) (disk view new)
+  pub grown : (old new : FormatAccess D) (mode : PreallocateMode) (n : ℕ) → IsTrue (keeps_data view old) → HasGrown view mode n old new → IsExtended mode (backed_value view old) n (disk view old) (disk view new)
   grown old new mode n k h =
       let s = (view (driver old)).size in
       let l : length (disk view old) ≡ (view (driver old)).size = disk_length old in
@@ -121,13 +126,13 @@ module _ {D St : Type 0} (view : D → View St) where
       (e ∙ ap (λ (m : ℕ). disk view old ++ values_from (disk_value view new) m (n - m)) (sym l))
       (λ p a b. h.added k p (omega arith) b)
 
-  resized_to : (old new : FormatAccess D) (mode : PreallocateMode) (n : ℕ) → IsTrue (view (driver old)).abilities.keeps_data → IsResizeTo view n mode old new (Ok tt) → IsExtended mode (backed_value view old) n (take n (disk view old)) (disk view new)
+  resized_to : (old new : FormatAccess D) (mode : PreallocateMode) (n : ℕ) → IsTrue (keeps_data view old) → IsResizeTo view n mode old new (Ok tt) → IsExtended mode (backed_value view old) n (take n (disk view old)) (disk view new)
   resized_to old new mode n k h =
       let l : length (disk view old) ≡ (view (driver old)).size = disk_length old in
       ⊎_elim
       (λ (lt : n < (view (driver old)).size).
       let whole : n ≤ length (disk view old) = omega arith in
-      is_extended_none mode (backed_value view old) n (take n (disk view old)) (disk view new) (as_long n (disk view old) whole) (shrunk old new n k (h.cut lt).done))
+      is_extended_none mode (backed_value view old) n (take n (disk view old)) (disk view new) (as_long n (disk view old) whole) (shrunk old new n (and_left _ _ k) (h.cut lt).done))
       (λ (le : (view (driver old)).size ≤ n).
       let e : take n (disk view old) ≡ disk view old = take_all n (disk view old) (omega arith) in
       subst (λ (xs : List Value). IsExtended mode (backed_value view old) n xs (disk view new)) (sym e) (grown old new mode n k (h.grown le).done))
@@ -136,7 +141,7 @@ module _ {D St : Type 0} (view : D → View St) where
       as_long : (n : ℕ) (xs : List Value) → n ≤ length xs → n ≤ length (take n xs)
       as_long n xs h = omega (arith, length-take n xs)
 
-  resize_refused : (old new : FormatAccess D) (n : ℕ) (mode : PreallocateMode) (e : Error) → IsTrue (view (driver old)).abilities.keeps_data → IsResizeTo view n mode old new (Err e) → disk view new ≡ disk view old
+  resize_refused : (old new : FormatAccess D) (n : ℕ) (mode : PreallocateMode) (e : Error) → IsTrue (keeps_data view old) → IsResizeTo view n mode old new (Err e) → disk view new ≡ disk view old
   resize_refused old new n mode e k h = same_disk old new k (⊎_elim (λ lt. (h.cut lt).unchanged) (λ le. (h.grown le).unchanged) (cases_lt n (view (driver old)).size))
 
   -- a write past the end fails a test
@@ -169,7 +174,7 @@ module _ {D St : Type 0} (view : D → View St) where
       t)
 
 -- whether a range's end is a number of 64 bits
-zero_cases : (o n : ℕ) → (2 ^ 64 ≤ o + n) ⊎ ((2 ^ 64 ≤ o + n) → ⊥)
+pub zero_cases : (o n : ℕ) → (2 ^ 64 ≤ o + n) ⊎ ((2 ^ 64 ≤ o + n) → ⊥)
 zero_cases o n = ⊎_elim (λ lt. inr (λ ge. omega arith)) (λ ge. inl ge) (cases_lt (o + n) (2 ^ 64))
 
 -- zeroes, as bytes
@@ -192,8 +197,8 @@ module _ {D St : Type 0} (view : D → View St) where
       (bool_cases (view (driver x)).abilities.is_writable)
 
   -- a call that succeeded lies in the disk
-  call_fits : {T nothing : Type 0} {of : Operation → Type 0} {reasons : Reasons} {hidden : Type 0} {part : T → ℕ} {effect : T → Type 0} {remains : Type 0} {t : T} (old new : FormatAccess D) (op : Operation) (o n : ℕ) → Overflows op o n ⊎ (Overflows op o n → ⊥)
-      → IsRangeCall view op o n nothing of reasons hidden part effect remains old new (Ok t) → o + n ≤ (view (driver old)).size
+  call_fits : {T nothing : Type 0} {of : Operation → Type 0} {reasons : Reasons} {hidden : Type 0} {part : T → ℕ} {keeps : Bool} {effect : T → Type 0} {remains : Type 0} {t : T} (old new : FormatAccess D) (op : Operation) (o n : ℕ) → Overflows op o n ⊎ (Overflows op o n → ⊥)
+      → IsRangeCall view op o n nothing of reasons hidden part keeps effect remains old new (Ok t) → o + n ≤ (view (driver old)).size
   call_fits old new op o n over h = ⊎_elim
       (λ (past : (view (driver old)).size < o + n).
       let f = call_fails old op o n over past in
@@ -204,8 +209,8 @@ module _ {D St : Type 0} (view : D → View St) where
       (cases_lt (view (driver old)).size (o + n))
 
   -- a call that a test refused changed nothing
-  call_untouched : {T nothing : Type 0} {of : Operation → Type 0} {reasons : Reasons} {hidden : Type 0} {part : T → ℕ} {effect : T → Type 0} {remains : Type 0} (old new : FormatAccess D) (op : Operation) (o n : ℕ) → Overflows op o n ⊎ (Overflows op o n → ⊥) → (e : Error)
-      → (reasons.read_only → ⊥) → (reasons.range_overflow → ⊥) → IsRangeCall {T = T} view op o n nothing of reasons hidden part effect remains old new (Err e) → IsEndRefusal (disk view old) o n e → disk view new ≡ disk view old
+  call_untouched : {T nothing : Type 0} {of : Operation → Type 0} {reasons : Reasons} {hidden : Type 0} {part : T → ℕ} {keeps : Bool} {effect : T → Type 0} {remains : Type 0} (old new : FormatAccess D) (op : Operation) (o n : ℕ) → Overflows op o n ⊎ (Overflows op o n → ⊥) → (e : Error)
+      → (reasons.read_only → ⊥) → (reasons.range_overflow → ⊥) → IsRangeCall {T = T} view op o n nothing of reasons hidden part keeps effect remains old new (Err e) → IsEndRefusal (disk view old) o n e → disk view new ≡ disk view old
   call_untouched {reasons = reasons} old new op o n over e no_read_only no_overflow h t = ap (disk view) (⊎_elim
       (λ overflow. ⊎_elim (λ f. (h.tested e f).1) (λ a. let none : reasons.range_overflow = subst (allowed reasons) overflow a in absurd (no_overflow none)) h.refusals)
       (λ test. ⊎_elim
@@ -257,12 +262,12 @@ module _ {D St : Type 0} (view : D → View St) (lawful : (d : D) → IsLawful (
         torn = (torn, λ t. from_list (λ f g. IsChanged o (length bytes) (partly (into bytes)) f g) (torn_values (disk view old) o bytes (disk view new) inside t));
       }
 
-  write_done : (old new : FormatAccess D) (o : ℕ) (bytes : List ℕ) → IsTrue (view (driver old)).abilities.keeps_data → IsWrite view old new o bytes (Ok tt) → IsSpliced (disk view old) o bytes (disk view new)
+  write_done : (old new : FormatAccess D) (o : ℕ) (bytes : List ℕ) → IsTrue (keeps_data view old) → IsWrite view old new o bytes (Ok tt) → IsSpliced (disk view old) o bytes (disk view new)
   write_done old new o bytes k h =
       let fits = write_fits view old new o bytes h in
       (inside old new o bytes h.same_size fits, written old new o bytes h.same_size fits (h.done k).0)
 
-  write_refused : (old new : FormatAccess D) (o : ℕ) (bytes : List ℕ) (e : Error) → IsTrue (view (driver old)).abilities.keeps_data → IsWrite view old new o bytes (Err e) → IsTorn (disk view old) o bytes e (disk view new)
+  write_refused : (old new : FormatAccess D) (o : ℕ) (bytes : List ℕ) (e : Error) → IsTrue (keeps_data view old) → IsWrite view old new o bytes (Err e) → IsTorn (disk view old) o bytes e (disk view new)
   write_refused old new o bytes e k h = record {
     old_or_new = ⊎_elim
         (λ (past : (view (driver old)).size < o + length bytes).
@@ -274,13 +279,13 @@ module _ {D St : Type 0} (view : D → View St) (lawful : (d : D) → IsLawful (
     untouched = untouched view old new o bytes e h;
   }
 
-  zero_done : (old new : FormatAccess D) (op : Operation) (o n : ℕ) → Overflows op o n ⊎ (Overflows op o n → ⊥) → IsTrue (view (driver old)).abilities.keeps_data → IsZeroWrite view op old new o n (Ok tt) → IsZeroed (disk view old) o n (disk view new)
+  zero_done : (old new : FormatAccess D) (op : Operation) (o n : ℕ) → Overflows op o n ⊎ (Overflows op o n → ⊥) → IsTrue (keeps_data view old) → IsZeroWrite view op old new o n (Ok tt) → IsZeroed (disk view old) o n (disk view new)
   zero_done old new op o n over k h =
       let fits : o + n ≤ (view (driver old)).size = call_fits view old new op o n over h in
       let len : length (replicate {A = ℕ} n 0) ≡ n = length-replicate n 0 in
       (omega (arith, fits, disk_length view old), written old new o (replicate n 0) h.same_size (omega arith) (zeroes_into o n _ _ (h.done k).0))
 
-  zero_refused : (old new : FormatAccess D) (op : Operation) (o n : ℕ) → Overflows op o n ⊎ (Overflows op o n → ⊥) → (e : Error) → IsTrue (view (driver old)).abilities.keeps_data → IsZeroWrite view op old new o n (Err e) → IsPartlyZeroed (disk view old) o n e (disk view new)
+  zero_refused : (old new : FormatAccess D) (op : Operation) (o n : ℕ) → Overflows op o n ⊎ (Overflows op o n → ⊥) → (e : Error) → IsTrue (keeps_data view old) → IsZeroWrite view op old new o n (Err e) → IsPartlyZeroed (disk view old) o n e (disk view new)
   zero_refused old new op o n over e k h = record {
     old_or_zero = ⊎_elim
         (λ (past : (view (driver old)).size < o + n).
@@ -327,11 +332,11 @@ module _ {D St : Type 0} (view : D → View St) (lawful : (d : D) → IsLawful (
   listed P old new h = subst (λ (f : ℕ → Value). P f (value_at (disk view new))) (values_in_list old) (subst (λ (f : ℕ → Value). P (disk_value view old) f) (values_in_list new) h)
 
   -- a test refuses a write or a mapping
-  test_untouched : {T nothing : Type 0} {of : Operation → Type 0} {reasons : Reasons} {hidden : Type 0} {part : T → ℕ} {effect : T → Type 0} {remains : Type 0} (old new : FormatAccess D) (o n : ℕ) (e : Error)
-      → (reasons.read_only → ⊥) → (reasons.range_overflow → ⊥) → IsRangeCall {T = T} view Write o n nothing of reasons hidden part effect remains old new (Err e) → IsTestRefusal (disk view old) o n e → disk view new ≡ disk view old
+  test_untouched : {T nothing : Type 0} {of : Operation → Type 0} {reasons : Reasons} {hidden : Type 0} {part : T → ℕ} {keeps : Bool} {effect : T → Type 0} {remains : Type 0} (old new : FormatAccess D) (o n : ℕ) (e : Error)
+      → (reasons.read_only → ⊥) → (reasons.range_overflow → ⊥) → IsRangeCall {T = T} view Write o n nothing of reasons hidden part keeps effect remains old new (Err e) → IsTestRefusal (disk view old) o n e → disk view new ≡ disk view old
   test_untouched old new o n e a b h t = call_untouched view old new Write o n (inr (λ z. z)) e a b h (inr t)
 
-  data_step : (old new : FormatAccess D) (o n : ℕ) (overwrite : Bool) (r : Reply) → IsTrue (view (driver old)).abilities.keeps_data → Answers told_data r (IsDataMapped view old new o n overwrite) → IsDataStep (disk view old) o n overwrite r (disk view new)
+  data_step : (old new : FormatAccess D) (o n : ℕ) (overwrite : Bool) (r : Reply) → IsTrue (keeps_data view old) → Answers told_data r (IsDataMapped view old new o n overwrite) → IsDataStep (disk view old) o n overwrite r (disk view new)
   data_step old new o n overwrite r k h = done_or_refused told_data r (IsDataMapped view old new o n overwrite) _ _
       (λ m x.
       let fits = call_fits view old new Write o n (inr (λ z. z)) x.call in
@@ -339,7 +344,7 @@ module _ {D St : Type 0} (view : D → View St) (lawful : (d : D) → IsLawful (
       (λ e x. (overwritten_list overwrite (disk view old) (disk view new) o n (list_length old new x.call.same_size) (listed (λ f g. IsChanged o n (overwritten overwrite) f g) old new (x.call.torn k)), test_untouched old new o n e (λ a. a) (λ a. a) x.call))
       h
 
-  prepared_done : (old new : FormatAccess D) (o n : ℕ) (overwrite : Bool) (bytes : List ℕ) (commit : Bool) (m : ℕ × Bool) → IsTrue (view (driver old)).abilities.keeps_data → IsMappedWrite view old new o n overwrite bytes commit (Ok m)
+  prepared_done : (old new : FormatAccess D) (o n : ℕ) (overwrite : Bool) (bytes : List ℕ) (commit : Bool) (m : ℕ × Bool) → IsTrue (keeps_data view old) → IsMappedWrite view old new o n overwrite bytes commit (Ok m)
       → (o + n ≤ length (disk view old)) × IsPart n m.0 × IsFilledIn (overwrite && not m.1) (disk view old) o (shown_length commit m) bytes (disk view new)
   prepared_done old new o n overwrite bytes commit m k x =
       let fits = call_fits view old new Write o n (inr (λ z. z)) x.call in
@@ -354,7 +359,7 @@ module _ {D St : Type 0} (view : D → View St) (lawful : (d : D) → IsLawful (
             (listed (λ f g. IsChanged o (shown_length commit m) (filled (overwrite && not m.1) bytes) f g) old new (x.call.done k).0),
       )
 
-  prepared_refused : (old new : FormatAccess D) (o n : ℕ) (overwrite : Bool) (bytes : List ℕ) (commit : Bool) (e : Error) → IsTrue (view (driver old)).abilities.keeps_data → IsMappedWrite view old new o n overwrite bytes commit (Err e)
+  prepared_refused : (old new : FormatAccess D) (o n : ℕ) (overwrite : Bool) (bytes : List ℕ) (commit : Bool) (e : Error) → IsTrue (keeps_data view old) → IsMappedWrite view old new o n overwrite bytes commit (Err e)
       → IsPartlyFilled overwrite (disk view old) o n bytes e (disk view new)
   prepared_refused old new o n overwrite bytes commit e k x = record {
     same_length = list_length old new x.call.same_size;
@@ -386,25 +391,29 @@ module _ {D St : Type 0} (view : D → View St) (lawful : (d : D) → IsLawful (
       unreadable)
       h
 
+  -- an image that keeps data tells its bytes
+  told_of : (x : FormatAccess D) → IsTrue (keeps_data view x) → IsTrue (tells_bytes view x)
+  told_of x k = told_out view x ∙ and_both _ _ ((lawful (driver x)).told (and_left _ _ k)) (and_right _ _ k)
+
   -- what a read answers is the part of the list
-  read_part : (its : Calls D St) (x : FormatAccess D) (o n : ℕ) (r : Reply) → Answers R.Data r (IsBufferRead view its x o n) → IsDataOf (disk view x) o n r
-  read_part its x o n r h = done_or_refused R.Data r (IsBufferRead view its x o n) _ _
-      (λ v y. (y.bytes.0, λ k lt. let i : k < length v.items = omega (arith, y.bytes.0) in sym (value_in_list x (o + k)) ∙ y.bytes.1 k i))
+  read_part : (its : Calls D St) (x : FormatAccess D) (o n : ℕ) (r : Reply) → IsTrue (tells_bytes view x) → Answers R.Data r (IsBufferRead view its x o n) → IsDataOf (disk view x) o n r
+  read_part its x o n r tells h = done_or_refused R.Data r (IsBufferRead view its x o n) _ _
+      (λ v y. (y.long, λ k lt. let i : k < length v.items = omega (arith, y.long) in sym (value_in_list x (o + k)) ∙ y.bytes tells k i))
       (λ e y. read_refused x o n e y.refusals) h
 
   mapped_part : (its : Calls D St) (x : FormatAccess D) (o n : ℕ) (r : Reply) → Answers told_mapping r (IsMapped view its x o n) → IsMappingOf (disk view x) o n r
   mapped_part its x o n r h = done_or_refused told_mapping r (IsMapped view its x o n) _ _
       (λ m y. record {
         within = y.right.within;
-        names = λ k lt. mapped_value m.0 k (target view x (o + k)) (value_at (disk view x) (o + k)) (sym (value_in_list x (o + k)) ∙ target_shows view x (o + k)) (y.right.leads k lt);
+        names = λ k lt. mapped_value m.0 k (target view x (o + k)) (value_at (disk view x) (o + k)) (target_faulty view lawful x (o + k)) (sym (value_in_list x (o + k)) ∙ target_shows view x (o + k)) (y.right.leads k lt);
         empty = y.right.empty;
         past = λ ge. y.right.eof.1 ((lawful (driver x)).bounded o (omega (arith, ge, disk_length view x)));
       })
       (λ e y unreadable. sym (value_in_list x o) ∙ y.refused_place unreadable) h
 
   -- one step, on lists
-  flat_step : (its : Calls D St) (old new : FormatAccess D) (call : Call) (r : Reply) → IsTrue (view (driver old)).abilities.keeps_data → IsStep view its old call r new → IsFlatStep (backed_value view old) (disk view old) call r (disk view new)
-  flat_step its old new (C.Read o n) r k h = (ap (disk view) h.0, read_part its old o n r h.1)
+  flat_step : (its : Calls D St) (old new : FormatAccess D) (call : Call) (r : Reply) → IsTrue (keeps_data view old) → IsStep view its old call r new → IsFlatStep (backed_value view old) (disk view old) call r (disk view new)
+  flat_step its old new (C.Read o n) r k h = (ap (disk view) h.0, read_part its old o n r (told_of old k) h.1)
   flat_step its old new C.Size r k h = (ap (disk view) h.0, h.1 ∙ ap R.Size (sym (disk_length view old)))
   flat_step its old new (C.GetMapping o n) r k h = (ap (disk view) h.0, mapped_part its old o n r h.1)
   flat_step its old new (C.Write o bytes) r k h = done_or_refused told_done r (IsWrite view old new o bytes.items) _ _ (λ u. write_done old new o bytes.items k) (λ e x. write_refused old new o bytes.items e k x) (h.0, h.1, h.2.0)
@@ -418,22 +427,60 @@ module _ {D St : Type 0} (view : D → View St) (lawful : (d : D) → IsLawful (
   flat_step its old new (C.WriteZeroes o n) r k h = done_or_refused told_done r (IsZeroWrite view Zero old new o n) _ _ (λ u x. zero_done old new Zero o n (zero_cases o n) k x) (λ e x. zero_refused old new Zero o n (zero_cases o n) e k x) (h.0, h.1, h.2.0)
   flat_step its old new (C.DiscardToZero o n) r k h = done_or_refused told_done r (IsZeroWrite view DiscardToZero old new o n) _ _ (λ u x. zero_done old new DiscardToZero o n (zero_cases o n) k x) (λ e x. zero_refused old new DiscardToZero o n (zero_cases o n) e k x) (h.0, h.1, h.2.0)
   flat_step its old new (C.DiscardToAny o n) r k h = done_or_refused told_done r (IsImageDiscard view its X.ToAny old new o n) _ _
-      (λ u x. let fits = call_fits view old new DiscardToAny o n (zero_cases o n) x.range in (omega (arith, fits, disk_length view old), unspecified_list old new o n x.range.same_size (x.range.done k)))
-      (λ e x. (unspecified_list old new o n x.range.same_size (x.range.torn k), call_untouched view old new DiscardToAny o n (zero_cases o n) e (λ a. a) (λ a. a) x.range)) h
+      (λ u x. let fits = call_fits view old new DiscardToAny o n (zero_cases o n) x.range in (omega (arith, fits, disk_length view old), unspecified_list old new o n x.range.same_size (x.range.done (and_left _ _ k))))
+      (λ e x. (unspecified_list old new o n x.range.same_size (x.range.torn (and_left _ _ k)), call_untouched view old new DiscardToAny o n (zero_cases o n) e (λ a. a) (λ a. a) x.range)) h
   flat_step its old new (C.DiscardToBacking o n) r k h = done_or_refused told_done r (IsImageDiscard view its X.ToBacking old new o n) _ _
-      (λ u x. let fits = call_fits view old new DiscardToBacking o n (zero_cases o n) x.range in (omega (arith, fits, disk_length view old), given_back_list old new o n x.range.same_size (x.range.done k)))
-      (λ e x. (given_back_list old new o n x.range.same_size (x.range.torn k), call_untouched view old new DiscardToBacking o n (zero_cases o n) e (λ a. a) (λ a. a) x.range)) h
+      (λ u x. let fits = call_fits view old new DiscardToBacking o n (zero_cases o n) x.range in (omega (arith, fits, disk_length view old), given_back_list old new o n x.range.same_size (x.range.done (and_left _ _ k))))
+      (λ e x. (given_back_list old new o n x.range.same_size (x.range.torn (and_left _ _ k)), call_untouched view old new DiscardToBacking o n (zero_cases o n) e (λ a. a) (λ a. a) x.range)) h
   flat_step its old new (C.Resize n mode) r k h = done_or_refused told_done r (IsResizeTo view n mode old new) _ _ (λ u. resized_to view old new mode n k) (λ e x. resize_refused view old new n mode e k x) (h.0, h.1, h.2.0)
   flat_step its old new (C.ResizeGrow n mode) r k h = resized view old new _ n (HasGrown view mode n old new) _ r k (grown view old new mode n k) (h.0, h.1, h.2.0)
-  flat_step its old new (C.ResizeShrink n) r k h = resized view old new _ n (HasShrunk view n old new) _ r k (shrunk view old new n k) (h.0, h.1, h.2.0)
+  flat_step its old new (C.ResizeShrink n) r k h = resized view old new _ n (HasShrunk view n old new) _ r k (shrunk view old new n (and_left _ _ k)) (h.0, h.1, h.2.0)
 
   -- a run, on lists
-  pub flat_history : (its : Calls D St) (old new : FormatAccess D) (calls : List Call) (replies : List Reply) → IsTrue (view (driver old)).abilities.keeps_data → IsRun view its old calls replies new → IsFlatHistory (backed_value view old) (disk view old) calls replies (disk view new)
+  pub flat_history : (its : Calls D St) (old new : FormatAccess D) (calls : List Call) (replies : List Reply) → IsTrue (keeps_data view old) → IsRun view its old calls replies new → IsFlatHistory (backed_value view old) (disk view old) calls replies (disk view new)
   flat_history its old new [] [] k h = ap (disk view) h
   flat_history its old new [] (r ∷ rs) k h = absurd h
   flat_history its old new (c ∷ cs) [] k h = absurd h
   flat_history its old new (c ∷ cs) (r ∷ rs) k h =
       let s = step_kept view its old h.0 c r h.1 in
-      let keeps : IsTrue (view (driver h.0)).abilities.keeps_data = rw s.kind.abilities k in
+      let keeps : IsTrue (keeps_data view h.0) = rw (s.kind.abilities, s.below) k in
       let rest = flat_history its h.0 new cs rs keeps h.2 in
       (disk view h.0, flat_step its old h.0 c r k h.1, subst (λ (below : ℕ → Value). IsFlatHistory below (disk view h.0) cs rs (disk view new)) (same_backed view old h.0 s) rest)
+
+  -- What each call does to the disk, by what it does at each offset.
+
+  pub write_listed : (old new : FormatAccess D) (o : ℕ) (bytes : List ℕ) (result : Result (Unit {0}) Error) → IsTrue (keeps_data view old) → IsWrite view old new o bytes result → WritesDisk (disk view old) o bytes result (disk view new)
+  write_listed old new o bytes (Ok u) k h = (write_done old new o bytes k h, tt)
+  write_listed old new o bytes (Err e) k h = (tt, write_refused old new o bytes e k h)
+
+  pub zero_listed : (old new : FormatAccess D) (op : Operation) (o n : ℕ) → Overflows op o n ⊎ (Overflows op o n → ⊥) → (result : Result (Unit {0}) Error) → IsTrue (keeps_data view old) → IsZeroWrite view op old new o n result → ZeroesDisk (disk view old) o n result (disk view new)
+  zero_listed old new op o n over (Ok u) k h = (zero_done old new op o n over k h, tt)
+  zero_listed old new op o n over (Err e) k h = (tt, zero_refused old new op o n over e k h)
+
+  pub any_listed : (its : Calls D St) (old new : FormatAccess D) (o n : ℕ) (result : Result (Unit {0}) Error) → IsTrue (view (driver old)).abilities.keeps_data → IsImageDiscard view its X.ToAny old new o n result → DiscardsOfDisk (disk view old) o n (IsUnspecifiedIn (disk view old) o n (disk view new)) result (disk view new)
+  any_listed its old new o n (Ok u) k h =
+      let fits = call_fits view old new DiscardToAny o n (zero_cases o n) h.range in
+      ((omega (arith, fits, disk_length view old), unspecified_list old new o n h.range.same_size (h.range.done k)), tt)
+  any_listed its old new o n (Err e) k h = (tt, (unspecified_list old new o n h.range.same_size (h.range.torn k), call_untouched view old new DiscardToAny o n (zero_cases o n) e (λ a. a) (λ a. a) h.range))
+
+  pub backing_listed : (its : Calls D St) (old new : FormatAccess D) (o n : ℕ) (result : Result (Unit {0}) Error) → IsTrue (view (driver old)).abilities.keeps_data → IsImageDiscard view its X.ToBacking old new o n result → DiscardsOfDisk (disk view old) o n (IsGivenBack (backed_value view old) (disk view old) o n (disk view new)) result (disk view new)
+  backing_listed its old new o n (Ok u) k h =
+      let fits = call_fits view old new DiscardToBacking o n (zero_cases o n) h.range in
+      ((omega (arith, fits, disk_length view old), given_back_list old new o n h.range.same_size (h.range.done k)), tt)
+  backing_listed its old new o n (Err e) k h = (tt, (given_back_list old new o n h.range.same_size (h.range.torn k), call_untouched view old new DiscardToBacking o n (zero_cases o n) e (λ a. a) (λ a. a) h.range))
+
+  pub growth_listed : (old new : FormatAccess D) (mode : PreallocateMode) (n : ℕ) (result : Result (Unit {0}) Error) → IsTrue (keeps_data view old) → IsResize view (Grow mode) n (HasGrown view mode n old new) old new result → ResizesDisk (disk view old) (IsExtended mode (backed_value view old) n (disk view old) (disk view new)) result (disk view new)
+  growth_listed old new mode n (Ok u) k h = (grown view old new mode n k h.done, tt)
+  growth_listed old new mode n (Err e) k h = (tt, same_disk view old new k h.unchanged)
+
+  pub cut_listed : (old new : FormatAccess D) (n : ℕ) (result : Result (Unit {0}) Error) → IsTrue (view (driver old)).abilities.keeps_data → IsResize view Shrink n (HasShrunk view n old new) old new result → ResizesDisk (disk view old) (disk view new ≡ take n (disk view old)) result (disk view new)
+  cut_listed old new n (Ok u) k h = (shrunk view old new n k h.done, tt)
+  cut_listed old new n (Err e) k h = (tt, same_disk_kept view old new k h.unchanged)
+
+  pub resize_listed : (old new : FormatAccess D) (mode : PreallocateMode) (n : ℕ) (result : Result (Unit {0}) Error) → IsTrue (keeps_data view old) → IsResizeTo view n mode old new result → ResizesDisk (disk view old) (IsExtended mode (backed_value view old) n (take n (disk view old)) (disk view new)) result (disk view new)
+  resize_listed old new mode n (Ok u) k h = (resized_to view old new mode n k h, tt)
+  resize_listed old new mode n (Err e) k h = (tt, resize_refused view old new n mode e k h)
+
+  pub read_listed : (x : FormatAccess D) (o : ℕ) (buffer : List ℕ) (n : ℕ) (result : Result (Unit {0}) Error) → length buffer ≡ n → OnOk result (HasValues (disk_value view x) o buffer) → OnOk result (IsPartOf (disk view x) o n buffer)
+  read_listed x o buffer n (Ok u) long h = (long, λ k lt. sym (value_in_list x (o + k)) ∙ h k (omega (arith, long, lt)))
+  read_listed x o buffer n (Err e) long h = tt

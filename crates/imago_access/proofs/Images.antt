@@ -4,7 +4,7 @@ use Rattle.std.specs.Option.{option_copied}
 use Rattle.imago_storage.specs.Faults.{CountsFaults}
 use Rattle.imago_drivers.specs.Frame.{IsKind, IsUnchanged, ReachesNoMore}
 use Rattle.imago_drivers.specs.Causes.{Causes, Copies, IsSettled, IsOnRange}
-use Rattle.imago_drivers.specs.Done.{lending_reasons}
+use Rattle.imago_drivers.specs.Done.{lending_reasons, keeps_over}
 use Rattle.imago_drivers.specs.Prepared.{IsPrepared}
 use Rattle.imago_drivers.specs.declared.mapping.PreparedDataMapping.{PreparedDataMapping}
 use Rattle.std.specs.Borrow.{Bor}
@@ -131,9 +131,9 @@ same_lengths s longest = record { no_shorter = λ i. omega arith; no_longer = λ
 shows_faults : {T : Type 0} (r : Bool) (a b : ℕ) (result : Result T Error) → CountsFaults r a b result → ShowsFaults ⊥ r a b result
 shows_faults r a b result h = record { later = h.later; reliable = h.reliable; device = λ e. inl (h.device e) }
 
-module _ {D St T : Type 0} (view : D → View St) (x : FormatAccess D) (op : Operation) (o n : ℕ) (nothing : Type 0) (of : Operation → Type 0) (reasons : Reasons) (hidden : Type 0) (part : T → ℕ) (effect : T → Type 0) (remains : Type 0) where
+module _ {D St T : Type 0} (view : D → View St) (x : FormatAccess D) (op : Operation) (o n : ℕ) (nothing : Type 0) (of : Operation → Type 0) (reasons : Reasons) (hidden : Type 0) (part : T → ℕ) (keeps : Bool) (effect : T → Type 0) (remains : Type 0) where
   -- a call that a test refuses
-  pub failed_call : (e : Error) → FailsTest (view (driver x)) op o n e → remains → (view (driver x)).pending ≡ None → IsRangeCall view op o n nothing of reasons hidden part effect remains x x (Err e)
+  pub failed_call : (e : Error) → FailsTest (view (driver x)) op o n e → remains → (view (driver x)).pending ≡ None → IsRangeCall view op o n nothing of reasons hidden part keeps effect remains x x (Err e)
   failed_call e f r p = record {
     tested = λ z g. (ap (λ y. Err y) (same_test (view (driver x)) op o n e z f g), refl);
     idle = λ i passed. absurd (passed e f);
@@ -153,13 +153,13 @@ module _ {D St T : Type 0} (view : D → View St) (x : FormatAccess D) (op : Ope
 
   -- a call that passed its tests
   pub passed_call : (d : D) (result : Result T Error) → (view (driver x)).abilities.is_writable ≡ true → o + n ≤ (view (driver x)).size → (Overflows op o n → ⊥) → (nothing → IsOk result × (d ≡ driver x))
-      → (IsTrue (view (driver x)).abilities.keeps_data → IfOk result effect) → (IsTrue (view (driver x)).abilities.keeps_data → OnErr result remains)
+      → (IsTrue keeps → IfOk result effect) → (IsTrue keeps → OnErr result remains)
       → ((IsLoose op → ⊥) → ReachesNoMore (view (driver x)) (view d))
       → IfOk result (λ r. IsSettled of (view (driver x)).limits.cause (view d).limits.cause (view (driver x)).limits.copies (view d).limits.copies o (part r))
       → StaysFramed (view (driver x)) (view d)
       → MovesWithin op o n (view (driver x)) (view d) → (view d).pending ≡ None
       → ShowsFaults hidden (devices_reliable view x) (view (driver x)).fault_count (view d).fault_count result
-      → IfErr result (allowed reasons) → IsRangeCall view op o n nothing of reasons hidden part effect remains x (with_driver x d) result
+      → IfErr result (allowed reasons) → IsRangeCall view op o n nothing of reasons hidden part keeps effect remains x (with_driver x d) result
   passed_call d result w fits small idle done torn reaches settled framed moved spent faults refusals =
       let e : driver (with_driver x d) ≡ d = driver_with x d in
       record {
@@ -184,7 +184,7 @@ pub image_write : {D St : Type 0} (view : D → View St) (x : FormatAccess D) (d
     → HasWrittenAll l (CommitMayTakeMemory view (driver x)) (view (driver x)) (view d) o bytes result → IsWrite view x (with_driver x d) o bytes result
 image_write {D} view x d o bytes result l e w fits idle h =
     let k = subst (λ (m : LayerBelow). HasWrittenAll m (CommitMayTakeMemory view (driver x)) (view (driver x)) (view d) o bytes result) e h in
-    passed_call view x Operation.Write o (length bytes) _ _ _ _ _ _ _ d result w fits (λ z. z) idle
+    passed_call view x Operation.Write o (length bytes) _ _ _ _ _ _ _ _ d result w fits (λ z. z) idle
     (λ keeps. on_ok result _ (both result (λ c s. (changed_image view x d (λ a b. IsChanged o (length bytes) (into bytes) a b) c, subst (λ (y : D). StandsAlone (view y).place o (length bytes)) (sym (driver_with x d)) s)) (k.done keeps) k.alone))
     (λ keeps. err_more result _ _ (λ c. changed_image view x d (λ a b. IsChanged o (length bytes) (partly (into bytes)) a b) c) (k.torn keeps))
     (λ z. k.reaches)
@@ -202,13 +202,13 @@ image_write {D} view x d o bytes result l e w fits idle h =
 -- a write through a mapping by the driver, over what it is lent
 pub image_mapped : {D St : Type 0} (view : D → View St) (x : FormatAccess D) (d : D) (o n : ℕ) (w : Bool) (bytes : List ℕ) (commit : Bool) (result : Result (ℕ × Bool) Error) (l : LayerBelow) → l ≡ lent_image view (backing x)
     → (view (driver x)).abilities.is_writable ≡ true → o + n ≤ (view (driver x)).size
-    → IfOk result (WasPrepared view (values l.at (view (driver x)).place) (driver x) o n w)
+    → IfOk result (WasPrepared view l.tells_bytes (values l.at (view (driver x)).place) (driver x) o n w)
     → HasMapped l (CommitMayTakeMemory view (driver x)) (view (driver x)) (view d) o n w bytes commit result → IsMappedWrite view x (with_driver x d) o n w bytes commit result
 image_mapped {D} view x d o n w bytes commit result l e writable fits told h =
     let k = subst (λ (m : LayerBelow). HasMapped m (CommitMayTakeMemory view (driver x)) (view (driver x)) (view d) o n w bytes commit result) e h in
     record {
-      told = subst (λ (f : ℕ → Value). IfOk result (WasPrepared view f (driver x) o n w)) (sym (value_out view x)) (subst (λ (m : LayerBelow). IfOk result (WasPrepared view (values m.at (view (driver x)).place) (driver x) o n w)) e told);
-      call = passed_call view x Operation.Write o n _ _ _ _ _ _ _ d result writable fits (λ z. z) (λ i. absurd i)
+      told = subst (λ (f : ℕ → Value). IfOk result (WasPrepared view (lent_image view (backing x)).tells_bytes f (driver x) o n w)) (sym (value_out view x)) (subst (λ (m : LayerBelow). IfOk result (WasPrepared view m.tells_bytes (values m.at (view (driver x)).place) (driver x) o n w)) e told);
+      call = passed_call view x Operation.Write o n _ _ _ _ _ _ _ _ d result writable fits (λ z. z) (λ i. absurd i)
           (λ keeps. ok_both result _ _ _ (λ m c s. (changed_image view x d (λ a b. IsChanged o (shown_length commit m) (shown_change w bytes m) a b) c, subst (λ (y : D). StandsAlone (view y).place o (shown_length commit m)) (sym (driver_with x d)) s)) (k.done keeps) k.alone)
           (λ keeps. err_more result _ _ (λ c. changed_image view x d (λ a b. IsChanged o n (partly (filled w bytes)) a b) c) (k.torn keeps))
           (λ z. k.reaches) k.settled k.framed k.outside k.spent (shows_faults _ _ _ result k.faults) k.refusals;
@@ -218,14 +218,14 @@ pub failed_mapped : {D St : Type 0} (view : D → View St) (x : FormatAccess D) 
     → IsMappedWrite view x x o n w bytes commit (Err e)
 failed_mapped view x o n w bytes commit e f p = record {
   told = tt;
-  call = failed_call view x Operation.Write o n _ _ _ _ _ _ _ e f (record { inside = λ k h. inl refl; before = λ q h. refl; behind = λ q h. refl }) p;
+  call = failed_call view x Operation.Write o n _ _ _ _ _ _ _ _ e f (record { inside = λ k h. inl refl; before = λ q h. refl; behind = λ q h. refl }) p;
 }
 
 -- a data mapping by the driver, over what it is lent
 pub image_ensured : {D St : Type 0} (view : D → View St) (x : FormatAccess D) (d : D) (o n : ℕ) (w : Bool) (result : Result (ℕ × ℕ × ℕ) Error) (l : LayerBelow) → l ≡ lent_image view (backing x)
     → (view (driver x)).abilities.is_writable ≡ true → o + n ≤ (view (driver x)).size
-    → (IsTrue (view (driver x)).abilities.keeps_data → IfOk result (λ r. IsChanged o r.2 (overwritten w) (values l.at (view (driver x)).place) (values l.at (view d).place)))
-    → (IsTrue (view (driver x)).abilities.keeps_data → OnErr result (IsChanged o n (overwritten w) (values l.at (view (driver x)).place) (values l.at (view d).place)))
+    → (IsTrue (keeps_over (view (driver x)) l) → IfOk result (λ r. IsChanged o r.2 (overwritten w) (values l.at (view (driver x)).place) (values l.at (view d).place)))
+    → (IsTrue (keeps_over (view (driver x)) l) → OnErr result (IsChanged o n (overwritten w) (values l.at (view (driver x)).place) (values l.at (view d).place)))
     → ReachesNoMore (view (driver x)) (view d)
     → IfOk result (λ r. IsSettled IsOnRange (view (driver x)).limits.cause (view d).limits.cause (view (driver x)).limits.copies (view d).limits.copies o r.2)
     → StaysFramed (view (driver x)) (view d)
@@ -235,9 +235,9 @@ pub image_ensured : {D St : Type 0} (view : D → View St) (x : FormatAccess D) 
     → CountsFaults ((view (driver x)).abilities.is_reliable && l.is_reliable) (view (driver x)).fault_count (view d).fault_count result
     → IfErr result (allowed (lending_reasons (view (driver x)) l Operation.Write o n)) → IsEnsured view x (with_driver x d) o n w result
 image_ensured view x d o n w result l h writable fits done torn reaches settled framed outside spent faults refusals =
-    passed_call view x Operation.Write o n _ _ _ _ _ _ _ d result writable fits (λ z. z) (λ i. absurd i)
-    (λ k. ok_more result _ _ (λ r c. changed_image view x d (λ a b. IsChanged o r.2 (overwritten w) a b) c) (subst (λ (m : LayerBelow). IfOk result (λ r. IsChanged o r.2 (overwritten w) (values m.at (view (driver x)).place) (values m.at (view d).place))) h (done k)))
-    (λ k. err_more result _ _ (λ c. changed_image view x d (λ a b. IsChanged o n (overwritten w) a b) c) (subst (λ (m : LayerBelow). OnErr result (IsChanged o n (overwritten w) (values m.at (view (driver x)).place) (values m.at (view d).place))) h (torn k)))
+    passed_call view x Operation.Write o n _ _ _ _ _ _ _ _ d result writable fits (λ z. z) (λ i. absurd i)
+    (λ k. ok_more result _ _ (λ r c. changed_image view x d (λ a b. IsChanged o r.2 (overwritten w) a b) c) (subst (λ (m : LayerBelow). IfOk result (λ r. IsChanged o r.2 (overwritten w) (values m.at (view (driver x)).place) (values m.at (view d).place))) h (done (subst (λ (m : LayerBelow). IsTrue (keeps_over (view (driver x)) m)) (sym h) k))))
+    (λ k. err_more result _ _ (λ c. changed_image view x d (λ a b. IsChanged o n (overwritten w) a b) c) (subst (λ (m : LayerBelow). OnErr result (IsChanged o n (overwritten w) (values m.at (view (driver x)).place) (values m.at (view d).place))) h (torn (subst (λ (m : LayerBelow). IsTrue (keeps_over (view (driver x)) m)) (sym h) k))))
     (λ z. reaches)
     (ok_more result _ _ (λ r s. settles_for Operation.Write _ _ _ _ o r.2 s) settled)
     framed (moved_outside Operation.Write o n (view (driver x)) (view d) outside) spent
@@ -292,8 +292,8 @@ failed_preparing {St = St} view x o n e f p = record {
 
 -- what is prepared over what the driver is lent is prepared over the disk
 pub image_prepared : {D St : Type 0} (view : D → View St) (x : FormatAccess D) (d : D) (o n : ℕ) (w : Bool) (m : PreparedDataMapping St) (l : LayerBelow) → l ≡ lent_image view (backing x)
-    → IsPrepared o n w (values l.at (view (driver x)).place) (view (driver x)) (view d) m → IsPrepared o n w (disk_value view x) (view (driver x)) (view (driver (with_driver x d))) m
+    → IsPrepared o n w l.tells_bytes (values l.at (view (driver x)).place) (view (driver x)) (view d) m → IsPrepared o n w (lent_image view (backing x)).tells_bytes (disk_value view x) (view (driver x)) (view (driver (with_driver x d))) m
 image_prepared {D = D} view x d o n w m l h p =
-    let a = subst (λ (k : LayerBelow). IsPrepared o n w (values k.at (view (driver x)).place) (view (driver x)) (view d) m) h p in
-    let b = subst (λ (f : ℕ → Value). IsPrepared o n w f (view (driver x)) (view d) m) (sym (value_out view x)) a in
-    subst (λ (y : D). IsPrepared o n w (disk_value view x) (view (driver x)) (view y) m) (sym (driver_with x d)) b
+    let a = subst (λ (k : LayerBelow). IsPrepared o n w k.tells_bytes (values k.at (view (driver x)).place) (view (driver x)) (view d) m) h p in
+    let b = subst (λ (f : ℕ → Value). IsPrepared o n w (lent_image view (backing x)).tells_bytes f (view (driver x)) (view d) m) (sym (value_out view x)) a in
+    subst (λ (y : D). IsPrepared o n w (lent_image view (backing x)).tells_bytes (disk_value view x) (view (driver x)) (view y) m) (sym (driver_with x d)) b

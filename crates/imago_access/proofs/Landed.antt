@@ -3,7 +3,7 @@ use Rattle.std.proofs.lemmas.Bool.{cases_lt}
 use Rattle.imago_storage.specs.declared.error.Error.{Error}
 use Rattle.imago_storage.specs.declared.error.Error.TheVariants as E
 use Rattle.imago_drivers.specs.Operation.{Map}
-use Rattle.imago_drivers.specs.Place.{Unreadable, Place, Stored, Zeroed, Special, Lower, Refused, End}
+use Rattle.imago_drivers.specs.Place.{Value, Unreadable, Place, Stored, Zeroed, Special, Lower, Refused, End}
 use Rattle.imago_drivers.specs.View.{View}
 use Rattle.imago_drivers.specs.Reasons.{allowed}
 use Rattle.imago_drivers.specs.Laws.{AreCauses}
@@ -45,7 +45,7 @@ module _ {D St : Type 0} (view : D → View St) (x : FormatAccess D) (o most : �
   pub raw_leads : (i s f d : ℕ) (v : Bool) → d ≡ told_depth hops → i < left → ((b : ℕ) × ((view (driver layer)).place (at + i) ≡ Stored b s (f + i) v)) → LeadsTo (Mapping.Raw d s f (w && v)) i (target view x (o + i))
   raw_leads i s f d v k lt (b, h) = let t = landed_at i (Stored b s (f + i) v) lt h (λ z. refl) in rw t (k, (b, v, refl, refl))
 
-  pub special_leads : (i f d : ℕ) → d ≡ told_depth hops → i < left → ((b : ℕ) × ((view (driver layer)).place (at + i) ≡ Special b (f + i))) → LeadsTo (Mapping.Special d f) i (target view x (o + i))
+  pub special_leads : (i f d : ℕ) → d ≡ told_depth hops → i < left → ((b : Value) × ((view (driver layer)).place (at + i) ≡ Special b (f + i))) → LeadsTo (Mapping.Special d f) i (target view x (o + i))
   special_leads i f d k lt (b, h) = let t = landed_at i (Special b (f + i)) lt h (λ z. refl) in rw t (k, (b, refl))
 
   pub zero_leads : (i d : ℕ) (e : Bool) → d ≡ told_depth hops → i < left → (view (driver layer)).place (at + i) ≡ Zeroed e → LeadsTo (Mapping.Zero (e && nat_eq d 0)) i (target view x (o + i))

@@ -64,7 +64,7 @@ module _ {D St : Type 0} (view : D → View St) (its : Calls D St) (call : Disca
 -- one that failed them
 pub failed_discard : {D St : Type 0} (view : D → View St) (its : Calls D St) (call : DiscardCall) (x : FormatAccess D) (o n : ℕ) (e : Error) → FailsTest (view (driver x)) (discard_of call) o n e → (view (driver x)).pending ≡ None → IsImageDiscard view its call x x o n (Err e)
 failed_discard view its call x o n e f spent = record {
-  range = failed_call view x (discard_of call) o n _ _ _ _ _ _ _ e f (not_loosened view call x o n) spent;
+  range = failed_call view x (discard_of call) o n _ _ _ _ _ _ _ _ e f (not_loosened view call x o n) spent;
   performed = λ passed. absurd (passed e f);
 }
 

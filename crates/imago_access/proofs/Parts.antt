@@ -3,6 +3,7 @@ use Rattle.std.specs.Prelude.{IsTrue, IsErrOf, is_none, not}
 use Rattle.imago_storage.specs.declared.error.Error.{Error}
 use Rattle.imago_storage.specs.declared.error.Error.TheVariants as E
 use Rattle.imago_storage.specs.Faults.{RoseOrSaturated}
+use Rattle.imago_drivers.specs.Done.{keeps_over}
 use Rattle.imago_drivers.specs.declared.mapping.PreparedDataMapping.{PreparedDataMapping}
 use Rattle.imago_drivers.specs.Operation.{Operation}
 use Rattle.imago_drivers.specs.Place.{Value, Stored, Lower, values, shown, SamePlaces}
@@ -23,10 +24,10 @@ use Rattle.imago_drivers.proofs.Stays.{shares_more, stays_weaker}
 use Rattle.imago_access.specs.Moves.{MayMove, MovesWithin}
 use Rattle.imago_access.specs.Framed.{StaysFramed}
 use Rattle.imago_access.specs.Writing.{CommitMayTakeMemory, StandsAlone, HasWritten, HasFilled, HasMapped, IsWaiting, is_filled, filled, shown_length, shown_change, settles_by, first_reasons, filling_reasons, mapping_reasons}
-use Rattle.imago_access.proofs.Weaker.{IsWeaker, allowed_more}
+use Rattle.imago_access.proofs.Weaker.{IsWeaker, allowed_more, and_left}
 use Rattle.imago_access.proofs.Moved.{moves_block, moved_same, moved_twice}
 use Rattle.imago_access.proofs.Written.{settled_twice, framed_twice, stays, changed_wider, changed_whole, written_length, is_at_start, is_at_start_after, never_foreign_write, is_spent, write_refused, cancelled, filled_so, filling_weaker, wrote_moves, still_near}
-use Rattle.imago_access.proofs.Writes.{and_left, of_err, GoesOn, goes_on, goes_on_twice, goes_on_with, reaches_twice, rose_more, counted, refused_first, wrote_first, unchanged_values}
+use Rattle.imago_access.proofs.Writes.{of_err, GoesOn, goes_on, goes_on_twice, goes_on_with, reaches_twice, rose_more, counted, refused_first, wrote_first, unchanged_values}
 
 -- settled by a part, so by what holds it
 settled_wider : (of : Operation → Type 0) (old new : Causes) (c d : Copies) (o a b : ℕ) → a ≤ b → IsSettled of old new c d o a → IsSettled of old new c d o b
@@ -37,7 +38,7 @@ settled_wider of old new c d o a b le s = record {
 
 -- a mapping that is prepared (old to mid), and written (mid to wrote)
 module _ {D St : Type 0} (view : D → View St) (l : LayerBelow) (old mid wrote : D) (o n : ℕ) (overwrite : Bool) (bytes : List ℕ) (k : ℕ) (m : PreparedDataMapping St)
-    (P : IsPrepared o n overwrite (values l.at (view old).place) (view old) (view mid) m) (U : IsUnchanged (view old) (view mid)) (N : AreNoShorter (view old).stores (view mid).stores) (law : IsLawful (view mid)) (fit : k ≡ min (length bytes) m.length)
+    (P : IsPrepared o n overwrite l.tells_bytes (values l.at (view old).place) (view old) (view mid) m) (U : IsUnchanged (view old) (view mid)) (N : AreNoShorter (view old).stores (view mid).stores) (law : IsLawful (view mid)) (fit : k ≡ min (length bytes) m.length)
     (S : IsSettled IsOnRange (view old).limits.cause (view mid).limits.cause (view old).limits.copies (view mid).limits.copies o m.length)
     (G : GoesOn ((view old).abilities.is_reliable && l.is_reliable) (view old).fault_count (view mid).fault_count)
     (F : StaysFramed (view mid) (view wrote)) (R : ReachesNoMore (view mid) (view wrote)) (H : GoesOn (view mid).abilities.is_reliable (view mid).fault_count (view wrote).fault_count) where
@@ -111,7 +112,7 @@ fill_refused view l old new o n overwrite bytes e U N spent G device reasons = r
   mapping = tt;
   written = tt;
   for = tt;
-  torn = λ keeps. unchanged_values (view old) (view new) l.at o n (filled false bytes) U keeps;
+  torn = λ keeps. unchanged_values (view old) (view new) l.at o n (filled false bytes) U (and_left _ _ keeps);
   nothing_pending = spent;
   settled = tt;
   reaches = U.reaches;
@@ -138,8 +139,8 @@ module _ {D St : Type 0} (view : D → View St) (l : LayerBelow) (old wrote new 
   pub spent : (IsOwn (view wrote).pending m → (view new).pending ≡ None) → (m.state ≡ None → (view new).pending ≡ (view wrote).pending) → (view new).pending ≡ None
   spent own other = spent_at m.state refl H.written own other
 
-  wrote_keeps : IsTrue (view old).abilities.keeps_data → IsTrue (view wrote).abilities.keeps_data
-  wrote_keeps keeps = rw H.framed.kind.abilities keeps
+  wrote_keeps : IsTrue (keeps_over (view old) l) → IsTrue (view wrote).abilities.keeps_data
+  wrote_keeps keeps = rw H.framed.kind.abilities (and_left _ _ keeps)
 
   same_after : (how : _) (c : ℕ) → ((p : ℕ) → values l.at (view new).place p ≡ values l.at (view wrote).place p) → IsChanged o c how (values l.at (view old).place) (values l.at (view wrote).place) → IsChanged o c how (values l.at (view old).place) (values l.at (view new).place)
   same_after how c same h = record {
@@ -151,7 +152,7 @@ module _ {D St : Type 0} (view : D → View St) (l : LayerBelow) (old wrote new 
   looser : (torn : Bool) (c : ℕ) (old new : ℕ → Value) (how : _) → IsChanged o c how old new → IsChanged o c (or_torn torn how) old new
   looser torn c old new how h = record { inside = λ k lt. inl (h.inside k lt); before = h.before; behind = h.behind }
 
-  apart_shown : (torn : Bool) (q : Pending St) → IsTrue (view old).abilities.keeps_data → IsWaiting l (view old) (view wrote) o overwrite bytes m q
+  apart_shown : (torn : Bool) (q : Pending St) → IsTrue (keeps_over (view old) l) → IsWaiting l (view old) (view wrote) o overwrite bytes m q
       → IsChanged q.start q.length (or_torn torn (prepared_bytes q)) (values l.at (view wrote).place) (values l.at (view new).place)
       → IsChanged o m.length (or_torn torn (filled overwrite bytes)) (values l.at (view old).place) (values l.at (view new).place)
   apart_shown torn q keeps w c =
@@ -178,7 +179,7 @@ module _ {D St : Type 0} (view : D → View St) (l : LayerBelow) (old wrote new 
   never_apart true = refl
   never_apart false = refl
 
-  shown_at : (torn : Bool) (st : Option St) → is_filled st l (view old) (view wrote) o overwrite bytes m → is_committed (view wrote).pending st torn (view wrote) (view new) → IsTrue (view old).abilities.keeps_data
+  shown_at : (torn : Bool) (st : Option St) → is_filled st l (view old) (view wrote) o overwrite bytes m → is_committed (view wrote).pending st torn (view wrote) (view new) → IsTrue (keeps_over (view old) l)
       → IsChanged o m.length (or_torn torn (filled (overwrite && not (is_none st)) bytes)) (values l.at (view old).place) (values l.at (view new).place)
   shown_at torn None w c keeps = rw (never_apart overwrite) (looser torn m.length _ _ (filled false bytes) (same_after (filled false bytes) m.length (λ p. ap (shown l.at) (c.same (wrote_keeps keeps) p)) (w.1 keeps)))
   shown_at torn (Some s) w c keeps =
@@ -186,12 +187,12 @@ module _ {D St : Type 0} (view : D → View St) (l : LayerBelow) (old wrote new 
       let d : is_committed (Some q) (Some s) torn (view wrote) (view new) = subst (λ (p : Option (Pending St)). is_committed p (Some s) torn (view wrote) (view new)) w.1 c in
       rw (overwritten_apart overwrite) (apart_shown torn q keeps w.2 (d.1 (wrote_keeps keeps) l.at (w.2.round keeps)))
 
-  pub shown_by_commit : (torn : Bool) → is_committed (view wrote).pending m.state torn (view wrote) (view new) → IsTrue (view old).abilities.keeps_data
+  pub shown_by_commit : (torn : Bool) → is_committed (view wrote).pending m.state torn (view wrote) (view new) → IsTrue (keeps_over (view old) l)
       → IsChanged o m.length (or_torn torn (filled (overwrite && not (is_none m.state)) bytes)) (values l.at (view old).place) (values l.at (view new).place)
   shown_by_commit torn c keeps = shown_at torn m.state H.written c keeps
 
   -- what a cancelled mapping shows: what is written already, where it has no state, else nothing
-  unshown_at : (st : Option St) → is_filled st l (view old) (view wrote) o overwrite bytes m → SamePlaces (view wrote).abilities.keeps_data (view wrote).place (view new).place → IsTrue (view old).abilities.keeps_data
+  unshown_at : (st : Option St) → is_filled st l (view old) (view wrote) o overwrite bytes m → SamePlaces (view wrote).abilities.keeps_data (view wrote).place (view new).place → IsTrue (keeps_over (view old) l)
       → IsChanged o (shown_length false (m.length, is_none st)) (shown_change overwrite bytes (m.length, is_none st)) (values l.at (view old).place) (values l.at (view new).place)
   unshown_at None w s keeps = rw (never_apart overwrite) (same_after (filled false bytes) m.length (λ p. ap (shown l.at) (s.same (wrote_keeps keeps) p)) (w.1 keeps))
   unshown_at (Some t) w s keeps =

@@ -3,7 +3,7 @@ use Rattle.std.specs.Prelude.{slice_index}
 use Rattle.std.proofs.lemmas.Bool.{cases_lt}
 use Rattle.imago_storage.specs.declared.error.Error.{Error}
 use Rattle.imago_drivers.specs.Operation.{Map, Read}
-use Rattle.imago_drivers.specs.Place.{Value, Byte, Place, shown, HasValues}
+use Rattle.imago_drivers.specs.Place.{Value, Byte, Place, shown, own_values, HasValues}
 use Rattle.imago_drivers.specs.View.{View}
 use Rattle.imago_drivers.specs.Reasons.{allowed}
 use Rattle.imago_drivers.specs.Laws.{IsLawful, AreCauses}
@@ -16,7 +16,7 @@ use Rattle.imago_access.specs.Chain.{driver, backing, disk_value, chain_cause, c
 use Rattle.imago_access.specs.ChainLaws.{chain_part}
 use Rattle.imago_access.specs.Resolved.{chain_map_reasons}
 use Rattle.imago_access.specs.Ways.{NamesOrEnds, IsBottom, HasLanded}
-use Rattle.imago_access.specs.Named.{IsKnown, IsNamedAt, own_values, named_read_reasons, chunk_read_reasons}
+use Rattle.imago_access.specs.Named.{IsKnown, IsNamedAt, named_read_reasons, chunk_read_reasons}
 use Rattle.imago_access.proofs.Chains.{value_out, reliable_here, cause_here, memory_here, memory_part, no_memory_here}
 use Rattle.imago_access.proofs.Weaker.{IsWeaker, allowed_more}
 
@@ -26,10 +26,10 @@ stored_values v law s f w at buf h named k lt =
     let n = named k lt in
     ap (shown (λ (q : ℕ). Byte 0)) n.1 ∙ ap Byte (sym (law.stored (at + k) n.0 s (f + k) w n.1).1 ∙ sym (h k lt))
 
-pub special_values : {St : Type 0} (v : View St) → IsLawful v → (f at : ℕ) (buf : List ℕ) → ((k : ℕ) → k < length buf → slice_index buf k ≡ v.special (f + k)) → IsNamedAt v.place (S.Special f) at (length buf) → HasValues (own_values v.place) at buf
+pub special_values : {St : Type 0} (v : View St) → IsLawful v → (f at : ℕ) (buf : List ℕ) → HasValues v.special f buf → IsNamedAt v.place (S.Special f) at (length buf) → HasValues (own_values v.place) at buf
 special_values v law f at buf h named k lt =
     let n = named k lt in
-    ap (shown (λ (q : ℕ). Byte 0)) n.1 ∙ ap Byte (sym (law.special (at + k) n.0 (f + k) n.1) ∙ sym (h k lt))
+    ap (shown (λ (q : ℕ). Byte 0)) n.1 ∙ sym (law.special (at + k) n.0 (f + k) n.1) ∙ h k lt
 
 abbrev pub IsInStorage : ShallowMapping → Type 0
 IsInStorage (S.Raw s f w) = Unit {0}

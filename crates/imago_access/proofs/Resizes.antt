@@ -6,8 +6,9 @@ use Rattle.imago_drivers.specs.Place.{Value, Byte}
 use Rattle.imago_drivers.specs.Resized.{grown_into}
 use Rattle.imago_drivers.specs.View.{View}
 use Rattle.imago_drivers.specs.Laws.{IsLawful, AreCauses}
+use Rattle.imago_access.proofs.Weaker.{and_left}
 use Rattle.imago_access.specs.declared.access.FormatAccess.{FormatAccess}
-use Rattle.imago_access.specs.Chain.{driver, backing, lent_image}
+use Rattle.imago_access.specs.Chain.{driver, backing, lent_image, keeps_data}
 use Rattle.imago_access.specs.Sizes.{HasGrown, HasShrunk}
 use Rattle.imago_access.specs.Disk.{disk, backed_value, value_at, IsExtended, IsSameResize}
 use Rattle.imago_access.proofs.DiskLists.{extended_length, extended_before, extended_added}
@@ -45,8 +46,8 @@ module _ {D St : Type 0} (view : D → View St) (lawful : (d : D) → IsLawful (
 
 -- a resize is the same by offset as on lists
 pub same_resize : {D St : Type 0} (view : D → View St) → ((d : D) → IsLawful (view d)) → ((d : D) → AreCauses (view d)) → (old new : FormatAccess D) (mode : PreallocateMode) (n : ℕ)
-    → IsTrue (view (driver old)).abilities.keeps_data → IsSameResize view old mode n new
+    → IsTrue (keeps_data view old) → IsSameResize view old mode n new
 same_resize view lawful causes old new mode n k = record {
-  cut = (λ h. shrunk view old new n k h, λ e. cut_of_list view lawful causes old new n e);
+  cut = (λ h. shrunk view old new n (and_left _ _ k) h, λ e. cut_of_list view lawful causes old new n e);
   growth = (λ h. grown view old new mode n k h, λ h. growth_of_list view lawful causes old new n mode h);
 }

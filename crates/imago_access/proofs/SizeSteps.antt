@@ -16,6 +16,7 @@ use Rattle.imago_drivers.specs.Lengths.{GrowTo, AreNoLonger}
 use Rattle.imago_drivers.specs.Calls.{IsFlush}
 use Rattle.imago_drivers.specs.Resized.{IsGrown, IsCut, IsSameDisk, IsListed, grown_into}
 use Rattle.imago_drivers.specs.Done.{lending_reasons, driver_reasons}
+use Rattle.imago_access.proofs.Weaker.{and_left, and_right}
 use Rattle.imago_access.specs.declared.access.FormatAccess.{FormatAccess}
 use Rattle.imago_access.specs.Chain.{driver, backing, disk_value, lent_image}
 use Rattle.imago_access.specs.Lending.{with_driver}
@@ -50,11 +51,11 @@ module _ {D St : Type 0} (view : D → View St) (x : FormatAccess D) (d : D) whe
   pub same_image : (view d).size ≡ (view (driver x)).size → SamePlaces (view (driver x)).abilities.keeps_data (view (driver x)).place (view d).place → IsSameImage view x (with_driver x d)
   same_image s h = record { size = with (λ (y : D). (view y).size ≡ (view (driver x)).size) s; values = same_values h }
 
-  pub grown_image : (mode : PreallocateMode) (n : ℕ) → IsGrown mode (lent_image view (backing x)).at n (view (driver x)) (view d) → HasGrown view mode n x (with_driver x d)
+  pub grown_image : (mode : PreallocateMode) (n : ℕ) → IsGrown mode (lent_image view (backing x)).tells_bytes (lent_image view (backing x)).at n (view (driver x)) (view d) → HasGrown view mode n x (with_driver x d)
   grown_image mode n h = record {
     size = with (λ (y : D). (view y).size ≡ max (view (driver x)).size n) h.size;
-    stays = λ k. changed_image view x d (λ a b. (p : ℕ) → p < (view (driver x)).size → b p ≡ a p) (h.kept k);
-    added = λ k. changed_image view x d (λ a b. (p : ℕ) → (view (driver x)).size ≤ p → p < n → grown_into mode (view (driver x)).abilities.takes_backing (lent_image view (backing x)).at p (b p)) (h.added k);
+    stays = λ k. changed_image view x d (λ a b. (p : ℕ) → p < (view (driver x)).size → b p ≡ a p) (h.kept (and_left _ _ k) (and_right _ _ k));
+    added = λ k. changed_image view x d (λ a b. (p : ℕ) → (view (driver x)).size ≤ p → p < n → grown_into mode (view (driver x)).abilities.takes_backing (lent_image view (backing x)).at p (b p)) (h.added (and_left _ _ k) (and_right _ _ k));
   }
 
   pub cut_image : (n : ℕ) → IsCut n (view (driver x)) (view d) → HasShrunk view n x (with_driver x d)
@@ -67,7 +68,7 @@ module _ {D St : Type 0} (view : D → View St) (x : FormatAccess D) (d : D) whe
 
   pub resized_image : (op : Operation) (n : ℕ) (effect : Type 0) (result : Result Unit Error) → (view (driver x)).abilities.is_writable ≡ true
       → OnOk result effect → (IsIdle op (view (driver x)).size n → ⊥) → OnErr result (IsSameDisk (view (driver x)) (view d)) → ((p : ℕ) → p < (view (driver x)).size → p < (view d).size → (view d).place p ≡ End → (view (driver x)).place p ≡ End) → IsKind (view (driver x)) (view d)
-      → OnOk result (IsResizedLayer op (lent_image view (backing x)).at n (view (driver x)) (view d)) → (IsListed (view (driver x)) → IsListed (view d))
+      → OnOk result (IsResizedLayer op (lent_image view (backing x)).tells_bytes (lent_image view (backing x)).at n (view (driver x)) (view d)) → (IsListed (view (driver x)) → IsListed (view d))
       → AreNoLonger ((view (driver x)).limits.longest op n 0) (view (driver x)).stores (view d).stores
       → CountsFaults (resize_reliable view x op) (view (driver x)).fault_count (view d).fault_count result
       → IfErr result (allowed (resize_refusals view x op n)) → IsResize view op n effect x (with_driver x d) result
@@ -76,7 +77,7 @@ module _ {D St : Type 0} (view : D → View St) (x : FormatAccess D) (d : D) whe
     done = done;
     idle = λ t i. absurd (idle i);
     unchanged = err_then result (λ h. same_image h.size h.places) same;
-    layer = with (λ (y : D). OnOk result (IsResizedLayer op (lent_image view (backing x)).at n (view (driver x)) (view y))) layer;
+    layer = with (λ (y : D). OnOk result (IsResizedLayer op (lent_image view (backing x)).tells_bytes (lent_image view (backing x)).at n (view (driver x)) (view y))) layer;
     same_layer = with (λ (y : D). OnErr result (IsSameDisk (view (driver x)) (view y))) same;
     listed = with (λ (y : D). IsListed (view (driver x)) → IsListed (view y)) listed;
     no_longer = with (λ (y : D). AreNoLonger ((view (driver x)).limits.longest op n 0) (view (driver x)).stores (view y).stores) no_longer;
@@ -142,7 +143,7 @@ read_only_resize view x op n effect e w = record {
 
 -- a resize with nothing to do, which calls nothing
 idle_resize : {D St : Type 0} (view : D → View St) (x : FormatAccess D) (op : Operation) (n : ℕ) (effect : Type 0) → (view (driver x)).abilities.is_writable ≡ true → effect
-    → IsResizedLayer op (lent_image view (backing x)).at n (view (driver x)) (view (driver x)) → IsResize view op n effect x x (Ok tt)
+    → IsResizedLayer op (lent_image view (backing x)).tells_bytes (lent_image view (backing x)).at n (view (driver x)) (view (driver x)) → IsResize view op n effect x x (Ok tt)
 idle_resize view x op n effect w did layer = record {
   tested = λ e f. absurd (let y = sym w ∙ f.1 in cc);
   done = did;
@@ -162,7 +163,7 @@ pub idle_growth : {D St : Type 0} (view : D → View St) (x : FormatAccess D) (m
     → IsResize view (Grow mode) n (HasGrown view mode n x x) x x (Ok tt)
 idle_growth view x mode n w le = idle_resize view x (Grow mode) n _ w
     (record { size = omega (arith, le); stays = λ k p lt. refl; added = λ k p a b. absurd (omega (arith, le, a, b)) })
-    (record { size = omega (arith, le); kept = λ k p lt. refl; added = λ k p a b. absurd (omega (arith, le, a, b)); ends = λ p lt h. h; listed = λ h. h })
+    (record { size = omega (arith, le); kept = λ k t p lt. refl; added = λ k t p a b. absurd (omega (arith, le, a, b)); ends = λ p lt h. h; listed = λ h. h })
 
 pub idle_cut : {D St : Type 0} (view : D → View St) (x : FormatAccess D) (n : ℕ) → (view (driver x)).abilities.is_writable ≡ true → (view (driver x)).size ≤ n
     → IsResize view Shrink n (HasShrunk view n x x) x x (Ok tt)
@@ -181,12 +182,12 @@ ends_by old new (Err e) effect f done same = λ p a b h. same.ends p h
 
 -- a growth by the driver, over what it is lent
 pub grow_image : {D St : Type 0} (view : D → View St) (x : FormatAccess D) (d : D) (l : LayerBelow) → l ≡ lent_image view (backing x) → (mode : PreallocateMode) (n : ℕ) (result : Result Unit Error) → (view (driver x)).abilities.is_writable ≡ true
-    → OnOk result (IsGrown mode l.at n (view (driver x)) (view d)) → (n ≤ (view (driver x)).size → ⊥) → OnErr result (IsSameDisk (view (driver x)) (view d)) → IsKind (view (driver x)) (view d)
+    → OnOk result (IsGrown mode l.tells_bytes l.at n (view (driver x)) (view d)) → (n ≤ (view (driver x)).size → ⊥) → OnErr result (IsSameDisk (view (driver x)) (view d)) → IsKind (view (driver x)) (view d)
     → AreNoLonger ((view (driver x)).limits.longest (Grow mode) n 0) (view (driver x)).stores (view d).stores
     → CountsFaults ((view (driver x)).abilities.is_reliable && l.is_reliable) (view (driver x)).fault_count (view d).fault_count result
     → IfErr result (allowed (record (lending_reasons (view (driver x)) l (Grow mode) n 0) { beyond_disk = ⊥ })) → IsResize view (Grow mode) n (HasGrown view mode n x (with_driver x d)) x (with_driver x d) result
 grow_image view x d l h mode n result w grown idle same kind no_longer faults refusals =
-    let layer : OnOk result (IsGrown mode (lent_image view (backing x)).at n (view (driver x)) (view d)) = subst (λ (m : LayerBelow). OnOk result (IsGrown mode m.at n (view (driver x)) (view d))) h grown in
+    let layer : OnOk result (IsGrown mode (lent_image view (backing x)).tells_bytes (lent_image view (backing x)).at n (view (driver x)) (view d)) = subst (λ (m : LayerBelow). OnOk result (IsGrown mode m.tells_bytes m.at n (view (driver x)) (view d))) h grown in
     resized_image view x d (Grow mode) n _ result w
     (ok_then result (λ g. grown_image view x d mode n g) layer)
     idle same (ends_by (view (driver x)) (view d) result _ (λ g p a b h. g.ends p a h) layer same) kind

@@ -11,6 +11,7 @@ use Rattle.imago_drivers.specs.CallRelations.{Calls}
 use Rattle.imago_drivers.specs.View.{View, EndsIn}
 use Rattle.imago_drivers.specs.Laws.{IsLawful, AreCauses}
 use Rattle.imago_drivers.specs.Reasons.{Reasons, allowed}
+use Rattle.imago_access.proofs.Weaker.{and_left}
 use Rattle.imago_access.specs.declared.access.FormatAccess.{FormatAccess}
 use Rattle.imago_access.specs.Chain.{driver, disk_value, is_reliable, chain_cause, read_cause, read_reasons, no_memory_to_read}
 use Rattle.imago_access.specs.Resolved.{chain_map_reasons}
@@ -22,7 +23,6 @@ use Rattle.imago_drivers.specs.Done.{driver_reasons}
 use Rattle.imago_access.specs.Sizes.{IsResize, HasGrown, HasShrunk, FailsWritable}
 use Rattle.imago_access.specs.Success.{Succeeds, IsReadable, IsMildRefusal, IsReadyToWrite, IsReadyToResize, HasSoundDevice, TakesNoneToWrite, SucceedsIfOffered, IsReadyToZero, ZeroWritesSucceed, DiscardsSucceed, FlushesSucceed, change_cause}
 use Rattle.imago_access.proofs.Images.{both_ways, not_failed}
-use Rattle.imago_access.proofs.Writes.{and_left}
 
 -- a refusal that is for nothing else is for want of memory, or has a cause
 cause_or_memory : (r : Reasons) (e : Error) → (r.read_only → ⊥) → (r.beyond_disk → ⊥) → (r.range_overflow → ⊥) → (e ≡ Error.Device → r.device → ⊥) → (e ≡ Error.ForeignMapping → r.foreign_mapping → ⊥) → allowed r e → ((e ≡ Error.Memory) × r.memory) ⊎ r.cause e
@@ -117,9 +117,9 @@ module _ {D St : Type 0} (view : D → View St) where
       h)
 
   -- a call on a range that the driver may not offer
-  offered_succeeds : {T takes_none nothing : Type 0} {of : Operation → Type 0} {hidden : Type 0} {part : T → ℕ} {effect : T → Type 0} {remains : Type 0} (old new : FormatAccess D) (op : Operation) (o n : ℕ) (r : Reasons) (result : Result T Error)
+  offered_succeeds : {T takes_none nothing : Type 0} {of : Operation → Type 0} {hidden : Type 0} {part : T → ℕ} {keeps : Bool} {effect : T → Type 0} {remains : Type 0} (old new : FormatAccess D) (op : Operation) (o n : ℕ) (r : Reasons) (result : Result T Error)
       → IsReadyToZero view old op o n r.cause → (hidden → ⊥) → (r.read_only → ⊥) → (r.beyond_disk → EndsIn (view (driver old)).place o n) → (r.range_overflow → ⊥) → (r.foreign_mapping → ⊥) → (r.memory → takes_none → ⊥)
-      → IsRangeCall view op o n nothing of r hidden part effect remains old new result → SucceedsIfOffered ((view (driver old)).abilities.offers op) takes_none result
+      → IsRangeCall view op o n nothing of r hidden part keeps effect remains old new result → SucceedsIfOffered ((view (driver old)).abilities.offers op) takes_none result
   offered_succeeds old new op o n r (Ok t) g shown ro bd ov fo m h = succeeds_if_offered _ (Ok t) tt
   offered_succeeds {T} {hidden = hidden} old new op o n r (Err e) g shown ro bd ov fo m h = succeeds_if_offered _ (Err e) (⊎_elim
       (λ k. absurd (not_failed (view (driver old)) op o n g.sound.writable g.inside g.fits e k))

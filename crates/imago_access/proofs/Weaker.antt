@@ -1,5 +1,5 @@
-use Rattle.std.proofs.Common.{Result, Ok, Err}
-use Rattle.std.specs.Prelude.{IfErr}
+use Rattle.std.proofs.Common.{◌&&◌, Bool, true, false, refl, Result, Ok, Err}
+use Rattle.std.specs.Prelude.{IfErr, IsTrue}
 use Rattle.imago_storage.specs.declared.error.Error.{Error}
 use Rattle.imago_storage.specs.declared.error.Error.TheVariants as E
 use Rattle.imago_drivers.specs.Reasons.{Reasons, allowed}
@@ -31,3 +31,15 @@ allowed_more r s w E.NotFound h = h
 pub refused_more : {T : Type 0} (r s : Reasons) (result : Result T Error) → IsWeaker r s → IfErr result (allowed r) → IfErr result (allowed s)
 refused_more r s (Ok x) w h = tt
 refused_more r s (Err e) w h = allowed_more r s w e h
+
+pub and_left : (a b : Bool) → IsTrue (a && b) → IsTrue a
+and_left true b h = refl
+and_left false b h = h
+
+pub and_right : (a b : Bool) → IsTrue (a && b) → IsTrue b
+and_right true b h = h
+and_right false b h = let z : ⊥ = cc in absurd z
+
+pub and_both : (a b : Bool) → IsTrue a → IsTrue b → IsTrue (a && b)
+and_both true b h k = k
+and_both false b h k = h

@@ -1,8 +1,9 @@
-use Rattle.std.proofs.Common.{◌≡◌, ℕ, ◌+◌, ◌-◌, ◌<◌, ◌≤◌, ◌⊎◌, ◌&&◌, ⊎_elim, inl, inr, Bool, true, false, List, length, take, drop, None, refl, sym, ap, ◌∙◌, arith, Result, Ok, Err, subst, length-take, length-drop, get_or-take, get_or-drop}
+use Rattle.std.proofs.Common.{◌≡◌, ℕ, ◌+◌, ◌-◌, ◌<◌, ◌≤◌, ◌⊎◌, ◌&&◌, ⊎_elim, inl, inr, Bool, List, length, take, drop, None, refl, sym, ap, ◌∙◌, arith, Result, Ok, Err, subst, length-take, length-drop, get_or-take, get_or-drop}
 use Rattle.std.proofs.lemmas.Bool.{cases_lt}
 use Rattle.std.specs.Prelude.{IsTrue, IsErrOf, slice_index}
 use Rattle.imago_storage.specs.declared.error.Error.{Error}
 use Rattle.imago_storage.specs.Faults.{CountsFaults, RoseOrSaturated}
+use Rattle.imago_drivers.specs.Done.{keeps_over}
 use Rattle.imago_drivers.specs.Operation.{Operation}
 use Rattle.imago_drivers.specs.Place.{Value, Byte, values, shown}
 use Rattle.imago_drivers.specs.Reasons.{allowed}
@@ -14,14 +15,10 @@ use Rattle.imago_drivers.specs.Changes.{Change, IsChanged, into, partly}
 use Rattle.imago_drivers.specs.Frame.{IsUnchanged, ReachesNoMore}
 use Rattle.imago_access.specs.Framed.{StaysFramed}
 use Rattle.imago_access.specs.Writing.{CommitMayTakeMemory, StandsAlone, first_reasons, write_reasons, HasWritten, HasWrittenAll}
-use Rattle.imago_access.proofs.Weaker.{IsWeaker, allowed_more}
+use Rattle.imago_access.proofs.Weaker.{IsWeaker, allowed_more, and_left}
 use Rattle.imago_access.proofs.Written.{kind_twice, framed_twice, same_frame}
 use Rattle.imago_access.specs.Moves.{MovesWithin}
 use Rattle.imago_access.proofs.Moved.{moved_none, moved_then}
-
-pub and_left : (a b : Bool) → IsTrue (a && b) → IsTrue a
-and_left true b h = refl
-and_left false b h = h
 
 -- A count of faults that goes on, and rises where a device fails.
 pub record GoesOn (is_reliable : Bool) (before now : ℕ) : Type 0 where
@@ -57,7 +54,7 @@ of_err e x h = cc
 
 module _ {St : Type 0} (l : LayerBelow) (commit_memory : Type 0) (old new : View St) (o : ℕ) (bytes : List ℕ) where
   -- a refusal with nothing written for it but what may be torn
-  pub refused_first : (e : Error) → (IsTrue old.abilities.keeps_data → IsChanged o (length bytes) (partly (into bytes)) (values l.at old.place) (values l.at new.place))
+  pub refused_first : (e : Error) → (IsTrue (keeps_over old l) → IsChanged o (length bytes) (partly (into bytes)) (values l.at old.place) (values l.at new.place))
       → ReachesNoMore old new → StaysFramed old new → MovesWithin Operation.Write o (length bytes) old new → new.pending ≡ None → GoesOn (old.abilities.is_reliable && l.is_reliable) old.fault_count new.fault_count → (e ≡ Error.Device → RoseOrSaturated old.fault_count new.fault_count)
       → allowed (first_reasons old l commit_memory o (length bytes)) e → HasWritten l commit_memory old new o bytes (Err e)
   refused_first e torn reaches framed moved spent goes device reasons = record {
@@ -75,7 +72,7 @@ module _ {St : Type 0} (l : LayerBelow) (commit_memory : Type 0) (old new : View
     outside = moved;
   }
 
-  pub wrote_first : (n : ℕ) → 0 < n → n ≤ length bytes → (IsTrue old.abilities.keeps_data → IsChanged o n (into bytes) (values l.at old.place) (values l.at new.place))
+  pub wrote_first : (n : ℕ) → 0 < n → n ≤ length bytes → (IsTrue (keeps_over old l) → IsChanged o n (into bytes) (values l.at old.place) (values l.at new.place))
       → (old.limits.whole Operation.Write o (length bytes) → n ≡ length bytes) → StandsAlone new.place o n → IsSettled IsOnRange old.limits.cause new.limits.cause old.limits.copies new.limits.copies o n
       → ReachesNoMore old new → StaysFramed old new → MovesWithin Operation.Write o (length bytes) old new → new.pending ≡ None → GoesOn (old.abilities.is_reliable && l.is_reliable) old.fault_count new.fault_count → HasWritten l commit_memory old new o bytes (Ok n)
   wrote_first n some within done whole alone settled reaches framed moved spent goes = record {
@@ -101,7 +98,7 @@ unchanged_values old new below o n how u k =
 -- The first bytes of a range are written, so many of them.
 pub record IsWritingOn {D St : Type 0} (view : D → View St) (l : LayerBelow) (old mid : D) (o : ℕ) (bytes : List ℕ) (count : ℕ) : Type 0 where
   pub within : count ≤ length bytes
-  pub done : IsTrue (view old).abilities.keeps_data → IsChanged o count (into bytes) (values l.at (view old).place) (values l.at (view mid).place)
+  pub done : IsTrue (keeps_over (view old) l) → IsChanged o count (into bytes) (values l.at (view old).place) (values l.at (view mid).place)
   pub settled : IsSettled IsOnRange (view old).limits.cause (view mid).limits.cause (view old).limits.copies (view mid).limits.copies o count
   pub reaches : ReachesNoMore (view old) (view mid)
   pub framed : StaysFramed (view old) (view mid)
@@ -190,7 +187,7 @@ module _ {D St : Type 0} (view : D → View St) (l : LayerBelow) (old : D) (o : 
   }
 
   module _ (mid new : D) (done : ℕ) (sofar : IsWritingOn view l old mid o bytes done) where
-    same_keeps : IsTrue (view old).abilities.keeps_data → IsTrue (view mid).abilities.keeps_data
+    same_keeps : IsTrue (keeps_over (view old) l) → IsTrue (keeps_over (view mid) l)
     same_keeps k = rw sofar.framed.kind.abilities k
 
     next_goes : GoesOn ((view mid).abilities.is_reliable && l.is_reliable) (view mid).fault_count (view new).fault_count → GoesOn ((view old).abilities.is_reliable && l.is_reliable) (view old).fault_count (view new).fault_count

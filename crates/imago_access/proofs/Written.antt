@@ -3,6 +3,7 @@ use Rattle.std.proofs.lemmas.Bool.{cases_lt}
 use Rattle.std.specs.Prelude.{IsTrue, slice_index}
 use Rattle.imago_storage.specs.declared.error.Error.{Error}
 use Rattle.imago_storage.specs.declared.error.Error.TheVariants as E
+use Rattle.imago_drivers.specs.Done.{keeps_over}
 use Rattle.imago_drivers.specs.Operation.{Operation}
 use Rattle.imago_drivers.specs.declared.mapping.PreparedDataMapping.{PreparedDataMapping}
 use Rattle.imago_drivers.specs.Place.{Value, Byte, Stored, IsIn, values, shown, PlacesAreWritableAt, SamePlaces}
@@ -19,7 +20,7 @@ use Rattle.imago_drivers.specs.Done.{lending_reasons, mapping_write_reasons}
 use Rattle.imago_drivers.specs.Prepared.{IsPrepared, IsPut, is_written, is_foreign_write, is_for}
 use Rattle.imago_access.specs.Framed.{StaysFramed}
 use Rattle.imago_access.specs.Writing.{filled, is_filled, filling_reasons}
-use Rattle.imago_access.proofs.Weaker.{IsWeaker}
+use Rattle.imago_access.proofs.Weaker.{IsWeaker, and_left, and_right}
 use Rattle.imago_drivers.specs.Outside.{SharesBlock}
 use Rattle.imago_drivers.specs.Commit.{commit_moves}
 use Rattle.imago_access.specs.Moves.{MovesWithin}
@@ -84,7 +85,7 @@ filling_weaker v l o n bytes = record {
 
 -- a mapping that is prepared, and the first k bytes written to it, as many as fit
 module _ {St : Type 0} (old mid wrote : View St) (l : LayerBelow) (o n : ℕ) (overwrite : Bool) (bytes : List ℕ) (k : ℕ) (m : PreparedDataMapping St)
-    (P : IsPrepared o n overwrite (values l.at old.place) old mid m) (U : IsUnchanged old mid) (law : IsLawful mid) (fit : k ≡ min (length bytes) m.length) where
+    (P : IsPrepared o n overwrite l.tells_bytes (values l.at old.place) old mid m) (U : IsUnchanged old mid) (law : IsLawful mid) (fit : k ≡ min (length bytes) m.length) where
   pub written_length : length (take k bytes) ≡ k
   written_length = simp length-take (omega (arith, fit))
 
@@ -182,13 +183,13 @@ module _ {St : Type 0} (old mid wrote : View St) (l : LayerBelow) (o n : ℕ) (o
       reasons E.Denied own a = a
       reasons E.NotFound own a = a
 
-  same_value : IsTrue old.abilities.keeps_data → (p : ℕ) → values l.at mid.place p ≡ values l.at old.place p
-  same_value keeps p = ap (shown l.at) (U.places.same keeps p)
+  same_value : IsTrue (keeps_over old l) → (p : ℕ) → values l.at mid.place p ≡ values l.at old.place p
+  same_value keeps p = ap (shown l.at) (U.places.same (and_left _ _ keeps) p)
 
   -- what the disk shows afterwards
-  module _ (wrote_framed : StaysFramed mid wrote) (keeps : IsTrue old.abilities.keeps_data) where
+  module _ (wrote_framed : StaysFramed mid wrote) (keeps : IsTrue (keeps_over old l)) where
     mid_keeps : IsTrue mid.abilities.keeps_data
-    mid_keeps = rw U.framed.kind.abilities keeps
+    mid_keeps = rw U.framed.kind.abilities (and_left _ _ keeps)
 
     wrote_keeps : IsTrue wrote.abilities.keeps_data
     wrote_keeps = rw wrote_framed.kind.abilities mid_keeps
@@ -296,8 +297,8 @@ module _ {St : Type 0} (old mid wrote : View St) (l : LayerBelow) (o n : ℕ) (o
           own = own;
           start = start;
           same = λ keeps p. ap (shown l.at) (W.0.same (mid_keeps F keeps) p) ∙ same_value keeps p;
-          round = λ keeps. subst (λ (p : Option (Pending St)). ShowsRound (values l.at wrote.place) p) x.1 (round (mid_keeps F keeps) (shows_same F keeps mid.pending (P.round keeps)));
-          listed = λ keeps. listed F keeps q r a.3 (x.3 (mid_keeps F keeps)).changed (a.4 keeps);
+          round = λ keeps. subst (λ (p : Option (Pending St)). ShowsRound (values l.at wrote.place) p) x.1 (round (mid_keeps F keeps) (shows_same F keeps mid.pending (P.round (and_left _ _ keeps) (and_right _ _ keeps))));
+          listed = λ keeps. listed F keeps q r a.3 (x.3 (mid_keeps F keeps)).changed (a.4 (and_left _ _ keeps) (and_right _ _ keeps));
         },
       )
 

@@ -13,7 +13,7 @@ use Rattle.imago_drivers.specs.Changes.{IsChanged, zeroes, partly}
 use Rattle.imago_drivers.specs.Done.{range_reasons}
 use Rattle.imago_access.specs.Framed.{StaysFramed}
 use Rattle.imago_access.specs.declared.access.FormatAccess.{FormatAccess, is-FormatAccess', out-FormatAccess, back-FormatAccess-backing}
-use Rattle.imago_access.specs.Chain.{driver, backing, unboxed, disk_value, is_reliable, lent_image, IsReached, chain_cause, cause_below}
+use Rattle.imago_access.specs.Chain.{driver, backing, unboxed, disk_value, is_reliable, lent_image, IsReached, chain_cause, cause_below, keeps_data}
 use Rattle.imago_access.specs.ChainLaws.{reached_wider}
 use Rattle.imago_access.specs.Calls.{devices_reliable}
 use Rattle.imago_access.specs.Resolved.{chain_map_reasons}
@@ -168,7 +168,7 @@ module _ {D St : Type 0} (view : D → View St) where
 
   pub partly_twice : (a b c : FormatAccess D) (o n q m : ℕ) → o ≤ q → q + m ≤ o + n → IsPartlyZeroed view o n a b → IsPartlyZeroed view q m b c → IsPartlyZeroed view o n a c
   partly_twice a b c o n q m le fits x y = record {
-    torn = λ k. torn_twice o n q m _ _ _ le fits (x.torn k) (y.torn (rw x.framed.kind.abilities k));
+    torn = λ k. torn_twice o n q m _ _ _ le fits (x.torn k) (y.torn (rw (x.framed.kind.abilities, x.below) k));
     below = y.below ∙ x.below;
     framed = framed_twice _ _ _ x.framed y.framed;
     reaches = λ p q w e. let z = y.reaches p q w e in x.reaches p q z.0 z.1;
@@ -196,8 +196,8 @@ module _ {D St : Type 0} (view : D → View St) where
 -- The first bytes of a range are zero, so many of them.
 pub record IsZeroingOn {D St : Type 0} (view : D → View St) (o n : ℕ) (old mid : FormatAccess D) (count : ℕ) : Type 0 where
   pub within : count ≤ n
-  pub done : IsTrue (view (driver old)).abilities.keeps_data → IsChanged o count zeroes (disk_value view old) (disk_value view mid)
-  pub alone : IsTrue (view (driver old)).abilities.keeps_data → StandsAlone (view (driver mid)).place o count
+  pub done : IsTrue (keeps_data view old) → IsChanged o count zeroes (disk_value view old) (disk_value view mid)
+  pub alone : IsTrue (keeps_data view old) → StandsAlone (view (driver mid)).place o count
   pub left : IsPartlyZeroed view o n old mid
   pub carries : Carries o n (view (driver old)) (view (driver mid))
 
@@ -218,8 +218,8 @@ module _ {D St : Type 0} (view : D → View St) (old : FormatAccess D) (o n : �
         let b : o + c + (n - c) ≤ o + n = omega (arith, sofar.within) in
         record {
           within = omega (arith, sofar.within);
-          done = λ keeps. changed_next o c k zeroes _ _ _ (λ i v u w e. e) (sofar.done keeps) (h.done (rw sofar.left.framed.kind.abilities keeps));
-          alone = λ keeps. alone_more (view (driver new)).place o c k (alone_later (view (driver mid)) (view (driver new)) o c (sofar.alone keeps) h.left.reaches) (h.alone (rw sofar.left.framed.kind.abilities keeps));
+          done = λ keeps. changed_next o c k zeroes _ _ _ (λ i v u w e. e) (sofar.done keeps) (h.done (rw (sofar.left.framed.kind.abilities, sofar.left.below) keeps));
+          alone = λ keeps. alone_more (view (driver new)).place o c k (alone_later (view (driver mid)) (view (driver new)) o c (sofar.alone keeps) h.left.reaches) (h.alone (rw (sofar.left.framed.kind.abilities, sofar.left.below) keeps));
           left = partly_twice view old mid new o n (o + c) (n - c) a b sofar.left h.left;
           carries = carries_twice _ _ _ o n sofar.carries (carries_wider _ _ o n (o + c) (n - c) a b h.carries);
         }
@@ -339,8 +339,8 @@ module _ {D St : Type 0} (view : D → View St) where
   pub filled : (result : Result (Unit {0}) Error) (old mid new : FormatAccess D) (o n : ℕ) → IsZeroedByDriver view o n old mid → HasZeroed view o n (λ (u : Unit {0}). n) (data_reasons view mid o n) mid new result → HasZeroed view o n (λ (u : Unit {0}). n) (data_reasons view old o n) old new result
   filled (Ok u) old mid new o n x h = record {
     left = partly_twice view old mid new o n o n (omega arith) (omega arith) x.left h.left;
-    done = λ k. zeroed_then o n _ _ _ (x.left.torn k) (h.done (rw x.left.framed.kind.abilities k));
-    alone = λ k. h.alone (rw x.left.framed.kind.abilities k);
+    done = λ k. zeroed_then o n _ _ _ (x.left.torn k) (h.done (rw (x.left.framed.kind.abilities, x.left.below) k));
+    alone = λ k. h.alone (rw (x.left.framed.kind.abilities, x.left.below) k);
     carries = carries_twice _ _ _ o n (x.carries o n) h.carries;
     device = λ d. let z : ⊥ = cc in absurd z;
     refusals = tt;
@@ -355,11 +355,11 @@ module _ {D St : Type 0} (view : D → View St) where
     pub part_filled : (r t : Reasons) → HasZeroed view o (s - o) (λ (u : Unit {0}). s - o) r mid new (Ok tt) → HasZeroed view o n (λ (i : ℕ). i) t old new (Ok (s - o + l))
     part_filled r t h = record {
       left = partly_twice view old mid new o n o (s - o) (omega arith) (omega arith) part.left h.left;
-      done = λ k. zeroed_before o s l _ _ _ le (part.done k) (h.done (rw part.left.framed.kind.abilities k));
+      done = λ k. zeroed_before o s l _ _ _ le (part.done k) (h.done (rw (part.left.framed.kind.abilities, part.left.below) k));
       alone = λ k.
           let e : o + (s - o) ≡ s = omega arith in
           let behind : StandsAlone (view (driver new)).place (o + (s - o)) l = rw e (alone_later (view (driver mid)) (view (driver new)) s l (part.alone k) h.left.reaches) in
-          alone_more (view (driver new)).place o (s - o) l (h.alone (rw part.left.framed.kind.abilities k)) behind;
+          alone_more (view (driver new)).place o (s - o) l (h.alone (rw (part.left.framed.kind.abilities, part.left.below) k)) behind;
       carries = carries_twice _ _ _ o n (part.carries o n) (carries_wider _ _ o n o (s - o) (omega arith) (omega arith) h.carries);
       device = λ d. let z : ⊥ = cc in absurd z;
       refusals = tt;
@@ -384,8 +384,8 @@ module _ {D St : Type 0} (view : D → View St) where
   pub all_filled : (op : Operation) (old mid new : FormatAccess D) (o n : ℕ) (r t : Reasons) (part : Result (ℕ × ℕ) Error) → HasZeroedPart view op o n old mid part → HasZeroed view o n (λ (u : Unit {0}). n) r mid new (Ok tt) → HasZeroed view o n (λ (i : ℕ). i) t old new (Ok n)
   all_filled op old mid new o n r t part x h = record {
     left = partly_twice view old mid new o n o n (omega arith) (omega arith) x.left h.left;
-    done = λ k. zeroed_then o n _ _ _ (x.left.torn k) (h.done (rw x.left.framed.kind.abilities k));
-    alone = λ k. h.alone (rw x.left.framed.kind.abilities k);
+    done = λ k. zeroed_then o n _ _ _ (x.left.torn k) (h.done (rw (x.left.framed.kind.abilities, x.left.below) k));
+    alone = λ k. h.alone (rw (x.left.framed.kind.abilities, x.left.below) k);
     carries = carries_twice _ _ _ o n (x.carries o n) h.carries;
     device = λ d. let z : ⊥ = cc in absurd z;
     refusals = tt;

@@ -21,16 +21,15 @@ use Rattle.imago_access.specs.Lending.{with_driver}
 use Rattle.imago_access.specs.Calls.{devices_reliable, FailsTest, Overflows, settles}
 use Rattle.imago_access.specs.Zeroing.{operation_of, AreZero, IsLaterCount, Carries, HasZeroed, HasZeroedPart, data_reasons, zero_reasons, IsZeroWrite}
 use Rattle.imago_access.specs.Writing.{StandsAlone, HasWritten, first_reasons}
-use Rattle.imago_access.proofs.Weaker.{refused_more}
+use Rattle.imago_access.proofs.Weaker.{refused_more, and_left}
 use Rattle.imago_access.specs.declared.mapping.Mapping.TheVariants as M
 use Rattle.imago_access.specs.declared.zero.ZeroCall.{ZeroCall}
 use Rattle.imago_access.specs.declared.zero.ZeroCall.TheVariants as Z
 use Rattle.imago_access.specs.Target.{target}
 use Rattle.imago_access.specs.Resolved.{LeadsToZero, IsResolved}
 use Rattle.imago_access.proofs.Chains.{lower_deep}
-use Rattle.imago_access.proofs.Targets.{target_shows, mapped_value}
+use Rattle.imago_access.proofs.Targets.{target_shows, zero_value}
 use Rattle.imago_access.proofs.Images.{driver_with, backing_with, changed_image, not_failed}
-use Rattle.imago_access.proofs.Writes.{and_left}
 use Rattle.imago_access.specs.Moves.{MakesZeroes, MovesWithin}
 use Rattle.imago_access.proofs.Moved.{moved_outside, moved_writing, moved_zeroing}
 
@@ -92,7 +91,7 @@ module _ {D St : Type 0} (view : D → View St) (x : FormatAccess D) (d : D) whe
       let e : d ≡ driver (with_driver x d) = sym (driver_with x d) in
       record {
         left = record {
-          torn = λ k. torn result (done.inside) (done.done k (lent_image view (backing x)).at) (done.refused k (lent_image view (backing x)).at);
+          torn = λ k. torn result (done.inside) (done.done (and_left _ _ k) (lent_image view (backing x)).at) (done.refused (and_left _ _ k) (lent_image view (backing x)).at);
           below = backing_with x d;
           framed = subst (λ (y : D). StaysFramed (view (driver x)) (view y)) e framed;
           reaches = subst (λ (y : D). ReachesNoMore (view (driver x)) (view y)) e reaches;
@@ -103,8 +102,8 @@ module _ {D St : Type 0} (view : D → View St) (x : FormatAccess D) (d : D) whe
         };
         inside = done.inside;
         whole = done.whole;
-        done = λ k. shown_zero result (done.done k (lent_image view (backing x)).at);
-        alone = λ k. own_zero result (done.done k (λ (p : ℕ). Byte 1));
+        done = λ k. shown_zero result (done.done (and_left _ _ k) (lent_image view (backing x)).at);
+        alone = λ k. own_zero result (done.done (and_left _ _ k) (λ (p : ℕ). Byte 1));
         carries = λ a m. subst (λ (y : D). Carries a m (view (driver x)) (view y)) e (none_carried (view (driver x)) (view d) law none reaches a m);
         faults = subst (λ (y : D). CountsFaults (devices_reliable view x) (view (driver x)).fault_count (view y).fault_count result) e (record { later = faults.later; reliable = λ t. faults.reliable (and_left _ _ t); device = faults.device });
         refusals = refusals;
@@ -127,7 +126,7 @@ module _ {D St : Type 0} (view : D → View St) (x : FormatAccess D) (d : D) whe
 pub zero_mapped : {D St : Type 0} (view : D → View St) (x : FormatAccess D) (o most n : ℕ) (explicit : Bool) → IsResolved view x o most (M.Zero explicit) n → AreZero (disk_value view x) o n
 zero_mapped view x o most n explicit h p i =
     let e : o + (p - o) ≡ p = omega (arith, i.0) in
-    let z : disk_value view x (o + (p - o)) ≡ Byte 0 = mapped_value (M.Zero explicit) (p - o) (target view x (o + (p - o))) _ (target_shows view x (o + (p - o))) (h.leads (p - o) (omega (arith, i.0, i.1))) in
+    let z : disk_value view x (o + (p - o)) ≡ Byte 0 = zero_value explicit (p - o) (target view x (o + (p - o))) _ (target_shows view x (o + (p - o))) (h.leads (p - o) (omega (arith, i.0, i.1))) in
     rw e at z
 
 -- what is mapped as explicit zeroes isn't left to the layer below

@@ -17,7 +17,7 @@ use Rattle.imago_access.specs.declared.access.FormatAccess.{FormatAccess}
 use Rattle.imago_access.specs.Writing.{CommitMayTakeMemory, WasPrepared, StandsAlone, filled}
 use Rattle.imago_access.specs.Writing.{shown_length, shown_change, settles_by, mapping_reasons}
 use Rattle.imago_access.specs.Writing.{write_reasons}
-use Rattle.imago_access.specs.Chain.{driver, backing, disk_value, lent_image}
+use Rattle.imago_access.specs.Chain.{driver, backing, disk_value, lent_image, keeps_data}
 use Rattle.imago_access.specs.Moves.{MovesWithin}
 
 -- The range's end passes the greatest number of 64 bits, in a call that tests this by itself: a
@@ -119,15 +119,17 @@ write_refusals view x o n = write_reasons (view (driver x)) (lent_image view (ba
 -- cause for the operations `of`; a refusal past the tests leaves what remains.
 pub record IsRangeCall {D St T : Type 0} (view : D → View St) (op : Operation) (o n : ℕ)
     (nothing : Type 0) (of : Operation → Type 0) (reasons : Reasons) (hidden : Type 0)
-    (part : T → ℕ) (effect : T → Type 0) (remains : Type 0) (old new : FormatAccess D)
+    (part : T → ℕ) (keeps : Bool) (effect : T → Type 0) (remains : Type 0)
+    (old new : FormatAccess D)
     (result : Result T Error) : Type 0 where
   -- the first test that fails is answered, and nothing is changed
   pub tested : (e : Error) → FailsTest (view (driver old)) op o n e → IsErrOf result e × (new ≡ old)
   -- where there is nothing to do the call succeeds once its tests passed, and nothing is changed
   pub idle : nothing → ((e : Error) → FailsTest (view (driver old)) op o n e → ⊥) → IsOk result
       × (new ≡ old)
-  pub done : IsTrue (view (driver old)).abilities.keeps_data → IfOk result effect
-  pub torn : IsTrue (view (driver old)).abilities.keeps_data → OnErr result remains
+  -- what it did, where all that it needs is kept
+  pub done : IsTrue keeps → IfOk result effect
+  pub torn : IsTrue keeps → OnErr result remains
   -- no place leads below that didn't before, and a cause for a piece of the part that is done was
   -- one for the whole
   pub reaches : (IsLoose op → ⊥) → ReachesNoMore (view (driver old)) (view (driver new))
@@ -152,6 +154,7 @@ abbrev pub IsWrite : {D St : Type 0} → (D → View St) → FormatAccess D → 
     → Result Unit Error → Type 0
 IsWrite view old new o bytes result = IsRangeCall view Write o (length bytes) (length bytes ≡ 0)
     (settles Write) (write_refusals view old o (length bytes)) ⊥ (λ u. length bytes)
+    (keeps_data view old)
     (λ u. IsChanged o (length bytes) (into bytes) (disk_value view old) (disk_value view new)
     × StandsAlone (view (driver new)).place o (length bytes))
     (IsChanged o (length bytes) (partly (into bytes)) (disk_value view old) (disk_value view new))
@@ -169,9 +172,10 @@ mapped_refusals view x o n bytes commit = mapping_reasons (view (driver x))
 pub record IsMappedWrite {D St : Type 0} (view : D → View St) (old new : FormatAccess D) (o n : ℕ)
     (overwrite : Bool) (bytes : List ℕ) (commit : Bool) (result : Result (ℕ × Bool) Error) : Type 0
   where
-    pub told : IfOk result (WasPrepared view (disk_value view old) (driver old) o n overwrite)
+    pub told : IfOk result (WasPrepared view (lent_image view (backing old)).tells_bytes
+        (disk_value view old) (driver old) o n overwrite)
     pub call : IsRangeCall view Write o n ⊥ (settles_by commit)
-        (mapped_refusals view old o n bytes commit) ⊥ (λ m. m.0)
+        (mapped_refusals view old o n bytes commit) ⊥ (λ m. m.0) (keeps_data view old)
         (λ m. IsChanged o (shown_length commit m) (shown_change overwrite bytes m)
         (disk_value view old) (disk_value view new) × StandsAlone (view (driver new)).place o
         (shown_length commit m))
@@ -184,7 +188,7 @@ pub record IsMappedWrite {D St : Type 0} (view : D → View St) (old new : Forma
 abbrev pub IsEnsured : {D St : Type 0} → (D → View St) → FormatAccess D → FormatAccess D → ℕ → ℕ
     → Bool → Result (ℕ × ℕ × ℕ) Error → Type 0
 IsEnsured view old new o n overwrite result = IsRangeCall view Write o n ⊥ (settles Write)
-    (range_refusals view old Write o n) ⊥ (λ r. r.2)
+    (range_refusals view old Write o n) ⊥ (λ r. r.2) (keeps_data view old)
     (λ r. IsChanged o r.2 (overwritten overwrite) (disk_value view old) (disk_value view new))
     (IsChanged o n (overwritten overwrite) (disk_value view old) (disk_value view new))
     old new result

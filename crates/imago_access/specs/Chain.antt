@@ -3,6 +3,7 @@ use Rattle.std.specs.Prelude.{min}
 use Rattle.std.specs.declared.boxed.Box.{Box}
 use Rattle.std.specs.declared.alloc.Global.{Global}
 use Rattle.imago_storage.specs.declared.error.Error.{Error}
+use Rattle.imago_drivers.specs.Done.{keeps_over}
 use Rattle.imago_drivers.specs.Operation.{Operation, Map, Read}
 use Rattle.imago_drivers.specs.Place.{Value, Byte, Place, Lower, shown}
 use Rattle.imago_drivers.specs.LayerBelow.{LayerBelow, no_layer, below_reasons}
@@ -47,6 +48,16 @@ abbrev mutual
   pub is_reliable_below : {D St : Type 0} → (D → View St) → Held-FormatAccess-backing D → Bool
   is_reliable_below view None' = true
   is_reliable_below view (Some' k x) = is_reliable view x
+
+abbrev mutual
+  -- each layer tells its bytes
+  pub tells_bytes : {D St : Type 0} → (D → View St) → FormatAccess D → Bool
+  tells_bytes view (FormatAccess' inner below) = (view inner).abilities.tells_bytes
+      && tells_bytes_below view below
+
+  pub tells_bytes_below : {D St : Type 0} → (D → View St) → Held-FormatAccess-backing D → Bool
+  tells_bytes_below view None' = true
+  tells_bytes_below view (Some' k x) = tells_bytes view x
 
 -- the m offsets of the layer below from q on are reached from offsets of the range of n from o on
 abbrev pub IsReached : (ℕ → Place) → ℕ → ℕ → ℕ → ℕ → Type 0
@@ -119,6 +130,7 @@ as_layer_below view x = record {
   size = (view (driver x)).size;
   at = disk_value view x;
   is_reliable = is_reliable view x;
+  tells_bytes = tells_bytes view x;
   cause = read_cause view x;
   no_memory = no_memory_to_read view x;
 }
@@ -127,6 +139,10 @@ as_layer_below view x = record {
 abbrev pub lent_image : {D St : Type 0} → (D → View St) → Option (FormatAccess D) → LayerBelow
 lent_image view None = no_layer
 lent_image view (Some x) = as_layer_below view x
+
+-- an image keeps what is written, and what its driver copies from below is told
+abbrev pub keeps_data : {D St : Type 0} → (D → View St) → FormatAccess D → Bool
+keeps_data view x = keeps_over (view (driver x)) (lent_image view (backing x))
 
 -- why a read of an image may be refused
 abbrev pub read_reasons : {D St : Type 0} → (D → View St) → FormatAccess D → ℕ → ℕ → Reasons

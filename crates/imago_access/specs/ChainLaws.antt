@@ -3,16 +3,27 @@ use Rattle.std.proofs.Common.{arith, ap, ◌∙◌, inl, inr, ⊎_elim}
 use Rattle.imago_storage.specs.declared.error.Error.{Error}
 use Rattle.imago_storage.specs.declared.error.Error.TheVariants as E
 use Rattle.imago_drivers.specs.Operation.{Operation, Map, Read}
-use Rattle.imago_drivers.specs.Place.{Place, Byte, shown}
+use Rattle.imago_drivers.specs.Place.{Value, Place, Byte, Unreadable, Stored, Zeroed, Special, Lower}
+use Rattle.imago_drivers.specs.Place.{Refused, End, shown, own_values}
 use Rattle.imago_drivers.specs.LayerBelow.{IsLayerBelow, IsUnreadableIn, ReadBound}
 use Rattle.imago_drivers.specs.View.{View}
-use Rattle.imago_drivers.specs.Laws.{IsLawful, AreCauses, IsRefusedIn}
+use Rattle.imago_drivers.specs.Laws.{IsLawful, AreCauses}
 use Rattle.imago_access.specs.declared.access.FormatAccess.{FormatAccess, FormatAccess'}
 use Rattle.imago_access.specs.declared.access.FormatAccess.{Held-FormatAccess-backing, None', Some'}
 use Rattle.imago_access.specs.declared.access.FormatAccess.{out-FormatAccess, is-FormatAccess'}
 use Rattle.imago_access.specs.declared.access.FormatAccess.{back-FormatAccess-backing}
 use Rattle.imago_access.specs.Chain.{driver, disk_value, value_below, IsReached, chain_cause}
 use Rattle.imago_access.specs.Chain.{cause_below, as_layer_below}
+
+-- a place that can't be read with nothing below can't be read over any layer
+own_shown : (below : ℕ → Value) (place : Place) (e : Error)
+    → shown (λ _. Byte 0) place ≡ Unreadable e → shown below place ≡ Unreadable e
+own_shown below (Lower q w) e h = let z : ⊥ = cc in absurd z
+own_shown below (Stored b s f w) e h = h
+own_shown below (Zeroed explicit) e h = h
+own_shown below (Special v f) e h = h
+own_shown below (Refused r) e h = h
+own_shown below End e h = h
 
 pub reached_wider : (place : ℕ → Place) (o n p k q m : ℕ) → o ≤ p → p + k ≤ o + n
     → IsReached place p k q m → IsReached place o n q m
@@ -41,14 +52,16 @@ module _ {D St : Type 0} (view : D → View St) (laws : (d : D) → AreCauses (v
 
   mutual
     unreadable : (op : Operation) (e : Error) → ((d : D) (o n : ℕ) → (view d).limits.cause op o n e
-        → IsRefusedIn (view d).place o n e) → (x : FormatAccess D) (o n : ℕ)
+        → IsUnreadableIn (own_values (view d).place) o n e) → (x : FormatAccess D) (o n : ℕ)
         → chain_cause view x op o n e → IsUnreadableIn (disk_value view x) o n e
     unreadable op e own (FormatAccess' inner b) o n c =
-        ⊎_elim (λ a. let r = own inner o n a in (r.0, r.1, ap (shown (value_below view b)) r.2))
+        ⊎_elim (λ a. let r = own inner o n a in
+        (r.0, r.1, own_shown (value_below view b) ((view inner).place r.0) e r.2))
         (λ r. lift inner b o n r.0 r.1 e r.3 (unreadable_below op e own b r.0 r.1 r.4)) c
 
     unreadable_below : (op : Operation) (e : Error)
-        → ((d : D) (o n : ℕ) → (view d).limits.cause op o n e → IsRefusedIn (view d).place o n e)
+        → ((d : D) (o n : ℕ) → (view d).limits.cause op o n e
+        → IsUnreadableIn (own_values (view d).place) o n e)
         → (b : Held-FormatAccess-backing D) (q m : ℕ) → cause_below view b op q m e
         → IsUnreadableIn (value_below view b) q m e
     unreadable_below op e own None' q m c = absurd c

@@ -72,6 +72,7 @@ pub record IsImageDiscard {D St : Type 0} (view : D → View St) (its : Calls D 
     : Type 0 where
   pub range : IsRangeCall view (discard_of call) o n (n ≡ 0) (settles (discard_of call))
       (discard_reasons (view (driver old)) (discard_of call) o n) ⊥ (λ u. 0)
+      (view (driver old)).abilities.keeps_data
       (λ u. IsLoosened view call o n old new)
       (IsLoosened view call o n old new)
       old new result

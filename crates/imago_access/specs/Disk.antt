@@ -1,5 +1,8 @@
+-- The disk of an image as one flat list, and what each call does to it.
+
 use Rattle.std.specs.Prelude.{◌≡◌, ℕ, ◌+◌, ◌-◌, ◌<◌, ◌≤◌, ◌⊎◌, ◌↔◌, Bool, true, false, List, ◌++◌}
-use Rattle.std.specs.Prelude.{length, take, drop, map, replicate, slice_index, get_or}
+use Rattle.std.specs.Prelude.{length, take, drop, map, replicate, slice_index, get_or, Result}
+use Rattle.std.specs.Prelude.{IfOk, IfErr}
 use Rattle.std.specs.List.{range_with_len}
 use Rattle.imago_storage.specs.declared.error.Error.{Error}
 use Rattle.imago_drivers.specs.declared.format.PreallocateMode.{PreallocateMode}
@@ -110,6 +113,25 @@ pub record IsTorn (xs : List Value) (o : ℕ) (bytes : List ℕ) (e : Error) (ys
     pub old_or_new : OldOrNewValues xs (splice xs o (map Byte bytes)) ys
     pub untouched : IsTestRefusal xs o (length bytes) e → ys ≡ xs
 
+-- What a write does to the disk. Done, the bytes are spliced in; refused, each value of the range is
+-- the old one or the new one, and all others are the old ones.
+abbrev pub WritesDisk : List Value → ℕ → List ℕ → Result (Unit {0}) Error → List Value → Type 0
+WritesDisk xs o bytes result ys = IfOk result (λ u. IsSpliced xs o bytes ys)
+    × IfErr result (λ e. IsTorn xs o bytes e ys)
+
+-- What a zero write, or a discard to zero, does to the disk. Done, zeroes are spliced in; refused,
+-- each value of the range is the old one or zero, and all others are the old ones.
+abbrev pub ZeroesDisk : List Value → ℕ → ℕ → Result (Unit {0}) Error → List Value → Type 0
+ZeroesDisk xs o n result ys = IfOk result (λ u. IsZeroed xs o n ys)
+    × IfErr result (λ e. IsPartlyZeroed xs o n e ys)
+
+-- What another discard does to the disk: what it leaves is so, done and refused; and a refusal by
+-- its tests changes nothing.
+abbrev pub DiscardsOfDisk : List Value → ℕ → ℕ → Type 0 → Result (Unit {0}) Error → List Value
+    → Type 0
+DiscardsOfDisk xs o n left result ys = IfOk result (λ u. (o + n ≤ length xs) × left)
+    × IfErr result (λ e. left × (IsEndRefusal xs o n e → ys ≡ xs))
+
 -- the list, extended to n values: by zeroes, or by what the layers below have there
 abbrev pub extended : PreallocateMode → (ℕ → Value) → ℕ → List Value → List Value
 extended Mode.Zero below n xs = xs ++ replicate (n - length xs) (Byte 0)
@@ -120,6 +142,10 @@ abbrev pub IsExtended : PreallocateMode → (ℕ → Value) → ℕ → List Val
 IsExtended Mode.None below n xs ys = (added : List Value) × (length added ≡ n - length xs)
     × (ys ≡ xs ++ added)
 IsExtended mode below n xs ys = ys ≡ extended mode below n xs
+
+-- What a resize does to the disk: done, it is that list; refused, it is as it was.
+abbrev pub ResizesDisk : List Value → Type 0 → Result (Unit {0}) Error → List Value → Type 0
+ResizesDisk xs done result ys = IfOk result (λ u. done) × IfErr result (λ e. ys ≡ xs)
 
 -- the data of a read are the part of the list at its offset, with zeroes past its end
 abbrev pub IsPartOf : List Value → ℕ → ℕ → List ℕ → Type 0

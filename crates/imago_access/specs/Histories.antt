@@ -1,3 +1,5 @@
+-- What a list of calls does to the disk as a flat list.
+
 use Rattle.std.specs.Prelude.{◌≡◌, ℕ, ◌+◌, ◌<◌, ◌≤◌, ◌⊎◌, ◌&&◌, not, Bool, List, [], ◌∷◌, length}
 use Rattle.std.specs.Prelude.{take, IfOk, IfErr}
 use Rattle.imago_storage.specs.declared.error.Error.{Error}
@@ -12,8 +14,8 @@ use Rattle.imago_access.specs.declared.run.Reply.TheVariants as R
 use Rattle.imago_access.specs.Resolved.{IsEndOfImage}
 use Rattle.imago_access.specs.Writing.{shown_length}
 use Rattle.imago_access.specs.Runs.{Answers, told_done, told_mapping, told_data, told_prepared}
-use Rattle.imago_access.specs.Disk.{value_at, IsSpliced, IsTorn, IsExtended, IsPartOf, IsEndRefusal}
-use Rattle.imago_access.specs.Disk.{IsZeroed, IsPartlyZeroed, IsUnspecifiedIn, IsGivenBack}
+use Rattle.imago_access.specs.Disk.{value_at, IsExtended, IsPartOf, WritesDisk, ZeroesDisk}
+use Rattle.imago_access.specs.Disk.{DiscardsOfDisk, ResizesDisk, IsUnspecifiedIn, IsGivenBack}
 use Rattle.imago_access.specs.Disk.{IsTestRefusal, IsOverwritten, IsFilledIn, IsPartlyFilled}
 
 -- the call is done, and what it answers is so, or it is refused, and the refusal is so
@@ -28,11 +30,13 @@ abbrev pub IsDataOf : List Value → ℕ → ℕ → Reply → Type 0
 IsDataOf xs o n r = DoneOrRefused R.Data r (λ bytes. IsPartOf xs o n bytes.items)
     (λ e. (e ≡ Error.InvalidData) ⊎ (e ≡ Error.NoAccess) → IsUnreadableIn (value_at xs) o n e)
 
--- a value that a mapping names: zero, or a byte
+-- a value that a mapping names: zero, or a byte; for special bytes also the refusal of one that is
+-- faulty
 abbrev pub IsMappedTo : Mapping → Value → Type 0
 IsMappedTo (M.Zero explicit) v = v ≡ Byte 0
 IsMappedTo (M.Raw layer storage offset writable) v = (b : ℕ) × (v ≡ Byte b)
-IsMappedTo (M.Special layer offset) v = (b : ℕ) × (v ≡ Byte b)
+IsMappedTo (M.Special layer offset) v = ((b : ℕ) × (v ≡ Byte b))
+    ⊎ (v ≡ Unreadable Error.InvalidData)
 IsMappedTo M.Eof v = ⊥
 
 -- A mapping of at most n values of the list from o on, and how many they are: each is what it
@@ -57,14 +61,13 @@ IsSame xs r ys = DoneOrRefused told_done r (λ u. ys ≡ xs) (λ e. ys ≡ xs)
 -- a zero write or discard to zero: zeroes are spliced in, or, where it is refused, each value of
 -- the range may be zero
 abbrev pub IsZeroStep : List Value → ℕ → ℕ → Reply → List Value → Type 0
-IsZeroStep xs o n r ys = DoneOrRefused told_done r (λ u. IsZeroed xs o n ys)
-    (λ e. IsPartlyZeroed xs o n e ys)
+IsZeroStep xs o n r ys = Answers told_done r (λ result. ZeroesDisk xs o n result ys)
 
 -- another discard, with what it leaves: the same where it is done and where it is refused past its
 -- tests
 abbrev pub IsDiscardStep : List Value → ℕ → ℕ → Type 0 → Reply → List Value → Type 0
-IsDiscardStep xs o n left r ys = DoneOrRefused told_done r (λ u. (o + n ≤ length xs) × left)
-    (λ e. left × (IsEndRefusal xs o n e → ys ≡ xs))
+IsDiscardStep xs o n left r ys = Answers told_done r
+    (λ result. DiscardsOfDisk xs o n left result ys)
 
 -- a mapping of at most n values is as long: at least one, none for none
 abbrev pub IsPart : ℕ → ℕ → Type 0
@@ -87,8 +90,8 @@ IsPreparedStep xs o n overwrite bytes commit r ys = DoneOrRefused told_prepared 
 -- are left to the layers below.
 abbrev pub IsFlatStep : (ℕ → Value) → List Value → Call → Reply → List Value → Type 0
 IsFlatStep below xs (C.Read o n) r ys = (ys ≡ xs) × IsDataOf xs o n r
-IsFlatStep below xs (C.Write o bytes) r ys = DoneOrRefused told_done r
-    (λ u. IsSpliced xs o bytes.items ys) (λ e. IsTorn xs o bytes.items e ys)
+IsFlatStep below xs (C.Write o bytes) r ys = Answers told_done r
+    (λ result. WritesDisk xs o bytes.items result ys)
 IsFlatStep below xs (C.WriteZeroes o n) r ys = IsZeroStep xs o n r ys
 IsFlatStep below xs (C.DiscardToZero o n) r ys = IsZeroStep xs o n r ys
 IsFlatStep below xs (C.DiscardToAny o n) r ys = IsDiscardStep xs o n (IsUnspecifiedIn xs o n ys) r
@@ -98,12 +101,12 @@ IsFlatStep below xs (C.DiscardToBacking o n) r ys = IsDiscardStep xs o n
 IsFlatStep below xs (C.EnsureData o n overwrite) r ys = IsDataStep xs o n overwrite r ys
 IsFlatStep below xs (C.Prepared o n overwrite bytes commit) r ys = IsPreparedStep xs o n overwrite
     bytes.items commit r ys
-IsFlatStep below xs (C.Resize n mode) r ys = DoneOrRefused told_done r
-    (λ u. IsExtended mode below n (take n xs) ys) (λ e. ys ≡ xs)
-IsFlatStep below xs (C.ResizeGrow n mode) r ys = DoneOrRefused told_done r
-    (λ u. IsExtended mode below n xs ys) (λ e. ys ≡ xs)
-IsFlatStep below xs (C.ResizeShrink n) r ys = DoneOrRefused told_done r (λ u. ys ≡ take n xs)
-    (λ e. ys ≡ xs)
+IsFlatStep below xs (C.Resize n mode) r ys = Answers told_done r
+    (λ result. ResizesDisk xs (IsExtended mode below n (take n xs) ys) result ys)
+IsFlatStep below xs (C.ResizeGrow n mode) r ys = Answers told_done r
+    (λ result. ResizesDisk xs (IsExtended mode below n xs ys) result ys)
+IsFlatStep below xs (C.ResizeShrink n) r ys = Answers told_done r
+    (λ result. ResizesDisk xs (ys ≡ take n xs) result ys)
 IsFlatStep below xs C.Size r ys = (ys ≡ xs) × (r ≡ R.Size (length xs))
 IsFlatStep below xs (C.GetMapping o n) r ys = (ys ≡ xs) × IsMappingOf xs o n r
 IsFlatStep below xs C.Flush r ys = IsSame xs r ys

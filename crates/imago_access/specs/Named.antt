@@ -1,6 +1,6 @@
 use Rattle.std.specs.Prelude.{◌≡◌, ℕ, ◌+◌, ◌<◌, false}
 use Rattle.imago_drivers.specs.Operation.{Read}
-use Rattle.imago_drivers.specs.Place.{Value, Byte, Place, values}
+use Rattle.imago_drivers.specs.Place.{Place}
 use Rattle.imago_drivers.specs.Reasons.{Reasons, none}
 use Rattle.imago_drivers.specs.View.{View}
 use Rattle.imago_drivers.specs.declared.mapping.ShallowMapping.{ShallowMapping}
@@ -17,10 +17,6 @@ IsKnown _ count = Unit {0}
 -- the n places from `at` on are what the mapping names
 abbrev pub IsNamedAt : (ℕ → Place) → ShallowMapping → ℕ → ℕ → Type 0
 IsNamedAt place m at n = (i : ℕ) → i < n → NamesOrEnds m i (place (at + i))
-
--- what places show with nothing below
-abbrev pub own_values : (ℕ → Place) → ℕ → Value
-own_values place = values (λ (q : ℕ). Byte 0) place
 
 -- why a read of what a mapping names may be refused: as a read of any places that it names
 abbrev pub named_read_reasons : {St : Type 0} → View St → ShallowMapping → ℕ → Reasons

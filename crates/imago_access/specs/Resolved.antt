@@ -1,7 +1,7 @@
 use Rattle.std.specs.Prelude.{◌≡◌, ℕ, ◌+◌, ◌<◌, ◌≤◌, ◌⊎◌, ◌↔◌, ◌&&◌, max, Bool, false}
 use Rattle.imago_storage.specs.declared.error.Error.{Error}
 use Rattle.imago_drivers.specs.Operation.{Map}
-use Rattle.imago_drivers.specs.Place.{Stored, Zeroed, Special, Refused, End}
+use Rattle.imago_drivers.specs.Place.{Value, Stored, Zeroed, Special, Refused, End}
 use Rattle.imago_drivers.specs.Reasons.{Reasons, none}
 use Rattle.imago_drivers.specs.View.{View}
 use Rattle.imago_access.specs.declared.access.FormatAccess.{FormatAccess}
@@ -34,7 +34,7 @@ LeadsTo (M.Raw layer storage offset writable) i t =
 LeadsTo (M.Zero explicit) i t = LeadsToZero explicit t
 LeadsTo M.Eof i t = ⊥
 LeadsTo (M.Special layer offset) i t = (layer ≡ told_depth t.depth)
-    × ((b : ℕ) × (t.place ≡ Special b (offset + i)))
+    × ((b : Value) × (t.place ≡ Special b (offset + i)))
 
 -- A mapping of n bytes is the right answer for an image at o, where at most so many were asked for.
 pub record IsResolved {D St : Type 0} (view : D → View St) (x : FormatAccess D) (o most : ℕ)

@@ -1,5 +1,5 @@
 use Rattle.std.specs.Prelude.{◌≡◌, ℕ, ◌<◌, ◌⊎◌, Bool, List, [], ◌∷◌, length, max, Result, Ok, Err}
-use Rattle.std.specs.Prelude.{IsOk, IfOk, IfErr}
+use Rattle.std.specs.Prelude.{IsOk, IfOk, IfErr, IsTrue}
 use Rattle.std.specs.declared.vec.Vec.{Vec}
 use Rattle.std.specs.declared.alloc.Global.{Global}
 use Rattle.imago_storage.specs.declared.error.Error.{Error}
@@ -21,7 +21,7 @@ use Rattle.imago_access.specs.declared.zero.ZeroCall.TheVariants as Z
 use Rattle.imago_access.specs.Zeroing.{IsZeroWrite}
 use Rattle.imago_access.specs.Discarding.{IsImageDiscard}
 use Rattle.imago_access.specs.ZeroCalls.{IsZeroedBy}
-use Rattle.imago_access.specs.Chain.{driver, disk_value, read_reasons, chain_no_memory}
+use Rattle.imago_access.specs.Chain.{driver, disk_value, tells_bytes, read_reasons, chain_no_memory}
 use Rattle.imago_access.specs.Resolved.{IsResolved, IsEndOfImage, chain_map_reasons}
 use Rattle.imago_access.specs.Lengths.{IsFullLength}
 use Rattle.imago_access.specs.Calls.{IsWrite, IsEnsured, IsMappedWrite}
@@ -65,7 +65,8 @@ IsReadRefusal view x o n e = ((e ≡ Error.Memory) × (0 < n)) ⊎ allowed (read
 pub record IsBufferRead {D St : Type 0} (view : D → View St) (its : Calls D St) (x : FormatAccess D)
     (o n : ℕ) (result : Result (Vec ℕ Global) Error) : Type 0 where
   pub empty : n ≡ 0 → IsOk result
-  pub bytes : IfOk result (λ v. (length v.items ≡ n) × HasValues (disk_value view x) o v.items)
+  pub long : IfOk result (λ v. length v.items ≡ n)
+  pub bytes : IsTrue (tells_bytes view x) → IfOk result (λ v. HasValues (disk_value view x) o v.items)
   pub refusals : IfErr result (IsReadRefusal view x o n)
   pub asked : IfOk result (λ v. IsReadBy view its x o n (Ok tt))
   pub answered : IfErr result (λ e. ((e ≡ Error.Memory) × (0 < n))

@@ -13,7 +13,7 @@ use Rattle.imago_drivers.specs.Lengths.{GrowTo, AreNoLonger}
 use Rattle.imago_drivers.specs.Resized.{grown_into, IsGrown, IsCut, IsSameDisk, IsListed}
 use Rattle.imago_drivers.specs.Done.{driver_reasons}
 use Rattle.imago_access.specs.declared.access.FormatAccess.{FormatAccess}
-use Rattle.imago_access.specs.Chain.{driver, backing, disk_value, lent_image}
+use Rattle.imago_access.specs.Chain.{driver, backing, disk_value, lent_image, keeps_data}
 use Rattle.imago_access.specs.Calls.{IsKept, devices_reliable, range_refusals}
 
 -- A growth: the size is the larger one, old bytes stay, and new ones are what the mode says, over
@@ -21,9 +21,9 @@ use Rattle.imago_access.specs.Calls.{IsKept, devices_reliable, range_refusals}
 pub record HasGrown {D St : Type 0} (view : D → View St) (mode : PreallocateMode) (new_size : ℕ)
     (old new : FormatAccess D) : Type 0 where
   pub size : (view (driver new)).size ≡ max (view (driver old)).size new_size
-  pub stays : IsTrue (view (driver old)).abilities.keeps_data → (p : ℕ)
+  pub stays : IsTrue (keeps_data view old) → (p : ℕ)
       → p < (view (driver old)).size → disk_value view new p ≡ disk_value view old p
-  pub added : IsTrue (view (driver old)).abilities.keeps_data → (p : ℕ) → (view (driver old)).size
+  pub added : IsTrue (keeps_data view old) → (p : ℕ) → (view (driver old)).size
       ≤ p → p < new_size
       → grown_into mode (view (driver old)).abilities.takes_backing
       (lent_image view (backing old)).at p (disk_value view new p)
@@ -67,10 +67,10 @@ resize_refusals view x op new_size = record
     (range_refusals view x op new_size 0) { beyond_disk = ⊥ }
 
 -- what a resize did to a layer over one with these values
-abbrev pub IsResizedLayer : {St : Type 0} → Operation → (ℕ → Value) → ℕ → View St → View St → Type 0
-IsResizedLayer (Grow mode) below new_size old new = IsGrown mode below new_size old new
-IsResizedLayer Shrink below new_size old new = IsCut new_size old new
-IsResizedLayer _ below new_size old new = ⊥
+abbrev pub IsResizedLayer : {St : Type 0} → Operation → Bool → (ℕ → Value) → ℕ → View St → View St → Type 0
+IsResizedLayer (Grow mode) told below new_size old new = IsGrown mode told below new_size old new
+IsResizedLayer Shrink told below new_size old new = IsCut new_size old new
+IsResizedLayer _ told below new_size old new = ⊥
 
 -- A resize: what holds where it succeeds; refused, the disk is as it was.
 pub record IsResize {D St : Type 0} (view : D → View St) (op : Operation) (new_size : ℕ)
@@ -83,7 +83,8 @@ pub record IsResize {D St : Type 0} (view : D → View St) (op : Operation) (new
   pub unchanged : OnErr result (IsSameImage view old new)
   -- of the layer itself: what the driver did to it, and, refused, that each place stands where it
   -- stood, and no storage was cut
-  pub layer : OnOk result (IsResizedLayer op (lent_image view (backing old)).at new_size
+  pub layer : OnOk result (IsResizedLayer op (lent_image view (backing old)).tells_bytes
+      (lent_image view (backing old)).at new_size
       (view (driver old)) (view (driver new)))
   pub same_layer : OnErr result (IsSameDisk (view (driver old)) (view (driver new)))
   -- a layer whose places are as many as its size says stays so

@@ -1,5 +1,5 @@
 use Rattle.std.specs.Prelude.{◌≡◌, ℕ, ◌+◌, ◌<◌, ◌≤◌, ◌↔◌, ◌&&◌, Bool, false, None, nat_eq}
-use Rattle.std.specs.Prelude.{if◌then◌else◌}
+use Rattle.std.specs.Prelude.{if◌then◌else◌, IsTrue}
 use Rattle.imago_storage.specs.declared.error.Error.{Error}
 use Rattle.imago_drivers.specs.Operation.{Operation}
 use Rattle.imago_drivers.specs.Place.{Place, Refused, End}
@@ -10,7 +10,7 @@ use Rattle.imago_drivers.specs.declared.mapping.ShallowMapping.TheVariants as S
 use Rattle.imago_access.specs.declared.access.FormatAccess.{FormatAccess}
 use Rattle.imago_access.specs.declared.chain.Way.{Way}
 use Rattle.imago_access.specs.declared.mapping.Mapping.{Mapping}
-use Rattle.imago_access.specs.Chain.{driver, backing, disk_value, is_reliable, chain_cause}
+use Rattle.imago_access.specs.Chain.{driver, backing, disk_value, is_reliable, tells_bytes, chain_cause}
 use Rattle.imago_access.specs.Chain.{chain_no_memory, may_take_memory}
 use Rattle.imago_access.specs.Target.{target, deeper, told_depth}
 
@@ -48,6 +48,7 @@ pub record LeadsDown {D St : Type 0} (view : D → View St) (x : FormatAccess D)
   pub memory : (i m : ℕ) → 0 < m → i + m ≤ left → may_take_memory view layer (at + i) m
       → may_take_memory view x (o + i) m
   pub reliable : is_reliable view layer ≡ false → is_reliable view x ≡ false
+  pub told : IsTrue (tells_bytes view x) → IsTrue (tells_bytes view layer)
   pub within : left ≤ most
   pub empty : left ≡ 0 → most ≡ 0
   pub whole : chain_no_memory view x o most → (left ≡ most) × chain_no_memory view layer at left

@@ -17,7 +17,7 @@ use Rattle.imago_drivers.specs.Frame.{IsKind, ReachesNoMore}
 use Rattle.imago_access.specs.declared.write.Spending.{Spending}
 use Rattle.imago_access.specs.declared.write.Spending.TheVariants as By
 use Rattle.imago_access.specs.Framed.{StaysFramed}
-use Rattle.imago_drivers.specs.Done.{lending_reasons}
+use Rattle.imago_drivers.specs.Done.{lending_reasons, keeps_over}
 use Rattle.imago_drivers.specs.Outside.{SharesBlock}
 use Rattle.imago_drivers.specs.Commit.{commit_moves}
 use Rattle.imago_access.specs.Moves.{MovesWithin}
@@ -64,10 +64,10 @@ pub record IsMappedLength {St : Type 0} (v : View St) (o n c : ℕ) : Type 0 whe
 
 -- the answer tells the length of a mapping that was prepared for these places, and whether it had
 -- no state
-abbrev pub WasPrepared : {D St : Type 0} → (D → View St) → (ℕ → Value) → D → ℕ → ℕ → Bool → ℕ × Bool
-    → Type 0
-WasPrepared {D} {St} view disk old o n overwrite answer = (mid : D) × (m : PreparedDataMapping St)
-    × IsPrepared o n overwrite disk (view old) (view mid) m × (answer.0 ≡ m.length)
+abbrev pub WasPrepared : {D St : Type 0} → (D → View St) → Bool → (ℕ → Value) → D → ℕ → ℕ → Bool
+    → ℕ × Bool → Type 0
+WasPrepared {D} {St} view told disk old o n overwrite answer = (mid : D) × (m : PreparedDataMapping St)
+    × IsPrepared o n overwrite told disk (view old) (view mid) m × (answer.0 ≡ m.length)
     × (answer.1 ≡ is_none m.state)
 
 -- What waits for the commit of that mapping: the disk shows what it did, and the bytes that fit are
@@ -76,10 +76,10 @@ pub record IsWaiting {St : Type 0} (l : LayerBelow) (old new : View St) (o : ℕ
     (bytes : List ℕ) (m : PreparedDataMapping St) (q : Pending St) : Type 0 where
   pub own : IsOwn (Some q) m
   pub start : q.start ≡ o
-  pub same : IsTrue old.abilities.keeps_data → (p : ℕ) → values l.at new.place p
+  pub same : IsTrue (keeps_over old l) → (p : ℕ) → values l.at new.place p
       ≡ values l.at old.place p
-  pub round : IsTrue old.abilities.keeps_data → ShowsRound (values l.at new.place) (Some q)
-  pub listed : IsTrue old.abilities.keeps_data → (k : ℕ) → k < m.length
+  pub round : IsTrue (keeps_over old l) → ShowsRound (values l.at new.place) (Some q)
+  pub listed : IsTrue (keeps_over old l) → (k : ℕ) → k < m.length
       → filled overwrite bytes k (values l.at old.place (o + k)) (Byte (q.bytes (o + k)))
 
 -- the bytes that fit are written to a mapping with or without a state: they stand at its places, or
@@ -88,7 +88,7 @@ abbrev pub is_filled : {St : Type 0} → Option St → LayerBelow → View St �
     → List ℕ → PreparedDataMapping St → Type 0
 is_filled None l old new o overwrite bytes m =
     (new.pending ≡ None)
-    × (IsTrue old.abilities.keeps_data → IsChanged o m.length (filled false bytes)
+    × (IsTrue (keeps_over old l) → IsChanged o m.length (filled false bytes)
     (values l.at old.place) (values l.at new.place))
 is_filled {St} (Some s) l old new o overwrite bytes m = (q : Pending St) × (new.pending ≡ Some q)
     × IsWaiting l old new o overwrite bytes m q
@@ -111,7 +111,7 @@ pub record HasFilled {St : Type 0} (l : LayerBelow) (old new : View St) (o n : �
   pub written : IfOk result (λ m. is_filled m.state l old new o overwrite bytes m)
   -- its bytes are for the places from o on
   pub for : IfOk result (λ m. IsFor new m 0 m.length o)
-  pub torn : IsTrue old.abilities.keeps_data
+  pub torn : IsTrue (keeps_over old l)
       → OnErr result (IsChanged o n (partly (filled false bytes)) (values l.at old.place)
       (values l.at new.place))
   pub nothing_pending : OnErr result (new.pending ≡ None)
@@ -157,10 +157,10 @@ pub record HasMapped {St : Type 0} (l : LayerBelow) (commit_memory : Type 0) (ol
     (o n : ℕ) (overwrite : Bool) (bytes : List ℕ) (commit : Bool) (result : Result (ℕ × Bool) Error)
     : Type 0 where
   pub mapping : IfOk result (λ m. IsMappedLength old o n m.0)
-  pub done : IsTrue old.abilities.keeps_data
+  pub done : IsTrue (keeps_over old l)
       → IfOk result (λ m. IsChanged o (shown_length commit m) (shown_change overwrite bytes m)
       (values l.at old.place) (values l.at new.place))
-  pub torn : IsTrue old.abilities.keeps_data
+  pub torn : IsTrue (keeps_over old l)
       → OnErr result (IsChanged o n (partly (filled overwrite bytes)) (values l.at old.place)
       (values l.at new.place))
   -- what shows of it stands in the layer itself
@@ -180,10 +180,10 @@ pub record HasMapped {St : Type 0} (l : LayerBelow) (commit_memory : Type 0) (ol
 pub record HasWritten {St : Type 0} (l : LayerBelow) (commit_memory : Type 0) (old new : View St)
     (o : ℕ) (bytes : List ℕ) (result : Result ℕ Error) : Type 0 where
   pub some : IfOk result (λ n. (0 < n) × (n ≤ length bytes))
-  pub done : IsTrue old.abilities.keeps_data
+  pub done : IsTrue (keeps_over old l)
       → IfOk result (λ n. IsChanged o n (into bytes) (values l.at old.place)
       (values l.at new.place))
-  pub torn : IsTrue old.abilities.keeps_data
+  pub torn : IsTrue (keeps_over old l)
       → OnErr result (IsChanged o (length bytes) (partly (into bytes)) (values l.at old.place)
       (values l.at new.place))
   pub whole : old.limits.whole Write o (length bytes) → IfOk result (λ n. n ≡ length bytes)
@@ -202,10 +202,10 @@ pub record HasWritten {St : Type 0} (l : LayerBelow) (commit_memory : Type 0) (o
 -- The same for the whole of a range.
 pub record HasWrittenAll {St : Type 0} (l : LayerBelow) (commit_memory : Type 0) (old new : View St)
     (o : ℕ) (bytes : List ℕ) (result : Result Unit Error) : Type 0 where
-  pub done : IsTrue old.abilities.keeps_data
+  pub done : IsTrue (keeps_over old l)
       → OnOk result (IsChanged o (length bytes) (into bytes) (values l.at old.place)
       (values l.at new.place))
-  pub torn : IsTrue old.abilities.keeps_data
+  pub torn : IsTrue (keeps_over old l)
       → OnErr result (IsChanged o (length bytes) (partly (into bytes)) (values l.at old.place)
       (values l.at new.place))
   -- the bytes stand in the layer itself, whatever is below

@@ -14,7 +14,7 @@ use Rattle.imago_access.specs.Framed.{StaysFramed}
 use Rattle.imago_access.specs.declared.access.FormatAccess.{FormatAccess}
 use Rattle.imago_access.specs.declared.zero.ZeroCall.{ZeroCall}
 use Rattle.imago_access.specs.declared.zero.ZeroCall.TheVariants as Z
-use Rattle.imago_access.specs.Chain.{driver, backing, disk_value, is_reliable, lent_image}
+use Rattle.imago_access.specs.Chain.{driver, backing, disk_value, is_reliable, lent_image, keeps_data}
 use Rattle.imago_access.specs.Chain.{chain_cause}
 use Rattle.imago_access.specs.Writing.{StandsAlone}
 use Rattle.imago_access.specs.Calls.{devices_reliable, settles, IsRangeCall}
@@ -39,7 +39,7 @@ pub record IsLaterCount (is_reliable : Bool) (before now : ℕ) : Type 0 where
 -- didn't, and nothing waits.
 pub record IsPartlyZeroed {D St : Type 0} (view : D → View St) (o n : ℕ) (old new : FormatAccess D)
     : Type 0 where
-  pub torn : IsTrue (view (driver old)).abilities.keeps_data
+  pub torn : IsTrue (keeps_data view old)
       → IsChanged o n (partly zeroes) (disk_value view old) (disk_value view new)
   pub below : backing new ≡ backing old
   pub framed : StaysFramed (view (driver old)) (view (driver new))
@@ -84,10 +84,10 @@ zero_reasons view x op o n = record (data_reasons view x o n) {
 pub record HasZeroed {D St T : Type 0} (view : D → View St) (o n : ℕ) (count : T → ℕ)
     (reasons : Reasons) (old new : FormatAccess D) (result : Result T Error) : Type 0 where
   pub left : IsPartlyZeroed view o n old new
-  pub done : IsTrue (view (driver old)).abilities.keeps_data
+  pub done : IsTrue (keeps_data view old)
       → IfOk result (λ r. IsChanged o (count r) zeroes (disk_value view old) (disk_value view new))
   -- they are the image's own, whatever is below
-  pub alone : IsTrue (view (driver old)).abilities.keeps_data
+  pub alone : IsTrue (keeps_data view old)
       → IfOk result (λ r. StandsAlone (view (driver new)).place o (count r))
   pub carries : IfOk result (λ r. Carries o n (view (driver old)) (view (driver new)))
   -- a device that fails shows in the count of faults, or is one that is only read
@@ -101,9 +101,9 @@ pub record HasZeroedPart {D St : Type 0} (view : D → View St) (op : Operation)
   pub left : IsPartlyZeroed view o n old new
   pub inside : IfOk result (λ r. (r.1 ≡ 0) ⊎ ((o ≤ r.0) × (r.0 + r.1 ≤ o + n)))
   pub whole : (view (driver old)).limits.whole op o n → IfOk result (λ r. (r.0 ≡ o) × (r.1 ≡ n))
-  pub done : IsTrue (view (driver old)).abilities.keeps_data
+  pub done : IsTrue (keeps_data view old)
       → IfOk result (λ r. IsChanged r.0 r.1 zeroes (disk_value view old) (disk_value view new))
-  pub alone : IsTrue (view (driver old)).abilities.keeps_data
+  pub alone : IsTrue (keeps_data view old)
       → IfOk result (λ r. StandsAlone (view (driver new)).place r.0 r.1)
   -- at any result, for any range
   pub carries : (a m : ℕ) → Carries a m (view (driver old)) (view (driver new))
@@ -123,7 +123,7 @@ pub record IsZeroedByDriver {D St : Type 0} (view : D → View St) (o n : ℕ)
 abbrev pub IsZeroWrite : {D St : Type 0} → (D → View St) → Operation → FormatAccess D
     → FormatAccess D → ℕ → ℕ → Result (Unit {0}) Error → Type 0
 IsZeroWrite view op old new o n result = IsRangeCall view op o n (n ≡ 0) (settles op)
-    (zero_reasons view old op o n) (is_reliable view old ≡ false) (λ u. n)
+    (zero_reasons view old op o n) (is_reliable view old ≡ false) (λ u. n) (keeps_data view old)
     (λ u. IsChanged o n zeroes (disk_value view old) (disk_value view new)
     × StandsAlone (view (driver new)).place o n)
     (IsChanged o n (partly zeroes) (disk_value view old) (disk_value view new))

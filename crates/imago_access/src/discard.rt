@@ -1,7 +1,9 @@
 //! Discarding ranges of an image.
-ghost use Rattle.std.specs.Prelude.{◌≡◌, ℕ, ◌+◌, ◌<◌, ◌^◌, List, None, IsOk};
+ghost use Rattle.std.specs.Prelude.{◌≡◌, ℕ, ◌+◌, ◌<◌, ◌^◌, List, None, IsOk, IsTrue};
 ghost use Rattle.imago_access.specs.Calls.{TakesChange};
 ghost use Rattle.imago_access.specs.Chain.{driver};
+ghost use Rattle.imago_access.specs.Disk.{disk, backed_value, DiscardsOfDisk, IsUnspecifiedIn};
+ghost use Rattle.imago_access.specs.Disk.{IsGivenBack};
 ghost use Rattle.imago_access.specs.DiscardParts.{discard_by, IsDiscardedInParts};
 ghost use Rattle.imago_access.specs.Discarding.{HasLoosened, HasLoosenedPart, IsImageDiscard};
 ghost use Rattle.imago_access.specs.declared.discard.DiscardCall.TheVariants as Call;
@@ -96,7 +98,12 @@ impl<D: FormatDriverInstance> FormatAccess<D> {
     /// the driver tells.
     pub fn discard_to_any(&mut self, alloc: Global, offset: u64, count: u64) -> Result<(), Error>
         requires { (D.view (driver self.old)).pending ≡ None }
-        ensures { IsImageDiscard D.view D.calls Call.ToAny self.old self.new offset count result }
+        ensures disk { IsTrue (D.view (driver self.old)).abilities.keeps_data
+            → DiscardsOfDisk (disk D.view self.old) offset count
+            (IsUnspecifiedIn (disk D.view self.old) offset count (disk D.view self.new)) result
+            (disk D.view self.new) }
+        ensures discarded { IsImageDiscard D.view D.calls Call.ToAny self.old self.new offset count
+            result }
     {
         self.discard(alloc, DiscardCall::ToAny, offset, count)
     }
@@ -116,8 +123,12 @@ impl<D: FormatDriverInstance> FormatAccess<D> {
         count: u64,
     ) -> Result<(), Error>
         requires { (D.view (driver self.old)).pending ≡ None }
-        ensures { IsImageDiscard D.view D.calls Call.ToBacking self.old self.new offset count
-            result }
+        ensures disk { IsTrue (D.view (driver self.old)).abilities.keeps_data
+            → DiscardsOfDisk (disk D.view self.old) offset count
+            (IsGivenBack (backed_value D.view self.old) (disk D.view self.old) offset count
+            (disk D.view self.new)) result (disk D.view self.new) }
+        ensures discarded { IsImageDiscard D.view D.calls Call.ToBacking self.old self.new offset
+            count result }
     {
         self.discard(alloc, DiscardCall::ToBacking, offset, count)
     }

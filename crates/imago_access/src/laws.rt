@@ -5,7 +5,7 @@ ghost use Rattle.imago_drivers.specs.declared.format.PreallocateMode.{Preallocat
 ghost use Rattle.imago_access.specs.declared.access.FormatAccess.{FormatAccess};
 ghost use Rattle.imago_access.specs.declared.run.Call.{Call};
 ghost use Rattle.imago_access.specs.declared.run.Reply.{Reply};
-ghost use Rattle.imago_access.specs.Chain.{driver, disk_value};
+ghost use Rattle.imago_access.specs.Chain.{driver, disk_value, keeps_data};
 ghost use Rattle.imago_access.specs.Target.{target};
 ghost use Rattle.imago_access.specs.Calls.{IsKept};
 ghost use Rattle.imago_access.specs.Runs.{IsRun};
@@ -27,7 +27,7 @@ use imago_drivers::drivers::FormatDriverInstance;
 /// it; each read, each size and each mapping answers the list as it stands then.
 pub fn flat_histories<D: FormatDriverInstance>()
     ensures { (old new : FormatAccess D) (calls : List Call) (replies : List Reply)
-        → IsTrue (D.view (driver old)).abilities.keeps_data
+        → IsTrue (keeps_data D.view old)
         → IsRun D.view D.calls old calls replies new
         → IsFlatHistory (backed_value D.view old) (disk D.view old) calls replies
         (disk D.view new) }
@@ -66,7 +66,7 @@ pub fn writes_on_lists<D: FormatDriverInstance>()
 /// lists.
 pub fn resizes_on_lists<D: FormatDriverInstance>()
     ensures { (old new : FormatAccess D) (mode : PreallocateMode) (n : ℕ)
-        → IsTrue (D.view (driver old)).abilities.keeps_data
+        → IsTrue (keeps_data D.view old)
         → IsSameResize D.view old mode n new }
 {}
 

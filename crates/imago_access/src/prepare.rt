@@ -12,7 +12,7 @@ ghost use Rattle.imago_drivers.specs.Done.{mapping_write_reasons};
 ghost use Rattle.imago_drivers.specs.Prepared.{IsPrepared, IsDataMapping, IsFor, IsForeignWrite};
 ghost use Rattle.imago_drivers.specs.Prepared.{IsWritten};
 ghost use Rattle.imago_drivers.specs.Commit.{IsCommit, IsCancel};
-ghost use Rattle.imago_access.specs.Chain.{driver, backing, disk_value};
+ghost use Rattle.imago_access.specs.Chain.{driver, backing, disk_value, lent_image};
 ghost use Rattle.imago_access.specs.Calls.{IsEnsured, IsPreparing, KeepsShape};
 ghost use Rattle.imago_access.specs.Performed.{IsPreparedBy, IsEnsuredBy};
 ghost use Rattle.imago_access.specs.PreparedOnDisk.{ShowsSame, ShowsPreparedWrite, ShowsCommit};
@@ -75,7 +75,7 @@ impl<D: FormatDriverInstance> FormatAccess<D> {
     ) -> Result<PreparedDataMapping<D::State>, Error>
         requires { (D.view (driver self.old)).pending ≡ None }
         ensures prepared { IfOk result
-            (λ m. IsPrepared offset count overwrite (disk_value D.view self.old)
+            (λ m. IsPrepared offset count overwrite (lent_image D.view (backing self.old)).tells_bytes (disk_value D.view self.old)
             (D.view (driver self.old)) (D.view (driver self.new)) m) }
         ensures call { IsPreparing D.view self.old self.new offset count result }
         ensures performed { IsPreparedBy D.view D.calls self.old self.new offset count overwrite

@@ -1,13 +1,14 @@
 //! Reading an image.
 ghost use Rattle.std.specs.Prelude.{◌≡◌, ◌+◌, ◌<◌, ◌≤◌, ℕ, length, take, slice_index, EachIndex};
-ghost use Rattle.std.specs.Prelude.{IfOk, IfErr, IsOk, OnOk};
-ghost use Rattle.imago_drivers.specs.Place.{HasValues};
+ghost use Rattle.std.specs.Prelude.{IfOk, IfErr, IsOk, IsTrue, OnOk};
+ghost use Rattle.imago_drivers.specs.Place.{HasValues, own_values};
 ghost use Rattle.imago_drivers.specs.Reasons.{allowed};
-ghost use Rattle.imago_access.specs.Chain.{disk_value, chain_no_memory, inside_part};
+ghost use Rattle.imago_access.specs.Chain.{disk_value, tells_bytes, chain_no_memory, inside_part};
 ghost use Rattle.imago_access.specs.Chain.{as_layer_below, read_reasons};
+ghost use Rattle.imago_access.specs.Disk.{disk, IsPartOf};
 ghost use Rattle.imago_access.specs.ChainLaws.{image_is_layer};
 ghost use Rattle.imago_access.specs.Answered.{IsNamedRead, IsFirstRead, IsReadBy};
-ghost use Rattle.imago_access.specs.Named.{IsKnown, IsNamedAt, own_values, named_read_reasons};
+ghost use Rattle.imago_access.specs.Named.{IsKnown, IsNamedAt, named_read_reasons};
 ghost use Rattle.imago_access.specs.Named.{chunk_read_reasons};
 
 use crate::access::FormatAccess;
@@ -26,7 +27,7 @@ fn read_named<D: FormatDriverInstance>(
     buf: &mut [u8],
 ) -> Result<(), Error>
     requires { IsKnown «mapping» (D.view inner.now).stores.count }
-    ensures bytes { OnOk result
+    ensures bytes { IsTrue (D.view inner.now).abilities.tells_bytes → OnOk result
         ((at : ℕ)
         → IsNamedAt (D.view inner.now).place «mapping» at (length buf.old)
         → HasValues (own_values (D.view inner.now).place) at buf.new) }
@@ -72,7 +73,7 @@ impl<D: FormatDriverInstance> FormatAccess<D> {
     fn read_chunk(&self, alloc: Global, buf: &mut [u8], offset: u64) -> Result<usize, Error>
         requires { 0 < length buf.old }
         ensures some { IfOk result (λ n. (0 < n) × (n ≤ length buf.new)) }
-        ensures bytes { IfOk result
+        ensures bytes { IsTrue (tells_bytes D.view self.now) → IfOk result
             (λ n. HasValues (disk_value D.view self.now) offset (take n buf.new)) }
         ensures whole { chain_no_memory D.view self.now offset (length buf.old)
             → IfOk result (λ n. n ≡ length buf.old) }
@@ -88,7 +89,8 @@ impl<D: FormatDriverInstance> FormatAccess<D> {
 
     /// Fills the buffer with the image's bytes from the offset on, with 0 past its end.
     fn read_range(&self, alloc: Global, buf: &mut [u8], offset: u64) -> Result<(), Error>
-        ensures bytes { OnOk result (HasValues (disk_value D.view self.now) offset buf.new) }
+        ensures bytes { IsTrue (tells_bytes D.view self.now)
+            → OnOk result (HasValues (disk_value D.view self.now) offset buf.new) }
         ensures empty { length buf.old ≡ 0 → IsOk result }
         ensures refusals { IfErr result
             (allowed (read_reasons D.view self.now offset (length buf.old))) }
@@ -116,7 +118,10 @@ impl<D: FormatDriverInstance> FormatAccess<D> {
     /// what the driver of a layer answered that the next part reaches, to the mapping of that part
     /// or to the read of what it maps.
     pub fn read(&self, alloc: Global, buf: &mut [u8], offset: u64) -> Result<(), Error>
-        ensures bytes { OnOk result (HasValues (disk_value D.view self.now) offset buf.new) }
+        ensures disk { IsTrue (tells_bytes D.view self.now)
+            → OnOk result (IsPartOf (disk D.view self.now) offset (length buf.old) buf.new) }
+        ensures bytes { IsTrue (tells_bytes D.view self.now)
+            → OnOk result (HasValues (disk_value D.view self.now) offset buf.new) }
         ensures empty { length buf.old ≡ 0 → IsOk result }
         ensures refusals { IfErr result
             (allowed (read_reasons D.view self.now offset (length buf.old))) }
@@ -127,7 +132,10 @@ impl<D: FormatDriverInstance> FormatAccess<D> {
 
     /// The same as [`read`](Self::read).
     pub fn readv(&self, alloc: Global, buf: &mut [u8], offset: u64) -> Result<(), Error>
-        ensures bytes { OnOk result (HasValues (disk_value D.view self.now) offset buf.new) }
+        ensures disk { IsTrue (tells_bytes D.view self.now)
+            → OnOk result (IsPartOf (disk D.view self.now) offset (length buf.old) buf.new) }
+        ensures bytes { IsTrue (tells_bytes D.view self.now)
+            → OnOk result (HasValues (disk_value D.view self.now) offset buf.new) }
         ensures empty { length buf.old ≡ 0 → IsOk result }
         ensures refusals { IfErr result
             (allowed (read_reasons D.view self.now offset (length buf.old))) }

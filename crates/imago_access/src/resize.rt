@@ -1,7 +1,8 @@
 //! Resizing an image.
-ghost use Rattle.std.specs.Prelude.{◌≡◌, None, true, IfErr, OnOk};
+ghost use Rattle.std.specs.Prelude.{◌≡◌, None, true, take, IfErr, OnOk, IsTrue};
 ghost use Rattle.imago_drivers.specs.Operation.{Grow, Shrink};
-ghost use Rattle.imago_access.specs.Chain.{driver};
+ghost use Rattle.imago_access.specs.Chain.{driver, keeps_data};
+ghost use Rattle.imago_access.specs.Disk.{disk, backed_value, ResizesDisk, IsExtended};
 ghost use Rattle.imago_access.specs.Sizes.{FailsWritable, IsResize, IsResizeTo, HasGrown};
 ghost use Rattle.imago_access.specs.Sizes.{HasShrunk};
 ghost use Rattle.imago_access.specs.Performed.{IsGrownBy, IsCutBy, IsResizedBy};
@@ -41,6 +42,9 @@ impl<D: FormatDriverInstance> FormatAccess<D> {
         mode: PreallocateMode,
     ) -> Result<(), Error>
         requires { (D.view (driver self.old)).pending ≡ None }
+        ensures disk { IsTrue (keeps_data D.view self.old) → ResizesDisk (disk D.view self.old)
+            (IsExtended mode (backed_value D.view self.old) new_size (disk D.view self.old)
+            (disk D.view self.new)) result (disk D.view self.new) }
         ensures resized { IsResize D.view (Grow mode) new_size
             (HasGrown D.view mode new_size self.old self.new)
             self.old self.new result }
@@ -65,6 +69,10 @@ impl<D: FormatDriverInstance> FormatAccess<D> {
     /// the driver tells.
     pub fn resize_shrink(&mut self, new_size: u64) -> Result<(), Error>
         requires { (D.view (driver self.old)).pending ≡ None }
+        ensures disk { IsTrue (D.view (driver self.old)).abilities.keeps_data
+            → ResizesDisk (disk D.view self.old)
+            (disk D.view self.new ≡ take new_size (disk D.view self.old)) result
+            (disk D.view self.new) }
         ensures resized { IsResize D.view Shrink new_size
             (HasShrunk D.view new_size self.old self.new) self.old
             self.new result }
@@ -93,6 +101,10 @@ impl<D: FormatDriverInstance> FormatAccess<D> {
         mode: PreallocateMode,
     ) -> Result<(), Error>
         requires { (D.view (driver self.old)).pending ≡ None }
+        ensures disk { IsTrue (keeps_data D.view self.old) → ResizesDisk (disk D.view self.old)
+            (IsExtended mode (backed_value D.view self.old) new_size
+            (take new_size (disk D.view self.old)) (disk D.view self.new)) result
+            (disk D.view self.new) }
         ensures resized { IsResizeTo D.view new_size mode self.old self.new result }
         ensures performed { IsResizedBy D.view D.calls new_size mode self.old self.new result }
         ensures nothing_pending { (D.view (driver self.new)).pending ≡ None }

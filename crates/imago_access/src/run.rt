@@ -2,7 +2,7 @@
 ghost use Rattle.std.specs.Prelude.{◌≡◌, ◌<◌, ◌++◌, List, length, None, IsTrue, IfOk, IfErr, OnOk};
 ghost use Rattle.std.specs.Prelude.{OnErr};
 ghost use Rattle.imago_access.specs.declared.run.Reply.{Reply};
-ghost use Rattle.imago_access.specs.Chain.{driver};
+ghost use Rattle.imago_access.specs.Chain.{driver, keeps_data};
 ghost use Rattle.imago_access.specs.Disk.{disk, backed_value};
 ghost use Rattle.imago_access.specs.Runs.{reply_of, told_done, told_data, told_prepared};
 ghost use Rattle.imago_access.specs.Runs.{IsBufferRead, IsStep, IsRun};
@@ -305,7 +305,7 @@ pub fn run<D: FormatDriverInstance>(
     ensures run { OnOk result
         ((rs : List Reply) × (replies.new.items ≡ replies.old.items ++ rs) × IsRun D.view
         D.calls image.old calls.now rs image.new) }
-    ensures history { IsTrue (D.view (driver image.old)).abilities.keeps_data
+    ensures history { IsTrue (keeps_data D.view image.old)
         → OnOk result
         ((rs : List Reply) × (replies.new.items ≡ replies.old.items ++ rs) × IsFlatHistory
         (backed_value D.view image.old) (disk D.view image.old) calls.now rs

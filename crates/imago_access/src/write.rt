@@ -1,10 +1,12 @@
 //! Writing to an image.
 ghost use Rattle.std.specs.Prelude.{◌≡◌, ◌+◌, ◌^◌, ◌<◌, None, is_none, length, IfOk, IsOk};
+ghost use Rattle.std.specs.Prelude.{IsTrue};
 ghost use Rattle.imago_drivers.specs.Operation.{Write};
 ghost use Rattle.imago_drivers.specs.LayerBelow.{lent};
 ghost use Rattle.imago_drivers.specs.Place.{values};
 ghost use Rattle.imago_drivers.specs.Parts.{length_of, state_of};
-ghost use Rattle.imago_access.specs.Chain.{driver};
+ghost use Rattle.imago_access.specs.Chain.{driver, keeps_data};
+ghost use Rattle.imago_access.specs.Disk.{disk, WritesDisk};
 ghost use Rattle.imago_access.specs.Calls.{IsTested, IsWrite, IsMappedWrite, TakesChange};
 ghost use Rattle.imago_access.specs.Performed.{IsFilledBy, IsThroughBy, IsFirstBy, AllWrittenBy};
 ghost use Rattle.imago_access.specs.Performed.{IsWrittenBy, IsMappedBy};
@@ -44,7 +46,7 @@ fn fill_mapping<D: FormatDriverInstance, B: LowerLayer>(
 ) -> Result<PreparedDataMapping<D::State>, Error>
     requires { TakesChange (D.view inner.old) request.offset request.count }
     ensures prepared { IfOk result
-        (λ m. WasPrepared D.view
+        (λ m. WasPrepared D.view (lent B.as_layer_below below.entry).tells_bytes
         (values (lent B.as_layer_below below.entry).at (D.view inner.old).place)
         inner.old request.offset request.count request.overwrite
         (length_of m, is_none (state_of m))) }
@@ -79,7 +81,7 @@ fn write_through<D: FormatDriverInstance, B: LowerLayer>(
 ) -> Result<(u64, bool), Error>
     requires { TakesChange (D.view inner.old) request.offset request.count }
     ensures told { IfOk result
-        (WasPrepared D.view (values (lent B.as_layer_below below.entry).at (D.view inner.old).place)
+        (WasPrepared D.view (lent B.as_layer_below below.entry).tells_bytes (values (lent B.as_layer_below below.entry).at (D.view inner.old).place)
         inner.old request.offset request.count request.overwrite) }
     ensures mapped { HasMapped (lent B.as_layer_below below.entry)
         (CommitMayTakeMemory D.view inner.old) (D.view inner.old) (D.view inner.new)
@@ -198,6 +200,8 @@ impl<D: FormatDriverInstance> FormatAccess<D> {
     /// the driver tells.
     pub fn write(&mut self, alloc: Global, source: &[u8], offset: u64) -> Result<(), Error>
         requires { (D.view (driver self.old)).pending ≡ None }
+        ensures disk { IsTrue (keeps_data D.view self.old) → WritesDisk (disk D.view self.old) offset
+            source.now result (disk D.view self.new) }
         ensures written { IsWrite D.view self.old self.new offset source.now result }
         ensures performed { IsWrittenBy D.view D.calls self.old self.new offset source.now result }
     {
@@ -211,6 +215,8 @@ impl<D: FormatDriverInstance> FormatAccess<D> {
     /// the driver tells.
     pub fn writev(&mut self, alloc: Global, source: &[u8], offset: u64) -> Result<(), Error>
         requires { (D.view (driver self.old)).pending ≡ None }
+        ensures disk { IsTrue (keeps_data D.view self.old) → WritesDisk (disk D.view self.old) offset
+            source.now result (disk D.view self.new) }
         ensures written { IsWrite D.view self.old self.new offset source.now result }
         ensures performed { IsWrittenBy D.view D.calls self.old self.new offset source.now result }
     {

@@ -4,7 +4,9 @@ ghost use Rattle.std.specs.Prelude.{IfOk, IfErr, OnOk, IsOk, ◌⊎◌, length, 
 ghost use Rattle.imago_drivers.specs.Operation.{Zero, DiscardToZero};
 ghost use Rattle.imago_drivers.specs.Place.{Byte};
 ghost use Rattle.imago_access.specs.Chain.{driver, backing, disk_value, lent_image};
+ghost use Rattle.imago_access.specs.Chain.{keeps_data};
 ghost use Rattle.imago_access.specs.Calls.{IsTested, TakesChange};
+ghost use Rattle.imago_access.specs.Disk.{disk, ZeroesDisk};
 ghost use Rattle.imago_access.specs.ZeroCalls.{OnDriver, zero_by, AreGranulesBy, IsRoundedFrom};
 ghost use Rattle.imago_access.specs.ZeroCalls.{TriesGranules, IsZeroPiece, IsZeroedAsData};
 ghost use Rattle.imago_access.specs.ZeroCalls.{IsGapZeroed, IsNextZeroed, AllZeroedBy, IsZeroedBy};
@@ -317,6 +319,8 @@ impl<D: FormatDriverInstance> FormatAccess<D> {
     /// the driver tells.
     pub fn write_zeroes(&mut self, alloc: Global, offset: u64, count: u64) -> Result<(), Error>
         requires { (D.view (driver self.old)).pending ≡ None }
+        ensures disk { IsTrue (keeps_data D.view self.old) → ZeroesDisk (disk D.view self.old) offset
+            count result (disk D.view self.new) }
         ensures zeroed { IsZeroWrite D.view Zero self.old self.new offset count result }
         ensures performed { IsZeroedBy D.view D.calls Call.EnsureZero offset count self.old
             self.new result }
@@ -333,6 +337,8 @@ impl<D: FormatDriverInstance> FormatAccess<D> {
     /// the driver tells.
     pub fn discard_to_zero(&mut self, alloc: Global, offset: u64, count: u64) -> Result<(), Error>
         requires { (D.view (driver self.old)).pending ≡ None }
+        ensures disk { IsTrue (keeps_data D.view self.old) → ZeroesDisk (disk D.view self.old) offset
+            count result (disk D.view self.new) }
         ensures zeroed { IsZeroWrite D.view DiscardToZero self.old self.new offset count result }
         ensures performed { IsZeroedBy D.view D.calls Call.DiscardToZero offset count self.old
             self.new result }

@@ -1,5 +1,5 @@
-use Rattle.std.proofs.Common.{◌≡◌, ◌↔◌, ℕ, ◌≤◌, Bool, true, Option, Some, None, refl, ◌∙◌, arith, max, Result, Ok, Err}
-use Rattle.std.specs.Prelude.{OnOk, OnErr, IfErr, is_none}
+use Rattle.std.proofs.Common.{◌≡◌, ◌↔◌, ℕ, ◌≤◌, Bool, true, false, Option, Some, None, List, length, refl, sym, ◌∙◌, arith, max, Result, Ok, Err}
+use Rattle.std.specs.Prelude.{OnOk, OnErr, IfOk, IfErr, is_none}
 use Rattle.imago_storage.specs.declared.error.Error.{Error}
 use Rattle.imago_drivers.specs.declared.format.PreallocateMode.{PreallocateMode}
 use Rattle.imago_drivers.specs.declared.mapping.PreparedDataMapping.{PreparedDataMapping}
@@ -8,19 +8,23 @@ use Rattle.imago_drivers.specs.Place.{Value}
 use Rattle.imago_drivers.specs.Reasons.{allowed}
 use Rattle.imago_drivers.specs.LayerBelow.{LayerBelow}
 use Rattle.imago_drivers.specs.Causes.{IsSettled, IsOnRange}
-use Rattle.imago_drivers.specs.View.{View}
+use Rattle.imago_drivers.specs.View.{View, Stores}
 use Rattle.imago_drivers.specs.Changes.{Change}
-use Rattle.imago_drivers.specs.Frame.{IsKind, IsFramed, IsUnchanged}
+use Rattle.imago_drivers.specs.Frame.{IsKind, IsFramed, IsUnchanged, LeavesNothingOpen, UsesStorages}
 use Rattle.imago_drivers.specs.Done.{HasDone, mapping_write_reasons}
-use Rattle.imago_drivers.specs.Calls.{IsZeroCall, IsDiscard, IsGrowth, IsShrink, IsFlush}
+use Rattle.imago_drivers.specs.Calls.{IsZeroCall, IsDiscard, IsGrowth, IsShrink, IsFlush, IsStoredWrite, IsPreparedWrite, IsEnsuring}
 use Rattle.imago_drivers.specs.Resized.{IsGrown, IsCut, IsSameDisk}
-use Rattle.imago_drivers.specs.Prepared.{IsPrepared, IsDataMapping, IsForeign, IsForeignWrite, IsFor}
+use Rattle.imago_drivers.specs.Prepared.{IsPrepared, IsDataMapping, IsForeign, IsForeignWrite, IsFor, IsWritten}
 use Rattle.imago_drivers.specs.Commit.{IsCommit, IsCancel}
 use Rattle.imago_any_driver.specs.Restated.{restated}
 
 on_ok : {T E : Type 0} {P Q : Type 0} (r : Result T E) → (P → Q) → OnOk r P → OnOk r Q
 on_ok (Ok t) f p = f p
 on_ok (Err e) f p = tt
+
+if_ok : {T E : Type 0} {P Q : T → Type 0} (r : Result T E) → ((t : T) → P t → Q t) → IfOk r P → IfOk r Q
+if_ok (Ok t) f p = f t p
+if_ok (Err e) f p = tt
 
 on_err : {T E : Type 0} {P Q : Type 0} (r : Result T E) → (P → Q) → OnErr r P → OnErr r Q
 on_err (Ok t) f p = tt
@@ -65,8 +69,8 @@ module _ {A B : Type 0} (old new : View A) where
     outside = x.outside;
   }
 
-  grown_restated : (mode : PreallocateMode) (below : ℕ → Value) (size : ℕ) → IsGrown mode below size old new → IsGrown mode below size (restated {B = B} old) (restated {B = B} new)
-  grown_restated mode below size x = record { size = x.size; kept = x.kept; added = x.added; ends = x.ends; listed = x.listed }
+  grown_restated : (mode : PreallocateMode) (told : Bool) (below : ℕ → Value) (size : ℕ) → IsGrown mode told below size old new → IsGrown mode told below size (restated {B = B} old) (restated {B = B} new)
+  grown_restated mode told below size x = record { size = x.size; kept = x.kept; added = x.added; ends = x.ends; listed = x.listed }
 
   cut_restated : (size : ℕ) → IsCut size old new → IsCut size (restated {B = B} old) (restated {B = B} new)
   cut_restated size x = record { size = x.size; kept = x.kept; ends = x.ends }
@@ -76,7 +80,7 @@ module _ {A B : Type 0} (old new : View A) where
 
   pub growth_restated : (mode : PreallocateMode) (below : LayerBelow) (size : ℕ) (result : Result Unit Error) → IsGrowth mode below size old new result → IsGrowth mode below size (restated {B = B} old) (restated {B = B} new) result
   growth_restated mode below size result x = record {
-    grown = on_ok result (grown_restated mode below.at size) x.grown;
+    grown = on_ok result (grown_restated mode below.tells_bytes below.at size) x.grown;
     idle = x.idle;
     unchanged = on_err result same_restated x.unchanged;
     nothing_pending = refl;
@@ -98,8 +102,37 @@ module _ {A B : Type 0} (old new : View A) where
     refusals = x.refusals;
   }
 
+  leaves_restated : LeavesNothingOpen old new → LeavesNothingOpen (restated {B = B} old) (restated {B = B} new)
+  leaves_restated x = record { reaches = x.reaches; nothing_pending = refl }
+
+  uses_restated : {T : Type 0} (grow : Stores → Stores → Type 0) (is_reliable : Bool) (result : Result T Error) → UsesStorages grow is_reliable old new result → UsesStorages grow is_reliable (restated {B = B} old) (restated {B = B} new) result
+  uses_restated grow is_reliable result x = record { lengths = x.lengths; faults = x.faults }
+
+  pub stored_write_restated : (storage offset : ℕ) (source : List ℕ) (result : Result Unit Error) → IsStoredWrite storage offset source old new result → IsStoredWrite storage offset source (restated {B = B} old) (restated {B = B} new) result
+  stored_write_restated storage offset source result x = record {
+    written = x.written;
+    torn = x.torn;
+    causes = x.causes;
+    leaves = leaves_restated x.leaves;
+    storages = uses_restated _ _ result x.storages;
+    framed = framed_restated x.framed;
+    refusals = x.refusals;
+  }
+
   pub data_mapping_restated : (o most s f c : ℕ) → IsDataMapping o most s f c old new → IsDataMapping o most s f c (restated {B = B} old) (restated {B = B} new)
   data_mapping_restated o most s f c x = record { within = x.within; some = x.some; part = x.part; whole = x.whole; origins = x.origins }
+
+  pub ensuring_restated : (below : LayerBelow) (o n : ℕ) (overwrite : Bool) (result : Result (ℕ × ℕ × ℕ) Error) → IsEnsuring below o n overwrite old new result → IsEnsuring below o n overwrite (restated {B = B} old) (restated {B = B} new) result
+  ensuring_restated below o n overwrite result x = record {
+    mapped = if_ok result (λ r. data_mapping_restated o n r.0 r.1 r.2) x.mapped;
+    changed = x.changed;
+    causes = x.causes;
+    outside = x.outside;
+    leaves = leaves_restated x.leaves;
+    storages = uses_restated _ _ result x.storages;
+    framed = framed_restated x.framed;
+    refusals = x.refusals;
+  }
 
 -- a flush of the driver is one of it restated
 pub flush_restated : {A B D : Type 0} (view : D → View A) (relation : D → D → Result Unit Error → Type 0) (old new : D) (result : Result Unit Error) → IsFlush view relation old new result → IsFlush (λ d. restated {B = B} (view d)) relation old new result
@@ -117,18 +150,22 @@ pub none_of : {A : Type 0} (st : Option A) → is_none st ≡ true → st ≡ No
 none_of None e = refl
 none_of (Some s) e = let z : ⊥ = cc in absurd z
 
+pub some_of : {A : Type 0} (st : Option A) → is_none st ≡ false → (s : A) × (st ≡ Some s)
+some_of None e = let z : ⊥ = cc in absurd z
+some_of (Some s) e = (s, refl)
+
 -- A mapping that a driver prepared while nothing waits has no state.
-pub is_stateless : {A : Type 0} (o most : ℕ) (overwrite : Bool) (disk : ℕ → Value) (old new : View A) (m : PreparedDataMapping A) → new.pending ≡ None
-    → IsPrepared o most overwrite disk old new m → (st : Option A) → m.state ≡ st → m.state ≡ None
-is_stateless o most overwrite disk old new m nothing p None e = e
-is_stateless o most overwrite disk old new m nothing p (Some s) e = let a = p.apart s e in let x = a.1 in let z : ⊥ = cc in absurd z
+pub is_stateless : {A : Type 0} (o most : ℕ) (overwrite told : Bool) (disk : ℕ → Value) (old new : View A) (m : PreparedDataMapping A) → new.pending ≡ None
+    → IsPrepared o most overwrite told disk old new m → (st : Option A) → m.state ≡ st → m.state ≡ None
+is_stateless o most overwrite told disk old new m nothing p None e = e
+is_stateless o most overwrite told disk old new m nothing p (Some s) e = let a = p.apart s e in let x = a.1 in let z : ⊥ = cc in absurd z
 
 -- A mapping n without state for the bytes of a mapping m without state, of a driver with other states.
 module _ {A B : Type 0} (m : PreparedDataMapping A) (n : PreparedDataMapping B) (storage : n.storage ≡ m.storage) (offset : n.offset ≡ m.offset) (len : n.length ≡ m.length) (state : n.state ≡ None) where
-  pub prepared_restated : (o most : ℕ) (overwrite : Bool) (disk : ℕ → Value) (old new : View A) → new.pending ≡ None → IsPrepared o most overwrite disk old new m
-      → IsPrepared o most overwrite disk (restated {B = B} old) (restated {B = B} new) n
-  prepared_restated o most overwrite disk old new nothing p =
-      let own = is_stateless o most overwrite disk old new m nothing p m.state refl in
+  pub prepared_restated : (o most : ℕ) (overwrite told : Bool) (disk : ℕ → Value) (old new : View A) → new.pending ≡ None → IsPrepared o most overwrite told disk old new m
+      → IsPrepared o most overwrite told disk (restated {B = B} old) (restated {B = B} new) n
+  prepared_restated o most overwrite told disk old new nothing p =
+      let own = is_stateless o most overwrite told disk old new m nothing p m.state refl in
       record {
         within = rw len p.within;
         some = λ h. rw len (p.some h);
@@ -139,7 +176,7 @@ module _ {A B : Type 0} (m : PreparedDataMapping A) (n : PreparedDataMapping B) 
         direct = λ e. (refl, rw (storage, offset, len) ((p.direct own).1));
         apart = λ s e. let z : ⊥ = cc in absurd z;
         around = λ q e. let z : ⊥ = cc in absurd z;
-        round = λ k. tt;
+        round = λ k t. tt;
         near = λ q e. let z : ⊥ = cc in absurd z;
       }
 
@@ -155,6 +192,22 @@ module _ {A B : Type 0} (m : PreparedDataMapping A) (n : PreparedDataMapping B) 
 
     pub refusals_restated : (v : View A) (at c : ℕ) (result : Result Unit Error) → IfErr result (allowed (mapping_write_reasons v m at c)) → IfErr result (allowed (mapping_write_reasons (restated {B = B} v) n at c))
     refusals_restated v at c result h = rw (state, storage, offset) (rw own at h)
+
+    written_restated : (torn : Bool) (v w : View A) (at : ℕ) (source : List ℕ) → IsWritten torn v w m at source → IsWritten torn (restated {B = B} v) (restated {B = B} w) n at source
+    written_restated torn v w at source h = rw state (let x = rw own at h in (rw (storage, offset) (x.0), refl))
+
+    -- a write into the one is a write into the other
+    pub prepared_write_restated : (v w : View A) (at : ℕ) (source : List ℕ) (result : Result Unit Error) → IsPreparedWrite m at source v w result → IsPreparedWrite n at source (restated {B = B} v) (restated {B = B} w) result
+    prepared_write_restated v w at source result x = record {
+      written = on_ok result (written_restated false v w at source) x.written;
+      torn = on_err result (written_restated true v w at source) x.torn;
+      round = λ k below r. r;
+      causes = causes_restated v w at (length source) result x.causes;
+      reaches = x.reaches;
+      storages = rw (storage, offset) (record { lengths = x.storages.lengths; faults = x.storages.faults });
+      framed = framed_restated v w x.framed;
+      refusals = refusals_restated v at (length source) result x.refusals;
+    }
 
     -- a commit of the one is a commit of the other
     pub commit_restated : {D : Type 0} (view : D → View A) (old new : D) (result : Result Unit Error) → IsCommit view old new m result → IsCommit (λ d. restated {B = B} (view d)) old new n result
@@ -197,6 +250,21 @@ module _ {E B : Type 0} (view : E → View B) (d : E) (nothing : (view d).pendin
 
   is_foreign_here : IsForeign (view d) n
   is_foreign_here = rw (state, nothing) (λ own. own)
+
+  pub write_foreign : (at : ℕ) (source : List ℕ) → IsPreparedWrite n at source (view d) (view d) (Err Error.ForeignMapping)
+  write_foreign at source = record {
+    written = tt;
+    torn = rw state (record { stored = λ p b s f w e. (b, e); same = λ k p. refl }, λ q e. let x = sym nothing ∙ e in let z : ⊥ = cc in absurd z);
+    round = λ k below r. r;
+    causes = tt;
+    reaches = λ p q w e. (w, e);
+    storages = record {
+      lengths = record { no_shorter = λ i. omega arith; no_longer = under_max _ _; others = λ i known other. refl };
+      faults = record { later = omega arith; reliable = λ e. refl; device = λ e. let z : ⊥ = cc in absurd z };
+    };
+    framed = same_disk;
+    refusals = tt;
+  }
 
   pub commit_foreign : IsCommit view d d n (Err Error.ForeignMapping)
   commit_foreign = record {

@@ -1,13 +1,10 @@
 use Rattle.std.proofs.Common.{◌≡◌, ◌↔◌, ℕ, ap}
 use Rattle.std.proofs.Math.Path.{subst⁻¹}
-use Rattle.std.specs.Prelude.{Result, OnOk, IfErr}
+use Rattle.std.specs.Prelude.{Result, List}
 use Rattle.imago_storage.specs.declared.error.Error.{Error}
-use Rattle.imago_drivers.specs.Causes.{IsSettled, IsOnRange}
-use Rattle.imago_drivers.specs.Calls.{IsFlush}
+use Rattle.imago_drivers.specs.Calls.{IsFlush, IsPreparedWrite}
 use Rattle.imago_drivers.specs.Commit.{IsCommit, IsCancel}
-use Rattle.imago_drivers.specs.Done.{mapping_write_reasons}
-use Rattle.imago_drivers.specs.Prepared.{IsFor, IsForeignWrite}
-use Rattle.imago_drivers.specs.Reasons.{allowed}
+use Rattle.imago_drivers.specs.Prepared.{IsForeignWrite}
 use Rattle.imago_drivers.specs.View.{View}
 use Rattle.imago_drivers.specs.declared.mapping.PreparedDataMapping.{PreparedDataMapping}
 
@@ -61,11 +58,5 @@ module _ {D St : Type 0} (view : D → View St) {d e : D} (is : d ≡ e) (m : Pr
   pub foreign_at : (X : Type 0) → X ↔ IsForeignWrite (view e) m → X ↔ IsForeignWrite (view d) m
   foreign_at X h = subst⁻¹ (λ (x : D). X ↔ IsForeignWrite (view x) m) is h
 
-  abbrev pub SettlesAt : (x : D) (new : View St) (at n : ℕ) → Type 0
-  SettlesAt x new at n = (o : ℕ) → IsFor (view x) m at n o → IsSettled IsOnRange (view x).limits.cause new.limits.cause (view x).limits.copies new.limits.copies o n
-
-  pub causes_at : (new : View St) (at n : ℕ) (result : Result Unit Error) → OnOk result (SettlesAt e new at n) → OnOk result (SettlesAt d new at n)
-  causes_at new at n result h = subst⁻¹ (λ (x : D). OnOk result (SettlesAt x new at n)) is h
-
-  pub refusals_at : (at n : ℕ) (result : Result Unit Error) → IfErr result (allowed (mapping_write_reasons (view e) m at n)) → IfErr result (allowed (mapping_write_reasons (view d) m at n))
-  refusals_at at n result h = subst⁻¹ (λ (x : D). IfErr result (allowed (mapping_write_reasons (view x) m at n))) is h
+  pub write_at : (new : View St) (at : ℕ) (source : List ℕ) (result : Result Unit Error) → IsPreparedWrite m at source (view e) new result → IsPreparedWrite m at source (view d) new result
+  write_at new at source result h = subst⁻¹ (λ (x : D). IsPreparedWrite m at source (view x) new result) is h

@@ -1,7 +1,6 @@
-use Rattle.std.specs.Prelude.{◌≡◌, ℕ, ◌+◌, ◌⊎◌, ◌||◌, Bool, List, ◌∷◌, Result, map, if◌then◌else◌}
-use Rattle.imago_storage.specs.declared.error.Error.{Error}
-use Rattle.imago_storage.specs.Features.{Features}
-use Rattle.imago_drivers.specs.CallRelations.{Calls, any_calls}
+-- The driver of any format: what it shows, and which format bytes have.
+use Rattle.std.specs.Prelude.{◌≡◌, ℕ, ◌+◌, ◌⊎◌, ◌||◌, Bool, List, ◌∷◌, map, if◌then◌else◌}
+use Rattle.imago_storage.specs.Features.{Features, AreLawful}
 use Rattle.imago_drivers.specs.Laws.{IsLawful, AreCauses}
 use Rattle.imago_drivers.specs.Raw.{raw_view}
 use Rattle.imago_drivers.specs.RawImage.{storage_in as raw_storage, writability_of, size_of}
@@ -20,8 +19,8 @@ use Rattle.imago_cow.specs.TableView.{entries_of, count_of}
 use Rattle.imago_cow.specs.TableLaws.{named_once}
 use Rattle.imago_cow.specs.declared.cow.Cow.{Cow as CowImage}
 use Rattle.imago_cow.specs.declared.cow.CowState.{CowState}
-use Rattle.imago_qcow2.specs.Qcow2.{qcow2_view}
-use Rattle.imago_qcow2.specs.Qcow2Image.{storage_in as qcow2_storage}
+use Rattle.imago_qcow2.specs.Qcow2.{loaded_view}
+use Rattle.imago_qcow2.specs.Qcow2Image.{storage_in as qcow2_storage, loaded_in}
 use Rattle.imago_qcow2.specs.Qcow2Laws.{qcow2_lawful, qcow2_causes}
 use Rattle.imago_qcow2.specs.declared.qcow2.Qcow2.{Qcow2 as Qcow2Image}
 use Rattle.imago_any_driver.specs.Restated.{restated, restated_lawful, restated_causes}
@@ -54,55 +53,6 @@ view_by_format raw vmdk cow qcow2 (Raw driver) = restated (raw driver)
 view_by_format raw vmdk cow qcow2 (Vmdk driver) = restated (vmdk driver)
 view_by_format raw vmdk cow qcow2 (Cow driver) = cow driver
 view_by_format raw vmdk cow qcow2 (Qcow2 driver) = restated (qcow2 driver)
-
--- a shared call is that of the driver that it is
-abbrev pub asked : {S R : Type 0} {g : _} {h : _} → (RawImage S g h → R → Type 0)
-    → (VmdkImage S g h → R → Type 0) → (CowImage S g h → R → Type 0)
-    → (Qcow2Image S g h → R → Type 0) → AnyDriver S g h → R → Type 0
-asked raw vmdk cow qcow2 (Raw driver) r = raw driver r
-asked raw vmdk cow qcow2 (Vmdk driver) r = vmdk driver r
-asked raw vmdk cow qcow2 (Cow driver) r = cow driver r
-asked raw vmdk cow qcow2 (Qcow2 driver) r = qcow2 driver r
-
--- a changing call is that of the driver that it is, which stays of its format
-abbrev pub changed : {S R : Type 0} {g : _} {h : _}
-    → (RawImage S g h → RawImage S g h → R → Type 0)
-    → (VmdkImage S g h → VmdkImage S g h → R → Type 0)
-    → (CowImage S g h → CowImage S g h → R → Type 0)
-    → (Qcow2Image S g h → Qcow2Image S g h → R → Type 0)
-    → AnyDriver S g h → AnyDriver S g h → R → Type 0
-changed raw vmdk cow qcow2 (Raw old) (Raw new) r = raw old new r
-changed raw vmdk cow qcow2 (Vmdk old) (Vmdk new) r = vmdk old new r
-changed raw vmdk cow qcow2 (Cow old) (Cow new) r = cow old new r
-changed raw vmdk cow qcow2 (Qcow2 old) (Qcow2 new) r = qcow2 old new r
-changed raw vmdk cow qcow2 _ _ r = ⊥
-
--- Each call that no prepared mapping is part of is that of the driver that it is.
-abbrev pub calls_by_format : {S : Type 0} {g : _} {h : _} → Calls (RawImage S g h) Unit
-    → Calls (VmdkImage S g h) Unit → Calls (CowImage S g h) CowState
-    → Calls (Qcow2Image S g h) Unit → Calls (AnyDriver S g h) CowState
-calls_by_format r v c q = record any_calls {
-  mapped = λ o n. asked (r.mapped o n) (v.mapped o n) (c.mapped o n) (q.mapped o n);
-  read = λ index o n. asked (r.read index o n) (v.read index o n) (c.read index o n)
-      (q.read index o n);
-  read_special = λ o n. asked (r.read_special o n) (v.read_special o n) (c.read_special o n)
-      (q.read_special o n);
-  put = λ index bytes o. changed (r.put index bytes o) (v.put index bytes o) (c.put index bytes o)
-      (q.put index bytes o);
-  zeroed = λ o n. changed (r.zeroed o n) (v.zeroed o n) (c.zeroed o n) (q.zeroed o n);
-  discarded_to_zero = λ o n. changed (r.discarded_to_zero o n) (v.discarded_to_zero o n)
-      (c.discarded_to_zero o n) (q.discarded_to_zero o n);
-  discarded_to_any = λ o n. changed (r.discarded_to_any o n) (v.discarded_to_any o n)
-      (c.discarded_to_any o n) (q.discarded_to_any o n);
-  discarded_to_backing = λ o n. changed (r.discarded_to_backing o n) (v.discarded_to_backing o n)
-      (c.discarded_to_backing o n) (q.discarded_to_backing o n);
-  grown = λ n mode below. changed (r.grown n mode below) (v.grown n mode below)
-      (c.grown n mode below) (q.grown n mode below);
-  cut = λ n. changed (r.cut n) (v.cut n) (c.cut n) (q.cut n);
-  flushed = changed r.flushed v.flushed c.flushed q.flushed;
-  synced = changed r.synced v.synced c.synced q.synced;
-  invalidated = changed r.invalidated v.invalidated c.invalidated q.invalidated;
-}
 
 -- Which format bytes have: qcow2 where they look like a qcow2 file's, else VMDK where they look
 -- like a descriptor's, else raw.
@@ -147,10 +97,11 @@ cow_in features fault_count bytes d =
     cow_view (features d.storage) (fault_count d.storage + d.faults) (bytes d.storage) d.size
     (block_of d) (entries_of d.table) (count_of d.table) d.waiting
 
--- a qcow2 image over a storage that shows these features and bytes
+-- a qcow2 image that was loaded from a storage that shows these features and bytes
 abbrev pub qcow2_in : {S : Type 0} {g : _} {h : _} → (S → Features) → (S → List ℕ)
     → Qcow2Image S g h → View Unit
-qcow2_in features bytes d = qcow2_view (features (qcow2_storage d)) (bytes (qcow2_storage d))
+qcow2_in features bytes d =
+    loaded_view (features (qcow2_storage d)) (bytes (qcow2_storage d)) (loaded_in d)
 
 -- the view of a driver over storages that show these features, counts of faults and bytes
 abbrev pub view_over : {S : Type 0} {g : _} {h : _} → (S → Features) → (S → ℕ) → (S → List ℕ)
@@ -161,19 +112,20 @@ view_over features fault_count bytes =
 
 module _ {S : Type 0} {g : _} {h : _} (features : S → Features) (fault_count : S → ℕ)
     (bytes : S → List ℕ) where
-  -- the laws of each format are those of a driver
-  pub formats_lawful : (d : AnyDriver S g h) → IsLawful (view_over features fault_count bytes d)
-  formats_lawful (Raw r) = restated_lawful (raw_in features fault_count bytes r)
+  -- the laws of each format are those of a driver, over lawful storages
+  pub formats_lawful : ((s : S) → AreLawful (features s)) → (d : AnyDriver S g h)
+      → IsLawful (view_over features fault_count bytes d)
+  formats_lawful lawful (Raw r) = restated_lawful (raw_in features fault_count bytes r)
       (raw_lawful (features (raw_storage r)) (fault_count (raw_storage r)) (bytes (raw_storage r))
-      (size_of r) (writability_of r))
-  formats_lawful (Vmdk v) = restated_lawful (vmdk_in features bytes v)
+      (size_of r) (writability_of r) (lawful (raw_storage r)))
+  formats_lawful lawful (Vmdk v) = restated_lawful (vmdk_in features bytes v)
       (vmdk_lawful (features v.descriptor ∷ map features v.storages.items)
       (bytes v.descriptor ∷ map bytes v.storages.items) v.opened v.extents.items)
-  formats_lawful (Cow d) = cow_lawful (features d.storage) (fault_count d.storage + d.faults)
+  formats_lawful lawful (Cow d) = cow_lawful (features d.storage) (fault_count d.storage + d.faults)
       (bytes d.storage) d.size (block_of d) (entries_of d.table) (count_of d.table) d.waiting
-      d.positive d.exact.covers (named_once d.table)
-  formats_lawful (Qcow2 d) = restated_lawful (qcow2_in features bytes d)
-      (qcow2_lawful (features (qcow2_storage d)) (bytes (qcow2_storage d)))
+      d.positive d.exact.covers (named_once d.table) (lawful d.storage)
+  formats_lawful lawful (Qcow2 d) = restated_lawful (qcow2_in features bytes d)
+      (qcow2_lawful (features (qcow2_storage d)) (bytes (qcow2_storage d)) (loaded_in d))
 
   pub formats_causes : (d : AnyDriver S g h) → AreCauses (view_over features fault_count bytes d)
   formats_causes (Raw r) = restated_causes (raw_in features fault_count bytes r)
@@ -185,4 +137,4 @@ module _ {S : Type 0} {g : _} {h : _} (features : S → Features) (fault_count :
   formats_causes (Cow d) = cow_causes (features d.storage) (fault_count d.storage + d.faults)
       (bytes d.storage) d.size (block_of d) (entries_of d.table) (count_of d.table) d.waiting
   formats_causes (Qcow2 d) = restated_causes (qcow2_in features bytes d)
-      (qcow2_causes (features (qcow2_storage d)) (bytes (qcow2_storage d)))
+      (qcow2_causes (features (qcow2_storage d)) (bytes (qcow2_storage d)) (loaded_in d))

@@ -1,2 +1,3 @@
 pub mod Restated
+pub mod AnyCalls
 pub mod AnyDriver

@@ -1,10 +1,11 @@
 //! The driver of images of any format.
-ghost use Rattle.std.specs.Prelude.{◌≡◌, None, false, IfOk, IfErr, IsErrOf};
+ghost use Rattle.std.specs.Prelude.{◌≡◌, None, false, IfOk, IfErr, IsErrOf, IsTrue};
 ghost use Rattle.imago_storage.specs.Error.{IsExtRefusal};
 ghost use Rattle.imago_drivers.specs.Commit.{IsCommit, IsCancel};
 ghost use Rattle.imago_drivers.specs.Parts.{storage_of, offset_of, length_of, state_of};
 ghost use Rattle.imago_drivers.specs.Reasons.{allowed};
-ghost use Rattle.imago_any_driver.specs.AnyDriver.{view_by_format, calls_by_format, detected};
+ghost use Rattle.imago_any_driver.specs.AnyCalls.{calls_by_format};
+ghost use Rattle.imago_any_driver.specs.AnyDriver.{view_by_format, detected};
 ghost use Rattle.imago_any_driver.specs.AnyDriver.{either, reasons_of_both};
 ghost use Rattle.imago_any_driver.specs.AnyDriver.{HoldsRaw, HoldsVmdk, HoldsCow, HoldsQcow2};
 ghost use Rattle.imago_any_driver.specs.AnyDriver.{formats_lawful, formats_causes};
@@ -73,7 +74,7 @@ impl<S: Storage> From<Qcow2<S>> for AnyDriver<S> {
 ///
 /// What the storage is refused for is passed on; [`Error::Memory`] is also no room for the text.
 pub fn detect<S: Storage>(alloc: Global, storage: &S) -> Result<Format, Error>
-    ensures format { IfOk result
+    ensures format { IsTrue (S.features storage.now).tells_bytes → IfOk result
         (λ f. f ≡ detected ⟦<Qcow2<S> as FormatDriverInstance>⟧.recognizes
         ⟦<Vmdk<S> as FormatDriverInstance>⟧.recognizes (S.bytes storage.now)) }
     ensures only { IfErr result IsExtRefusal }
@@ -178,7 +179,7 @@ impl<S: Storage> FormatDriverInstance for AnyDriver<S> {
         ⟦<Vmdk<S> as FormatDriverInstance>⟧.calls ⟦<Cow<S> as FormatDriverInstance>⟧.calls
         ⟦<Qcow2<S> as FormatDriverInstance>⟧.calls };
 
-    ghost lawful = { λ d. formats_lawful S.features S.fault_count S.bytes d };
+    ghost lawful = { λ d. formats_lawful S.features S.fault_count S.bytes (λ s. S.lawful s) d };
 
     ghost causes_lawful = { λ d. formats_causes S.features S.fault_count S.bytes d };
 

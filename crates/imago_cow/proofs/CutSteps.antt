@@ -5,7 +5,7 @@ use Rattle.std.proofs.lemmas.Bool.Decides.{nat_tests}
 use Rattle.std.proofs.lemmas.Nat.{div-add-mod'}
 use Rattle.imago_storage.specs.declared.error.Error.{Error}
 use Rattle.imago_storage.specs.declared.error.Error.TheVariants as E
-use Rattle.imago_storage.specs.Features.{Features, AreAlignments, len_align}
+use Rattle.imago_storage.specs.Features.{Features, AreLawful, len_align}
 use Rattle.imago_storage.proofs.Padding.{wrap_causes}
 use Rattle.imago_drivers.specs.Lengths.{padded_to}
 use Rattle.imago_drivers.specs.declared.format.PreallocateMode.{PreallocateMode}
@@ -68,41 +68,41 @@ grown_as Mode.WriteData lower at p w e some h = h ∙ ap (λ b. old_value at b p
 pub other_bytes : (block : ℕ) → 0 < block → (old new : List ℕ) (j p : ℕ) (entry : Option GuestBlock) → (entry ≡ Some (GuestBlock.Data j) → ⊥) → SameOutside (j * block) block old new → entry_place new block p entry ≡ entry_place old block p entry
 other_bytes block positive old new j p entry other same = other_place block positive old new j 0 block p entry (omega arith) other (λ x h. same x (⊎_elim (λ a. inl (omega (arith, a))) (λ a. inr (omega (arith, a))) h))
 
-module _ (at : ℕ → Value) (mode : PreallocateMode) (keeps : Bool) (block size new_size : ℕ) (positive : 0 < block) where
+module _ (at : ℕ → Value) (mode : PreallocateMode) (keeps told : Bool) (block size new_size : ℕ) (positive : 0 < block) where
   -- where in its guest block a place of the cut one stands
   at_rest : (p : ℕ) → p / block ≡ size / block → p + size % block ≡ size + p % block
   at_rest p same = let a = div-add-mod' size block in let b = div-add-mod' p block in let c : p / block * block ≡ size / block * block = ap (λ x. x * block) same in omega (arith, a, b, c)
 
   -- nothing is to be filled
-  pub whole_filled : (entries : List GuestBlock) (bytes : List ℕ) → size % block ≡ 0 → IsCutFilled at mode keeps block size new_size entries entries bytes bytes
+  pub whole_filled : (entries : List GuestBlock) (bytes : List ℕ) → size % block ≡ 0 → IsCutFilled at mode keeps told block size new_size entries entries bytes bytes
   whole_filled entries bytes none = record {
     len = refl;
-    kept = λ k p h. refl;
-    cut = λ k p a b c d. absurd (omega (arith, d, none));
+    kept = λ k t p h. refl;
+    cut = λ k t p a b c d. absurd (omega (arith, d, none));
     others = λ k p h. refl;
   }
 
-  pub left_filled : (entries : List GuestBlock) (bytes : List ℕ) → mode ≡ PreallocateMode.None → IsCutFilled at mode keeps block size new_size entries entries bytes bytes
+  pub left_filled : (entries : List GuestBlock) (bytes : List ℕ) → mode ≡ PreallocateMode.None → IsCutFilled at mode keeps told block size new_size entries entries bytes bytes
   left_filled entries bytes none = record {
     len = refl;
-    kept = λ k p h. refl;
-    cut = λ k p a b c d. rw none tt;
+    kept = λ k t p h. refl;
+    cut = λ k t p a b c d. rw none tt;
     others = λ k p h. refl;
   }
 
   -- an explicit zero stays one where the mode adds zeroes
-  pub zero_filled : (entries : List GuestBlock) (bytes : List ℕ) → slice_get entries (size / block) ≡ Some GuestBlock.Zero → shows_below mode ≡ false → (mode ≡ PreallocateMode.None → ⊥) → IsCutFilled at mode keeps block size new_size entries entries bytes bytes
+  pub zero_filled : (entries : List GuestBlock) (bytes : List ℕ) → slice_get entries (size / block) ≡ Some GuestBlock.Zero → shows_below mode ≡ false → (mode ≡ PreallocateMode.None → ⊥) → IsCutFilled at mode keeps told block size new_size entries entries bytes bytes
   zero_filled entries bytes zero low some = record {
     len = refl;
-    kept = λ k p h. refl;
-    cut = λ k p a b c d. grown_as mode false at p (shows_at at bytes block entries p) (sym low) some (ap (λ x. shown at (entry_place bytes block p (slice_get entries x))) c ∙ ap (λ x. shown at (entry_place bytes block p x)) zero);
+    kept = λ k t p h. refl;
+    cut = λ k t p a b c d. grown_as mode false at p (shows_at at bytes block entries p) (sym low) some (ap (λ x. shown at (entry_place bytes block p (slice_get entries x))) c ∙ ap (λ x. shown at (entry_place bytes block p x)) zero);
     others = λ k p h. refl;
   }
 
   -- bytes behind the old end were written into its data block
   pub data_filled : (entries : List GuestBlock) (bytes now : List ℕ) (j count : ℕ) (lower : Bool) → 0 < size % block → NamedOnce entries → slice_get entries (size / block) ≡ Some (GuestBlock.Data j) → count ≡ min (block - size % block) (new_size - size) → lower ≡ shows_below mode → (mode ≡ PreallocateMode.None → ⊥)
-      → (IsTrue keeps → (k : ℕ) → k < count → old_value at lower (size + k) ≡ Byte (slice_index now (j * block + size % block + k))) → (IsTrue keeps → SameOutside (j * block + size % block) count bytes now)
-      → IsCutFilled at mode keeps block size new_size entries entries bytes now
+      → (IsTrue keeps → IsTrue told → (k : ℕ) → k < count → old_value at lower (size + k) ≡ Byte (slice_index now (j * block + size % block + k))) → (IsTrue keeps → SameOutside (j * block + size % block) count bytes now)
+      → IsCutFilled at mode keeps told block size new_size entries entries bytes now
   data_filled entries bytes now j count lower cutting once named is low some copied outside =
       let r = rest_small block positive size in
       let same_place : IsTrue keeps → (p : ℕ) → ((p / block ≡ size / block) → p < size) → shows_at at now block entries p ≡ shows_at at bytes block entries p = λ k p h. ⊎_elim
@@ -117,21 +117,21 @@ module _ (at : ℕ → Value) (mode : PreallocateMode) (keeps : Bool) (block siz
       (same_or_not (p / block) (size / block)) in
       record {
         len = refl;
-        kept = λ k p h. same_place k p (λ s. h);
-        cut = λ k p a b c d.
+        kept = λ k t p h. same_place k p (λ s. h);
+        cut = λ k t p a b c d.
             let e : shows_at at now block entries p ≡ Byte (slice_index now (origin_in block j p)) = ap (λ x. shown at (entry_place now block p (slice_get entries x))) c ∙ ap (λ x. shown at (entry_place now block p x)) named in
             let rest = at_rest p c in
             let q = rest_small block positive p in
             let i : origin_in block j p ≡ j * block + size % block + (p - size) = omega (arith, rest, a) in
             let s : size + (p - size) ≡ p = omega (arith, a) in
             let l : p - size < count = omega (arith, is, a, b, rest, q) in
-            grown_as mode lower at p (shows_at at now block entries p) low some (e ∙ ap (λ x. Byte (slice_index now x)) i ∙ sym (copied k (p - size) l) ∙ ap (old_value at lower) s);
+            grown_as mode lower at p (shows_at at now block entries p) low some (e ∙ ap (λ x. Byte (slice_index now x)) i ∙ sym (copied k t (p - size) l) ∙ ap (old_value at lower) s);
         others = λ k p h. same_place k p (λ s. ⊎_elim (λ o. absurd (o s)) (λ z. absurd (omega (arith, z, cutting))) h);
       }
 
   -- the guest block was entered in a data block that was filled
   pub taken_filled : (old new : List GuestBlock) (bytes now : List ℕ) (count : ℕ) (absent lower : Bool) → 0 < size % block → length new ≡ length old → (absent ≡ true → slice_get old (size / block) ≡ Some GuestBlock.Absent) → (absent ≡ false → slice_get old (size / block) ≡ Some GuestBlock.Zero)
-      → count ≡ min (block - size % block) (new_size - size) → lower ≡ shows_below mode → (mode ≡ PreallocateMode.None → ⊥) → (IsTrue keeps → IsTaken at block size count absent lower old new bytes now) → IsCutFilled at mode keeps block size new_size old new bytes now
+      → count ≡ min (block - size % block) (new_size - size) → lower ≡ shows_below mode → (mode ≡ PreallocateMode.None → ⊥) → (IsTrue keeps → IsTaken at told block size count absent lower old new bytes now) → IsCutFilled at mode keeps told block size new_size old new bytes now
   taken_filled old new bytes now count absent lower cutting len here there is low some taken =
       let others : IsTrue keeps → (p : ℕ) → p / block ≢ size / block → shows_at at now block new p ≡ shows_at at bytes block old p = λ k p other.
       let t = taken k in
@@ -145,27 +145,27 @@ module _ (at : ℕ → Value) (mode : PreallocateMode) (keeps : Bool) (block siz
       (cases_Bool absent) in
       record {
         len = len;
-        kept = λ k p h. ⊎_elim
+        kept = λ k t p h. ⊎_elim
             (λ same.
             let rest = at_rest p same in
             let l : p % block < size % block = omega (arith, rest, h) in
             let e : size - size % block + p % block ≡ p = omega (arith, rest, div-add-mod' size block) in
-            there_now k p same ∙ sym ((taken k).before (p % block) l) ∙ ap (old_value at absent) e ∙ sym (was p same))
+            there_now k p same ∙ sym ((taken k).before t (p % block) l) ∙ ap (old_value at absent) e ∙ sym (was p same))
             (λ other. others k p other)
             (same_or_not (p / block) (size / block));
-        cut = λ k p a b c d.
+        cut = λ k t p a b c d.
             let rest = at_rest p c in
             let q = rest_small block positive p in
-            let t = taken k in
-            let i : origin_in block t.number p ≡ t.number * block + size % block + (p - size) = omega (arith, rest, a) in
+            let own = taken k in
+            let i : origin_in block own.number p ≡ own.number * block + size % block + (p - size) = omega (arith, rest, a) in
             let s : size + (p - size) ≡ p = omega (arith, a) in
             let l : p - size < count = omega (arith, is, a, b, rest, q) in
-            grown_as mode lower at p (shows_at at now block new p) low some (there_now k p c ∙ ap (λ x. Byte (slice_index now x)) i ∙ sym (t.behind (p - size) l) ∙ ap (old_value at lower) s);
+            grown_as mode lower at p (shows_at at now block new p) low some (there_now k p c ∙ ap (λ x. Byte (slice_index now x)) i ∙ sym (own.behind t (p - size) l) ∙ ap (old_value at lower) s);
         others = λ k p h. ⊎_elim (λ o. others k p o) (λ z. absurd (omega (arith, z, cutting))) h;
       }
 
 -- a data block that can't be taken
-pub take_refused : (f : Features) (l : LayerBelow) (block blocks named : ℕ) (reads : ℕ → Type 0) (e : Error) → AreAlignments f → (e ≡ Error.WrapAround) ⊎ (e ≡ Error.Memory) → (e ≡ Error.WrapAround → 18446744073709551616 ≤ (named + 1) * block) → allowed (fill_reasons f l (max blocks (named + 1) * block) reads) e
+pub take_refused : (f : Features) (l : LayerBelow) (block blocks named : ℕ) (reads : ℕ → Type 0) (e : Error) → AreLawful f → (e ≡ Error.WrapAround) ⊎ (e ≡ Error.Memory) → (e ≡ Error.WrapAround → 18446744073709551616 ≤ (named + 1) * block) → allowed (fill_reasons f l (max blocks (named + 1) * block) reads) e
 take_refused f l block blocks named reads e lawful only wraps = ⊎_elim
     (λ w.
     let big = wraps w in

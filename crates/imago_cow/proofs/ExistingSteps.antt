@@ -51,10 +51,10 @@ module _ (f : Features) (count : ℕ) (bytes : List ℕ) (size block : ℕ) (ent
       )
 
   -- a mapping of bytes that stand in the data block already
-  pub prepared_existing : (j run : ℕ) (overwrite : Bool) (disk : ℕ → Value) (m : PreparedDataMapping CowState) → slice_get entries (o / block) ≡ Some (GuestBlock.Data j) → 0 < n → run ≡ min n (block - o % block)
+  pub prepared_existing : (j run : ℕ) (overwrite told : Bool) (disk : ℕ → Value) (m : PreparedDataMapping CowState) → slice_get entries (o / block) ≡ Some (GuestBlock.Data j) → 0 < n → run ≡ min n (block - o % block)
       → m.storage ≡ 0 → m.offset ≡ j * block + o % block → m.length ≡ run → m.state ≡ None
-      → IsPrepared o n overwrite disk (cow_view f count bytes size block entries blocks None) (cow_view f count bytes size block entries blocks None) m
-  prepared_existing j run overwrite disk m at some len storage offset long state =
+      → IsPrepared o n overwrite told disk (cow_view f count bytes size block entries blocks None) (cow_view f count bytes size block entries blocks None) m
+  prepared_existing j run overwrite told disk m at some len storage offset long state =
       let r = rest_small block positive o in
       record {
         within = omega (arith, long, len);
@@ -70,13 +70,13 @@ module _ (f : Features) (count : ℕ) (bytes : List ℕ) (size block : ℕ) (ent
         apart = λ s e. let x : None ≡ Some s = sym state ∙ e in let z : ⊥ = cc in absurd z;
         around = λ q e. let z : ⊥ = cc in absurd z;
         near = λ q e. let z : ⊥ = cc in absurd z;
-        round = λ keeps. tt;
+        round = λ keeps tells. tt;
       }
 
   -- an empty mapping
-  pub prepared_none : (overwrite : Bool) (disk : ℕ → Value) (m : PreparedDataMapping CowState) → n ≡ 0 → m.length ≡ 0 → m.state ≡ None
-      → IsPrepared o n overwrite disk (cow_view f count bytes size block entries blocks None) (cow_view f count bytes size block entries blocks None) m
-  prepared_none overwrite disk m none long state = record {
+  pub prepared_none : (overwrite told : Bool) (disk : ℕ → Value) (m : PreparedDataMapping CowState) → n ≡ 0 → m.length ≡ 0 → m.state ≡ None
+      → IsPrepared o n overwrite told disk (cow_view f count bytes size block entries blocks None) (cow_view f count bytes size block entries blocks None) m
+  prepared_none overwrite told disk m none long state = record {
     within = omega (arith, long);
     some = λ h. absurd (omega (arith, h, none));
     part = omega (arith, long, none);
@@ -90,5 +90,5 @@ module _ (f : Features) (count : ℕ) (bytes : List ℕ) (size block : ℕ) (ent
     apart = λ s e. let x : None ≡ Some s = sym state ∙ e in let z : ⊥ = cc in absurd z;
     around = λ q e. let z : ⊥ = cc in absurd z;
     near = λ q e. let z : ⊥ = cc in absurd z;
-    round = λ keeps. tt;
+    round = λ keeps tells. tt;
   }

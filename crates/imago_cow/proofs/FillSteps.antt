@@ -10,7 +10,7 @@ use Rattle.std.proofs.lemmas.List.Folds.{sum_by-replicate}
 use Rattle.imago_storage.specs.Faults.{CountsFaults}
 use Rattle.imago_cow.specs.Table.{named_count, names_any, without_data}
 use Rattle.imago_storage.specs.declared.error.Error.{Error}
-use Rattle.imago_storage.specs.Features.{Features, len_align, AreAlignments}
+use Rattle.imago_storage.specs.Features.{Features, len_align, AreLawful}
 use Rattle.imago_storage.proofs.Padding.{wrap_causes}
 use Rattle.imago_drivers.specs.LayerBelow.{LayerBelow}
 use Rattle.imago_drivers.specs.Lengths.{padded_to}
@@ -42,7 +42,7 @@ filled_length f block number most count to len old positive known inside h = ⊎
     (cases_lt 0 count)
 
 -- no data block that may be taken
-pub take_refused : (f : Features) (l : LayerBelow) (block named most : ℕ) (copied : ℕ → Type 0) (e : Error) → AreAlignments f → 0 < block → named + 1 ≤ most → (e ≡ Error.WrapAround → 18446744073709551616 ≤ (named + 1) * block) → (e ≡ Error.WrapAround) ⊎ (e ≡ Error.Memory)
+pub take_refused : (f : Features) (l : LayerBelow) (block named most : ℕ) (copied : ℕ → Type 0) (e : Error) → AreLawful f → 0 < block → named + 1 ≤ most → (e ≡ Error.WrapAround → 18446744073709551616 ≤ (named + 1) * block) → (e ≡ Error.WrapAround) ⊎ (e ≡ Error.Memory)
     → allowed (fill_reasons f l (most * block) copied) e
 take_refused f l block named most copied e lawful positive more full why = ⊎_elim
     (λ w.
@@ -64,12 +64,12 @@ block_kept keeps block end n to count entries old new unnamed begins ends same k
     (cases_lt j n)
 
 -- a growth in two steps
-pub extended_more : (at : ℕ → Value) (lower keeps : Bool) (block from mid until : ℕ) (a b c : List GuestBlock) (x y z : List ℕ) → from ≤ mid → IsExtended at lower keeps block from mid a b x y → IsExtended at lower keeps block mid until b c y z → IsExtended at lower keeps block from until a c x z
-extended_more at lower keeps block from mid until a b c x y z le first second = record {
+pub extended_more : (at : ℕ → Value) (lower keeps told : Bool) (block from mid until : ℕ) (a b c : List GuestBlock) (x y z : List ℕ) → from ≤ mid → IsExtended at lower keeps told block from mid a b x y → IsExtended at lower keeps told block mid until b c y z → IsExtended at lower keeps told block from until a c x z
+extended_more at lower keeps told block from mid until a b c x y z le first second = record {
   kept = λ k p h. second.kept k p (omega (arith, h, le)) ∙ first.kept k p h;
-  added = λ k p h l. ⊎_elim
-      (λ under. second.kept k p under ∙ first.added k p h under)
-      (λ over. second.added k p over l)
+  added = λ k t p h l. ⊎_elim
+      (λ under. second.kept k p under ∙ first.added k t p h under)
+      (λ over. second.added k t p over l)
       (cases_lt p mid);
   names = λ i j e. second.names i j (first.names i j e);
   bytes = λ k i j r e s h. second.bytes k i j r (first.names i j e) s (omega (arith, h, le)) ∙ first.bytes k i j r e s h;
@@ -85,8 +85,8 @@ get_last [] y = refl
 get_last (x ∷ xs) y = get_last xs y
 
 -- a guest block that was pushed goes on with the disk
-pub pushed_extended : (at : ℕ → Value) (keeps : Bool) (block end : ℕ) (old new : List GuestBlock) (x y : List ℕ) → 0 < block → IsPushed at keeps block end old new x y → IsExtended at true keeps block (length old * block) (min end (length old * block + block)) old new x y
-pushed_extended at keeps block end old new x y positive push =
+pub pushed_extended : (at : ℕ → Value) (keeps told : Bool) (block end : ℕ) (old new : List GuestBlock) (x y : List ℕ) → 0 < block → IsPushed at keeps told block end old new x y → IsExtended at true keeps told block (length old * block) (min end (length old * block + block)) old new x y
+pushed_extended at keeps told block end old new x y positive push =
     let n = push.number in
     let left : (i : ℕ) → i < length old → slice_get new i ≡ slice_get old i = λ i h. ap (λ e. slice_get e i) (push.entries) ∙ get_left old (GuestBlock.Data n ∷ []) i h in
     record {
@@ -94,21 +94,21 @@ pushed_extended at keeps block end old new x y positive push =
           let l : p / block < length old = (div-lt_iff_lt-mul positive).1 h in
           let same : (q : ℕ) → (q < n * block + 0) ⊎ (n * block + 0 + block ≤ q) → slice_index y q ≡ slice_index x q = λ q s. push.outside k q (⊎_elim (λ u. inl (omega (arith, u))) (λ u. inr (omega (arith, u))) s) in
           ap (λ e. shown at (entry_place y block p e)) (left (p / block) l) ∙ ap (shown at) (other_place block positive x y n 0 block p (slice_get old (p / block)) (omega arith) (push.unnamed (p / block)) same);
-      added = λ k p h l.
+      added = λ k t p h l.
           let i : p / block ≡ length old = lies_in block positive (length old) p h (omega (arith, l)) in
           let e : slice_get new (p / block) ≡ Some (GuestBlock.Data n) = ap (slice_get new) i ∙ ap (λ z. slice_get z (length old)) (push.entries) ∙ get_last old (GuestBlock.Data n) in
-          ap (λ z. shown at (entry_place y block p z)) e ∙ sym (push.holds k p h (omega (arith, l)) (omega (arith, l)));
+          ap (λ z. shown at (entry_place y block p z)) e ∙ sym (push.holds k t p h (omega (arith, l)) (omega (arith, l)));
       names = λ i j e. left i (slice_get_within old i (GuestBlock.Data j) e) ∙ e;
       bytes = block_kept keeps block (length old * block) n (n * block) block old x y (push.unnamed) (omega arith) (omega arith) (push.outside);
     }
 
-pub pushing_none : (at : ℕ → Value) (keeps : Bool) (block end : ℕ) (start : List GuestBlock) (old : List ℕ) (before : ℕ) → ArePushed at keeps block end start start old old before before 0
-pushing_none at keeps block end start old before = record {
+pub pushing_none : (at : ℕ → Value) (keeps told : Bool) (block end : ℕ) (start : List GuestBlock) (old : List ℕ) (before : ℕ) → ArePushed at keeps told block end start start old old before before 0
+pushing_none at keeps told block end start old before = record {
   len = omega arith;
   prefix = take_all (length start) start (omega arith);
   extended = record {
     kept = λ k p h. refl;
-    added = λ k p h l. let z : ⊥ = omega (arith, h, l) in absurd z;
+    added = λ k t p h l. let z : ⊥ = omega (arith, h, l) in absurd z;
     names = λ i j e. e;
     bytes = λ k i j r e s h. refl;
   };
@@ -127,21 +127,21 @@ data_more start now next n pushed was i h l = ⊎_elim
     ap (λ e. is_data (slice_get e i)) pushed ∙ ap (λ k. is_data (slice_get (now ++ GuestBlock.Data n ∷ []) k)) last ∙ ap is_data (get_last now (GuestBlock.Data n)))
     (cases_lt i (length now))
 
-pub pushing_more : (at : ℕ → Value) (keeps : Bool) (block end : ℕ) (start now next : List GuestBlock) (old new more : List ℕ) (before count later done : ℕ) → 0 < block → length now * block < end → ArePushed at keeps block end start now old new before count done
-    → IsPushed at keeps block end now next new more → later ≤ max count (named_count now + 1) → ArePushed at keeps block end start next old more before later (done + 1)
-pushing_more at keeps block end start now next old new more before count later done positive begins was push added =
+pub pushing_more : (at : ℕ → Value) (keeps told : Bool) (block end : ℕ) (start now next : List GuestBlock) (old new more : List ℕ) (before count later done : ℕ) → 0 < block → length now * block < end → ArePushed at keeps told block end start now old new before count done
+    → IsPushed at keeps told block end now next new more → later ≤ max count (named_count now + 1) → ArePushed at keeps told block end start next old more before later (done + 1)
+pushing_more at keeps told block end start now next old new more before count later done positive begins was push added =
     let n = push.number in
     let l : length next ≡ length now + 1 = ap length (push.entries) ∙ length_push now (GuestBlock.Data n) in
     let t : length next * block ≡ (length now + 1) * block = ap (λ z. z * block) l in
     let mid : min end (length now * block) ≡ length now * block = omega (arith, begins) in
     let until : min end (length now * block + block) ≡ min end (length next * block) = omega (arith, t) in
-    let first : IsExtended at true keeps block (length start * block) (length now * block) start now old new = subst (λ z. IsExtended at true keeps block (length start * block) z start now old new) mid (was.extended) in
-    let second : IsExtended at true keeps block (length now * block) (min end (length next * block)) now next new more = subst (λ z. IsExtended at true keeps block (length now * block) z now next new more) until (pushed_extended at keeps block end now next new more positive push) in
+    let first : IsExtended at true keeps told block (length start * block) (length now * block) start now old new = subst (λ z. IsExtended at true keeps told block (length start * block) z start now old new) mid (was.extended) in
+    let second : IsExtended at true keeps told block (length now * block) (min end (length next * block)) now next new more = subst (λ z. IsExtended at true keeps told block (length now * block) z now next new more) until (pushed_extended at keeps told block end now next new more positive push) in
     let less : length start ≤ length now = omega (arith, was.len) in
     record {
       len = omega (arith, l, was.len);
       prefix = ap (take (length start)) (push.entries) ∙ take-append-le (length start) now (GuestBlock.Data n ∷ []) less ∙ was.prefix;
-      extended = extended_more at true keeps block (length start * block) (length now * block) (min end (length next * block)) start now next old new more (times_more block (length start) (length now) less) first second;
+      extended = extended_more at true keeps told block (length start * block) (length now * block) (min end (length next * block)) start now next old new more (times_more block (length start) (length now) less) first second;
       in_data = data_more start now next n (push.entries) was.in_data;
       named = ap named_count (push.entries) ∙ sum_by_push names_any now (GuestBlock.Data n) ∙ (let z = was.named in omega (arith, z));
       counted = omega (arith, added, was.counted, was.named);
@@ -161,10 +161,10 @@ on_ok_both (Ok x) f p q = f p q
 on_ok_both (Err e) f p q = tt
 
 -- guest blocks without data that were added go on with the disk as zeroes
-pub zero_extended : (at : ℕ → Value) (keeps : Bool) (block new_size : ℕ) (old new : List GuestBlock) (x : List ℕ) → 0 < block → IsExact new_size block new → AreAdded GuestBlock.Zero old new → IsExtended at false keeps block (length old * block) new_size old new x x
-zero_extended at keeps block new_size old new x positive exact added = record {
+pub zero_extended : (at : ℕ → Value) (keeps told : Bool) (block new_size : ℕ) (old new : List GuestBlock) (x : List ℕ) → 0 < block → IsExact new_size block new → AreAdded GuestBlock.Zero old new → IsExtended at false keeps told block (length old * block) new_size old new x x
+zero_extended at keeps told block new_size old new x positive exact added = record {
   kept = λ k p h. ap (λ e. shown at (entry_place x block p e)) (added.kept (p / block) ((div-lt_iff_lt-mul positive).1 h));
-  added = λ k p h l.
+  added = λ k t p h l.
       let far : length old ≤ p / block = ⊎_elim (λ under. let z : p < length old * block = (div-lt_iff_lt-mul positive).0 under in absurd (omega (arith, z, h))) (λ over. over) (cases_lt (p / block) (length old)) in
       let inside : p / block < length new = (div-lt_iff_lt-mul positive).1 (omega (arith, l, exact.covers)) in
       ap (λ e. shown at (entry_place x block p e)) (added.added (p / block) far inside);

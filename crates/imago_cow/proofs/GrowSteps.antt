@@ -44,8 +44,8 @@ other_place block positive old new j a count p (Some (G.Data k)) inside other sa
 module _ (f : Features) (faults faults' : ℕ) (bytes bytes' : List ℕ) (size block : ℕ) (old new : List GuestBlock) (blocks blocks' new_size : ℕ) (positive : 0 < block) (l : LayerBelow) (mode : PreallocateMode) where
   -- a growth that took data blocks and filled them
   pub grown_filled : size ≤ new_size → Covers new_size block new
-      → (IsTrue f.keeps_data → (p : ℕ) → p < size → shown l.at (cow_place bytes' new_size block new p) ≡ shown l.at (cow_place bytes size block old p))
-      → (IsTrue f.keeps_data → (p : ℕ) → size ≤ p → p < new_size → grown_into mode true l.at p (shown l.at (cow_place bytes' new_size block new p)))
+      → (IsTrue f.keeps_data → IsTrue l.tells_bytes → (p : ℕ) → p < size → shown l.at (cow_place bytes' new_size block new p) ≡ shown l.at (cow_place bytes size block old p))
+      → (IsTrue f.keeps_data → IsTrue l.tells_bytes → (p : ℕ) → size ≤ p → p < new_size → grown_into mode true l.at p (shown l.at (cow_place bytes' new_size block new p)))
       → length bytes' ≤ max (length bytes) (padded_to f 0 (data_count block size old blocks None (Grow mode) new_size 0 * block))
       → CountsFaults {T = Unit {0}} (f.is_reliable && l.is_reliable) faults faults' (Ok tt)
       → IsGrowth mode l new_size (cow_view f faults bytes size block old blocks None) (cow_view f faults' bytes' new_size block new blocks' None) (Ok tt)

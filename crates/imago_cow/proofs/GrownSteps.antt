@@ -28,14 +28,14 @@ use Rattle.imago_cow.proofs.GrowSteps.{grown_filled, refused_filled}
 pub grown_extended : (f : Features) (faults faults' : ℕ) (bytes bytes' : List ℕ) (size block : ℕ) (old new : List GuestBlock) (blocks blocks' new_size : ℕ) (l : LayerBelow) (mode : PreallocateMode) (lower : Bool)
     → 0 < block → size ≤ new_size → Covers new_size block new
     → ((p : ℕ) (w : Value) → w ≡ old_value l.at lower p → grown_into mode true l.at p w)
-    → IsExtended l.at lower f.keeps_data block size new_size old new bytes bytes'
+    → IsExtended l.at lower f.keeps_data l.tells_bytes block size new_size old new bytes bytes'
     → length bytes' ≤ max (length bytes) (padded_to f 0 (data_count block size old blocks None (Grow mode) new_size 0 * block))
     → CountsFaults {T = Unit {0}} (f.is_reliable && l.is_reliable) faults faults' (Ok tt)
     → IsGrowth mode l new_size (cow_view f faults bytes size block old blocks None) (cow_view f faults' bytes' new_size block new blocks' None) (Ok tt)
 grown_extended f faults faults' bytes bytes' size block old new blocks blocks' new_size l mode lower positive grows covers shows more longer counted =
     grown_filled f faults faults' bytes bytes' size block old new blocks blocks' new_size positive l mode grows covers
-    (λ k p h. ap (shown l.at) (place_in bytes' new_size block new p (omega (arith, h, grows))) ∙ more.kept k p h ∙ ap (shown l.at) (sym (place_in bytes size block old p h)))
-    (λ k p h i. shows p (shown l.at (cow_place bytes' new_size block new p)) (ap (shown l.at) (place_in bytes' new_size block new p i) ∙ more.added k p h i))
+    (λ k t p h. ap (shown l.at) (place_in bytes' new_size block new p (omega (arith, h, grows))) ∙ more.kept k p h ∙ ap (shown l.at) (sym (place_in bytes size block old p h)))
+    (λ k t p h i. shows p (shown l.at (cow_place bytes' new_size block new p)) (ap (shown l.at) (place_in bytes' new_size block new p i) ∙ more.added k t p h i))
     longer counted
 
 pub kept_place : (keeps : Bool) (block end : ℕ) (entries : List GuestBlock) (old new : List ℕ) → 0 < block → KeepsBytes keeps block end entries old new → IsTrue keeps → (p : ℕ) → p < end → (e : Option GuestBlock) → slice_get entries (p / block) ≡ e → entry_place new block p e ≡ entry_place old block p e

@@ -58,24 +58,24 @@ begins_behind size block old p positive exact cutting h other = ⊎_elim
 module _ (f : Features) (faults now_faults : ℕ) (x y z : List ℕ) (size block new_size : ℕ) (old mid new : List GuestBlock) (blocks now_blocks : ℕ) (l : LayerBelow) (mode : PreallocateMode) (lower : Bool)
     (positive : 0 < block) (grows : size < new_size) (exact : IsExact size block old) (low : lower ≡ shows_below mode) (some : mode ≡ PreallocateMode.None → ⊥) where
   -- the cut guest block was filled, and then new ones were added
-  pub grown_whole : IsCutFilled l.at mode f.keeps_data block size new_size old mid x y → IsExtended l.at lower f.keeps_data block (length mid * block) new_size mid new y z → Covers new_size block new
+  pub grown_whole : IsCutFilled l.at mode f.keeps_data l.tells_bytes block size new_size old mid x y → IsExtended l.at lower f.keeps_data l.tells_bytes block (length mid * block) new_size mid new y z → Covers new_size block new
       → length z ≤ max (length x) (padded_to f 0 (data_count block size old blocks None (Grow mode) new_size 0 * block)) → CountsFaults {T = Unit {0}} (f.is_reliable && l.is_reliable) faults now_faults (Ok tt)
       → IsGrowth mode l new_size (cow_view f faults x size block old blocks None) (cow_view f now_faults z new_size block new now_blocks None) (Ok tt)
   grown_whole cut extended covers longer counted =
       let ends : length mid * block ≡ length old * block = ap (λ n. n * block) cut.len in
       let shows : (p : ℕ) → p < new_size → shown l.at (cow_place z new_size block new p) ≡ shows_at l.at z block new p = λ p h. ap (shown l.at) (place_in z new_size block new p h) in
       grown_filled f faults now_faults x z size block old new blocks now_blocks new_size positive l mode (omega (arith, grows)) covers
-      (λ k p h. shows p (omega (arith, h, grows)) ∙ extended.kept k p (omega (arith, h, exact.covers, ends)) ∙ cut.kept k p h ∙ ap (shown l.at) (sym (place_in x size block old p h)))
-      (λ k p a b.
+      (λ k t p h. shows p (omega (arith, h, grows)) ∙ extended.kept k p (omega (arith, h, exact.covers, ends)) ∙ cut.kept k t p h ∙ ap (shown l.at) (sym (place_in x size block old p h)))
+      (λ k t p a b.
       let added : length old * block ≤ p → grown_into mode true l.at p (shown l.at (cow_place z new_size block new p)) = λ behind.
-      grown_as mode lower l.at p (shown l.at (cow_place z new_size block new p)) low some (shows p b ∙ extended.added k p (omega (arith, ends, behind)) b) in
+      grown_as mode lower l.at p (shown l.at (cow_place z new_size block new p)) low some (shows p b ∙ extended.added k t p (omega (arith, ends, behind)) b) in
       ⊎_elim
       (λ cutting. ⊎_elim
       (λ same.
       let last = times_more block (size / block + 1) (length old) (omega (arith, cut_inside block size old positive exact cutting)) in
       let within : p / block * block ≡ size / block * block = ap (λ n. n * block) same in
       let before : p < length mid * block = omega (arith, last, ends, within, div-add-mod' p block, rest_small block positive p) in
-      subst (λ w. grown_into mode true l.at p w) (sym (shows p b ∙ extended.kept k p before)) (cut.cut k p a b same cutting))
+      subst (λ w. grown_into mode true l.at p w) (sym (shows p b ∙ extended.kept k p before)) (cut.cut k t p a b same cutting))
       (λ other. added (begins_behind size block old p positive exact cutting a other))
       (same_or_not (p / block) (size / block)))
       (λ whole. let w : size % block ≡ 0 = omega (arith, whole) in added (omega (arith, ends_near size block old positive exact w, a)))

@@ -27,3 +27,5 @@ pub mod GrowBounds
 pub mod CutEntries
 pub mod GrownEntries
 pub mod DirectSteps
+pub mod CopyCallSteps
+pub mod GrowthCallSteps

@@ -9,7 +9,7 @@ use Rattle.imago_storage.specs.Features.{Features, len_align}
 use Rattle.imago_drivers.specs.Operation.{Operation, Map, Read, Write, Zero, DiscardToZero, DiscardToAny, DiscardToBacking, Grow, Shrink, Flush}
 use Rattle.imago_drivers.specs.Place.{Value, Byte, IsIn, shown, values, SamePlaces}
 use Rattle.imago_drivers.specs.Causes.{IsSettled, IsOnRange, CauseOver}
-use Rattle.imago_storage.specs.Features.{AreAlignments}
+use Rattle.imago_storage.specs.Features.{AreLawful}
 use Rattle.imago_storage.specs.Padding.{Wraps}
 use Rattle.imago_drivers.specs.Ranges.{HasWrappingPart}
 use Rattle.imago_storage.specs.Faults.{CountsFaults}
@@ -192,8 +192,8 @@ module _ (f : Features) (faults now_faults : ℕ) (bytes now : List ℕ) (size b
       let e : w.offset + p - w.start ≡ w.number * block + (p - block_from block w.start) = omega (arith, a, h, apart.offset) in
       rw t (ap (slice_index now) e)
 
-  module _ (at : ℕ → Value) (absent overwrite : Bool) (here : absent ≡ true → slice_get entries (w.start / block) ≡ Some GuestBlock.Absent) (there : absent ≡ false → slice_get entries (w.start / block) ≡ Some GuestBlock.Zero)
-      (copied : IsTrue f.keeps_data → (p : ℕ) → block_from block w.start ≤ p → p < block_until block size w.start → (overwrite ≡ true → (p < w.start) ⊎ (w.start + w.length ≤ p))
+  module _ (at : ℕ → Value) (absent overwrite told : Bool) (here : absent ≡ true → slice_get entries (w.start / block) ≡ Some GuestBlock.Absent) (there : absent ≡ false → slice_get entries (w.start / block) ≡ Some GuestBlock.Zero)
+      (copied : IsTrue f.keeps_data → IsTrue told → (p : ℕ) → block_from block w.start ≤ p → p < block_until block size w.start → (overwrite ≡ true → (p < w.start) ⊎ (w.start + w.length ≤ p))
       → old_value at absent p ≡ Byte (slice_index now (w.number * block + (p - block_from block w.start)))) where
     shows : (p : ℕ) → block_from block w.start ≤ p → p < block_until block size w.start → values at (cow_place bytes size block entries) p ≡ old_value at absent p
     shows p h k =
@@ -207,7 +207,7 @@ module _ (f : Features) (faults now_faults : ℕ) (bytes now : List ℕ) (size b
         (cases_Bool absent)
 
     pub prepared : (o most : ℕ) (m : PreparedDataMapping CowState) → o ≡ w.start → 0 < most → w.length ≡ in_block block o most → m.storage ≡ 0 → m.offset ≡ w.offset → m.length ≡ w.length → m.state ≡ Some w.state
-        → IsPrepared o most overwrite (values at (cow_place bytes size block entries)) (cow_view f faults bytes size block entries blocks None) (cow_view f now_faults now size block entries now_blocks (Some w)) m
+        → IsPrepared o most overwrite told (values at (cow_place bytes size block entries)) (cow_view f faults bytes size block entries blocks None) (cow_view f now_faults now size block entries now_blocks (Some w)) m
     prepared o most m start some len storage offset long state = record {
       within = omega (arith, long, len);
       some = λ h. omega (arith, long, apart.some);
@@ -224,10 +224,10 @@ module _ (f : Features) (faults now_faults : ℕ) (bytes now : List ℕ) (size b
         refl,
         (storage, offset, long, state),
         sym start,
-        λ keeps over p i.
+        λ keeps tells over p i.
             let x : block_from block w.start ≤ p = omega (arith, start, i.0) in
             let y : p < block_until block size w.start = omega (arith, start, i.1, long, apart.in_block, apart.inside, div-add-mod' w.start block) in
-            shows p x y ∙ copied keeps p x y (λ t. let u : true ≡ false = sym t ∙ over in let z : ⊥ = cc in absurd z) ∙ ap (λ v. Byte v) (sym (waits_byte p x)),
+            shows p x y ∙ copied keeps tells p x y (λ t. let u : true ≡ false = sym t ∙ over in let z : ⊥ = cc in absurd z) ∙ ap (λ v. Byte v) (sym (waits_byte p x)),
       );
       around = λ q e. let a : pending_of block size now w ≡ q = cc in
           rw (← a) (let x : waiting_from block w ≤ w.start = omega arith in let y : w.start + w.length ≤ min size (waiting_from block w + block) = omega (arith, apart.in_block, apart.inside, div-add-mod' w.start block) in (x, y));
@@ -238,7 +238,7 @@ module _ (f : Features) (faults now_faults : ℕ) (bytes now : List ℕ) (size b
           let x : o ≤ w.start = omega (arith, start) in
           let y : w.start < o + m.length = omega (arith, start, long, apart.some) in
           (w.start, (x, y), same));
-      round = λ keeps p x y out. shows p x y ∙ copied keeps p x y (λ t. out) ∙ ap (λ v. Byte v) (sym (waits_byte p x));
+      round = λ keeps tells p x y out. shows p x y ∙ copied keeps tells p x y (λ t. out) ∙ ap (λ v. Byte v) (sym (waits_byte p x));
     }
 
 -- nothing was done
@@ -321,11 +321,11 @@ module _ (f : Features) (size block : ℕ) (entries : List GuestBlock) (blocks :
   over_refused E.NotFound c = c
 
 -- no place for a new data block is a wrap-around
-pub full_wraps : (f : Features) (block size : ℕ) (entries : List GuestBlock) (blocks o most : ℕ) → AreAlignments f → 0 < block → blocks < data_count block size entries blocks None Write o most → 18446744073709551616 ≤ blocks * block + block
+pub full_wraps : (f : Features) (block size : ℕ) (entries : List GuestBlock) (blocks o most : ℕ) → AreLawful f → 0 < block → blocks < data_count block size entries blocks None Write o most → 18446744073709551616 ≤ blocks * block + block
     → DataWraps f block (data_count block size entries blocks None Write o most)
 full_wraps f block size entries blocks o most lawful positive known full = block_wraps f block blocks _ (blocks * block) refl known
     (record { from = blocks * block; count = block; above = omega arith; below = omega arith; wraps = (wrap_causes f lawful (blocks * block) block positive).1 (inl full) })
 
-pub full_refused : (f : Features) (faults : ℕ) (bytes : List ℕ) (size block : ℕ) (entries : List GuestBlock) (blocks : ℕ) (l : LayerBelow) (o most : ℕ) → AreAlignments f → 0 < block → blocks < data_count block size entries blocks None Write o most → 18446744073709551616 ≤ blocks * block + block
+pub full_refused : (f : Features) (faults : ℕ) (bytes : List ℕ) (size block : ℕ) (entries : List GuestBlock) (blocks : ℕ) (l : LayerBelow) (o most : ℕ) → AreLawful f → 0 < block → blocks < data_count block size entries blocks None Write o most → 18446744073709551616 ≤ blocks * block + block
     → allowed (lending_reasons (cow_view f faults bytes size block entries blocks None) l Write o most) Error.WrapAround
 full_refused f faults bytes size block entries blocks l o most lawful positive known full = inl (refl, full_wraps f block size entries blocks o most lawful positive known full)

@@ -153,8 +153,8 @@ module _ (f : Features) (faults : ℕ) (bytes : List ℕ) (size block : ℕ) (ol
     grown_disk mode shows = record {
       grown = record {
         size = omega (arith, grows);
-        kept = λ keeps p h. ap (shown l.at) (kept_place p h);
-        added = λ keeps p h k. shows p h k;
+        kept = λ keeps told p h. ap (shown l.at) (kept_place p h);
+        added = λ keeps told p h k. shows p h k;
         ends = λ p h e. sym (kept_place p h) ∙ e;
         listed = λ was p h e. let past = from_size bytes new_size block new positive covers p e in omega (arith, past, h);
       };

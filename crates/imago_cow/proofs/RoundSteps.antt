@@ -38,6 +38,10 @@ pub not_false : (b : Bool) → not b ≡ false → b ≡ true
 not_false true e = refl
 not_false false e = let z : ⊥ = cc in absurd z
 
+pub only_false : (b : Bool) → not b ≡ true → b ≡ false
+only_false true e = let z : ⊥ = cc in absurd z
+only_false false e = refl
+
 pub not_true : (b : Bool) → not b ≡ true → b ≡ true → ⊥
 not_true true e h = let z : ⊥ = cc in z
 not_true false e h = let z : ⊥ = cc in z

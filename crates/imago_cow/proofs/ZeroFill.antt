@@ -1,5 +1,5 @@
 use Rattle.std.proofs.Common.{◌≡◌, ℕ, ◌+◌, ◌-◌, ◌%◌, ◌^◌, ◌≤◌, ⊎_elim, arith}
-use Rattle.imago_storage.specs.Features.{Features, ZeroSupport, AreAlignments}
+use Rattle.imago_storage.specs.Features.{Features, ZeroSupport, AreLawful}
 use Rattle.imago_storage.specs.Padding.{Wraps, aligned_start}
 use Rattle.imago_storage.specs.Zeroes.{MayWrap}
 use Rattle.imago_storage.proofs.Alignment.{power_positive, multiple_add, multiple_of_multiple}
@@ -7,7 +7,7 @@ use Rattle.imago_storage.proofs.Padding.{next_whole_zero}
 use Rattle.imago_storage.proofs.ZeroWraps.{padded_covers}
 
 -- a zero write of a range of whole blocks wraps around only where a write of it does
-pub whole_wraps : (f : Features) (z : ZeroSupport) (at n : ℕ) → AreAlignments f → at % f.zero_align ≡ 0 → n % f.zero_align ≡ 0 → MayWrap f z at n → Wraps f at n
+pub whole_wraps : (f : Features) (z : ZeroSupport) (at n : ℕ) → AreLawful f → at % f.zero_align ≡ 0 → n % f.zero_align ≡ 0 → MayWrap f z at n → Wraps f at n
 whole_wraps f z at n laws h k w =
     let start : aligned_start f.zero_align at ≡ at = next_whole_zero at f.zero_align (power_positive f.zero_align laws.zero) h in
     let first : aligned_start f.req_align at ≡ at = next_whole_zero at f.req_align (power_positive f.req_align laws.req) (multiple_of_multiple f.req_align f.zero_align at h laws.zero_whole) in

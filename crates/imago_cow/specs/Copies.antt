@@ -22,6 +22,12 @@ use Rattle.imago_cow.specs.Cow.{DataWraps, data_count, in_block}
 abbrev pub old_value : (ℕ → Value) → Bool → ℕ → Value
 old_value at absent p = if absent then at p else Byte 0
 
+-- What such places show is told: zeroes always are, and the bytes of the layer below where it
+-- tells them.
+abbrev pub are_told : LayerBelow → Bool → Bool
+are_told l true = l.tells_bytes
+are_told l false = true
+
 -- the bytes of a buffer are what such places show from o on
 abbrev pub HasOldBytes : (ℕ → Value) → Bool → ℕ → List ℕ → Type 0
 HasOldBytes at absent o items = (k : ℕ) → k < length items → old_value at absent (o + k)

@@ -10,7 +10,7 @@ use Rattle.imago_drivers.specs.declared.mapping.PreparedDataMapping.{PreparedDat
 use Rattle.imago_drivers.specs.declared.format.PreallocateMode.TheVariants as Mode
 use Rattle.imago_drivers.specs.Operation.{Operation, Map, Read, Write, Zero, DiscardToZero}
 use Rattle.imago_drivers.specs.Operation.{DiscardToAny, DiscardToBacking, Grow, Shrink, Flush}
-use Rattle.imago_drivers.specs.Place.{IsIn}
+use Rattle.imago_drivers.specs.Place.{Byte, IsIn}
 use Rattle.imago_drivers.specs.Causes.{Causes}
 use Rattle.imago_drivers.specs.Parts.{storage_of, offset_of, length_of, state_of}
 use Rattle.imago_drivers.specs.Pending.{Pending}
@@ -243,6 +243,7 @@ cow_view f fault_count bytes size block entries blocks waiting = record {
     takes_backing = true;
     is_reliable = f.is_reliable;
     keeps_data = f.keeps_data;
+    tells_bytes = f.tells_bytes;
     zero_granularity = Some block;
     offers = λ op. true;
     block = block;
@@ -251,7 +252,7 @@ cow_view f fault_count bytes size block entries blocks waiting = record {
   place = cow_place bytes size block entries;
   fault_count = fault_count;
   stores = record { count = 1; bytes = λ index. bytes; features = λ index. f };
-  special = λ offset. 0;
+  special = λ offset. Byte 0;
   limits = record {
     cause = cow_cause f block size entries blocks waiting;
     copies = cow_copies block size entries;

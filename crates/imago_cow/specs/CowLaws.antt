@@ -7,11 +7,12 @@ use Rattle.std.proofs.Math.Nat.{mul-le-mul_right}
 use Rattle.imago_drivers.specs.declared.format.PreallocateMode.{PreallocateMode}
 use Rattle.imago_storage.specs.declared.error.Error.{Error}
 use Rattle.imago_storage.specs.declared.error.Error.TheVariants as E
-use Rattle.imago_storage.specs.Features.{Features}
+use Rattle.imago_storage.specs.Features.{Features, AreLawful}
 use Rattle.imago_drivers.specs.declared.format.PreallocateMode.TheVariants as Mode
 use Rattle.imago_drivers.specs.Operation.{Operation, Map, Read, Write, Zero, DiscardToZero}
 use Rattle.imago_drivers.specs.Operation.{DiscardToAny, DiscardToBacking, Grow, Shrink, Flush}
-use Rattle.imago_drivers.specs.Place.{Place, Stored, Special, Lower, Refused, End}
+use Rattle.imago_drivers.specs.Place.{Value, Unreadable, Place, Stored, Special, Lower, Refused}
+use Rattle.imago_drivers.specs.Place.{End}
 use Rattle.imago_drivers.specs.Laws.{IsLawful, AreCauses, CauseBound}
 use Rattle.imago_cow.specs.declared.table.GuestBlock.{GuestBlock}
 use Rattle.imago_cow.specs.declared.table.GuestBlock.TheVariants as G
@@ -71,12 +72,12 @@ module _ (bytes : List ℕ) (block p : ℕ) where
   no_refused (Some G.Zero) r e = let z : ⊥ = cc in z
   no_refused (Some (G.Data j)) r e = let z : ⊥ = cc in z
 
-  pub no_special : (entry : Option GuestBlock) (b o : ℕ) → entry_place bytes block p entry
-      ≡ Special b o → ⊥
-  no_special None b o e = let z : ⊥ = cc in z
-  no_special (Some G.Absent) b o e = let z : ⊥ = cc in z
-  no_special (Some G.Zero) b o e = let z : ⊥ = cc in z
-  no_special (Some (G.Data j)) b o e = let z : ⊥ = cc in z
+  pub no_special : (entry : Option GuestBlock) (v : Value) (o : ℕ) → entry_place bytes block p entry
+      ≡ Special v o → ⊥
+  no_special None v o e = let z : ⊥ = cc in z
+  no_special (Some G.Absent) v o e = let z : ⊥ = cc in z
+  no_special (Some G.Zero) v o e = let z : ⊥ = cc in z
+  no_special (Some (G.Data j)) v o e = let z : ⊥ = cc in z
 
 module _ (bytes : List ℕ) (size block : ℕ) (entries : List GuestBlock) where
   -- a place that isn't an end lies below the size, and is its entry's
@@ -98,6 +99,12 @@ module _ (bytes : List ℕ) (size block : ℕ) (entries : List GuestBlock) where
       let z : ⊥ = cc in absurd z)
       (λ over. over)
       (cases_lt p size)
+
+  -- no place is special
+  pub not_special : (p : ℕ) (v : Value) (o : ℕ) → cow_place bytes size block entries p ≡ Special v o
+      → ⊥
+  not_special p v o e = let x = below_size p (Special v o) e (λ y. let z : ⊥ = cc in z) in
+      no_special bytes block p (slice_get entries (p / block)) v o (x.1)
 
   pub stored_place : (p b s o : ℕ) (w : Bool) → cow_place bytes size block entries p
       ≡ Stored b s o w → (p < size) × IsStoredEntry bytes block p (slice_get entries (p / block)) b
@@ -130,17 +137,17 @@ module _ (bytes : List ℕ) (size block : ℕ) (entries : List GuestBlock) where
 
 pub cow_lawful : (f : Features) (count : ℕ) (bytes : List ℕ) (size block : ℕ)
     (entries : List GuestBlock) (blocks : ℕ) (waiting : Option Waiting)
-    → 0 < block → Covers size block entries → NamedOnce entries
+    → 0 < block → Covers size block entries → NamedOnce entries → AreLawful f
     → IsLawful (cow_view f count bytes size block entries blocks waiting)
-cow_lawful f count bytes size block entries blocks waiting positive covers once = record {
+cow_lawful f count bytes size block entries blocks waiting positive covers once lawful = record {
+  told = lawful.told;
   ends = λ p q h e. place_out bytes size block entries q
       (let x = from_size bytes size block entries positive covers p e in omega (arith, x));
   bounded = λ p h. place_out bytes size block entries p h;
   stored = λ p b s o w e. let x = (stored_place bytes size block entries p b s o w e).1 in
       let y : s < 1 = omega (arith, x.storage) in (y, x.byte);
-  special = λ p b o e. let x = below_size bytes size block entries p (Special b o) e
-      (λ y. let z : ⊥ = cc in z) in
-      absurd (no_special bytes block p (slice_get entries (p / block)) b o (x.1));
+  special = λ p v o e. absurd (not_special bytes size block entries p v o e);
+  faulty = λ p o e h. absurd (not_special bytes size block entries p (Unreadable e) o h);
   lower = λ p q w e. refl;
   own = λ p q b c s o w e h. own_place bytes size block entries positive once p q b c s o w e h;
   refused = λ p r e. let x = below_size bytes size block entries p (Refused r) e

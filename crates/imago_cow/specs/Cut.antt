@@ -41,29 +41,32 @@ IsCutRead block size entries lower new_size p =
     ⊎ ((lower ≡ true) × (size ≤ p) × (p < new_size))
 
 -- The guest block that the old end cuts shows what it showed before that end, and behind it what
--- the growth's mode says, up to the new end. No other shows anything else.
-pub record IsCutFilled (at : ℕ → Value) (mode : PreallocateMode) (keeps : Bool)
+-- the growth's mode says, up to the new end, where the layer below tells its bytes. No other shows
+-- anything else.
+pub record IsCutFilled (at : ℕ → Value) (mode : PreallocateMode) (keeps told : Bool)
     (block size new_size : ℕ) (old new : List GuestBlock) (old_bytes new_bytes : List ℕ) : Type 0
   where
     pub len : length new ≡ length old
-    pub kept : IsTrue keeps → (p : ℕ) → p < size → shows_at at new_bytes block new p
-        ≡ shows_at at old_bytes block old p
-    pub cut : IsTrue keeps → (p : ℕ) → size ≤ p → p < new_size → p / block ≡ size / block
-        → 0 < size % block → grown_into mode true at p (shows_at at new_bytes block new p)
+    pub kept : IsTrue keeps → IsTrue told → (p : ℕ) → p < size
+        → shows_at at new_bytes block new p ≡ shows_at at old_bytes block old p
+    pub cut : IsTrue keeps → IsTrue told → (p : ℕ) → size ≤ p → p < new_size
+        → p / block ≡ size / block → 0 < size % block
+        → grown_into mode true at p (shows_at at new_bytes block new p)
     pub others : IsTrue keeps → (p : ℕ) → (p / block ≢ size / block) ⊎ (size % block ≡ 0)
         → shows_at at new_bytes block new p ≡ shows_at at old_bytes block old p
 
 -- The guest block that the old end cuts was entered in a data block that none named: its places
--- before that end show what they showed, and so many behind it the layer below, or zeroes. No byte
--- outside the data block changed.
-pub record IsTaken (at : ℕ → Value) (block size count : ℕ) (absent lower : Bool)
+-- before that end show what they showed, and so many behind it the layer below, or zeroes, where
+-- the layer below tells its bytes. No byte outside the data block changed.
+pub record IsTaken (at : ℕ → Value) (told : Bool) (block size count : ℕ) (absent lower : Bool)
     (old new : List GuestBlock) (old_bytes new_bytes : List ℕ) : Type 0 where
   pub number : ℕ
   pub entered : IsEntered (size / block) number old new
   pub unnamed : (i : ℕ) → slice_get old i ≡ Some (GuestBlock.Data number) → ⊥
-  pub before : (k : ℕ) → k < size % block → old_value at absent (size - size % block + k)
+  pub before : IsTrue told → (k : ℕ) → k < size % block
+      → old_value at absent (size - size % block + k)
       ≡ Byte (slice_index new_bytes (number * block + k))
-  pub behind : (k : ℕ) → k < count → old_value at lower (size + k)
+  pub behind : IsTrue told → (k : ℕ) → k < count → old_value at lower (size + k)
       ≡ Byte (slice_index new_bytes (number * block + size % block + k))
   pub outside : SameOutside (number * block) block old_bytes new_bytes
 

@@ -41,11 +41,11 @@ AddsData old new = (i : ℕ) → length old ≤ i → i < length new → is_data
 
 -- So many guest blocks were added behind the others, each in a data block that was free, or in a
 -- new one. There were `before` data blocks, and there are `count`.
-pub record ArePushed (at : ℕ → Value) (keeps : Bool) (block end : ℕ) (start now : List GuestBlock)
-    (old new : List ℕ) (before count added : ℕ) : Type 0 where
+pub record ArePushed (at : ℕ → Value) (keeps told : Bool) (block end : ℕ)
+    (start now : List GuestBlock) (old new : List ℕ) (before count added : ℕ) : Type 0 where
   pub len : length now ≡ length start + added
   pub prefix : take (length start) now ≡ start
-  pub extended : IsExtended at true keeps block (length start * block)
+  pub extended : IsExtended at true keeps told block (length start * block)
       (min end (length now * block)) start now old new
   pub in_data : AddsData start now
   pub named : named_count now ≡ named_count start + added
@@ -53,11 +53,11 @@ pub record ArePushed (at : ℕ → Value) (keeps : Bool) (block end : ℕ) (star
 
 -- The guest blocks were added that a disk of the new size needs: in data blocks, where a growth in
 -- that mode shows the layer below, else as explicit zeroes.
-pub record HasNew (at : ℕ → Value) (mode : PreallocateMode) (keeps : Bool) (block new_size : ℕ)
-    (old new : List GuestBlock) (old_bytes new_bytes : List ℕ) : Type 0 where
+pub record HasNew (at : ℕ → Value) (mode : PreallocateMode) (keeps told : Bool)
+    (block new_size : ℕ) (old new : List GuestBlock) (old_bytes new_bytes : List ℕ) : Type 0 where
   pub exact : IsExact new_size block new
-  pub extended : IsExtended at (shows_below mode) keeps block (length old * block) new_size old new
-      old_bytes new_bytes
+  pub extended : IsExtended at (shows_below mode) keeps told block (length old * block) new_size old
+      new old_bytes new_bytes
   pub in_data : shows_below mode ≡ true → AddsData old new
   pub zeroes : shows_below mode ≡ false → AreAdded GuestBlock.Zero old new
   pub named : (wanted : ℕ) → new_size ≤ wanted * block → wanted * block < new_size + block

@@ -25,26 +25,27 @@ KeepsBytes keeps block end entries old new = IsTrue keeps → (i j k : ℕ)
     → slice_index new (j * block + k) ≡ slice_index old (j * block + k)
 
 -- A guest block was added behind the others, in a data block that none of them names. That one
--- holds what the layer below has at the new block's places before the end, and no byte outside it
--- changed.
-pub record IsPushed (at : ℕ → Value) (keeps : Bool) (block end : ℕ) (old new : List GuestBlock)
+-- holds what the layer below has at the new block's places before the end, where that layer tells
+-- its bytes, and no byte outside it changed.
+pub record IsPushed (at : ℕ → Value) (keeps told : Bool) (block end : ℕ) (old new : List GuestBlock)
     (old_bytes new_bytes : List ℕ) : Type 0 where
   pub number : ℕ
   pub entries : new ≡ old ++ GuestBlock.Data number ∷ []
   pub unnamed : (i : ℕ) → slice_get old i ≡ Some (GuestBlock.Data number) → ⊥
-  pub holds : IsTrue keeps → (p : ℕ) → length old * block ≤ p → p < length old * block + block
-      → p < end → at p ≡ Byte (slice_index new_bytes (origin_in block number p))
+  pub holds : IsTrue keeps → IsTrue told → (p : ℕ) → length old * block ≤ p
+      → p < length old * block + block → p < end
+      → at p ≡ Byte (slice_index new_bytes (origin_in block number p))
   pub outside : IsTrue keeps → SameOutside (number * block) block old_bytes new_bytes
 
 -- The disk goes on up to `until`: places before `from` show what they showed, and the new ones what
--- the layer below has, or zeroes. Entries that name a data block still do, and its bytes before
--- `from` are what they were.
-pub record IsExtended (at : ℕ → Value) (lower keeps : Bool) (block from until : ℕ)
+-- the layer below has, where it tells its bytes, or zeroes. Entries that name a data block still
+-- do, and its bytes before `from` are what they were.
+pub record IsExtended (at : ℕ → Value) (lower keeps told : Bool) (block from until : ℕ)
     (old new : List GuestBlock) (old_bytes new_bytes : List ℕ) : Type 0 where
   pub kept : IsTrue keeps → (p : ℕ) → p < from
       → shown at (entry_place new_bytes block p (slice_get new (p / block)))
       ≡ shown at (entry_place old_bytes block p (slice_get old (p / block)))
-  pub added : IsTrue keeps → (p : ℕ) → from ≤ p → p < until
+  pub added : IsTrue keeps → IsTrue told → (p : ℕ) → from ≤ p → p < until
       → shown at (entry_place new_bytes block p (slice_get new (p / block))) ≡ old_value at lower p
   pub names : (i j : ℕ) → slice_get old i ≡ Some (GuestBlock.Data j)
       → slice_get new i ≡ Some (GuestBlock.Data j)

@@ -6,6 +6,7 @@ pub mod Guest
 pub mod GuestLaws
 pub mod Copies
 pub mod Cow
+pub mod CopyCalls
 pub mod CowLaws
 pub mod CowImage
 pub mod Worked

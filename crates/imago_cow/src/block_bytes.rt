@@ -2,7 +2,7 @@
 ghost use Rattle.std.specs.Prelude.{◌≡◌, ℕ, ◌+◌, ◌<◌, length, Some, slice_get, IfErr, OnOk, OnErr};
 ghost use Rattle.std.specs.Prelude.{IsOk, IsTrue, IsErrOf, slice_index, true, false};
 ghost use Rattle.imago_storage.specs.Bytes.{IsReadAt};
-ghost use Rattle.imago_storage.specs.Calls.{IsRangeRead};
+ghost use Rattle.imago_storage.specs.Calls.{IsRangeRead, IsRangeWrite};
 ghost use Rattle.imago_storage.specs.Faults.{CountsFaults};
 ghost use Rattle.imago_storage.specs.Error.{IsExtRefusal};
 ghost use Rattle.imago_storage.specs.Features.{IsAlignedRequest, MayRunOut};
@@ -31,7 +31,8 @@ pub(crate) fn read_stored<S: Storage>(
 ) -> Result<(), Error>
     ensures read { IsRangeRead (S.features storage.now) (S.bytes storage.now) offset
         (length buf.old) buf.new result }
-    ensures bytes { OnOk result (IsReadAt (S.bytes storage.now) offset buf.new) }
+    ensures bytes { IsTrue (S.features storage.now).tells_bytes
+        → OnOk result (IsReadAt (S.bytes storage.now) offset buf.new) }
     ensures refusals { (faults size block : ℕ) (entries : _) (blocks : ℕ) (waiting : _)
         → 0 < block
         → ((i j : ℕ) → slice_get entries i ≡ Some (GuestBlock.Data j) → j < blocks)
@@ -52,6 +53,8 @@ pub(crate) fn write_stored<S: Storage>(
     source: &[u8],
     offset: u64,
 ) -> Result<(), Error>
+    ensures call { IsRangeWrite S.features S.bytes S.fault_count S.work S.maintenance offset
+        source.now storage.old storage.new result }
     ensures written { (size block : ℕ) (entries : _)
         → OnOk result
         (IsPut 0 offset source.now false (S.features storage.old).keeps_data

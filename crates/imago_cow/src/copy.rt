@@ -7,9 +7,11 @@ ghost use Rattle.imago_drivers.specs.Place.{Byte};
 ghost use Rattle.imago_drivers.specs.Lengths.{padded_to};
 ghost use Rattle.imago_drivers.specs.LayerBelow.{lent};
 ghost use Rattle.imago_drivers.specs.Reasons.{allowed};
+ghost use Rattle.imago_cow.specs.Copies.{are_told};
 ghost use Rattle.imago_cow.specs.Copies.{old_value, HasOldBytes, IsOldRead, IsCopyAnswer};
 ghost use Rattle.imago_cow.specs.Copies.{IsLendingCall, old_reasons, copy_reasons, round_reasons};
 ghost use Rattle.imago_cow.specs.Copies.{block_from, block_until};
+ghost use Rattle.imago_cow.specs.CopyCalls.{CopiesZeroes, IsWritten, IsCopied, IsRoundCopied};
 ghost use Rattle.imago_cow.specs.Table.{is_absent};
 
 use crate::block::BlockSize;
@@ -31,7 +33,8 @@ fn read_old<B: LowerLayer>(
     buf: &mut [u8],
     offset: u64,
 ) -> Result<(), Error>
-    ensures bytes { OnOk result
+    ensures bytes { IsTrue (are_told (lent B.as_layer_below below.entry) (is_absent kind))
+        → OnOk result
         (HasOldBytes (lent B.as_layer_below below.entry).at (is_absent kind) offset buf.new) }
     ensures answered { IsOldRead B.reads below.entry (is_absent kind) offset (length buf.old)
         result }
@@ -63,9 +66,36 @@ pub(crate) struct CopyStart {
     pub(crate) to: u64,
 }
 
+/// Whether places without data show zeroes for certain, to a range that the storage's zero write
+/// takes as it is.
+#[tactic(auto, unfolding(crate::specs::CopyCalls::CopiesZeroes))]
+fn copies_zeroes<S: Storage, B: LowerLayer>(
+    storage: &S,
+    below: Option<&B>,
+    start: CopyStart,
+    count: u64,
+) -> bool
+    ensures zeroes { result ≡ true
+        → (p : ℕ)
+        → start.offset ≤ p
+        → old_value (lent B.as_layer_below below.entry).at (is_absent start.kind) p ≡ Byte 0 }
+    ensures begins { result ≡ true → start.to % (S.features storage.now).zero_align ≡ 0 }
+    ensures whole { result ≡ true → count % (S.features storage.now).zero_align ≡ 0 }
+    ensures certain { result ≡ true
+        → CopiesZeroes (S.features storage.now) (lent B.as_layer_below below.entry)
+        (is_absent start.kind) start.offset count start.to }
+    ensures other { result ≡ false
+        → CopiesZeroes (S.features storage.now) (lent B.as_layer_below below.entry)
+        (is_absent start.kind) start.offset count start.to
+        → ⊥ }
+{
+    shows_zeroes(below, start.kind, start.offset) && takes_zeroes(storage, start.to, count)
+}
+
 /// Copies what places without data show through the buffer to the storage, as many as the buffer
 /// holds. A failed read of the layer below raises the count of faults. What the read is refused for
 /// is the answer.
+#[tactic(auto, unfolding(crate::specs::CopyCalls::IsWritten))]
 fn copy_through<S: Storage, B: LowerLayer>(
     storage: &mut S,
     faults: &mut u64,
@@ -75,6 +105,7 @@ fn copy_through<S: Storage, B: LowerLayer>(
     buf: &mut [u8],
 ) -> Result<(), Error>
     ensures copied { IsTrue (S.features storage.old).keeps_data
+        → IsTrue (lent B.as_layer_below below.entry).tells_bytes
         → OnOk result
         ((k : ℕ)
         → k < length buf.old
@@ -82,6 +113,9 @@ fn copy_through<S: Storage, B: LowerLayer>(
         ≡ Byte (slice_index (S.bytes storage.new) (start.to + k))) }
     ensures answered { IsCopyAnswer B.reads below.entry (is_absent start.kind) start.offset
         (length buf.old) result }
+    ensures copies { IsWritten S.features S.bytes S.fault_count S.work S.maintenance
+        (lent B.as_layer_below below.entry) (is_absent start.kind) start.offset
+        (length buf.old) start.to storage.old storage.new result }
     ensures outside { IsTrue (S.features storage.old).keeps_data
         → (p : ℕ)
         → (p < start.to) ⊎ (start.to + length buf.old ≤ p)
@@ -122,11 +156,15 @@ pub(crate) fn copy_old<S: Storage, B: LowerLayer>(
     count: u64,
 ) -> Result<(), Error>
     ensures copied { IsTrue (S.features storage.old).keeps_data
+        → IsTrue (lent B.as_layer_below below.entry).tells_bytes
         → OnOk result
         ((k : ℕ)
         → k < count
         → old_value (lent B.as_layer_below below.entry).at (is_absent start.kind) (start.offset + k)
         ≡ Byte (slice_index (S.bytes storage.new) (start.to + k))) }
+    ensures copies { IsCopied S.features S.bytes S.fault_count S.work S.maintenance
+        (lent B.as_layer_below below.entry) (is_absent start.kind) start.offset count
+        start.to storage.old storage.new result }
     ensures outside { IsTrue (S.features storage.old).keeps_data
         → (p : ℕ)
         → (p < start.to) ⊎ (start.to + count ≤ p)
@@ -144,7 +182,7 @@ pub(crate) fn copy_old<S: Storage, B: LowerLayer>(
     if count == 0 {
         return Ok(());
     }
-    if shows_zeroes(below, start.kind, start.offset) && takes_zeroes(&*storage, start.to, count) {
+    if copies_zeroes(&*storage, below, start, count) {
         return zero_bytes(storage, alloc, start.to, count);
     }
     let mut bytes = vec![in alloc; 0u8; count as usize]?;
@@ -183,6 +221,7 @@ pub(crate) fn copy_round<S: Storage, B: LowerLayer>(
     requires in_block { part.offset % part.block.length + part.run ≤ part.block.length }
     requires fits { start + part.block.length < 2 ^ 64 }
     ensures copied { IsTrue (S.features storage.old).keeps_data
+        → IsTrue (lent B.as_layer_below below.entry).tells_bytes
         → OnOk result
         ((p : ℕ)
         → block_from part.block.length part.offset ≤ p
@@ -191,6 +230,9 @@ pub(crate) fn copy_round<S: Storage, B: LowerLayer>(
         → old_value (lent B.as_layer_below below.entry).at (is_absent part.kind) p
         ≡ Byte (slice_index (S.bytes storage.new)
         (start + (p - block_from part.block.length part.offset)))) }
+    ensures copies { IsRoundCopied S.features S.bytes S.fault_count S.work S.maintenance
+        (lent B.as_layer_below below.entry) (is_absent part.kind) part.overwrite
+        part.block.length part.size part.offset part.run start storage.old storage.new result }
     ensures outside { IsTrue (S.features storage.old).keeps_data
         → (p : ℕ)
         → (p < start) ⊎ (start + part.block.length ≤ p)

@@ -214,7 +214,9 @@ impl<S: Storage> Display for Cow<S> {
 impl<S: Storage> FormatDriverInstance for Cow<S> {
     ghost use Rattle.imago_cow.specs.CowImage.{storage_in, size_of, block_of, blocks_of};
     ghost use Rattle.imago_cow.specs.CowImage.{data_blocks_of, waiting_in};
-    ghost use Rattle.imago_cow.specs.CowCalls.{KeepsDisk, IsStorageRead, HasNoSpecial, IsClearing};
+    ghost use Rattle.imago_storage.specs.Calls.{IsRangeWrite};
+    ghost use Rattle.imago_cow.specs.CowCalls.{KeepsDisk, IsStored, IsCowFilled, IsStorageRead};
+    ghost use Rattle.imago_cow.specs.CowCalls.{HasNoSpecial, IsClearing};
     ghost use Rattle.imago_cow.specs.CowCalls.{IsCowPreparing, IsCowCommit, IsCowCancel};
     ghost use Rattle.imago_cow.specs.CowCalls.{IsCowGrowth, IsCowCut};
 
@@ -235,20 +237,24 @@ impl<S: Storage> FormatDriverInstance for Cow<S> {
       read = λ index o n d r. IsStorageRead (S.features (storage_in d)) (S.bytes (storage_in d)) o n
           r;
       read_special = λ o n d r. HasNoSpecial n r;
-      put = λ index bytes o a b r. KeepsDisk a b;
+      put = λ index bytes o a b r. IsStored (λ at source old new result. IsRangeWrite S.features
+          S.bytes S.fault_count S.work S.maintenance at source old new result) bytes o a b r;
       zeroed = λ o n a b r. IsClearing GuestBlock.Zero o n a b r;
       discarded_to_zero = λ o n a b r. IsClearing GuestBlock.Zero o n a b r;
       discarded_to_any = λ o n a b r. IsClearing GuestBlock.Zero o n a b r;
       discarded_to_backing = λ o n a b r. IsClearing GuestBlock.Absent o n a b r;
-      prepared = λ below o n overwrite a b r. IsCowPreparing a b r;
-      filled = λ m bytes at a b r. KeepsDisk a b;
+      prepared = λ below o n overwrite a b r. IsCowPreparing S.features S.bytes S.fault_count S.work
+          S.maintenance below o n overwrite a b r;
+      filled = λ m bytes at a b r. IsCowFilled (λ o source old new result. IsRangeWrite S.features
+          S.bytes S.fault_count S.work S.maintenance o source old new result) m bytes at a b r;
       committed = λ m a b r. IsCowCommit m a b;
       cancelled = λ m a b. IsCowCancel m a b;
       ensured = λ below o n overwrite a b r. IsEnsuredInParts
-          (λ l p c w x y z. IsCowPreparing x y z) (λ m x y z. IsCowCommit m x y) below o n overwrite
-          a b r;
+          (λ l p c w x y z. IsCowPreparing S.features S.bytes S.fault_count S.work S.maintenance l p
+          c w x y z) (λ m x y z. IsCowCommit m x y) below o n overwrite a b r;
       by_parts = λ below o n overwrite a b r h. h;
-      grown = λ n mode below a b r. IsCowGrowth n mode a b r;
+      grown = λ n mode below a b r. IsCowGrowth S.features S.bytes S.fault_count S.work
+          S.maintenance below n mode a b r;
       cut = λ n a b r. IsCowCut n a b r;
       flushed = λ a b r. S.maintenance.flushed (storage_in a) (storage_in b) r × KeepsDisk a b;
       synced = λ a b r. S.maintenance.synced (storage_in a) (storage_in b) r × KeepsDisk a b;
@@ -258,7 +264,7 @@ impl<S: Storage> FormatDriverInstance for Cow<S> {
 
     ghost lawful = { λ d. cow_lawful (S.features d.storage) (S.fault_count d.storage + d.faults)
         (S.bytes d.storage) d.size d.block.length (entries_of d.table) (count_of d.table) d.waiting
-        d.positive d.exact.covers (named_once d.table) };
+        d.positive d.exact.covers (named_once d.table) (S.lawful d.storage) };
 
     ghost causes_lawful = { λ d. cow_causes (S.features d.storage)
         (S.fault_count d.storage + d.faults) (S.bytes d.storage) d.size d.block.length
@@ -411,6 +417,7 @@ impl<S: Storage> FormatDriverInstance for Cow<S> {
         requires inside { offset + count ≤ (⟦<Cow<S> as FormatDriverInstance>⟧.view self.old).size }
         ensures prepared { IfOk result
             (λ m. IsPrepared offset count overwrite
+            (lent B.as_layer_below below.entry).tells_bytes
             (values (lent B.as_layer_below below.entry).at
             (⟦<Cow<S> as FormatDriverInstance>⟧.view self.old).place)
             (⟦<Cow<S> as FormatDriverInstance>⟧.view self.old)

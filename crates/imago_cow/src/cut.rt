@@ -1,5 +1,6 @@
 //! The guest block that the disk's end cuts, in a growth.
-ghost use Rattle.std.specs.Prelude.{◌≡◌, ℕ, ◌+◌, ◌-◌, ◌*◌, ◌/◌, ◌%◌, ◌^◌, ◌<◌, ◌≤◌, ◌⊎◌, max};
+ghost use Rattle.std.specs.Prelude.{◌≡◌, ◌≢◌, ℕ, ◌+◌, ◌-◌, ◌*◌, ◌/◌, ◌%◌, ◌^◌, ◌<◌, ◌≤◌, ◌⊎◌};
+ghost use Rattle.std.specs.Prelude.{max, IsOk};
 ghost use Rattle.std.specs.Prelude.{length, List, slice_index, slice_get, IsTrue, IfOk};
 ghost use Rattle.std.specs.Prelude.{IfErr, IfSome, OnOk, OnErr, Some, None, true, false};
 ghost use Rattle.imago_storage.specs.Features.{len_align};
@@ -11,7 +12,9 @@ ghost use Rattle.imago_cow.specs.Table.{named_count, without_data, is_absent};
 ghost use Rattle.imago_cow.specs.TableView.{entries_of, held_of, count_of, KeepsRoom};
 ghost use Rattle.imago_cow.specs.TableView.{IsReady, TakesOne};
 ghost use Rattle.imago_cow.specs.Guest.{entry_place, is_data};
+ghost use Rattle.imago_drivers.specs.declared.format.PreallocateMode.{PreallocateMode};
 ghost use Rattle.imago_cow.specs.Copies.{IsLendingCall, old_value};
+ghost use Rattle.imago_cow.specs.CopyCalls.{IsCutCopied, IsCutTaken, IsFilledFirst};
 ghost use Rattle.imago_cow.specs.Growth.{IsBounded, fill_reasons};
 ghost use Rattle.imago_cow.specs.Grown.{IsCutGrown};
 ghost use Rattle.imago_cow.specs.Cut.{IsCutEmpty, IsCutEntered, IsCutFilled, IsCutRead, IsTaken};
@@ -56,6 +59,7 @@ fn fill_both<S: Storage, B: LowerLayer>(
     requires in_block { AreInBlock cut.block.length cut.size cut.count }
     requires fits { start + cut.block.length < 2 ^ 64 }
     ensures before { IsTrue (S.features storage.old).keeps_data
+        → IsTrue (lent B.as_layer_below below.entry).tells_bytes
         → OnOk result
         ((k : ℕ)
         → k < cut.size % cut.block.length
@@ -63,11 +67,15 @@ fn fill_both<S: Storage, B: LowerLayer>(
         (cut.size - cut.size % cut.block.length + k)
         ≡ Byte (slice_index (S.bytes storage.new) (start + k))) }
     ensures behind { IsTrue (S.features storage.old).keeps_data
+        → IsTrue (lent B.as_layer_below below.entry).tells_bytes
         → OnOk result
         ((k : ℕ)
         → k < cut.count
         → old_value (lent B.as_layer_below below.entry).at (is_absent cut.new_kind) (cut.size + k)
         ≡ Byte (slice_index (S.bytes storage.new) (start + cut.size % cut.block.length + k))) }
+    ensures copies { IsCutCopied S.features S.bytes S.fault_count S.work S.maintenance
+        (lent B.as_layer_below below.entry) (is_absent cut.kind) (is_absent cut.new_kind)
+        cut.block.length cut.size cut.count start storage.old storage.new result }
     ensures outside { IsTrue (S.features storage.old).keeps_data
         → (p : ℕ)
         → (p < start) ⊎ (start + cut.block.length ≤ p)
@@ -120,11 +128,16 @@ fn fill_taken<S: Storage, B: LowerLayer>(
         ≡ Some (without_data cut.kind) }
     ensures entered { IsTrue (S.features storage.old).keeps_data
         → OnOk result
-        (IsTaken (lent B.as_layer_below below.entry).at cut.block.length cut.size cut.count
+        (IsTaken (lent B.as_layer_below below.entry).at
+        (lent B.as_layer_below below.entry).tells_bytes cut.block.length cut.size cut.count
         (is_absent cut.kind) (is_absent cut.new_kind) (entries_of table.old) (entries_of table.new)
         (S.bytes storage.old) (S.bytes storage.new)) }
     ensures entries { IsPutIn (cut.size / cut.block.length) (entries_of table.old)
         (entries_of table.new) result }
+    ensures copies { IsCutTaken S.features S.bytes S.fault_count S.work S.maintenance
+        (lent B.as_layer_below below.entry) (is_absent cut.kind) (is_absent cut.new_kind)
+        cut.block.length cut.size cut.count (entries_of table.old) (count_of table.old)
+        (entries_of table.new) (count_of table.new) storage.old storage.new result }
     ensures places { IsTrue (S.features storage.old).keeps_data
         → (p : ℕ)
         → entry_place (S.bytes storage.new) cut.block.length p
@@ -180,10 +193,21 @@ pub(crate) fn fill_cut<S: Storage, B: LowerLayer>(
         < length (entries_of table.old) }
     ensures filled { OnOk result
         (IsCutFilled (lent B.as_layer_below below.entry).at growth.mode
-        (S.features storage.old).keeps_data
+        (S.features storage.old).keeps_data (lent B.as_layer_below below.entry).tells_bytes
         growth.block.length growth.size growth.new_size (entries_of table.old)
         (entries_of table.new) (S.bytes storage.old) (S.bytes storage.new)) }
     ensures entries { OnErr result (entries_of table.new ≡ entries_of table.old) }
+    ensures idle { growth.size % growth.block.length ≡ 0
+        → IsOk result × (storage.new ≡ storage.old)
+        × (entries_of table.new ≡ entries_of table.old)
+        × (count_of table.new ≡ count_of table.old) }
+    ensures copies { 0 < growth.size % growth.block.length
+        → growth.mode ≢ PreallocateMode.None
+        → IsFilledFirst S.features S.bytes S.fault_count S.work S.maintenance
+        (lent B.as_layer_below below.entry) (shows_below growth.mode) growth.block.length
+        growth.size growth.new_size (entries_of table.old) (count_of table.old)
+        (slice_get (entries_of table.old) (growth.size / growth.block.length))
+        (entries_of table.new) (count_of table.new) storage.old storage.new result }
     ensures entry { OnOk result (IsCutEntered growth.block.length growth.size (entries_of table.old)
         (entries_of table.new)) }
     ensures grown { OnOk result

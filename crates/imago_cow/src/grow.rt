@@ -1,5 +1,6 @@
 //! The growth of a copy-on-write disk.
-ghost use Rattle.std.specs.Prelude.{◌≡◌, ◌≢◌, ◌+◌, ◌*◌, ◌<◌, ◌≤◌, ◌⊎◌, IfErr, OnOk, OnErr};
+ghost use Rattle.std.specs.Prelude.{◌≡◌, ◌≢◌, ℕ, ◌+◌, ◌*◌, ◌/◌, ◌%◌, ◌<◌, ◌≤◌, ◌⊎◌, IfErr, OnOk};
+ghost use Rattle.std.specs.Prelude.{OnErr, slice_get};
 ghost use Rattle.std.specs.Prelude.{None, Ok, Err};
 ghost use Rattle.imago_storage.specs.Error.{IsExtRefusal};
 ghost use Rattle.imago_cow.specs.Copies.{IsRefusedBelow};
@@ -9,6 +10,8 @@ ghost use Rattle.imago_drivers.specs.declared.format.PreallocateMode.{Preallocat
 ghost use Rattle.imago_cow.specs.TableView.{entries_of, held_of, count_of, room_of, KeepsRoom};
 ghost use Rattle.imago_cow.specs.TableView.{IsReady, IsIdle};
 ghost use Rattle.imago_cow.specs.Guest.{IsExact};
+ghost use Rattle.imago_cow.specs.Cut.{shows_below};
+ghost use Rattle.imago_cow.specs.CopyCalls.{AreAddedInTurn, IsFilledAndAdded, IsCopiedInGrowth};
 ghost use Rattle.imago_cow.specs.Grown.{AreGrown, size_after};
 ghost use Rattle.imago_cow.specs.Cow.{table_view};
 
@@ -63,6 +66,23 @@ fn grow_with<S: Storage, B: LowerLayer>(
     ensures exact_now { OnOk result
         (IsExact growth.new_size growth.block.length (entries_of table.new)) }
     ensures entries { OnErr result (entries_of table.new ≡ entries_of table.old) }
+    ensures added { (wanted : ℕ)
+        → growth.new_size ≤ wanted * growth.block.length
+        → wanted * growth.block.length < growth.new_size + growth.block.length
+        → growth.size % growth.block.length ≡ 0
+        → AreAddedInTurn S.features S.bytes S.fault_count S.work S.maintenance
+        (lent B.as_layer_below below.entry) (shows_below growth.mode) growth.block.length
+        growth.new_size wanted (entries_of table.old) (count_of table.old) storage.old storage.new
+        result }
+    ensures filled { (wanted : ℕ)
+        → growth.new_size ≤ wanted * growth.block.length
+        → wanted * growth.block.length < growth.new_size + growth.block.length
+        → 0 < growth.size % growth.block.length
+        → IsFilledAndAdded S.features S.bytes S.fault_count S.work S.maintenance
+        (lent B.as_layer_below below.entry) (shows_below growth.mode) growth.block.length
+        growth.size growth.new_size wanted (entries_of table.old) (count_of table.old)
+        (slice_get (entries_of table.old) (growth.size / growth.block.length)) storage.old
+        storage.new result }
     ensures ready { IsReady growth.block.length table.new }
     ensures by_name { IfErr result (λ e. IsExtRefusal e ⊎ IsRefusedBelow B.reads below.entry e) }
     ensures features { S.features storage.new ≡ S.features storage.old }
@@ -105,6 +125,10 @@ pub(crate) fn grow<S: Storage, B: LowerLayer>(
     ensures ready { IsReady growth.block.length table.new }
     ensures by_name { IfErr result (λ e. IsExtRefusal e ⊎ IsRefusedBelow B.reads below.entry e) }
     ensures features { S.features storage.new ≡ S.features storage.old }
+    ensures copies { IsCopiedInGrowth S.features S.bytes S.fault_count S.work S.maintenance
+        (lent B.as_layer_below below.entry) growth.mode (entries_of table.old)
+        (count_of table.old) growth.block.length growth.size growth.new_size storage.old storage.new
+        result }
     ensures room_first { OnErr result
         ((storage.new ≡ storage.old)
         ⊎ (growth.new_size ≤ room_of table.new * growth.block.length)) }

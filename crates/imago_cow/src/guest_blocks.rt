@@ -7,11 +7,12 @@ ghost use Rattle.imago_drivers.specs.declared.format.PreallocateMode.{Preallocat
 ghost use Rattle.imago_drivers.specs.LayerBelow.{lent};
 ghost use Rattle.imago_cow.specs.Guest.{IsExact, AreAdded};
 ghost use Rattle.imago_cow.specs.Copies.{IsLendingCall};
+ghost use Rattle.imago_cow.specs.CopyCalls.{IsPushedCopy, ArePushedInTurn, AreAddedInTurn};
 ghost use Rattle.imago_cow.specs.Growth.{IsPushed, IsBounded, KeepsBytes};
 ghost use Rattle.imago_cow.specs.Cut.{shows_below};
 ghost use Rattle.imago_cow.specs.Grown.{ArePushed, HasNew};
 ghost use Rattle.imago_cow.specs.Cow.{table_view};
-ghost use Rattle.imago_cow.specs.Table.{without_data, named_count, is_absent};
+ghost use Rattle.imago_cow.specs.Table.{without_data, named_count, is_absent, IsLowestUnused};
 ghost use Rattle.imago_cow.specs.TableView.{entries_of, held_of, count_of, room_of, KeepsRoom};
 ghost use Rattle.imago_cow.specs.TableView.{IsReady, IsIdle, TakesOne};
 
@@ -124,6 +125,9 @@ pub(crate) fn take_block(table: &mut Table, block: u64) -> Result<u64, Error>
     requires spent { held_of table.old ≡ None }
     requires addressed { count_of table.old * block < 2 ^ 64 }
     ensures entries { entries_of table.new ≡ entries_of table.old }
+    ensures lowest { IfOk result
+        (λ j. IsLowestUnused (entries_of table.old) None (count_of table.old) j) }
+    ensures counted { IfOk result (λ j. count_of table.new ≡ max (count_of table.old) (j + 1)) }
     ensures held { IfOk result (λ j. held_of table.new ≡ Some j) }
     ensures fits { IfOk result (λ j. j * block + block < 2 ^ 64) }
     ensures addressed { count_of table.new * block < 2 ^ 64 }
@@ -159,9 +163,13 @@ fn push_filled<S: Storage, B: LowerLayer>(
     requires reserved { length (entries_of table.old) < room_of table.old }
     ensures pushed { OnOk result
         (IsPushed (lent B.as_layer_below below.entry).at (S.features storage.old).keeps_data
-        missing.block.length missing.new_size
+        (lent B.as_layer_below below.entry).tells_bytes missing.block.length missing.new_size
         (entries_of table.old) (entries_of table.new) (S.bytes storage.old) (S.bytes storage.new)) }
     ensures refused { OnErr result (entries_of table.new ≡ entries_of table.old) }
+    ensures copies { IsPushedCopy S.features S.bytes S.fault_count S.work S.maintenance
+        (lent B.as_layer_below below.entry) missing.block.length missing.new_size
+        (entries_of table.old) (count_of table.old) (entries_of table.new) (count_of table.new)
+        storage.old storage.new result }
     ensures bytes { OnErr result
         (KeepsBytes (S.features storage.old).keeps_data missing.block.length
         (length (entries_of table.old) * missing.block.length)
@@ -215,11 +223,15 @@ pub(crate) fn push_blocks<S: Storage, B: LowerLayer>(
     requires reserved { length (entries_of table.old) + missing.count ≤ room_of table.old }
     ensures pushed { OnOk result
         (ArePushed (lent B.as_layer_below below.entry).at (S.features storage.old).keeps_data
-        missing.block.length missing.new_size (entries_of table.old) (entries_of table.new)
+        (lent B.as_layer_below below.entry).tells_bytes missing.block.length missing.new_size
+        (entries_of table.old) (entries_of table.new)
         (S.bytes storage.old) (S.bytes storage.new) (count_of table.old) (count_of table.new)
         missing.count) }
     ensures prefix { take (length (entries_of table.old)) (entries_of table.new)
         ≡ entries_of table.old }
+    ensures copies { ArePushedInTurn S.features S.bytes S.fault_count S.work S.maintenance
+        (lent B.as_layer_below below.entry) missing.block.length missing.new_size missing.count
+        (entries_of table.old) (count_of table.old) storage.old storage.new result }
     ensures bytes { KeepsBytes (S.features storage.old).keeps_data missing.block.length
         (length (entries_of table.old) * missing.block.length)
         (entries_of table.old) (S.bytes storage.old) (S.bytes storage.new) }
@@ -257,11 +269,19 @@ pub(crate) fn add_new<S: Storage, B: LowerLayer>(
     requires grows { growth.size ≤ growth.new_size }
     ensures added { OnOk result
         (HasNew (lent B.as_layer_below below.entry).at growth.mode
-        (S.features storage.old).keeps_data growth.block.length growth.new_size
+        (S.features storage.old).keeps_data (lent B.as_layer_below below.entry).tells_bytes
+        growth.block.length growth.new_size
         (entries_of table.old) (entries_of table.new) (S.bytes storage.old) (S.bytes storage.new)) }
     ensures prefix { take (length (entries_of table.old)) (entries_of table.new)
         ≡ entries_of table.old }
     ensures refused { OnErr result (entries_of table.new ≡ entries_of table.old) }
+    ensures copies { (wanted : ℕ)
+        → growth.new_size ≤ wanted * growth.block.length
+        → wanted * growth.block.length < growth.new_size + growth.block.length
+        → AreAddedInTurn S.features S.bytes S.fault_count S.work S.maintenance
+        (lent B.as_layer_below below.entry) (shows_below growth.mode) growth.block.length
+        growth.new_size wanted (entries_of table.old) (count_of table.old) storage.old storage.new
+        result }
     ensures bytes { KeepsBytes (S.features storage.old).keeps_data growth.block.length
         (length (entries_of table.old) * growth.block.length)
         (entries_of table.old) (S.bytes storage.old) (S.bytes storage.new) }

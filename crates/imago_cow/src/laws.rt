@@ -49,10 +49,13 @@ pub fn data_blocks_of_a_disk_are_counted<S: Storage>(disk: &Cow<S>)
     ensures { free_count (free_in disk.now) + used_in disk.now ≡ data_blocks_of disk.now }
 {}
 
-/// A disk keeps what is written to it exactly where its storage does.
+/// A disk keeps what is written to it exactly where its storage does, and tells its bytes where the
+/// storage tells them.
 pub fn a_disk_keeps_what_its_storage_keeps<S: Storage>(disk: &Cow<S>)
-    ensures { (⟦<Cow<S> as FormatDriverInstance>⟧.view disk.now).abilities.keeps_data
+    ensures keeps { (⟦<Cow<S> as FormatDriverInstance>⟧.view disk.now).abilities.keeps_data
         ≡ (S.features (storage_in disk.now)).keeps_data }
+    ensures tells { (⟦<Cow<S> as FormatDriverInstance>⟧.view disk.now).abilities.tells_bytes
+        ≡ (S.features (storage_in disk.now)).tells_bytes }
 {}
 
 /// The free ones, the named ones and the held one are all.

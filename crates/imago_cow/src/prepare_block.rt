@@ -11,7 +11,8 @@ ghost use Rattle.imago_drivers.specs.LayerBelow.{lent};
 ghost use Rattle.imago_drivers.specs.Prepared.{IsPrepared};
 ghost use Rattle.imago_drivers.specs.Frame.{IsUnchanged};
 ghost use Rattle.imago_drivers.specs.Causes.{IsSettled, IsOnRange};
-ghost use Rattle.imago_cow.specs.Table.{named_count, without_data};
+ghost use Rattle.imago_cow.specs.Table.{named_count, without_data, is_absent};
+ghost use Rattle.imago_cow.specs.CopyCalls.{outcome, IsRoundTaken};
 ghost use Rattle.imago_cow.specs.TableView.{entries_of, held_of, count_of, HasTaken, IsIdle};
 ghost use Rattle.imago_cow.specs.Guest.{IsEmptyPart, cow_place};
 ghost use Rattle.imago_cow.specs.Copies.{IsLendingCall, over_reasons};
@@ -50,12 +51,17 @@ pub(crate) fn prepare_part<S: Storage, B: LowerLayer>(
         → part.run ≡ in_block part.block.length part.offset most
         → IsMappingOf w m
         → IsPrepared part.offset most part.overwrite
+        (lent B.as_layer_below below.entry).tells_bytes
         (values (lent B.as_layer_below below.entry).at
         (cow_place (S.bytes storage.old) part.size part.block.length (entries_of table.old)))
         (table_view (S.features storage.old) old_faults (S.bytes storage.old) part.size
         part.block.length table.old None)
         (table_view (S.features storage.old) now_faults (S.bytes storage.new) part.size
         part.block.length table.new (Some w)) m) }
+    ensures copies { IsRoundTaken S.features S.bytes S.fault_count S.work S.maintenance
+        (lent B.as_layer_below below.entry) (is_absent part.kind) part.overwrite
+        (entries_of table.old) (count_of table.old) part.block.length part.size part.offset part.run
+        storage.old storage.new (outcome result) }
     ensures unchanged { (now_faults old_faults : ℕ) (waiting : _)
         → IsUnchanged
         (table_view (S.features storage.old) old_faults (S.bytes storage.old) part.size

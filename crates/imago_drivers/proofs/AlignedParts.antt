@@ -83,21 +83,21 @@ part_discarded calls align mine at n start end old new answer result e part l ma
     }
 
 -- a zero write of the aligned part of a range is that of the range
-pub part_zeroed : {S : Type 0} (calls : Maintenance S) (work_of : S → IoCount) (f : Features) (mine at n start end : ℕ) (old new : S) (answer : Result Unit Error) (result : Result (ℕ × ℕ) Error) → mine ≡ f.zero_align → IsAlignedPart mine at n start end → start < end
-    → (0 < end - start → (RangeWraps f.zero_align start (end - start) → ⊥) → IsZeroedInParts calls work_of f Any start (end - start) old new answer)
-    → result ≡ told_part start (end - start) answer → IsPartZeroed calls work_of f at n old new result
+pub part_zeroed : {S : Type 0} (features_of : S → Features) (bytes_of : S → List ℕ) (calls : Maintenance S) (work_of : S → IoCount) (f : Features) (mine at n start end : ℕ) (old new : S) (answer : Result Unit Error) (result : Result (ℕ × ℕ) Error) → mine ≡ f.zero_align → IsAlignedPart mine at n start end → start < end
+    → (0 < end - start → (RangeWraps f.zero_align start (end - start) → ⊥) → IsZeroedInParts features_of bytes_of calls work_of f Any start (end - start) old new answer)
+    → result ≡ told_part start (end - start) answer → IsPartZeroed features_of bytes_of calls work_of f at n old new result
 unfolding IsPartZeroed
-part_zeroed calls work_of f mine at n start end old new answer result e part l made told =
+part_zeroed features_of bytes_of calls work_of f mine at n start end old new answer result e part l made told =
     let p : IsAlignedPart f.zero_align at n start end = rw e at part in
-    let whole : HasPartZeroed calls work_of f start (end - start) old new result = record { answer = answer; made = made (omega (arith, l)) (part_fits f.zero_align at n start end p l); passed_on = told } in (
-      λ h. subst (λ (q : ℕ). HasPartZeroed calls work_of f q (aligned_end f.zero_align at n - q) old new result) p.is_start (subst (λ (q : ℕ). HasPartZeroed calls work_of f start (q - start) old new result) p.is_end whole),
+    let whole : HasPartZeroed features_of bytes_of calls work_of f start (end - start) old new result = record { answer = answer; made = made (omega (arith, l)) (part_fits f.zero_align at n start end p l); passed_on = told } in (
+      λ h. subst (λ (q : ℕ). HasPartZeroed features_of bytes_of calls work_of f q (aligned_end f.zero_align at n - q) old new result) p.is_start (subst (λ (q : ℕ). HasPartZeroed features_of bytes_of calls work_of f start (q - start) old new result) p.is_end whole),
       λ h. absurd (omega (arith, h, l, p.is_start, p.is_end)),
     )
 
 -- a range without an aligned part needs none
-pub nothing_zeroed : {S : Type 0} (calls : Maintenance S) (work_of : S → IoCount) (f : Features) (at n : ℕ) (s : S) → aligned_end f.zero_align at n ≤ aligned_start f.zero_align at → IsPartZeroed calls work_of f at n s s (Ok (at, 0))
+pub nothing_zeroed : {S : Type 0} (features_of : S → Features) (bytes_of : S → List ℕ) (calls : Maintenance S) (work_of : S → IoCount) (f : Features) (at n : ℕ) (s : S) → aligned_end f.zero_align at n ≤ aligned_start f.zero_align at → IsPartZeroed features_of bytes_of calls work_of f at n s s (Ok (at, 0))
 unfolding IsPartZeroed
-nothing_zeroed calls work_of f at n s h = (λ l. absurd (omega (arith, l, h)), λ g. (refl, refl))
+nothing_zeroed features_of bytes_of calls work_of f at n s h = (λ l. absurd (omega (arith, l, h)), λ g. (refl, refl))
 
 pub wraps_without_part : (align at n : ℕ) → at + n < 2 ^ 64 → RangeWraps align at n → aligned_end align at n ≤ aligned_start align at
 wraps_without_part align at n h w = ⊎_elim (λ a. absurd (omega arith)) (λ b. omega arith) w

@@ -37,8 +37,8 @@ zero_more : (a : ℕ) → a + 0 ≡ a
 zero_more a = omega arith
 
 -- a mapping that is prepared and then committed
-module _ {St : Type 0} (old mid new : View St) (below : ℕ → Value) (o n : ℕ) (w : Bool) (m : PreparedDataMapping St)
-    (P : IsPrepared o n w (values below old.place) old mid m) (U : IsUnchanged old mid) where
+module _ {St : Type 0} (old mid new : View St) (below : ℕ → Value) (o n : ℕ) (w t : Bool) (m : PreparedDataMapping St)
+    (P : IsPrepared o n w t (values below old.place) old mid m) (U : IsUnchanged old mid) where
   origins : (st : Option St) → m.state ≡ st → is_committed mid.pending st false mid new → PlacesAreWritableAt new.place m.storage m.offset m.length o
   origins None e C i h = let x = (P.direct e).1 i h in C.stored (o + i) (x.0) m.storage (m.offset + i) true (x.1)
   origins (Some s) e C i h =
@@ -80,7 +80,7 @@ module _ {St : Type 0} (old mid new : View St) (below : ℕ → Value) (o n : �
       (stays_same keeps (SharesBlock block o n) old.place mid.place U.places)
       (stays_weaker keeps moves (SharesBlock block o n) mid.place new.place shares moved)
 
-  module _ (keeps : IsTrue old.abilities.keeps_data) where
+  module _ (keeps : IsTrue old.abilities.keeps_data) (tells : IsTrue t) where
     mid_keeps : IsTrue mid.abilities.keeps_data
     mid_keeps = rw U.framed.kind.abilities keeps
 
@@ -103,12 +103,12 @@ module _ {St : Type 0} (old mid new : View St) (below : ℕ → Value) (o n : �
         let D = rw (a.1) at C in
         let own = a.2 in
         let start : q.start ≡ o = a.3 in
-        let round : ShowsRound (values below old.place) (Some q) = rw (a.1) at (P.round keeps) in
+        let round : ShowsRound (values below old.place) (Some q) = rw (a.1) at (P.round keeps tells) in
         let changed = D.1 mid_keeps below (λ p h i j. same_value p ∙ round p h i j) in
         let changed_here : (k : ℕ) → k < m.length → (values below new.place (o + k) ≡ Byte (q.bytes (o + k))) ⊎ ((torn ≡ true) × (values below new.place (o + k) ≡ values below mid.place (o + k)))
         = λ k h. let l : k < q.length = omega (arith, own.2) in rw start at (changed.inside k l) in
         record {
-          inside = λ k h. part torn w q k (λ f. a.4 keeps f (o + k) (omega arith, omega arith)) (changed_here k h);
+          inside = λ k h. part torn w q k (λ f. a.4 keeps tells f (o + k) (omega arith, omega arith)) (changed_here k h);
           before = λ p h. changed.before p (rw start h) ∙ same_value p;
           behind = λ p h. let l : q.start + q.length ≤ p = omega (arith, own.2, start) in changed.behind p l ∙ same_value p;
         }

@@ -1,7 +1,7 @@
 use Rattle.std.proofs.Common.{◌≡◌, ℕ, ◌+◌, ◌%◌, ◌<◌, ◌≤◌, arith, inl, inr, false, refl}
 use Rattle.std.specs.Int.{next_multiple_of}
 use Rattle.imago_storage.specs.declared.error.Error.{Error}
-use Rattle.imago_storage.specs.Features.{Features, AreAlignments, len_align}
+use Rattle.imago_storage.specs.Features.{Features, AreLawful, len_align}
 use Rattle.imago_storage.specs.Padding.{Wraps}
 use Rattle.imago_storage.specs.Zeroes.{MayWrap}
 use Rattle.imago_storage.proofs.Alignment.{power_positive}
@@ -12,7 +12,7 @@ use Rattle.imago_drivers.specs.Raw.{RequestWraps, raw_cause, raw_offers}
 use Rattle.imago_drivers.specs.RawLaws.{raw_only}
 use Rattle.imago_drivers.specs.Room.{HasRoom, IsPadded}
 
-module _ (f : Features) (a : AreAlignments f) where
+module _ (f : Features) (a : AreLawful f) where
   -- a part of a range with room doesn't wrap around
   part_fits : (o n q m : ℕ) → HasRoom f o n → q + m ≤ o + n → Wraps f q m → ⊥
   part_fits o n q m room within w =

@@ -1,10 +1,11 @@
-use Rattle.std.specs.Prelude.{◌≡◌, ℕ, ◌+◌, ◌≤◌, ◌⊎◌, max, Bool, false, IsTrue, Result, IfOk, OnErr}
+use Rattle.std.specs.Prelude.{◌≡◌, ℕ, ◌+◌, ◌≤◌, ◌⊎◌, ◌&&◌, max, Bool, false, IsTrue}
+use Rattle.std.specs.Prelude.{Result, IfOk, OnErr}
 use Rattle.imago_storage.specs.declared.error.Error.{Error}
 use Rattle.imago_storage.specs.Padding.{Wraps}
 use Rattle.imago_drivers.specs.Operation.{Operation, Map, Read, Write}
 use Rattle.imago_drivers.specs.Place.{Value, values, PlacesStandAt, PlacesAreSpecialAt}
 use Rattle.imago_drivers.specs.Reasons.{Reasons, none}
-use Rattle.imago_drivers.specs.LayerBelow.{LayerBelow}
+use Rattle.imago_drivers.specs.LayerBelow.{LayerBelow, IsUnreadableIn}
 use Rattle.imago_drivers.specs.Causes.{CauseOver}
 use Rattle.imago_drivers.specs.View.{View, EndsIn}
 use Rattle.imago_drivers.specs.Prepared.{IsFor}
@@ -69,10 +70,11 @@ stored_read_reasons v storage offset n = record none {
   memory = (o : ℕ) → PlacesStandAt v.place storage offset n o → v.limits.no_memory Read o n → ⊥;
 }
 
--- the same for special bytes, which the driver may not offer
+-- the same for special bytes, which the driver may not offer, and one of which may be faulty
 abbrev pub special_read_reasons : {St : Type 0} → View St → ℕ → ℕ → Reasons
 special_read_reasons v offset n = record none {
-  cause = λ e. ((e ≡ Error.WrapAround) ⊎ (e ≡ Error.Unsupported))
+  cause = λ e. ((e ≡ Error.WrapAround) ⊎ (e ≡ Error.Unsupported)
+      ⊎ ((e ≡ Error.InvalidData) × IsUnreadableIn v.special offset n Error.InvalidData))
       × ((o : ℕ) → PlacesAreSpecialAt v.place offset n o → v.limits.cause Read o n e);
   device = v.abilities.is_reliable ≡ false;
   memory = (o : ℕ) → PlacesAreSpecialAt v.place offset n o → v.limits.no_memory Read o n → ⊥;
@@ -99,3 +101,7 @@ mapping_write_reasons v m at n = record none {
   memory = (o : ℕ) → IsFor v m at n o → v.limits.no_memory Write o n → ⊥;
   foreign_mapping = Unit {0};
 }
+
+-- a driver over that layer keeps what is written, and what it copies from there is told
+abbrev pub keeps_over : {St : Type 0} → View St → LayerBelow → Bool
+keeps_over v l = v.abilities.keeps_data && l.tells_bytes

@@ -12,6 +12,8 @@ pub record LayerBelow : Type 1 where
   pub at : ℕ → Value
   -- no device below fails
   pub is_reliable : Bool
+  -- reads give these values; where it doesn't tell, any bytes
+  pub tells_bytes : Bool
   -- a read of that range may be refused so, beside a failed device and want of memory
   pub cause : ℕ → ℕ → Error → Type 0
   -- a read of that range takes no memory
@@ -23,6 +25,7 @@ no_layer = record {
   size = 0;
   at = λ _. Byte 0;
   is_reliable = true;
+  tells_bytes = true;
   cause = λ _ _ _. ⊥;
   no_memory = λ _ _. Unit {0};
 }

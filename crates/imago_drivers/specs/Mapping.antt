@@ -1,6 +1,6 @@
 use Rattle.std.specs.Prelude.{◌≡◌, ℕ, ◌+◌, ◌<◌, ◌⊎◌, ◌↔◌}
 use Rattle.imago_storage.specs.declared.error.Error.{Error}
-use Rattle.imago_drivers.specs.Place.{Place, Stored, Zeroed, Special, Lower, Refused, End}
+use Rattle.imago_drivers.specs.Place.{Value, Place, Stored, Zeroed, Special, Lower, Refused, End}
 use Rattle.imago_drivers.specs.declared.mapping.ShallowMapping.{ShallowMapping}
 use Rattle.imago_drivers.specs.declared.mapping.ShallowMapping.TheVariants as M
 
@@ -11,7 +11,7 @@ Names (M.Raw storage offset writable) i place = (b : ℕ)
 Names (M.Indirect offset writable) i place = place ≡ Lower (offset + i) writable
 Names (M.Zero explicit) i place = place ≡ Zeroed explicit
 Names M.Eof i place = ⊥
-Names (M.Special offset) i place = (b : ℕ) × (place ≡ Special b (offset + i))
+Names (M.Special offset) i place = (v : Value) × (place ≡ Special v (offset + i))
 
 abbrev pub IsEof : ShallowMapping → Type 0
 IsEof M.Eof = Unit {0}

@@ -13,8 +13,9 @@ pub data Place : Type 0 where
   Stored : ℕ → ℕ → ℕ → Bool → Place
   -- a zero that stands in no storage, explicit or not
   Zeroed : Bool → Place
-  -- a byte that the driver makes up by itself, and the offset that it gives it at
-  Special : ℕ → ℕ → Place
+  -- what the driver makes up by itself, and the offset that it gives it at: a byte, or a refusal
+  -- where what it would be made of is faulty
+  Special : Value → ℕ → Place
   -- what the layer below has at that offset, and the mark of it
   Lower : ℕ → Bool → Place
   -- a place whose read is refused
@@ -26,7 +27,7 @@ pub data Place : Type 0 where
 abbrev pub shown : (ℕ → Value) → Place → Value
 shown below (Stored byte storage offset writable) = Byte byte
 shown below (Zeroed explicit) = Byte 0
-shown below (Special byte offset) = Byte byte
+shown below (Special value offset) = value
 shown below (Lower offset writable) = below offset
 shown below (Refused e) = Unreadable e
 shown below End = Byte 0
@@ -34,6 +35,10 @@ shown below End = Byte 0
 -- what each offset shows over a layer below with these values
 abbrev pub values : (ℕ → Value) → (ℕ → Place) → ℕ → Value
 values below place p = shown below (place p)
+
+-- what each offset shows with nothing below
+abbrev pub own_values : (ℕ → Place) → ℕ → Value
+own_values place = values (λ _. Byte 0) place
 
 -- p is one of the n offsets from o on
 abbrev pub IsIn : ℕ → ℕ → ℕ → Type 0
@@ -50,8 +55,8 @@ PlacesStandAt place storage offset n o = (i : ℕ) → i < n → (b : ℕ) × (w
 
 -- the n special bytes from the offset on are what stands at the places from o on
 abbrev pub PlacesAreSpecialAt : (ℕ → Place) → ℕ → ℕ → ℕ → Type 0
-PlacesAreSpecialAt place offset n o = (i : ℕ) → i < n → (b : ℕ)
-    × (place (o + i) ≡ Special b (offset + i))
+PlacesAreSpecialAt place offset n o = (i : ℕ) → i < n → (v : Value)
+    × (place (o + i) ≡ Special v (offset + i))
 
 -- each of the n bytes of that storage from the offset on is a writable place's
 abbrev pub BytesAreWritable : (ℕ → Place) → ℕ → ℕ → ℕ → Type 0

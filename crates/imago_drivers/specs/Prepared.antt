@@ -14,8 +14,8 @@ abbrev pub CommitTakesMemory : {St : Type 0} → View St → PreparedDataMapping
 CommitTakesMemory v m = (is_some m.state ≡ true) × v.limits.commit_memory
 
 -- A prepared mapping of places from o on, at most so many bytes: it stands for writable places, or
--- has a list apart that waits.
-pub record IsPrepared {St : Type 0} (o most : ℕ) (overwrite : Bool) (disk : ℕ → Value)
+-- has a list apart that waits. The disk's bytes are told only where those of the layer below are.
+pub record IsPrepared {St : Type 0} (o most : ℕ) (overwrite told : Bool) (disk : ℕ → Value)
     (old new : View St) (m : PreparedDataMapping St) : Type 0 where
   pub within : m.length ≤ most
   pub some : 0 < most → 0 < m.length
@@ -35,12 +35,12 @@ pub record IsPrepared {St : Type 0} (o most : ℕ) (overwrite : Bool) (disk : �
   -- overwriting
   pub apart : (s : St) → m.state ≡ Some s → (q : Pending St) × (new.pending ≡ Some q)
       × IsOwn (Some q) m × (q.start ≡ o)
-      × (IsTrue old.abilities.keeps_data → overwrite ≡ false → (p : ℕ) → IsIn o m.length p
-      → disk p ≡ Byte (q.bytes p))
+      × (IsTrue old.abilities.keeps_data → IsTrue told → overwrite ≡ false → (p : ℕ)
+      → IsIn o m.length p → disk p ≡ Byte (q.bytes p))
   -- what is pending is round its places
   pub around : (q : Pending St) → new.pending ≡ Some q → (q.from ≤ q.start)
       × (q.start + q.length ≤ q.until)
-  pub round : IsTrue old.abilities.keeps_data → ShowsRound disk new.pending
+  pub round : IsTrue old.abilities.keeps_data → IsTrue told → ShowsRound disk new.pending
   -- what a commit may move shares a block with its places
   pub near : (q : Pending St) → new.pending ≡ Some q → (p : ℕ) → q.from ≤ p → p < q.until
       → SharesBlock old.abilities.block o m.length p

@@ -12,7 +12,7 @@ use Rattle.imago_drivers.specs.declared.format.PreallocateMode.TheVariants as Mo
 use Rattle.imago_drivers.specs.declared.format.Format.TheVariants as Format
 use Rattle.imago_drivers.specs.Operation.{Operation, Map, Read, Write, Zero, DiscardToZero}
 use Rattle.imago_drivers.specs.Operation.{DiscardToAny, DiscardToBacking, Grow, Shrink, Flush}
-use Rattle.imago_drivers.specs.Place.{Place, Stored, End}
+use Rattle.imago_drivers.specs.Place.{Place, Byte, Stored, End}
 use Rattle.imago_drivers.specs.Causes.{Causes}
 use Rattle.imago_drivers.specs.Ranges.{HasWrappingPart, IsPartAlignedTo}
 use Rattle.imago_drivers.specs.Lengths.{padded_to}
@@ -136,6 +136,7 @@ raw_view f fault_count bytes size writable = record {
     takes_backing = false;
     is_reliable = f.is_reliable;
     keeps_data = f.keeps_data;
+    tells_bytes = f.tells_bytes;
     zero_granularity = None;
     offers = raw_offers f;
     block = 1;
@@ -144,7 +145,7 @@ raw_view f fault_count bytes size writable = record {
   place = raw_place size bytes;
   fault_count = fault_count;
   stores = record { count = 1; bytes = λ index. bytes; features = λ index. f };
-  special = λ offset. 0;
+  special = λ offset. Byte 0;
   limits = record {
     cause = raw_cause f size;
     copies = λ op o n p. ⊥;

@@ -4,10 +4,11 @@ use Rattle.std.proofs.lemmas.Bool.{cases_lt}
 use Rattle.std.proofs.lemmas.Bool.Decides.{nat_tests}
 use Rattle.imago_storage.specs.declared.error.Error.{Error}
 use Rattle.imago_storage.specs.declared.error.Error.TheVariants as E
-use Rattle.imago_storage.specs.Features.{Features}
+use Rattle.imago_storage.specs.Features.{Features, AreLawful}
 use Rattle.imago_drivers.specs.Operation.{Operation, Map, Read, Write, Zero, DiscardToZero}
 use Rattle.imago_drivers.specs.Operation.{DiscardToAny, DiscardToBacking, Grow, Shrink, Flush}
-use Rattle.imago_drivers.specs.Place.{Place, Stored, Special, Lower, Refused, End}
+use Rattle.imago_drivers.specs.Place.{Value, Unreadable, Place, Stored, Special, Lower, Refused}
+use Rattle.imago_drivers.specs.Place.{End}
 use Rattle.imago_drivers.specs.Laws.{IsLawful, AreCauses, CauseBound}
 use Rattle.imago_drivers.specs.Raw.{raw_place, raw_view, raw_cause, raw_offers}
 
@@ -42,8 +43,8 @@ module _ (size : ℕ) (bytes : List ℕ) where
       (λ above. end (sym e ∙ raw_out size bytes p above))
       (cases_lt p size)
 
-  pub raw_special : (p b o : ℕ) → raw_place size bytes p ≡ Special b o → ⊥
-  raw_special p b o e = raw_other p (Special b o) e (λ c x. let z : ⊥ = cc in z)
+  pub raw_special : (p : ℕ) (v : Value) (o : ℕ) → raw_place size bytes p ≡ Special v o → ⊥
+  raw_special p v o e = raw_other p (Special v o) e (λ c x. let z : ⊥ = cc in z)
       (λ x. let z : ⊥ = cc in z)
 
   pub raw_lower : (p q : ℕ) (w : Bool) → raw_place size bytes p ≡ Lower q w → ⊥
@@ -55,18 +56,20 @@ module _ (size : ℕ) (bytes : List ℕ) where
       z)
 
 pub raw_lawful : (f : Features) (count : ℕ) (bytes : List ℕ) (size : ℕ) (w : Bool)
-    → IsLawful (raw_view f count bytes size w)
-raw_lawful f count bytes size w = record {
+    → AreLawful f → IsLawful (raw_view f count bytes size w)
+raw_lawful f count bytes size w lawful = record {
   ends = raw_ends size bytes;
   bounded = raw_out size bytes;
   stored = λ p b s o v e. let x = raw_stored size bytes p b s o v e in
       let y : s < 1 = omega (arith, x.1) in let z : slice_index bytes o ≡ b = rw (x.2) at (x.3) in
       (y, z);
-  special = λ p b o e. absurd (raw_special size bytes p b o e);
+  special = λ p v o e. absurd (raw_special size bytes p v o e);
+  faulty = λ p o e h. absurd (raw_special size bytes p (Unreadable e) o h);
   lower = λ p q v e. absurd (raw_lower size bytes p q v e);
   own = λ p q b c s o v e g. let x = raw_stored size bytes p b s o true e in
       let y = raw_stored size bytes q c s o v g in (x.2) ∙ sym (y.2);
   refused = λ p r e. absurd (raw_refused size bytes p r e);
+  told = lawful.told;
   granularity = λ e. let z : ⊥ = cc in z;
   blocks = λ e. let z : ⊥ = cc in z;
 }

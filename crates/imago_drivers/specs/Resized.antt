@@ -21,12 +21,12 @@ IsListed v = (p : ℕ) → p < v.size → v.place p ≡ End → ⊥
 
 -- A growth: the size is the larger one, old places show what they showed, and new ones what the
 -- mode says.
-pub record IsGrown {St : Type 0} (mode : PreallocateMode) (below : ℕ → Value) (new_size : ℕ)
-    (old new : View St) : Type 0 where
+pub record IsGrown {St : Type 0} (mode : PreallocateMode) (told : Bool) (below : ℕ → Value)
+    (new_size : ℕ) (old new : View St) : Type 0 where
   pub size : new.size ≡ max old.size new_size
-  pub kept : IsTrue old.abilities.keeps_data → (p : ℕ) → p < old.size → values below new.place p
-      ≡ values below old.place p
-  pub added : IsTrue old.abilities.keeps_data → (p : ℕ) → old.size ≤ p → p < new_size
+  pub kept : IsTrue old.abilities.keeps_data → IsTrue told → (p : ℕ) → p < old.size
+      → values below new.place p ≡ values below old.place p
+  pub added : IsTrue old.abilities.keeps_data → IsTrue told → (p : ℕ) → old.size ≤ p → p < new_size
       → grown_into mode old.abilities.takes_backing below p (values below new.place p)
   -- no place becomes an end, and a list as long as the disk stays so
   pub ends : (p : ℕ) → p < old.size → new.place p ≡ End → old.place p ≡ End

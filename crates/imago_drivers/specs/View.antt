@@ -2,7 +2,7 @@ use Rattle.std.specs.Prelude.{◌≡◌, ℕ, Bool, List, Option}
 use Rattle.imago_storage.specs.Features.{Features}
 use Rattle.imago_drivers.specs.declared.format.Format.{Format}
 use Rattle.imago_drivers.specs.Operation.{Operation}
-use Rattle.imago_drivers.specs.Place.{Place, IsIn, End}
+use Rattle.imago_drivers.specs.Place.{Value, Place, IsIn, End}
 use Rattle.imago_drivers.specs.Causes.{Causes, Copies}
 use Rattle.imago_drivers.specs.Pending.{Pending}
 
@@ -16,6 +16,8 @@ pub record Abilities : Type 0 where
   pub is_reliable : Bool
   -- its storages keep what is written
   pub keeps_data : Bool
+  -- its storages tell their bytes
+  pub tells_bytes : Bool
   pub zero_granularity : Option ℕ
   pub offers : Operation → Bool
   -- in blocks of so many bytes, from offset 0 on, a change may move where bytes stand; with 1 it
@@ -57,8 +59,8 @@ pub record View (St : Type 0) : Type 1 where
   -- how often the device failed in exclusive calls: a count that saturates
   pub fault_count : ℕ
   pub stores : Stores
-  -- the special byte at an offset
-  pub special : ℕ → ℕ
+  -- what it makes up at an offset: a byte, or the refusal of it
+  pub special : ℕ → Value
   pub limits : Limits
   -- the prepared mapping with state that isn't spent
   pub pending : Option (Pending St)

@@ -1,34 +1,28 @@
 //! The interface of a format driver.
 ghost use Rattle.std.specs.Prelude.{◌≡◌, ℕ, ◌+◌, ◌<◌, ◌≤◌, ◌⊎◌, ◌↔◌, ◌&&◌, Option, None, Bool};
-ghost use Rattle.std.specs.Prelude.{true, false, List, length, slice_index, slice_get, EachIndex};
-ghost use Rattle.std.specs.Prelude.{OnOk, OnErr, IfOk, IfErr, IfSome, IsTrue, IsErrOf};
+ghost use Rattle.std.specs.Prelude.{true, false, List, length, slice_get};
+ghost use Rattle.std.specs.Prelude.{OnOk, IfOk, IfErr, IfSome, IsTrue, IsErrOf};
 ghost use Rattle.std.specs.Prelude.{MatchOption, is_some};
 ghost use Rattle.imago_storage.specs.Error.{IsExtRefusal};
 ghost use Rattle.imago_storage.specs.Bytes.{IsReadAt};
-ghost use Rattle.imago_drivers.specs.Parts.{storage_of, offset_of, length_of};
-ghost use Rattle.imago_drivers.specs.Operation.{Map, Read, Write, Zero, DiscardToZero};
+ghost use Rattle.imago_drivers.specs.Parts.{length_of};
+ghost use Rattle.imago_drivers.specs.Operation.{Map, Read, Zero, DiscardToZero};
 ghost use Rattle.imago_drivers.specs.Operation.{DiscardToAny, DiscardToBacking};
-ghost use Rattle.imago_drivers.specs.Place.{Refused, values, PlacesStandAt, BytesAreWritable};
-ghost use Rattle.imago_drivers.specs.Outside.{StaysOutside};
+ghost use Rattle.imago_drivers.specs.Place.{Refused, values, HasValues};
+ghost use Rattle.imago_drivers.specs.Place.{BytesAreWritable};
 ghost use Rattle.imago_drivers.specs.Reasons.{Reasons, allowed, none};
 ghost use Rattle.imago_drivers.specs.LayerBelow.{lent};
-ghost use Rattle.imago_drivers.specs.Causes.{IsSettled, IsOnRange};
-ghost use Rattle.imago_drivers.specs.Pending.{ShowsRound};
 ghost use Rattle.imago_drivers.specs.View.{View};
 ghost use Rattle.imago_drivers.specs.Changes.{zeroes, unspecified, to_backing};
-ghost use Rattle.imago_drivers.specs.Frame.{IsFramed, ReachesNoMore, LeavesNothingOpen};
-ghost use Rattle.imago_drivers.specs.Frame.{UsesStorages};
 ghost use Rattle.imago_drivers.specs.Mapping.{IsRight};
-ghost use Rattle.imago_drivers.specs.Done.{HasEnsured, map_reasons, stored_read_reasons};
-ghost use Rattle.imago_drivers.specs.Done.{special_read_reasons, stored_write_reasons};
-ghost use Rattle.imago_drivers.specs.Done.{mapping_write_reasons, lending_reasons};
-ghost use Rattle.imago_drivers.specs.Prepared.{IsPrepared, IsForeignWrite, IsFor, IsPut, IsWritten};
-ghost use Rattle.imago_drivers.specs.Prepared.{IsDataMapping};
+ghost use Rattle.imago_drivers.specs.Done.{map_reasons, stored_read_reasons};
+ghost use Rattle.imago_drivers.specs.Done.{special_read_reasons};
+ghost use Rattle.imago_drivers.specs.Prepared.{IsPrepared, IsForeignWrite};
 ghost use Rattle.imago_drivers.specs.Commit.{IsCommit, IsCancel};
-ghost use Rattle.imago_drivers.specs.Lengths.{GrowTo, GrowAt};
 ghost use Rattle.imago_drivers.specs.CallRelations.{Calls};
 ghost use Rattle.imago_drivers.specs.Calls.{IsZeroCall, IsDiscard, IsPreparation, IsGrowth};
-ghost use Rattle.imago_drivers.specs.Calls.{IsShrink, IsFlush};
+ghost use Rattle.imago_drivers.specs.Calls.{IsShrink, IsFlush, IsStoredWrite, IsPreparedWrite};
+ghost use Rattle.imago_drivers.specs.Calls.{IsEnsuring};
 ghost use Rattle.imago_drivers.specs.Laws.{IsLawful, AreCauses};
 
 pub use crate::format::{Format, PreallocateMode};
@@ -103,7 +97,8 @@ pub trait FormatDriverInstance: Display + Drop {
 
     /// Whether the storage has an image of this format, as far as can be told.
     fn probe(alloc: Global, storage: &Self::Storage) -> Result<bool, Error>
-        ensures found { IfOk result (λ b. b ≡ recognizes (Self.Storage.bytes storage.now)) }
+        ensures found { IsTrue (Self.Storage.features storage.now).tells_bytes
+            → IfOk result (λ b. b ≡ recognizes (Self.Storage.bytes storage.now)) }
         ensures only { IfErr result IsExtRefusal }
         ensures device { IsErrOf result Error.Device
             → (Self.Storage.features storage.now).is_reliable ≡ false }
@@ -159,18 +154,19 @@ pub trait FormatDriverInstance: Display + Drop {
         offset: u64,
     ) -> Result<(), Error>
         requires { storage < (view self.now).stores.count }
-        ensures bytes { OnOk result
-            (IsReadAt ((view self.now).stores.bytes storage) offset buf.new) }
+        ensures bytes { IsTrue (view self.now).abilities.tells_bytes
+            → OnOk result (IsReadAt ((view self.now).stores.bytes storage) offset buf.new) }
         ensures refusals { IfErr result
             (allowed (stored_read_reasons (view self.now) storage offset (length buf.old))) }
         ensures answered { calls.read storage offset (length buf.old) self.now result };
 
-    /// Fills the buffer with special bytes, as a mapping names them. Refused, the buffer is
-    /// unspecified.
+    /// Fills the buffer with special bytes, as a mapping names them. [`Error::InvalidData`] is a
+    /// byte of the range that can't be made up, since what it would be made of is faulty. Refused,
+    /// the buffer is unspecified.
     fn readv_special(&self, alloc: Global, buf: &mut [u8], offset: u64) -> Result<(), Error>
-        ensures bytes { OnOk result
-            (EachIndex buf.new (λ k. slice_index buf.new k ≡ (view self.now).special
-            (offset + k))) }
+        ensures bytes { IsTrue (view self.now).abilities.tells_bytes
+            → OnOk result
+            (HasValues (view self.now).special offset buf.new) }
         ensures refusals { IfErr result
             (allowed (special_read_reasons (view self.now) offset (length buf.old))) }
         ensures answered { calls.read_special offset (length buf.old) self.now result };
@@ -189,23 +185,8 @@ pub trait FormatDriverInstance: Display + Drop {
         requires known { storage < (view self.old).stores.count }
         requires mapped { BytesAreWritable (view self.old).place storage offset
             (length source.now) }
-        ensures written { OnOk result
-            (IsPut storage offset source.now false (view self.old).abilities.keeps_data
-            (view self.old).place (view self.new).place) }
-        ensures torn { OnErr result
-            (IsPut storage offset source.now true (view self.old).abilities.keeps_data
-            (view self.old).place (view self.new).place) }
-        ensures causes { OnOk result
-            ((o : ℕ)
-            → PlacesStandAt (view self.old).place storage offset (length source.now) o
-            → IsSettled IsOnRange (view self.old).limits.cause (view self.new).limits.cause
-            (view self.old).limits.copies (view self.new).limits.copies o (length source.now)) }
-        ensures leaves { LeavesNothingOpen (view self.old) (view self.new) }
-        ensures storages { UsesStorages (GrowAt storage offset (length source.now))
-            (view self.old).abilities.is_reliable (view self.old) (view self.new) result }
-        ensures framed { IsFramed (view self.old) (view self.new) }
-        ensures refusals { IfErr result
-            (allowed (stored_write_reasons (view self.old) storage offset (length source.now))) }
+        ensures call { IsStoredWrite storage offset source.now (view self.old) (view self.new)
+            result }
         ensures performed { calls.put storage source.now offset self.old self.new result };
 
     /// Makes a part of the range read as zeroes, and answers its offset and length: as much as the
@@ -285,6 +266,7 @@ pub trait FormatDriverInstance: Display + Drop {
         requires inside { offset + count ≤ (view self.old).size }
         ensures prepared { IfOk result
             (λ m. IsPrepared offset count overwrite
+            (lent B.as_layer_below below.entry).tells_bytes
             (values (lent B.as_layer_below below.entry).at (view self.old).place)
             (view self.old) (view self.new) m) }
         ensures call { IsPreparation (lent B.as_layer_below below.entry) offset count
@@ -310,26 +292,8 @@ pub trait FormatDriverInstance: Display + Drop {
         ensures foreign { IsErrOf result Error.ForeignMapping
             ↔ IsForeignWrite (view self.old) mapping.now }
         ensures untouched { IsErrOf result Error.ForeignMapping → self.new ≡ self.old }
-        ensures written { OnOk result
-            (IsWritten false (view self.old) (view self.new) mapping.now at source.now) }
-        ensures torn { OnErr result
-            (IsWritten true (view self.old) (view self.new) mapping.now at source.now) }
-        ensures round { IsTrue (view self.old).abilities.keeps_data
-            → (below : _)
-            → ShowsRound (values below (view self.old).place) (view self.old).pending
-            → ShowsRound (values below (view self.new).place) (view self.new).pending }
-        ensures causes { OnOk result
-            ((o : ℕ)
-            → IsFor (view self.old) mapping.now at (length source.now) o
-            → IsSettled IsOnRange (view self.old).limits.cause (view self.new).limits.cause
-            (view self.old).limits.copies (view self.new).limits.copies o (length source.now)) }
-        ensures reaches { ReachesNoMore (view self.old) (view self.new) }
-        ensures storages { UsesStorages
-            (GrowAt (storage_of mapping.now) (offset_of mapping.now + at) (length source.now))
-            (view self.old).abilities.is_reliable (view self.old) (view self.new) result }
-        ensures framed { IsFramed (view self.old) (view self.new) }
-        ensures refusals { IfErr result
-            (allowed (mapping_write_reasons (view self.old) mapping.now at (length source.now))) }
+        ensures call { IsPreparedWrite mapping.now at source.now (view self.old) (view self.new)
+            result }
         ensures performed { calls.filled mapping.now source.now at self.old self.new result };
 
     /// Spends a prepared mapping: what was written into it shows from now on. Without a state
@@ -366,28 +330,8 @@ pub trait FormatDriverInstance: Display + Drop {
         requires writable { (view self.old).abilities.is_writable ≡ true }
         requires spent { (view self.old).pending ≡ None }
         requires inside { offset + count ≤ (view self.old).size }
-        ensures mapped { IfOk result (λ r. IsDataMapping offset count r.0 r.1 r.2 (view self.old)
-            (view self.new)) }
-        ensures changed { IsTrue (view self.old).abilities.keeps_data
-            → HasEnsured offset count overwrite
-            (values (lent B.as_layer_below below.entry).at (view self.old).place)
-            (values (lent B.as_layer_below below.entry).at (view self.new).place) result }
-        ensures causes { IfOk result
-            (λ r. IsSettled IsOnRange (view self.old).limits.cause (view self.new).limits.cause
-            (view self.old).limits.copies (view self.new).limits.copies offset r.2) }
-        ensures outside { StaysOutside (view self.old).abilities.keeps_data
-            (view self.old).abilities.block offset count (view self.old).place
-            (view self.new).place }
-        ensures leaves { LeavesNothingOpen (view self.old) (view self.new) }
-        ensures storages { UsesStorages (GrowTo ((view self.old).limits.longest Write offset count))
-            ((view self.old).abilities.is_reliable &&
-            (lent B.as_layer_below below.entry).is_reliable)
+        ensures call { IsEnsuring (lent B.as_layer_below below.entry) offset count overwrite
             (view self.old) (view self.new) result }
-        ensures framed { IsFramed (view self.old) (view self.new) }
-        ensures refusals { IfErr result
-            (allowed
-            (lending_reasons (view self.old) (lent B.as_layer_below below.entry) Write
-            offset count)) }
         ensures performed { calls.ensured (lent B.as_layer_below below.entry) offset count overwrite
             self.old self.new result }
     {

@@ -1,5 +1,5 @@
 //! The layer below a driver.
-ghost use Rattle.std.specs.Prelude.{◌≡◌, ℕ, length, OnOk, IfErr, Ok};
+ghost use Rattle.std.specs.Prelude.{◌≡◌, ℕ, length, OnOk, IfErr, Ok, IsTrue};
 ghost use Rattle.imago_drivers.specs.Place.{HasValues};
 ghost use Rattle.imago_drivers.specs.CallRelations.{Asking};
 ghost use Rattle.imago_drivers.specs.LayerBelow.{LayerBelow, IsLayerBelow, no_layer};
@@ -22,10 +22,11 @@ pub trait LowerLayer {
     fn size(&self) -> u64
         ensures { result ≡ (as_layer_below self.now).size };
 
-    /// Fills the buffer with the layer's bytes from the offset on, with 0 past its end. Refused,
-    /// the buffer is unspecified.
+    /// Fills the buffer with the layer's bytes from the offset on, with 0 past its end; with any
+    /// bytes where the layer doesn't tell them. Refused, the buffer is unspecified.
     fn read(&self, alloc: Global, buf: &mut [u8], offset: u64) -> Result<(), Error>
-        ensures bytes { OnOk result (HasValues (as_layer_below self.now).at offset buf.new) }
+        ensures bytes { IsTrue (as_layer_below self.now).tells_bytes
+            → OnOk result (HasValues (as_layer_below self.now).at offset buf.new) }
         ensures refusals { IfErr result
             (allowed (below_reasons (as_layer_below self.now) offset (length buf.old))) }
         ensures answered { reads offset (length buf.old) self.now result };

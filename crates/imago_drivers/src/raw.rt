@@ -135,12 +135,15 @@ impl<S: Storage> FormatDriverInstance for Raw<S> {
     ghost calls = { record any_calls {
       mapped = λ o n self r. IsOk r;
       read_special = λ o n self r. HasNoSpecial n r;
-      put = λ index bytes o a b r. IsRangeWrite S.features S.bytes S.fault_count S.work o bytes
-          a.storage b.storage r × (b.size ≡ a.size) × (b.writable ≡ a.writable);
-      zeroed = λ o n a b r. IsPartZeroed S.maintenance S.work (S.features a.storage) o n a.storage
-          b.storage r × (b.size ≡ a.size) × (b.writable ≡ a.writable);
-      discarded_to_zero = λ o n a b r. IsPartZeroed S.maintenance S.work (S.features a.storage) o n
-          a.storage b.storage r × (b.size ≡ a.size) × (b.writable ≡ a.writable);
+      put = λ index bytes o a b r. IsRangeWrite S.features S.bytes S.fault_count S.work
+          S.maintenance o bytes a.storage b.storage r × (b.size ≡ a.size)
+          × (b.writable ≡ a.writable);
+      zeroed = λ o n a b r. IsPartZeroed S.features S.bytes S.maintenance S.work
+          (S.features a.storage) o n a.storage b.storage r × (b.size ≡ a.size)
+          × (b.writable ≡ a.writable);
+      discarded_to_zero = λ o n a b r. IsPartZeroed S.features S.bytes S.maintenance S.work
+          (S.features a.storage) o n a.storage b.storage r × (b.size ≡ a.size)
+          × (b.writable ≡ a.writable);
       discarded_to_any = λ o n a b r. IsPartDiscarded S.maintenance
           (S.features a.storage).discard_align o n a.storage b.storage r × (b.size ≡ a.size)
           × (b.writable ≡ a.writable);
@@ -149,13 +152,14 @@ impl<S: Storage> FormatDriverInstance for Raw<S> {
           a.writable)
           (raw_view (S.features b.storage) (S.fault_count b.storage) (S.bytes b.storage) b.size
           b.writable) r
-          × IsPartZeroed S.maintenance S.work (S.features a.storage) o n a.storage b.storage r
+          × IsPartZeroed S.features S.bytes S.maintenance S.work (S.features a.storage) o n
+          a.storage b.storage r
           × (b.size ≡ a.size) × (b.writable ≡ a.writable);
       prepared = IsRawPrepared;
       filled = λ m bytes at a b r. IsRawFilled
-          (λ xs o old new result. IsRangeWrite S.features S.bytes S.fault_count S.work o xs
-          old.storage new.storage result × (new.size ≡ old.size) × (new.writable ≡ old.writable)) m
-          bytes at a b r;
+          (λ xs o old new result. IsRangeWrite S.features S.bytes S.fault_count S.work
+          S.maintenance o xs old.storage new.storage result × (new.size ≡ old.size)
+          × (new.writable ≡ old.writable)) m bytes at a b r;
       committed = IsRawCommitted;
       cancelled = λ m a b. b ≡ a;
       ensured = IsEnsuredInParts IsRawPrepared IsRawCommitted;
@@ -175,7 +179,7 @@ impl<S: Storage> FormatDriverInstance for Raw<S> {
     } };
 
     ghost lawful = { λ d. raw_lawful (S.features d.storage) (S.fault_count d.storage)
-        (S.bytes d.storage) d.size d.writable };
+        (S.bytes d.storage) d.size d.writable (S.lawful d.storage) };
 
     ghost causes_lawful = { λ d. raw_causes (S.features d.storage) (S.fault_count d.storage)
         (S.bytes d.storage) d.size d.writable };
@@ -324,6 +328,7 @@ impl<S: Storage> FormatDriverInstance for Raw<S> {
         requires inside { offset + count ≤ (⟦<Raw<S> as FormatDriverInstance>⟧.view self.old).size }
         ensures prepared { IfOk result
             (λ m. IsPrepared offset count _overwrite
+            (lent B.as_layer_below _below.entry).tells_bytes
             (values (lent B.as_layer_below _below.entry).at
             (⟦<Raw<S> as FormatDriverInstance>⟧.view self.old).place)
             (⟦<Raw<S> as FormatDriverInstance>⟧.view self.old)
@@ -465,8 +470,8 @@ fn zero_aligned_part<S: Storage>(
         (raw_place size (S.bytes storage.old)) (raw_place size (S.bytes storage.new)) }
     ensures lengths { GrowsNear (S.features storage.old) offset count
         (length (S.bytes storage.old)) (length (S.bytes storage.new)) }
-    ensures performed { IsPartZeroed S.maintenance S.work (S.features storage.old) offset count
-        storage.old storage.new result }
+    ensures performed { IsPartZeroed S.features S.bytes S.maintenance S.work
+        (S.features storage.old) offset count storage.old storage.new result }
     ensures features { S.features storage.new ≡ S.features storage.old }
     ensures only { IfErr result IsExtRefusal }
     ensures wraps { IsErrOf result Error.WrapAround

@@ -29,8 +29,8 @@ pub fn write_bytes<S: Storage>(
     source: &[u8],
     offset: u64,
 ) -> Result<(), Error>
-    ensures call { IsRangeWrite S.features S.bytes S.fault_count S.work offset source.now
-        storage.old storage.new result }
+    ensures call { IsRangeWrite S.features S.bytes S.fault_count S.work S.maintenance offset
+        source.now storage.old storage.new result }
     ensures empty { length source.now ≡ 0 → IsOk result × (storage.new ≡ storage.old) }
     ensures written { IsTrue (S.features storage.old).keeps_data
         → OnOk result

@@ -6,7 +6,7 @@ use Rattle.imago.specs.Features.{Features}
 use Rattle.imago.specs.Format.TheVariants as Format
 use Rattle.imago.specs.Operation.{Operation, Map, Read, Write, Zero, DiscardToZero, DiscardToAny}
 use Rattle.imago.specs.Operation.{DiscardToBacking, Grow, Shrink, Flush}
-use Rattle.imago.specs.Place.{Place, Stored, End}
+use Rattle.imago.specs.Place.{Place, Byte, Stored, End}
 use Rattle.imago.specs.Causes.{Causes}
 use Rattle.imago.specs.View.{View}
 
@@ -28,6 +28,7 @@ behind_header_view f faults bytes skip size = record {
     takes_backing = false;
     is_reliable = f.is_reliable;
     keeps_data = f.keeps_data;
+    tells_bytes = f.tells_bytes;
     zero_granularity = None;
     offers = λ op. true;
     block = 1;
@@ -36,7 +37,7 @@ behind_header_view f faults bytes skip size = record {
   place = behind_place skip size bytes;
   fault_count = faults;
   stores = record { count = 1; bytes = λ index. bytes; features = λ index. f };
-  special = λ offset. 0;
+  special = λ offset. Byte 0;
   limits = record {
     cause = behind_cause;
     copies = λ op o n p. ⊥;

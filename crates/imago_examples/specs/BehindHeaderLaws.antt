@@ -4,7 +4,7 @@ use Rattle.std.proofs.Common.{arith, sym, ◌∙◌, ⊎_elim}
 use Rattle.std.proofs.lemmas.Bool.{cases_lt}
 use Rattle.std.proofs.lemmas.Bool.Decides.{nat_tests}
 use Rattle.imago.specs.DeclaredError.{Error}
-use Rattle.imago.specs.Features.{Features}
+use Rattle.imago.specs.Features.{Features, AreLawful}
 use Rattle.imago.specs.Operation.{Operation, Read}
 use Rattle.imago.specs.DeclaredError.TheVariants as E
 use Rattle.imago.specs.Place.{Place, Stored, Special, Lower, Refused, End}
@@ -41,12 +41,14 @@ module _ (skip size : ℕ) (bytes : List ℕ) where
       (λ x. let z : ⊥ = cc in absurd z)
 
 pub behind_header_lawful : (f : Features) (faults : ℕ) (bytes : List ℕ) (skip size : ℕ)
-    → IsLawful (behind_header_view f faults bytes skip size)
-behind_header_lawful f faults bytes skip size = record {
+    → AreLawful f → IsLawful (behind_header_view f faults bytes skip size)
+behind_header_lawful f faults bytes skip size lawful = record {
   ends = ends_of skip size bytes;
   bounded = behind_out skip size bytes;
   stored = stored_of skip size bytes;
   special = λ p b o e. absurd (only skip size bytes p _ _ e (λ x. let z : ⊥ = cc in z)
+      (λ x. let z : ⊥ = cc in z));
+  faulty = λ p o r e. absurd (only skip size bytes p _ _ e (λ x. let z : ⊥ = cc in z)
       (λ x. let z : ⊥ = cc in z));
   lower = λ p q w e. absurd
       (only skip size bytes p _ _ e (λ x. let z : ⊥ = cc in z) (λ x. let z : ⊥ = cc in z));
@@ -54,6 +56,7 @@ behind_header_lawful f faults bytes skip size = record {
       (only skip size bytes p _ _ e (λ x. let z : ⊥ = cc in z) (λ x. let z : ⊥ = cc in z));
   refused = λ p r e. absurd (only skip size bytes p _ _ e (λ x. let z : ⊥ = cc in z)
       (λ x. let z : ⊥ = cc in z));
+  told = lawful.told;
   granularity = λ e. let z : ⊥ = cc in z;
   blocks = λ e. let z : ⊥ = cc in z;
 }

@@ -1,6 +1,7 @@
+-- What never changes in a storage that may only be read.
 use Rattle.std.specs.Prelude.{◌≡◌, ℕ, false, true, Result, Err}
 use Rattle.imago.specs.DeclaredError.{Error}
-use Rattle.imago.specs.Features.{Features, NotOffered, AreAlignments}
+use Rattle.imago.specs.Features.{Features, NotOffered, AreLawful}
 use Rattle.imago.specs.Maintenance.{Maintenance}
 
 -- what never changes in a storage that may only be read, over what never changes in the one inside
@@ -14,7 +15,7 @@ read_only_features f = record f {
   offers_resize = false;
 }
 
-pub read_only_lawful : (f : Features) → AreAlignments f → AreAlignments (read_only_features f)
+pub read_only_lawful : (f : Features) → AreLawful f → AreLawful (read_only_features f)
 read_only_lawful f l = record {
   mem = l.mem;
   req = l.req;
@@ -22,4 +23,5 @@ read_only_lawful f l = record {
   discard = l.discard;
   zero_whole = l.zero_whole;
   discard_whole = l.discard_whole;
+  told = l.told;
 }

@@ -73,7 +73,7 @@ impl<S: Storage> FormatDriverInstance for BehindHeader<S> {
     } };
 
     ghost lawful = { λ d. behind_header_lawful (S.features d.storage) (S.fault_count d.storage)
-        (S.bytes d.storage) d.skip d.size };
+        (S.bytes d.storage) d.skip d.size (S.lawful d.storage) };
 
     ghost causes_lawful = { λ d. behind_header_causes (S.features d.storage)
         (S.fault_count d.storage) (S.bytes d.storage) d.skip d.size };

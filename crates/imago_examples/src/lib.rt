@@ -1,6 +1,7 @@
-//! A storage and a driver of one's own over `imago`, whole and proved: what `docs/USING.md`
-//! explains.
+//! Images over files, and a storage and a driver of one's own over `imago`, whole and proved: what
+//! `docs/USING.md` explains.
 #![tactic(auto)]
 
 pub mod behind_header;
+pub mod files;
 pub mod read_only;

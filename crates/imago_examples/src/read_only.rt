@@ -54,6 +54,7 @@ impl<S: Storage> Storage for ReadOnly<S> {
       invalidated = λ a b r. S.maintenance.invalidated a.inner b.inner r;
       settled = λ a b r. S.maintenance.settled a.inner b.inner r;
       counted = λ at buf a b r. S.maintenance.counted at buf a.inner b.inner r;
+      written = λ at source a b r. (b ≡ a) × (r ≡ Err Error.Device);
       discarded = λ at n a b r. (b ≡ a) × (r ≡ Err Error.Unsupported);
       resized = λ n mode a b r. (b ≡ a) × (r ≡ Err Error.Unsupported);
       zeroed_in_place = λ kind at n a b r. (b ≡ a) × (r ≡ Err Error.Unsupported);

@@ -1,6 +1,6 @@
 //! Images in files, opened.
 ghost use Rattle.std.specs.Prelude.{◌≡◌, ℕ, List, true, map, length, IfOk};
-ghost use Rattle.std.specs.Prelude.{Option, IfSome};
+ghost use Rattle.std.specs.Prelude.{Option, IfSome, IsTrue};
 ghost use Rattle.std.specs.String.{string_bytes};
 ghost use Rattle.imago_vmdk.specs.declared.line.Extent.{Extent};
 ghost use Rattle.imago_vmdk.specs.Line.{extent_with};
@@ -202,6 +202,7 @@ fn planned_vmdk<S: Storage>(
     ensures size { IfOk result (λ planned. planned.0
         ≡ (⟦<Vmdk<S> as FormatDriverInstance>⟧.view driver).size) }
     ensures pieces { IfOk result (λ planned. (bytes : ℕ → ℕ → List ℕ)
+        → IsTrue (S.features (descriptor_in driver)).tells_bytes
         → bytes 0 0 ≡ S.bytes (descriptor_in driver)
         → values_from (described_value (takes_unknown_keys driver) (bytes 0)) 0
         (⟦<Vmdk<S> as FormatDriverInstance>⟧.view driver).size

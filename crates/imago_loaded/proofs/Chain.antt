@@ -1,10 +1,11 @@
 -- What a chain of qcow2 files shows, by the bytes of other files with the same tables.
-use Rattle.std.proofs.Common.{◌≡◌, ℕ, suc, ◌+◌, ◌^◌, ◌%◌, ◌/◌, ◌≤◌, List, [], ◌∷◌, Option, Some, None, Box, Global, refl, sym, ap, subst, ◌∙◌, arith, ⊎_elim}
+use Rattle.std.proofs.Common.{◌≡◌, ℕ, suc, ◌+◌, ◌^◌, ◌%◌, ◌/◌, ◌≤◌, List, [], ◌∷◌, Option, Some, None, IsTrue, Box, Global, refl, sym, ap, subst, ◌∙◌, arith, ⊎_elim}
 use Rattle.std.proofs.lemmas.Bool.{cases_lt}
 use Rattle.imago_drivers.specs.Place.{Place, Stored, Zeroed, Special, Lower, Refused, End, Value, Byte, shown}
 use Rattle.imago_drivers.specs.View.{View}
 use Rattle.imago_access.specs.declared.access.FormatAccess.{FormatAccess, FormatAccess', Held-FormatAccess-backing, None', Some', out-FormatAccess, is-FormatAccess', back-FormatAccess-backing}
-use Rattle.imago_access.specs.Chain.{driver, backing, unboxed}
+use Rattle.imago_access.specs.Chain.{driver, backing, unboxed, tells_bytes, tells_bytes_below}
+use Rattle.imago_access.proofs.Weaker.{and_left, and_right}
 use Rattle.imago_access.specs.Disk.{values_from}
 use Rattle.imago_access.specs.Target.{Target, target, target_below, followed}
 use Rattle.imago_vmdk.specs.Disk.{with_bytes}
@@ -44,8 +45,8 @@ pub same_place : (bytes : ℕ → List ℕ) (own : List ℕ) (p : ℕ) → Stand
 same_place bytes own p h = alike bytes (qcow2_place (bytes 0) p) (qcow2_place own p) h ∙ own_place bytes p
 
 module _ {D St : Type 0} (view : D → View St) (own : D → List ℕ)
-    (places : (d : D) (p : ℕ) → (view d).place p ≡ qcow2_place (own d) p)
-    (law : (d : D) (a : List ℕ) → HaveSameTables a (own d) → (p : ℕ) → StandsAlike (qcow2_place a p) (qcow2_place (own d) p)) where
+    (places : (d : D) → IsTrue (view d).abilities.tells_bytes → (p : ℕ) → (view d).place p ≡ qcow2_place (own d) p)
+    (law : (d : D) → IsTrue (view d).abilities.tells_bytes → (a : List ℕ) → HaveSameTables a (own d) → (p : ℕ) → StandsAlike (qcow2_place a p) (qcow2_place (own d) p)) where
   -- a place of a layer, over what is below it
   followed_value : (bytes : ℕ → ℕ → List ℕ) (deep : ℕ → Target) (below : ℕ → Value)
       → ((q : ℕ) → target_value (λ k. bytes (suc k)) (deep q) ≡ below q)
@@ -61,18 +62,20 @@ module _ {D St : Type 0} (view : D → View St) (own : D → List ℕ)
   followed_value bytes deep below h End = refl
 
   mutual
-    pub chain_shows : (bytes : ℕ → ℕ → List ℕ) (x : FormatAccess D) → AreLayersOf own (λ k. bytes k 0) x → (p : ℕ)
+    pub chain_shows : (bytes : ℕ → ℕ → List ℕ) (x : FormatAccess D) → IsTrue (tells_bytes view x) → AreLayersOf own (λ k. bytes k 0) x → (p : ℕ)
         → target_value bytes (target view x p) ≡ files_value (layer_files (λ k. bytes k 0) x) p
-    chain_shows bytes (FormatAccess' inner below) h p =
+    chain_shows bytes (FormatAccess' inner below) told h p =
+        let here : IsTrue (view inner).abilities.tells_bytes = and_left (view inner).abilities.tells_bytes (tells_bytes_below view below) told in
+        let deeper : IsTrue (tells_bytes_below view below) = and_right (view inner).abilities.tells_bytes (tells_bytes_below view below) told in
         let rest : ℕ → Value = files_value (files_below (λ k. bytes (suc k) 0) below) in
-        followed_value bytes (target_below view below) rest (below_shows (λ k. bytes (suc k)) below h.1) ((view inner).place p)
-        ∙ ap (λ (z : Place). shown rest (with_bytes (bytes 0) z)) (places inner p)
-        ∙ ap (shown rest) (same_place (bytes 0) (own inner) p (law inner (bytes 0 0) h.0 p))
+        followed_value bytes (target_below view below) rest (below_shows (λ k. bytes (suc k)) below deeper h.1) ((view inner).place p)
+        ∙ ap (λ (z : Place). shown rest (with_bytes (bytes 0) z)) (places inner here p)
+        ∙ ap (shown rest) (same_place (bytes 0) (own inner) p (law inner here (bytes 0 0) h.0 p))
 
-    below_shows : (bytes : ℕ → ℕ → List ℕ) (below : Held-FormatAccess-backing D) → AreBelow own (λ k. bytes k 0) below → (q : ℕ)
+    below_shows : (bytes : ℕ → ℕ → List ℕ) (below : Held-FormatAccess-backing D) → IsTrue (tells_bytes_below view below) → AreBelow own (λ k. bytes k 0) below → (q : ℕ)
         → target_value bytes (target_below view below q) ≡ files_value (files_below (λ k. bytes k 0) below) q
-    below_shows bytes None' h q = refl
-    below_shows bytes (Some' k x) h q = chain_shows bytes x h q
+    below_shows bytes None' told h q = refl
+    below_shows bytes (Some' k x) told h q = chain_shows bytes x told h q
 
 -- files with the same header have clusters of one length
 pub same_clusters : (a b : List ℕ) → HaveSameTables a b → 512 ≤ cluster_length b → 8 ≤ cluster_length a

@@ -1,5 +1,5 @@
 use Rattle.std.specs.Prelude.{true, false, refl}
-use Rattle.imago_storage.specs.Features.{Features, AsData, AreAlignments}
+use Rattle.imago_storage.specs.Features.{Features, AsData, AreLawful}
 use Rattle.imago_storage.specs.Mem.{null_features}
 
 -- Blocks of a file in memory: what is written isn't kept, and nothing fails. A relative name stands
@@ -11,7 +11,7 @@ loaded_features = record null_features {
   resolves_paths = true;
 }
 
-pub loaded_lawful : AreAlignments loaded_features
+pub loaded_lawful : AreLawful loaded_features
 loaded_lawful = record {
   mem = (0, refl);
   req = (0, refl);
@@ -19,4 +19,5 @@ loaded_lawful = record {
   discard = (0, refl);
   zero_whole = refl;
   discard_whole = refl;
+  told = λ keeps. refl;
 }

@@ -1,5 +1,5 @@
 -- Images of one layer, by the bytes of its storages.
-use Rattle.std.proofs.Common.{◌≡◌, ℕ, ◌+◌, ◌<◌, Bool, true, List, map, length, slice_index, get_or, if◌then◌else◌, sym, ap, ◌∙◌, subst, arith}
+use Rattle.std.proofs.Common.{◌≡◌, ℕ, ◌+◌, ◌<◌, Bool, true, IsTrue, List, map, length, slice_index, get_or, if◌then◌else◌, sym, ap, ◌∙◌, subst, arith}
 use Rattle.std.proofs.lemmas.Bool.{lt-ltb}
 use Rattle.std.proofs.lemmas.List.{same_lists, get_or-map, length-map}
 use Rattle.std.proofs.lemmas.List.FromFn.{length-map-range_with_len, get_or-map-range_with_len}
@@ -22,14 +22,15 @@ module _ {D St : Type 0} (view : D → View St) (x : FormatAccess D) (bytes : �
 
   -- an image whose places a descriptor says, in storages that have other bytes
   pub described : (keys : D → Bool) (d : D) → d ≡ driver x
-      → ((p : ℕ) → (view d).place p ≡ described_place (keys d) (view d).stores.bytes p)
+      → (IsTrue ((view d).stores.features 0).tells_bytes → (p : ℕ) → (view d).place p ≡ described_place (keys d) (view d).stores.bytes p)
       → ((accept : Bool) (old new : ℕ → List ℕ) (p : ℕ) → new 0 ≡ old 0 → described_place accept new p ≡ with_bytes new (described_place accept old p))
       → ((p : ℕ) → target view x p ≡ target_here ((view (driver x)).place p))
-      → bytes 0 0 ≡ (view (driver x)).stores.bytes 0
+      → IsTrue ((view (driver x)).stores.features 0).tells_bytes → bytes 0 0 ≡ (view (driver x)).stores.bytes 0
       → (p : ℕ) → described_value (keys (driver x)) (bytes 0) p ≡ target_value bytes (target view x p)
-  described keys d is places law top same p =
+  described keys d is places law top told same p =
+      let at_d : IsTrue ((view d).stores.features 0).tells_bytes = subst (λ (z : D). IsTrue ((view z).stores.features 0).tells_bytes) (sym is) told in
       let old : ℕ → List ℕ = (view (driver x)).stores.bytes in
-      let here : (view (driver x)).place p ≡ described_place (keys (driver x)) old p = subst (λ (z : D). (view z).place p ≡ described_place (keys z) (view z).stores.bytes p) is (places p) in
+      let here : (view (driver x)).place p ≡ described_place (keys (driver x)) old p = subst (λ (z : D). (view z).place p ≡ described_place (keys z) (view z).stores.bytes p) is (places at_d p) in
       ap (shown (λ (q : ℕ). Byte 0)) (law (keys (driver x)) old (bytes 0) p same ∙ ap (with_bytes (bytes 0)) (sym here)) ∙ sym (top_value top p)
 
   -- an image that is its storage

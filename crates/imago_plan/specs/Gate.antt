@@ -4,7 +4,7 @@ use Rattle.imago_storage.specs.declared.error.Error.TheVariants as E
 use Rattle.imago_storage.specs.declared.mem.MemStorage.{MemStorage}
 use Rattle.imago_storage.specs.Options.{OpenOptions}
 use Rattle.imago_plan.specs.declared.gate.FolderGate.{FolderGate}
-use Rattle.imago_plan.specs.Names.{stays_below}
+use Rattle.imago_file.specs.Names.{stays_below}
 
 -- whether a gate lets names through that lead out of the folder
 abbrev pub allows_outside : FolderGate → Bool

@@ -1,4 +1,4 @@
-pub mod Names
+pub use Rattle.imago_file.specs.Names
 pub mod Gate
 pub mod Pieces
 pub mod PieceBytes

@@ -2,7 +2,7 @@ use Rattle.std.specs.Prelude.{◌≡◌, ℕ, ◌+◌, ◌^◌, ◌-◌, ◌<◌
 use Rattle.std.specs.Prelude.{List, [], ◌∷◌, ◌++◌, Option, Some, None, if◌then◌else◌, nat_lt}
 use Rattle.imago_storage.specs.declared.error.Error.{Error}
 use Rattle.imago_storage.specs.declared.error.Error.TheVariants as E
-use Rattle.imago_drivers.specs.Place.{Stored, Zeroed, Special, End, Unreadable}
+use Rattle.imago_drivers.specs.Place.{Value, Stored, Zeroed, Special, End, Unreadable}
 use Rattle.imago_drivers.specs.Reasons.{allowed}
 use Rattle.imago_drivers.specs.View.{View}
 use Rattle.imago_access.specs.declared.access.FormatAccess.{FormatAccess}
@@ -104,7 +104,7 @@ named_source (M.Special layer offset) = None
 abbrev pub HasNoSource : Target → Type 0
 HasNoSource t =
     (t.place ≡ End)
-    ⊎ (((b : ℕ) × (o : ℕ) × (t.place ≡ Special b o)) ⊎ (2 ^ 64 - 1 ≤ t.depth))
+    ⊎ (((b : Value) × (o : ℕ) × (t.place ≡ Special b o)) ⊎ (2 ^ 64 - 1 ≤ t.depth))
 
 -- Why there is no piece at p, where n bytes were asked for: the mapping is refused, or what stands
 -- there is no piece. A mapping that is refused as invalid data or as barred from access is that of

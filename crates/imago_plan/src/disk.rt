@@ -1,5 +1,5 @@
 //! A whole disk, written to a target.
-ghost use Rattle.std.specs.Prelude.{◌≡◌, OnOk, IfSome, true};
+ghost use Rattle.std.specs.Prelude.{◌≡◌, OnOk, IfSome, IsTrue, true};
 ghost use Rattle.imago_access.specs.Chain.{driver};
 ghost use Rattle.imago_access.specs.Disk.{values_from};
 ghost use Rattle.imago_vmdk.specs.Image.{is_opened, takes_unknown_keys};
@@ -64,7 +64,8 @@ pub fn write_disk<D: FormatDriverInstance, S: Sources, T: Target>(
 }
 
 /// Puts the disk that a VMDK descriptor describes into a target, as [`write_disk`] does. The
-/// sources have the image's descriptor, where it is known what they have.
+/// sources have the image's descriptor, where it is known what they have. It is the disk that is
+/// described if the descriptor's storage tells its bytes.
 pub fn write_described_disk<S: Storage, F: Sources, T: Target>(
     alloc: Global,
     image: &FormatAccess<Vmdk<S>>,
@@ -76,10 +77,11 @@ pub fn write_described_disk<S: Storage, F: Sources, T: Target>(
     requires descriptor { IfSome (F.contents sources.now) (λ bytes. bytes 0 0
         ≡ (⟦<Vmdk<S> as FormatDriverInstance>⟧.view (driver image.now)).stores.bytes 0) }
     ensures { let vmdk = driver image.now in
-        let size = (⟦<Vmdk<S> as FormatDriverInstance>⟧.view vmdk).size in
-        OnOk result
+        let view = ⟦<Vmdk<S> as FormatDriverInstance>⟧.view vmdk in
+        IsTrue (view.stores.features 0).tells_bytes → OnOk result
         (IsDiskPut (F.contents sources.now) (T.contents target.old) (T.contents target.new)
-        (λ bytes. values_from (described_value (takes_unknown_keys vmdk) (bytes 0)) 0 size)) }
+        (λ bytes. values_from (described_value (takes_unknown_keys vmdk) (bytes 0)) 0
+        view.size)) }
 {
     let pieces = plan(alloc, image)?;
     laws::plans_of_vmdk(image);

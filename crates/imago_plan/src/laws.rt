@@ -1,5 +1,5 @@
 //! Laws of plans. The functions do nothing; their contracts are proved.
-ghost use Rattle.std.specs.Prelude.{◌≡◌, ℕ, List, Option, true, false, map};
+ghost use Rattle.std.specs.Prelude.{◌≡◌, ℕ, List, Option, true, false, IsTrue, map};
 ghost use Rattle.imago_drivers.specs.Place.{Byte};
 ghost use Rattle.imago_access.specs.declared.access.FormatAccess.{FormatAccess};
 ghost use Rattle.imago_access.specs.Chain.{driver};
@@ -61,13 +61,14 @@ pub fn top_layers_lead_nowhere<D: FormatDriverInstance>()
 {}
 
 /// Whatever bytes the extents of a VMDK image have, a plan's bytes are the disk that the descriptor
-/// describes. The descriptor is the storage of index 0, and the others are those of its FLAT
-/// extents in order. So a plan is right whatever the extents' files hold.
+/// describes. The descriptor is the storage of index 0, which tells its bytes, and the others are
+/// those of its FLAT extents in order. So a plan is right whatever the extents' files hold.
 pub fn plans_of_vmdk<S: Storage>(image: &FormatAccess<Vmdk<S>>)
     requires { is_opened (driver image.now) ≡ true }
     ensures { let view = ⟦<Vmdk<S> as FormatDriverInstance>⟧.view in
         let vmdk = driver image.now in
         (pieces : List Piece) (bytes : ℕ → ℕ → List ℕ)
+        → IsTrue ((view vmdk).stores.features 0).tells_bytes
         → bytes 0 0 ≡ (view vmdk).stores.bytes 0
         → IsPlan view image.now pieces
         → values_from (described_value (takes_unknown_keys vmdk) (bytes 0)) 0 (view vmdk).size

@@ -1,16 +1,18 @@
 -- Header extensions, one after the other.
-use Rattle.std.proofs.Common.{zero, suc, ◌≡◌, ℕ, ◌+◌, ◌-◌, ◌<◌, ◌≤◌, true, false, nat_lt, nat_eq, List, Option, Some, None, Result, Ok, Err, refl, sym, ap, ◌∙◌, arith}
-use Rattle.std.specs.Prelude.{if◌then◌else◌}
+use Rattle.std.proofs.Common.{⊎_elim, inl, inr, zero, suc, ◌≡◌, ℕ, ◌+◌, ◌-◌, ◌<◌, ◌≤◌, true, false, nat_lt, nat_eq, min, List, Option, Some, None, Result, Ok, Err, refl, sym, ap, ◌∙◌, arith}
+use Rattle.std.specs.Prelude.{if◌then◌else◌, IsTrue}
 use Rattle.std.specs.Int.{next_multiple_of}
 use Rattle.std.proofs.lemmas.Bool.Decides.{nat_tests}
 use Rattle.imago_storage.specs.declared.error.Error.{Error}
 use Rattle.imago_storage.specs.declared.error.Error.TheVariants as E
 use Rattle.imago_storage.specs.Features.{Features}
 use Rattle.imago_drivers.specs.Reasons.{allowed}
-use Rattle.imago_qcow2.specs.Numbers.{be32}
+use Rattle.imago_storage.specs.Bytes.{IsReadAt}
+use Rattle.imago_qcow2.specs.Numbers.{be32, be64}
+use Rattle.imago_qcow2.specs.Entry.{cluster_length}
 use Rattle.imago_qcow2.specs.Header.{own_length}
 use Rattle.imago_qcow2.specs.Opening.{read_reasons}
-use Rattle.imago_qcow2.specs.Backing.{format_by, format_from, extensions_end, format_of, extension_reasons}
+use Rattle.imago_qcow2.specs.Backing.{format_by, format_from, extensions_end, format_of, extension_reasons, IsFormatRefusal}
 
 module _ (bytes : List ℕ) (end : ℕ) where
   abbrev next : ℕ → ℕ
@@ -92,3 +94,41 @@ inside_refused f at n end E.NotFound h r = absurd r
 pub format_here : (bytes : List ℕ) (start end : ℕ) → start ≡ own_length bytes → end ≡ extensions_end bytes → format_from bytes start end ≡ format_of bytes
 unfolding format_of
 format_here bytes start end a b = ap (λ x. format_from bytes x end) a ∙ ap (format_from bytes (own_length bytes)) b
+
+-- extensions of a part of the first cluster are ones of it
+wider : (f : Features) (end cluster : ℕ) (e : Error) → end ≤ cluster → allowed (extension_reasons f end) e → allowed (extension_reasons f cluster) e
+wider f end cluster E.WrapAround h r = let y = r.1 in let inside = y.2 in (r.0, (y.0, y.1, omega (arith, inside, h), y.3))
+wider f end cluster E.Device h r = r
+wider f end cluster E.Memory h r = r
+wider f end cluster E.InvalidData h r = let z : ⊥ = cc (r.0) in absurd z
+wider f end cluster E.Unsupported h r = let z : ⊥ = cc (r.0) in absurd z
+wider f end cluster E.NoAccess h r = let z : ⊥ = cc (r.0) in absurd z
+wider f end cluster E.ReadOnly h r = absurd r
+wider f end cluster E.BeyondDisk h r = absurd r
+wider f end cluster E.RangeOverflow h r = absurd r
+wider f end cluster E.ForeignMapping h r = absurd r
+wider f end cluster E.Denied h r = absurd r
+wider f end cluster E.NotFound h r = absurd r
+
+-- why the format isn't found is why it isn't given
+pub refusal_here : (f : Features) (bytes : List ℕ) (start end cluster : ℕ) (e : Error) → (IsTrue f.tells_bytes → start ≡ own_length bytes) → (IsTrue f.tells_bytes → end ≡ extensions_end bytes) → end ≤ cluster
+    → IsFormatRefusal f end (format_from bytes start end) e → IsFormatRefusal f cluster (format_of bytes) e
+refusal_here f bytes start end cluster e a b inside h = ⊎_elim
+    (λ x. inl (x.0, λ told. sym (format_here bytes start end (a told) (b told)) ∙ x.1 told))
+    (λ x. inr (wider f end cluster e inside x))
+    h
+
+-- where the extensions end, by what the header says of the name
+pub end_unnamed : (bytes : List ℕ) (name cluster : ℕ) → name ≡ be64 bytes 8 → cluster ≡ cluster_length bytes → name ≡ 0 → cluster ≡ extensions_end bytes
+end_unnamed bytes name cluster is_name is_cluster none =
+    let t : nat_eq (be64 bytes 8) 0 ≡ true = grind (arith, nat_tests) in rw t is_cluster
+
+pub end_named : (bytes : List ℕ) (name cluster end : ℕ) → name ≡ be64 bytes 8 → cluster ≡ cluster_length bytes → (name ≡ 0 → ⊥) → end ≡ min cluster name → end ≡ extensions_end bytes
+end_named bytes name cluster end is_name is_cluster some is =
+    let t : nat_eq (be64 bytes 8) 0 ≡ false = grind (arith, nat_tests, some) in
+    let e : end ≡ min (cluster_length bytes) (be64 bytes 8) = is ∙ ap (λ c. min c name) is_cluster ∙ ap (min (cluster_length bytes)) is_name in
+    rw t e
+
+-- the same bytes, by another name of where they were read
+pub read_moved : (bytes buffer : List ℕ) (a b : ℕ) → a ≡ b → IsReadAt bytes a buffer → IsReadAt bytes b buffer
+read_moved bytes buffer a b e r = rw (← e) r

@@ -1,5 +1,5 @@
 -- What the tables in memory say of guest clusters.
-use Rattle.std.proofs.Common.{◌≡◌, ℕ, ◌+◌, ◌-◌, ◌*◌, ◌/◌, ◌%◌, ◌<◌, ◌≤◌, List, length, get_or, Some, refl, sym, ap, ◌∙◌, arith}
+use Rattle.std.proofs.Common.{◌≡◌, ℕ, ◌+◌, ◌-◌, ◌*◌, ◌/◌, ◌%◌, ◌<◌, ◌≤◌, List, length, get_or, Option, Some, None, refl, sym, ap, ◌∙◌, arith}
 use Rattle.std.specs.Prelude.{slice_get, IfSome}
 use Rattle.std.specs.Int.{div_ceil}
 use Rattle.std.specs.declared.vec.Vec.{Vec}
@@ -11,14 +11,15 @@ use Rattle.std.proofs.Math.Nat.{div-div-eq-div-mul, mul-pos, mod-lt, lt_of_mul-l
 use Rattle.std.proofs.lemmas.Grind.{div_ceil_times}
 use Rattle.std.proofs.lemmas.Nat.{div_below}
 use Rattle.std.proofs.lemmas.Option.{slice_get_read, slice_get_within}
-use Rattle.imago_storage.specs.Bytes.{IsReadAt}
+use Rattle.imago_storage.specs.Features.{Features}
+use Rattle.imago_qcow2.specs.declared.header.Header.{Header}
 use Rattle.imago_qcow2.specs.declared.entry.L2Table.{L2Table}
 use Rattle.imago_qcow2.specs.declared.entry.GuestCluster.{GuestCluster}
 use Rattle.imago_qcow2.specs.declared.table.HeldTable.{HeldTable}
+use Rattle.imago_qcow2.specs.declared.table.Tables.{Tables}
 use Rattle.imago_qcow2.specs.Numbers.{be64}
-use Rattle.imago_qcow2.specs.Entry.{version_of, cluster_length, cluster_in_entry, table_of, cluster_by, cluster_of}
-use Rattle.imago_qcow2.specs.Tables.{IsLoaded, IsHeld, AreHeld}
-use Rattle.imago_qcow2.proofs.NumberSteps.{read64}
+use Rattle.imago_qcow2.specs.Entry.{cluster_in_entry}
+use Rattle.imago_qcow2.specs.Tables.{LoadedImage, entry_cluster, held_cluster, loaded_cluster, header_cluster, says_entry, IsLoaded, IsHeld, IsLoadedImage}
 use Rattle.imago_qcow2.proofs.MapSteps.{same_block}
 
 -- as many L2 tables as a disk needs are no more than the entries that cover it
@@ -36,70 +37,60 @@ span_positive c least = mul-pos (let x : 0 < c / 8 = omega (arith, least) in x) 
 pub held_entry : (l1 : List HeldTable) (size span o : ℕ) (t : HeldTable) → 0 < span → o < size → size ≤ length l1 * span → t ≡ get_or l1 (o / span) t → slice_get l1 (o / span) ≡ Some t
 held_entry l1 size span o t positive inside covers is = slice_get_read l1 (length l1) (o / span) t refl (div_below o span (length l1) positive (omega (arith, inside, covers))) is
 
-module _ (bytes : List ℕ) (c : ℕ) (least : 512 ≤ c) (is_c : c ≡ cluster_length bytes) where
-  -- a guest cluster by the L2 table of its offset
-  pub by_table : (o : ℕ) → cluster_of bytes (o / c) ≡ cluster_by bytes (o / c) (table_of bytes (o / (c / 8 * c)))
-  unfolding cluster_of
-  by_table o =
-      let e : o / c / (c / 8) ≡ o / (c * (c / 8)) = div-div-eq-div-mul o c (c / 8) in
-      let f : c * (c / 8) ≡ c / 8 * c = omega arith in
-      let g : o / c / (c / 8) ≡ o / (c / 8 * c) = e ∙ ap (λ x. o / x) f in
-      let h : o / c / (cluster_length bytes / 8) ≡ o / (c / 8 * c) = ap (λ x. o / c / (x / 8)) (sym is_c) ∙ g in
-      ap (λ x. cluster_by bytes (o / c) (table_of bytes x)) h
+module _ (loaded : LoadedImage) (least : 512 ≤ loaded.cluster) where
+  abbrev span : ℕ
+  span = loaded.cluster / 8 * loaded.cluster
+
+  table_index : (o : ℕ) → o / loaded.cluster / (loaded.cluster / 8) ≡ o / span
+  table_index o =
+      let e : o / loaded.cluster / (loaded.cluster / 8) ≡ o / (loaded.cluster * (loaded.cluster / 8)) = div-div-eq-div-mul o loaded.cluster (loaded.cluster / 8) in
+      let f : loaded.cluster * (loaded.cluster / 8) ≡ span = omega arith in
+      e ∙ ap (λ x. o / x) f
+
+  -- a guest cluster by what is held of its offset's L1 entry
+  by_held : (o : ℕ) (t : HeldTable) → slice_get loaded.l1 (o / span) ≡ Some t → loaded_cluster loaded (o / loaded.cluster) ≡ held_cluster loaded (o / loaded.cluster) (Some t)
+  unfolding loaded_cluster
+  by_held o t there = ap (λ x. held_cluster loaded (o / loaded.cluster) (slice_get loaded.l1 x)) (table_index o) ∙ ap (held_cluster loaded (o / loaded.cluster)) there
 
   -- without a table all of its guest clusters are alike
-  alike : (o i : ℕ) (t : L2Table) (k : GuestCluster) → ((n : ℕ) → cluster_by bytes n t ≡ k) → i < c / 8 * c - o % (c / 8 * c) → table_of bytes (o / (c / 8 * c)) ≡ t → cluster_of bytes ((o + i) / c) ≡ k
-  alike o i t k all near is =
-      by_table (o + i) ∙ ap (λ x. cluster_by bytes ((o + i) / c) (table_of bytes x)) (same_block (c / 8 * c) (span_positive c least) o i near)
-      ∙ ap (cluster_by bytes ((o + i) / c)) is ∙ all ((o + i) / c)
+  alike : (o i : ℕ) (t : HeldTable) (k : GuestCluster) → ((n : ℕ) → held_cluster loaded n (Some t) ≡ k) → i < span - o % span → slice_get loaded.l1 (o / span) ≡ Some t → loaded_cluster loaded ((o + i) / loaded.cluster) ≡ k
+  alike o i t k all near there =
+      by_held (o + i) t (ap (slice_get loaded.l1) (same_block span (span_positive loaded.cluster least) o i near) ∙ there) ∙ all ((o + i) / loaded.cluster)
 
-  pub all_absent : (o i : ℕ) → i < c / 8 * c - o % (c / 8 * c) → table_of bytes (o / (c / 8 * c)) ≡ L2Table.Absent → cluster_of bytes ((o + i) / c) ≡ GuestCluster.Absent
-  all_absent o i near is = alike o i L2Table.Absent GuestCluster.Absent (λ n. refl) near is
+  pub all_absent : (o i : ℕ) → i < span - o % span → slice_get loaded.l1 (o / span) ≡ Some HeldTable.Absent → loaded_cluster loaded ((o + i) / loaded.cluster) ≡ GuestCluster.Absent
+  all_absent o i near there = alike o i HeldTable.Absent GuestCluster.Absent (λ n. refl) near there
 
-  pub all_invalid : (o i : ℕ) → i < c / 8 * c - o % (c / 8 * c) → table_of bytes (o / (c / 8 * c)) ≡ L2Table.Invalid → cluster_of bytes ((o + i) / c) ≡ GuestCluster.Invalid
-  all_invalid o i near is = alike o i L2Table.Invalid GuestCluster.Invalid (λ n. refl) near is
+  pub all_invalid : (o i : ℕ) → i < span - o % span → slice_get loaded.l1 (o / span) ≡ Some HeldTable.Invalid → loaded_cluster loaded ((o + i) / loaded.cluster) ≡ GuestCluster.Invalid
+  all_invalid o i near there = alike o i HeldTable.Invalid GuestCluster.Invalid (λ n. refl) near there
 
   -- an index in an L2 table is one of an entry
-  pub index_fits : (o : ℕ) → 8 * (o / c % (c / 8)) + 8 ≤ c
-  index_fits o = let x : o / c % (c / 8) < c / 8 = mod-lt (o / c) (let y : 0 < c / 8 = omega (arith, least) in y) in omega (arith, x)
+  pub index_fits : (o : ℕ) → 8 * (o / loaded.cluster % (loaded.cluster / 8)) + 8 ≤ loaded.cluster
+  index_fits o = let x : o / loaded.cluster % (loaded.cluster / 8) < loaded.cluster / 8 = mod-lt (o / loaded.cluster) (let y : 0 < loaded.cluster / 8 = omega (arith, least) in y) in omega (arith, x)
+
+  entry_said : (o entry : ℕ) (x : Option (Vec ℕ Global)) → (x ≡ None → ⊥) → IfSome x (λ t. entry ≡ be64 t.items (8 * (o / loaded.cluster % (loaded.cluster / 8))))
+      → entry_cluster loaded (o / loaded.cluster) x ≡ cluster_in_entry loaded.version loaded.cluster entry
+  entry_said o entry None some h = absurd (some refl)
+  entry_said o entry (Some t) some h = ap (cluster_in_entry loaded.version loaded.cluster) (sym h)
 
   -- with one, the guest cluster is what the entry says
-  pub by_entry : (o i at version entry : ℕ) (table : List ℕ) → i < c - o % c → table_of bytes (o / (c / 8 * c)) ≡ L2Table.Stored at → IsReadAt bytes at table → length table ≡ c → version ≡ version_of bytes
-      → entry ≡ be64 table (8 * (o / c % (c / 8))) → cluster_of bytes ((o + i) / c) ≡ cluster_in_entry version c entry
-  by_entry o i at version entry table near is read whole is_version is_entry =
-      let fits : 8 * (o / c % (c / 8)) + 8 ≤ length table = omega (arith, index_fits o, whole) in
-      let number : entry ≡ be64 bytes (at + 8 * (o / c % (c / 8))) = is_entry ∙ read64 bytes table at read (8 * (o / c % (c / 8))) fits in
-      ap (cluster_of bytes) (same_block c (omega (arith, least)) o i near)
-      ∙ by_table o ∙ ap (cluster_by bytes (o / c)) is
-      ∙ ap (λ x. cluster_in_entry (version_of bytes) x (be64 bytes (at + 8 * (o / c % (x / 8))))) (sym is_c)
-      ∙ ap (λ x. cluster_in_entry x c (be64 bytes (at + 8 * (o / c % (c / 8))))) (sym is_version)
-      ∙ ap (cluster_in_entry version c) (sym number)
+  pub by_entry : (o i number entry : ℕ) → i < loaded.cluster - o % loaded.cluster → slice_get loaded.l1 (o / span) ≡ Some (HeldTable.Loaded number) → (slice_get loaded.l2 number ≡ None → ⊥)
+      → IfSome (slice_get loaded.l2 number) (λ t. entry ≡ be64 t.items (8 * (o / loaded.cluster % (loaded.cluster / 8)))) → loaded_cluster loaded ((o + i) / loaded.cluster) ≡ cluster_in_entry loaded.version loaded.cluster entry
+  by_entry o i number entry near there some is =
+      ap (loaded_cluster loaded) (same_block loaded.cluster (omega (arith, least)) o i near)
+      ∙ by_held o (HeldTable.Loaded number) there ∙ entry_said o entry (slice_get loaded.l2 number) some is
 
-module _ (bytes : List ℕ) (l1 : List HeldTable) (l2 : List (Vec ℕ Global)) (i : ℕ) where
-  held_at : (t : HeldTable) → slice_get l1 i ≡ Some t → AreHeld bytes l1 l2 → IsHeld bytes (cluster_length bytes) l2 (table_of bytes i) t
-  held_at t e h = let x : IfSome (slice_get l1 i) (IsHeld bytes (cluster_length bytes) l2 (table_of bytes i)) = h i in rw e at x
+-- an L2 table that an L1 entry is held by is in memory
+module _ (f : Features) (bytes : List ℕ) (h : Header) (tables : Tables) (i number : ℕ) (e : slice_get tables.l1.items i ≡ Some (HeldTable.Loaded number)) where
+  table_at : (x : IsLoadedImage f bytes h tables) → (at : ℕ) × (says_entry bytes (header_cluster h) x.1.entries i ≡ L2Table.Stored at) × IsLoaded f bytes (header_cluster h) tables.l2.items number at
+  table_at x = let y : IfSome (slice_get tables.l1.items i) (IsHeld f bytes (header_cluster h) tables.l2.items (says_entry bytes (header_cluster h) x.1.entries i)) = x.1.held i in rw e at y
 
-  pub absent_at : slice_get l1 i ≡ Some HeldTable.Absent → AreHeld bytes l1 l2 → table_of bytes i ≡ L2Table.Absent
-  absent_at e h = held_at HeldTable.Absent e h
+  pub loaded_there : ∥ IsLoadedImage f bytes h tables ∥₁ → number < length tables.l2.items
+  loaded_there l = ∥∥₁_elim l le_prop (λ x. let y = table_at x in slice_get_within tables.l2.items number y.2.table y.2.there)
 
-  pub invalid_at : slice_get l1 i ≡ Some HeldTable.Invalid → AreHeld bytes l1 l2 → table_of bytes i ≡ L2Table.Invalid
-  invalid_at e h = held_at HeldTable.Invalid e h
+  pub table_there : ∥ IsLoadedImage f bytes h tables ∥₁ → slice_get tables.l2.items number ≡ None → ⊥
+  table_there l none = let p : IsProp ⊥ = Prim.hlevel props in ∥∥₁_elim l p (λ x. let y = table_at x in let there = y.2.there in let z : ⊥ = cc in z)
 
-  pub loaded_at : (number : ℕ) → slice_get l1 i ≡ Some (HeldTable.Loaded number) → AreHeld bytes l1 l2 → (at : ℕ) × (table_of bytes i ≡ L2Table.Stored at) × IsLoaded bytes (cluster_length bytes) l2 number at
-  loaded_at number e h = held_at (HeldTable.Loaded number) e h
-
-  -- the same of what is merely known to be held
-  pub loaded_there : (number : ℕ) → slice_get l1 i ≡ Some (HeldTable.Loaded number) → ∥ AreHeld bytes l1 l2 ∥₁ → number < length l2
-  loaded_there number e h = ∥∥₁_elim h le_prop (λ x. let y = loaded_at number e x in slice_get_within l2 number y.2.table y.2.there)
-
-  pub cluster_same : (k : ℕ) (x : GuestCluster) → (AreHeld bytes l1 l2 → cluster_of bytes k ≡ x) → ∥ AreHeld bytes l1 l2 ∥₁ → cluster_of bytes k ≡ x
-  cluster_same k x f h = let p : IsProp (cluster_of bytes k ≡ x) = Prim.hlevel props in ∥∥₁_elim h p f
-
-  pub within_there : (number index : ℕ) → slice_get l1 i ≡ Some (HeldTable.Loaded number) → 8 * index + 8 ≤ cluster_length bytes → ∥ AreHeld bytes l1 l2 ∥₁ → IfSome (slice_get l2 number) (λ table. 8 * index + 8 ≤ length table.items)
-  within_there number index e fits h =
-      let p : IsProp (IfSome (slice_get l2 number) (λ table. 8 * index + 8 ≤ length table.items)) = Prim.hlevel props in
-      ∥∥₁_elim h p (λ x. let y = loaded_at number e x in rw y.2.there (omega (arith, y.2.whole, fits)))
-
--- the entry that was read of a loaded table
-pub entry_in : (l2 : List (Vec ℕ Global)) (number index entry : ℕ) (table : Vec ℕ Global) → slice_get l2 number ≡ Some table → IfSome (slice_get l2 number) (λ t. entry ≡ be64 t.items (8 * index)) → entry ≡ be64 table.items (8 * index)
-entry_in l2 number index entry table there h = rw there at h
+  pub within_there : (index : ℕ) → 8 * index + 8 ≤ header_cluster h → ∥ IsLoadedImage f bytes h tables ∥₁ → IfSome (slice_get tables.l2.items number) (λ table. 8 * index + 8 ≤ length table.items)
+  within_there index fits l =
+      let p : IsProp (IfSome (slice_get tables.l2.items number) (λ table. 8 * index + 8 ≤ length table.items)) = Prim.hlevel props in
+      ∥∥₁_elim l p (λ x. let y = table_at x in rw y.2.there (omega (arith, y.2.whole, fits)))

@@ -6,3 +6,5 @@ pub mod HeldSteps
 pub mod ReadSteps
 pub mod BackingSteps
 pub mod DiskSteps
+pub mod ToldSteps
+pub mod OpenSteps

@@ -10,9 +10,10 @@ use Rattle.imago_drivers.specs.Place.{Place, Stored, Zeroed, Special, Lower, Ref
 use Rattle.imago_drivers.specs.Mapping.{IsRight, Names, IsEof}
 use Rattle.imago_qcow2.specs.declared.entry.GuestCluster.{GuestCluster}
 use Rattle.imago_qcow2.specs.declared.entry.GuestCluster.TheVariants as C
-use Rattle.imago_qcow2.specs.Entry.{cluster_length, disk_size, cluster_of, place_by, qcow2_place}
+use Rattle.imago_qcow2.specs.Entry.{place_by}
+use Rattle.imago_qcow2.specs.Tables.{LoadedImage, loaded_cluster, loaded_place}
 use Rattle.imago_qcow2.specs.Qcow2.{IsLongest, IsOneMapping}
-use Rattle.imago_qcow2.specs.Qcow2Laws.{place_in, place_out}
+use Rattle.imago_qcow2.specs.Qcow2Laws.{in_disk, past_disk}
 
 module _ (block : ℕ) (positive : 0 < block) where
   pub rest_small : (p : ℕ) → p % block < block
@@ -100,21 +101,19 @@ rest_free bytes a b p (C.Stored at) h = ap (λ x. place_by bytes x p (GuestClust
 rest_free bytes a b p C.Compressed h = refl
 rest_free bytes a b p C.Invalid h = refl
 
-module _ (bytes : List ℕ) (c size o : ℕ) (positive : 0 < c) (is_c : c ≡ cluster_length bytes) (is_size : size ≡ disk_size bytes) where
+module _ (bytes : List ℕ) (loaded : LoadedImage) (o : ℕ) where
   -- a place by what its guest cluster is, from what that of an earlier place is
-  pub place_of : (k : GuestCluster) (i : ℕ) → cluster_of bytes ((o + i) / c) ≡ k → ((at : ℕ) → k ≡ GuestCluster.Stored at → i < c - o % c) → o + i < size
-      → qcow2_place bytes (o + i) ≡ place_by bytes (o % c + i) (o + i) k
-  place_of k i is near under =
-      let e : qcow2_place bytes (o + i) ≡ place_by bytes ((o + i) % cluster_length bytes) (o + i) (cluster_of bytes ((o + i) / cluster_length bytes)) = place_in bytes (o + i) (omega (arith, under, is_size)) in
-      let f : qcow2_place bytes (o + i) ≡ place_by bytes ((o + i) % c) (o + i) (cluster_of bytes ((o + i) / c)) =
-      e ∙ ap (λ x. place_by bytes ((o + i) % x) (o + i) (cluster_of bytes ((o + i) / x))) (sym is_c) in
-      f ∙ ap (place_by bytes ((o + i) % c) (o + i)) is
-      ∙ rest_free bytes ((o + i) % c) (o % c + i) (o + i) k (λ at e. same_rest c positive o i (near at e))
+  pub place_of : 0 < loaded.cluster → (k : GuestCluster) (i : ℕ) → loaded_cluster loaded ((o + i) / loaded.cluster) ≡ k → ((at : ℕ) → k ≡ GuestCluster.Stored at → i < loaded.cluster - o % loaded.cluster) → o + i < loaded.size
+      → loaded_place loaded bytes (o + i) ≡ place_by bytes (o % loaded.cluster + i) (o + i) k
+  place_of positive k i is near under =
+      in_disk bytes loaded.size loaded.cluster (loaded_cluster loaded) (o + i) under
+      ∙ ap (place_by bytes ((o + i) % loaded.cluster) (o + i)) is
+      ∙ rest_free bytes ((o + i) % loaded.cluster) (o % loaded.cluster + i) (o + i) k (λ at e. same_rest loaded.cluster positive o i (near at e))
 
   -- past the end
-  pub right_end : (most : ℕ) → size ≤ o → IsRight (qcow2_place bytes) o most ShallowMapping.Eof 0
+  pub right_end : (most : ℕ) → loaded.size ≤ o → IsRight (loaded_place loaded bytes) o most ShallowMapping.Eof 0
   right_end most h =
-      let e : qcow2_place bytes o ≡ End = place_out bytes o (omega (arith, h, is_size)) in
+      let e : loaded_place loaded bytes o ≡ End = past_disk bytes loaded.size loaded.cluster (loaded_cluster loaded) o h in
       record {
         names = λ i l. absurd (omega arith);
         first = λ no. absurd (no e);

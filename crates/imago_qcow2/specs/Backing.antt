@@ -1,5 +1,7 @@
+-- What the header says of the backing file: its name, and the name of its format.
 use Rattle.std.specs.Prelude.{◌≡◌, ℕ, zero, suc, ◌+◌, ◌-◌, ◌<◌, ◌≤◌, false, List, length, min}
 use Rattle.std.specs.Prelude.{Option, Some, None, Result, Ok, Err, if◌then◌else◌, nat_lt, nat_eq}
+use Rattle.std.specs.Prelude.{◌⊎◌, IsTrue}
 use Rattle.std.specs.Int.{next_multiple_of}
 use Rattle.std.specs.declared.vec.Vec.{Vec}
 use Rattle.std.specs.declared.alloc.Global.{Global}
@@ -7,7 +9,8 @@ use Rattle.imago_storage.specs.declared.error.Error.{Error}
 use Rattle.imago_storage.specs.Bytes.{IsReadAt}
 use Rattle.imago_storage.specs.Features.{Features}
 use Rattle.imago_storage.specs.Padding.{Wraps}
-use Rattle.imago_drivers.specs.Reasons.{Reasons, none}
+use Rattle.imago_drivers.specs.Reasons.{Reasons, none, allowed}
+use Rattle.imago_qcow2.specs.declared.header.Header.{Header}
 use Rattle.imago_qcow2.specs.Numbers.{be32, be64}
 use Rattle.imago_qcow2.specs.Header.{own_length}
 use Rattle.imago_qcow2.specs.Entry.{cluster_length}
@@ -51,6 +54,13 @@ IsFormatName bytes None = format_of bytes ≡ Ok None
 IsFormatName bytes (Some name) = (at : ℕ) × (format_of bytes ≡ Ok (Some (at, length name.items)))
     × IsReadAt bytes at name.items
 
+-- The same by a header that says this, over a storage that need not tell its bytes: the name of the
+-- backing file is as long as the header says.
+abbrev pub IsBackingNameRead : Features → List ℕ → Header → Option (Vec ℕ Global) → Type 0
+IsBackingNameRead f bytes h None = h.name_start ≡ 0
+IsBackingNameRead f bytes h (Some name) = (0 < h.name_start) × (length name.items ≡ h.name_length)
+    × (IsTrue f.tells_bytes → IsReadAt bytes h.name_start name.items)
+
 -- why header extensions can't be read: a request for bytes of one before that end wraps around, the
 -- device isn't reliable, or memory
 abbrev pub extension_reasons : Features → ℕ → Reasons
@@ -59,3 +69,10 @@ extension_reasons f end = record none {
   device = f.is_reliable ≡ false;
   memory = Unit {0};
 }
+
+-- Why the name of the backing file's format isn't given: an extension that was read passes the end,
+-- as it does by the bytes of the file where the storage tells these, or extensions can't be read.
+abbrev pub IsFormatRefusal : Features → ℕ → Result (Option (ℕ × ℕ)) Error → Error → Type 0
+IsFormatRefusal f cluster says e =
+    ((e ≡ Error.InvalidData) × (IsTrue f.tells_bytes → says ≡ Err e))
+    ⊎ allowed (extension_reasons f cluster) e

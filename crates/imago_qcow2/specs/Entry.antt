@@ -1,7 +1,8 @@
+-- What the bytes of a file say of its disk: the entries of its tables, and each offset's place.
 use Rattle.std.specs.Prelude.{ℕ, ◌+◌, ◌-◌, ◌*◌, ◌%◌, ◌/◌, ◌^◌, true, false, ◌||◌, not}
 use Rattle.std.specs.Prelude.{List, length, slice_index, if◌then◌else◌, nat_lt, nat_eq}
 use Rattle.imago_storage.specs.declared.error.Error.{Error}
-use Rattle.imago_drivers.specs.Place.{Place, Stored, Zeroed, Special, Lower, Refused, End}
+use Rattle.imago_drivers.specs.Place.{Byte, Place, Stored, Zeroed, Special, Lower, Refused, End}
 use Rattle.imago_qcow2.specs.declared.entry.L2Table.{L2Table}
 use Rattle.imago_qcow2.specs.declared.entry.L2Table.TheVariants as T
 use Rattle.imago_qcow2.specs.declared.entry.GuestCluster.{GuestCluster}
@@ -81,12 +82,18 @@ place_by bytes rest p C.Absent = Lower p false
 place_by bytes rest p C.Zero = Zeroed true
 place_by bytes rest p (C.Stored start) =
     Stored (slice_index bytes (start + rest)) 0 (start + rest) false
-place_by bytes rest p C.Compressed = Special 0 p
+place_by bytes rest p C.Compressed = Special (Byte 0) p
 place_by bytes rest p C.Invalid = Refused Error.InvalidData
+
+-- the place of an offset of a disk of that size, whose guest clusters are these and have that
+-- length
+abbrev pub disk_place : List ℕ → ℕ → ℕ → (ℕ → GuestCluster) → ℕ → Place
+disk_place bytes size cluster clusters p =
+    if nat_lt p size
+    then place_by bytes (p % cluster) p (clusters (p / cluster))
+    else End
 
 -- the place of an offset of the disk, by the bytes of the file alone
 abbrev pub qcow2_place : List ℕ → ℕ → Place
 qcow2_place bytes p =
-    if nat_lt p (disk_size bytes)
-    then place_by bytes (p % cluster_length bytes) p (cluster_of bytes (p / cluster_length bytes))
-    else End
+    disk_place bytes (disk_size bytes) (cluster_length bytes) (cluster_of bytes) p

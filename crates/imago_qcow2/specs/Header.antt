@@ -1,4 +1,5 @@
-use Rattle.std.specs.Prelude.{◌≡◌, ◌≤◌, ℕ, ◌+◌, ◌-◌, ◌*◌, ◌%◌, ◌/◌, ◌^◌, ◌||◌, not}
+-- What the header of a file says, and its faults.
+use Rattle.std.specs.Prelude.{◌≡◌, ◌<◌, ◌≤◌, ℕ, ◌+◌, ◌-◌, ◌*◌, ◌%◌, ◌/◌, ◌^◌, ◌||◌, not}
 use Rattle.std.specs.Prelude.{List, slice_index, if◌then◌else◌, nat_lt, nat_eq, Result, Ok}
 use Rattle.std.specs.Prelude.{Err}
 use Rattle.imago_storage.specs.declared.error.Error.{Error}
@@ -108,3 +109,7 @@ pub record IsSound (head : List ℕ) (file : ℕ) (h : Header) : Type 0 where
   pub most : h.cluster_bits ≤ 21
   pub inside : h.l1_start + h.l1_count * 8 ≤ file
   pub covers : h.size ≤ h.l1_count * (2 ^ h.cluster_bits / 8 * 2 ^ h.cluster_bits)
+
+-- the header names a backing file; a name without bytes is none
+abbrev pub NamesBacking : Header → Type 0
+NamesBacking h = (0 < h.name_start) × (0 < h.name_length)

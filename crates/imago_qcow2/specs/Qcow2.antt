@@ -1,3 +1,4 @@
+-- The view of an image: its places, and what its calls may be refused for and answer.
 use Rattle.std.specs.Prelude.{◌≡◌, ℕ, ◌+◌, ◌-◌, ◌<◌, ◌≤◌, ◌⊎◌, Bool, true, false, List, length}
 use Rattle.std.specs.Prelude.{None}
 use Rattle.imago_storage.specs.declared.error.Error.{Error}
@@ -8,13 +9,14 @@ use Rattle.imago_drivers.specs.declared.format.Format.TheVariants as Format
 use Rattle.imago_drivers.specs.declared.mapping.ShallowMapping.{ShallowMapping}
 use Rattle.imago_drivers.specs.Operation.{Operation, Map, Read, Write, Zero, DiscardToZero}
 use Rattle.imago_drivers.specs.Operation.{DiscardToAny, DiscardToBacking, Grow, Shrink, Flush}
-use Rattle.imago_drivers.specs.Place.{Place, Special, IsIn, PlacesStandAt}
+use Rattle.imago_drivers.specs.Place.{Value, Byte, Place, Special, IsIn, PlacesStandAt}
 use Rattle.imago_drivers.specs.Mapping.{Names}
 use Rattle.imago_drivers.specs.Laws.{IsRefusedIn}
 use Rattle.imago_drivers.specs.Ranges.{HasWrappingPart}
 use Rattle.imago_drivers.specs.Causes.{Causes}
 use Rattle.imago_drivers.specs.View.{View}
 use Rattle.imago_qcow2.specs.Entry.{disk_size, qcow2_place}
+use Rattle.imago_qcow2.specs.Tables.{LoadedImage, loaded_place}
 
 -- A mapping of m bytes is the longest one at o where n are asked for: it goes as far as is asked
 -- for, or as the disk does, or it is one byte too short for no mapping, since none names the place
@@ -28,7 +30,8 @@ pub record IsLongest (place : ℕ → Place) (size o n m : ℕ) : Type 0 where
 
 -- a place of the range is compressed
 abbrev pub IsCompressedIn : (ℕ → Place) → ℕ → ℕ → Type 0
-IsCompressedIn place o n = (p : ℕ) × IsIn o n p × ((b : ℕ) × (x : ℕ) × (place p ≡ Special b x))
+IsCompressedIn place o n = (p : ℕ) × IsIn o n p × ((b : Value) × (x : ℕ)
+    × (place p ≡ Special b x))
 
 -- a range of places that stand in the file one after the other, where a request for them wraps
 -- around
@@ -82,32 +85,42 @@ qcow2_offers DiscardToBacking = false
 qcow2_offers (Grow mode) = false
 qcow2_offers Shrink = false
 
--- the disk of a file of these bytes, in a storage of these features
-abbrev pub qcow2_view : Features → List ℕ → View Unit
-qcow2_view f bytes = record {
+-- the disk of that size with these places, whose file has these bytes, in a storage of these
+-- features
+abbrev pub file_view : Features → List ℕ → ℕ → (ℕ → Place) → View Unit
+file_view f bytes size place = record {
   abilities = record {
     format = Format.Qcow2;
     is_writable = false;
     takes_backing = true;
     is_reliable = f.is_reliable;
-    keeps_data = true;
+    keeps_data = f.tells_bytes;
+    tells_bytes = f.tells_bytes;
     zero_granularity = None;
     offers = qcow2_offers;
     block = 1;
   };
-  size = disk_size bytes;
-  place = qcow2_place bytes;
+  size = size;
+  place = place;
   fault_count = 0;
   stores = record { count = 1; bytes = λ index. bytes; features = λ index. f };
-  special = λ offset. 0;
+  special = λ offset. Byte 0;
   limits = record {
-    cause = qcow2_cause f (qcow2_place bytes);
+    cause = qcow2_cause f place;
     copies = λ op o n p. ⊥;
-    no_memory = qcow2_no_memory f (length bytes) (qcow2_place bytes);
+    no_memory = qcow2_no_memory f (length bytes) place;
     commit_memory = ⊥;
-    whole = qcow2_whole (qcow2_place bytes) (disk_size bytes);
-    answers = qcow2_answers (qcow2_place bytes) (disk_size bytes);
+    whole = qcow2_whole place size;
+    answers = qcow2_answers place size;
     longest = λ op o n index. 0;
   };
   pending = None;
 }
+
+-- the disk by the bytes of its file alone
+abbrev pub qcow2_view : Features → List ℕ → View Unit
+qcow2_view f bytes = file_view f bytes (disk_size bytes) (qcow2_place bytes)
+
+-- The disk by what was loaded of the file. It is the one above where the storage tells its bytes.
+abbrev pub loaded_view : Features → List ℕ → LoadedImage → View Unit
+loaded_view f bytes loaded = file_view f bytes loaded.size (loaded_place loaded bytes)

@@ -7,14 +7,28 @@ use Rattle.imago_storage.specs.declared.error.Error.{Error}
 use Rattle.imago_storage.specs.declared.error.Error.TheVariants as E
 use Rattle.imago_storage.specs.Features.{Features}
 use Rattle.imago_drivers.specs.Operation.{Operation, Map, Read}
-use Rattle.imago_drivers.specs.Place.{Place, Stored, Special, Refused, End, IsIn}
-use Rattle.imago_drivers.specs.Laws.{IsLawful, AreCauses, CauseBound}
+use Rattle.imago_drivers.specs.Place.{Value, Byte, Unreadable, Place, Stored, Special, Refused, End}
+use Rattle.imago_drivers.specs.Place.{IsIn}
+use Rattle.imago_drivers.specs.Laws.{IsLawful, AreCauses, CauseBound, refused_unreadable}
 use Rattle.imago_qcow2.specs.declared.entry.GuestCluster.{GuestCluster}
 use Rattle.imago_qcow2.specs.declared.entry.GuestCluster.TheVariants as C
-use Rattle.imago_qcow2.specs.Entry.{cluster_length, disk_size, cluster_of, place_by, qcow2_place}
-use Rattle.imago_qcow2.specs.Qcow2.{qcow2_cause, qcow2_view}
+use Rattle.imago_qcow2.specs.Entry.{cluster_length, disk_size, cluster_of, place_by, disk_place}
+use Rattle.imago_qcow2.specs.Entry.{qcow2_place}
+use Rattle.imago_qcow2.specs.Tables.{LoadedImage, loaded_cluster, loaded_place}
+use Rattle.imago_qcow2.specs.Qcow2.{qcow2_cause, file_view, loaded_view}
 
 -- The places of the disk, and the laws of a driver that has them.
+
+module _ (bytes : List ℕ) (size cluster : ℕ) (clusters : ℕ → GuestCluster) where
+  -- a place by its guest cluster
+  abbrev pub cluster_place : ℕ → Place
+  cluster_place p = place_by bytes (p % cluster) p (clusters (p / cluster))
+
+  pub in_disk : (p : ℕ) → p < size → disk_place bytes size cluster clusters p ≡ cluster_place p
+  in_disk p h = let t : nat_lt p size ≡ true = grind (arith, nat_tests) in rw t refl
+
+  pub past_disk : (p : ℕ) → size ≤ p → disk_place bytes size cluster clusters p ≡ End
+  past_disk p h = let t : nat_lt p size ≡ false = grind (arith, nat_tests) in rw t refl
 
 -- a place of the disk by its guest cluster
 abbrev pub place_at : List ℕ → ℕ → Place
@@ -23,12 +37,11 @@ place_at bytes p =
 
 pub place_in : (bytes : List ℕ) (p : ℕ) → p < disk_size bytes → qcow2_place bytes p
     ≡ place_at bytes p
-place_in bytes p h = let t : nat_lt p (disk_size bytes) ≡ true = grind (arith, nat_tests) in
-    rw t refl
+place_in bytes p h = in_disk bytes (disk_size bytes) (cluster_length bytes) (cluster_of bytes) p h
 
 pub place_out : (bytes : List ℕ) (p : ℕ) → disk_size bytes ≤ p → qcow2_place bytes p ≡ End
-place_out bytes p h = let t : nat_lt p (disk_size bytes) ≡ false = grind (arith, nat_tests) in
-    rw t refl
+place_out bytes p h = past_disk bytes (disk_size bytes) (cluster_length bytes) (cluster_of bytes) p
+    h
 
 module _ (bytes : List ℕ) (rest p : ℕ) where
   pub no_end : (k : GuestCluster) → place_by bytes rest p k ≡ End → ⊥
@@ -47,7 +60,8 @@ module _ (bytes : List ℕ) (rest p : ℕ) where
   stored_by C.Compressed b s o w e = let z : ⊥ = cc in absurd z
   stored_by C.Invalid b s o w e = let z : ⊥ = cc in absurd z
 
-  special_by : (k : GuestCluster) (b o : ℕ) → place_by bytes rest p k ≡ Special b o → 0 ≡ b
+  special_by : (k : GuestCluster) (b : Value) (o : ℕ) → place_by bytes rest p k ≡ Special b o
+      → Byte 0 ≡ b
   special_by (C.Stored at) b o e = let z : ⊥ = cc in absurd z
   special_by C.Zero b o e = let z : ⊥ = cc in absurd z
   special_by C.Absent b o e = let z : ⊥ = cc in absurd z
@@ -62,55 +76,63 @@ module _ (bytes : List ℕ) (rest p : ℕ) where
   refused_by C.Compressed r e = let z : ⊥ = cc in absurd z
   refused_by C.Invalid r e = cc
 
-module _ (bytes : List ℕ) where
+module _ (bytes : List ℕ) (size cluster : ℕ) (clusters : ℕ → GuestCluster) where
+  abbrev here : ℕ → Place
+  here = disk_place bytes size cluster clusters
+
   -- a place that is no end lies below the size, and is its cluster's
-  pub below_size : (p : ℕ) (x : Place) → qcow2_place bytes p ≡ x → (x ≡ End → ⊥)
-      → (p < disk_size bytes) × (place_at bytes p ≡ x)
+  below_size : (p : ℕ) (x : Place) → here p ≡ x → (x ≡ End → ⊥)
+      → (p < size) × (cluster_place bytes size cluster clusters p ≡ x)
   below_size p x e other = ⊎_elim
-      (λ under. (under, sym (place_in bytes p under) ∙ e))
-      (λ over. absurd (other (sym e ∙ place_out bytes p over)))
-      (cases_lt p (disk_size bytes))
+      (λ under. (under, sym (in_disk bytes size cluster clusters p under) ∙ e))
+      (λ over. absurd (other (sym e ∙ past_disk bytes size cluster clusters p over)))
+      (cases_lt p size)
 
-  pub from_size : (p : ℕ) → qcow2_place bytes p ≡ End → disk_size bytes ≤ p
+  from_size : (p : ℕ) → here p ≡ End → size ≤ p
   from_size p e = ⊎_elim
-      (λ under. absurd (no_end bytes (p % cluster_length bytes) p
-      (cluster_of bytes (p / cluster_length bytes)) (sym (place_in bytes p under) ∙ e)))
+      (λ under. absurd (no_end bytes (p % cluster) p (clusters (p / cluster))
+      (sym (in_disk bytes size cluster clusters p under) ∙ e)))
       (λ over. over)
-      (cases_lt p (disk_size bytes))
+      (cases_lt p size)
 
-  pub stored_place : (p b s o : ℕ) (w : Bool) → qcow2_place bytes p ≡ Stored b s o w → (s ≡ 0)
+  stored_place : (p b s o : ℕ) (w : Bool) → here p ≡ Stored b s o w → (s ≡ 0)
       × (slice_index bytes o ≡ b) × (w ≡ false)
   stored_place p b s o w e =
       let x = below_size p (Stored b s o w) e (λ y. let z : ⊥ = cc in z) in
-      stored_by bytes (p % cluster_length bytes) p
-      (cluster_of bytes (p / cluster_length bytes)) b s o w (x.1)
+      stored_by bytes (p % cluster) p (clusters (p / cluster)) b s o w (x.1)
 
-  pub special_place : (p b o : ℕ) → qcow2_place bytes p ≡ Special b o → 0 ≡ b
+  special_place : (p : ℕ) (b : Value) (o : ℕ) → here p ≡ Special b o → Byte 0 ≡ b
   special_place p b o e =
       let x = below_size p (Special b o) e (λ y. let z : ⊥ = cc in z) in
-      special_by bytes (p % cluster_length bytes) p
-      (cluster_of bytes (p / cluster_length bytes)) b o (x.1)
+      special_by bytes (p % cluster) p (clusters (p / cluster)) b o (x.1)
 
-  pub refused_place : (p : ℕ) (r : Error) → qcow2_place bytes p ≡ Refused r → r ≡ Error.InvalidData
+  refused_place : (p : ℕ) (r : Error) → here p ≡ Refused r → r ≡ Error.InvalidData
   refused_place p r e =
       let x = below_size p (Refused r) e (λ y. let z : ⊥ = cc in z) in
-      refused_by bytes (p % cluster_length bytes) p (cluster_of bytes (p / cluster_length bytes)) r
-      (x.1)
+      refused_by bytes (p % cluster) p (clusters (p / cluster)) r (x.1)
 
-pub qcow2_lawful : (f : Features) (bytes : List ℕ) → IsLawful (qcow2_view f bytes)
-qcow2_lawful f bytes = record {
-  ends = λ p q h e. place_out bytes q (let x = from_size bytes p e in omega (arith, x));
-  bounded = λ p h. place_out bytes p h;
-  stored = λ p b s o w e. let x = stored_place bytes p b s o w e in let y : s < 1 =
-      omega (arith, x.0) in (y, x.1);
-  special = λ p b o e. special_place bytes p b o e;
-  lower = λ p q w e. refl;
-  own = λ p q b c s o w e g. let x = stored_place bytes p b s o true e in let y : true ≡ false =
-      x.2 in let z : ⊥ = cc in absurd z;
-  refused = λ p r e. inl (refused_place bytes p r e);
-  granularity = λ e. let z : ⊥ = cc in z;
-  blocks = λ e. let z : ⊥ = cc in z;
-}
+  places_lawful : (f : Features) → IsLawful (file_view f bytes size here)
+  places_lawful f = record {
+    ends = λ p q h e. past_disk bytes size cluster clusters q (let x = from_size p e in
+        omega (arith, x));
+    bounded = λ p h. past_disk bytes size cluster clusters p h;
+    stored = λ p b s o w e. let x = stored_place p b s o w e in let y : s < 1 =
+        omega (arith, x.0) in (y, x.1);
+    special = λ p b o e. special_place p b o e;
+    faulty = λ p o e s. let x = special_place p (Unreadable e) o s in let z : ⊥ = cc in absurd z;
+    lower = λ p q w e. refl;
+    own = λ p q b c s o w e g. let x = stored_place p b s o true e in let y : true ≡ false =
+        x.2 in let z : ⊥ = cc in absurd z;
+    refused = λ p r e. inl (refused_place p r e);
+    told = λ t. t;
+    granularity = λ e. let z : ⊥ = cc in z;
+    blocks = λ e. let z : ⊥ = cc in z;
+  }
+
+pub qcow2_lawful : (f : Features) (bytes : List ℕ) (loaded : LoadedImage)
+    → IsLawful (loaded_view f bytes loaded)
+qcow2_lawful f bytes loaded = places_lawful bytes loaded.size loaded.cluster
+    (loaded_cluster loaded) f
 
 -- a cause is one of four
 only : (f : Features) (place : ℕ → Place) (op : Operation) (o n : ℕ) (e : Error)
@@ -129,10 +151,11 @@ wider : (o n q m p : ℕ) → o ≤ q → q + m ≤ o + n → IsIn q m p → IsI
 wider o n q m p h k i = let a : o ≤ p = omega (arith, i.0) in let b : p < o + n =
     omega (arith, i.1) in (a, b)
 
-pub qcow2_causes : (f : Features) (bytes : List ℕ) → AreCauses (qcow2_view f bytes)
-qcow2_causes f bytes = record {
-  part = λ op o n q m e h k c. only f (qcow2_place bytes) op q m e
-      (λ t r. qcow2_cause f (qcow2_place bytes) t o n r) c
+places_causes : (f : Features) (bytes : List ℕ) (size : ℕ) (place : ℕ → Place)
+    → AreCauses (file_view f bytes size place)
+places_causes f bytes size place = record {
+  part = λ op o n q m e h k c. only f place op q m e
+      (λ t r. qcow2_cause f place t o n r) c
       (λ x. (x.0, wider o n q m (x.0) h k (x.1), x.2))
       (λ x. (x.0, wider o n q m (x.0) h k (x.1), x.2))
       (λ x. (x.0, wider o n q m (x.0) h k (x.1), x.2))
@@ -145,8 +168,13 @@ qcow2_causes f bytes = record {
         wraps = x.wraps;
       });
   part_copied = λ op o n q m p h k c. c;
-  bound = λ op o n e c. only f (qcow2_place bytes) op o n e
-      (λ t r. CauseBound (qcow2_view f bytes) t o n r) c
-      (λ x. x) (λ x. x) (λ x. (refl, x)) (λ x. tt);
+  bound = λ op o n e c. only f place op o n e
+      (λ t r. CauseBound (file_view f bytes size place) t o n r) c
+      (λ x. refused_unreadable place o n Error.InvalidData x)
+      (λ x. refused_unreadable place o n Error.InvalidData x) (λ x. (refl, x)) (λ x. tt);
   lends = λ op o n p c. absurd c;
 }
+
+pub qcow2_causes : (f : Features) (bytes : List ℕ) (loaded : LoadedImage)
+    → AreCauses (loaded_view f bytes loaded)
+qcow2_causes f bytes loaded = places_causes f bytes loaded.size (loaded_place loaded bytes)

@@ -1,10 +1,9 @@
 //! What an image says of its backing file.
-ghost use Rattle.std.specs.Prelude.{◌≡◌, ℕ, ◌+◌, ◌<◌, ◌≤◌, ◌⊎◌, IfOk, IfErr, IfSome, Ok, Err};
+ghost use Rattle.std.specs.Prelude.{◌≡◌, ℕ, ◌+◌, ◌<◌, ◌≤◌, IfOk, IfErr, IfSome, IsTrue, Ok};
 ghost use Rattle.imago_drivers.specs.Reasons.{allowed};
 ghost use Rattle.imago_qcow2.specs.Numbers.{be32};
-ghost use Rattle.imago_qcow2.specs.Entry.{cluster_length};
 ghost use Rattle.imago_qcow2.specs.Opening.{read_reasons};
-ghost use Rattle.imago_qcow2.specs.Backing.{format_from, extension_reasons};
+ghost use Rattle.imago_qcow2.specs.Backing.{format_from, IsFormatRefusal};
 
 use crate::number::number32;
 use imago_storage::error::Error;
@@ -15,8 +14,10 @@ use std::alloc::Global;
 /// The type of the header extension at that offset of the file, and the length of what it holds, in
 /// bytes.
 fn extension_at<S: Storage>(storage: &S, alloc: Global, at: u64) -> Result<(u32, u64), Error>
-    ensures kind { IfOk result (λ r. r.0 ≡ be32 (S.bytes storage.now) at) }
-    ensures count { IfOk result (λ r. r.1 ≡ be32 (S.bytes storage.now) (at + 4)) }
+    ensures kind { IsTrue (S.features storage.now).tells_bytes
+        → IfOk result (λ r. r.0 ≡ be32 (S.bytes storage.now) at) }
+    ensures count { IsTrue (S.features storage.now).tells_bytes
+        → IfOk result (λ r. r.1 ≡ be32 (S.bytes storage.now) (at + 4)) }
     ensures small { IfOk result (λ r. r.1 < 4294967296) }
     ensures refusals { IfErr result (allowed (read_reasons (S.features storage.now) at 8)) }
 {
@@ -34,13 +35,12 @@ pub(crate) fn find_format<S: Storage>(
     end: u64,
 ) -> Result<Option<(u64, u64)>, Error>
     requires most { end ≤ 2097152 }
-    requires inside { end ≤ cluster_length (S.bytes storage.now) }
-    ensures found { IfOk result (λ o. format_from (S.bytes storage.now) start end ≡ Ok o) }
+    ensures found { IsTrue (S.features storage.now).tells_bytes
+        → IfOk result (λ o. format_from (S.bytes storage.now) start end ≡ Ok o) }
     ensures inside { IfOk result (λ o. IfSome o (λ p. p.0 + p.1 ≤ end)) }
     ensures refusals { IfErr result
-        (λ e. (format_from (S.bytes storage.now) start end ≡ Err e)
-        ⊎ allowed
-        (extension_reasons (S.features storage.now) (cluster_length (S.bytes storage.now))) e) }
+        (IsFormatRefusal (S.features storage.now) end
+        (format_from (S.bytes storage.now) start end)) }
 {
     let mut at = start;
     while at < end {

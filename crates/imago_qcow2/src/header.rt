@@ -1,10 +1,11 @@
 //! The header of an image's file.
 ghost use Rattle.std.specs.Prelude.{◌≡◌, ◌≤◌, ◌<◌, ◌^◌, ◌+◌, ◌*◌, ◌/◌, length, OnOk, IfOk};
+ghost use Rattle.std.specs.Prelude.{true, false};
 ghost use Rattle.imago_qcow2.specs.Numbers.{be32, be64};
 ghost use Rattle.imago_qcow2.specs.Fault.{answer_of};
 ghost use Rattle.imago_qcow2.specs.Header.{features_of, own_length, magic_fault, support_fault};
 ghost use Rattle.imago_qcow2.specs.Header.{added_fault, bounds_fault, table_fault, size_fault};
-ghost use Rattle.imago_qcow2.specs.Header.{name_fault, header_of, IsSound};
+ghost use Rattle.imago_qcow2.specs.Header.{name_fault, header_of, IsSound, NamesBacking};
 
 use crate::fault::HeaderFault;
 use crate::number::{number32, number64};
@@ -30,6 +31,16 @@ pub struct Header {
     pub(crate) name_start: u64,
     /// The name's length in bytes.
     pub(crate) name_length: u32,
+}
+
+impl Header {
+    /// Whether a backing file is named. A name without bytes is none.
+    pub(crate) fn names_backing(self) -> bool
+        ensures yes { result ≡ true → NamesBacking self }
+        ensures no { result ≡ false → NamesBacking self → ⊥ }
+    {
+        self.name_start != 0 && self.name_length != 0
+    }
 }
 
 /// Whether a file of that length, which begins so, is no qcow2 image.

@@ -1,25 +1,50 @@
 //! Laws of disks, and what the definitions give for entries that are written out. The functions do
 //! nothing; their contracts are proved.
-ghost use Rattle.std.specs.Prelude.{◌≡◌, ℕ, ◌≤◌, List, length};
+ghost use Rattle.std.specs.Prelude.{◌≡◌, ℕ, ◌≤◌, List, length, IsTrue, Ok};
 ghost use Rattle.imago_drivers.specs.Place.{Value, shown};
+ghost use Rattle.imago_qcow2.specs.Numbers.{be32, be64};
 ghost use Rattle.imago_qcow2.specs.Header.{header_of};
 ghost use Rattle.imago_qcow2.specs.declared.entry.L2Table.{L2Table};
 ghost use Rattle.imago_qcow2.specs.declared.entry.GuestCluster.{GuestCluster};
 ghost use Rattle.imago_qcow2.specs.Entry.{cluster_length, cluster_in_entry, table_in_entry};
-ghost use Rattle.imago_qcow2.specs.Entry.{qcow2_place};
+ghost use Rattle.imago_qcow2.specs.Entry.{disk_size, qcow2_place};
+ghost use Rattle.imago_qcow2.specs.Tables.{header_cluster};
+ghost use Rattle.imago_qcow2.specs.Qcow2Image.{storage_in, header_in};
 ghost use Rattle.imago_qcow2.specs.Disk.{HaveSameTables, StandsAlike};
 
 use crate::qcow2::Qcow2;
 use imago_drivers::drivers::FormatDriverInstance;
 use imago_storage::storage::Storage;
 
-/// What is read of an image follows from the bytes of its file, and from the layer below where
-/// these lead there.
+/// What is read of an image follows from the bytes of its file, where its storage tells these, and
+/// from the layer below where these lead there.
 pub fn disk_of_bytes<S: Storage>(image: &Qcow2<S>)
-    ensures { (below : ℕ → Value) (p : ℕ)
-        → shown below ((⟦<Qcow2<S> as FormatDriverInstance>⟧.view image.now).place p)
-        ≡ shown below
-        (qcow2_place ((⟦<Qcow2<S> as FormatDriverInstance>⟧.view image.now).stores.bytes 0) p) }
+    ensures { let view = ⟦<Qcow2<S> as FormatDriverInstance>⟧.view in
+        IsTrue (view image.now).abilities.tells_bytes → (below : ℕ → Value) (p : ℕ)
+        → shown below ((view image.now).place p)
+        ≡ shown below (qcow2_place ((view image.now).stores.bytes 0) p) }
+{
+    let _ = image;
+}
+
+/// An image's disk, and its header, are those that the bytes of its file give, where its storage
+/// tells these.
+pub fn image_of_bytes<S: Storage>(image: &Qcow2<S>)
+    ensures size { let view = ⟦<Qcow2<S> as FormatDriverInstance>⟧.view in
+        IsTrue (view image.now).abilities.tells_bytes
+        → (view image.now).size ≡ disk_size ((view image.now).stores.bytes 0) }
+    ensures places { let view = ⟦<Qcow2<S> as FormatDriverInstance>⟧.view in
+        IsTrue (view image.now).abilities.tells_bytes
+        → (view image.now).place ≡ qcow2_place ((view image.now).stores.bytes 0) }
+    ensures header { IsTrue (S.features (storage_in image.now)).tells_bytes
+        → header_of (S.bytes (storage_in image.now)) (length (S.bytes (storage_in image.now)))
+        ≡ Ok (header_in image.now) }
+    ensures name_start { IsTrue (S.features (storage_in image.now)).tells_bytes
+        → (header_in image.now).name_start ≡ be64 (S.bytes (storage_in image.now)) 8 }
+    ensures name_length { IsTrue (S.features (storage_in image.now)).tells_bytes
+        → (header_in image.now).name_length ≡ be32 (S.bytes (storage_in image.now)) 16 }
+    ensures cluster { IsTrue (S.features (storage_in image.now)).tells_bytes
+        → header_cluster (header_in image.now) ≡ cluster_length (S.bytes (storage_in image.now)) }
 {
     let _ = image;
 }

@@ -1,22 +1,21 @@
 //! The driver of qcow2 images.
 ghost use Rattle.std.specs.Prelude.{◌≡◌, ℕ, ◌+◌, ◌-◌, ◌*◌, ◌/◌, ◌%◌, ◌^◌, ◌<◌, ◌≤◌, ◌⊎◌, length};
-ghost use Rattle.std.specs.Prelude.{true, false, IsErrOf, IfErr, IfOk, OnOk, IsOk, Ok, Err};
+ghost use Rattle.std.specs.Prelude.{List, true, false, IsErrOf, IfErr, IfOk, OnOk, IsTrue, Err};
 ghost use Rattle.imago_storage.specs.declared.error.Error.{Error};
 ghost use Rattle.imago_storage.specs.Error.{IsExtRefusal};
 ghost use Rattle.imago_drivers.specs.Commit.{IsCommit, IsCancel};
 ghost use Rattle.imago_drivers.specs.Mapping.{Names};
 ghost use Rattle.imago_drivers.specs.Place.{Refused};
 ghost use Rattle.imago_drivers.specs.Reasons.{allowed};
-ghost use Rattle.imago_qcow2.specs.Numbers.{be32, be64};
-ghost use Rattle.imago_qcow2.specs.Header.{own_length, header_of, IsSound};
-ghost use Rattle.imago_qcow2.specs.Entry.{version_of, cluster_length, disk_size, cluster_of};
-ghost use Rattle.imago_qcow2.specs.Entry.{qcow2_place};
-ghost use Rattle.imago_qcow2.specs.Tables.{AreHeld};
-ghost use Rattle.imago_qcow2.specs.Backing.{IsBackingName, IsFormatName, extensions_end, format_of};
-ghost use Rattle.imago_qcow2.specs.Backing.{extension_reasons};
-ghost use Rattle.imago_qcow2.specs.Opening.{read_reasons, header_reasons, open_reasons, probe_of};
+ghost use Rattle.imago_qcow2.specs.Header.{header_of, NamesBacking};
+ghost use Rattle.imago_qcow2.specs.Tables.{IsHeadRead, IsAccepted, IsLoadedImage};
+ghost use Rattle.imago_qcow2.specs.Tables.{header_cluster, loaded_cluster, loaded_place};
+ghost use Rattle.imago_qcow2.specs.Backing.{IsBackingName, IsBackingNameRead, IsFormatName};
+ghost use Rattle.imago_qcow2.specs.Backing.{IsFormatRefusal, extensions_end, format_of};
+ghost use Rattle.imago_qcow2.specs.Opening.{read_reasons, header_reasons, probe_of};
+ghost use Rattle.imago_qcow2.specs.Opening.{IsOpened, IsRefusedOpening, IsRefusedOverlay};
 ghost use Rattle.imago_qcow2.specs.Opening.{probe_reasons_of};
-ghost use Rattle.imago_qcow2.specs.Qcow2.{qcow2_view};
+ghost use Rattle.imago_qcow2.specs.Qcow2.{loaded_view};
 ghost use Rattle.imago_qcow2.specs.Qcow2Calls.{qcow2_calls};
 ghost use Rattle.imago_qcow2.specs.Qcow2Laws.{qcow2_lawful, qcow2_causes};
 
@@ -40,42 +39,32 @@ use std::fmt::{self, Display, Formatter, Write};
 /// The disk of a qcow2 file. It can't be written to.
 ///
 /// It follows from the bytes of the file alone, and from the layer below where a guest cluster has
-/// no data. Header and tables are read when the image is opened; each L2 table is kept once, also
-/// where several L1 entries name it. Compressed clusters are mapped as special, and a read of them
-/// is [`Error::Unsupported`].
+/// no data. The header and the tables are read once, when the image is opened; each L2 table is
+/// kept once, also where several L1 entries name it. Compressed clusters are mapped as special, and
+/// a read of them is [`Error::Unsupported`].
 #[derive(Drop)]
 pub struct Qcow2<S: Storage> {
     storage: S,
-    version: u32,
-    /// The length of the header in bytes.
-    header_length: u32,
+    header: Header,
     /// A cluster's length in bytes.
     cluster: u64,
-    /// The disk's size in bytes.
-    size: u64,
-    /// Where the backing file's name begins in the file, in bytes; 0 where there is none.
-    name_start: u64,
-    /// The name's length in bytes.
-    name_length: u32,
     tables: Tables,
-    ghost version_is: { version ≡ version_of (S.bytes storage) },
-    ghost header_length_is: { header_length ≡ own_length (S.bytes storage) },
-    ghost cluster_is: { cluster ≡ cluster_length (S.bytes storage) },
-    ghost size_is: { size ≡ disk_size (S.bytes storage) },
-    ghost name_start_is: { name_start ≡ be64 (S.bytes storage) 8 },
-    ghost name_length_is: { name_length ≡ be32 (S.bytes storage) 16 },
+    ghost cluster_is: { cluster ≡ header_cluster header },
+    ghost fits: { header.size < 2 ^ 64 },
     ghost least: { 512 ≤ cluster },
     ghost most: { cluster ≤ 2097152 },
-    ghost covers: { size ≤ length tables.l1.items * (cluster / 8 * cluster) },
-    ghost held: { ∥ AreHeld (S.bytes storage) tables.l1.items tables.l2.items ∥₁ },
+    ghost covers: { header.size ≤ length tables.l1.items * (cluster / 8 * cluster) },
+    ghost loaded: { ∥ IsLoadedImage (S.features storage) (S.bytes storage) header tables ∥₁ },
 }
 
 /// What the header of a storage of that length says.
-fn header_in<S: Storage>(storage: &S, alloc: Global, file: u64) -> Result<Header, Error>
-    ensures header { IfOk result (λ h. header_of (S.bytes storage.now) file ≡ Ok h) }
-    ensures sound { IfOk result (λ h. IsSound (S.bytes storage.now) file h) }
+fn load_header<S: Storage>(storage: &S, alloc: Global, file: u64) -> Result<Header, Error>
+    requires { file ≡ length (S.bytes storage.now) }
+    ensures header { IfOk result
+        (IsAccepted (S.features storage.now) (S.bytes storage.now)) }
     ensures refusals { IfErr result
-        (λ e. (header_of (S.bytes storage.now) file ≡ Err e)
+        (λ e. ((head : List ℕ) × IsHeadRead (S.features storage.now) (S.bytes storage.now) head
+        × (header_of head (length (S.bytes storage.now)) ≡ Err e))
         ⊎ allowed (header_reasons (S.features storage.now) (S.bytes storage.now)) e) }
 {
     let mut head = [0u8; HEADER];
@@ -97,9 +86,10 @@ fn is_recognized(head: &[u8]) -> bool
 }
 
 impl<S: Storage> Qcow2<S> {
-    ghost use Rattle.imago_qcow2.specs.Qcow2Image.{storage_in};
+    ghost use Rattle.imago_qcow2.specs.Qcow2Image.{storage_in, header_in, loaded_in};
 
-    /// Opens the image whose file the storage is.
+    /// Opens the image whose file the storage is. The caller lays the image of its backing file
+    /// below, if it names one: with nothing below, guest clusters without data read as zeroes.
     ///
     /// [`Error::Unsupported`] is an image that is to be written, before anything else. Then the
     /// header is looked at. The first of these is the answer: [`Error::InvalidData`], the file is
@@ -113,40 +103,44 @@ impl<S: Storage> Qcow2<S> {
         ensures read_only { writable ≡ true → result ≡ Err Error.Unsupported }
         ensures opened { IfOk result
             (λ d. (storage_in d ≡ «storage»)
-            × IsOk (header_of (S.bytes storage) (length (S.bytes storage)))) }
+            × IsOpened (S.features storage) (S.bytes storage) (header_in d)) }
         ensures refused { writable ≡ false
-            → IfErr result
-            (λ e. (header_of (S.bytes storage) (length (S.bytes storage)) ≡ Err e)
-            ⊎ allowed (open_reasons (S.features storage) (S.bytes storage)) e) }
+            → IfErr result (IsRefusedOpening (S.features storage) (S.bytes storage)) }
     {
         if writable {
             return Err(Error::Unsupported);
         }
-        Qcow2::open_read_only(alloc, storage)
+        Qcow2::open_read_only(alloc, storage, true)
     }
 
-    /// Opens the image.
-    pub(crate) fn open_read_only(alloc: Global, storage: S) -> Result<Self, Error>
+    /// Opens the image. One that names a backing file is unsupported, unless its caller lays that
+    /// below.
+    pub(crate) fn open_read_only(
+        alloc: Global,
+        storage: S,
+        backing_laid: bool,
+    ) -> Result<Self, Error>
         ensures opened { IfOk result
             (λ d. (storage_in d ≡ «storage»)
-            × IsOk (header_of (S.bytes storage) (length (S.bytes storage)))) }
+            × IsOpened (S.features storage) (S.bytes storage) (header_in d)
+            × (backing_laid ≡ false → NamesBacking (header_in d) → ⊥)) }
         ensures refused { IfErr result
-            (λ e. (header_of (S.bytes storage) (length (S.bytes storage)) ≡ Err e)
-            ⊎ allowed (open_reasons (S.features storage) (S.bytes storage)) e) }
+            (λ e. IsRefusedOpening (S.features storage) (S.bytes storage) e
+            ⊎ ((backing_laid ≡ false)
+            × IsRefusedOverlay (S.features storage) (S.bytes storage) e)) }
     {
         let file = storage.size()?;
-        let header = header_in(&storage, alloc, file)?;
+        let header = load_header(&storage, alloc, file)?;
+        if !backing_laid && header.names_backing() {
+            return Err(Error::Unsupported);
+        }
         let cluster = cluster_of_bits(header.cluster_bits);
         let count = header.size.div_ceil(cluster / 8 * cluster);
         let tables = read_tables(&storage, alloc, header.l1_start, count, cluster, file)?;
         Ok(Qcow2 {
             storage,
-            version: header.version,
-            header_length: header.own_length,
+            header,
             cluster,
-            size: header.size,
-            name_start: header.name_start,
-            name_length: header.name_length,
             tables,
         })
     }
@@ -155,18 +149,21 @@ impl<S: Storage> Qcow2<S> {
     /// caller's hands to open it, and to lay its image below. [`Error::Memory`] is no room for the
     /// name; what the storage is refused for is passed on.
     pub fn backing_file(&self, alloc: Global) -> Result<Option<Vec<u8>>, Error>
-        ensures name { IfOk result (IsBackingName (S.bytes (storage_in self.now))) }
+        ensures name { IsTrue (S.features (storage_in self.now)).tells_bytes
+            → IfOk result (IsBackingName (S.bytes (storage_in self.now))) }
+        ensures read { IfOk result
+            (IsBackingNameRead (S.features (storage_in self.now)) (S.bytes (storage_in self.now))
+            (header_in self.now)) }
         ensures refusals { IfErr result
             (allowed
-            (read_reasons (S.features (storage_in self.now))
-            (be64 (S.bytes (storage_in self.now)) 8)
-            (be32 (S.bytes (storage_in self.now)) 16))) }
+            (read_reasons (S.features (storage_in self.now)) (header_in self.now).name_start
+            (header_in self.now).name_length)) }
     {
-        if self.name_start == 0 {
+        if self.header.name_start == 0 {
             return Ok(None);
         }
-        let count = self.name_length as u64;
-        Ok(Some(read_bytes(&self.storage, alloc, self.name_start, count)?))
+        let count = self.header.name_length as u64;
+        Ok(Some(read_bytes(&self.storage, alloc, self.header.name_start, count)?))
     }
 
     /// The name of the backing file's format, as the header extension for it has it, where there is
@@ -176,14 +173,14 @@ impl<S: Storage> Qcow2<S> {
     /// backing file's name; [`Error::Memory`] no room for the name. What the storage is refused for
     /// is passed on.
     pub fn backing_format(&self, alloc: Global) -> Result<Option<Vec<u8>>, Error>
-        ensures name { IfOk result (IsFormatName (S.bytes (storage_in self.now))) }
+        ensures name { IsTrue (S.features (storage_in self.now)).tells_bytes
+            → IfOk result (IsFormatName (S.bytes (storage_in self.now))) }
         ensures refusals { IfErr result
-            (λ e. (format_of (S.bytes (storage_in self.now)) ≡ Err e)
-            ⊎ allowed (extension_reasons (S.features (storage_in self.now))
-            (cluster_length (S.bytes (storage_in self.now)))) e) }
+            (IsFormatRefusal (S.features (storage_in self.now))
+            (header_cluster (header_in self.now)) (format_of (S.bytes (storage_in self.now)))) }
     {
         let end = self.extensions_end();
-        let found = find_format(&self.storage, alloc, self.header_length as u64, end)?;
+        let found = find_format(&self.storage, alloc, self.header.own_length as u64, end)?;
         let Some((at, count)) = found else {
             return Ok(None);
         };
@@ -192,23 +189,24 @@ impl<S: Storage> Qcow2<S> {
 
     /// Where header extensions end in the file, in bytes.
     fn extensions_end(&self) -> u64
-        ensures value { result ≡ extensions_end (S.bytes self.now.storage) }
+        ensures value { IsTrue (S.features self.now.storage).tells_bytes
+            → result ≡ extensions_end (S.bytes self.now.storage) }
         ensures inside { result ≤ self.now.cluster }
     {
-        if self.name_start == 0 {
+        if self.header.name_start == 0 {
             return self.cluster;
         }
-        self.cluster.min(self.name_start)
+        self.cluster.min(self.header.name_start)
     }
 
     /// What the guest cluster at that offset of the disk is, and how many bytes from there on stand
     /// in such guest clusters: the rest of its own, or, where its L2 table is absent or invalid,
     /// the rest of those that this table would have been for.
     fn cluster_at(&self, offset: u64) -> (GuestCluster, u64)
-        requires { offset < self.now.size }
+        requires { offset < self.now.header.size }
         ensures same { (i : ℕ)
             → i < result.1
-            → cluster_of (S.bytes self.now.storage) ((offset + i) / self.now.cluster) ≡ result.0 }
+            → loaded_cluster (loaded_in self.now) ((offset + i) / self.now.cluster) ≡ result.0 }
         ensures some { 0 < result.1 }
         ensures stored { (at : ℕ)
             → result.0 ≡ GuestCluster.Stored at
@@ -222,7 +220,7 @@ impl<S: Storage> Qcow2<S> {
                 let index = offset / cluster % (cluster / 8);
                 let entry = entry_at(&self.tables.l2, number, index);
                 (
-                    cluster_in(self.version, cluster, entry),
+                    cluster_in(self.header.version, cluster, entry),
                     cluster - offset % cluster,
                 )
             }
@@ -233,19 +231,20 @@ impl<S: Storage> Qcow2<S> {
     /// The mapping of the places from that offset of the disk on, and of how many it is known: at
     /// least one.
     fn part_at(&self, offset: u64) -> Result<(ShallowMapping, u64), Error>
-        requires { offset < self.now.size }
+        requires { offset < self.now.header.size }
         ensures names { IfOk result
             (λ r. (i : ℕ) → i < r.1
-            → Names r.0 i (qcow2_place (S.bytes self.now.storage) (offset + i))) }
+            → Names r.0 i
+            (loaded_place (loaded_in self.now) (S.bytes self.now.storage) (offset + i))) }
         ensures some { IfOk result (λ r. 0 < r.1) }
-        ensures inside { IfOk result (λ r. offset + r.1 ≤ self.now.size) }
+        ensures inside { IfOk result (λ r. offset + r.1 ≤ self.now.header.size) }
         ensures only { IfErr result (λ e. e ≡ Error.InvalidData) }
         ensures refused { IfErr result
-            (λ e. qcow2_place (S.bytes self.now.storage) offset ≡ Refused e) }
+            (λ e. loaded_place (loaded_in self.now) (S.bytes self.now.storage) offset ≡ Refused e) }
     {
         let (cluster, same) = self.cluster_at(offset);
         let mapping = mapping_of(cluster, offset % self.cluster, offset)?;
-        Ok((mapping, same.min(self.size - offset)))
+        Ok((mapping, same.min(self.header.size - offset)))
     }
 
     /// How many places from that offset of the disk on the mapping names, up to `most` of them. It
@@ -253,15 +252,18 @@ impl<S: Storage> Qcow2<S> {
     fn longest(&self, mapping: ShallowMapping, offset: u64, known: u64, most: u64) -> u64
         requires names { (i : ℕ)
             → i < known
-            → Names mapping i (qcow2_place (S.bytes self.now.storage) (offset + i)) }
-        requires known { offset + known ≤ self.now.size }
-        requires most { offset + most ≤ self.now.size }
+            → Names mapping i
+            (loaded_place (loaded_in self.now) (S.bytes self.now.storage) (offset + i)) }
+        requires known { offset + known ≤ self.now.header.size }
+        requires most { offset + most ≤ self.now.header.size }
         ensures names { (i : ℕ)
             → i < result
-            → Names mapping i (qcow2_place (S.bytes self.now.storage) (offset + i)) }
+            → Names mapping i
+            (loaded_place (loaded_in self.now) (S.bytes self.now.storage) (offset + i)) }
         ensures most { result ≤ most }
         ensures ends { (result ≡ most)
-            ⊎ (Names mapping result (qcow2_place (S.bytes self.now.storage) (offset + result))
+            ⊎ (Names mapping result
+            (loaded_place (loaded_in self.now) (S.bytes self.now.storage) (offset + result))
             → ⊥) }
     {
         let mut count = known;
@@ -289,7 +291,9 @@ impl<S: Storage> FormatDriverInstance for Qcow2<S> {
 
     type State = ();
 
-    ghost view = { λ d. qcow2_view (S.features d.storage) (S.bytes d.storage) };
+    ghost use Rattle.imago_qcow2.specs.Qcow2Image.{loaded_in};
+
+    ghost view = { λ d. loaded_view (S.features d.storage) (S.bytes d.storage) (loaded_in d) };
 
     ghost recognizes = { probe_of };
 
@@ -297,16 +301,17 @@ impl<S: Storage> FormatDriverInstance for Qcow2<S> {
 
     ghost calls = { qcow2_calls (λ d. S.features d.storage) (λ d. S.bytes d.storage) };
 
-    ghost lawful = { λ d. qcow2_lawful (S.features d.storage) (S.bytes d.storage) };
+    ghost lawful = { λ d. qcow2_lawful (S.features d.storage) (S.bytes d.storage) (loaded_in d) };
 
-    ghost causes_lawful = { λ d. qcow2_causes (S.features d.storage) (S.bytes d.storage) };
+    ghost causes_lawful = { λ d. qcow2_causes (S.features d.storage) (S.bytes d.storage)
+        (loaded_in d) };
 
     fn format(&self) -> Format {
         Format::Qcow2
     }
 
     fn size(&self) -> u64 {
-        self.size
+        self.header.size
     }
 
     fn zero_granularity(&self) -> Option<u64> {
@@ -350,11 +355,11 @@ impl<S: Storage> FormatDriverInstance for Qcow2<S> {
     }
 
     fn get_mapping(&self, offset: u64, max_length: u64) -> Result<(ShallowMapping, u64), Error> {
-        if offset >= self.size {
+        if offset >= self.header.size {
             return Ok((ShallowMapping::Eof, 0));
         }
         let (mapping, known) = self.part_at(offset)?;
-        let most = max_length.min(self.size - offset);
+        let most = max_length.min(self.header.size - offset);
         Ok((mapping, self.longest(mapping, offset, known, most)))
     }
 

@@ -1,5 +1,5 @@
 //! The builder of qcow2 images.
-ghost use Rattle.std.specs.Prelude.{◌≡◌, Some, IfOk};
+ghost use Rattle.std.specs.Prelude.{◌≡◌, false, Some, IfOk};
 ghost use Rattle.std.specs.String.{string_bytes};
 ghost use Rattle.imago_storage.specs.Options.{open_options};
 ghost use Rattle.imago_drivers.specs.declared.format.Format.TheVariants as ImageFormat;
@@ -17,51 +17,69 @@ use std::alloc::Global;
 /// Opens a qcow2 image by its options.
 ///
 /// An image that is to be written is [`Error::Unsupported`], before anything else. The backing file
-/// isn't opened: who opens it lays its image below.
+/// isn't opened. An image that names one is [`Error::Unsupported`] too, since with nothing below it
+/// would read as zeroes where the backing file has its data; a caller that lays the backing file's
+/// image below says so by [`backing_laid_by_caller`](Self::backing_laid_by_caller).
 #[derive(Drop)]
-pub struct Qcow2OpenBuilder<S>(FormatDriverBuilderBase<S>);
+pub struct Qcow2OpenBuilder<S> {
+    base: FormatDriverBuilderBase<S>,
+    backing_laid: bool,
+}
 
 impl<S: Storage> Qcow2<S> {
-    ghost use Rattle.imago_qcow2.specs.Qcow2BuilderParts.{qcow2_settings};
+    ghost use Rattle.imago_qcow2.specs.Qcow2BuilderParts.{qcow2_settings, backing_laid_in};
 
     /// Prepares the opening of the image whose file the storage is.
     pub fn builder(image: S) -> Qcow2OpenBuilder<S>
-        ensures { qcow2_settings result ≡ unset (HandedIn image) }
+        ensures settings { qcow2_settings result ≡ unset (HandedIn image) }
+        ensures laid { backing_laid_in result ≡ false }
     {
         Qcow2OpenBuilder::new(image)
     }
 
     /// Prepares the opening of the image in the storage of that path.
     pub fn builder_path(path: String) -> Qcow2OpenBuilder<S>
-        ensures { qcow2_settings result ≡ unset (AtPath (string_bytes path)) }
+        ensures settings { qcow2_settings result ≡ unset (AtPath (string_bytes path)) }
+        ensures laid { backing_laid_in result ≡ false }
     {
         Qcow2OpenBuilder::new_path(path)
     }
 }
 
 impl<S: Storage> Qcow2OpenBuilder<S> {
-    ghost use Rattle.imago_qcow2.specs.Qcow2BuilderParts.{qcow2_settings};
+    ghost use Rattle.imago_qcow2.specs.Qcow2BuilderParts.{qcow2_settings, backing_laid_in};
+
+    /// Sets whether the caller lays the image of the backing file below, as by
+    /// `FormatAccess::with_backing`. Unless it does, an image that names a backing file isn't
+    /// opened.
+    pub fn backing_laid_by_caller(mut self, laid: bool) -> Self
+        ensures settings { qcow2_settings result ≡ qcow2_settings self }
+        ensures laid { backing_laid_in result ≡ laid }
+    {
+        self.backing_laid = laid;
+        self
+    }
 
     /// Opens the image by a gate that is lent. It is asked once for the storage of a path, and not
     /// for one that was handed in; it is as it was where the image is to be written.
     fn open_by<G: ImplicitOpenGate<S>>(self, alloc: Global, gate: &mut G) -> Result<Qcow2<S>, Error>
-        ensures opened { IsQcow2OpeningBy S.bytes S.features G.opened
+        ensures opened { IsQcow2OpeningBy S.bytes S.features G.opened (backing_laid_in self)
             (qcow2_settings self) gate.old gate.new result }
         ensures image { IfOk result (λ r. IsImageOf G.opened gate.old
             (qcow2_settings self) S.bytes S.features
             (⟦<Qcow2<S> as FormatDriverInstance>⟧.view r)) }
     {
-        let Qcow2OpenBuilder(base) = self;
+        let Qcow2OpenBuilder { base, backing_laid } = self;
         if base.get_writable() {
             return Err(Error::Unsupported);
         }
         let storage = base.open_image(alloc, gate)?;
-        Qcow2::open_read_only(alloc, storage)
+        Qcow2::open_read_only(alloc, storage, backing_laid)
     }
 }
 
 impl<S: Storage> FormatDriverBuilder<S> for Qcow2OpenBuilder<S> {
-    ghost use Rattle.imago_qcow2.specs.Qcow2BuilderParts.{qcow2_settings};
+    ghost use Rattle.imago_qcow2.specs.Qcow2BuilderParts.{qcow2_settings, backing_laid_in};
 
     type Format = Qcow2<S>;
 
@@ -72,23 +90,43 @@ impl<S: Storage> FormatDriverBuilder<S> for Qcow2OpenBuilder<S> {
     ghost settings = { qcow2_settings };
 
     ghost opens = { λ Gate opened gate b result. IsQcow2Opening S.bytes S.features opened gate
-        (qcow2_settings b) result };
+        (backing_laid_in b) (qcow2_settings b) result };
 
-    fn new(image: S) -> Self {
-        Qcow2OpenBuilder(FormatDriverBuilderBase::new(image))
+    fn new(image: S) -> Self
+        ensures settings { qcow2_settings result ≡ unset (HandedIn image) }
+        ensures laid { backing_laid_in result ≡ false }
+    {
+        Qcow2OpenBuilder {
+            base: FormatDriverBuilderBase::new(image),
+            backing_laid: false,
+        }
     }
 
-    fn new_path(path: String) -> Self {
-        Qcow2OpenBuilder(FormatDriverBuilderBase::new_path(path))
+    fn new_path(path: String) -> Self
+        ensures settings { qcow2_settings result ≡ unset (AtPath (string_bytes path)) }
+        ensures laid { backing_laid_in result ≡ false }
+    {
+        Qcow2OpenBuilder {
+            base: FormatDriverBuilderBase::new_path(path),
+            backing_laid: false,
+        }
     }
 
-    fn write(mut self, writable: bool) -> Self {
-        self.0.set_write(writable);
+    fn write(mut self, writable: bool) -> Self
+        ensures settings { qcow2_settings result
+            ≡ record (qcow2_settings self) { writable = writable } }
+        ensures laid { backing_laid_in result ≡ backing_laid_in self }
+    {
+        self.base.set_write(writable);
         self
     }
 
-    fn storage_open_options(mut self, options: StorageOpenOptions) -> Self {
-        self.0.set_storage_open_options(options);
+    fn storage_open_options(mut self, options: StorageOpenOptions) -> Self
+        ensures settings { qcow2_settings result
+            ≡ record (qcow2_settings self) { options = Some (open_options options) } }
+        ensures laid { backing_laid_in result ≡ backing_laid_in self }
+    {
+        self.base.set_storage_open_options(options);
         self
     }
 
@@ -97,14 +135,14 @@ impl<S: Storage> FormatDriverBuilder<S> for Qcow2OpenBuilder<S> {
     }
 
     fn get_image_path(&self) -> Option<&str> {
-        self.0.get_image_path()
+        self.base.get_image_path()
     }
 
     fn get_writable(&self) -> bool {
-        self.0.get_writable()
+        self.base.get_writable()
     }
 
     fn get_storage_open_options(&self) -> Option<&StorageOpenOptions> {
-        self.0.get_storage_opts()
+        self.base.get_storage_opts()
     }
 }

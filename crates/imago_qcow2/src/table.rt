@@ -1,13 +1,12 @@
 //! The tables of an image, as they are in memory.
-ghost use Rattle.std.specs.Prelude.{◌≡◌, ℕ, ◌+◌, ◌*◌, ◌/◌, ◌%◌, ◌^◌, ◌<◌, ◌≤◌, ◌++◌, ◌∷◌, []};
-ghost use Rattle.std.specs.Prelude.{length, slice_get, Some, Ok, OnOk, IfOk, IfErr, IfSome};
-ghost use Rattle.std.specs.Int.{div_ceil};
+ghost use Rattle.std.specs.Prelude.{◌≡◌, ℕ, ◌+◌, ◌*◌, ◌/◌, ◌<◌, ◌≤◌, length, slice_get, OnOk};
+ghost use Rattle.std.specs.Prelude.{IfOk, IfErr, IfSome, IsTrue};
 ghost use Rattle.imago_storage.specs.Bytes.{IsReadAt};
 ghost use Rattle.imago_drivers.specs.Reasons.{allowed};
 ghost use Rattle.imago_qcow2.specs.Numbers.{be64};
-ghost use Rattle.imago_qcow2.specs.Entry.{cluster_length, l1_start, l1_entry, table_of};
-ghost use Rattle.imago_qcow2.specs.Tables.{IsLoaded, IsHeld, AreHeld, AreKnown, KeepsLoaded};
-ghost use Rattle.imago_qcow2.specs.Opening.{read_reasons, table_count, tables_reasons};
+ghost use Rattle.imago_qcow2.specs.Tables.{IsLoaded, IsHeld, AreHeld, AreTables, AreKnown};
+ghost use Rattle.imago_qcow2.specs.Tables.{KeepsLoaded};
+ghost use Rattle.imago_qcow2.specs.Opening.{read_reasons, entries_reasons, tables_reasons};
 
 use crate::entry::{L2Table, table_in};
 use crate::number::number64;
@@ -53,7 +52,8 @@ pub(crate) fn read_bytes<S: Storage>(
     count: u64,
 ) -> Result<Vec<u8>, Error>
     ensures whole { IfOk result (λ v. length v.items ≡ count) }
-    ensures read { IfOk result (λ v. IsReadAt (S.bytes storage.now) at v.items) }
+    ensures read { IsTrue (S.features storage.now).tells_bytes
+        → IfOk result (λ v. IsReadAt (S.bytes storage.now) at v.items) }
     ensures refusals { IfErr result (allowed (read_reasons (S.features storage.now) at count)) }
 {
     let mut bytes = vec![in alloc; 0u8; count as usize]?;
@@ -70,10 +70,12 @@ fn load<S: Storage>(
     cluster: u64,
     loaded: &mut Loaded,
 ) -> Result<usize, Error>
-    requires known { AreKnown (S.bytes storage.now) cluster loaded.old }
-    ensures known { OnOk result (AreKnown (S.bytes storage.now) cluster loaded.new) }
+    requires known { AreKnown (S.features storage.now) (S.bytes storage.now) cluster loaded.old }
+    ensures known { OnOk result
+        (AreKnown (S.features storage.now) (S.bytes storage.now) cluster loaded.new) }
     ensures loaded { IfOk result
-        (λ n. IsLoaded (S.bytes storage.now) cluster loaded.new.tables.items n at) }
+        (λ n. IsLoaded (S.features storage.now) (S.bytes storage.now) cluster
+        loaded.new.tables.items n at) }
     ensures kept { OnOk result (KeepsLoaded loaded.old.tables.items loaded.new.tables.items) }
     ensures refusals { IfErr result (allowed (read_reasons (S.features storage.now) at cluster)) }
 {
@@ -95,9 +97,12 @@ fn hold<S: Storage>(
     cluster: u64,
     loaded: &mut Loaded,
 ) -> Result<HeldTable, Error>
-    requires known { AreKnown (S.bytes storage.now) cluster loaded.old }
-    ensures known { OnOk result (AreKnown (S.bytes storage.now) cluster loaded.new) }
-    ensures held { IfOk result (IsHeld (S.bytes storage.now) cluster loaded.new.tables.items says) }
+    requires known { AreKnown (S.features storage.now) (S.bytes storage.now) cluster loaded.old }
+    ensures known { OnOk result
+        (AreKnown (S.features storage.now) (S.bytes storage.now) cluster loaded.new) }
+    ensures held { IfOk result
+        (IsHeld (S.features storage.now) (S.bytes storage.now) cluster loaded.new.tables.items
+        says) }
     ensures kept { OnOk result (KeepsLoaded loaded.old.tables.items loaded.new.tables.items) }
     ensures refusals { IfErr result
         (λ e. (at : ℕ) × (says ≡ L2Table.Stored at)
@@ -120,17 +125,16 @@ fn hold_all<S: Storage>(
     loaded: &mut Loaded,
 ) -> Result<Vec<HeldTable>, Error>
     requires file { file ≡ length (S.bytes storage.now) }
-    requires cluster { cluster ≡ cluster_length (S.bytes storage.now) }
     requires positive { 0 < cluster }
     requires most { cluster ≤ 2097152 }
-    requires read { IsReadAt (S.bytes storage.now) (l1_start (S.bytes storage.now)) entries.now }
-    requires whole { length entries.now ≡ 8 * table_count (S.bytes storage.now) }
-    requires known { AreKnown (S.bytes storage.now) cluster loaded.old }
+    requires known { AreKnown (S.features storage.now) (S.bytes storage.now) cluster loaded.old }
     ensures held { IfOk result
-        (λ v. AreHeld (S.bytes storage.now) v.items loaded.new.tables.items) }
-    ensures all { IfOk result (λ v. length v.items ≡ table_count (S.bytes storage.now)) }
+        (λ v. AreHeld (S.features storage.now) (S.bytes storage.now) cluster entries.now v.items
+        loaded.new.tables.items) }
+    ensures all { IfOk result (λ v. length v.items ≡ length entries.now / 8) }
     ensures refusals { IfErr result
-        (allowed (tables_reasons (S.features storage.now) (S.bytes storage.now))) }
+        (allowed
+        (entries_reasons (S.features storage.now) (S.bytes storage.now) cluster entries.now)) }
 {
     let mut l1 = Vec::new(alloc);
     for i in 0..entries.len() / 8 {
@@ -141,7 +145,7 @@ fn hold_all<S: Storage>(
 }
 
 /// Reads the L1 table of a file of that length, of so many entries from `start` on, and the L2
-/// tables that it names.
+/// tables that it names, each of them once.
 pub(crate) fn read_tables<S: Storage>(
     storage: &S,
     alloc: Global,
@@ -151,16 +155,15 @@ pub(crate) fn read_tables<S: Storage>(
     file: u64,
 ) -> Result<Tables, Error>
     requires file { file ≡ length (S.bytes storage.now) }
-    requires start { start ≡ l1_start (S.bytes storage.now) }
-    requires cluster { cluster ≡ cluster_length (S.bytes storage.now) }
-    requires count { count ≡ table_count (S.bytes storage.now) }
     requires positive { 0 < cluster }
     requires most { cluster ≤ 2097152 }
     requires inside { start + 8 * count ≤ file }
-    ensures held { IfOk result (λ t. AreHeld (S.bytes storage.now) t.l1.items t.l2.items) }
-    ensures all { IfOk result (λ t. length t.l1.items ≡ count) }
+    ensures held { IfOk result
+        (λ t. AreTables (S.features storage.now) (S.bytes storage.now) start count cluster
+        t.l1.items t.l2.items) }
     ensures refusals { IfErr result
-        (allowed (tables_reasons (S.features storage.now) (S.bytes storage.now))) }
+        (allowed
+        (tables_reasons (S.features storage.now) (S.bytes storage.now) start count cluster)) }
 {
     let entries = read_bytes(storage, alloc, start, 8 * count)?;
     let mut loaded = Loaded {

@@ -5,7 +5,7 @@ use Rattle.imago_script_parts.specs.declared.script_storage.ScriptStorage.{Scrip
 use Rattle.imago_script_parts.specs.declared.script_storage.ScriptStorage.TheVariants.{Mem, Null}
 use Rattle.imago.specs.MemStorage.{MemStorage}
 use Rattle.imago.specs.Null.{Null as NullStorage}
-use Rattle.imago.specs.Features.{AreAlignments}
+use Rattle.imago.specs.Features.{AreLawful}
 use Rattle.imago.specs.Mem.{null_features, null_lawful}
 use Rattle.imago.specs.MemParts.{features_of, alignments_of}
 
@@ -34,6 +34,7 @@ maintenance_by_kind m n = record {
   discarded = λ at count. related (m.discarded at count) (n.discarded at count);
   resized = λ new_size mode. related (m.resized new_size mode) (n.resized new_size mode);
   counted = λ at buffer. related (m.counted at buffer) (n.counted at buffer);
+  written = λ at source. related (m.written at source) (n.written at source);
   zeroed_in_place = λ kind at count. related (m.zeroed_in_place kind at count)
       (n.zeroed_in_place kind at count);
   zeroed = λ kind at count. related (m.zeroed kind at count) (n.zeroed kind at count);
@@ -41,6 +42,6 @@ maintenance_by_kind m n = record {
 
 -- the alignments of both kinds are lawful
 pub kinds_lawful : (storage : ScriptStorage)
-    → AreAlignments (by_kind features_of (λ n. null_features) storage)
+    → AreLawful (by_kind features_of (λ n. null_features) storage)
 kinds_lawful (Mem m) = alignments_of m
 kinds_lawful (Null n) = null_lawful

@@ -7,6 +7,9 @@ pub mod Padding
 pub mod Work
 pub mod Writes
 pub mod Blocks
+pub mod Steps
+pub mod Orders
+pub mod Borrowed
 pub mod ReadParts
 pub mod ZeroRanges
 pub mod ZeroWraps

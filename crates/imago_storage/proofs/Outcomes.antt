@@ -32,6 +32,17 @@ pub WriteOutcome_whole : {T : Type 0} (keeps : Bool) (old target now : List ℕ)
 WriteOutcome_whole keeps old target now (Ok x) made kept le = rw made (record { done = λ _. refl; len = refl; refused = λ _. tt; no_shorter = le; no_longer = omega arith })
 WriteOutcome_whole keeps old target now (Err e) made kept le = rw kept (WriteOutcome_unchanged keeps old target (Err e) e refl le)
 
+-- towards another target of the same length, which is the same where data is kept
+pub WriteOutcome_towards : {T : Type 0} (keeps : Bool) (old part target now : List ℕ) (r : Result T Error) → (IsTrue keeps → part ≡ target) → length part ≡ length target
+    → WriteOutcome keeps old part now r → WriteOutcome keeps old target now r
+WriteOutcome_towards keeps old part target now r same long w = record {
+  done = λ k. OnOk_map r (λ d. d ∙ same k) (w.done k);
+  len = OnOk_map r (λ d. d ∙ long) w.len;
+  refused = λ k. let is : part ≡ target = same k in rw is at (w.refused k);
+  no_shorter = w.no_shorter;
+  no_longer = omega (arith, w.no_longer, long);
+}
+
 -- the same success, with another value
 pub WriteOutcome_ok : {T U : Type 0} (keeps : Bool) (old target now : List ℕ) (r : Result T Error) (x : T) (y : U) → r ≡ Ok x
     → WriteOutcome keeps old target now r → WriteOutcome {T = U} keeps old target now (Ok y)

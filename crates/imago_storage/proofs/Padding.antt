@@ -3,15 +3,15 @@ use Rattle.std.proofs.Math.Nat.{dvd-add, dvd-mul_right, mod-eq-zero_of_dvd, mod_
 use Rattle.std.proofs.lemmas.Nat.Gcd.{dvd_refl}
 use Rattle.std.proofs.lemmas.Bool.{cases_lt}
 use Rattle.std.specs.Int.{next_multiple_of}
-use Rattle.imago_storage.specs.Features.{Features, AreAlignments, len_align}
+use Rattle.imago_storage.specs.Features.{Features, AreLawful, len_align}
 use Rattle.imago_storage.specs.Padding.{padded_start, padded_length, padded_end, WrapCauses, IsPaddedRequest, aligned_start, aligned_end, IsAlignedPart}
 use Rattle.imago_storage.proofs.Alignment.{power_positive, max_power, max_first, multiple_add, multiple_sub, multiple_of_multiple}
 
-pub len_positive : (f : Features) → AreAlignments f → 0 < len_align f
+pub len_positive : (f : Features) → AreLawful f → 0 < len_align f
 len_positive f a = power_positive (len_align f) (max_power f.req_align f.mem_align a.req a.mem)
 
 -- the multiple of lengths is one of starts
-pub len_whole : (f : Features) → AreAlignments f → len_align f % f.req_align ≡ 0
+pub len_whole : (f : Features) → AreLawful f → len_align f % f.req_align ≡ 0
 len_whole f a = max_first f.req_align f.mem_align a.req a.mem
 
 down_whole : (x a : ℕ) → (x - x % a) % a ≡ 0
@@ -55,7 +55,7 @@ multiple_one x a p h e l =
     let s : (x - a) % a ≡ x - a = mod-eq_of_lt (omega arith) in
     omega (arith, multiple_sub a x a e (mod_self a), s, g)
 
-pub padded_request_of : (f : Features) (at n start len : ℕ) → AreAlignments f → start ≡ padded_start f at → len ≡ padded_length f at n → start + len < 2 ^ 64 → IsPaddedRequest f at n start len
+pub padded_request_of : (f : Features) (at n start len : ℕ) → AreLawful f → start ≡ padded_start f at → len ≡ padded_length f at n → start + len < 2 ^ 64 → IsPaddedRequest f at n start len
 padded_request_of f at n start len a s l fits =
     let r : 0 < f.req_align = power_positive f.req_align a.req in
     let w : 0 < len_align f = len_positive f a in

@@ -1,6 +1,6 @@
 use Rattle.std.proofs.Common.{◌≡◌, ℕ, ◌+◌, ◌-◌, ◌*◌, ◌%◌, ◌<◌, ◌≤◌, max, min, arith, ◌∙◌}
 use Rattle.std.proofs.Math.Nat.{add-mul}
-use Rattle.imago_storage.specs.Features.{Features, AreAlignments, len_align}
+use Rattle.imago_storage.specs.Features.{Features, AreLawful, len_align}
 use Rattle.imago_storage.specs.IoCount.{IoCount, AddsAtMost, IsWriteWork, IsInPieces, IsEdgedWork}
 use Rattle.imago_storage.specs.Padding.{padded_length}
 use Rattle.imago_storage.proofs.Alignment.{power_positive}
@@ -41,12 +41,12 @@ pub write_direct : (f : Features) (at n : ℕ) {old new : IoCount} → n ≤ pad
 write_direct f at n within w = adds_more _ _ _ _ w (omega arith) (omega arith) (omega arith) within
 
 -- a padded request is less than two blocks longer
-pub padded_less : (f : Features) (at n : ℕ) → AreAlignments f → padded_length f at n ≤ n + 2 * len_align f
+pub padded_less : (f : Features) (at n : ℕ) → AreLawful f → padded_length f at n ≤ n + 2 * len_align f
 padded_less f at n a =
     let r : 0 < f.req_align = power_positive f.req_align a.req in
     omega (arith, next_below (at % f.req_align + n) (len_align f) (len_positive f a))
 
-pub write_loose : (f : Features) (at n : ℕ) {old new : IoCount} → AreAlignments f → IsWriteWork f at n old new → AddsAtMost 2 (2 * len_align f) 3 (n + 2 * len_align f) old new
+pub write_loose : (f : Features) (at n : ℕ) {old new : IoCount} → AreLawful f → IsWriteWork f at n old new → AddsAtMost 2 (2 * len_align f) 3 (n + 2 * len_align f) old new
 write_loose f at n a w = adds_more _ _ _ _ w (omega arith) (omega arith) (omega arith) (padded_less f at n a)
 
 suc_times : (k piece : ℕ) → (k + 1) * piece ≡ k * piece + piece

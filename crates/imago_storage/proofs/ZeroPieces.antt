@@ -2,7 +2,7 @@ use Rattle.std.proofs.Common.{◌≡◌, ℕ, ◌+◌, ◌-◌, ◌%◌, ◌≤�
 use Rattle.std.proofs.lemmas.List.{places, length-replicate, take-replicate}
 use Rattle.std.specs.Int.{IsPowerOfTwo}
 use Rattle.imago_storage.specs.Bytes.{splice, OldOrNew, WriteOutcome}
-use Rattle.imago_storage.specs.Features.{Features, AreAlignments, IsAlignedRequest, IsAlignedTo, len_align}
+use Rattle.imago_storage.specs.Features.{Features, AreLawful, IsAlignedRequest, IsAlignedTo, len_align}
 use Rattle.imago_storage.specs.declared.error.Error.{Error}
 use Rattle.imago_storage.proofs.Alignment.{multiple_add, multiple_sub, multiple_of_multiple, multiple_min, max_first, max_power, multiple_of_max}
 use Rattle.imago_storage.proofs.Outcomes.{WriteOutcome_then}
@@ -12,18 +12,18 @@ use Rattle.imago_storage.proofs.Splices.{length-splice, splice_zeroes}
 pub piece_whole : (a : ℕ) → IsPowerOfTwo a → max a 1048576 % a ≡ 0
 piece_whole a p = let q : IsPowerOfTwo 1048576 = (20, refl) in max_first a 1048576 p q
 
-pub align_power : (f : Features) → AreAlignments f → IsPowerOfTwo (len_align f)
+pub align_power : (f : Features) → AreLawful f → IsPowerOfTwo (len_align f)
 align_power f a = max_power f.req_align f.mem_align a.req a.mem
 
 -- one piece of zeroes is an aligned write, and what is done after it is whole again
-pub next_whole : (f : Features) (at n done : ℕ) → AreAlignments f → IsAlignedTo f.zero_align at n → n % f.mem_align ≡ 0
+pub next_whole : (f : Features) (at n done : ℕ) → AreLawful f → IsAlignedTo f.zero_align at n → n % f.mem_align ≡ 0
     → done % len_align f ≡ 0 → min (max (len_align f) 1048576) (n - done) % len_align f ≡ 0
 next_whole f at n done a i m d =
     let req : n % f.req_align ≡ 0 = multiple_of_multiple f.req_align f.zero_align n i.whole a.zero_whole in
     let whole : n % len_align f ≡ 0 = multiple_of_max f.req_align f.mem_align n req m in
     multiple_min (len_align f) (max (len_align f) 1048576) (n - done) (piece_whole (len_align f) (align_power f a)) (multiple_sub (len_align f) n done whole d)
 
-pub next_piece : (f now : Features) (at n done : ℕ) → now ≡ f → AreAlignments f → IsAlignedTo f.zero_align at n → n % f.mem_align ≡ 0
+pub next_piece : (f now : Features) (at n done : ℕ) → now ≡ f → AreLawful f → IsAlignedTo f.zero_align at n → n % f.mem_align ≡ 0
     → done % len_align f ≡ 0 → done ≤ n → (k : ℕ) → k ≡ min (max (len_align f) 1048576) (n - done) → IsAlignedRequest now (at + done) k
 next_piece f now at n done e a i m d le k is = rw (e, is) (record {
   start = multiple_add f.req_align at done

@@ -2,7 +2,7 @@ use Rattle.std.proofs.Common.{◌≡◌, ◌≢◌, ℕ, ◌+◌, ◌-◌, ◌*�
 use Rattle.std.proofs.Math.Nat.{add-mul-mod_self_left, div-add-mod, mod-eq_of_lt, mod-lt}
 use Rattle.std.proofs.lemmas.Bool.{cases_lt}
 use Rattle.std.specs.Int.{next_multiple_of}
-use Rattle.imago_storage.specs.Features.{Features, ZeroSupport, AsData, MayBeUnsupported, AreAlignments, IsAlignedRequest, IsAlignedTo, len_align}
+use Rattle.imago_storage.specs.Features.{Features, ZeroSupport, AsData, MayBeUnsupported, AreLawful, IsAlignedRequest, IsAlignedTo, len_align}
 use Rattle.imago_storage.specs.Padding.{padded_length, padded_end, Wraps, aligned_start, aligned_end, RangeWraps, IsAlignedPart}
 use Rattle.imago_storage.specs.Zeroes.{DataWraps, EdgeWraps, MayWrap, FitsZeroes, IsHead}
 use Rattle.imago_storage.proofs.Alignment.{power_positive, multiple_add, multiple_of_multiple, multiple_sub}
@@ -21,7 +21,7 @@ end_from_start : (f : Features) (at n : ℕ) → at % f.req_align ≡ 0 → padd
 end_from_start f at n start = let all : 0 + n ≡ n = omega arith in rw (start, all) (omega arith)
 
 -- the last piece of a range is padded to the range's padded end
-pub last_piece_end : (f : Features) (at n done : ℕ) → AreAlignments f → at % f.req_align ≡ 0 → done % len_align f ≡ 0 → done ≤ n
+pub last_piece_end : (f : Features) (at n done : ℕ) → AreLawful f → at % f.req_align ≡ 0 → done % len_align f ≡ 0 → done ≤ n
     → padded_end f (at + done) (n - done) ≡ padded_end f at n
 last_piece_end f at n done a start whole le =
     let steps : done % f.req_align ≡ 0 = multiple_of_multiple f.req_align (len_align f) done whole (len_whole f a) in
@@ -30,7 +30,7 @@ last_piece_end f at n done a start whole le =
     end_from_start f (at + done) (n - done) next ∙ omega (arith, sum) ∙ sym (end_from_start f at n start)
 
 -- a piece wraps around only where the whole range does
-pub piece_wraps : (f : Features) (at n done k : ℕ) → AreAlignments f → at % f.req_align ≡ 0 → done % len_align f ≡ 0 → done + k ≤ n → at + n < 2 ^ 64
+pub piece_wraps : (f : Features) (at n done k : ℕ) → AreLawful f → at % f.req_align ≡ 0 → done % len_align f ≡ 0 → done + k ≤ n → at + n < 2 ^ 64
     → (k % len_align f ≡ 0) ⊎ (k ≡ n - done) → Wraps f (at + done) k → Wraps f at n
 piece_wraps f at n done k a start whole fits ends which w = elim which [
   | inr last ↦ (omega (arith, w.0), rw (← last_piece_end f at n done a start whole (omega arith), ← last) w.1)
@@ -48,7 +48,7 @@ piece_kind a piece left whole = elim (cases_lt piece left) [
 ]
 
 -- a piece that isn't the last one is an aligned request
-pub piece_aligned : (f : Features) (at n done k : ℕ) → AreAlignments f → at % f.req_align ≡ 0 → done % len_align f ≡ 0 → done + k ≤ n → at + n < 2 ^ 64
+pub piece_aligned : (f : Features) (at n done k : ℕ) → AreLawful f → at % f.req_align ≡ 0 → done % len_align f ≡ 0 → done + k ≤ n → at + n < 2 ^ 64
     → (k % len_align f ≡ 0) ⊎ (k ≡ n - done) → done + k < n → IsAlignedRequest f (at + done) k
 piece_aligned f at n done k a start whole fits ends which more = elim which [
   | inr last ↦ absurd (omega (arith, last, more))
@@ -60,7 +60,7 @@ piece_aligned f at n done k a start whole fits ends which more = elim which [
 ]
 
 -- a piece of a whole number of blocks is aligned, the last one too
-pub piece_in_whole : (f : Features) (at n done k : ℕ) → AreAlignments f → at % f.req_align ≡ 0
+pub piece_in_whole : (f : Features) (at n done k : ℕ) → AreLawful f → at % f.req_align ≡ 0
     → done % len_align f ≡ 0 → done + k ≤ n → at + n < 2 ^ 64
     → (k % len_align f ≡ 0) ⊎ (k ≡ n - done) → n % len_align f ≡ 0 → IsAlignedRequest f (at + done) k
 piece_in_whole f at n done k a start whole fits ends which all = record {
@@ -73,14 +73,14 @@ piece_in_whole f at n done k a start whole fits ends which all = record {
 }
 
 -- where the last piece fits, so does the range
-pub last_fits : (f : Features) (at n done k : ℕ) → AreAlignments f → at % f.req_align ≡ 0 → done % len_align f ≡ 0 → done + k ≡ n → 0 < k
+pub last_fits : (f : Features) (at n done k : ℕ) → AreLawful f → at % f.req_align ≡ 0 → done % len_align f ≡ 0 → done + k ≡ n → 0 < k
     → ¬ Wraps f (at + done) k → ¬ Wraps f at n
 last_fits f at n done k a start whole all some fits w =
     let rest : n - done ≡ k = omega arith in
     fits (some, rw (← rest, last_piece_end f at n done a start whole (omega arith)) w.1)
 
 -- of a range that starts on the request alignment nothing stands before its first multiple
-pub data_from_start : (f : Features) (at n : ℕ) → AreAlignments f → at % f.req_align ≡ 0 → (Wraps f at n → DataWraps f at n) × ((¬ Wraps f at n) → ¬ DataWraps f at n)
+pub data_from_start : (f : Features) (at n : ℕ) → AreLawful f → at % f.req_align ≡ 0 → (Wraps f at n → DataWraps f at n) × ((¬ Wraps f at n) → ¬ DataWraps f at n)
 data_from_start f at n a start =
     let here : aligned_start f.req_align at ≡ at = next_whole_zero at f.req_align (power_positive f.req_align a.req) start in
     let rest : at + n - at ≡ n = omega arith in
@@ -97,7 +97,7 @@ pub first_multiple : (at a : ℕ) → 0 < at % a → 0 < a → aligned_start a a
 first_multiple at a some p = let m : (a - at % a) % a ≡ a - at % a = mod-eq_of_lt (omega arith) in omega (arith, m)
 
 -- the head of a range
-pub is_head : (f : Features) (at n first : ℕ) → AreAlignments f → at % f.req_align ≢ 0 → 0 < n → first ≡ min (f.req_align - at % f.req_align) n → IsHead f at n first
+pub is_head : (f : Features) (at n first : ℕ) → AreLawful f → at % f.req_align ≢ 0 → 0 < n → first ≡ min (f.req_align - at % f.req_align) n → IsHead f at n first
 is_head f at n first a off some is =
     let p : 0 < f.req_align = power_positive f.req_align a.req in
     let next : aligned_start f.req_align at ≡ at + (f.req_align - at % f.req_align) = first_multiple at f.req_align (omega (arith, off)) p in
@@ -199,7 +199,7 @@ part_of_aligned align at n start end p some i part =
 pub padded_covers : (f : Features) (at n : ℕ) → at + n ≤ padded_end f at n
 padded_covers f at n = omega arith
 
-pub padded_near : (f : Features) (at n : ℕ) → AreAlignments f → padded_end f at n < at + n + len_align f
+pub padded_near : (f : Features) (at n : ℕ) → AreLawful f → padded_end f at n < at + n + len_align f
 padded_near f at n a =
     let b : padded_length f at n < at % f.req_align + n + len_align f = next_below (at % f.req_align + n) (len_align f) (len_positive f a) in
     omega (arith, b, power_positive f.req_align a.req)

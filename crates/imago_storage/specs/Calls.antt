@@ -1,4 +1,4 @@
-use Rattle.std.specs.Prelude.{◌≡◌, ◌≢◌, ℕ, ◌+◌, ◌-◌, ◌%◌, ◌<◌, ◌≤◌, ◌↔◌, false, List, length}
+use Rattle.std.specs.Prelude.{◌≡◌, ◌≢◌, ℕ, ◌+◌, ◌-◌, ◌%◌, ◌<◌, ◌≤◌, ◌⊎◌, ◌↔◌, false, List, length}
 use Rattle.std.specs.Prelude.{replicate, Result, IsTrue, OnOk, OnErr, IfErr, IsErrOf, IsOk}
 use Rattle.imago_storage.specs.declared.error.Error.{Error}
 use Rattle.imago_storage.specs.Bytes.{splice, zero_extended, OldOrNew, WriteOutcome, IsReadAt}
@@ -11,8 +11,10 @@ use Rattle.imago_storage.specs.Features.{RequestMayRunOut}
 use Rattle.imago_storage.specs.Features.{ZeroesMayRunOut, len_align}
 use Rattle.imago_storage.specs.IoCount.{IoCount, IsWriteWork, AddsAtMost}
 use Rattle.imago_storage.specs.Maintenance.{Maintenance, IsDiscarded}
+use Rattle.imago_storage.specs.Steps.{write_steps, IsMadeInSteps}
 use Rattle.imago_storage.specs.Padding.{padded_end, Wraps, aligned_start, aligned_end, RangeWraps}
-use Rattle.imago_storage.specs.Zeroes.{HasZeroed, MayWrap, FitsZeroes, IsZeroCall, IsZeroedInParts}
+use Rattle.imago_storage.specs.Zeroes.{HasZeroed, MayWrap, FitsZeroes, IsZeroedInParts}
+use Rattle.imago_storage.specs.Zeroes.{IsAlignedZeroing}
 use Rattle.imago_storage.specs.declared.options.ZeroKind.{ZeroKind}
 
 -- No byte, no feature, and not the count of faults changed: what callers see is as it was.
@@ -36,7 +38,7 @@ pub record IsUnsupportedZeroing {S : Type 0} (features_of : S → Features) (byt
 pub record IsRangeRead (f : Features) (stored : List ℕ) (at n : ℕ) (buffer : List ℕ)
     (result : Result (Unit {0}) Error) : Type 0 where
   pub empty : n ≡ 0 → IsOk result
-  pub bytes : OnOk result (IsReadAt stored at buffer)
+  pub bytes : IsTrue f.tells_bytes → OnOk result (IsReadAt stored at buffer)
   pub wraps : IsErrOf result Error.WrapAround ↔ Wraps f at n
   pub only : IfErr result IsExtRefusal
   pub device : IsErrOf result Error.Device → f.is_reliable ≡ false
@@ -45,8 +47,8 @@ pub record IsRangeRead (f : Features) (stored : List ℕ) (at n : ℕ) (buffer :
 
 -- A write of any range.
 pub record IsRangeWrite {S : Type 0} (features_of : S → Features) (bytes_of : S → List ℕ)
-    (faults_of : S → ℕ) (work_of : S → IoCount) (at : ℕ) (source : List ℕ) (old new : S)
-    (result : Result (Unit {0}) Error) : Type 0 where
+    (faults_of : S → ℕ) (work_of : S → IoCount) (calls : Maintenance S) (at : ℕ) (source : List ℕ)
+    (old new : S) (result : Result (Unit {0}) Error) : Type 0 where
   pub empty : length source ≡ 0 → IsOk result × (new ≡ old)
   pub written : 0 < length source → WriteOutcome (features_of old).keeps_data (bytes_of old)
       (splice (zero_extended (bytes_of old) (padded_end (features_of old) at (length source))) at
@@ -64,6 +66,12 @@ pub record IsRangeWrite {S : Type 0} (features_of : S → Features) (bytes_of : 
   pub cause : CountsFaults (features_of old).is_reliable (faults_of old) (faults_of new) result
   pub memory : IsErrOf result Error.Memory → IsAlignedRequest (features_of old) at (length source)
       → MayRunOut (features_of old).write_memory (length (bytes_of old)) (at + length source)
+  -- its steps were made; or nothing, where there is no memory for a block
+  pub performed : 0 < length source → (¬ Wraps (features_of old) at (length source))
+      → IsMadeInSteps features_of bytes_of calls (len_align (features_of old))
+      (write_steps (features_of old) at source) old new result
+      ⊎ ((¬ IsAlignedRequest (features_of old) at (length source)) × (new ≡ old)
+      × IsErrOf result Error.Memory)
 
 -- A zero write of any range, of that kind, by how the storage zeroes.
 pub record IsRangeZeroing {S : Type 0} (features_of : S → Features) (bytes_of : S → List ℕ)
@@ -85,7 +93,8 @@ pub record IsRangeZeroing {S : Type 0} (features_of : S → Features) (bytes_of 
       (at + n + (len_align (features_of old) - 1)))
       → ShowsNoChange features_of bytes_of faults_of old new
   pub performed : 0 < n → (¬ RangeWraps (features_of old).zero_align at n)
-      → IsZeroedInParts calls work_of (features_of old) kind at n old new result
+      → IsZeroedInParts features_of bytes_of calls work_of (features_of old) kind at n old new
+      result
 
 -- A discard of any range, which is made of its aligned part.
 pub record IsRangeDiscard {S : Type 0} (features_of : S → Features) (bytes_of : S → List ℕ)
@@ -135,7 +144,8 @@ pub record IsPureZeroing {S : Type 0} (features_of : S → Features) (bytes_of :
       → ShowsNoChange features_of bytes_of faults_of old new
   pub unchanged : IsErrOf result Error.Unsupported
       → ShowsNoChange features_of bytes_of faults_of old new
-  pub performed : IsZeroCall calls work_of (features_of old) kind at n old new result
+  pub performed : IsAlignedZeroing features_of bytes_of calls work_of (features_of old) kind at n
+      old new result
 
 -- A flush, a sync, a wait for writes or an invalidation, each of which is that relation.
 pub record IsMaintained {S : Type 0} (features_of : S → Features) (bytes_of : S → List ℕ)

@@ -1,4 +1,4 @@
-use Rattle.std.specs.Prelude.{◌≡◌, ◌≢◌, ℕ, ◌+◌, ◌%◌, ◌^◌, ◌<◌, ◌⊎◌, Bool, List, Option, max}
+use Rattle.std.specs.Prelude.{◌≡◌, ◌≢◌, ℕ, ◌+◌, ◌%◌, ◌^◌, ◌<◌, ◌⊎◌, Bool, IsTrue, List, Option, max}
 use Rattle.std.specs.Int.{IsPowerOfTwo}
 use Rattle.imago_storage.specs.declared.options.ZeroKind.{ZeroKind}
 use Rattle.imago_storage.specs.declared.options.ZeroKind.TheVariants as Kind
@@ -32,8 +32,11 @@ pub record Features : Type 0 where
   pub req_align : ℕ
   pub zero_align : ℕ
   pub discard_align : ℕ
-  -- what is written stays
+  -- what is written stays, and is told
   pub keeps_data : Bool
+  -- reads give the bytes that contracts name; where it doesn't, as over a file of the system, they
+  -- name a length alone
+  pub tells_bytes : Bool
   -- the device never fails
   pub is_reliable : Bool
   -- a refused write changes nothing
@@ -53,14 +56,15 @@ pub record Features : Type 0 where
   pub other_memory : MemoryUse
 
 -- The alignments are powers of two, and those of zero writes and discards are multiples of that of
--- requests.
-pub record AreAlignments (f : Features) : Type 0 where
+-- requests. Data that is kept is told.
+pub record AreLawful (f : Features) : Type 0 where
   pub mem : IsPowerOfTwo f.mem_align
   pub req : IsPowerOfTwo f.req_align
   pub zero : IsPowerOfTwo f.zero_align
   pub discard : IsPowerOfTwo f.discard_align
   pub zero_whole : f.zero_align % f.req_align ≡ 0
   pub discard_whole : f.discard_align % f.req_align ≡ 0
+  pub told : IsTrue f.keeps_data → IsTrue f.tells_bytes
 
 -- what a read's or write's length has to be a multiple of
 abbrev pub len_align : Features → ℕ

@@ -12,4 +12,5 @@ pub mod Padding
 pub mod IoCount
 pub mod Blocks
 pub mod Zeroes
+pub mod Steps
 pub mod Calls

@@ -1,5 +1,5 @@
 use Rattle.std.specs.Prelude.{◌≡◌, ℕ, ◌⊎◌, List, Result, Ok, Err, OnOk, OnErr}
-use Rattle.imago_storage.specs.Bytes.{IsResized}
+use Rattle.imago_storage.specs.Bytes.{splice, IsResized}
 use Rattle.imago_storage.specs.declared.error.Error.{Error}
 use Rattle.imago_storage.specs.declared.options.PreallocateMode.{PreallocateMode}
 use Rattle.imago_storage.specs.declared.options.ZeroKind.{ZeroKind}
@@ -19,6 +19,8 @@ pub record Maintenance (Self : Type 0) : Type 1 where
   pub resized : ℕ → PreallocateMode → Self → Self → Result (Unit {0}) Error → Type 0
   -- a counted read at that offset, by what is in the buffer afterwards
   pub counted : ℕ → List ℕ → Self → Self → Result (Unit {0}) Error → Type 0
+  -- a pure write of these bytes at that offset
+  pub written : ℕ → List ℕ → Self → Self → Result (Unit {0}) Error → Type 0
   -- of that kind, of a range
   pub zeroed_in_place : ZeroKind → ℕ → ℕ → Self → Self → Result (Unit {0}) Error → Type 0
   -- a zero write of its own, beside one in place, or else as data
@@ -28,9 +30,14 @@ pub record Maintenance (Self : Type 0) : Type 1 where
 abbrev pub IsNothing : {Self : Type 0} → Self → Self → Result (Unit {0}) Error → Type 0
 IsNothing old new result = (new ≡ old) × (result ≡ Ok tt)
 
--- any counted read, resize or zero write in place, whatever it did; and no zero write of its own
+-- any counted read, write, resize or zero write in place, whatever it did; and no zero write of its
+-- own
 abbrev pub IsAnyRead : {Self : Type 0} → ℕ → List ℕ → Self → Self → Result (Unit {0}) Error → Type 0
 IsAnyRead at buffer old new result = Unit {0}
+
+abbrev pub IsAnyWrite : {Self : Type 0} → ℕ → List ℕ → Self → Self → Result (Unit {0}) Error
+    → Type 0
+IsAnyWrite at source old new result = Unit {0}
 
 abbrev pub IsAnyResize : {Self : Type 0} → ℕ → PreallocateMode → Self → Self
     → Result (Unit {0}) Error → Type 0
@@ -51,9 +58,17 @@ abbrev pub resizes_bytes : {Self : Type 0} → (Self → List ℕ) → ℕ → P
 resizes_bytes bytes_of n mode old new result = OnOk result
     (IsResized (bytes_of old) n mode (bytes_of new)) × OnErr result (bytes_of new ≡ bytes_of old)
 
--- Flush, sync, invalidation, wait and discard do nothing; of a read, a resize, and a zero write in
--- place nothing is said, and there is no other zero write. A storage that has more to say says its
--- own.
+-- The bytes are written at that offset; refused, they are as they were. No more is told of the
+-- storage.
+abbrev pub writes_bytes : {Self : Type 0} → (Self → List ℕ) → ℕ → List ℕ → Self → Self
+    → Result (Unit {0}) Error → Type 0
+writes_bytes bytes_of at source old new result =
+    OnOk result (bytes_of new ≡ splice (bytes_of old) at source)
+    × OnErr result (bytes_of new ≡ bytes_of old)
+
+-- Flush, sync, invalidation, wait and discard do nothing; of a read, a write, a resize, and a zero
+-- write in place nothing is said, and there is no other zero write. A storage that has more to say
+-- says its own.
 abbrev pub no_maintenance : {Self : Type 0} → Maintenance Self
 no_maintenance = record {
   flushed = IsNothing;
@@ -63,6 +78,7 @@ no_maintenance = record {
   discarded = λ at n. IsNothing;
   resized = IsAnyResize;
   counted = IsAnyRead;
+  written = IsAnyWrite;
   zeroed_in_place = IsAnyZeroing;
   zeroed = IsNoZeroing;
 }

@@ -1,7 +1,7 @@
 use Rattle.std.specs.Prelude.{◌≡◌, ℕ, ◌%◌, List, Option, None, true, false, refl}
 use Rattle.imago_storage.specs.Powers.{IsAlignment, power_of_two}
 use Rattle.std.proofs.Math.Nat.{mod_self}
-use Rattle.imago_storage.specs.Features.{Features, InPlace, AsData, Never, ForGrowth, AreAlignments}
+use Rattle.imago_storage.specs.Features.{Features, InPlace, AsData, Never, ForGrowth, AreLawful}
 
 -- Bytes in memory: kept, never failing, and refused for memory only where they grow, with nothing
 -- changed.
@@ -13,6 +13,7 @@ mem_features name mem req zeroed = record {
   zero_align = zeroed;
   discard_align = req;
   keeps_data = true;
+  tells_bytes = true;
   is_reliable = true;
   atomic = true;
   zeroes = InPlace;
@@ -30,7 +31,7 @@ mem_features name mem req zeroed = record {
 
 pub mem_lawful : (name : Option (List ℕ)) (mem req zeroed : ℕ) → IsAlignment mem → IsAlignment req
     → IsAlignment zeroed → zeroed % req ≡ 0
-    → AreAlignments (mem_features name mem req zeroed)
+    → AreLawful (mem_features name mem req zeroed)
 mem_lawful name mem req zeroed a b c whole = record {
   mem = power_of_two mem a;
   req = power_of_two req b;
@@ -38,6 +39,7 @@ mem_lawful name mem req zeroed a b c whole = record {
   discard = power_of_two req b;
   zero_whole = whole;
   discard_whole = mod_self req;
+  told = λ keeps. keeps;
 }
 
 -- Zeroes of any length: nothing is kept, nothing fails, no call takes memory but allocated zeroes,
@@ -50,6 +52,7 @@ null_features = record {
   zero_align = 1;
   discard_align = 1;
   keeps_data = false;
+  tells_bytes = true;
   is_reliable = true;
   atomic = true;
   zeroes = InPlace;
@@ -65,7 +68,7 @@ null_features = record {
   other_memory = Never;
 }
 
-pub null_lawful : AreAlignments null_features
+pub null_lawful : AreLawful null_features
 null_lawful = record {
   mem = (0, refl);
   req = (0, refl);
@@ -73,4 +76,5 @@ null_lawful = record {
   discard = (0, refl);
   zero_whole = refl;
   discard_whole = refl;
+  told = λ keeps. refl;
 }

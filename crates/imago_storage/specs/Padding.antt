@@ -1,6 +1,6 @@
 use Rattle.std.specs.Prelude.{◌≡◌, ℕ, ◌+◌, ◌-◌, ◌%◌, ◌^◌, ◌<◌, ◌≤◌, ◌⊎◌, ◌↔◌}
 use Rattle.std.specs.Int.{next_multiple_of}
-use Rattle.imago_storage.specs.Features.{Features, AreAlignments, IsAlignedRequest, IsAlignedTo}
+use Rattle.imago_storage.specs.Features.{Features, AreLawful, IsAlignedRequest, IsAlignedTo}
 use Rattle.imago_storage.specs.Features.{len_align}
 
 -- The padded range of a request is the one that an aligned request covers it with. It starts on the
@@ -22,7 +22,7 @@ Wraps f at n = (0 < n) × (2 ^ 64 ≤ padded_end f at n)
 -- A padded request is refused where the end, the end rounded up, or the padded end passes the
 -- greatest offset.
 abbrev pub WrapCauses : Type 0
-WrapCauses = (f : Features) → AreAlignments f → (at n : ℕ) → 0 < n
+WrapCauses = (f : Features) → AreLawful f → (at n : ℕ) → 0 < n
     → Wraps f at n ↔ ((2 ^ 64 ≤ at + n) ⊎ (2 ^ 64 ≤ next_multiple_of (at + n) f.req_align)
     ⊎ (2 ^ 64 ≤ padded_end f at n))
 

@@ -1,14 +1,17 @@
-use Rattle.std.specs.Prelude.{◌≡◌, ◌≢◌, ℕ, ◌+◌, ◌-◌, ◌%◌, ◌<◌, ◌≤◌, ◌⊎◌, ◌^◌, List, length, min}
+use Rattle.std.specs.Prelude.{◌≡◌, ◌≢◌, ℕ, ◌+◌, ◌-◌, ◌%◌, ◌<◌, ◌≤◌, ◌⊎◌, ◌^◌, List, ◌++◌, length}
+use Rattle.std.specs.Prelude.{min}
 use Rattle.std.specs.Prelude.{replicate, Result, Ok, Err, IsOk, IsErrOf}
 use Rattle.imago_storage.specs.declared.error.Error.{Error}
 use Rattle.imago_storage.specs.Bytes.{splice, zero_extended, WriteOutcome}
-use Rattle.imago_storage.specs.declared.error.Error.TheVariants.{Unsupported, Memory}
+use Rattle.imago_storage.specs.declared.error.Error.TheVariants.{Unsupported, Memory, WrapAround}
 use Rattle.imago_storage.specs.declared.options.ZeroKind.{ZeroKind}
 use Rattle.imago_storage.specs.Features.{Features, ZeroSupport, InPlace, AsData, NotOffered}
 use Rattle.imago_storage.specs.Features.{MayBeUnsupported, len_align, zero_piece}
 use Rattle.imago_storage.specs.IoCount.{IoCount, IsInPieces, IsEdgedWork}
 use Rattle.imago_storage.specs.Maintenance.{Maintenance}
 use Rattle.imago_storage.specs.Padding.{Wraps, RangeWraps, aligned_start, aligned_end}
+use Rattle.imago_storage.specs.Steps.{write_steps, IsMadeInSteps, IsPureWrite, AreMadeInOrder}
+use Rattle.imago_storage.specs.Steps.{some_range, pieces_of, one_piece_or_more, head_of}
 
 -- Zeroes stand in the range, or the write of them was refused on the way. What grew ends by less
 -- than an alignment past the range.
@@ -97,47 +100,88 @@ pub record FitsZeroes (f : Features) (z : ZeroSupport) (at n : ℕ) : Type 0 whe
       → ¬ DataWraps f at n
   pub either : HasPart f at n → z ≡ NotOffered → (¬ EdgeWraps f at n) ⊎ (¬ DataWraps f at n)
 
+-- Zeroes are written to a range as data, by the steps of a write of them. A range that wraps around
+-- once it is padded is refused, and nothing is called.
+pub record IsZeroesWritten {S : Type 0} (features_of : S → Features) (bytes_of : S → List ℕ)
+    (calls : Maintenance S) (at n : ℕ) (old new : S) (result : Result (Unit {0}) Error) : Type 0
+  where
+    pub made : (¬ Wraps (features_of old) at n)
+        → IsMadeInSteps features_of bytes_of calls (len_align (features_of old))
+        (write_steps (features_of old) at (replicate n 0)) old new result
+    pub wraps : Wraps (features_of old) at n → (new ≡ old) × (result ≡ Err WrapAround)
+
+-- An aligned range is zeroed as data: by pure writes of pieces, one after the other; or nothing is
+-- called, where it is unsupported or there is no memory for the zeroes.
+pub record IsZeroedAsData {S : Type 0} (features_of : S → Features) (bytes_of : S → List ℕ)
+    (calls : Maintenance S) (work_of : S → IoCount) (f : Features) (at n : ℕ) (old new : S)
+    (result : Result (Unit {0}) Error) : Type 0 where
+  pub work : IsInPieces (zero_piece f) n (work_of old) (work_of new)
+  pub performed : ((new ≡ old) × (IsErrOf result Unsupported ⊎ IsErrOf result Memory))
+      ⊎ AreMadeInOrder
+      (λ start count. IsPureWrite features_of bytes_of calls start (replicate count 0))
+      (one_piece_or_more (zero_piece f) at n) old new result
+
 -- An aligned zero write is the storage's own of that kind; or one in place, which isn't refused as
--- unsupported; or one in place that is, and then pieces of data, behind which nothing else is
+-- unsupported; or one in place that is, and then zeroes as data, behind which nothing else is
 -- called.
-abbrev pub IsZeroCall : {S : Type 0} → Maintenance S → (S → IoCount) → Features → ZeroKind → ℕ → ℕ
-    → S → S → Result (Unit {0}) Error → Type 0
-IsZeroCall {S} calls work_of f kind at n old new result =
+abbrev pub IsAlignedZeroing : {S : Type 0} → (S → Features) → (S → List ℕ) → Maintenance S
+    → (S → IoCount) → Features → ZeroKind → ℕ → ℕ → S → S → Result (Unit {0}) Error → Type 0
+IsAlignedZeroing {S} features_of bytes_of calls work_of f kind at n old new result =
     calls.zeroed kind at n old new result
     ⊎ (calls.zeroed_in_place kind at n old new result × (result ≢ Err Unsupported))
     ⊎ ((mid : S) × calls.zeroed_in_place kind at n old mid (Err Unsupported)
-    × IsInPieces (zero_piece f) n (work_of mid) (work_of new))
+    × IsZeroedAsData features_of bytes_of calls work_of f at n mid new result)
+
+-- what stands before the part from `start` to `end` of a range, and what behind it
+abbrev pub edge_ranges : ℕ → ℕ → ℕ → ℕ → List (ℕ × ℕ)
+edge_ranges at n start end = some_range at (start - at) ++ some_range end (at + n - end)
+
+-- A range that is written as data: up to its first multiple of the request alignment, and then in
+-- pieces.
+abbrev pub data_ranges : Features → ℕ → ℕ → List (ℕ × ℕ)
+data_ranges f at n = some_range at (head_of f at n)
+    ++ pieces_of (zero_piece f) (at + head_of f at n) (n - head_of f at n)
 
 -- The aligned part of a range, from `start` to `end`, is zeroed by one aligned zero write of that
 -- kind, before anything else. Its refusal is the answer; behind its success the edges are written
 -- as data, which isn't unsupported.
-pub record IsPartAndEdges {S : Type 0} (calls : Maintenance S) (work_of : S → IoCount)
-    (f : Features) (kind : ZeroKind) (at n start end : ℕ) (old new : S)
-    (result : Result (Unit {0}) Error) : Type 0 where
+pub record IsPartAndEdges {S : Type 0} (features_of : S → Features) (bytes_of : S → List ℕ)
+    (calls : Maintenance S) (work_of : S → IoCount) (f : Features) (kind : ZeroKind)
+    (at n start end : ℕ) (old new : S) (result : Result (Unit {0}) Error) : Type 0 where
   pub answer : Result (Unit {0}) Error
   pub between : S
-  pub part : IsZeroCall calls work_of f kind start (end - start) old between answer
+  pub part : IsAlignedZeroing features_of bytes_of calls work_of f kind start (end - start) old
+      between answer
   pub refused : (e : Error) → answer ≡ Err e → (new ≡ between) × (result ≡ Err e)
   pub edges : answer ≡ Ok tt → IsEdgedWork 2 (len_align f) (zero_piece f)
       (start - at + (at + n - end)) (work_of between) (work_of new) × (result ≢ Err Unsupported)
+  pub edges_made : answer ≡ Ok tt → AreMadeInOrder (IsZeroesWritten features_of bytes_of calls)
+      (edge_ranges at n start end) between new result
 
--- Where the zero write of the aligned part is unsupported, the whole range is written as data.
-pub record IsPartThenData {S : Type 0} (calls : Maintenance S) (work_of : S → IoCount)
-    (f : Features) (kind : ZeroKind) (n start end : ℕ) (old new : S) : Type 0 where
+-- Where the zero write of the aligned part is unsupported, the whole range is written as data; or
+-- nothing more is called, where there is no memory for the zeroes.
+pub record IsPartThenData {S : Type 0} (features_of : S → Features) (bytes_of : S → List ℕ)
+    (calls : Maintenance S) (work_of : S → IoCount) (f : Features) (kind : ZeroKind)
+    (at n start end : ℕ) (old new : S) (result : Result (Unit {0}) Error) : Type 0 where
   pub between : S
-  pub part : IsZeroCall calls work_of f kind start (end - start) old between (Err Unsupported)
+  pub part : IsAlignedZeroing features_of bytes_of calls work_of f kind start (end - start) old
+      between (Err Unsupported)
   pub data_work : IsEdgedWork 2 (len_align f) (zero_piece f) n (work_of between) (work_of new)
+  pub data_made : ((new ≡ between) × IsErrOf result Memory)
+      ⊎ AreMadeInOrder (IsZeroesWritten features_of bytes_of calls) (data_ranges f at n) between new
+      result
 
 -- A zero write of any range is made of its aligned part and the edges, or, that part being
 -- unsupported, of data; of data alone, where it has no such part; or of nothing, where there is no
 -- memory for the zeroes. Nothing else is called.
-abbrev pub IsZeroedInParts : {S : Type 0} → Maintenance S → (S → IoCount) → Features → ZeroKind → ℕ
-    → ℕ → S → S → Result (Unit {0}) Error → Type 0
-IsZeroedInParts calls work_of f kind at n old new result =
+abbrev pub IsZeroedInParts : {S : Type 0} → (S → Features) → (S → List ℕ) → Maintenance S
+    → (S → IoCount) → Features → ZeroKind → ℕ → ℕ → S → S → Result (Unit {0}) Error → Type 0
+IsZeroedInParts features_of bytes_of calls work_of f kind at n old new result =
     ((new ≡ old) × IsErrOf result Memory)
-    ⊎ (HasPart f at n × IsPartAndEdges calls work_of f kind at n (aligned_start f.zero_align at)
-    (aligned_end f.zero_align at n) old new result)
-    ⊎ (HasPart f at n × IsPartThenData calls work_of f kind n (aligned_start f.zero_align at)
-    (aligned_end f.zero_align at n) old new)
-    ⊎ ((¬ HasPart f at n) × IsEdgedWork 2 (len_align f) (zero_piece f) n (work_of old)
-    (work_of new))
+    ⊎ (HasPart f at n × IsPartAndEdges features_of bytes_of calls work_of f kind at n
+    (aligned_start f.zero_align at) (aligned_end f.zero_align at n) old new result)
+    ⊎ (HasPart f at n × IsPartThenData features_of bytes_of calls work_of f kind at n
+    (aligned_start f.zero_align at) (aligned_end f.zero_align at n) old new result)
+    ⊎ ((¬ HasPart f at n) × IsEdgedWork 2 (len_align f) (zero_piece f) n (work_of old) (work_of new)
+    × AreMadeInOrder (IsZeroesWritten features_of bytes_of calls) (data_ranges f at n) old new
+    result)

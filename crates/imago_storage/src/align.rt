@@ -2,8 +2,9 @@
 ghost use Rattle.std.specs.Prelude.{◌≡◌, ℕ, ◌+◌, ◌-◌, ◌*◌, ◌/◌, ◌%◌, ◌^◌, ◌<◌, ◌≤◌, MatchOption};
 ghost use Rattle.std.specs.Int.{next_multiple_of, IsPowerOfTwo};
 ghost use Rattle.std.specs.Option.{SomeIff};
-ghost use Rattle.imago_storage.specs.Features.{AreAlignments, len_align};
+ghost use Rattle.imago_storage.specs.Features.{AreLawful, len_align};
 ghost use Rattle.imago_storage.specs.Padding.{Wraps, IsPaddedRequest, RangeWraps, IsAlignedPart};
+ghost use Rattle.imago_storage.specs.Steps.{head_of};
 ghost use Rattle.imago_storage.specs.Zeroes.{IsHead};
 
 use crate::storage::Storage;
@@ -23,7 +24,7 @@ pub(crate) fn length_align<S: Storage>(storage: &S) -> u64
     ensures value { result ≡ len_align (S.features storage.now) }
     ensures power { IsPowerOfTwo result }
     ensures positive { 0 < result }
-    ensures lawful { AreAlignments (S.features storage.now) }
+    ensures lawful { AreLawful (S.features storage.now) }
 {
     storage.req_align().max(storage.mem_align()) as u64
 }
@@ -33,7 +34,7 @@ pub fn zero_align<S: Storage>(storage: &S) -> u64
     ensures value { result ≡ (S.features storage.now).zero_align }
     ensures power { IsPowerOfTwo result }
     ensures positive { 0 < result }
-    ensures lawful { AreAlignments (S.features storage.now) }
+    ensures lawful { AreLawful (S.features storage.now) }
 {
     storage.zero_align() as u64
 }
@@ -43,7 +44,7 @@ pub fn discard_align<S: Storage>(storage: &S) -> u64
     ensures value { result ≡ (S.features storage.now).discard_align }
     ensures power { IsPowerOfTwo result }
     ensures positive { 0 < result }
-    ensures lawful { AreAlignments (S.features storage.now) }
+    ensures lawful { AreLawful (S.features storage.now) }
 {
     storage.discard_align() as u64
 }
@@ -115,6 +116,7 @@ pub(crate) fn head_length<S: Storage>(storage: &S, offset: u64, count: u64) -> u
     ensures none { result ≡ 0 → offset % (S.features storage.now).req_align ≡ 0 }
     ensures some { 0 < result → IsHead (S.features storage.now) offset count result }
     ensures within { result ≤ len_align (S.features storage.now) }
+    ensures exact { result ≡ head_of (S.features storage.now) offset count }
 {
     let request = request_align(storage);
     let past = remainder(offset, request);

@@ -46,13 +46,13 @@ pub trait StorageExt: Storage {
     /// A request that isn't aligned reads and changes its first and last block alone; whole blocks
     /// between are written from the source in one call.
     fn write(&mut self, alloc: Global, source: &[u8], offset: u64) -> Result<(), Error>
-        ensures { IsRangeWrite Self.features Self.bytes Self.fault_count Self.work offset source.now
-            self.old self.new result };
+        ensures { IsRangeWrite Self.features Self.bytes Self.fault_count Self.work
+            Self.maintenance offset source.now self.old self.new result };
 
     /// Writes as [`write`](Self::write) does.
     fn writev(&mut self, alloc: Global, source: &[u8], offset: u64) -> Result<(), Error>
-        ensures { IsRangeWrite Self.features Self.bytes Self.fault_count Self.work offset source.now
-            self.old self.new result };
+        ensures { IsRangeWrite Self.features Self.bytes Self.fault_count Self.work
+            Self.maintenance offset source.now self.old self.new result };
 
     /// Zeroes a range. The part of it that is aligned to the zero alignment goes to the storage's
     /// own zero write, and what stands before and behind it is written as zero bytes; the whole

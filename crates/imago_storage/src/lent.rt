@@ -1,7 +1,7 @@
 //! A storage that is lent: every call goes to the storage behind the borrow.
 ghost use Rattle.std.specs.Prelude.{◌≡◌, ℕ};
 ghost use Rattle.imago_storage.specs.Openings.{no_openings, IsMade};
-ghost use Rattle.imago_storage.specs.Zeroes.{IsZeroCall};
+ghost use Rattle.imago_storage.specs.Zeroes.{IsAlignedZeroing};
 
 use crate::error::Error;
 use crate::storage::{
@@ -26,9 +26,10 @@ impl<S: Storage> Storage for &mut S {
       discarded = λ at n a b r. S.maintenance.discarded at n a.now b.now r;
       resized = λ n mode a b r. S.maintenance.resized n mode a.now b.now r;
       counted = λ at buf a b r. S.maintenance.counted at buf a.now b.now r;
+      written = λ at source a b r. S.maintenance.written at source a.now b.now r;
       zeroed_in_place = λ kind at n a b r. S.maintenance.zeroed_in_place kind at n a.now b.now r;
-      zeroed = λ kind at n a b r. IsZeroCall S.maintenance S.work (S.features a.now) kind at n a.now
-          b.now r;
+      zeroed = λ kind at n a b r. IsAlignedZeroing S.features S.bytes S.maintenance S.work
+          (S.features a.now) kind at n a.now b.now r;
     } };
 
     ghost openings = { record no_openings {

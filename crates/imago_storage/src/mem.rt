@@ -8,7 +8,7 @@ ghost use Rattle.std.specs.String.{string_bytes};
 ghost use Rattle.imago_storage.specs.Bytes.{splice, IsReadAt};
 ghost use Rattle.imago_storage.specs.Features.{Features};
 ghost use Rattle.imago_storage.specs.IoCount.{no_work};
-ghost use Rattle.imago_storage.specs.Maintenance.{no_maintenance, resizes_bytes};
+ghost use Rattle.imago_storage.specs.Maintenance.{no_maintenance, resizes_bytes, writes_bytes};
 ghost use Rattle.imago_storage.specs.Openings.{no_openings};
 ghost use Rattle.imago_storage.specs.Mem.{mem_features, mem_lawful};
 
@@ -249,7 +249,10 @@ impl Storage for MemStorage {
 
     ghost work = { λ _. no_work };
 
-    ghost maintenance = { record no_maintenance { resized = resizes_bytes (λ s. s.bytes.items) } };
+    ghost maintenance = { record no_maintenance {
+      written = writes_bytes (λ s. s.bytes.items);
+      resized = resizes_bytes (λ s. s.bytes.items);
+    } };
 
     ghost openings = { no_openings };
 

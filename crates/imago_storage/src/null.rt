@@ -1,5 +1,5 @@
 //! A storage of zeroes.
-ghost use Rattle.std.specs.Prelude.{◌≡◌, ℕ, Bool, true, false, replicate, length};
+ghost use Rattle.std.specs.Prelude.{◌≡◌, ◌+◌, ℕ, Bool, Ok, true, false, replicate, length, max};
 ghost use Rattle.imago_storage.specs.Mem.{null_features, null_lawful};
 ghost use Rattle.imago_storage.specs.IoCount.{no_work};
 ghost use Rattle.imago_storage.specs.Maintenance.{no_maintenance, resizes_bytes};
@@ -47,6 +47,7 @@ impl Storage for Null {
     ghost work = { λ _. no_work };
 
     ghost maintenance = { record no_maintenance {
+      written = λ at source old new r. (r ≡ Ok tt) × (new.size ≡ max old.size (at + length source));
       resized = resizes_bytes (λ s. replicate s.size 0);
     } };
 

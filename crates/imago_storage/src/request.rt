@@ -1,6 +1,6 @@
 //! Reads, writes and discards of any range.
 ghost use Rattle.std.specs.Prelude.{◌≡◌, ◌+◌, ◌-◌, ◌<◌, ◌≤◌, ◌*◌, length, min, false, OnOk, IfErr};
-ghost use Rattle.std.specs.Prelude.{IsErrOf};
+ghost use Rattle.std.specs.Prelude.{IsErrOf, IsTrue};
 ghost use Rattle.std.specs.Int.{next_multiple_of};
 ghost use Rattle.imago_storage.specs.Blocks.{IsInParts, IsInBlocks};
 ghost use Rattle.imago_storage.specs.Bytes.{splice, zero_extended, WriteOutcome, IsReadAt};
@@ -9,6 +9,7 @@ ghost use Rattle.imago_storage.specs.Error.{IsDeviceOrMemory};
 ghost use Rattle.imago_storage.specs.Faults.{CountsFaults};
 ghost use Rattle.imago_storage.specs.Features.{IsAlignedRequest, RequestMayRunOut};
 ghost use Rattle.imago_storage.specs.IoCount.{AddsAtMost};
+ghost use Rattle.imago_storage.specs.Steps.{IsUpdated, IsMadeInSteps, steps_of_blocks, steps_from};
 
 use crate::align::{aligned_blocks, discard_align, length_align, padded_request, whole_blocks};
 use crate::bytes::overwrite;
@@ -63,7 +64,8 @@ fn read_parts<S: Storage>(
     requires parts { IsInParts (S.features storage.now) (length block.old) offset (length buf.old)
         start len }
     requires long { 2 * length block.old < len }
-    ensures bytes { OnOk result (IsReadAt (S.bytes storage.now) offset buf.new) }
+    ensures bytes { IsTrue (S.features storage.now).tells_bytes
+        → OnOk result (IsReadAt (S.bytes storage.now) offset buf.new) }
     ensures only { IfErr result IsDeviceOrMemory }
     ensures device { IsErrOf result Error.Device → (S.features storage.now).is_reliable ≡ false }
 {
@@ -86,7 +88,8 @@ fn read_blocks<S: Storage>(
     start: u64,
 ) -> Result<(), Error>
     requires { IsInBlocks (S.features storage.now) (length block.old) start (length buf.old) }
-    ensures bytes { OnOk result (IsReadAt (S.bytes storage.now) start buf.new) }
+    ensures bytes { IsTrue (S.features storage.now).tells_bytes
+        → OnOk result (IsReadAt (S.bytes storage.now) start buf.new) }
     ensures only { IfErr result IsDeviceOrMemory }
     ensures device { IsErrOf result Error.Device → (S.features storage.now).is_reliable ≡ false }
 {
@@ -109,7 +112,8 @@ fn read_within<S: Storage>(
 ) -> Result<(), Error>
     requires aligned { IsAlignedRequest (S.features storage.now) start (length bounce.old) }
     requires fits { head + length buf.old ≤ length bounce.old }
-    ensures bytes { OnOk result (IsReadAt (S.bytes storage.now) (start + head) buf.new) }
+    ensures bytes { IsTrue (S.features storage.now).tells_bytes
+        → OnOk result (IsReadAt (S.bytes storage.now) (start + head) buf.new) }
     ensures only { IfErr result IsDeviceOrMemory }
     ensures device { IsErrOf result Error.Device → (S.features storage.now).is_reliable ≡ false }
 {
@@ -126,8 +130,8 @@ pub(crate) fn write_any<S: Storage>(
     source: &[u8],
     offset: u64,
 ) -> Result<(), Error>
-    ensures { IsRangeWrite S.features S.bytes S.fault_count S.work offset source.now storage.old
-        storage.new result }
+    ensures { IsRangeWrite S.features S.bytes S.fault_count S.work S.maintenance offset source.now
+        storage.old storage.new result }
 {
     if source.is_empty() {
         return Ok(());
@@ -166,6 +170,9 @@ pub(crate) fn write_parts<S: Storage>(
     ensures only { IfErr result IsDeviceOrMemory }
     ensures cause { CountsFaults (S.features storage.old).is_reliable (S.fault_count storage.old)
         (S.fault_count storage.new) result }
+    ensures performed { IsMadeInSteps S.features S.bytes S.maintenance (length block.old)
+        (steps_from (length block.old) (offset - start) offset source.now) storage.old storage.new
+        result }
 {
     let align = block.len();
     let head = (offset - start) as usize;
@@ -204,6 +211,8 @@ fn write_blocks<S: Storage>(
     ensures only { IfErr result IsDeviceOrMemory }
     ensures cause { CountsFaults (S.features storage.old).is_reliable (S.fault_count storage.old)
         (S.fault_count storage.new) result }
+    ensures performed { IsMadeInSteps S.features S.bytes S.maintenance (length block.old)
+        (steps_of_blocks (length block.old) start source.now) storage.old storage.new result }
 {
     let whole = whole_blocks(source.len(), block.len());
     if whole == 0 {
@@ -239,6 +248,8 @@ fn update_block<S: Storage>(
     ensures only { IfErr result IsDeviceOrMemory }
     ensures cause { CountsFaults (S.features storage.old).is_reliable (S.fault_count storage.old)
         (S.fault_count storage.new) result }
+    ensures performed { IsUpdated S.features S.bytes S.maintenance (length block.old) start head
+        source.now storage.old storage.new result }
 {
     storage.pure_readv_mut(block, start)?;
     overwrite(block, source, head);

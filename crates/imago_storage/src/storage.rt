@@ -9,10 +9,11 @@ ghost use Rattle.imago_storage.specs.Calls.{IsPureZeroing, IsMaintained, ShowsNo
 ghost use Rattle.imago_storage.specs.Error.{IsDeviceOrMemory, IsNameRefusal, IsPureRefusal};
 ghost use Rattle.imago_storage.specs.Faults.{CountsFaults};
 ghost use Rattle.imago_storage.specs.Features.{Features, InPlace, MayRunOut, zero_support};
-ghost use Rattle.imago_storage.specs.Features.{zero_piece, AreAlignments, IsAlignedRequest};
+ghost use Rattle.imago_storage.specs.Features.{zero_piece, AreLawful, IsAlignedRequest};
 ghost use Rattle.imago_storage.specs.Features.{IsAlignedTo, OthersMayRunOut};
 ghost use Rattle.imago_storage.specs.Powers.{IsAlignment};
-ghost use Rattle.imago_storage.specs.IoCount.{IoCount, AddsAtMost, IsInPieces};
+ghost use Rattle.imago_storage.specs.IoCount.{IoCount, AddsAtMost};
+ghost use Rattle.imago_storage.specs.Zeroes.{IsZeroedAsData};
 ghost use Rattle.imago_storage.specs.Maintenance.{Maintenance};
 ghost use Rattle.imago_storage.specs.Openings.{Openings, IsMade};
 ghost use Rattle.imago_storage.specs.Options.{open_options, create_options};
@@ -54,9 +55,14 @@ pub fn zero_buffer(alloc: Global, count: usize) -> Result<Vec<u8>, Error>
 /// was refused, and [`Error::Unsupported`] only where its documentation says so.
 pub trait Storage: Display + Drop + Sized {
     /// The bytes, as many as the storage is long.
+    ///
+    /// Of a storage that doesn't tell its bytes (`tells_bytes` of its features), such as one on a file
+    /// of the operating system, they are zeroes: a stand-in for what no contract knows, of the right
+    /// length. What clauses say of them is true of the stand-in, and says nothing of the file.
     ghost bytes: { Self → List ℕ };
 
-    /// What never changes: the name, alignments, what is kept and offered, which calls take memory.
+    /// What never changes: the name, alignments, whether bytes are kept and told, what is offered,
+    /// and which calls take memory.
     ghost features: { Self → Features };
 
     /// How often the device failed in exclusive calls: a count that saturates.
@@ -66,7 +72,7 @@ pub trait Storage: Display + Drop + Sized {
     ghost work: { Self → IoCount };
 
     /// What a flush, a sync, an invalidation, a wait for writes, a discard, a resize, a counted
-    /// read and a zero write are: only the call itself gives its relation.
+    /// read, a pure write and a zero write are: only the call itself gives its relation.
     ghost maintenance: { Maintenance Self };
 
     /// What is opened and created by which options, and which name a relative one stands for: only
@@ -134,11 +140,13 @@ pub trait Storage: Display + Drop + Sized {
     fn get_filename(&self) -> Option<&str>
         ensures { option_copied result ≡ (features self.now).filename };
 
-    /// Fills the buffer with the bytes from the offset on, with 0 past the end. Refused, the buffer
-    /// is unspecified.
+    /// Fills the buffer with the bytes from the offset on, with 0 past the end. Where the storage
+    /// doesn't tell its bytes, contracts say nothing of those in the buffer. Refused, the buffer is
+    /// unspecified.
     fn pure_readv(&self, buf: &mut [u8], offset: u64) -> Result<(), Error>
         requires { IsAlignedRequest (features self.now) offset (length buf.old) }
-        ensures bytes { OnOk result (IsReadAt (bytes self.now) offset buf.new) }
+        ensures bytes { IsTrue (features self.now).tells_bytes
+            → OnOk result (IsReadAt (bytes self.now) offset buf.new) }
         ensures only { IfErr result IsDeviceOrMemory }
         ensures device { IsErrOf result Error.Device → (features self.now).is_reliable ≡ false }
         ensures memory { IsErrOf result Error.Memory
@@ -149,7 +157,8 @@ pub trait Storage: Display + Drop + Sized {
     /// is counted.
     fn pure_readv_mut(&mut self, buf: &mut [u8], offset: u64) -> Result<(), Error>
         requires { IsAlignedRequest (features self.old) offset (length buf.old) }
-        ensures bytes { OnOk result (IsReadAt (bytes self.old) offset buf.new) }
+        ensures bytes { IsTrue (features self.old).tells_bytes
+            → OnOk result (IsReadAt (bytes self.old) offset buf.new) }
         ensures unchanged { bytes self.new ≡ bytes self.old }
         ensures features { features self.new ≡ features self.old }
         ensures work { AddsAtMost 1 (length buf.old) 0 0 (work self.old) (work self.new) }
@@ -182,7 +191,8 @@ pub trait Storage: Display + Drop + Sized {
             result }
         ensures memory { IsErrOf result Error.Memory
             → MayRunOut (features self.old).write_memory (length (bytes self.old))
-            (offset + length source.now) };
+            (offset + length source.now) }
+        ensures performed { maintenance.written offset source.now self.old self.new result };
 
     /// Zeroes a range with no buffer. A storage that can't do so for that kind answers
     /// [`Error::Unsupported`], with the bytes and the count of faults as they were, and zeroes are
@@ -226,8 +236,8 @@ pub trait Storage: Display + Drop + Sized {
             → (¬ MayRunOut (features self.old).write_memory (length (bytes self.old))
             (offset + count))
             → self.new ≡ self.old }
-        ensures work { IsInPieces (zero_piece (features self.old)) count (work self.old)
-            (work self.new) }
+        ensures performed { IsZeroedAsData features bytes maintenance work (features self.old)
+            offset count self.old self.new result }
         ensures cause { CountsFaults (features self.old).is_reliable (fault_count self.old)
             (fault_count self.new)
             result }
@@ -345,6 +355,6 @@ pub trait Storage: Display + Drop + Sized {
         ensures performed { maintenance.resized new_size mode self.old self.new result };
 
     /// The alignments are powers of two, and those of zero writes and discards multiples of that of
-    /// requests.
-    ghost lawful: { (s : Self) → AreAlignments (features s) };
+    /// requests. Data that is kept is told.
+    ghost lawful: { (s : Self) → AreLawful (features s) };
 }

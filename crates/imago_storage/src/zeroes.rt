@@ -1,7 +1,7 @@
 //! Zero writes of any range.
 ghost use Rattle.std.specs.Prelude.{◌≡◌, ◌≢◌, ℕ, ◌+◌, ◌-◌, ◌%◌, ◌<◌, ◌≤◌, ◌⊎◌, ◌^◌, length, max};
-ghost use Rattle.std.specs.Prelude.{min, replicate, OnOk, IfOk, IfErr, IsErrOf, IsOk, Ok, List};
-ghost use Rattle.std.specs.Prelude.{◌↔◌};
+ghost use Rattle.std.specs.Prelude.{min, replicate, OnOk, IfOk, IfErr, IsErrOf, IsOk, Ok, Err};
+ghost use Rattle.std.specs.Prelude.{◌↔◌, List};
 ghost use Rattle.imago_storage.specs.Bytes.{splice, zero_extended, WriteOutcome};
 ghost use Rattle.imago_storage.specs.Calls.{IsRangeZeroing, ShowsNoChange, IsUnsupportedZeroing};
 ghost use Rattle.imago_storage.specs.Error.{IsExtRefusal, IsPureRefusal, IsZeroRefusal};
@@ -13,7 +13,11 @@ ghost use Rattle.imago_storage.specs.Features.{zero_support};
 ghost use Rattle.imago_storage.specs.IoCount.{AddsAtMost, IsWriteWork, IsEdgedWork};
 ghost use Rattle.imago_storage.specs.Padding.{padded_end, Wraps, IsAlignedPart, IsSomePart};
 ghost use Rattle.imago_storage.specs.Zeroes.{HasZeroed, ZeroedPart, EdgeWraps, DataWraps};
-ghost use Rattle.imago_storage.specs.Zeroes.{IsZeroCall, IsPartAndEdges, HasZeroes, IsCutInPieces};
+ghost use Rattle.imago_storage.specs.Zeroes.{IsAlignedZeroing, IsPartAndEdges, HasZeroes};
+ghost use Rattle.imago_storage.specs.Zeroes.{IsCutInPieces, IsZeroesWritten, edge_ranges};
+ghost use Rattle.imago_storage.specs.Zeroes.{data_ranges};
+ghost use Rattle.imago_storage.specs.Steps.{IsMadeInSteps, write_steps, AreMadeInOrder};
+ghost use Rattle.imago_storage.specs.Steps.{pieces_of};
 
 use crate::align::{
     aligned_blocks, head_length, length_align, padded_request, remainder, zero_align,
@@ -145,10 +149,8 @@ fn zero_part_and_edges<S: Storage>(
         (range.offset + range.count + (len_align (S.features storage.old) - 1)))
         → ShowsNoChange S.features S.bytes S.fault_count storage.old storage.new }
     ensures performed { ((storage.new ≡ storage.old) × IsErrOf result Error.Memory)
-        ⊎ IsPartAndEdges S.maintenance S.work (S.features storage.old) kind range.offset range.count
-        range.start range.end
-        storage.old
-        storage.new result }
+        ⊎ IsPartAndEdges S.features S.bytes S.maintenance S.work (S.features storage.old) kind
+        range.offset range.count range.start range.end storage.old storage.new result }
 {
     if range.start == range.offset && range.end == range.offset + range.count {
         return zero_aligned(storage, alloc, range.start, range.end - range.start, kind);
@@ -193,6 +195,9 @@ fn zero_edges<S: Storage>(
         (zero_piece (S.features storage.old))
         (range.start - range.offset + (range.offset + range.count - range.end)) (S.work storage.old)
         (S.work storage.new) }
+    ensures performed { AreMadeInOrder (IsZeroesWritten S.features S.bytes S.maintenance)
+        (edge_ranges range.offset range.count range.start range.end) storage.old storage.new
+        result }
 {
     zero_from(
         storage,
@@ -240,9 +245,8 @@ fn zero_aligned<S: Storage>(
         → (¬ ZeroesMayRunOut (S.features storage.old) (length (S.bytes storage.old))
         (offset + count))
         → ShowsNoChange S.features S.bytes S.fault_count storage.old storage.new }
-    ensures performed { IsZeroCall S.maintenance S.work (S.features storage.old) kind offset count
-        storage.old
-        storage.new result }
+    ensures performed { IsAlignedZeroing S.features S.bytes S.maintenance S.work
+        (S.features storage.old) kind offset count storage.old storage.new result }
 {
     match kind {
         ZeroKind::Any => storage.pure_write_zeroes(alloc, offset, count),
@@ -277,6 +281,8 @@ fn zero_from<S: Storage>(
         (S.work storage.new) }
     ensures direct { IsAlignedRequest (S.features storage.old) offset count
         → AddsAtMost 0 0 1 count (S.work storage.old) (S.work storage.new) }
+    ensures performed { IsZeroesWritten S.features S.bytes S.maintenance offset count storage.old
+        storage.new result }
 {
     write_by(storage, block, &zeroes[..count as usize], offset)
 }
@@ -312,6 +318,11 @@ fn write_by<S: Storage>(
         (S.work storage.old) (S.work storage.new) }
     ensures direct { IsAlignedRequest (S.features storage.old) offset (length source.now)
         → AddsAtMost 0 0 1 (length source.now) (S.work storage.old) (S.work storage.new) }
+    ensures performed { (¬ Wraps (S.features storage.old) offset (length source.now))
+        → IsMadeInSteps S.features S.bytes S.maintenance (len_align (S.features storage.old))
+        (write_steps (S.features storage.old) offset source.now) storage.old storage.new result }
+    ensures nothing { Wraps (S.features storage.old) offset (length source.now)
+        → (storage.new ≡ storage.old) × (result ≡ Err Error.WrapAround) }
 {
     if source.is_empty() {
         return Ok(());
@@ -352,6 +363,9 @@ fn zero_by_writes<S: Storage>(
         → storage.new ≡ storage.old }
     ensures work { IsEdgedWork 2 (len_align (S.features storage.old))
         (zero_piece (S.features storage.old)) count (S.work storage.old) (S.work storage.new) }
+    ensures performed { ((storage.new ≡ storage.old) × IsErrOf result Error.Memory)
+        ⊎ AreMadeInOrder (IsZeroesWritten S.features S.bytes S.maintenance)
+        (data_ranges (S.features storage.old) offset count) storage.old storage.new result }
 {
     let align = length_align(&*storage);
     let piece = align.max(ZERO_PIECE);
@@ -413,6 +427,8 @@ fn zero_pieces<S: Storage>(
         (offset + count + (len_align (S.features storage.old) - 1)) }
     ensures work { IsEdgedWork 1 (len_align (S.features storage.old)) piece count
         (S.work storage.old) (S.work storage.new) }
+    ensures performed { AreMadeInOrder (IsZeroesWritten S.features S.bytes S.maintenance)
+        (pieces_of piece offset count) storage.old storage.new result }
 {
     let mut done = 0;
     while done < count {

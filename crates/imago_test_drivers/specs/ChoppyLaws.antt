@@ -2,7 +2,7 @@ use Rattle.std.specs.Prelude.{◌≡◌, ◌≢◌, ℕ, max, Bool, true, false,
 use Rattle.std.proofs.Common.{arith}
 use Rattle.imago_storage.specs.declared.error.Error.{Error}
 use Rattle.imago_storage.specs.declared.error.Error.TheVariants as E
-use Rattle.imago_storage.specs.Features.{Features}
+use Rattle.imago_storage.specs.Features.{Features, AreLawful}
 use Rattle.imago_drivers.specs.declared.raw.Raw.{Raw}
 use Rattle.imago_drivers.specs.Operation.{Operation}
 use Rattle.imago_drivers.specs.Laws.{IsLawful, AreCauses, CauseBound}
@@ -38,9 +38,11 @@ module _ {St : Type 0} (granularity : Option ℕ) (v : View St) where
     bounded = x.bounded;
     stored = x.stored;
     special = x.special;
+    faulty = x.faulty;
     lower = x.lower;
     own = x.own;
     refused = x.refused;
+    told = x.told;
     granularity = some;
     blocks = x.blocks;
   }
@@ -55,10 +57,11 @@ module _ {St : Type 0} (granularity : Option ℕ) (v : View St) where
 
 module _ {S : Type 0} {g : _} {h : _} (features : S → Features) (fault_count : S → ℕ)
     (bytes : S → List ℕ) (granular : Bool) (cut : ℕ) (r : Raw S g h) where
-  pub choppy_lawful : IsLawful (choppy_view features fault_count bytes (told granular cut) r)
-  choppy_lawful = chopped_lawful _ _ (never_zero granular cut)
+  pub choppy_lawful : AreLawful (features (storage_in r))
+      → IsLawful (choppy_view features fault_count bytes (told granular cut) r)
+  choppy_lawful lawful = chopped_lawful _ _ (never_zero granular cut)
       (raw_lawful (features (storage_in r)) (fault_count (storage_in r)) (bytes (storage_in r))
-      (size_of r) (writability_of r))
+      (size_of r) (writability_of r) lawful)
 
   pub choppy_causes : AreCauses (choppy_view features fault_count bytes (told granular cut) r)
   choppy_causes = chopped_causes _ _

@@ -6,7 +6,7 @@ use Rattle.imago_drivers.specs.declared.format.Format.TheVariants as Format
 use Rattle.imago_test_drivers.specs.declared.copy_once.Waiting.{Waiting}
 use Rattle.imago_drivers.specs.Operation.{Operation, Map, Read, Write, Zero, DiscardToZero}
 use Rattle.imago_drivers.specs.Operation.{DiscardToAny, DiscardToBacking, Grow, Shrink, Flush}
-use Rattle.imago_drivers.specs.Place.{Place, Lower, End}
+use Rattle.imago_drivers.specs.Place.{Byte, Place, Lower, End}
 use Rattle.imago_drivers.specs.Causes.{Causes}
 use Rattle.imago_drivers.specs.Pending.{Pending}
 use Rattle.imago_drivers.specs.Lengths.{padded_to}
@@ -86,6 +86,7 @@ copy_view f fault_count bytes size copied waiting = record {
     takes_backing = true;
     is_reliable = f.is_reliable;
     keeps_data = f.keeps_data;
+    tells_bytes = f.tells_bytes;
     zero_granularity = None;
     offers = copy_offers;
     block = max size 1;
@@ -94,7 +95,7 @@ copy_view f fault_count bytes size copied waiting = record {
   place = copy_place copied size bytes;
   fault_count = fault_count;
   stores = record { count = 1; bytes = λ index. bytes; features = λ index. f };
-  special = λ offset. 0;
+  special = λ offset. Byte 0;
   limits = record {
     cause = copy_cause;
     copies = copy_copies copied size;

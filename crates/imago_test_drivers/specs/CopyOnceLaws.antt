@@ -5,7 +5,7 @@ use Rattle.std.proofs.lemmas.Bool.{cases_lt}
 use Rattle.std.proofs.lemmas.Bool.Decides.{nat_tests}
 use Rattle.imago_storage.specs.declared.error.Error.{Error}
 use Rattle.imago_storage.specs.declared.error.Error.TheVariants as E
-use Rattle.imago_storage.specs.Features.{Features}
+use Rattle.imago_storage.specs.Features.{Features, AreLawful}
 use Rattle.imago_test_drivers.specs.declared.copy_once.Waiting.{Waiting}
 use Rattle.imago_drivers.specs.Operation.{Operation, Map, Read, Write, Zero, DiscardToZero}
 use Rattle.imago_drivers.specs.Operation.{DiscardToAny, DiscardToBacking, Grow, Shrink, Flush}
@@ -38,30 +38,35 @@ some_block : (size : ℕ) → max size 1 ≢ 0
 some_block size e = omega (arith, e)
 
 pub copy_lawful : (f : Features) (count : ℕ) (bytes : List ℕ) (size : ℕ) (copied : Bool)
-    (w : Option Waiting) → IsLawful (copy_view f count bytes size copied w)
-copy_lawful f count bytes size true w = let r = raw_lawful f count bytes size true in record {
+    (w : Option Waiting) → AreLawful f → IsLawful (copy_view f count bytes size copied w)
+copy_lawful f count bytes size true w l = let r = raw_lawful f count bytes size true l in record {
   ends = r.ends;
   bounded = r.bounded;
   stored = r.stored;
   special = r.special;
+  faulty = r.faulty;
   lower = λ p q v e. refl;
   own = r.own;
   refused = r.refused;
+  told = l.told;
   granularity = r.granularity;
   blocks = some_block size;
 }
-copy_lawful f count bytes size false w = record {
+copy_lawful f count bytes size false w l = record {
   ends = lower_ends size bytes;
   bounded = lower_out size bytes;
   stored = λ p b s o v e. absurd (lower_only size bytes p _ e (λ x. let z : ⊥ = cc in z)
       (λ x. let z : ⊥ = cc in z));
   special = λ p b o e. absurd (lower_only size bytes p _ e (λ x. let z : ⊥ = cc in z)
       (λ x. let z : ⊥ = cc in z));
+  faulty = λ p o e h. absurd (lower_only size bytes p _ h (λ x. let z : ⊥ = cc in z)
+      (λ x. let z : ⊥ = cc in z));
   lower = λ p q v e. refl;
   own = λ p q b c s o v e g. absurd (lower_only size bytes p _ e (λ x. let z : ⊥ = cc in z)
       (λ x. let z : ⊥ = cc in z));
   refused = λ p r e. absurd (lower_only size bytes p _ e (λ x. let z : ⊥ = cc in z)
       (λ x. let z : ⊥ = cc in z));
+  told = l.told;
   granularity = λ e. let z : ⊥ = cc in z;
   blocks = some_block size;
 }

@@ -6,7 +6,7 @@ use Rattle.imago_drivers.specs.declared.format.Format.TheVariants as Format
 use Rattle.imago_test_drivers.specs.declared.pattern.Kind.{Kind}
 use Rattle.imago_test_drivers.specs.declared.pattern.Pattern.{Pattern}
 use Rattle.imago_drivers.specs.Operation.{Operation, Read}
-use Rattle.imago_drivers.specs.Place.{Place, Zeroed, Special, Lower, End, IsIn}
+use Rattle.imago_drivers.specs.Place.{Byte, Place, Zeroed, Special, Lower, End, IsIn}
 use Rattle.imago_drivers.specs.Causes.{Causes}
 use Rattle.imago_drivers.specs.View.{View}
 
@@ -21,7 +21,7 @@ size_of d = d.size
 -- what stands at each offset of a disk of that kind
 abbrev pub pattern_at : Kind → ℕ → Place
 pattern_at Kind.Zeroes p = Zeroed true
-pattern_at (Kind.Special byte readable) p = Special byte p
+pattern_at (Kind.Special byte readable) p = Special (Byte byte) p
 pattern_at (Kind.Below writable) p = Lower p writable
 
 abbrev pub pattern_place : Kind → ℕ → ℕ → Place
@@ -61,6 +61,7 @@ pattern_view kind size = record {
     takes_backing = takes_backing kind;
     is_reliable = true;
     keeps_data = true;
+    tells_bytes = true;
     zero_granularity = None;
     offers = pattern_offers kind;
     block = 1;
@@ -69,7 +70,7 @@ pattern_view kind size = record {
   place = pattern_place kind size;
   fault_count = 0;
   stores = record { count = 0; bytes = λ index. []; features = λ index. null_features };
-  special = λ offset. pattern_byte kind;
+  special = λ offset. Byte (pattern_byte kind);
   limits = record {
     cause = pattern_cause kind size;
     copies = λ op o n p. ⊥;

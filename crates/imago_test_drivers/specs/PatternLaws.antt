@@ -6,7 +6,8 @@ use Rattle.imago_storage.specs.declared.error.Error.{Error}
 use Rattle.imago_storage.specs.declared.error.Error.TheVariants as E
 use Rattle.imago_test_drivers.specs.declared.pattern.Kind.{Kind}
 use Rattle.imago_drivers.specs.Operation.{Operation, Read}
-use Rattle.imago_drivers.specs.Place.{Place, Stored, Special, Lower, Refused, End}
+use Rattle.imago_drivers.specs.Place.{Value, Byte, Unreadable, Place, Stored, Special, Lower, Refused}
+use Rattle.imago_drivers.specs.Place.{End}
 use Rattle.imago_drivers.specs.Laws.{IsLawful, AreCauses, CauseBound}
 use Rattle.imago_test_drivers.specs.Pattern.{pattern_at, pattern_place, pattern_byte, pattern_cause}
 use Rattle.imago_test_drivers.specs.Pattern.{pattern_view, is_readable, takes_backing}
@@ -33,10 +34,15 @@ never_refused Kind.Zeroes p r e = let z : ⊥ = cc in z
 never_refused (Kind.Special c v) p r e = let z : ⊥ = cc in z
 never_refused (Kind.Below v) p r e = let z : ⊥ = cc in z
 
-special_is : (kind : Kind) (p b o : ℕ) → pattern_at kind p ≡ Special b o → pattern_byte kind ≡ b
+special_is : (kind : Kind) (p : ℕ) (b : Value) (o : ℕ) → pattern_at kind p ≡ Special b o
+    → Byte (pattern_byte kind) ≡ b
 special_is Kind.Zeroes p b o e = let z : ⊥ = cc in absurd z
-special_is (Kind.Special c v) p b o e = let x : c ≡ b = cc in x
+special_is (Kind.Special c v) p b o e = let x : Byte c ≡ b = cc in x
 special_is (Kind.Below v) p b o e = let z : ⊥ = cc in absurd z
+
+never_faulty : (kind : Kind) (p o : ℕ) (e : Error) → pattern_at kind p ≡ Special (Unreadable e) o
+    → ⊥
+never_faulty kind p o e h = let x = special_is kind p (Unreadable e) o h in let z : ⊥ = cc in z
 
 lower_is : (kind : Kind) (p q : ℕ) (w : Bool) → pattern_at kind p ≡ Lower q w
     → takes_backing kind ≡ true
@@ -44,10 +50,10 @@ lower_is Kind.Zeroes p q w e = let z : ⊥ = cc in absurd z
 lower_is (Kind.Special c v) p q w e = let z : ⊥ = cc in absurd z
 lower_is (Kind.Below v) p q w e = refl
 
-unreadable_special : (kind : Kind) (p : ℕ) → is_readable kind ≡ false → (b : ℕ) × (x : ℕ)
-    × (pattern_at kind p ≡ Special b x)
+unreadable_special : (kind : Kind) (p : ℕ) → is_readable kind ≡ false → (b : Value)
+    × (x : ℕ) × (pattern_at kind p ≡ Special b x)
 unreadable_special Kind.Zeroes p e = let z : ⊥ = cc in absurd z
-unreadable_special (Kind.Special c v) p e = (c, p, refl)
+unreadable_special (Kind.Special c v) p e = (Byte c, p, refl)
 unreadable_special (Kind.Below v) p e = let z : ⊥ = cc in absurd z
 
 module _ (kind : Kind) (size : ℕ) where
@@ -71,10 +77,13 @@ module _ (kind : Kind) (size : ℕ) where
         (pattern_only p _ _ e (never_stored kind p b s o w) (λ x. let z : ⊥ = cc in z));
     special = λ p b o e. pattern_only p _ _ e (special_is kind p b o) (λ x. let z : ⊥ = cc in
         absurd z);
+    faulty = λ p o e h. absurd (pattern_only p _ _ h (never_faulty kind p o e)
+        (λ x. let z : ⊥ = cc in z));
     lower = λ p q w e. pattern_only p _ _ e (lower_is kind p q w) (λ x. let z : ⊥ = cc in absurd z);
     own = λ p q b c s o w e g. absurd (pattern_only p _ _ e (never_stored kind p b s o true)
         (λ x. let z : ⊥ = cc in z));
     refused = λ p r e. absurd (pattern_refused p r e);
+    told = λ keeps. keeps;
     granularity = λ e. let z : ⊥ = cc in z;
     blocks = λ e. let z : ⊥ = cc in z;
   }

@@ -1,5 +1,5 @@
 use Rattle.std.specs.Prelude.{ℕ, List}
-use Rattle.imago_storage.specs.Features.{Features}
+use Rattle.imago_storage.specs.Features.{Features, AreLawful}
 use Rattle.imago_drivers.specs.Laws.{IsLawful, AreCauses}
 use Rattle.imago_drivers.specs.declared.raw.Raw.{Raw}
 use Rattle.imago_drivers.specs.Raw.{raw_view}
@@ -39,12 +39,14 @@ by_driver raw choppy pattern (T.Choppy a) _ r = ⊥
 by_driver raw choppy pattern (T.Pattern a) _ r = ⊥
 
 pub test_lawful : {S : Type 0} {g : _} {h : _} (features : S → Features) (fault_count : S → ℕ)
-    (bytes : S → List ℕ) (d : TestDriver S g h) → IsLawful (test_view features fault_count bytes d)
-test_lawful features fault_count bytes (T.Raw r) = raw_lawful (features (storage_in r))
+    (bytes : S → List ℕ) → ((s : S) → AreLawful (features s)) → (d : TestDriver S g h)
+    → IsLawful (test_view features fault_count bytes d)
+test_lawful features fault_count bytes lawful (T.Raw r) = raw_lawful (features (storage_in r))
     (fault_count (storage_in r)) (bytes (storage_in r)) (raw_size r) (writability_of r)
-test_lawful features fault_count bytes (T.Choppy c) = choppy_lawful features fault_count bytes
-    c.is_granular c.cut c.raw
-test_lawful features fault_count bytes (T.Pattern p) = pattern_lawful (kind_of p) (size_of p)
+    (lawful (storage_in r))
+test_lawful features fault_count bytes lawful (T.Choppy c) = choppy_lawful features fault_count
+    bytes c.is_granular c.cut c.raw (lawful (storage_in c.raw))
+test_lawful features fault_count bytes lawful (T.Pattern p) = pattern_lawful (kind_of p) (size_of p)
 
 pub test_causes : {S : Type 0} {g : _} {h : _} (features : S → Features) (fault_count : S → ℕ)
     (bytes : S → List ℕ) (d : TestDriver S g h) → AreCauses (test_view features fault_count bytes d)

@@ -2,7 +2,7 @@
 ghost use Rattle.std.specs.Prelude.{◌≡◌, ◌+◌, ◌^◌, ◌<◌, ◌≤◌, max, None, Some};
 ghost use Rattle.imago_drivers.specs.CallRelations.{any_calls};
 ghost use Rattle.imago_drivers.specs.Commit.{IsCommit, IsCancel};
-ghost use Rattle.imago_drivers.specs.RawImage.{size_of};
+ghost use Rattle.imago_drivers.specs.RawImage.{size_of, storage_in};
 ghost use Rattle.imago_test_drivers.specs.Choppy.{told, choppy_view, of_part};
 ghost use Rattle.imago_test_drivers.specs.ChoppyImage.{raw_of, granularity_of};
 ghost use Rattle.imago_test_drivers.specs.ChoppyLaws.{choppy_lawful, choppy_causes};
@@ -136,8 +136,8 @@ impl<S: Storage> FormatDriverInstance for Choppy<S> {
           × (b.is_granular ≡ a.is_granular);
     } };
 
-    ghost lawful = { λ d. choppy_lawful S.features S.fault_count S.bytes d.is_granular d.cut
-        d.raw };
+    ghost lawful = { λ d. choppy_lawful S.features S.fault_count S.bytes d.is_granular d.cut d.raw
+        (S.lawful (storage_in d.raw)) };
 
     ghost causes_lawful = { λ d. choppy_causes S.features S.fault_count S.bytes d.is_granular d.cut
         d.raw };

@@ -1,6 +1,11 @@
 //! A driver with a real commit: a disk that shows the layer below until a first write is committed.
 ghost use Rattle.std.specs.Prelude.{◌≡◌, ℕ, ◌+◌, ◌^◌, ◌<◌, ◌≤◌, ◌↔◌, length, IsTrue, IfOk, IfErr};
-ghost use Rattle.std.specs.Prelude.{IsErrOf, true};
+ghost use Rattle.std.specs.Prelude.{IsErrOf, true, false, max, slice_index, IsOk, OnOk, OnErr};
+ghost use Rattle.imago_storage.specs.Error.{IsExtRefusal};
+ghost use Rattle.imago_storage.specs.Faults.{CountsFaults};
+ghost use Rattle.imago_storage.specs.Padding.{Wraps};
+ghost use Rattle.imago_drivers.specs.Lengths.{padded_to};
+ghost use Rattle.imago_drivers.specs.Ranges.{HasBytes};
 ghost use Rattle.std.specs.Option.{ForSome};
 ghost use Rattle.imago_drivers.specs.Place.{HasValues};
 ghost use Rattle.imago_drivers.specs.LayerBelow.{lent, below_reasons};
@@ -92,7 +97,8 @@ impl<S: Storage> Display for CopyOnce<S> {
 /// The bytes of the layer below, up to a size.
 fn read_below<B: LowerLayer>(alloc: Global, below: Option<&B>, size: u64) -> Result<Vec<u8>, Error>
     ensures count { IfOk result (λ v. length v.items ≡ size) }
-    ensures bytes { IfOk result (λ v. HasValues (lent B.as_layer_below below.entry).at 0 v.items) }
+    ensures bytes { IsTrue (lent B.as_layer_below below.entry).tells_bytes
+        → IfOk result (λ v. HasValues (lent B.as_layer_below below.entry).at 0 v.items) }
     ensures refusals { IfErr result
         (allowed
         (record (below_reasons (lent B.as_layer_below below.entry) 0 size)
@@ -104,6 +110,36 @@ fn read_below<B: LowerLayer>(alloc: Global, below: Option<&B>, size: u64) -> Res
     };
     layer.read(alloc, &mut bytes, 0)?;
     Ok(bytes)
+}
+
+/// Writes bytes of the copy. Refused, each byte of the range is old or new.
+fn write_copy<S: Storage>(
+    storage: &mut S,
+    alloc: Global,
+    source: &[u8],
+    offset: u64,
+) -> Result<(), Error>
+    ensures empty { length source.now ≡ 0 → IsOk result × (storage.new ≡ storage.old) }
+    ensures written { IsTrue (S.features storage.old).keeps_data
+        → OnOk result
+        (HasBytes false offset (length source.now) (λ k. slice_index source.now k)
+        (S.bytes storage.old) (S.bytes storage.new)) }
+    ensures torn { IsTrue (S.features storage.old).keeps_data
+        → OnErr result
+        (HasBytes true offset (length source.now) (λ k. slice_index source.now k)
+        (S.bytes storage.old) (S.bytes storage.new)) }
+    ensures no_shorter { length (S.bytes storage.old) ≤ length (S.bytes storage.new) }
+    ensures near { length (S.bytes storage.new)
+        ≤ max (length (S.bytes storage.old))
+        (padded_to (S.features storage.old) offset (length source.now)) }
+    ensures features { S.features storage.new ≡ S.features storage.old }
+    ensures only { IfErr result IsExtRefusal }
+    ensures wraps { IsErrOf result Error.WrapAround
+        → Wraps (S.features storage.old) offset (length source.now) }
+    ensures cause { CountsFaults (S.features storage.old).is_reliable (S.fault_count storage.old)
+        (S.fault_count storage.new) result }
+{
+    write_bytes(storage, alloc, source, offset)
 }
 
 impl<S: Storage> FormatDriverInstance for CopyOnce<S> {
@@ -138,7 +174,7 @@ impl<S: Storage> FormatDriverInstance for CopyOnce<S> {
     } };
 
     ghost lawful = { λ d. copy_lawful (S.features d.storage) (S.fault_count d.storage + d.faults)
-        (S.bytes d.storage) d.size d.copied d.waiting };
+        (S.bytes d.storage) d.size d.copied d.waiting (S.lawful d.storage) };
 
     ghost causes_lawful = { λ d. copy_causes (S.features d.storage)
         (S.fault_count d.storage + d.faults) (S.bytes d.storage) d.size d.copied d.waiting };
@@ -233,7 +269,7 @@ impl<S: Storage> FormatDriverInstance for CopyOnce<S> {
         source: &[u8],
         offset: u64,
     ) -> Result<(), Error> {
-        write_bytes(&mut self.storage, alloc, source, offset)
+        write_copy(&mut self.storage, alloc, source, offset)
     }
 
     fn ensure_zero_mapping(
@@ -289,7 +325,7 @@ impl<S: Storage> FormatDriverInstance for CopyOnce<S> {
         }
         match read_below(alloc, below, self.size) {
             Ok(bytes) => {
-                write_bytes(&mut self.storage, alloc, &bytes, 0)?;
+                write_copy(&mut self.storage, alloc, &bytes, 0)?;
                 let ticket = self.tickets.wrapping_add(1);
                 self.tickets = ticket;
                 self.waiting = Some(Waiting {
@@ -319,7 +355,7 @@ impl<S: Storage> FormatDriverInstance for CopyOnce<S> {
             if !self.is_waiting(mapping) {
                 return Err(Error::ForeignMapping);
             }
-            return write_bytes(&mut self.storage, alloc, source, start + at);
+            return write_copy(&mut self.storage, alloc, source, start + at);
         }
         if length == 0 {
             return Ok(());
@@ -336,7 +372,7 @@ impl<S: Storage> FormatDriverInstance for CopyOnce<S> {
         if start > self.size - length {
             return Err(Error::ForeignMapping);
         }
-        write_bytes(&mut self.storage, alloc, source, start + at)
+        write_copy(&mut self.storage, alloc, source, start + at)
     }
 
     fn commit_data_mapping(&mut self, mapping: PreparedDataMapping<u64>) -> Result<(), Error>

@@ -75,7 +75,7 @@ impl<S: Storage> FormatDriverInstance for TestDriver<S> {
           (⟦<Pattern as FormatDriverInstance>⟧.calls.discarded_to_backing o n);
     } };
 
-    ghost lawful = { λ d. test_lawful S.features S.fault_count S.bytes d };
+    ghost lawful = { λ d. test_lawful S.features S.fault_count S.bytes S.lawful d };
 
     ghost causes_lawful = { λ d. test_causes S.features S.fault_count S.bytes d };
 

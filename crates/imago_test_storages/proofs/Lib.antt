@@ -1,1 +1,3 @@
 pub mod Torn
+pub mod Forgotten
+pub mod OwnZeroes

@@ -4,7 +4,7 @@ use Rattle.std.specs.Prelude.{None, Result, Err}
 use Rattle.imago_storage.specs.declared.error.Error.{Error}
 use Rattle.imago_storage.specs.declared.error.Error.TheVariants.{Unsupported}
 use Rattle.imago_storage.specs.declared.options.ZeroKind.{ZeroKind}
-use Rattle.imago_storage.specs.Features.{Features, InPlace, NotOffered, AreAlignments}
+use Rattle.imago_storage.specs.Features.{Features, InPlace, NotOffered, AreLawful}
 use Rattle.imago_storage.specs.Mem.{mem_features}
 use Rattle.imago_test_storages.specs.declared.faulty.Tear.{Tear}
 use Rattle.imago_test_storages.specs.declared.faulty.Tear.TheVariants.{Nothing, All, First, Odd}
@@ -32,8 +32,8 @@ features_outside f mem req zeroed = mem_features f.filename mem req zeroed
 abbrev pub IsPlain : Features → Type 0
 IsPlain f = f ≡ mem_features f.filename 1 1 1
 
-pub faulty_lawful : (zero_writes : Bool) (f : Features) → AreAlignments f
-    → AreAlignments (faulty_features zero_writes f)
+pub faulty_lawful : (zero_writes : Bool) (f : Features) → AreLawful f
+    → AreLawful (faulty_features zero_writes f)
 faulty_lawful zero_writes f l = record {
   mem = l.mem;
   req = l.req;
@@ -41,6 +41,7 @@ faulty_lawful zero_writes f l = record {
   discard = l.discard;
   zero_whole = l.zero_whole;
   discard_whole = l.discard_whole;
+  told = l.told;
 }
 
 -- a zero write that the storage doesn't offer: nothing is changed or counted

@@ -1,5 +1,5 @@
 use Rattle.std.specs.Prelude.{◌≡◌, ℕ, ◌++◌, Bool, cond, false, List, codes}
-use Rattle.imago_storage.specs.Features.{Features, AsData, AreAlignments}
+use Rattle.imago_storage.specs.Features.{Features, AsData, AreLawful}
 
 -- the same storage with its zeroes written as data
 abbrev pub zeroing : Features → Features
@@ -22,8 +22,8 @@ abbrev pub IsBeside : {S : Type 0} → S → List ℕ → List ℕ → Type 0
 IsBeside storage relative name = name ≡ codes "beside/" ++ relative
 
 -- its alignments are lawful
-pub recording_lawful : (as_data no_discards : Bool) (f : Features) → AreAlignments f
-    → AreAlignments (recording_features as_data no_discards f)
+pub recording_lawful : (as_data no_discards : Bool) (f : Features) → AreLawful f
+    → AreLawful (recording_features as_data no_discards f)
 recording_lawful as_data no_discards f l = record {
   mem = l.mem;
   req = l.req;
@@ -31,4 +31,5 @@ recording_lawful as_data no_discards f l = record {
   discard = l.discard;
   zero_whole = l.zero_whole;
   discard_whole = l.discard_whole;
+  told = l.told;
 }

@@ -1,5 +1,5 @@
 use Rattle.std.specs.Prelude.{refl}
-use Rattle.imago_storage.specs.Features.{Features, AreAlignments}
+use Rattle.imago_storage.specs.Features.{Features, AreLawful}
 use Rattle.imago_storage.specs.Mem.{null_features}
 
 -- what never changes in zeroes that are asked for in blocks of 4096
@@ -12,7 +12,7 @@ wide_features = record null_features {
 }
 
 -- its alignments are lawful
-pub wide_lawful : AreAlignments wide_features
+pub wide_lawful : AreLawful wide_features
 wide_lawful = record {
   mem = (12, refl);
   req = (12, refl);
@@ -20,4 +20,5 @@ wide_lawful = record {
   discard = (12, refl);
   zero_whole = refl;
   discard_whole = refl;
+  told = λ keeps. refl;
 }

@@ -124,6 +124,8 @@ impl Storage for Counting {
       resized = λ n mode a b r. ⟦<MemStorage as Storage>⟧.maintenance.resized n mode a.inner b.inner
           r;
       counted = IsAnyRead;
+      written = λ at source a b r. ⟦<MemStorage as Storage>⟧.maintenance.written at source a.inner
+          b.inner r × (io_count b.counts ≡ after_write (length source) (io_count a.counts));
       zeroed_in_place = IsAnyZeroing;
       zeroed = IsNoZeroing;
     } };
@@ -222,6 +224,8 @@ impl Storage for Counting {
         ensures memory { IsErrOf result Error.Memory
             → MayRunOut (⟦<Counting as Storage>⟧.features self.old).write_memory
             (length (⟦<Counting as Storage>⟧.bytes self.old)) (offset + length source.now) }
+        ensures performed { ⟦<Counting as Storage>⟧.maintenance.written offset source.now self.old
+            self.new result }
     {
         self.counts.writes = self.counts.writes.saturating_add(1);
         self.counts.bytes_written = self

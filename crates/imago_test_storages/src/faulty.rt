@@ -6,7 +6,7 @@ ghost use Rattle.imago_storage.specs.Bytes.{splice};
 ghost use Rattle.imago_storage.specs.Faults.{RoseOrSaturated};
 ghost use Rattle.imago_storage.specs.Features.{Features};
 ghost use Rattle.imago_storage.specs.IoCount.{no_work};
-ghost use Rattle.imago_storage.specs.Maintenance.{IsAnyRead, IsAnyZeroing};
+ghost use Rattle.imago_storage.specs.Maintenance.{IsAnyRead, IsAnyWrite, IsAnyZeroing};
 ghost use Rattle.imago_storage.specs.Mem.{mem_lawful};
 ghost use Rattle.imago_storage.specs.Openings.{no_openings};
 ghost use Rattle.imago_storage.specs.Powers.{IsAlignment};
@@ -352,6 +352,7 @@ impl Storage for Faulty {
       resized = λ n mode a b r. ⟦<MemStorage as Storage>⟧.maintenance.resized n mode a.inner b.inner
           r;
       counted = IsAnyRead;
+      written = IsAnyWrite;
       zeroed_in_place = IsAnyZeroing;
       zeroed = IsNotZeroed;
     } };

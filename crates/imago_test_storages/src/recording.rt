@@ -177,6 +177,8 @@ impl Storage for Recording {
       resized = λ n mode a b r. ⟦<MemStorage as Storage>⟧.maintenance.resized n mode a.inner b.inner
           r;
       counted = IsAnyRead;
+      written = λ at source a b r. ⟦<MemStorage as Storage>⟧.maintenance.written at source a.inner
+          b.inner r;
       zeroed_in_place = IsAnyZeroing;
       zeroed = IsNoZeroing;
     } };

@@ -1,7 +1,18 @@
 use Rattle.std.proofs.Common.{◌≡◌, ◌≢◌, ℕ, zero, suc, ◌<◌, ◌≤◌, List, length, max, refl, ap, arith}
+use Rattle.std.proofs.Common.{Bool, true, false}
+use Rattle.std.specs.Prelude.{◌&&◌, IsTrue}
 use Rattle.imago_storage.specs.Features.{Features}
 use Rattle.imago_drivers.specs.Lengths.{GrowAt, padded_to}
 use Rattle.imago_test_tables.specs.Pair.{at_index, pair_stores}
+
+-- what holds of both holds of each
+pub of_first : (a b : Bool) → IsTrue (a && b) → IsTrue a
+of_first true b both = refl
+of_first false b both = both
+
+pub of_second : (a b : Bool) → IsTrue (a && b) → IsTrue b
+of_second true b both = both
+of_second false b both = let z : ⊥ = cc in absurd z
 
 -- a write to the second of two leaves the first
 pub first_stays : (A B C : List ℕ) (index : ℕ) → index ≢ 0 → index < 2 → (i : ℕ) → i < 2 → i ≢ index → at_index A C i ≡ at_index A B i

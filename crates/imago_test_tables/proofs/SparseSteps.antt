@@ -309,12 +309,12 @@ some_run table o run count origin at ends some = ⊎_elim
 
 -- a mapping of a run of entries that stand in a storage
 pub prepared_existing : (f g : Features) (count : ℕ) (first second : List ℕ) (table : List Origin) (size : ℕ) (s : Settings) (short : Bool) (waiting : Option Waiting)
-    (o most run index : ℕ) (origin : Origin) (overwrite : Bool) (disk : ℕ → Value) (m : PreparedDataMapping ℕ)
+    (o most run index : ℕ) (origin : Origin) (overwrite told : Bool) (disk : ℕ → Value) (m : PreparedDataMapping ℕ)
     → sparse_pending (f.keeps_data && g.keeps_data) first waiting ≡ None → slice_get table o ≡ Some origin → index_of origin ≡ Some index → run ≤ most
     → ((k : ℕ) → k < run → slice_get table (o + k) ≡ Some origin) → (run < most → slice_get table (o + run) ≢ Some origin)
     → m.storage ≡ index → m.offset ≡ o → m.length ≡ run → m.state ≡ None
-    → IsPrepared o most overwrite disk (sparse_view f g count first second table size s short waiting) (sparse_view f g count first second table size s short waiting) m
-prepared_existing f g count first second table size s short waiting o most run index origin overwrite disk m spent at i within equal ends a b c d = record {
+    → IsPrepared o most overwrite told disk (sparse_view f g count first second table size s short waiting) (sparse_view f g count first second table size s short waiting) m
+prepared_existing f g count first second table size s short waiting o most run index origin overwrite told disk m spent at i within equal ends a b c d = record {
   within = omega (arith, c);
   some = λ h. let x = some_run table o run most origin at ends h in omega (arith, c, x);
   part = (omega (arith, c), one_kind table o m.length (Some origin) at (λ k h. equal k (omega (arith, c, h))));
@@ -331,18 +331,18 @@ prepared_existing f g count first second table size s short waiting o most run i
     ),
   );
   apart = λ t e. let z : ⊥ = cc in absurd z;
-  round = λ k. rw spent tt;
+  round = λ k tells. rw spent tt;
 }
 
 -- a mapping of a run of free entries, which waits
 pub prepared_apart : (f g f' g' : Features) (count now_count : ℕ) (first second now then : List ℕ) (table : List Origin) (size : ℕ) (s : Settings) (short : Bool) (waiting : Option Waiting)
-    (o most run t : ℕ) (origin : Origin) (overwrite : Bool) (disk : ℕ → Value) (m : PreparedDataMapping ℕ)
+    (o most run t : ℕ) (origin : Origin) (overwrite told : Bool) (disk : ℕ → Value) (m : PreparedDataMapping ℕ)
     → f' ≡ f → g' ≡ g → slice_get table o ≡ Some origin → run ≤ most
     → ((k : ℕ) → k < run → slice_get table (o + k) ≡ Some origin) → (run < most → slice_get table (o + run) ≢ Some origin)
     → m.storage ≡ 0 → m.offset ≡ o → m.length ≡ run → m.state ≡ Some t
-    → (IsTrue (f.keeps_data && g.keeps_data) → overwrite ≡ false → (p : ℕ) → IsIn o run p → disk p ≡ Byte (slice_index now p))
-    → IsPrepared o most overwrite disk (sparse_view f g count first second table size s short waiting) (sparse_view f' g' now_count now then table size s short (Some (record { start = o; length = run; ticket = t }))) m
-prepared_apart f g f' g' count now_count first second now then table size s short waiting o most run t origin overwrite disk m same_f same_g at within equal ends a b c d shows = rw (same_f, same_g) (record {
+    → (IsTrue (f.keeps_data && g.keeps_data) → IsTrue told → overwrite ≡ false → (p : ℕ) → IsIn o run p → disk p ≡ Byte (slice_index now p))
+    → IsPrepared o most overwrite told disk (sparse_view f g count first second table size s short waiting) (sparse_view f' g' now_count now then table size s short (Some (record { start = o; length = run; ticket = t }))) m
+prepared_apart f g f' g' count now_count first second now then table size s short waiting o most run t origin overwrite told disk m same_f same_g at within equal ends a b c d shows = rw (same_f, same_g) (record {
   within = omega (arith, c);
   some = λ h. let x = some_run table o run most origin at ends h in omega (arith, c, x);
   part = (omega (arith, c), one_kind table o m.length (Some origin) at (λ k h. equal k (omega (arith, c, h))));
@@ -362,9 +362,9 @@ prepared_apart f g f' g' count now_count first second now then table size s shor
     refl,
     (a, b, c, d),
     refl,
-    λ k over p i. let y : o ≤ p = i.0 in let z : p < o + run = omega (arith, i.1, c) in shows k over p (y, z) ∙ ap (λ u. Byte u) (sym (waits_inside (f.keeps_data && g.keeps_data) now (record { start = o; length = run; ticket = t }) p k y z)),
+    λ k tells over p i. let y : o ≤ p = i.0 in let z : p < o + run = omega (arith, i.1, c) in shows k tells over p (y, z) ∙ ap (λ u. Byte u) (sym (waits_inside (f.keeps_data && g.keeps_data) now (record { start = o; length = run; ticket = t }) p k y z)),
   );
-  round = λ k p y z out. absurd (⊎_elim (λ l. omega (arith, l, y)) (λ l. omega (arith, l, z)) out);
+  round = λ k tells p y z out. absurd (⊎_elim (λ l. omega (arith, l, y)) (λ l. omega (arith, l, z)) out);
 })
 
 -- a view of the same entries whose places show what they showed

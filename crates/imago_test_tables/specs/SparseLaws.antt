@@ -1,19 +1,19 @@
 use Rattle.std.specs.Prelude.{◌≡◌, ℕ, ◌+◌, ◌<◌, ◌≤◌, ◌⊎◌, Bool, true, false, List, length}
-use Rattle.std.specs.Prelude.{slice_index, slice_get, Option, Some, None, refl}
+use Rattle.std.specs.Prelude.{◌&&◌, IsTrue, slice_index, slice_get, Option, Some, None, refl}
 use Rattle.std.proofs.Common.{arith, sym, ap, ◌∙◌, ⊎_elim, inl, inr}
 use Rattle.std.proofs.lemmas.Bool.{cases_lt}
 use Rattle.std.proofs.lemmas.Option.{slice_get-get_or, slice_get_past}
 use Rattle.imago_storage.specs.declared.error.Error.{Error}
 use Rattle.imago_storage.specs.declared.error.Error.TheVariants as E
-use Rattle.imago_storage.specs.Features.{Features}
+use Rattle.imago_storage.specs.Features.{Features, AreLawful}
 use Rattle.imago_test_tables.specs.declared.sparse.Settings.{Settings}
 use Rattle.imago_test_tables.specs.declared.sparse.Waiting.{Waiting}
 use Rattle.imago_test_tables.specs.declared.table.Origin.{Origin}
 use Rattle.imago_test_tables.specs.declared.table.Origin.TheVariants as O
 use Rattle.imago_drivers.specs.Operation.{Operation, Map, Read, Write, Zero, DiscardToZero}
 use Rattle.imago_drivers.specs.Operation.{DiscardToAny, DiscardToBacking, Grow, Shrink, Flush}
-use Rattle.imago_drivers.specs.Place.{Stored, Special, Lower, Refused, End}
-use Rattle.imago_drivers.specs.Laws.{IsLawful, AreCauses, CauseBound}
+use Rattle.imago_drivers.specs.Place.{Value, Unreadable, Stored, Special, Lower, Refused, End}
+use Rattle.imago_drivers.specs.Laws.{IsLawful, AreCauses, CauseBound, refused_unreadable}
 use Rattle.imago_test_tables.specs.Table.{HasBarred}
 use Rattle.imago_test_tables.specs.Pair.{at_index}
 use Rattle.imago_test_tables.specs.Sparse.{entry_place, sparse_place, sparse_view, sparse_cause}
@@ -65,13 +65,21 @@ module _ (bytes : ℕ → List ℕ) (p : ℕ) where
   refused_entry (Some O.Lower) r e = let z : ⊥ = cc in absurd z
   refused_entry None r e = let z : ⊥ = cc in absurd z
 
-  pub no_special : (entry : Option Origin) (b o : ℕ) → entry_place bytes p entry ≡ Special b o → ⊥
+  pub no_special : (entry : Option Origin) (b : Value) (o : ℕ) → entry_place bytes p entry
+      ≡ Special b o → ⊥
   no_special (Some O.First) b o e = let z : ⊥ = cc in z
   no_special (Some O.Second) b o e = let z : ⊥ = cc in z
   no_special (Some O.Zero) b o e = let z : ⊥ = cc in z
   no_special (Some O.Lower) b o e = let z : ⊥ = cc in z
   no_special (Some O.Barred) b o e = let z : ⊥ = cc in z
   no_special None b o e = let z : ⊥ = cc in z
+
+-- what both keep, both tell
+both_told : (a b c d : Bool) → (IsTrue a → IsTrue c) → (IsTrue b → IsTrue d) → IsTrue (a && b)
+    → IsTrue (c && d)
+both_told true b true d first second keeps = second keeps
+both_told true b false d first second keeps = first refl
+both_told false b c d first second keeps = let z : ⊥ = cc in absurd z
 
 -- past the table stands nothing
 pub past_table : (bytes : ℕ → List ℕ) (table : List Origin) (p : ℕ) → length table ≤ p
@@ -87,9 +95,9 @@ module _ (f g : Features) (count : ℕ) (first second : List ℕ) (table : List 
   bytes : ℕ → List ℕ
   bytes = at_index first second
 
-  pub sparse_lawful : length table ≤ size → 0 < s.granularity
+  pub sparse_lawful : length table ≤ size → 0 < s.granularity → AreLawful f → AreLawful g
       → IsLawful (sparse_view f g count first second table size s short waiting)
-  sparse_lawful bounded granular = record {
+  sparse_lawful bounded granular l m = record {
     ends = λ p q h e. past_table (at_index first second) table q
         (let x = none_past table p (end_entry (at_index first second) p (slice_get table p) e) in
         omega arith);
@@ -99,6 +107,8 @@ module _ (f g : Features) (count : ℕ) (first second : List ℕ) (table : List 
         let y : i < 2 = ⊎_elim (λ a. omega (arith, a.1)) (λ a. omega (arith, a.1)) x.origin in
         (y, rw (x.offset) (x.byte));
     special = λ p b o e. absurd (no_special (at_index first second) p (slice_get table p) b o e);
+    faulty = λ p o e h. absurd
+        (no_special (at_index first second) p (slice_get table p) (Unreadable e) o h);
     lower = λ p q w e. refl;
     own = λ p q b c i o w e h. let x = stored_entry (at_index first second) p (slice_get table p) b
         i o true e in
@@ -106,6 +116,7 @@ module _ (f g : Features) (count : ℕ) (first second : List ℕ) (table : List 
         sym (x.offset) ∙ y.offset;
     refused = λ p r e. let x = refused_entry (at_index first second) p (slice_get table p) r e in
         inr (x.1);
+    told = both_told f.keeps_data g.keeps_data f.tells_bytes g.tells_bytes l.told m.told;
     granularity = λ e. let x : s.granularity ≡ 0 = cc in omega (arith, x);
     blocks = λ e. let z : ⊥ = cc in z;
   }
@@ -168,6 +179,7 @@ module _ (f g : Features) (count : ℕ) (first second : List ℕ) (table : List 
         (λ r. CauseBound (sparse_view f g count first second table size s short waiting) op o n r) c
         (λ w. tt)
         (lacking op o n)
-        (λ b. (b.0, b.1, ap (entry_place (at_index first second) (b.0)) (b.2)));
+        (λ b. refused_unreadable (sparse_place (at_index first second) table) o n Error.NoAccess
+        (b.0, b.1, ap (entry_place (at_index first second) (b.0)) (b.2)));
     lends = λ op o n p c. refl;
   }

@@ -50,7 +50,9 @@ impl<S: Storage> Pair<S> {
         offset: u64,
     ) -> Result<(), Error>
         requires { index < 2 }
-        ensures bytes { OnOk result
+        ensures bytes { IsTrue
+            ((S.features self.now.first).tells_bytes && (S.features self.now.second).tells_bytes)
+            → OnOk result
             (IsReadAt (at_index (S.bytes self.now.first) (S.bytes self.now.second) index) offset
             buf.new) }
         ensures only { IfErr result IsExtRefusal }

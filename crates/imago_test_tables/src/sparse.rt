@@ -158,7 +158,8 @@ fn old_bytes<B: LowerLayer>(
 ) -> Result<Vec<u8>, Error>
     requires { IsFree (Some stretch.origin) }
     ensures count { IfOk result (λ v. length v.items ≡ stretch.count) }
-    ensures bytes { IfOk result
+    ensures bytes { IsTrue (lent B.as_layer_below below.entry).tells_bytes
+        → IfOk result
         (λ v. HasOldBytes (lent B.as_layer_below below.entry).at stretch.offset stretch.origin
         v.items) }
     ensures device { IsErrOf result Error.Device
@@ -190,6 +191,7 @@ fn copy_shown<S: Storage, B: LowerLayer>(
 ) -> Result<(), Error>
     requires { IsFree (Some stretch.origin) }
     ensures copied { IsTrue (S.features storages.old.first).keeps_data
+        → IsTrue (lent B.as_layer_below below.entry).tells_bytes
         → overwrite ≡ false
         → OnOk result
         ((p : ℕ)
@@ -273,7 +275,8 @@ impl<S: Storage> FormatDriverInstance for Sparse<S> {
     ghost lawful = { λ d. sparse_lawful (S.features d.storages.first) (S.features d.storages.second)
         (S.fault_count d.storages.first + S.fault_count d.storages.second + d.storages.faults)
         (S.bytes d.storages.first) (S.bytes d.storages.second) d.table.items d.size d.settings
-        d.short d.waiting d.bounded d.granular };
+        d.short d.waiting d.bounded d.granular (S.lawful d.storages.first)
+        (S.lawful d.storages.second) };
 
     ghost causes_lawful = { λ d. sparse_causes (S.features d.storages.first)
         (S.features d.storages.second)

@@ -1,5 +1,5 @@
 -- Extents one after the other, found by where each begins, and what a mapping of one names.
-use Rattle.std.proofs.Common.{◌≡◌, ℕ, zero, suc, ◌+◌, ◌-◌, ◌*◌, ◌^◌, ◌<◌, ◌≤◌, ◌⊎◌, Bool, true, false, List, [], ◌∷◌, length, get_or, min, refl, sym, ap, ◌∙◌, arith, inl, ⊎_elim, nat_lt, slice_index, slice_index_or, Result, Ok, Err, IfOk, IfErr}
+use Rattle.std.proofs.Common.{◌≡◌, ℕ, zero, suc, ◌+◌, ◌-◌, ◌*◌, ◌^◌, ◌<◌, ◌≤◌, ◌⊎◌, Bool, true, false, List, [], ◌∷◌, length, map, get_or, min, refl, sym, ap, ◌∙◌, arith, inl, ⊎_elim, nat_lt, slice_index, slice_index_or, Result, Ok, Err, IfOk, IfErr}
 use Rattle.std.specs.List.{sum_by}
 use Rattle.std.proofs.lemmas.Bool.{cases_lt}
 use Rattle.std.proofs.lemmas.Bool.Decides.{nat_tests}
@@ -11,9 +11,10 @@ use Rattle.imago_drivers.specs.Mapping.{Names, IsEof, IsRight}
 use Rattle.imago_storage.specs.Features.{Features}
 use Rattle.imago_drivers.specs.Reasons.{allowed}
 use Rattle.imago_drivers.specs.Done.{map_reasons}
-use Rattle.imago_drivers.specs.Place.{Place, Special, Refused, End}
+use Rattle.imago_drivers.specs.Place.{Value, Place, Special, Refused, End}
 use Rattle.imago_vmdk.specs.declared.line.Extent.{Extent}
 use Rattle.imago_vmdk.specs.declared.vmdk.Start.{Start}
+use Rattle.imago_vmdk.specs.Line.{extent_with}
 use Rattle.imago_vmdk.specs.Reading.{size_of}
 use Rattle.imago_vmdk.specs.Vmdk.{flat_place, extent_place, storages_of, places_from, vmdk_place, extent_rest, rest_from, vmdk_view}
 use Rattle.imago_vmdk.specs.Starts.{starts_from}
@@ -200,8 +201,21 @@ pub mapped_allowed : {N : Type 0} (features : List Features) (bytes : List (List
 mapped_allowed features bytes es p most (Ok x) h = tt
 mapped_allowed features bytes es p most (Err e) h = map_allowed features bytes es p most e h (refusal_is (λ i. slice_index_or bytes i []) 1 es p e h)
 
+-- names under another form change no size
+same_size : {N M : Type 0} (name : N → M) (e : Extent N) → size_of (extent_with name e) ≡ size_of e
+same_size name (Extent.Zero sectors) = refl
+same_size name (Extent.NoAccess sectors) = refl
+same_size name (Extent.Flat sectors file offset writable) = refl
+
+pub same_sizes : {N M : Type 0} (name : N → M) (es : List (Extent N)) → sum_by size_of (map (extent_with name) es) ≡ sum_by size_of es
+same_sizes name [] = refl
+same_sizes name (e ∷ es) =
+    let s = sum_by-cons size_of (extent_with name e) (map (extent_with name) es) in
+    let t = sum_by-cons size_of e es in
+    omega (arith, s, t, same_size name e, same_sizes name es)
+
 -- no place of an image is special
-pub image_never_special : {N : Type 0} (bytes : ℕ → List ℕ) (opened : Bool) (es : List (Extent N)) (p b o : ℕ) → vmdk_place bytes opened es p ≡ Special b o → ⊥
+pub image_never_special : {N : Type 0} (bytes : ℕ → List ℕ) (opened : Bool) (es : List (Extent N)) (p : ℕ) (b : Value) (o : ℕ) → vmdk_place bytes opened es p ≡ Special b o → ⊥
 image_never_special bytes false es p b o h = let z : ⊥ = cc in z
 image_never_special bytes true es p b o h = never_special bytes 1 es p b o h
 

@@ -1,7 +1,7 @@
 -- The storages of an image, by their indices, and reads of them.
 use Rattle.std.proofs.Common.{◌≡◌, ℕ, zero, suc, ◌+◌, ◌-◌, ◌<◌, ◌≤◌, Bool, true, false, ◌&&◌, List, [], ◌∷◌, length, map, get_or, slice_index_or, refl, sym, ap, ◌∙◌, arith, ⊎_elim, Result, Ok, Err, IfErr, IsOk, IsErrOf}
 use Rattle.std.specs.List.{slice_get}
-use Rattle.std.specs.Prelude.{IfSome}
+use Rattle.std.specs.Prelude.{IfSome, IsTrue}
 use Rattle.std.proofs.lemmas.Bool.{cases_lt}
 use Rattle.std.proofs.lemmas.List.{get_or-map}
 use Rattle.imago_storage.specs.declared.error.Error.{Error}
@@ -12,7 +12,7 @@ use Rattle.imago_storage.specs.Mem.{null_features}
 use Rattle.imago_drivers.specs.Reasons.{allowed}
 use Rattle.imago_drivers.specs.Done.{stored_read_reasons}
 use Rattle.imago_vmdk.specs.declared.line.Extent.{Extent}
-use Rattle.imago_vmdk.specs.Vmdk.{all_reliable, vmdk_view}
+use Rattle.imago_vmdk.specs.Vmdk.{all_reliable, all_tell, vmdk_view}
 
 pub length_mapped : {A X : Type 0} (f : A → X) (xs : List A) → length (map f xs) ≡ length xs
 length_mapped f [] = refl
@@ -35,6 +35,16 @@ pub unreliable_one : (fs : List Features) (i : ℕ) (d : Features) → i < lengt
 unreliable_one [] i d h e = absurd (omega arith)
 unreliable_one (f ∷ fs) zero d h e = rw e refl
 unreliable_one (f ∷ fs) (suc i) d h e = rw (unreliable_one fs i d (omega (arith, h)) e) (and_false f.is_reliable)
+
+both_true : (a b : Bool) → IsTrue (a && b) → IsTrue a × IsTrue b
+both_true true b h = (refl, h)
+both_true false b h = let z : ⊥ = cc in absurd z
+
+-- where all tell their bytes, each one does
+pub each_tells : (fs : List Features) (i : ℕ) (d : Features) → i < length fs → IsTrue (all_tell fs) → IsTrue (slice_index_or fs i d).tells_bytes
+each_tells [] i d h told = absurd (omega arith)
+each_tells (f ∷ fs) zero d h told = (both_true f.tells_bytes (all_tell fs) told).0
+each_tells (f ∷ fs) (suc i) d h told = each_tells fs i d (omega (arith, h)) (both_true f.tells_bytes (all_tell fs) told).1
 
 -- why a read of stored bytes may be refused
 module _ {N : Type 0} (features : List Features) (bytes : List (List ℕ)) (opened : Bool) (es : List (Extent N)) (storage at n : ℕ) where

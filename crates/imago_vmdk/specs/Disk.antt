@@ -25,7 +25,7 @@ abbrev pub with_bytes : (ℕ → List ℕ) → Place → Place
 with_bytes bytes (Stored byte storage offset writable) =
     Stored (slice_index (bytes storage) offset) storage offset writable
 with_bytes bytes (Zeroed explicit) = Zeroed explicit
-with_bytes bytes (Special byte offset) = Special byte offset
+with_bytes bytes (Special value offset) = Special value offset
 with_bytes bytes (Lower offset writable) = Lower offset writable
 with_bytes bytes (Refused e) = Refused e
 with_bytes bytes End = End

@@ -1,6 +1,7 @@
 use Rattle.std.specs.Prelude.{◌≡◌, ℕ, ◌*◌, ◌^◌, ◌⊎◌, Bool, ◌&&◌, List, [], ◌∷◌, map, length, take}
 use Rattle.std.specs.Prelude.{Option, Some, None, Result, Ok, Err, IsOk, nat_lt, if◌then◌else◌}
-use Rattle.std.specs.Prelude.{codes}
+use Rattle.std.specs.Prelude.{codes, IsTrue}
+use Rattle.std.proofs.Common.{ap, sym, ◌∙◌}
 use Rattle.std.specs.List.{sum_by}
 use Rattle.imago_storage.specs.declared.error.Error.{Error}
 use Rattle.imago_storage.specs.declared.error.Error.TheVariants.{InvalidData, Unsupported, Memory}
@@ -119,6 +120,24 @@ reading_of accept bytes =
     if is_length (length bytes) then
     (if is_sparse bytes then Err Unsupported else (lines_say accept (lines_of bytes) >>= disk_in))
     else Err InvalidData
+
+-- A text that was read from a storage with these bytes: it is as long as they are, and where the
+-- storage tells its bytes, it is these.
+pub record IsTextOf (tells : Bool) (stored text : List ℕ) : Type 0 where
+  pub as_long : length text ≡ length stored
+  pub told : IsTrue tells → text ≡ stored
+
+-- the reading of a descriptor's text that was read from a storage with these bytes
+abbrev pub IsReadingOf : Bool → Bool → List ℕ → Result (List (Extent (List ℕ)) × ℕ) Error → Type 0
+IsReadingOf accept tells stored reading = (text : List ℕ) × IsTextOf tells stored text
+    × (reading_of accept text ≡ reading)
+
+-- where the storage tells its bytes, it is the reading of these
+pub told_reading : (accept tells : Bool) (stored : List ℕ)
+    (reading : Result (List (Extent (List ℕ)) × ℕ) Error) → IsReadingOf accept tells stored reading
+    → IsTrue tells → reading_of accept stored ≡ reading
+told_reading accept tells stored reading (text, read, says) told =
+    ap (reading_of accept) (sym (read.told told)) ∙ says
 
 -- What a function that takes memory answers, seen so, is what the definition gives, or want of
 -- memory where that is no refusal.

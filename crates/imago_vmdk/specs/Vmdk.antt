@@ -10,7 +10,7 @@ use Rattle.imago_storage.specs.Mem.{null_features}
 use Rattle.imago_drivers.specs.declared.format.Format.TheVariants as Format
 use Rattle.imago_drivers.specs.Operation.{Operation, Map, Read, Write, Zero, DiscardToZero}
 use Rattle.imago_drivers.specs.Operation.{DiscardToAny, DiscardToBacking, Grow, Shrink, Flush}
-use Rattle.imago_drivers.specs.Place.{Place, Stored, Zeroed, Refused, End, PlacesStandAt}
+use Rattle.imago_drivers.specs.Place.{Place, Byte, Stored, Zeroed, Refused, End, PlacesStandAt}
 use Rattle.imago_drivers.specs.Causes.{Causes}
 use Rattle.imago_drivers.specs.Laws.{IsRefusedIn}
 use Rattle.imago_drivers.specs.Ranges.{HasWrappingPart}
@@ -134,8 +134,13 @@ abbrev pub all_reliable : List Features → Bool
 all_reliable [] = true
 all_reliable (f ∷ fs) = f.is_reliable && all_reliable fs
 
--- an image of these extents, over its own storage and then, once they are opened, those of the
--- extents
+-- each of these storages tells its bytes
+abbrev pub all_tell : List Features → Bool
+all_tell [] = true
+all_tell (f ∷ fs) = f.tells_bytes && all_tell fs
+
+-- An image of these extents, over its own storage and then, once they are opened, those of the
+-- extents. It can't be written to, so its data is kept where it is told.
 abbrev pub vmdk_view : {N : Type 0} → List Features → List (List ℕ) → Bool → List (Extent N)
     → View Unit
 vmdk_view features bytes opened extents = record {
@@ -144,7 +149,8 @@ vmdk_view features bytes opened extents = record {
     is_writable = false;
     takes_backing = false;
     is_reliable = all_reliable features;
-    keeps_data = true;
+    keeps_data = all_tell features;
+    tells_bytes = all_tell features;
     zero_granularity = None;
     offers = vmdk_offers;
     block = 1;
@@ -157,7 +163,7 @@ vmdk_view features bytes opened extents = record {
     bytes = λ i. slice_index_or bytes i [];
     features = λ i. slice_index_or features i null_features;
   };
-  special = λ offset. 0;
+  special = λ offset. Byte 0;
   limits = record {
     cause = vmdk_cause (vmdk_place (λ i. slice_index_or bytes i []) opened extents)
         (λ i. slice_index_or features i null_features);

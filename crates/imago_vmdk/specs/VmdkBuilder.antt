@@ -8,7 +8,7 @@ use Rattle.imago_drivers.specs.Builder.{OpenSettings, IsImageStorage, storage_op
 use Rattle.imago_drivers.specs.Reasons.{allowed}
 use Rattle.imago_vmdk.specs.declared.line.Extent.{Extent}
 use Rattle.imago_vmdk.specs.declared.vmdk.Vmdk.{Vmdk}
-use Rattle.imago_vmdk.specs.Reading.{reading_of, size_of}
+use Rattle.imago_vmdk.specs.Reading.{IsReadingOf, size_of}
 use Rattle.imago_vmdk.specs.Opened.{Resolution, AreOpened, AreRefused}
 use Rattle.imago_vmdk.specs.Vmdk.{text_reasons}
 use Rattle.imago_vmdk.specs.Image.{descriptor_in, extents_in, is_opened, storages_of_extents}
@@ -19,10 +19,10 @@ use Rattle.imago_vmdk.specs.Image.{takes_unknown_keys}
 abbrev pub IsVmdkRefusal : {Gate S : Type 0} → (S → List ℕ) → (S → Features)
     → (S → Resolution (List ℕ)) → Opening Gate S → Bool → Bool → Gate → Gate → S → Error → Type 0
 IsVmdkRefusal bytes features resolved opened direct accept before after s e =
-    ((after ≡ before) × (reading_of accept (bytes s) ≡ Err e))
+    ((after ≡ before) × IsReadingOf accept (features s).tells_bytes (bytes s) (Err e))
     ⊎ ((after ≡ before) × allowed (text_reasons (features s) (length (bytes s))) e)
     ⊎ ((extents : List (Extent (List ℕ))) × (size : ℕ)
-    × (reading_of accept (bytes s) ≡ Ok (extents, size))
+    × IsReadingOf accept (features s).tells_bytes (bytes s) (Ok (extents, size))
     × AreRefused opened (resolved s) direct (features s) extents before after e)
 
 -- The image of the descriptor that the storage has: its extents, all opened; or why it isn't
@@ -32,7 +32,8 @@ abbrev pub IsVmdkImage : {Gate S : Type 0} {g : _} {h : _} → (S → List ℕ) 
     → Result (Vmdk S g h) Error → Type 0
 IsVmdkImage bytes features resolved opened direct accept before after s (Ok v) =
     (descriptor_in v ≡ s) × (is_opened v ≡ true) × (takes_unknown_keys v ≡ accept)
-    × (reading_of accept (bytes s) ≡ Ok (extents_in v, sum_by size_of (extents_in v)))
+    × IsReadingOf accept (features s).tells_bytes (bytes s)
+    (Ok (extents_in v, sum_by size_of (extents_in v)))
     × AreOpened opened (resolved s) direct (extents_in v) before after (storages_of_extents v)
 IsVmdkImage bytes features resolved opened direct accept before after s (Err e) = IsVmdkRefusal
     bytes features resolved opened direct accept before after s e

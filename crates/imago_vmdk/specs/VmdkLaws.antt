@@ -10,8 +10,10 @@ use Rattle.imago_storage.specs.declared.error.Error.TheVariants as E
 use Rattle.imago_storage.specs.Features.{Features}
 use Rattle.imago_drivers.specs.Operation.{Operation, Map, Read, Write, Zero, DiscardToZero}
 use Rattle.imago_drivers.specs.Operation.{DiscardToAny, DiscardToBacking, Grow, Shrink, Flush}
-use Rattle.imago_drivers.specs.Place.{Place, Stored, Zeroed, Special, Lower, Refused, End}
+use Rattle.imago_drivers.specs.Place.{Value, Unreadable, Place, Stored, Zeroed, Special, Lower}
+use Rattle.imago_drivers.specs.Place.{Refused, End}
 use Rattle.imago_drivers.specs.Laws.{IsLawful, AreCauses, CauseBound, IsRefusedIn}
+use Rattle.imago_drivers.specs.Laws.{refused_unreadable}
 use Rattle.imago_vmdk.specs.declared.line.Extent.{Extent}
 use Rattle.imago_vmdk.specs.Reading.{size_of}
 use Rattle.imago_vmdk.specs.Vmdk.{flat_place, extent_place, storages_of, storages_in, places_from}
@@ -55,7 +57,7 @@ module _ {N : Type 0} (bytes : ℕ → List ℕ) where
   -- what stands in an extent: a stored byte at its own offset, a zero, or a refusal
   pub record ExtentHas (index : ℕ) (e : Extent N) (i : ℕ) (x : Place) : Type 0 where
     pub never_end : x ≡ End → ⊥
-    pub never_special : (b o : ℕ) → x ≡ Special b o → ⊥
+    pub never_special : (b : Value) (o : ℕ) → x ≡ Special b o → ⊥
     pub never_lower : (o : ℕ) (w : Bool) → x ≡ Lower o w → ⊥
     pub refusal : (r : Error) → x ≡ Refused r → (r ≡ Error.InvalidData) ⊎ (r ≡ Error.NoAccess)
     pub stored : (b s o : ℕ) (w : Bool) → x ≡ Stored b s o w → (s ≡ index) × (storages_of e ≡ 1)
@@ -173,8 +175,8 @@ module _ {N : Type 0} (bytes : ℕ → List ℕ) where
       (cases_lt p (size_of e))
 
   -- no place is special or leads below, and a refusal is one of two
-  pub never_special : (index : ℕ) (es : List (Extent N)) (p b o : ℕ) → places_from bytes index es p
-      ≡ Special b o → ⊥
+  pub never_special : (index : ℕ) (es : List (Extent N)) (p : ℕ) (b : Value) (o : ℕ)
+      → places_from bytes index es p ≡ Special b o → ⊥
   never_special index [] p b o h = let z : ⊥ = cc in z
   never_special index (e ∷ es) p b o h = ⊎_elim
       (λ below. (extent_has index e p).never_special b o (sym (first_extent index e es p below)
@@ -209,9 +211,11 @@ module _ {N : Type 0} (features : List Features) (bytes : List (List ℕ)) where
     bounded = λ p h. refl;
     stored = λ p b s o w e. let z : ⊥ = cc in absurd z;
     special = λ p b o e. let z : ⊥ = cc in absurd z;
+    faulty = λ p o r e. let z : ⊥ = cc in absurd z;
     lower = λ p q w e. let z : ⊥ = cc in absurd z;
     own = λ p q b c s o w e g. let z : ⊥ = cc in absurd z;
     refused = λ p r e. let z : ⊥ = cc in absurd z;
+    told = λ kept. kept;
     granularity = λ e. let z : ⊥ = cc in z;
     blocks = λ e. let z : ⊥ = cc in z;
   }
@@ -222,9 +226,11 @@ module _ {N : Type 0} (features : List Features) (bytes : List (List ℕ)) where
         bounded = λ p h. past_is_end at 1 es p h;
         stored = λ p b s o w e. let x = stored_in at 1 es p b s o w e in (x.1, x.2);
         special = λ p b o e. absurd (never_special at 1 es p b o e);
+        faulty = λ p o r e. absurd (never_special at 1 es p (Unreadable r) o e);
         lower = λ p q w e. absurd (never_lower at 1 es p q w e);
         own = λ p q b c s o w e g. own_place at 1 es p q b c s o true w e g;
         refused = λ p r e. refusal_is at 1 es p r e;
+        told = λ kept. kept;
         granularity = λ e. let z : ⊥ = cc in z;
         blocks = λ e. let z : ⊥ = cc in z;
       }
@@ -291,7 +297,9 @@ module _ {N : Type 0} (features : List Features) (bytes : List (List ℕ)) (open
             (λ u. u);
         part_copied = λ op o n q m p h k c. c;
         bound = λ op o n e c. cause_only view.place view.stores.features op o n e
-            (λ r. CauseBound view op o n r) c (λ w. tt) (λ i. i.1) (λ a. a.1)
+            (λ r. CauseBound view op o n r) c (λ w. tt)
+            (λ i. refused_unreadable view.place o n Error.InvalidData i.1)
+            (λ a. refused_unreadable view.place o n Error.NoAccess a.1)
             (λ u. lacking op o n u);
         lends = λ op o n p c. absurd c;
       }

@@ -1,14 +1,15 @@
 //! Laws of what descriptors say and of the disks that they describe, and what the definitions give
 //! for lines that are written out. The functions do nothing; their contracts are proved.
 ghost use Rattle.std.specs.Prelude.{◌≡◌, Bool, true, false, ℕ, List, ◌++◌, ◌∷◌, [], Ok, Err, IsOk};
-ghost use Rattle.std.specs.Prelude.{codes};
+ghost use Rattle.std.specs.Prelude.{codes, IsTrue};
 ghost use Rattle.imago_storage.specs.declared.error.Error.{Error};
 ghost use Rattle.imago_storage.specs.declared.error.Error.TheVariants.{InvalidData, Unsupported};
 ghost use Rattle.imago_vmdk.specs.declared.line.Extent.{Extent};
 ghost use Rattle.imago_vmdk.specs.declared.line.Line.{Line};
 ghost use Rattle.imago_vmdk.specs.Line.{verdict_of};
 ghost use Rattle.imago_vmdk.specs.Reading.{lines_say, reading_of};
-ghost use Rattle.imago_vmdk.specs.Image.{is_opened, takes_unknown_keys};
+ghost use Rattle.imago_vmdk.specs.Image.{extents_in, is_opened, takes_unknown_keys};
+ghost use Rattle.imago_vmdk.specs.Vmdk.{places_from};
 ghost use Rattle.imago_vmdk.specs.Disk.{described_place, described_value, with_bytes};
 ghost use Rattle.imago_drivers.specs.Place.{Value, shown};
 
@@ -16,15 +17,25 @@ use crate::vmdk::Vmdk;
 use imago_drivers::drivers::FormatDriverInstance;
 use imago_storage::storage::Storage;
 
+/// The places of an image whose extents are opened are those of its extents, one after the other,
+/// in storages that follow the descriptor's: also where the storages don't tell their bytes.
+pub fn places_of_extents<S: Storage>(image: &Vmdk<S>)
+    requires { is_opened image.now ≡ true }
+    ensures { let vmdk = ⟦<Vmdk<S> as FormatDriverInstance>⟧.view image.now in
+        (p : ℕ) → vmdk.place p ≡ places_from vmdk.stores.bytes 1 (extents_in image.now) p }
+{
+    let _ = image;
+}
+
 /// The places of an image whose extents are opened follow from the bytes of its storages: those of
-/// the descriptor say which byte of which storage an offset has.
+/// the descriptor say which byte of which storage an offset has, if its storage tells them.
 pub fn places_of_bytes<S: Storage>(image: &Vmdk<S>)
     requires { is_opened image.now ≡ true }
     ensures { let vmdk = ⟦<Vmdk<S> as FormatDriverInstance>⟧.view image.now in
-        (p : ℕ)
+        IsTrue (vmdk.stores.features 0).tells_bytes → (p : ℕ)
         → vmdk.place p ≡ described_place (takes_unknown_keys image.now) vmdk.stores.bytes p }
 {
-    let _ = image;
+    places_of_extents(image);
 }
 
 /// Which byte of which storage an offset has follows from the descriptor's bytes alone: where the
@@ -35,10 +46,13 @@ pub fn same_stands()
 {}
 
 /// What is read of an image whose extents are opened follows from the bytes of its storages,
-/// whatever lies below: those of the descriptor say which byte of which storage an offset has.
+/// whatever lies below: those of the descriptor say which byte of which storage an offset has, if
+/// its storage tells them.
 pub fn disk_of_bytes<S: Storage>(image: &Vmdk<S>)
     requires { is_opened image.now ≡ true }
-    ensures { (below : ℕ → Value) (p : ℕ)
+    ensures { IsTrue
+        ((⟦<Vmdk<S> as FormatDriverInstance>⟧.view image.now).stores.features 0).tells_bytes
+        → (below : ℕ → Value) (p : ℕ)
         → shown below ((⟦<Vmdk<S> as FormatDriverInstance>⟧.view image.now).place p)
         ≡ described_value (takes_unknown_keys image.now)
         (⟦<Vmdk<S> as FormatDriverInstance>⟧.view image.now).stores.bytes p }

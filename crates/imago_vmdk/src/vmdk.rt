@@ -1,6 +1,7 @@
 //! The driver of VMDK images.
 ghost use Rattle.std.specs.Prelude.{◌≡◌, ℕ, ◌+◌, ◌*◌, ◌^◌, ◌-◌, ◌<◌, ◌≤◌, ◌⊎◌, ◌++◌, length, map};
-ghost use Rattle.std.specs.Prelude.{slice_index_or, IfOk, IfErr, OnOk, OnErr, IsOk, IsErrOf, Ok};
+ghost use Rattle.std.specs.Prelude.{slice_index_or, IfOk, IfErr, OnOk, OnErr, IsOk, IsTrue};
+ghost use Rattle.std.specs.Prelude.{IsErrOf, Ok};
 ghost use Rattle.std.specs.Prelude.{Err, min, false, true, [], ◌∷◌, List, MatchOption};
 ghost use Rattle.std.specs.List.{sum_by};
 ghost use Rattle.std.specs.String.{string_bytes};
@@ -14,7 +15,7 @@ ghost use Rattle.imago_drivers.specs.Reasons.{allowed};
 ghost use Rattle.imago_drivers.specs.Commit.{IsCommit, IsCancel};
 ghost use Rattle.imago_vmdk.specs.Line.{extent_with};
 ghost use Rattle.imago_vmdk.specs.Reading.{size_of as extent_size, is_length as may_be_long};
-ghost use Rattle.imago_vmdk.specs.Reading.{reading_of};
+ghost use Rattle.imago_vmdk.specs.Reading.{reading_of, IsTextOf, IsReadingOf};
 ghost use Rattle.imago_vmdk.specs.Probe.{probe_of};
 ghost use Rattle.imago_vmdk.specs.Vmdk.{extent_place, extent_rest, places_from, rest_from};
 ghost use Rattle.imago_vmdk.specs.Vmdk.{storages_in, vmdk_count, vmdk_view, text_reasons};
@@ -66,7 +67,8 @@ pub struct Vmdk<S: Storage> {
     direct: bool,
     /// Whether keys of the descriptor that aren't known are accepted.
     accepts_unknown_keys: bool,
-    ghost read: { reading_of accepts_unknown_keys (S.bytes descriptor)
+    ghost read: { IsTrue (S.features descriptor).tells_bytes
+        → reading_of accepts_unknown_keys (S.bytes descriptor)
         ≡ Ok (map (extent_with string_bytes) extents.items, size) },
     ghost sized: { size ≡ sum_by extent_size extents.items },
     ghost fits: { size < 2 ^ 64 },
@@ -79,7 +81,7 @@ fn descriptor_text<S: Storage>(alloc: Global, storage: &S) -> Result<Option<Vec<
     ensures text { IfOk result
         (λ r. MatchOption r (may_be_long (length (S.bytes storage.now)) ≡ false)
         (λ v. (may_be_long (length (S.bytes storage.now)) ≡ true)
-        × (v.items ≡ S.bytes storage.now))) }
+        × IsTextOf (S.features storage.now).tells_bytes (S.bytes storage.now) v.items)) }
     ensures only { IfErr result IsExtRefusal }
     ensures device { IsErrOf result Error.Device → (S.features storage.now).is_reliable ≡ false }
     ensures wraps { IsErrOf result Error.WrapAround
@@ -322,11 +324,11 @@ impl<S: Storage> Vmdk<S> {
         ensures opened { IfOk result
             (λ v. (descriptor_in v ≡ «storage») × (is_opened v ≡ false) × (opens_direct v ≡ false)
             × (takes_unknown_keys v ≡ false) ×
-            (reading_of false (S.bytes storage)
-            ≡ Ok (extents_in v, sum_by extent_size (extents_in v)))) }
+            IsReadingOf false (S.features storage).tells_bytes (S.bytes storage)
+            (Ok (extents_in v, sum_by extent_size (extents_in v)))) }
         ensures refused { writable ≡ false
             → IfErr result
-            (λ e. (reading_of false (S.bytes storage) ≡ Err e)
+            (λ e. IsReadingOf false (S.features storage).tells_bytes (S.bytes storage) (Err e)
             ⊎ allowed (text_reasons (S.features storage) (length (S.bytes storage))) e) }
         ensures device { IsErrOf result Error.Device → (S.features storage).is_reliable ≡ false }
     {
@@ -419,10 +421,11 @@ impl<S: Storage> Vmdk<S> {
         ensures opened { IfOk result
             (λ v. (descriptor_in v ≡ «descriptor») × (is_opened v ≡ false)
             × (opens_direct v ≡ direct) × (takes_unknown_keys v ≡ accepts_unknown_keys) ×
-            (reading_of accepts_unknown_keys (S.bytes descriptor)
-            ≡ Ok (extents_in v, sum_by extent_size (extents_in v)))) }
+            IsReadingOf accepts_unknown_keys (S.features descriptor).tells_bytes
+            (S.bytes descriptor) (Ok (extents_in v, sum_by extent_size (extents_in v)))) }
         ensures refused { IfErr result
-            (λ e. (reading_of accepts_unknown_keys (S.bytes descriptor) ≡ Err e)
+            (λ e. IsReadingOf accepts_unknown_keys (S.features descriptor).tells_bytes
+            (S.bytes descriptor) (Err e)
             ⊎ allowed (text_reasons (S.features descriptor) (length (S.bytes descriptor))) e) }
         ensures device { IsErrOf result Error.Device → (S.features descriptor).is_reliable ≡ false }
     {

@@ -18,5 +18,6 @@ mod set_up;
 mod sparse;
 mod subject;
 mod sweep;
+mod untold;
 mod zeroes;
 mod zeroing;

@@ -9,6 +9,7 @@ mod set_up;
 mod subject;
 mod sweep;
 mod texts;
+mod untold;
 mod wraps;
 mod writes;
 mod zeroes;

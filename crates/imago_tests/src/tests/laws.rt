@@ -102,6 +102,7 @@ fn call_laws_of_raw<S: Storage>(storage: S) -> Result<(), Error> {
 /// The laws of VMDK images, at the one that a descriptor describes.
 fn call_laws_of_vmdk<S: Storage>(alloc: Global, descriptor: S) -> Result<(), Error> {
     let vmdk = opened_vmdk(alloc, descriptor)?;
+    descriptors::places_of_extents(&vmdk);
     descriptors::places_of_bytes(&vmdk);
     descriptors::disk_of_bytes(&vmdk);
     let image = FormatAccess::new(vmdk);
@@ -117,6 +118,7 @@ fn call_laws_of_qcow2<S: Storage>(alloc: Global, file: S) -> Result<(), Error> {
     qcow2_files::worked_l1_entries();
     let qcow2 = Qcow2::open_image(alloc, file, false)?;
     qcow2_files::disk_of_bytes(&qcow2);
+    qcow2_files::image_of_bytes(&qcow2);
     qcow2_disk(&FormatAccess::new(qcow2));
     Ok(())
 }

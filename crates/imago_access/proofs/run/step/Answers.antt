@@ -16,10 +16,10 @@ pub returns-in-DiscardToZero-clause-step : goal.returns-in-DiscardToZero-clause-
 returns-in-DiscardToZero-clause-step g c = rw c.in-DiscardToZero.is (c.discard_to_zero.result, c.done_or_refused-in-DiscardToZero.ensures, (c.discard_to_zero.ensures.zeroed, c.discard_to_zero.ensures.performed))
 
 pub returns-in-DiscardToAny-clause-step : goal.returns-in-DiscardToAny-clause-step
-returns-in-DiscardToAny-clause-step g c = rw c.in-DiscardToAny.is (c.discard_to_any.result, c.done_or_refused-in-DiscardToAny.ensures, c.discard_to_any.ensures)
+returns-in-DiscardToAny-clause-step g c = rw c.in-DiscardToAny.is (c.discard_to_any.result, c.done_or_refused-in-DiscardToAny.ensures, c.discard_to_any.ensures.discarded)
 
 pub returns-in-DiscardToBacking-clause-step : goal.returns-in-DiscardToBacking-clause-step
-returns-in-DiscardToBacking-clause-step g c = rw c.in-DiscardToBacking.is (c.discard_to_backing.result, c.done_or_refused-in-DiscardToBacking.ensures, c.discard_to_backing.ensures)
+returns-in-DiscardToBacking-clause-step g c = rw c.in-DiscardToBacking.is (c.discard_to_backing.result, c.done_or_refused-in-DiscardToBacking.ensures, c.discard_to_backing.ensures.discarded)
 
 pub returns-in-EnsureData-clause-step : goal.returns-in-EnsureData-clause-step
 returns-in-EnsureData-clause-step g c = rw c.in-EnsureData.is (c.ensure_data_mapping.result, c.data_or_refused.ensures, (record { mapped = c.ensure_data_mapping.ensures.mapped; call = c.ensure_data_mapping.ensures.call; lengths = c.ensure_data_mapping.ensures.lengths }, c.ensure_data_mapping.ensures.performed))

@@ -12,8 +12,8 @@ returns-clause-filled g c =
     let w = c.in_default in
     fill_done g.D.FormatDriverInstance.view (lent g.B.LowerLayer.as_layer_below c.args.below) c.args.inner.now c.prepare_data_mapping.new.self c.write_prepared.new.self c.args.request.offset c.args.request.count c.args.request.overwrite c.args.source.now c.min-fitting.result p.mapping
     p.ensures.prepared p.ensures.call.unchanged p.ensures.call.lengths.no_shorter (g.met.D.FormatDriverInstance.lawful c.prepare_data_mapping.new.self) (omega (arith, c.min-fitting.ensures, c.length.ensures)) p.ensures.call.causes (goes_on _ _ _ _ p.ensures.call.faults)
-    (stays _ _ w.ensures.framed w.ensures.storages.lengths.no_shorter) w.ensures.reaches (goes_on _ _ _ _ w.ensures.storages.faults)
-    w.ensures.written w.ensures.round w.ensures.causes
+    (stays _ _ w.ensures.call.framed w.ensures.call.storages.lengths.no_shorter) w.ensures.call.reaches (goes_on _ _ _ _ w.ensures.call.storages.faults)
+    w.ensures.call.written w.ensures.call.round w.ensures.call.causes
 
 pub returns-in-Err-clause-filled : goal.returns-in-Err-clause-filled
 returns-in-Err-clause-filled g c =
@@ -21,8 +21,8 @@ returns-in-Err-clause-filled g c =
     let w = c.in-Err in
     fill_cancelled g.D.FormatDriverInstance.view (lent g.B.LowerLayer.as_layer_below c.args.below) c.args.inner.now c.prepare_data_mapping.new.self c.write_prepared.new.self c.args.request.offset c.args.request.count c.args.request.overwrite c.args.source.now c.min-fitting.result p.mapping
     p.ensures.prepared p.ensures.call.unchanged p.ensures.call.lengths.no_shorter (g.met.D.FormatDriverInstance.lawful c.prepare_data_mapping.new.self) (omega (arith, c.min-fitting.ensures, c.length.ensures)) p.ensures.call.causes (goes_on _ _ _ _ p.ensures.call.faults)
-    (stays _ _ w.ensures.framed w.ensures.storages.lengths.no_shorter) w.ensures.reaches (goes_on _ _ _ _ w.ensures.storages.faults)
-    c.cancel_data_mapping.new.self w.error w.ensures.torn c.requires.writable w.ensures.foreign.0 w.ensures.refusals (λ h. w.ensures.storages.faults.device (ap (λ x. Err x) h)) c.cancel_data_mapping.ensures.call
+    (stays _ _ w.ensures.call.framed w.ensures.call.storages.lengths.no_shorter) w.ensures.call.reaches (goes_on _ _ _ _ w.ensures.call.storages.faults)
+    c.cancel_data_mapping.new.self w.error w.ensures.call.torn c.requires.writable w.ensures.foreign.0 w.ensures.call.refusals (λ h. w.ensures.call.storages.faults.device (ap (λ x. Err x) h)) c.cancel_data_mapping.ensures.call
 
 pub returns-clause-prepared : goal.returns-clause-prepared
 returns-clause-prepared g c = (c.prepare_data_mapping.new.self, c.in_ok-mapping.mapping, c.in_ok-mapping.ensures.prepared, refl, refl)

@@ -1,4 +1,4 @@
-use Rattle.std.proofs.Common.{rules, ap, sym, ◌∙◌, Ok}
+use Rattle.std.proofs.Common.{rules, refl, ap, sym, ◌∙◌, Ok}
 use Rattle.imago_access.specs.Chain.{driver}
 use Rattle.imago_vmdk.specs.Image.{extents_in}
 use Rattle.imago_vmdk.specs.Reading.{reading_of}
@@ -16,6 +16,6 @@ returns-clause-reading c =
       extents_in d,
       ap (λ accept. reading_of accept c.args.text.now) (sym (returns-clause-keys c))
           ∙ ap (reading_of d.accepts_unknown_keys) (sym (returns-clause-bytes c))
-          ∙ d.read
+          ∙ d.read refl
           ∙ ap (λ size. Ok (extents_in d, size)) d.sized,
     )

@@ -12,6 +12,9 @@ use Rattle.imago_cow.proofs.MapSteps.{number_ends}
 use Rattle.imago_cow.proofs.StoredSteps.{on_ok, ok_holds}
 use Rattle.imago_cow.proofs.CutSteps.{limit_padded, part_padded, if_limit_refused, taken_filled, data_filled, data_torn, if_refused, reads_behind}
 use Rattle.imago_cow.proofs.GrownEntries.{cut_whole, cut_none, cut_zero, cut_data, absent_put, zero_put}
+use Rattle.std.specs.Prelude.{slice_get}
+use Rattle.std.proofs.Common.{◌/◌}
+use Rattle.imago_cow.proofs.GrowthCallSteps.{filled_as_absent, filled_as_zero, left_zero, filled_as_data}
 use Rattle.imago_cow.proofs.cut.fill_cut.Goals as goal
 
 pub overflow_mul-start : goal.overflow_mul-start
@@ -37,7 +40,7 @@ returns-in-Absent-clause-filled g c =
     let cutting : 0 < c.args.growth.size % c.args.growth.block.length = omega (arith, (rw c.rest-rest.ensures.value at c.if-rest-eq0.false)) in
     let some : c.args.growth.mode ≡ PreallocateMode.None → ⊥ = c.adds_nothing.ensures.some c.if-adds_nothing.false in
     let r = c.fill_taken.ensures in
-    on_ok c.fill_taken.result (λ x e. taken_filled L.at c.args.growth.mode f.keeps_data c.args.growth.block.length c.args.growth.size c.args.growth.new_size c.requires.ready.positive E (entries_of c.fill_taken.new.table) A (g.S.Storage.bytes c.fill_taken.new.storage) c.min-count.result true (is_absent c.kind_of_new-new_kind.result) cutting r.entries.len
+    on_ok c.fill_taken.result (λ x e. taken_filled L.at c.args.growth.mode f.keeps_data L.tells_bytes c.args.growth.block.length c.args.growth.size c.args.growth.new_size c.requires.ready.positive E (entries_of c.fill_taken.new.table) A (g.S.Storage.bytes c.fill_taken.new.storage) c.min-count.result true (is_absent c.kind_of_new-new_kind.result) cutting r.entries.len
     (λ x. c.entry_at.ensures ∙ ap (λ y. Some y) c.in-Absent.is) (λ x. let z : ⊥ = cc in absurd z) (rw c.rest-rest.ensures.value at c.min-count.ensures) low some (λ k. ok_holds x e (r.entered k)))
 
 pub returns-in-Absent-clause-bounded : goal.returns-in-Absent-clause-bounded
@@ -68,7 +71,7 @@ returns-else-not-leads_below-clause-filled g c =
     let cutting : 0 < c.args.growth.size % c.args.growth.block.length = omega (arith, (rw c.rest-rest.ensures.value at c.if-rest-eq0.false)) in
     let some : c.args.growth.mode ≡ PreallocateMode.None → ⊥ = c.adds_nothing.ensures.some c.if-adds_nothing.false in
     let r = c.fill_taken-in-Zero.ensures in
-    on_ok c.fill_taken-in-Zero.result (λ x e. taken_filled L.at c.args.growth.mode f.keeps_data c.args.growth.block.length c.args.growth.size c.args.growth.new_size c.requires.ready.positive E (entries_of c.fill_taken-in-Zero.new.table) A (g.S.Storage.bytes c.fill_taken-in-Zero.new.storage) c.min-count.result false (is_absent c.kind_of_new-new_kind.result) cutting r.entries.len
+    on_ok c.fill_taken-in-Zero.result (λ x e. taken_filled L.at c.args.growth.mode f.keeps_data L.tells_bytes c.args.growth.block.length c.args.growth.size c.args.growth.new_size c.requires.ready.positive E (entries_of c.fill_taken-in-Zero.new.table) A (g.S.Storage.bytes c.fill_taken-in-Zero.new.storage) c.min-count.result false (is_absent c.kind_of_new-new_kind.result) cutting r.entries.len
     (λ x. let z : ⊥ = cc in absurd z) (λ x. c.entry_at.ensures ∙ ap (λ y. Some y) c.in-Zero.is) (rw c.rest-rest.ensures.value at c.min-count.ensures) low some (λ k. ok_holds x e (r.entered k)))
 
 pub returns-else-not-leads_below-clause-bounded : goal.returns-else-not-leads_below-clause-bounded
@@ -104,8 +107,8 @@ returns-in-Data-clause-filled g c =
     let rest = rest_small c.args.growth.block.length c.requires.ready.positive c.args.growth.size in
     let fits : c.args.growth.size % c.args.growth.block.length + c.min-count.result ≤ c.args.growth.block.length = omega (arith, (rw c.rest-rest.ensures.value at c.min-count.ensures), rest) in
     let B = g.S.Storage.bytes c.copy_old.new.storage in
-    on_ok c.copy_old.result (λ x e. data_filled L.at c.args.growth.mode f.keeps_data c.args.growth.block.length c.args.growth.size c.args.growth.new_size c.requires.ready.positive E A B j c.min-count.result (is_absent c.kind_of_new-new_kind.result) cutting (λ i k n a b. named_once t i k n a b) named (rw c.rest-rest.ensures.value at c.min-count.ensures) low some
-    (λ k. ok_holds x e (rw c.rest-rest.ensures.value at (c.copy_old.ensures.copied k))) (rw c.rest-rest.ensures.value at c.copy_old.ensures.outside))
+    on_ok c.copy_old.result (λ x e. data_filled L.at c.args.growth.mode f.keeps_data L.tells_bytes c.args.growth.block.length c.args.growth.size c.args.growth.new_size c.requires.ready.positive E A B j c.min-count.result (is_absent c.kind_of_new-new_kind.result) cutting (λ i k n a b. named_once t i k n a b) named (rw c.rest-rest.ensures.value at c.min-count.ensures) low some
+    (λ k told. ok_holds x e (rw c.rest-rest.ensures.value at (c.copy_old.ensures.copied k told))) (rw c.rest-rest.ensures.value at c.copy_old.ensures.outside))
 
 pub returns-in-Data-clause-places : goal.returns-in-Data-clause-places
 returns-in-Data-clause-places g c =
@@ -190,3 +193,26 @@ pub returns-in-Data-clause-grown : goal.returns-in-Data-clause-grown
 returns-in-Data-clause-grown g c =
     let growth = c.args.growth in
     on_ok c.copy_old.result (λ x e. cut_data growth.mode growth.block.length growth.size (entries_of c.args.table.now) c.in-Data.number (c.entry_at.ensures ∙ ap (λ y. Some y) c.in-Data.is))
+
+pub returns-in-Absent-clause-copies : goal.returns-in-Absent-clause-copies
+returns-in-Absent-clause-copies g c = λ cutting some.
+    let growth = c.args.growth in
+    filled_as_absent g.S.Storage.features g.S.Storage.bytes g.S.Storage.fault_count g.S.Storage.work g.S.Storage.maintenance (lent g.B.LowerLayer.as_layer_below c.args.below) (shows_below growth.mode) growth.block.length growth.size growth.new_size (entries_of c.args.table.now) (count_of c.args.table.now) (slice_get (entries_of c.args.table.now) (growth.size / growth.block.length)) _ _ c.min-count.result c.args.storage.now _ _ (c.entry_at.ensures ∙ ap (λ y. Some y) c.in-Absent.is) (rw c.rest-rest.ensures.value at c.min-count.ensures)
+    (rw c.kind_of_new-new_kind.ensures at c.fill_taken.ensures.copies)
+
+pub returns-then-not-leads_below-clause-copies : goal.returns-then-not-leads_below-clause-copies
+returns-then-not-leads_below-clause-copies g c = λ cutting some.
+    let growth = c.args.growth in
+    left_zero g.S.Storage.features g.S.Storage.bytes g.S.Storage.fault_count g.S.Storage.work g.S.Storage.maintenance (lent g.B.LowerLayer.as_layer_below c.args.below) (shows_below growth.mode) growth.block.length growth.size growth.new_size (entries_of c.args.table.now) (count_of c.args.table.now) (slice_get (entries_of c.args.table.now) (growth.size / growth.block.length)) c.args.storage.now (c.entry_at.ensures ∙ ap (λ y. Some y) c.in-Zero.is) (sym c.kind_of_new-new_kind.ensures ∙ sym c.leads_below.ensures ∙ c.if-not-leads_below.true)
+
+pub returns-else-not-leads_below-clause-copies : goal.returns-else-not-leads_below-clause-copies
+returns-else-not-leads_below-clause-copies g c = λ cutting some.
+    let growth = c.args.growth in
+    filled_as_zero g.S.Storage.features g.S.Storage.bytes g.S.Storage.fault_count g.S.Storage.work g.S.Storage.maintenance (lent g.B.LowerLayer.as_layer_below c.args.below) (shows_below growth.mode) growth.block.length growth.size growth.new_size (entries_of c.args.table.now) (count_of c.args.table.now) (slice_get (entries_of c.args.table.now) (growth.size / growth.block.length)) _ _ c.min-count.result c.args.storage.now _ _ (c.entry_at.ensures ∙ ap (λ y. Some y) c.in-Zero.is) (sym c.kind_of_new-new_kind.ensures ∙ sym c.leads_below.ensures ∙ c.if-not-leads_below.false) (rw c.rest-rest.ensures.value at c.min-count.ensures)
+    (rw c.kind_of_new-new_kind.ensures at c.fill_taken-in-Zero.ensures.copies)
+
+pub returns-in-Data-clause-copies : goal.returns-in-Data-clause-copies
+returns-in-Data-clause-copies g c = λ cutting some.
+    let growth = c.args.growth in
+    filled_as_data g.S.Storage.features g.S.Storage.bytes g.S.Storage.fault_count g.S.Storage.work g.S.Storage.maintenance (lent g.B.LowerLayer.as_layer_below c.args.below) (shows_below growth.mode) growth.block.length growth.size growth.new_size (entries_of c.args.table.now) (count_of c.args.table.now) (slice_get (entries_of c.args.table.now) (growth.size / growth.block.length)) c.in-Data.number c.min-count.result c.rest-rest.result c.args.storage.now _ _ (c.entry_at.ensures ∙ ap (λ y. Some y) c.in-Data.is) c.min-count.ensures c.rest-rest.ensures.value
+    (rw c.kind_of_new-new_kind.ensures at c.copy_old.ensures.copies)

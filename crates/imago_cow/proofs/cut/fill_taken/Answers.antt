@@ -12,6 +12,7 @@ use Rattle.imago_cow.proofs.MapSteps.{number_ends}
 use Rattle.imago_cow.proofs.CommitSteps.{set_entered}
 use Rattle.imago_cow.proofs.PrepareSteps.{empty_absent}
 use Rattle.imago_cow.proofs.CutSteps.{take_refused, filled_length, other_bytes}
+use Rattle.imago_cow.proofs.GrowthCallSteps.{cut_not_taken, cut_taken, cut_taken_refused}
 use Rattle.imago_cow.proofs.cut.fill_taken.Goals as goal
 
 pub returns-in_err-number-clause-refusals : goal.returns-in_err-number-clause-refusals
@@ -39,8 +40,8 @@ returns-in-Ok-clause-entered g c = λ keeps.
       number = number;
       entered = rw (e, c.take_block.ensures.entries) (set_entered (cut.size / cut.block.length) number E c.requires.within);
       unnamed = λ i h. held_apart c.take_block.new.table i number held (rw c.take_block.ensures.entries h);
-      before = c.in-Ok.ensures.before keeps;
-      behind = c.in-Ok.ensures.behind keeps;
+      before = λ told. c.in-Ok.ensures.before keeps told;
+      behind = λ told. c.in-Ok.ensures.behind keeps told;
       outside = c.fill_both.ensures.outside keeps;
     }
 
@@ -114,3 +115,22 @@ returns-in-Ok-clause-entries g c =
       refused = tt;
       done = (number, e ∙ ap (λ x. slice_set x (cut.size / cut.block.length) (GuestBlock.Data number)) c.take_block.ensures.entries);
     }
+
+pub returns-in_err-number-clause-copies : goal.returns-in_err-number-clause-copies
+returns-in_err-number-clause-copies g c =
+    let cut = c.args.cut in
+    let p = err_from_is_err_and c.from_residual.result c.from_residual.ensures.1 in
+    rw (p.1) (cut_not_taken g.S.Storage.features g.S.Storage.bytes g.S.Storage.fault_count g.S.Storage.work g.S.Storage.maintenance (lent g.B.LowerLayer.as_layer_below c.args.below) (is_absent cut.kind) (is_absent cut.new_kind) cut.block.length cut.size cut.count (entries_of c.args.table.now) (count_of c.args.table.now) _ _ c.args.storage.now (p.0))
+
+pub returns-in-Ok-clause-copies : goal.returns-in-Ok-clause-copies
+returns-in-Ok-clause-copies g c =
+    let cut = c.args.cut in
+    let number = c.in_ok-number.number in
+    let e = rw c.number.ensures at (c.enter.ensures.entries number c.in_ok-number.ensures.held) in
+    cut_taken g.S.Storage.features g.S.Storage.bytes g.S.Storage.fault_count g.S.Storage.work g.S.Storage.maintenance (lent g.B.LowerLayer.as_layer_below c.args.below) (is_absent cut.kind) (is_absent cut.new_kind) cut.block.length cut.size cut.count (entries_of c.args.table.now) (count_of c.args.table.now) _ _ number c.args.storage.now _ c.in_ok-number.ensures.lowest c.in-Ok.ensures.copies
+    (e ∙ ap (λ x. slice_set x (cut.size / cut.block.length) (GuestBlock.Data number)) c.take_block.ensures.entries) (c.enter.ensures.count ∙ c.in_ok-number.ensures.counted)
+
+pub returns-in-Err-clause-copies : goal.returns-in-Err-clause-copies
+returns-in-Err-clause-copies g c =
+    let cut = c.args.cut in
+    cut_taken_refused g.S.Storage.features g.S.Storage.bytes g.S.Storage.fault_count g.S.Storage.work g.S.Storage.maintenance (lent g.B.LowerLayer.as_layer_below c.args.below) (is_absent cut.kind) (is_absent cut.new_kind) cut.block.length cut.size cut.count (entries_of c.args.table.now) (count_of c.args.table.now) _ _ c.in_ok-number.number c.args.storage.now _ c.in-Err.e c.in_ok-number.ensures.lowest c.in-Err.ensures.copies

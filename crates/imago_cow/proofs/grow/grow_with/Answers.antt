@@ -13,6 +13,8 @@ use Rattle.imago_cow.proofs.CutEntries.{within_same}
 use Rattle.imago_cow.proofs.GrowBounds.{cut_inside}
 use Rattle.imago_cow.proofs.GrownEntries.{grown_blocks}
 use Rattle.imago_cow.proofs.GrowthSteps.{grown_whole, cut_refused, add_refused, not_grown, mode_uses, blocks_for, blocks_cover, blocks_near, new_fit, cut_fit, cut_read, added_read, if_grow_refused, same_exact}
+use Rattle.std.specs.Prelude.{slice_get}
+use Rattle.imago_cow.proofs.GrowthCallSteps.{not_ok, added_behind, filled_then, filled_refused}
 use Rattle.imago_cow.proofs.grow.grow_with.Goals as goal
 
 pub empty_cut-was-requires-clause-within : goal.empty_cut-was-requires-clause-within
@@ -83,7 +85,7 @@ returns-in-Err-clause-call g c =
     let fit = cut_fit growth.block.length growth.size growth.new_size E n0 growth.mode lower pos c.requires.grows ex low c.requires.some in
     let e1 = c.fill_cut.ensures in
     let ok1 = c.in_ok-fill_cut.ensures in
-    let filled : IsCutFilled L.at growth.mode f.keeps_data growth.block.length growth.size growth.new_size E M A B = ok1.filled in
+    let filled : IsCutFilled L.at growth.mode f.keeps_data L.tells_bytes growth.block.length growth.size growth.new_size E M A B = ok1.filled in
     let entered : IsCutEntered growth.block.length growth.size E M = ok1.entry in
     let D = g.S.Storage.bytes c.add_new.new.storage in
     let F = entries_of c.add_new.new.table in
@@ -137,7 +139,7 @@ returns-clause-call g c =
     let fit = cut_fit growth.block.length growth.size growth.new_size E n0 growth.mode lower pos c.requires.grows ex low c.requires.some in
     let e1 = c.fill_cut.ensures in
     let ok1 = c.in_ok-fill_cut.ensures in
-    let filled : IsCutFilled L.at growth.mode f.keeps_data growth.block.length growth.size growth.new_size E M A B = ok1.filled in
+    let filled : IsCutFilled L.at growth.mode f.keeps_data L.tells_bytes growth.block.length growth.size growth.new_size E M A B = ok1.filled in
     let entered : IsCutEntered growth.block.length growth.size E M = ok1.entry in
     let D = g.S.Storage.bytes c.add_new.new.storage in
     let F = entries_of c.add_new.new.table in
@@ -153,7 +155,7 @@ returns-clause-call g c =
     let longer : length D ≤ max (length A) (padded_to f 0 (most * growth.block.length)) = omega (arith, long1, long2) in
     let first : CountsFaults {T = Unit {0}} (f.is_reliable && L.is_reliable) k0 k1 (Ok tt) = ok1.call.faults in
     let done = c.in_default.ensures in
-    let extended : IsExtended L.at lower f.keeps_data growth.block.length (length M * growth.block.length) growth.new_size M F B D = rw e1.call.features at done.added.extended in
+    let extended : IsExtended L.at lower f.keeps_data L.tells_bytes growth.block.length (length M * growth.block.length) growth.new_size M F B D = rw e1.call.features at done.added.extended in
     let then : CountsFaults {T = Unit {0}} (f.is_reliable && L.is_reliable) k1 k2 (Ok tt) = rw e1.call.features at done.call.faults in
     grown_whole f k0 k2 A B D growth.size growth.block.length growth.new_size E M F n0 (count_of c.add_new.new.table) L growth.mode lower pos c.requires.grows ex low c.requires.some filled extended done.added.exact.covers longer
     (counts_then (f.is_reliable && L.is_reliable) k0 k1 k2 (Ok tt) first then)
@@ -166,3 +168,31 @@ returns-clause-blocks g c =
     let done = c.in_default.ensures in
     grown_blocks growth.block.length growth.size (entries_of c.args.table.now) c.requires.idle.ready.positive c.requires.idle.exact growth.mode (entries_of c.fill_cut.new.table) (entries_of c.add_new.new.table)
     c.requires.some first.entry (first.filled).len first.grown then.prefix done.added.in_data done.added.zeroes
+
+pub returns-in_err-fill_cut-clause-added : goal.returns-in_err-fill_cut-clause-added
+returns-in_err-fill_cut-clause-added g c = λ wanted covers near whole.
+    let done = (c.fill_cut.ensures.idle whole).0 in
+    absurd (not_ok c.fill_cut.result c.in_err-fill_cut.field-0.0 c.in_err-fill_cut.was done)
+
+pub returns-in_err-fill_cut-clause-filled : goal.returns-in_err-fill_cut-clause-filled
+returns-in_err-fill_cut-clause-filled g c = λ wanted covers near cutting.
+    let p = err_from_is_err_and c.from_residual.result c.from_residual.ensures.1 in
+    rw (p.1, p.2) (filled_refused g.S.Storage.features g.S.Storage.bytes g.S.Storage.fault_count g.S.Storage.work g.S.Storage.maintenance (lent g.B.LowerLayer.as_layer_below c.args.below) (shows_below c.args.growth.mode) c.args.growth.block.length c.args.growth.size c.args.growth.new_size (entries_of c.args.table.now) (count_of c.args.table.now) (slice_get (entries_of c.args.table.now) (c.args.growth.size / c.args.growth.block.length)) (entries_of c.fill_cut.new.table) (count_of c.fill_cut.new.table) wanted c.args.storage.now _ c.in_err-fill_cut.field-0.0 (c.in_err-fill_cut.ensures.copies cutting c.requires.some))
+
+pub returns-in-Err-clause-added : goal.returns-in-Err-clause-added
+returns-in-Err-clause-added g c = λ wanted covers near whole.
+    let same = c.fill_cut.ensures.idle whole in
+    added_behind g.S.Storage.features g.S.Storage.bytes g.S.Storage.fault_count g.S.Storage.work g.S.Storage.maintenance (lent g.B.LowerLayer.as_layer_below c.args.below) (shows_below c.args.growth.mode) c.args.growth.block.length c.args.growth.new_size wanted _ _ _ _ _ _ _ (Err c.in-Err.e) (same.1) (same.2) (same.3) (c.in-Err.ensures.copies wanted covers near)
+
+pub returns-in-Err-clause-filled : goal.returns-in-Err-clause-filled
+returns-in-Err-clause-filled g c = λ wanted covers near cutting.
+    filled_then g.S.Storage.features g.S.Storage.bytes g.S.Storage.fault_count g.S.Storage.work g.S.Storage.maintenance (lent g.B.LowerLayer.as_layer_below c.args.below) (shows_below c.args.growth.mode) c.args.growth.block.length c.args.growth.size c.args.growth.new_size (entries_of c.args.table.now) (count_of c.args.table.now) (slice_get (entries_of c.args.table.now) (c.args.growth.size / c.args.growth.block.length)) (entries_of c.fill_cut.new.table) (count_of c.fill_cut.new.table) wanted c.args.storage.now _ _ (Err c.in-Err.e) (c.in_ok-fill_cut.ensures.copies cutting c.requires.some) (c.in-Err.ensures.copies wanted covers near)
+
+pub returns-clause-added : goal.returns-clause-added
+returns-clause-added g c = λ wanted covers near whole.
+    let same = c.fill_cut.ensures.idle whole in
+    added_behind g.S.Storage.features g.S.Storage.bytes g.S.Storage.fault_count g.S.Storage.work g.S.Storage.maintenance (lent g.B.LowerLayer.as_layer_below c.args.below) (shows_below c.args.growth.mode) c.args.growth.block.length c.args.growth.new_size wanted _ _ _ _ _ _ _ (Ok tt) (same.1) (same.2) (same.3) (c.in_default.ensures.copies wanted covers near)
+
+pub returns-clause-filled : goal.returns-clause-filled
+returns-clause-filled g c = λ wanted covers near cutting.
+    filled_then g.S.Storage.features g.S.Storage.bytes g.S.Storage.fault_count g.S.Storage.work g.S.Storage.maintenance (lent g.B.LowerLayer.as_layer_below c.args.below) (shows_below c.args.growth.mode) c.args.growth.block.length c.args.growth.size c.args.growth.new_size (entries_of c.args.table.now) (count_of c.args.table.now) (slice_get (entries_of c.args.table.now) (c.args.growth.size / c.args.growth.block.length)) (entries_of c.fill_cut.new.table) (count_of c.fill_cut.new.table) wanted c.args.storage.now _ _ (Ok tt) (c.in_ok-fill_cut.ensures.copies cutting c.requires.some) (c.in_default.ensures.copies wanted covers near)

@@ -10,6 +10,9 @@ use Rattle.imago_cow.specs.Growth.{IsPushed, IsBounded}
 use Rattle.imago_cow.proofs.FillSteps.{pushing_more, counts_then}
 use Rattle.imago_cow.proofs.CutSteps.{limit_refused}
 use Rattle.imago_cow.proofs.WholeSteps.{times_more}
+use Rattle.std.proofs.Common.{suc, ◌≡◌, ◌-◌}
+use Rattle.imago_cow.specs.CopyCalls.{ArePushedInTurn}
+use Rattle.imago_cow.proofs.GrowthCallSteps.{push_then, push_refused, none_pushed}
 use Rattle.imago_cow.proofs.guest_blocks.push_blocks.Goals as goal
 
 pub push_filled-requires-clause-begins : goal.push_filled-requires-clause-begins
@@ -65,12 +68,16 @@ loop-preserved g c =
     let less : length e + 1 ≤ length (entries_of c.args.table.now) + c.args.missing.count = omega (arith, was.len, c.loop-test.true) in
     let ends = times_more c.args.missing.block.length (length e + 1) (length (entries_of c.args.table.now) + c.args.missing.count) less in
     let begins : length e * c.args.missing.block.length < c.args.missing.new_size = omega (arith, ends, c.requires.ends) in
-    let pushed : IsPushed l.at f.keeps_data c.args.missing.block.length c.args.missing.new_size e next x y = subst (λ z. IsPushed l.at z.keeps_data c.args.missing.block.length c.args.missing.new_size e next x y) inv.features done.pushed in
+    let pushed : IsPushed l.at f.keeps_data l.tells_bytes c.args.missing.block.length c.args.missing.new_size e next x y = subst (λ z. IsPushed l.at z.keeps_data l.tells_bytes c.args.missing.block.length c.args.missing.new_size e next x y) inv.features done.pushed in
     let counted : CountsFaults {T = Unit {0}} (f.is_reliable && l.is_reliable) (g.S.Storage.fault_count c.loop.storage + c.loop.faults) (g.S.Storage.fault_count c.push_filled.new.storage + c.push_filled.new.faults) (Ok tt) =
     subst (λ z. CountsFaults {T = Unit {0}} (z.is_reliable && l.is_reliable) (g.S.Storage.fault_count c.loop.storage + c.loop.faults) (g.S.Storage.fault_count c.push_filled.new.storage + c.push_filled.new.faults) (Ok tt)) inv.features done.call.faults in
     record {
-      pushed = pushing_more l.at f.keeps_data c.args.missing.block.length c.args.missing.new_size (entries_of c.args.table.now) e next (g.S.Storage.bytes c.args.storage.now) x y (count_of c.args.table.now) (count_of c.loop.table) (count_of c.push_filled.new.table) c.loop.counter
+      pushed = pushing_more l.at f.keeps_data l.tells_bytes c.args.missing.block.length c.args.missing.new_size (entries_of c.args.table.now) e next (g.S.Storage.bytes c.args.storage.now) x y (count_of c.args.table.now) (count_of c.loop.table) (count_of c.push_filled.new.table) c.loop.counter
           c.requires.ready.positive begins was pushed done.taken.added;
+      copies = λ more last answer rest.
+          let sum : c.loop.counter + suc more ≡ c.loop.counter + 1 + more = omega arith in
+          subst (λ k. ArePushedInTurn g.S.Storage.features g.S.Storage.bytes g.S.Storage.fault_count g.S.Storage.work g.S.Storage.maintenance (lent g.B.LowerLayer.as_layer_below c.args.below) c.args.missing.block.length c.args.missing.new_size k (entries_of c.args.table.now) (count_of c.args.table.now) c.args.storage.now last answer) sum
+          (inv.copies (suc more) last answer (push_then g.S.Storage.features g.S.Storage.bytes g.S.Storage.fault_count g.S.Storage.work g.S.Storage.maintenance (lent g.B.LowerLayer.as_layer_below c.args.below) c.args.missing.block.length c.args.missing.new_size e (count_of c.loop.table) next (count_of c.push_filled.new.table) more c.loop.storage c.push_filled.new.storage last answer done.copies rest));
       ready = done.ready;
       room = omega (arith, inv.room, done.taken.room);
       no_shorter = omega (arith, inv.no_shorter, done.call.no_shorter);
@@ -83,3 +90,18 @@ loop-preserved g c =
       features = done.call.features ∙ inv.features;
       faults = counts_then (f.is_reliable && l.is_reliable) _ _ _ (Ok tt) inv.faults counted;
     }
+
+pub returns-in_err-push_filled-clause-copies : goal.returns-in_err-push_filled-clause-copies
+returns-in_err-push_filled-clause-copies g c =
+    let p = err_from_is_err_and c.from_residual.result c.from_residual.ensures.1 in
+    let e = c.in_err-push_filled.field-0.0 in
+    let more = c.args.missing.count - c.loop.counter - 1 in
+    let sum : c.loop.counter + suc more ≡ c.args.missing.count = omega (arith, c.loop-test.true) in
+    rw (p.1, p.2) (subst (λ k. ArePushedInTurn g.S.Storage.features g.S.Storage.bytes g.S.Storage.fault_count g.S.Storage.work g.S.Storage.maintenance (lent g.B.LowerLayer.as_layer_below c.args.below) c.args.missing.block.length c.args.missing.new_size k (entries_of c.args.table.now) (count_of c.args.table.now) c.args.storage.now c.push_filled.new.storage (Err e)) sum
+    (c.loop.invariant.copies (suc more) c.push_filled.new.storage (Err e) (push_refused g.S.Storage.features g.S.Storage.bytes g.S.Storage.fault_count g.S.Storage.work g.S.Storage.maintenance (lent g.B.LowerLayer.as_layer_below c.args.below) c.args.missing.block.length c.args.missing.new_size (entries_of c.loop.table) (count_of c.loop.table) (entries_of c.push_filled.new.table) (count_of c.push_filled.new.table) more c.loop.storage c.push_filled.new.storage e c.in_err-push_filled.ensures.copies)))
+
+pub returns-clause-copies : goal.returns-clause-copies
+returns-clause-copies g c =
+    let sum : c.loop.counter + 0 ≡ c.args.missing.count = omega (arith, c.loop-test.false, c.loop.auto.counter-end) in
+    subst (λ k. ArePushedInTurn g.S.Storage.features g.S.Storage.bytes g.S.Storage.fault_count g.S.Storage.work g.S.Storage.maintenance (lent g.B.LowerLayer.as_layer_below c.args.below) c.args.missing.block.length c.args.missing.new_size k (entries_of c.args.table.now) (count_of c.args.table.now) c.args.storage.now c.loop.storage (Ok tt)) sum
+    (c.loop.invariant.copies 0 c.loop.storage (Ok tt) (none_pushed g.S.Storage.features g.S.Storage.bytes g.S.Storage.fault_count g.S.Storage.work g.S.Storage.maintenance (lent g.B.LowerLayer.as_layer_below c.args.below) c.args.missing.block.length c.args.missing.new_size (entries_of c.loop.table) (count_of c.loop.table) c.loop.storage))

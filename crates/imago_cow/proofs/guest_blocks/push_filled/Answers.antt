@@ -10,6 +10,8 @@ use Rattle.imago_cow.proofs.FillSteps.{filled_length, take_refused, block_kept}
 use Rattle.imago_cow.proofs.CutSteps.{copy_refused}
 use Rattle.imago_cow.proofs.MapSteps.{number_ends}
 use Rattle.imago_cow.proofs.GrowSteps.{copied_place}
+use Rattle.imago_cow.specs.TableView.{count_of}
+use Rattle.imago_cow.proofs.GrowthCallSteps.{not_pushed, copy_pushed, copy_refused as copy_not_made}
 use Rattle.imago_cow.proofs.guest_blocks.push_filled.Goals as goal
 
 pub returns-in-Ok-clause-pushed : goal.returns-in-Ok-clause-pushed
@@ -22,8 +24,8 @@ returns-in-Ok-clause-pushed g c =
       number = n;
       entries = c.push_held.ensures.entries n h ∙ ap (λ e. e ++ GuestBlock.Data n ∷ []) same;
       unnamed = λ i e. held_apart c.take_block.new.table i n h (ap (λ x. slice_get x i) same ∙ e);
-      holds = λ keeps p a b l. copied_place (lent g.B.LowerLayer.as_layer_below c.args.below).at c.args.missing.block.length c.len.result (length old) n c.min-count.result c.args.missing.new_size p (g.S.Storage.bytes c.copy_old.new.storage)
-          c.requires.ready.positive c.len.ensures c.min-count.ensures (c.in-Ok.ensures.copied keeps) a b l;
+      holds = λ keeps told p a b l. copied_place (lent g.B.LowerLayer.as_layer_below c.args.below).at c.args.missing.block.length c.len.result (length old) n c.min-count.result c.args.missing.new_size p (g.S.Storage.bytes c.copy_old.new.storage)
+          c.requires.ready.positive c.len.ensures c.min-count.ensures (c.in-Ok.ensures.copied keeps told) a b l;
       outside = λ keeps p s. c.in-Ok.ensures.outside keeps p (⊎_elim (λ x. inl x) (λ x. let y : n * c.args.missing.block.length + c.min-count.result ≤ p = omega (arith, x, c.min-count.ensures) in inr y) s);
     }
 
@@ -73,3 +75,19 @@ returns-in-Err-clause-bytes g c =
     let t = entries_of c.args.table.now in
     block_kept (g.S.Storage.features c.args.storage.now).keeps_data c.args.missing.block.length (length t * c.args.missing.block.length) n (n * c.args.missing.block.length) c.min-count.result t _ _
     (λ i e. held_apart c.take_block.new.table i n h (ap (λ x. slice_get x i) same ∙ e)) (omega arith) (omega (arith, c.min-count.ensures)) c.copy_old.ensures.outside
+
+pub returns-in_err-number-clause-copies : goal.returns-in_err-number-clause-copies
+returns-in_err-number-clause-copies g c =
+    let p = err_from_is_err_and c.from_residual.result c.from_residual.ensures.1 in
+    rw (p.1) (not_pushed g.S.Storage.features g.S.Storage.bytes g.S.Storage.fault_count g.S.Storage.work g.S.Storage.maintenance (lent g.B.LowerLayer.as_layer_below c.args.below) c.args.missing.block.length c.args.missing.new_size (entries_of c.args.table.now) (count_of c.args.table.now) _ _ c.args.storage.now (p.0))
+
+pub returns-in-Ok-clause-copies : goal.returns-in-Ok-clause-copies
+returns-in-Ok-clause-copies g c =
+    let n = c.in_ok-number.number in
+    let h : held_of c.take_block.new.table ≡ Some n = c.in_ok-number.ensures.held in
+    copy_pushed g.S.Storage.features g.S.Storage.bytes g.S.Storage.fault_count g.S.Storage.work g.S.Storage.maintenance (lent g.B.LowerLayer.as_layer_below c.args.below) c.args.missing.block.length c.args.missing.new_size (entries_of c.args.table.now) (count_of c.args.table.now) _ _ n (c.len.result * c.args.missing.block.length) c.min-count.result c.args.storage.now _ c.in_ok-number.ensures.lowest (ap (λ x. x * c.args.missing.block.length) c.len.ensures) c.min-count.ensures c.in-Ok.ensures.copies
+    (c.push_held.ensures.entries n h ∙ ap (λ e. e ++ GuestBlock.Data n ∷ []) c.take_block.ensures.entries) (c.push_held.ensures.count ∙ c.in_ok-number.ensures.counted)
+
+pub returns-in-Err-clause-copies : goal.returns-in-Err-clause-copies
+returns-in-Err-clause-copies g c =
+    copy_not_made g.S.Storage.features g.S.Storage.bytes g.S.Storage.fault_count g.S.Storage.work g.S.Storage.maintenance (lent g.B.LowerLayer.as_layer_below c.args.below) c.args.missing.block.length c.args.missing.new_size (entries_of c.args.table.now) (count_of c.args.table.now) _ _ c.in_ok-number.number (c.len.result * c.args.missing.block.length) c.min-count.result c.args.storage.now _ c.in-Err.e c.in_ok-number.ensures.lowest (ap (λ x. x * c.args.missing.block.length) c.len.ensures) c.min-count.ensures c.in-Err.ensures.copies

@@ -10,6 +10,10 @@ use Rattle.imago_cow.specs.TableLaws.{held_apart}
 use Rattle.imago_cow.specs.GuestLaws.{rest_small}
 use Rattle.imago_cow.proofs.MapSteps.{number_ends}
 use Rattle.imago_cow.proofs.PrepareSteps.{kind_entry, empty_absent, empty_zero, one_more, prepared, prepared_unchanged, prepared_settled, length_within, round_refused, over_refused, full_wraps, full_refused}
+use Rattle.std.proofs.lemmas.Result.{err_from_is_err_and}
+use Rattle.std.proofs.Common.{Ok, Err}
+use Rattle.imago_storage.specs.declared.error.Error.{Error}
+use Rattle.imago_cow.proofs.CopyCallSteps.{round_taken, none_taken}
 use Rattle.imago_cow.proofs.prepare_block.prepare_part.Goals as goal
 
 pub overflow_mul-start : goal.overflow_mul-start
@@ -142,7 +146,7 @@ returns-in-Ok-clause-prepared g c = λ most now_faults old_faults m some run own
       free = kind_entry part.kind _ c.requires.part.empty;
     } in
     rw (e, c.rest.ensures.value) (prepared (g.S.Storage.features c.args.storage.now) old_faults now_faults (g.S.Storage.bytes c.args.storage.now) (g.S.Storage.bytes c.copy_round.new.storage) part.size part.block.length _ _ _ w c.requires.idle.ready.positive c.requires.idle.exact.covers apart c.take.ensures.added
-    (lent g.B.LowerLayer.as_layer_below c.args.below).at (is_absent part.kind) part.overwrite (empty_absent part.kind _ c.requires.part.empty) (empty_zero part.kind _ c.requires.part.empty) c.in-Ok.ensures.copied
+    (lent g.B.LowerLayer.as_layer_below c.args.below).at (is_absent part.kind) part.overwrite (lent g.B.LowerLayer.as_layer_below c.args.below).tells_bytes (empty_absent part.kind _ c.requires.part.empty) (empty_zero part.kind _ c.requires.part.empty) c.in-Ok.ensures.copied
     part.offset most m refl some run own.storage (rw c.rest.ensures.value at own.offset) own.run own.state)
 
 pub returns-in-Ok-clause-unchanged : goal.returns-in-Ok-clause-unchanged
@@ -266,3 +270,24 @@ pub returns-in_err-number-clause-unchanged : goal.returns-in_err-number-clause-u
 returns-in_err-number-clause-unchanged g c = λ now_faults old_faults waiting.
     let same = c.in_err-number.ensures.unchanged in
     rw (same.0, same.2) (search rules)
+
+pub returns-then-not-fits_next-clause-copies : goal.returns-then-not-fits_next-clause-copies
+returns-then-not-fits_next-clause-copies g c =
+    let part = c.args.part in
+    none_taken g.S.Storage.features g.S.Storage.bytes g.S.Storage.fault_count g.S.Storage.work g.S.Storage.maintenance (lent g.B.LowerLayer.as_layer_below c.args.below) (is_absent part.kind) part.overwrite (entries_of c.args.table.now) (count_of c.args.table.now) part.block.length part.size part.offset part.run c.args.storage.now (Err Error.WrapAround) refl
+
+pub returns-in_err-number-clause-copies : goal.returns-in_err-number-clause-copies
+returns-in_err-number-clause-copies g c =
+    let part = c.args.part in
+    let p = err_from_is_err_and c.from_residual.result c.from_residual.ensures.1 in
+    rw (p.1) (none_taken g.S.Storage.features g.S.Storage.bytes g.S.Storage.fault_count g.S.Storage.work g.S.Storage.maintenance (lent g.B.LowerLayer.as_layer_below c.args.below) (is_absent part.kind) part.overwrite (entries_of c.args.table.now) (count_of c.args.table.now) part.block.length part.size part.offset part.run c.args.storage.now (Err (p.0)) refl)
+
+pub returns-in-Ok-clause-copies : goal.returns-in-Ok-clause-copies
+returns-in-Ok-clause-copies g c =
+    let part = c.args.part in
+    round_taken g.S.Storage.features g.S.Storage.bytes g.S.Storage.fault_count g.S.Storage.work g.S.Storage.maintenance (lent g.B.LowerLayer.as_layer_below c.args.below) (is_absent part.kind) part.overwrite (entries_of c.args.table.now) (count_of c.args.table.now) part.block.length part.size part.offset part.run c.in_ok-number.number c.args.storage.now _ (Ok tt) c.in_ok-number.ensures.lowest c.in-Ok.ensures.copies
+
+pub returns-in-Err-clause-copies : goal.returns-in-Err-clause-copies
+returns-in-Err-clause-copies g c =
+    let part = c.args.part in
+    round_taken g.S.Storage.features g.S.Storage.bytes g.S.Storage.fault_count g.S.Storage.work g.S.Storage.maintenance (lent g.B.LowerLayer.as_layer_below c.args.below) (is_absent part.kind) part.overwrite (entries_of c.args.table.now) (count_of c.args.table.now) part.block.length part.size part.offset part.run c.in_ok-number.number c.args.storage.now _ (Err c.in-Err.e) c.in_ok-number.ensures.lowest c.in-Err.ensures.copies

@@ -84,25 +84,25 @@ returns-clause-cause g c = CountsFaults_ok _ _ _ _ _ c.write_zeroes.ensures.caus
 
 pub returns-clause-performed : goal.returns-clause-performed
 returns-clause-performed g c =
-    part_zeroed g.S.Storage.maintenance g.S.Storage.work (g.S.Storage.features c.args.storage.now) c.zero_align-align.result c.args.offset c.args.count c.in-Some.start c.in-Some.end _ _ c.write_zeroes.result _ c.zero_align-align.ensures.value c.in-Some.ensures
+    part_zeroed g.S.Storage.features g.S.Storage.bytes g.S.Storage.maintenance g.S.Storage.work (g.S.Storage.features c.args.storage.now) c.zero_align-align.result c.args.offset c.args.count c.in-Some.start c.in-Some.end _ _ c.write_zeroes.result _ c.zero_align-align.ensures.value c.in-Some.ensures
     (omega (arith, c.if-end-start.false)) c.write_zeroes.ensures.performed (rw c.in_ok-write_zeroes.was refl)
 
 pub returns-in_err-write_zeroes-clause-performed : goal.returns-in_err-write_zeroes-clause-performed
 returns-in_err-write_zeroes-clause-performed g c =
     let p = err_from_is_err_and c.from_residual.result c.from_residual.ensures.1 in
-    part_zeroed g.S.Storage.maintenance g.S.Storage.work (g.S.Storage.features c.args.storage.now) c.zero_align-align.result c.args.offset c.args.count c.in-Some.start c.in-Some.end _ _ c.write_zeroes.result _ c.zero_align-align.ensures.value c.in-Some.ensures
+    part_zeroed g.S.Storage.features g.S.Storage.bytes g.S.Storage.maintenance g.S.Storage.work (g.S.Storage.features c.args.storage.now) c.zero_align-align.result c.args.offset c.args.count c.in-Some.start c.in-Some.end _ _ c.write_zeroes.result _ c.zero_align-align.ensures.value c.in-Some.ensures
     (omega (arith, c.if-end-start.false)) c.write_zeroes.ensures.performed (rw (c.in_err-write_zeroes.was, p.1, p.2) refl)
 
 pub returns-in_default-clause-performed : goal.returns-in_default-clause-performed
 returns-in_default-clause-performed g c =
     let f = g.S.Storage.features c.args.storage.now in
-    nothing_zeroed _ _ f _ _ _ (wraps_without_part f.zero_align c.args.offset c.args.count c.requires (rw c.zero_align-align.ensures.value at c.in_default.ensures))
+    nothing_zeroed _ _ _ _ f _ _ _ (wraps_without_part f.zero_align c.args.offset c.args.count c.requires (rw c.zero_align-align.ensures.value at c.in_default.ensures))
 
 pub returns-then-end-start-clause-performed : goal.returns-then-end-start-clause-performed
 returns-then-end-start-clause-performed g c =
     let p = c.in-Some.ensures in
     let q : IsAlignedPart (g.S.Storage.features c.args.storage.now).zero_align c.args.offset c.args.count c.in-Some.start c.in-Some.end = rw c.zero_align-align.ensures.value at p in
-    nothing_zeroed _ _ (g.S.Storage.features c.args.storage.now) _ _ _ (omega (arith, q.is_start, q.is_end, c.if-end-start.true))
+    nothing_zeroed _ _ _ _ (g.S.Storage.features c.args.storage.now) _ _ _ (omega (arith, q.is_start, q.is_end, c.if-end-start.true))
 
 pub returns-clause-outside : goal.returns-clause-outside
 returns-clause-outside g c = λ size.

@@ -204,10 +204,14 @@ fn special_bytes_are_read_where_they_can_be(rt: HostRuntime) {
 }
 
 /// Above 512 bytes 11.
-static KEPT: [(Call, Answer); 3] = [
+static KEPT: [(Call, Answer); 4] = [
     (Call::Write(0, &[7]), Answer::Refused(Error::ReadOnly)),
     (Call::Read(0, &[0x11; 2]), Answer::Done),
     (Call::ReadBelow(0, &[0x11; 2]), Answer::Done),
+    (
+        Call::Print("pattern[512B] over raw[mem:[512B]]"),
+        Answer::Is(true),
+    ),
 ];
 
 fn check_a_pattern_is_not_written_through(rt: &impl Abort, alloc: Global) {
@@ -225,7 +229,10 @@ static CHAIN: [(Call, Answer); 5] = [
     (Call::Map(14, 4, "100000/0:0xe/rw"), Answer::Length(2)),
     (Call::Depth, Answer::Length(100_000)),
     (Call::Aligns, Answer::Aligns(1, 1)),
-    (Call::Print("pattern[16B]"), Answer::Is(true)),
+    (
+        Call::Print("pattern[16B] over pattern[16B]"),
+        Answer::Is(true),
+    ),
 ];
 
 fn check_a_long_chain_needs_no_stack(rt: &impl Abort, alloc: Global) {

@@ -337,7 +337,10 @@ static LAYERS: [(Call, Answer); 14] = [
     (Call::Read(1, &[8, 8]), DONE),
     (Call::Flush, DONE),
     (Call::Depth, Answer::Length(1)),
-    (Call::Print("sparse[mem:[8B], mem:[8B]]"), Answer::Is(true)),
+    (
+        Call::Print("sparse[mem:[8B], mem:[8B]] over sparse[mem:[8B], mem:[8B]]"),
+        Answer::Is(true),
+    ),
 ];
 
 fn check_an_image_above_another(rt: &impl Abort, alloc: Global) {

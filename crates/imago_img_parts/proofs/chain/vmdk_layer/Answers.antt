@@ -24,10 +24,10 @@ returns-clause-layer g c = λ files known len.
     let first : files (path_at own 0) ≡ files path = ap (λ (ps : List (List ℕ)). files (path_at ps 0)) named in
     let reading : reading_of (not c.args.how.strict) (files path) ≡ Ok (extents_in v, v.size) =
     subst (λ (xs : List ℕ). reading_of (not c.args.how.strict) xs ≡ Ok (extents_in v, v.size)) is
-    (subst (λ (b : Bool). reading_of b (loaded_bytes v.descriptor) ≡ Ok (extents_in v, v.size)) keys v.read) in (
+    (subst (λ (b : Bool). reading_of b (loaded_bytes v.descriptor) ≡ Ok (extents_in v, v.size)) keys (v.read refl)) in (
       described_place (not c.args.how.strict) (storages_by own files 0),
       (extents_in v, v.size, reading, named, c.in_ok-driver.ensures.names, refl, refl),
       sym v.sized ∙ sym (ap size_read reading),
       λ bytes is_first all. vmdk_same (not c.args.how.strict) v.accepts_unknown_keys held (storages_by own files 0) bytes _ keys
-          c.places_of_bytes.ensures c.same_stands.ensures (first ∙ sym is) (all refl),
+          (c.places_of_bytes.ensures refl) c.same_stands.ensures (first ∙ sym is) (all refl),
     )

@@ -1,4 +1,4 @@
-use Rattle.std.proofs.Common.{map}
+use Rattle.std.proofs.Common.{map, refl}
 use Rattle.std.specs.String.{string_bytes}
 use Rattle.imago_loaded.specs.Loaded.{loaded_bytes}
 use Rattle.imago_img_parts.proofs.Described.{described_image}
@@ -12,6 +12,6 @@ returns-clause-image g c =
       c.in_ok-driver.ensures.text,
       described_image c.args.how.strict c.args.how.allow_outside (g.H.Host.contents c.args.host.now)
           c.args.path.now v c.in_ok-size.size (map string_bytes file.paths.items) c.in_ok-size.pieces.items
-          c.in_ok-driver.ensures.keys c.in_ok-size.ensures.size v.read
-          c.in_ok-driver.ensures.paths c.in_ok-driver.ensures.names c.in_ok-size.ensures.pieces,
+          c.in_ok-driver.ensures.keys c.in_ok-size.ensures.size (v.read refl)
+          c.in_ok-driver.ensures.paths c.in_ok-driver.ensures.names (λ bytes same. c.in_ok-size.ensures.pieces bytes refl same),
     )

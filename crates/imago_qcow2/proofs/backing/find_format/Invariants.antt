@@ -1,9 +1,10 @@
 use Rattle.std.proofs.Common.{◌-◌, ◌≡◌}
+use Rattle.std.specs.Prelude.{IsTrue}
 use Rattle.imago_qcow2.specs.Backing.{format_from}
 use Rattle.imago_qcow2.proofs.backing.find_format.Given as goal
 
 abbrev pub invariant-loop-at : goal.invariant-loop-at
-invariant-loop-at g l = format_from (g.S.Storage.bytes l.storage) l.at l.end ≡ format_from (g.S.Storage.bytes l.storage) l.start l.end
+invariant-loop-at g l = IsTrue (g.S.Storage.features l.storage).tells_bytes → format_from (g.S.Storage.bytes l.storage) l.at l.end ≡ format_from (g.S.Storage.bytes l.storage) l.start l.end
 
 abbrev pub decreases-loop-at : goal.decreases-loop-at
 decreases-loop-at g l = l.end - l.at

@@ -1,8 +1,6 @@
-use Rattle.std.proofs.Common.{◌≡◌, ◌+◌, ◌*◌, ◌<◌, ◌≤◌, ◌++◌, ◌∷◌, [], ap, sym, ◌∙◌, length, length-append, arith}
+use Rattle.std.proofs.Common.{◌≡◌, ◌+◌, ◌*◌, ◌≤◌, ◌++◌, ◌∷◌, [], ap, sym, ◌∙◌, length, length-append, arith}
 use Rattle.std.proofs.lemmas.Result.{err_from_is_err_and}
-use Rattle.imago_qcow2.specs.Entry.{cluster_length, table_of}
-use Rattle.imago_qcow2.specs.Opening.{table_count}
-use Rattle.imago_qcow2.specs.Tables.{IsHeld, AreHeld}
+use Rattle.imago_qcow2.specs.Tables.{IsHeld, AreHeld, says_entry}
 use Rattle.imago_qcow2.proofs.TableSteps.{says_is, table_refused, held_more}
 use Rattle.imago_qcow2.proofs.table.hold_all.Goals as goal
 
@@ -10,23 +8,24 @@ pub returns-in_err-hold-clause-refusals : goal.returns-in_err-hold-clause-refusa
 returns-in_err-hold-clause-refusals g c =
     let B = g.S.Storage.bytes c.args.storage.now in
     let inside : 8 * c.loop-i.i + 8 ≤ length c.args.entries.now = omega (arith, c.loop-i-test.true) in
-    let below : c.loop-i.i < table_count B = omega (arith, c.loop-i-test.true, c.requires.whole) in
-    let says = says_is B c.args.entries.now c.loop-i.i c.args.file c.args.cluster c.number64.result c.table_in-says.result c.requires.read inside c.requires.file c.requires.cluster c.number64.ensures c.table_in-says.ensures.says in
+    let says = says_is B c.args.entries.now c.loop-i.i c.args.file c.args.cluster c.number64.result c.table_in-says.result c.requires.file c.number64.ensures c.table_in-says.ensures.says in
     let h = c.in_err-hold.ensures.refusals in
     let p = err_from_is_err_and c.from_residual.result c.from_residual.ensures.1 in
-    rw (p.1, p.2) (table_refused (g.S.Storage.features c.args.storage.now) B c.loop-i.i (h.0) c.args.cluster c.in_err-hold.field-0.0 below c.requires.cluster (sym says ∙ h.1) (h.2))
+    rw (p.1, p.2) (table_refused (g.S.Storage.features c.args.storage.now) B c.args.cluster c.args.entries.now c.loop-i.i (h.0) c.in_err-hold.field-0.0 inside (sym says ∙ h.1) (h.2))
 
 pub loop-i-preserved : goal.loop-i-preserved
 loop-i-preserved g c =
+    let F = g.S.Storage.features c.args.storage.now in
     let B = g.S.Storage.bytes c.args.storage.now in
+    let entries = c.args.entries.now in
+    let cluster = c.args.cluster in
     let xs = c.loop-i.l1.items in
     let t = c.in_ok-hold.field-0 in
-    let inside : 8 * c.loop-i.i + 8 ≤ length c.args.entries.now = omega (arith, c.loop-i-test.true) in
-    let says = says_is B c.args.entries.now c.loop-i.i c.args.file c.args.cluster c.number64.result c.table_in-says.result c.requires.read inside c.requires.file c.requires.cluster c.number64.ensures c.table_in-says.ensures.says in
+    let says = says_is B entries c.loop-i.i c.args.file cluster c.number64.result c.table_in-says.result c.requires.file c.number64.ensures c.table_in-says.ensures.says in
     let count : length xs ≡ c.loop-i.i = c.loop-i.invariant.count in
-    let held : IsHeld B c.args.cluster c.hold.new.loaded.tables.items c.table_in-says.result t = c.in_ok-hold.ensures.held in
-    let here : IsHeld B (cluster_length B) c.hold.new.loaded.tables.items (table_of B (length xs)) t = rw (count, ← says, ← c.requires.cluster) held in
-    let more : AreHeld B (xs ++ t ∷ []) c.hold.new.loaded.tables.items = held_more B xs c.loop-i.loaded.tables.items c.hold.new.loaded.tables.items t c.in_ok-hold.ensures.kept c.loop-i.invariant.held here in
+    let held : IsHeld F B cluster c.hold.new.loaded.tables.items c.table_in-says.result t = c.in_ok-hold.ensures.held in
+    let here : IsHeld F B cluster c.hold.new.loaded.tables.items (says_entry B cluster entries (length xs)) t = rw (count, ← says) held in
+    let more : AreHeld F B cluster entries (xs ++ t ∷ []) c.hold.new.loaded.tables.items = held_more F B cluster entries xs c.loop-i.loaded.tables.items c.hold.new.loaded.tables.items t c.in_ok-hold.ensures.kept c.loop-i.invariant.held here in
     let items : c.push.new.self.items ≡ xs ++ t ∷ [] = c.in_ok-push.ensures.items in
     record {
       count = omega (arith, ap length items, length-append xs (t ∷ []), count);

@@ -12,8 +12,8 @@ read_within-requires-clause-aligned g c =
     b.last (omega (arith, b.fits, c.if-whole-buf.false))
 
 pub returns-clause-bytes : goal.returns-clause-bytes
-returns-clause-bytes g c =
+returns-clause-bytes g c tells =
     let whole = c.whole_blocks-whole.result in
     let at : c.args.start + whole + 0 ≡ c.args.start + whole = omega arith in
     read_then c.read_within.result (g.S.Storage.bytes c.args.storage.now) c.args.start whole c.pure_readv-2.new.buf c.read_within.new.buf
-    (c.pure_readv-2.auto.buf ∙ c.split_at_mut-blocks.ensures.front_len) c.in_ok-pure_readv.ensures.bytes (rw (at) at c.read_within.ensures.bytes)
+    (c.pure_readv-2.auto.buf ∙ c.split_at_mut-blocks.ensures.front_len) (c.in_ok-pure_readv.ensures.bytes tells) (rw (at) at (c.read_within.ensures.bytes tells))

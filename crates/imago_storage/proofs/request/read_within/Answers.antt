@@ -3,4 +3,4 @@ use Rattle.std.proofs.lemmas.Grind.{common_steps}
 use Rattle.imago_storage.proofs.request.read_within.Goals as goal
 
 pub returns-clause-bytes : goal.returns-clause-bytes
-returns-clause-bytes g c = grind (arith, common_steps)
+returns-clause-bytes g c tells = grind (arith, common_steps)

@@ -6,6 +6,7 @@ use Rattle.imago_storage.proofs.Outcomes.{RequestMayRunOut_more}
 use Rattle.imago_storage.proofs.Padding.{len_positive, next_one}
 use Rattle.imago_storage.proofs.Work.{adds_more, adds_then}
 use Rattle.imago_storage.proofs.Writes.{length-rest, first_refused, second_written}
+use Rattle.imago_storage.proofs.Steps.{no_head, within, first_part_refused, first_part_then, passed_on}
 use Rattle.imago_storage.proofs.request.write_parts.Goals as goal
 
 pub write_blocks-requires : goal.write_blocks-requires
@@ -82,3 +83,21 @@ returns-clause-memory g c = λ m.
     let v = rw (c.update_block-2.auto.block, length-rest c.args.source.now _) at (c.write_blocks-2.ensures.memory m) in
     let end : c.args.start + a + next_multiple_of n a ≤ c.args.start + c.args.len = omega (arith, (part_facts c.requires).rest_ends c.if-source-align.false) in
     RequestMayRunOut_more _ _ _ _ _ _ c.in_ok-update_block.ensures.features c.in_ok-update_block.ensures.written.no_shorter end v
+
+pub returns-then-head-eq0-clause-performed : goal.returns-then-head-eq0-clause-performed
+returns-then-head-eq0-clause-performed g c =
+    rw (no_head (length c.args.block.now) (c.args.offset - c.args.start) c.args.offset c.args.source.now c.if-head-eq0.true) c.write_blocks.ensures.performed
+
+pub returns-then-source-align-clause-performed : goal.returns-then-source-align-clause-performed
+returns-then-source-align-clause-performed g c =
+    within _ _ _ _ c.args.source.now c.requires (omega (arith, c.if-head-eq0.false)) c.if-source-align.true c.update_block.ensures.performed
+
+pub returns-in_err-update_block-clause-performed : goal.returns-in_err-update_block-clause-performed
+returns-in_err-update_block-clause-performed g c =
+    first_part_refused _ _ _ _ c.args.source.now c.requires (omega (arith, c.if-head-eq0.false)) (omega (arith, c.if-source-align.false)) c.update_block-2.ensures.performed c.in_err-update_block.was (passed_on _ _ _ c.in_err-update_block.was c.from_residual.ensures.1)
+
+pub returns-clause-performed : goal.returns-clause-performed
+returns-clause-performed g c =
+    let head = c.args.offset - c.args.start in
+    first_part_then _ _ _ _ c.args.source.now c.requires c.write_blocks-2.new.storage c.write_blocks-2.result (omega (arith, c.if-head-eq0.false)) (omega (arith, c.if-source-align.false)) c.update_block-2.ensures.performed c.in_ok-update_block.was
+    (rw (c.update_block-2.auto.block, take_rest c.args.source.now (length c.args.block.now - head)) at c.write_blocks-2.ensures.performed)

@@ -1,13 +1,16 @@
-use Rattle.std.proofs.Common.{◌≡◌, ◌+◌, ◌-◌, ◌≤◌, length, arith, refl}
+use Rattle.std.proofs.Common.{◌≡◌, ◌+◌, ◌-◌, ◌≤◌, length, arith, refl, ap, inr, [], ◌∷◌}
 use Rattle.std.proofs.lemmas.Result.{err_from_is_err_and}
 use Rattle.imago_storage.specs.Features.{len_align, zero_piece}
-use Rattle.imago_storage.specs.Zeroes.{IsHead}
+use Rattle.imago_storage.specs.Zeroes.{IsHead, IsZeroesWritten}
 use Rattle.imago_storage.proofs.Outcomes.{OnOk_map, RequestMayRunOut_more, same_refusal, not_refused}
 use Rattle.imago_storage.proofs.Padding.{len_positive}
 use Rattle.imago_storage.proofs.Work.{write_loose, edge_alone, edge_then_pieces}
 use Rattle.imago_storage.proofs.ZeroPieces.{piece_whole, align_power}
 use Rattle.imago_storage.proofs.ZeroRanges.{HasZeroed_unchanged, HasZeroed_refused, HasZeroed_next, ZeroedPart_longer}
 use Rattle.imago_storage.proofs.ZeroWraps.{data_from_start}
+use Rattle.imago_storage.proofs.Outcomes.{CountsFaults_then}
+use Rattle.imago_storage.proofs.Steps.{passed_on}
+use Rattle.imago_storage.proofs.Orders.{one_made, one_refused, both_made, data_in_pieces, data_then_pieces, data_alone}
 use Rattle.imago_storage.proofs.zeroes.zero_by_writes.Goals as goal
 
 pub returns-in_err-stock-clause-written : goal.returns-in_err-stock-clause-written
@@ -163,3 +166,36 @@ returns-clause-work g c =
     edge_then_pieces (len_align f) (zero_piece f) c.args.count c.head_length-first.result h.within
     (write_loose f c.args.offset c.head_length-first.result lawful c.in_ok-zero_from.ensures.work)
     (rw (c.in_ok-zero_from.ensures.features, piece) at c.zero_pieces-2.ensures.work)
+
+pub returns-then-remainder-eq0-clause-performed : goal.returns-then-remainder-eq0-clause-performed
+returns-then-remainder-eq0-clause-performed g c =
+    let f = g.S.Storage.features c.args.storage.now in
+    let piece : c.max-piece.result ≡ zero_piece f = rw (c.max-piece.ensures, c.length_align-align.ensures.value) refl in
+    inr (rw (data_in_pieces f c.args.offset c.args.count _ c.head_length-first.ensures.exact c.if-first-eq0.true) (rw piece at c.zero_pieces.ensures.performed))
+
+pub returns-then-first-eq0-2-clause-performed : goal.returns-then-first-eq0-2-clause-performed
+returns-then-first-eq0-2-clause-performed g c =
+    let f = g.S.Storage.features c.args.storage.now in
+    let piece : c.max-piece.result ≡ zero_piece f = rw (c.max-piece.ensures, c.length_align-align.ensures.value) refl in
+    inr (rw (data_in_pieces f c.args.offset c.args.count _ c.head_length-first.ensures.exact c.if-first-eq0-2.true) (rw piece at c.zero_pieces-then-first-eq0-2.ensures.performed))
+
+pub returns-in_err-zero_from-clause-performed : goal.returns-in_err-zero_from-clause-performed
+returns-in_err-zero_from-clause-performed g c =
+    let f = g.S.Storage.features c.args.storage.now in
+    let same = passed_on _ _ _ c.in_err-zero_from.was c.from_residual-in_err-zero_from.ensures.1 in
+    inr (rw (data_then_pieces f c.args.offset c.args.count _ c.head_length-first.ensures.exact (omega arith)) (one_refused (IsZeroesWritten g.S.Storage.features g.S.Storage.bytes g.S.Storage.maintenance) _ _ _ c.zero_from.ensures.performed c.in_err-zero_from.was same))
+
+pub returns-then-first-count-clause-performed : goal.returns-then-first-count-clause-performed
+returns-then-first-count-clause-performed g c =
+    let f = g.S.Storage.features c.args.storage.now in
+    inr (rw (data_alone f c.args.offset c.args.count _ c.head_length-first.ensures.exact (omega arith) c.if-first-count.true) (one_made (IsZeroesWritten g.S.Storage.features g.S.Storage.bytes g.S.Storage.maintenance) c.args.offset c.head_length-first.result (rw c.in_ok-zero_from.was at c.zero_from.ensures.performed)))
+
+pub returns-clause-cause : goal.returns-clause-cause
+returns-clause-cause g c = CountsFaults_then _ _ _ _ _ _ _ (ap (λ f. f.is_reliable) c.in_ok-zero_from.ensures.features) c.zero_from.ensures.cause c.zero_pieces-2.ensures.cause
+
+pub returns-clause-performed : goal.returns-clause-performed
+returns-clause-performed g c =
+    let f = g.S.Storage.features c.args.storage.now in
+    let piece : c.max-piece.result ≡ zero_piece f = rw (c.max-piece.ensures, c.length_align-align.ensures.value) refl in
+    let first = c.head_length-first.result in
+    inr (rw (data_then_pieces f c.args.offset c.args.count first c.head_length-first.ensures.exact (omega arith)) (both_made (IsZeroesWritten g.S.Storage.features g.S.Storage.bytes g.S.Storage.maintenance) ((c.args.offset, first) ∷ []) _ _ _ _ _ _ _ (one_made (IsZeroesWritten g.S.Storage.features g.S.Storage.bytes g.S.Storage.maintenance) c.args.offset first c.zero_from.ensures.performed) c.in_ok-zero_from.was (rw piece at c.zero_pieces-2.ensures.performed)))

@@ -1,4 +1,4 @@
-use Rattle.std.proofs.Common.{◌≡◌, ◌+◌, ◌-◌, ◌≤◌, length, arith, inl, inr, refl}
+use Rattle.std.proofs.Common.{◌≡◌, ◌+◌, ◌-◌, ◌≤◌, length, arith, inl, inr, refl, ap}
 use Rattle.std.proofs.lemmas.Result.{err_from_is_err_and}
 use Rattle.imago_storage.specs.Features.{len_align, zero_piece}
 use Rattle.imago_storage.specs.Padding.{Wraps}
@@ -6,6 +6,9 @@ use Rattle.imago_storage.proofs.Outcomes.{RequestMayRunOut_more, same_refusal, n
 use Rattle.imago_storage.proofs.Work.{write_loose, edge_alone, both_edges}
 use Rattle.imago_storage.proofs.ZeroRanges.{HasZeroed_refused, HasZeroed_before, HasZeroed_behind, ZeroedPart_longer}
 use Rattle.imago_storage.proofs.ZeroWraps.{edge_wraps, edge_fits}
+use Rattle.imago_storage.proofs.Outcomes.{CountsFaults_then}
+use Rattle.imago_storage.proofs.Steps.{passed_on}
+use Rattle.imago_storage.proofs.Orders.{both_made, first_refused, zeroed_range}
 use Rattle.imago_storage.proofs.zeroes.zero_edges.Goals as goal
 
 pub returns-in_err-zero_from-clause-written : goal.returns-in_err-zero_from-clause-written
@@ -76,3 +79,15 @@ returns-clause-work g c =
     let tail = c.args.range.offset + c.args.range.count - c.args.range.end in
     let second = rw c.in_ok-zero_from.ensures.features at c.zero_from-2.ensures.work in
     both_edges (len_align f) (zero_piece f) head tail (omega arith) (write_loose f c.args.range.offset head lawful c.in_ok-zero_from.ensures.work) (write_loose f c.args.range.end tail lawful second)
+
+pub returns-clause-cause : goal.returns-clause-cause
+returns-clause-cause g c = CountsFaults_then _ _ _ _ _ _ _ (ap (λ f. f.is_reliable) c.in_ok-zero_from.ensures.features) c.zero_from.ensures.cause c.zero_from-2.ensures.cause
+
+pub returns-in_err-zero_from-clause-performed : goal.returns-in_err-zero_from-clause-performed
+returns-in_err-zero_from-clause-performed g c =
+    let same = passed_on _ _ _ c.in_err-zero_from.was c.from_residual.ensures.1 in
+    rw same (first_refused _ _ _ _ _ _ _ (zeroed_range _ _ _ _ _ c.zero_from.ensures.performed) c.in_err-zero_from.was)
+
+pub returns-clause-performed : goal.returns-clause-performed
+returns-clause-performed g c =
+    both_made _ _ _ _ _ _ _ _ _ (zeroed_range _ _ _ _ _ c.zero_from.ensures.performed) c.in_ok-zero_from.was (zeroed_range _ _ _ _ _ c.zero_from-2.ensures.performed)

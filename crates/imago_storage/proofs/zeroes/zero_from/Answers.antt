@@ -30,3 +30,13 @@ returns-clause-memory g c = λ m.
     let longer : length xs ≤ length xs = omega arith in
     let end : padded_end f c.args.offset n ≤ c.args.offset + n + (len_align f - 1) = omega (arith, near) in
     RequestMayRunOut_more f f _ _ _ _ refl longer end (rw size at (c.write_by.ensures.memory m))
+
+pub returns-clause-performed : goal.returns-clause-performed
+returns-clause-performed g c =
+    let n = c.args.count in
+    let size : length (take n c.args.zeroes.now) ≡ n = length-take-le n c.args.zeroes.now c.requires.zeroes.enough in
+    let zeroes : take n c.args.zeroes.now ≡ replicate {A = ℕ} n 0 = zero_front c.args.zeroes.now _ n c.requires.zeroes.zeroes c.requires.zeroes.enough in
+    record {
+      made = λ fits. rw zeroes at (c.write_by.ensures.performed (rw size fits));
+      wraps = λ wraps. c.write_by.ensures.nothing (rw size wraps);
+    }

@@ -23,7 +23,10 @@ returns-then-range g c =
           let same = part_of_aligned _ _ _ _ _ (power_positive _ (g.met.S.Storage.lawful c.args.storage.now).zero) c.requires.some aligned p in
           absurd (omega (arith, same.0, same.1, c.if-range.true, c.requires.some));
       early = λ m none. shows_same _ _ _ _ _ (e.early m (λ may. none (inl may)));
-      performed = λ some fits. inr (inr (inr (λ has. has_no_part (g.S.Storage.features c.args.storage.now) _ _ _ _ p c.if-range.true has, e.work)));
+      performed = λ some fits. elim e.performed [
+        | inl none ↦ inl none
+        | inr made ↦ inr (inr (inr (λ has. has_no_part (g.S.Storage.features c.args.storage.now) _ _ _ _ p c.if-range.true has, e.work, made)))
+      ];
     }
 
 pub returns-in-Err-Unsupported : goal.returns-in-Err-Unsupported
@@ -43,7 +46,7 @@ returns-in-Err-Unsupported g c =
       cause = CountsFaults_then _ _ _ _ _ _ _ refl e.cause d.cause;
       memory = λ m aligned in_place. absurd ((e.unsupported is).offered.not_in_place in_place);
       early = λ m none. shows_still _ _ _ _ _ _ (e.unsupported is).unchanged ((rw (e.unsupported is).unchanged.bytes at d.early) m (λ may. none (inl may)));
-      performed = λ some fits. inr (inr (inl (has_part (g.S.Storage.features c.args.storage.now) _ _ _ _ p (omega arith), part_then_data _ _ _ _ _ _ _ _ p _ _ _ _ is e.performed d.work)));
+      performed = λ some fits. inr (inr (inl (has_part (g.S.Storage.features c.args.storage.now) _ _ _ _ p (omega arith), part_then_data _ _ _ _ _ _ _ _ _ _ p _ _ _ _ _ is e.performed d.work d.performed)));
     }
 
 pub returns-in-Err : goal.returns-in-Err
@@ -63,7 +66,7 @@ returns-in-Err g c =
           let same = part_of_aligned _ _ _ _ _ (power_positive _ (g.met.S.Storage.lawful c.args.storage.now).zero) c.requires.some aligned p in
           e.memory m same.0 same.1;
       early = e.early;
-      performed = λ some fits. part_and_edges _ _ _ _ _ _ _ _ p _ _ _ (omega arith) e.performed;
+      performed = λ some fits. part_and_edges _ _ _ _ _ _ _ _ _ _ p _ _ _ (omega arith) e.performed;
     }
 
 pub returns-in-Ok : goal.returns-in-Ok
@@ -81,5 +84,5 @@ returns-in-Ok g c =
       cause = e.cause;
       memory = λ m. absurd cc;
       early = λ m. absurd cc;
-      performed = λ some fits. part_and_edges _ _ _ _ _ _ _ _ p _ _ _ (omega arith) e.performed;
+      performed = λ some fits. part_and_edges _ _ _ _ _ _ _ _ _ _ p _ _ _ (omega arith) e.performed;
     }

@@ -57,4 +57,4 @@ returns-then-range-2-clause-fits g c =
 pub returns-then-range-2-clause-performed : goal.returns-then-range-2-clause-performed
 returns-then-range-2-clause-performed g c =
     let last : c.args.range.end ≡ c.args.range.offset + c.args.range.count = cc in
-    inr (part_alone _ _ _ _ _ _ _ _ c.requires.part _ _ _ c.if-range.true last c.zero_aligned.ensures.performed)
+    inr (part_alone _ _ _ _ _ _ _ _ _ _ c.requires.part _ _ _ c.if-range.true last c.zero_aligned.ensures.performed)

@@ -7,6 +7,7 @@ use imago_storage::null::Null;
 use imago_storage::storage::is_alignment;
 use imago_test_storages::counting::{Counting, Counts};
 use imago_test_storages::faulty::{Faulty, Tear};
+use imago_test_storages::forgetful::Forgetful;
 use imago_test_storages::recording::{Log, Recorded, Recording};
 use std::alloc::Global;
 use std::process::Abort;
@@ -34,6 +35,10 @@ pub(super) enum Kind {
     Undiscarded,
     /// A storage that records, lent.
     Lent,
+    /// The same, behind reads that can't be relied on.
+    Untold,
+    /// A device that fails when it is told to, behind such reads.
+    UntoldFaulty,
 }
 
 /// A storage that calls are made on.
@@ -46,6 +51,8 @@ pub(super) enum Subject {
     Counting(Counting),
     Recording(Recording),
     Lent(Recording),
+    Untold(Recording),
+    UntoldFaulty(Faulty),
 }
 
 /// Bytes in memory under a name, with these alignments: of memory, of requests and of zero writes.
@@ -84,6 +91,8 @@ impl Subject {
             Kind::AsData => Subject::Recording(Recording::new(inner).with_zeroes_as_data()),
             Kind::Undiscarded => Subject::Recording(Recording::new(inner).without_discards()),
             Kind::Lent => Subject::Lent(Recording::new(inner)),
+            Kind::Untold => Subject::Untold(Recording::new(inner)),
+            Kind::UntoldFaulty => Subject::UntoldFaulty(Faulty::new(inner)),
         }
     }
 
@@ -97,6 +106,8 @@ impl Subject {
             Subject::Counting(storage) => make_on_counting(rt, alloc, storage, call),
             Subject::Recording(storage) => make_on_recording(rt, alloc, storage, call),
             Subject::Lent(storage) => make_on_lent(rt, alloc, storage, call),
+            Subject::Untold(storage) => make_on_untold(rt, alloc, storage, call),
+            Subject::UntoldFaulty(storage) => make_on_untold_faulty(rt, alloc, storage, call),
         }
     }
 
@@ -113,9 +124,13 @@ impl Subject {
         match self {
             Subject::Memory(storage) => storage.as_bytes(),
             Subject::Zeroes(_) => &[],
-            Subject::Faulty(storage) | Subject::LentFaulty(storage) => storage.as_bytes(),
+            Subject::Faulty(storage)
+            | Subject::LentFaulty(storage)
+            | Subject::UntoldFaulty(storage) => storage.as_bytes(),
             Subject::Counting(storage) => storage.as_bytes(),
-            Subject::Recording(storage) | Subject::Lent(storage) => storage.as_bytes(),
+            Subject::Recording(storage) | Subject::Lent(storage) | Subject::Untold(storage) => {
+                storage.as_bytes()
+            }
         }
     }
 
@@ -123,28 +138,36 @@ impl Subject {
     /// counted.
     pub(super) fn faults(&self, expected: u64) -> u64 {
         match self {
-            Subject::Faulty(storage) | Subject::LentFaulty(storage) => storage.faults(),
+            Subject::Faulty(storage)
+            | Subject::LentFaulty(storage)
+            | Subject::UntoldFaulty(storage) => storage.faults(),
             _ => expected,
         }
     }
 
     pub(super) fn arm(&mut self, rt: &impl Abort, pass: u64, tear: Tear) {
         match self {
-            Subject::Faulty(storage) | Subject::LentFaulty(storage) => storage.arm(pass, tear),
+            Subject::Faulty(storage)
+            | Subject::LentFaulty(storage)
+            | Subject::UntoldFaulty(storage) => storage.arm(pass, tear),
             _ => assert!(rt; false, "it never fails"),
         }
     }
 
     pub(super) fn refuse_resizes(&mut self, rt: &impl Abort, count: u64) {
         match self {
-            Subject::Faulty(storage) => storage.refuse_resizes(count),
+            Subject::Faulty(storage) | Subject::UntoldFaulty(storage) => {
+                storage.refuse_resizes(count);
+            }
             _ => assert!(rt; false, "it never fails"),
         }
     }
 
     pub(super) fn fail_reads(&mut self, rt: &impl Abort, fails: bool) {
         match self {
-            Subject::Faulty(storage) => storage.fail_reads(fails),
+            Subject::Faulty(storage) | Subject::UntoldFaulty(storage) => {
+                storage.fail_reads(fails);
+            }
             _ => assert!(rt; false, "it never fails"),
         }
     }
@@ -152,7 +175,9 @@ impl Subject {
     /// What reached it by the last call.
     pub(super) fn calls(&self, rt: &impl Abort) -> &[Recorded] {
         match self {
-            Subject::Recording(storage) | Subject::Lent(storage) => storage.calls(),
+            Subject::Recording(storage) | Subject::Lent(storage) | Subject::Untold(storage) => {
+                storage.calls()
+            }
             _ => {
                 assert!(rt; false, "it records nothing");
                 &[]
@@ -163,7 +188,9 @@ impl Subject {
     /// The shared reads that reached it by the last call.
     pub(super) fn shared_reads(&self, rt: &impl Abort) -> Log {
         match self {
-            Subject::Recording(storage) | Subject::Lent(storage) => storage.shared_reads(),
+            Subject::Recording(storage) | Subject::Lent(storage) | Subject::Untold(storage) => {
+                storage.shared_reads()
+            }
             _ => {
                 assert!(rt; false, "it records nothing");
                 Log::new()
@@ -219,4 +246,13 @@ fn make_on_lent(rt: &impl Abort, alloc: Global, storage: &mut Recording, call: C
     storage.clear();
     let mut lent = storage;
     make(rt, alloc, &mut lent, Some(NAME), call)
+}
+
+fn make_on_untold(rt: &impl Abort, alloc: Global, storage: &mut Recording, call: Call) -> Told {
+    storage.clear();
+    make(rt, alloc, &mut Forgetful::new(storage), Some(NAME), call)
+}
+
+fn make_on_untold_faulty(rt: &impl Abort, alloc: Global, storage: &mut Faulty, call: Call) -> Told {
+    make(rt, alloc, &mut Forgetful::new(storage), Some(NAME), call)
 }

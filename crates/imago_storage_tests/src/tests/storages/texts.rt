@@ -5,6 +5,7 @@ use imago_storage::mem::MemStorage;
 use imago_storage::null::Null;
 use imago_test_storages::counting::Counting;
 use imago_test_storages::faulty::Faulty;
+use imago_test_storages::forgetful::Forgetful;
 use imago_test_storages::recording::Recording;
 use std::alloc::Global;
 use std::fmt::Display;
@@ -51,6 +52,12 @@ fn check_other_storages_are_printed(rt: &impl Abort, alloc: Global) {
         alloc,
         &Faulty::new(zeroes(rt, alloc, 4)),
         "faulty[mem:[4B]]",
+    );
+    prints(
+        rt,
+        alloc,
+        &Forgetful::new(zeroes(rt, alloc, 4)),
+        "forgetful[mem:[4B]]",
     );
     prints(
         rt,

@@ -4,8 +4,8 @@ use Rattle.imago_test_tables.proofs.PrepareSteps.{copied_bytes, ext_refused}
 use Rattle.imago_test_tables.proofs.sparse.copy_shown.Goals as goal
 
 pub returns-in-Ok-clause-copied : goal.returns-in-Ok-clause-copied
-returns-in-Ok-clause-copied g c = λ k over.
-    if_ok c.write_bytes.result (λ x e. copied_bytes _ _ _ c.in-Ok.bytes.items c.args.stretch.offset c.args.stretch.count c.args.stretch.origin c.in-Ok.ensures.count c.in-Ok.ensures.bytes
+returns-in-Ok-clause-copied g c = λ k tells over.
+    if_ok c.write_bytes.result (λ x e. copied_bytes _ _ _ c.in-Ok.bytes.items c.args.stretch.offset c.args.stretch.count c.args.stretch.origin c.in-Ok.ensures.count (c.in-Ok.ensures.bytes tells)
     (rw c.deref.ensures.value at (ok_of x e (c.write_bytes.ensures.written k))))
 
 pub returns-in-Ok-clause-refusals : goal.returns-in-Ok-clause-refusals

@@ -1,17 +1,12 @@
-use Rattle.std.proofs.Common.{◌≡◌, ℕ, Bool, true, List, ◌∷◌, [], map, slice_index_or, Result, sym, ap, ◌∙◌}
-use Rattle.std.specs.String.{string_bytes}
+use Rattle.std.proofs.Common.{ℕ, List, ◌∷◌, [], map, slice_index_or, Result, sym, ap, ◌∙◌}
 use Rattle.imago_storage.specs.declared.error.Error.{Error}
 use Rattle.imago_vmdk.specs.declared.line.Extent.{Extent}
-use Rattle.imago_vmdk.specs.Vmdk.{vmdk_place}
 use Rattle.imago_vmdk.specs.Disk.{places_read}
-use Rattle.imago_vmdk.proofs.Disk.{places_with}
 use Rattle.imago_vmdk.proofs.laws.places_of_bytes.Goals as goal
 
 pub returns : goal.returns
-returns g c = λ p.
+returns g c = λ told p.
     let s = c.args.image.now in
-    let opened : s.opened ≡ true = c.requires in
     let bytes : ℕ → List ℕ = λ i. slice_index_or (g.S.Storage.bytes s.descriptor ∷ map g.S.Storage.bytes s.storages.items) i [] in
-    ap (λ (o : Bool). vmdk_place bytes o s.extents.items p) opened
-    ∙ sym (places_with string_bytes bytes 1 s.extents.items p)
-    ∙ ap (λ (r : Result (List (Extent (List ℕ)) × ℕ) Error). places_read bytes r p) (sym s.read)
+    c.places_of_extents.ensures p
+    ∙ ap (λ (r : Result (List (Extent (List ℕ)) × ℕ) Error). places_read bytes r p) (sym (s.read told))

@@ -29,13 +29,13 @@ loop-done-preserved g c =
     record {
       within = omega (arith, more.some.1, mid);
       bounded = grind (arith, common_steps);
-      values = has_more (disk_value g.D.FormatDriverInstance.view c.args.self.now) c.args.offset l.done (m - l.done) c.in_ok-done.field-0 l.buf c.read_chunk.new.buf (omega arith) more.some.1 l.invariant.values more.bytes;
+      values = λ tells. has_more (disk_value g.D.FormatDriverInstance.view c.args.self.now) c.args.offset l.done (m - l.done) c.in_ok-done.field-0 l.buf c.read_chunk.new.buf (omega arith) more.some.1 (l.invariant.values tells) (more.bytes tells);
       asked = made_more (rest_read its c.args.self.now c.args.offset m) m tt tt tt l.done l.invariant.asked c.in_ok-done.field-0 c.loop-done-test.true more.some.0 (part_read its c.args.self.now c.args.offset m l.done _ (Ok c.in_ok-done.field-0) (grind (arith, common_steps)) more.answered);
       once = once_more g.D.FormatDriverInstance.view c.args.self.now c.args.offset m l.done c.in_ok-done.field-0 _ more.whole l.invariant.once c.loop-done-test.true (grind (arith, common_steps));
     }
 
 pub returns-clause-bytes : goal.returns-clause-bytes
-returns-clause-bytes g c =
+returns-clause-bytes g c tells =
     let v = g.D.FormatDriverInstance.view in
     let s = c.args.self.now in
     let l = c.loop-done in
@@ -43,7 +43,7 @@ returns-clause-bytes g c =
     let same : l.done ≡ m = omega arith in
     let size = c.size-size.ensures in
     let law = image_is_layer v g.met.D.FormatDriverInstance.causes_lawful g.met.D.FormatDriverInstance.lawful s in
-    has_end (disk_value v s) c.args.offset m (length l.buf - m) l.buf c.clear.new.buf l.invariant.bounded c.clear.auto.buf refl (rw same at l.invariant.values) c.clear.ensures
+    has_end (disk_value v s) c.args.offset m (length l.buf - m) l.buf c.clear.new.buf l.invariant.bounded c.clear.auto.buf refl (rw same at (l.invariant.values tells)) c.clear.ensures
     (λ p h j. law.past p (omega (arith, c.part_inside-inside.ensures, size)))
 
 pub returns-in_err-done-clause-answered : goal.returns-in_err-done-clause-answered

@@ -4,6 +4,7 @@ use Rattle.imago_drivers.specs.Operation.{Grow}
 use Rattle.imago_access.specs.Chain.{backing}
 use Rattle.imago_access.proofs.Images.{lent_is}
 use Rattle.imago_access.proofs.SizeSteps.{grow_image, grown_by, idle_growth, read_only_resize}
+use Rattle.imago_access.proofs.Flat.{growth_listed}
 use Rattle.imago_access.proofs.access.FormatAccess.resize_grow.Goals as goal
 
 pub returns-clause-resized : goal.returns-clause-resized
@@ -27,3 +28,12 @@ returns-clause-performed g c =
 
 pub returns-then-new_size-size-clause-resized : goal.returns-then-new_size-size-clause-resized
 returns-then-new_size-size-clause-resized g c = idle_growth g.D.FormatDriverInstance.view c.args.self.now c.args.mode c.args.new_size c.in_ok-test_writable.ensures.passed (omega (arith, c.if-new_size-size.true))
+
+pub returns-clause-disk : goal.returns-clause-disk
+returns-clause-disk g c = λ keeps. growth_listed g.D.FormatDriverInstance.view g.met.D.FormatDriverInstance.lawful g.met.D.FormatDriverInstance.causes_lawful _ _ _ _ _ keeps (returns-clause-resized g c)
+
+pub returns-in_err-test_writable-clause-disk : goal.returns-in_err-test_writable-clause-disk
+returns-in_err-test_writable-clause-disk g c = λ keeps. growth_listed g.D.FormatDriverInstance.view g.met.D.FormatDriverInstance.lawful g.met.D.FormatDriverInstance.causes_lawful _ _ _ _ _ keeps (returns-in_err-test_writable-clause-resized g c)
+
+pub returns-then-new_size-size-clause-disk : goal.returns-then-new_size-size-clause-disk
+returns-then-new_size-size-clause-disk g c = λ keeps. growth_listed g.D.FormatDriverInstance.view g.met.D.FormatDriverInstance.lawful g.met.D.FormatDriverInstance.causes_lawful _ _ _ _ _ keeps (returns-then-new_size-size-clause-resized g c)

@@ -2,6 +2,7 @@ use Rattle.std.proofs.Common.{arith}
 use Rattle.std.proofs.lemmas.Result.{err_from_is_err_and}
 use Rattle.imago_drivers.specs.Operation.{Shrink}
 use Rattle.imago_access.proofs.SizeSteps.{shrink_image, cut_by, idle_cut, read_only_resize}
+use Rattle.imago_access.proofs.Flat.{cut_listed}
 use Rattle.imago_access.proofs.access.FormatAccess.resize_shrink.Goals as goal
 
 pub returns-clause-resized : goal.returns-clause-resized
@@ -20,3 +21,12 @@ returns-clause-performed g c = cut_by g.D.FormatDriverInstance.view g.D.FormatDr
 
 pub returns-then-size-new_size-clause-resized : goal.returns-then-size-new_size-clause-resized
 returns-then-size-new_size-clause-resized g c = idle_cut g.D.FormatDriverInstance.view c.args.self.now c.args.new_size c.in_ok-test_writable.ensures.passed (omega (arith, c.if-size-new_size.true))
+
+pub returns-clause-disk : goal.returns-clause-disk
+returns-clause-disk g c = λ keeps. cut_listed g.D.FormatDriverInstance.view g.met.D.FormatDriverInstance.lawful g.met.D.FormatDriverInstance.causes_lawful _ _ _ _ keeps (returns-clause-resized g c)
+
+pub returns-in_err-test_writable-clause-disk : goal.returns-in_err-test_writable-clause-disk
+returns-in_err-test_writable-clause-disk g c = λ keeps. cut_listed g.D.FormatDriverInstance.view g.met.D.FormatDriverInstance.lawful g.met.D.FormatDriverInstance.causes_lawful _ _ _ _ keeps (returns-in_err-test_writable-clause-resized g c)
+
+pub returns-then-size-new_size-clause-disk : goal.returns-then-size-new_size-clause-disk
+returns-then-size-new_size-clause-disk g c = λ keeps. cut_listed g.D.FormatDriverInstance.view g.met.D.FormatDriverInstance.lawful g.met.D.FormatDriverInstance.causes_lawful _ _ _ _ keeps (returns-then-size-new_size-clause-resized g c)

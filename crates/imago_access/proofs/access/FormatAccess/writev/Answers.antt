@@ -5,3 +5,6 @@ returns-clause-written g c = c.write.ensures.written
 
 pub returns-clause-performed : goal.returns-clause-performed
 returns-clause-performed g c = c.write.ensures.performed
+
+pub returns-clause-disk : goal.returns-clause-disk
+returns-clause-disk g c = c.write.ensures.disk

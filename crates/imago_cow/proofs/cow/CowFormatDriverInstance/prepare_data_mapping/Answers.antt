@@ -15,6 +15,7 @@ use Rattle.imago_cow.proofs.MapSteps.{number_ends}
 use Rattle.imago_cow.proofs.PrepareSteps.{counts_as}
 use Rattle.imago_cow.proofs.DriverSteps.{none_waits}
 use Rattle.imago_cow.proofs.ExistingSteps.{not_in_data, stands_prepared, prepared_existing}
+use Rattle.imago_cow.proofs.CopyCallSteps.{asked_none, found_in_data, copied_for}
 use Rattle.imago_cow.proofs.cow.CowFormatDriverInstance.prepare_data_mapping.Goals as goal
 
 pub returns-then-count-eq0-clause-call : goal.returns-then-count-eq0-clause-call
@@ -50,7 +51,7 @@ returns-in-Data-clause-prepared g c =
     let L = lent g.B.LowerLayer.as_layer_below c.args.below in
     let none : s.waiting ≡ None = none_waits s.block.length s.size A s.waiting c.requires.spent in
     let m = c.existing-in-Data.ensures in
-    rw none (prepared_existing f n A s.size s.block.length E (count_of s.table) c.args.offset c.args.count s.positive c.requires.inside c.in-Data.number c.min-run.result c.args.overwrite _ c.existing-in-Data.result
+    rw none (prepared_existing f n A s.size s.block.length E (count_of s.table) c.args.offset c.args.count s.positive c.requires.inside c.in-Data.number c.min-run.result c.args.overwrite L.tells_bytes _ c.existing-in-Data.result
     (c.entry_at-entry.ensures ∙ ap (λ x. Some x) c.in-Data.is) (omega (arith, c.if-count-eq0.false)) (rw c.rest-rest.ensures.value at c.min-run.ensures) m.storage (rw c.rest-rest.ensures.value at m.offset) m.length m.state)
 
 pub returns-in-Data-clause-call : goal.returns-in-Data-clause-call
@@ -96,7 +97,7 @@ returns-in_err-waiting g c =
       added = e.table.added;
       lowest = tt;
       in_data = λ j h. absurd (not_in_data _ _ j c.entry_at-entry.ensures c.in_default.not-Data h);
-      performed = (refl, refl, e.table.entries, refl, tt);
+      performed = (copied_for g.S.Storage.features g.S.Storage.bytes g.S.Storage.fault_count g.S.Storage.work g.S.Storage.maintenance (lent g.B.LowerLayer.as_layer_below c.args.below) c.args.overwrite (entries_of s.table) (count_of s.table) s.block.length s.size c.args.offset c.args.count c.kind_of.result c.min-run.result s.storage t.storage (Err c.in_err-waiting.field-0.0) (c.entry_at-entry.ensures ∙ ap (λ x. Some x) (c.kind_of.ensures c.in_default.not-Data)) some (rw c.rest-rest.ensures.value at c.min-run.ensures) c.in_err-waiting.ensures.copies, refl, refl, e.table.entries, refl, tt);
       by_name = c.in_err-waiting.ensures.call.by_name;
       over = λ o. c.in_err-waiting.ensures.over c.args.count some (rw c.rest-rest.ensures.value at c.min-run.ensures) o;
     })
@@ -137,7 +138,17 @@ returns g c =
         stands = m.offset ∙ k.waits.apart.offset ∙ ap (λ o. w.number * s.block.length + o % s.block.length) k.waits.start;
       };
       in_data = λ j h. absurd (not_in_data _ _ j c.entry_at-entry.ensures c.in_default.not-Data h);
-      performed = (refl, refl, e.table.entries, tt, rw m.state (refl, ap ticket_of k.waits.state));
+      performed = (copied_for g.S.Storage.features g.S.Storage.bytes g.S.Storage.fault_count g.S.Storage.work g.S.Storage.maintenance (lent g.B.LowerLayer.as_layer_below c.args.below) c.args.overwrite (entries_of s.table) (count_of s.table) s.block.length s.size c.args.offset c.args.count c.kind_of.result c.min-run.result s.storage t.storage (Ok tt) (c.entry_at-entry.ensures ∙ ap (λ x. Some x) (c.kind_of.ensures c.in_default.not-Data)) some (rw c.rest-rest.ensures.value at c.min-run.ensures) k.copies, refl, refl, e.table.entries, tt, rw m.state (refl, ap ticket_of k.waits.state));
       by_name = tt;
       over = λ o. tt;
     }
+
+pub returns-then-count-eq0-clause-performed : goal.returns-then-count-eq0-clause-performed
+returns-then-count-eq0-clause-performed g c =
+    let s = c.args.self.now in
+    (asked_none g.S.Storage.features g.S.Storage.bytes g.S.Storage.fault_count g.S.Storage.work g.S.Storage.maintenance (lent g.B.LowerLayer.as_layer_below c.args.below) c.args.overwrite (entries_of s.table) (count_of s.table) s.block.length s.size c.args.offset c.args.count s.storage (Ok tt) (omega (arith, c.if-count-eq0.true)), refl, refl, refl, tt, rw c.existing.ensures.state refl)
+
+pub returns-in-Data-clause-performed : goal.returns-in-Data-clause-performed
+returns-in-Data-clause-performed g c =
+    let s = c.args.self.now in
+    (found_in_data g.S.Storage.features g.S.Storage.bytes g.S.Storage.fault_count g.S.Storage.work g.S.Storage.maintenance (lent g.B.LowerLayer.as_layer_below c.args.below) c.args.overwrite (entries_of s.table) (count_of s.table) s.block.length s.size c.args.offset c.args.count s.storage (Ok tt) _ (c.entry_at-entry.ensures ∙ ap (λ x. Some x) c.in-Data.is) refl, refl, refl, refl, tt, rw c.existing-in-Data.ensures.state refl)

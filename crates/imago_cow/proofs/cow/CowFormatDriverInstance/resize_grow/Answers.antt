@@ -17,4 +17,4 @@ returns-clause-call g c =
     rw (none, c.grow.ensures.features) c.in_ok-grow.ensures.call
 
 pub returns-clause-performed : goal.returns-clause-performed
-returns-clause-performed g c = (refl, refl, refl, λ h. let z : ⊥ = omega (arith, h, c.if-new_size-self.false) in absurd z, λ h. c.in_ok-grow.ensures.blocks, tt)
+returns-clause-performed g c = (c.in_ok-grow.ensures.copies, refl, refl, refl, λ h. let z : ⊥ = omega (arith, h, c.if-new_size-self.false) in absurd z, λ h. c.in_ok-grow.ensures.blocks, tt)

@@ -1,4 +1,4 @@
-use Rattle.std.proofs.Common.{◌≡◌, ◌+◌, ◌*◌, ◌≤◌, Some, true, false, arith, refl, sym, length}
+use Rattle.std.proofs.Common.{rules, inr, ◌≡◌, ◌+◌, ◌*◌, ◌≤◌, Some, true, false, arith, refl, sym, length}
 use Rattle.std.specs.Prelude.{is_none}
 use Rattle.imago_storage.specs.declared.error.Error.{Error}
 use Rattle.imago_storage.specs.Features.{IsAlignedRequest, MayRunOut}
@@ -52,130 +52,6 @@ returns-then-not-is_nonblocking-clause-foreign g c =
 pub returns-then-not-is_nonblocking-clause-untouched : goal.returns-then-not-is_nonblocking-clause-untouched
 returns-then-not-is_nonblocking-clause-untouched g c = λ e. absurd (not_foreign c.write_stored.result c.write_stored.ensures.only e)
 
-pub returns-then-not-is_nonblocking-clause-written : goal.returns-then-not-is_nonblocking-clause-written
-returns-then-not-is_nonblocking-clause-written g c =
-    let s = c.args.self.now in
-    let m = c.args.mapping.now in
-    let f = g.S.Storage.features s.storage in
-    let A = g.S.Storage.bytes s.storage in
-    let n = g.S.Storage.fault_count s.storage + s.faults in
-    let w = c.in-Some.waiting in
-    let is = c.in-Some.is in
-    let own : IsOwn (cow_pending s.block.length s.size A s.waiting) m = (c.is_waiting.ensures s.block.length s.size A).0 c.if-not-is_waiting.false in
-    let own_w : IsOwn (cow_pending s.block.length s.size A (Some w)) m = rw is at own in
-    let apart : WaitsApart s.block.length s.size (entries_of s.table) (count_of s.table) w = s.waits_apart w is in
-    let B = g.S.Storage.bytes c.write_stored.new.storage in
-    let n' = g.S.Storage.fault_count c.write_stored.new.storage + s.faults in
-    let r = c.write_stored.result in
-    let inside : c.args.at + length c.args.source.now ≤ w.length = omega (arith, c.requires, own_w.2) in
-    rw (is, c.write_stored.ensures.features) (on_ok r (λ x e. written_apart f n n' A B s.size s.block.length (entries_of s.table) (count_of s.table) w s.positive s.exact.covers apart c.args.at c.args.source.now inside false m m.state (own_w.3) (λ k. ok_holds x e (c.write_stored.ensures.bytes k))))
-
-pub returns-then-not-is_nonblocking-clause-torn : goal.returns-then-not-is_nonblocking-clause-torn
-returns-then-not-is_nonblocking-clause-torn g c =
-    let s = c.args.self.now in
-    let m = c.args.mapping.now in
-    let f = g.S.Storage.features s.storage in
-    let A = g.S.Storage.bytes s.storage in
-    let n = g.S.Storage.fault_count s.storage + s.faults in
-    let w = c.in-Some.waiting in
-    let is = c.in-Some.is in
-    let own : IsOwn (cow_pending s.block.length s.size A s.waiting) m = (c.is_waiting.ensures s.block.length s.size A).0 c.if-not-is_waiting.false in
-    let own_w : IsOwn (cow_pending s.block.length s.size A (Some w)) m = rw is at own in
-    let apart : WaitsApart s.block.length s.size (entries_of s.table) (count_of s.table) w = s.waits_apart w is in
-    let B = g.S.Storage.bytes c.write_stored.new.storage in
-    let n' = g.S.Storage.fault_count c.write_stored.new.storage + s.faults in
-    let r = c.write_stored.result in
-    let inside : c.args.at + length c.args.source.now ≤ w.length = omega (arith, c.requires, own_w.2) in
-    rw (is, c.write_stored.ensures.features) (on_err r (λ x e. written_apart f n n' A B s.size s.block.length (entries_of s.table) (count_of s.table) w s.positive s.exact.covers apart c.args.at c.args.source.now inside true m m.state (own_w.3) (λ k. err_holds x e (c.write_stored.ensures.torn_bytes k))))
-
-pub returns-then-not-is_nonblocking-clause-round : goal.returns-then-not-is_nonblocking-clause-round
-returns-then-not-is_nonblocking-clause-round g c = λ k below.
-    let s = c.args.self.now in
-    let m = c.args.mapping.now in
-    let f = g.S.Storage.features s.storage in
-    let A = g.S.Storage.bytes s.storage in
-    let n = g.S.Storage.fault_count s.storage + s.faults in
-    let w = c.in-Some.waiting in
-    let is = c.in-Some.is in
-    let own : IsOwn (cow_pending s.block.length s.size A s.waiting) m = (c.is_waiting.ensures s.block.length s.size A).0 c.if-not-is_waiting.false in
-    let own_w : IsOwn (cow_pending s.block.length s.size A (Some w)) m = rw is at own in
-    let apart : WaitsApart s.block.length s.size (entries_of s.table) (count_of s.table) w = s.waits_apart w is in
-    let B = g.S.Storage.bytes c.write_stored.new.storage in
-    let n' = g.S.Storage.fault_count c.write_stored.new.storage + s.faults in
-    let r = c.write_stored.result in
-    let inside : c.args.at + length c.args.source.now ≤ w.length = omega (arith, c.requires, own_w.2) in
-    rw is (round_stays f n n' A B s.size s.block.length (entries_of s.table) (count_of s.table) w s.positive s.exact.covers apart c.args.at c.args.source.now inside true (λ t. either_bytes _ _ _ _ _ r (c.write_stored.ensures.bytes t) (c.write_stored.ensures.torn_bytes t)) k below)
-
-pub returns-then-not-is_nonblocking-clause-causes : goal.returns-then-not-is_nonblocking-clause-causes
-returns-then-not-is_nonblocking-clause-causes g c =
-    let s = c.args.self.now in
-    let m = c.args.mapping.now in
-    let f = g.S.Storage.features s.storage in
-    let A = g.S.Storage.bytes s.storage in
-    let n = g.S.Storage.fault_count s.storage + s.faults in
-    let w = c.in-Some.waiting in
-    let is = c.in-Some.is in
-    let own : IsOwn (cow_pending s.block.length s.size A s.waiting) m = (c.is_waiting.ensures s.block.length s.size A).0 c.if-not-is_waiting.false in
-    let own_w : IsOwn (cow_pending s.block.length s.size A (Some w)) m = rw is at own in
-    let apart : WaitsApart s.block.length s.size (entries_of s.table) (count_of s.table) w = s.waits_apart w is in
-    let B = g.S.Storage.bytes c.write_stored.new.storage in
-    let n' = g.S.Storage.fault_count c.write_stored.new.storage + s.faults in
-    let r = c.write_stored.result in
-    let inside : c.args.at + length c.args.source.now ≤ w.length = omega (arith, c.requires, own_w.2) in
-    on_ok r (λ x e o q. bytes_settled f (g.S.Storage.features c.write_stored.new.storage) 0 0 A B s.size s.block.length (entries_of s.table) (count_of s.table) s.waiting s.positive s.exact.covers c.write_stored.ensures.features o (length c.args.source.now))
-
-pub returns-then-not-is_nonblocking-clause-storages : goal.returns-then-not-is_nonblocking-clause-storages
-returns-then-not-is_nonblocking-clause-storages g c =
-    let s = c.args.self.now in
-    let m = c.args.mapping.now in
-    let f = g.S.Storage.features s.storage in
-    let A = g.S.Storage.bytes s.storage in
-    let n = g.S.Storage.fault_count s.storage + s.faults in
-    let w = c.in-Some.waiting in
-    let is = c.in-Some.is in
-    let own : IsOwn (cow_pending s.block.length s.size A s.waiting) m = (c.is_waiting.ensures s.block.length s.size A).0 c.if-not-is_waiting.false in
-    let own_w : IsOwn (cow_pending s.block.length s.size A (Some w)) m = rw is at own in
-    let apart : WaitsApart s.block.length s.size (entries_of s.table) (count_of s.table) w = s.waits_apart w is in
-    let B = g.S.Storage.bytes c.write_stored.new.storage in
-    let n' = g.S.Storage.fault_count c.write_stored.new.storage + s.faults in
-    let r = c.write_stored.result in
-    let inside : c.args.at + length c.args.source.now ≤ w.length = omega (arith, c.requires, own_w.2) in
-    record {
-      lengths = rw (own_w.0, own_w.1) (c.write_stored.ensures.lengths 0 s.size s.block.length (entries_of s.table) (count_of s.table) s.waiting);
-      faults = storage_faults _ _ s.faults _ _ c.write_stored.ensures.cause;
-    }
-
-pub returns-then-not-is_nonblocking-clause-refusals : goal.returns-then-not-is_nonblocking-clause-refusals
-returns-then-not-is_nonblocking-clause-refusals g c =
-    let s = c.args.self.now in
-    let m = c.args.mapping.now in
-    let f = g.S.Storage.features s.storage in
-    let A = g.S.Storage.bytes s.storage in
-    let n = g.S.Storage.fault_count s.storage + s.faults in
-    let w = c.in-Some.waiting in
-    let is = c.in-Some.is in
-    let own : IsOwn (cow_pending s.block.length s.size A s.waiting) m = (c.is_waiting.ensures s.block.length s.size A).0 c.if-not-is_waiting.false in
-    let own_w : IsOwn (cow_pending s.block.length s.size A (Some w)) m = rw is at own in
-    let apart : WaitsApart s.block.length s.size (entries_of s.table) (count_of s.table) w = s.waits_apart w is in
-    let B = g.S.Storage.bytes c.write_stored.new.storage in
-    let n' = g.S.Storage.fault_count c.write_stored.new.storage + s.faults in
-    let r = c.write_stored.result in
-    let inside : c.args.at + length c.args.source.now ≤ w.length = omega (arith, c.requires, own_w.2) in
-    let ends : w.offset + w.length ≤ count_of s.table * s.block.length = omega (arith, number_ends s.block.length w.number (count_of s.table) apart.known, apart.offset, apart.in_block) in
-    mapping_refused f n A s.size s.block.length (entries_of s.table) (count_of s.table) s.waiting m c.args.at (length c.args.source.now) r c.write_stored.ensures.only (rw (own_w.1) (c.write_stored.ensures.wraps)) (omega (arith, ends, inside, own_w.1))
-    (λ refused o q.
-    let len = length c.args.source.now in
-    waiting_takes f n A s.size s.block.length (entries_of s.table) (count_of s.table) w m c.args.at len o s.positive apart (own_w.3) (refused_some len r Error.Memory c.write_stored.ensures.empty refused) inside (rw is at q))
-
-pub returns-then-count-eq0-clause-causes : goal.returns-then-count-eq0-clause-causes
-returns-then-count-eq0-clause-causes g c =
-    let s = c.args.self.now in
-    let m = c.args.mapping.now in
-    let f = g.S.Storage.features s.storage in
-    let A = g.S.Storage.bytes s.storage in
-    let n = g.S.Storage.fault_count s.storage + s.faults in
-    λ o q. bytes_settled f f 0 0 A A s.size s.block.length (entries_of s.table) (count_of s.table) s.waiting s.positive s.exact.covers refl o (length c.args.source.now)
-
 pub returns-then-not-shows_all-clause-foreign : goal.returns-then-not-shows_all-clause-foreign
 returns-then-not-shows_all-clause-foreign g c =
     let s = c.args.self.now in
@@ -208,109 +84,249 @@ returns-clause-foreign g c =
 pub returns-clause-untouched : goal.returns-clause-untouched
 returns-clause-untouched g c = λ e. absurd (not_foreign c.write_stored-2.result c.write_stored-2.ensures.only e)
 
-pub returns-clause-written : goal.returns-clause-written
-returns-clause-written g c =
+pub returns-then-not-is_nonblocking-clause-performed : goal.returns-then-not-is_nonblocking-clause-performed
+returns-then-not-is_nonblocking-clause-performed g c =
     let s = c.args.self.now in
     let m = c.args.mapping.now in
-    let f = g.S.Storage.features s.storage in
     let A = g.S.Storage.bytes s.storage in
-    let n = g.S.Storage.fault_count s.storage + s.faults in
-    let B = g.S.Storage.bytes c.write_stored-2.new.storage in
-    let r = c.write_stored-2.result in
-    let stateless : is_none m.state ≡ true = sym c.if-not-is_nonblocking.ensures in
-    let shown = c.shows_all.ensures.shown c.if-not-shows_all.false in
-    let zero : m.storage ≡ 0 = omega (arith, c.storage-index.ensures, shown.0) in
-    let all : BytesAreWritable (cow_place A s.size s.block.length (entries_of s.table)) 0 c.offset-start.result c.length-count.result = shown.1 in
-    let fits : c.args.at + length c.args.source.now ≤ c.length-count.result = omega (arith, c.requires, c.length-count.ensures) in
-    on_ok r (λ x e. written_stateless _ _ m m.state false c.args.at c.args.source.now stateless
-    (pending_stays A B s.size s.block.length (entries_of s.table) (count_of s.table) s.positive c.offset-start.result c.length-count.result c.args.at c.args.source.now false fits all f.keeps_data s.waiting s.waits_apart (λ k. ok_holds x e (c.write_stored-2.ensures.bytes k)))
-    (rw (zero, ← c.offset-start.ensures) (ok_holds x e (c.write_stored-2.ensures.written s.size s.block.length (entries_of s.table)))))
+    let w = c.in-Some.waiting in
+    let is = c.in-Some.is in
+    let own : IsOwn (cow_pending s.block.length s.size A s.waiting) m = (c.is_waiting.ensures s.block.length s.size A).0 c.if-not-is_waiting.false in
+    let own_w : IsOwn (cow_pending s.block.length s.size A (Some w)) m = rw is at own in
+    inr (inr (own_w.0, (rw (own_w.1) (c.write_stored.ensures.call), (refl, refl, refl, refl, refl, refl))))
 
-pub returns-clause-torn : goal.returns-clause-torn
-returns-clause-torn g c =
-    let s = c.args.self.now in
-    let m = c.args.mapping.now in
-    let f = g.S.Storage.features s.storage in
-    let A = g.S.Storage.bytes s.storage in
-    let n = g.S.Storage.fault_count s.storage + s.faults in
-    let B = g.S.Storage.bytes c.write_stored-2.new.storage in
-    let r = c.write_stored-2.result in
-    let stateless : is_none m.state ≡ true = sym c.if-not-is_nonblocking.ensures in
+pub returns-clause-performed : goal.returns-clause-performed
+returns-clause-performed g c =
     let shown = c.shows_all.ensures.shown c.if-not-shows_all.false in
-    let zero : m.storage ≡ 0 = omega (arith, c.storage-index.ensures, shown.0) in
-    let all : BytesAreWritable (cow_place A s.size s.block.length (entries_of s.table)) 0 c.offset-start.result c.length-count.result = shown.1 in
-    let fits : c.args.at + length c.args.source.now ≤ c.length-count.result = omega (arith, c.requires, c.length-count.ensures) in
-    on_err r (λ x e. written_stateless _ _ m m.state true c.args.at c.args.source.now stateless
-    (pending_stays A B s.size s.block.length (entries_of s.table) (count_of s.table) s.positive c.offset-start.result c.length-count.result c.args.at c.args.source.now true fits all f.keeps_data s.waiting s.waits_apart (λ k. err_holds x e (c.write_stored-2.ensures.torn_bytes k)))
-    (rw (zero, ← c.offset-start.ensures) (err_holds x e (c.write_stored-2.ensures.torn s.size s.block.length (entries_of s.table)))))
+    let zero : c.args.mapping.now.storage ≡ 0 = omega (arith, c.storage-index.ensures, shown.0) in
+    inr (inr (zero, (rw (← c.offset-start.ensures) (c.write_stored-2.ensures.call), (refl, refl, refl, refl, refl, refl))))
 
-pub returns-clause-round : goal.returns-clause-round
-returns-clause-round g c = λ k below.
-    let s = c.args.self.now in
-    let m = c.args.mapping.now in
-    let f = g.S.Storage.features s.storage in
-    let A = g.S.Storage.bytes s.storage in
-    let n = g.S.Storage.fault_count s.storage + s.faults in
-    let B = g.S.Storage.bytes c.write_stored-2.new.storage in
-    let r = c.write_stored-2.result in
-    let stateless : is_none m.state ≡ true = sym c.if-not-is_nonblocking.ensures in
-    let shown = c.shows_all.ensures.shown c.if-not-shows_all.false in
-    let zero : m.storage ≡ 0 = omega (arith, c.storage-index.ensures, shown.0) in
-    let all : BytesAreWritable (cow_place A s.size s.block.length (entries_of s.table)) 0 c.offset-start.result c.length-count.result = shown.1 in
-    let fits : c.args.at + length c.args.source.now ≤ c.length-count.result = omega (arith, c.requires, c.length-count.ensures) in
-    round_other A B s.size s.block.length (entries_of s.table) (count_of s.table) s.positive c.offset-start.result c.length-count.result c.args.at c.args.source.now true fits all s.waiting s.waits_apart (either_bytes _ _ _ _ _ r (c.write_stored-2.ensures.bytes k) (c.write_stored-2.ensures.torn_bytes k)) below
+pub returns-then-not-is_nonblocking-clause-call : goal.returns-then-not-is_nonblocking-clause-call
+returns-then-not-is_nonblocking-clause-call g c = record {
+  written =
+      let s = c.args.self.now in
+      let m = c.args.mapping.now in
+      let f = g.S.Storage.features s.storage in
+      let A = g.S.Storage.bytes s.storage in
+      let n = g.S.Storage.fault_count s.storage + s.faults in
+      let w = c.in-Some.waiting in
+      let is = c.in-Some.is in
+      let own : IsOwn (cow_pending s.block.length s.size A s.waiting) m = (c.is_waiting.ensures s.block.length s.size A).0 c.if-not-is_waiting.false in
+      let own_w : IsOwn (cow_pending s.block.length s.size A (Some w)) m = rw is at own in
+      let apart : WaitsApart s.block.length s.size (entries_of s.table) (count_of s.table) w = s.waits_apart w is in
+      let B = g.S.Storage.bytes c.write_stored.new.storage in
+      let n' = g.S.Storage.fault_count c.write_stored.new.storage + s.faults in
+      let r = c.write_stored.result in
+      let inside : c.args.at + length c.args.source.now ≤ w.length = omega (arith, c.requires, own_w.2) in
+      rw (is, c.write_stored.ensures.features) (on_ok r (λ x e. written_apart f n n' A B s.size s.block.length (entries_of s.table) (count_of s.table) w s.positive s.exact.covers apart c.args.at c.args.source.now inside false m m.state (own_w.3) (λ k. ok_holds x e (c.write_stored.ensures.bytes k))));
+  torn =
+      let s = c.args.self.now in
+      let m = c.args.mapping.now in
+      let f = g.S.Storage.features s.storage in
+      let A = g.S.Storage.bytes s.storage in
+      let n = g.S.Storage.fault_count s.storage + s.faults in
+      let w = c.in-Some.waiting in
+      let is = c.in-Some.is in
+      let own : IsOwn (cow_pending s.block.length s.size A s.waiting) m = (c.is_waiting.ensures s.block.length s.size A).0 c.if-not-is_waiting.false in
+      let own_w : IsOwn (cow_pending s.block.length s.size A (Some w)) m = rw is at own in
+      let apart : WaitsApart s.block.length s.size (entries_of s.table) (count_of s.table) w = s.waits_apart w is in
+      let B = g.S.Storage.bytes c.write_stored.new.storage in
+      let n' = g.S.Storage.fault_count c.write_stored.new.storage + s.faults in
+      let r = c.write_stored.result in
+      let inside : c.args.at + length c.args.source.now ≤ w.length = omega (arith, c.requires, own_w.2) in
+      rw (is, c.write_stored.ensures.features) (on_err r (λ x e. written_apart f n n' A B s.size s.block.length (entries_of s.table) (count_of s.table) w s.positive s.exact.covers apart c.args.at c.args.source.now inside true m m.state (own_w.3) (λ k. err_holds x e (c.write_stored.ensures.torn_bytes k))));
+  round =
+      λ k below.
+      let s = c.args.self.now in
+      let m = c.args.mapping.now in
+      let f = g.S.Storage.features s.storage in
+      let A = g.S.Storage.bytes s.storage in
+      let n = g.S.Storage.fault_count s.storage + s.faults in
+      let w = c.in-Some.waiting in
+      let is = c.in-Some.is in
+      let own : IsOwn (cow_pending s.block.length s.size A s.waiting) m = (c.is_waiting.ensures s.block.length s.size A).0 c.if-not-is_waiting.false in
+      let own_w : IsOwn (cow_pending s.block.length s.size A (Some w)) m = rw is at own in
+      let apart : WaitsApart s.block.length s.size (entries_of s.table) (count_of s.table) w = s.waits_apart w is in
+      let B = g.S.Storage.bytes c.write_stored.new.storage in
+      let n' = g.S.Storage.fault_count c.write_stored.new.storage + s.faults in
+      let r = c.write_stored.result in
+      let inside : c.args.at + length c.args.source.now ≤ w.length = omega (arith, c.requires, own_w.2) in
+      rw is (round_stays f n n' A B s.size s.block.length (entries_of s.table) (count_of s.table) w s.positive s.exact.covers apart c.args.at c.args.source.now inside true (λ t. either_bytes _ _ _ _ _ r (c.write_stored.ensures.bytes t) (c.write_stored.ensures.torn_bytes t)) k below);
+  causes =
+      let s = c.args.self.now in
+      let m = c.args.mapping.now in
+      let f = g.S.Storage.features s.storage in
+      let A = g.S.Storage.bytes s.storage in
+      let n = g.S.Storage.fault_count s.storage + s.faults in
+      let w = c.in-Some.waiting in
+      let is = c.in-Some.is in
+      let own : IsOwn (cow_pending s.block.length s.size A s.waiting) m = (c.is_waiting.ensures s.block.length s.size A).0 c.if-not-is_waiting.false in
+      let own_w : IsOwn (cow_pending s.block.length s.size A (Some w)) m = rw is at own in
+      let apart : WaitsApart s.block.length s.size (entries_of s.table) (count_of s.table) w = s.waits_apart w is in
+      let B = g.S.Storage.bytes c.write_stored.new.storage in
+      let n' = g.S.Storage.fault_count c.write_stored.new.storage + s.faults in
+      let r = c.write_stored.result in
+      let inside : c.args.at + length c.args.source.now ≤ w.length = omega (arith, c.requires, own_w.2) in
+      on_ok r (λ x e o q. bytes_settled f (g.S.Storage.features c.write_stored.new.storage) 0 0 A B s.size s.block.length (entries_of s.table) (count_of s.table) s.waiting s.positive s.exact.covers c.write_stored.ensures.features o (length c.args.source.now));
+  reaches = search rules;
+  storages =
+      let s = c.args.self.now in
+      let m = c.args.mapping.now in
+      let f = g.S.Storage.features s.storage in
+      let A = g.S.Storage.bytes s.storage in
+      let n = g.S.Storage.fault_count s.storage + s.faults in
+      let w = c.in-Some.waiting in
+      let is = c.in-Some.is in
+      let own : IsOwn (cow_pending s.block.length s.size A s.waiting) m = (c.is_waiting.ensures s.block.length s.size A).0 c.if-not-is_waiting.false in
+      let own_w : IsOwn (cow_pending s.block.length s.size A (Some w)) m = rw is at own in
+      let apart : WaitsApart s.block.length s.size (entries_of s.table) (count_of s.table) w = s.waits_apart w is in
+      let B = g.S.Storage.bytes c.write_stored.new.storage in
+      let n' = g.S.Storage.fault_count c.write_stored.new.storage + s.faults in
+      let r = c.write_stored.result in
+      let inside : c.args.at + length c.args.source.now ≤ w.length = omega (arith, c.requires, own_w.2) in
+      record {
+        lengths = rw (own_w.0, own_w.1) (c.write_stored.ensures.lengths 0 s.size s.block.length (entries_of s.table) (count_of s.table) s.waiting);
+        faults = storage_faults _ _ s.faults _ _ c.write_stored.ensures.cause;
+      };
+  framed = search rules;
+  refusals =
+      let s = c.args.self.now in
+      let m = c.args.mapping.now in
+      let f = g.S.Storage.features s.storage in
+      let A = g.S.Storage.bytes s.storage in
+      let n = g.S.Storage.fault_count s.storage + s.faults in
+      let w = c.in-Some.waiting in
+      let is = c.in-Some.is in
+      let own : IsOwn (cow_pending s.block.length s.size A s.waiting) m = (c.is_waiting.ensures s.block.length s.size A).0 c.if-not-is_waiting.false in
+      let own_w : IsOwn (cow_pending s.block.length s.size A (Some w)) m = rw is at own in
+      let apart : WaitsApart s.block.length s.size (entries_of s.table) (count_of s.table) w = s.waits_apart w is in
+      let B = g.S.Storage.bytes c.write_stored.new.storage in
+      let n' = g.S.Storage.fault_count c.write_stored.new.storage + s.faults in
+      let r = c.write_stored.result in
+      let inside : c.args.at + length c.args.source.now ≤ w.length = omega (arith, c.requires, own_w.2) in
+      let ends : w.offset + w.length ≤ count_of s.table * s.block.length = omega (arith, number_ends s.block.length w.number (count_of s.table) apart.known, apart.offset, apart.in_block) in
+      mapping_refused f n A s.size s.block.length (entries_of s.table) (count_of s.table) s.waiting m c.args.at (length c.args.source.now) r c.write_stored.ensures.only (rw (own_w.1) (c.write_stored.ensures.wraps)) (omega (arith, ends, inside, own_w.1))
+      (λ refused o q.
+      let len = length c.args.source.now in
+      waiting_takes f n A s.size s.block.length (entries_of s.table) (count_of s.table) w m c.args.at len o s.positive apart (own_w.3) (refused_some len r Error.Memory c.write_stored.ensures.empty refused) inside (rw is at q));
+}
 
-pub returns-clause-causes : goal.returns-clause-causes
-returns-clause-causes g c =
-    let s = c.args.self.now in
-    let m = c.args.mapping.now in
-    let f = g.S.Storage.features s.storage in
-    let A = g.S.Storage.bytes s.storage in
-    let n = g.S.Storage.fault_count s.storage + s.faults in
-    let B = g.S.Storage.bytes c.write_stored-2.new.storage in
-    let r = c.write_stored-2.result in
-    let stateless : is_none m.state ≡ true = sym c.if-not-is_nonblocking.ensures in
-    let shown = c.shows_all.ensures.shown c.if-not-shows_all.false in
-    let zero : m.storage ≡ 0 = omega (arith, c.storage-index.ensures, shown.0) in
-    let all : BytesAreWritable (cow_place A s.size s.block.length (entries_of s.table)) 0 c.offset-start.result c.length-count.result = shown.1 in
-    let fits : c.args.at + length c.args.source.now ≤ c.length-count.result = omega (arith, c.requires, c.length-count.ensures) in
-    on_ok r (λ x e o q. bytes_settled f (g.S.Storage.features c.write_stored-2.new.storage) 0 0 A B s.size s.block.length (entries_of s.table) (count_of s.table) s.waiting s.positive s.exact.covers c.write_stored-2.ensures.features o (length c.args.source.now))
+pub returns-then-count-eq0-clause-call : goal.returns-then-count-eq0-clause-call
+returns-then-count-eq0-clause-call g c = record {
+  written = search rules;
+  torn = search rules;
+  round = search rules;
+  causes =
+      let s = c.args.self.now in
+      let m = c.args.mapping.now in
+      let f = g.S.Storage.features s.storage in
+      let A = g.S.Storage.bytes s.storage in
+      let n = g.S.Storage.fault_count s.storage + s.faults in
+      λ o q. bytes_settled f f 0 0 A A s.size s.block.length (entries_of s.table) (count_of s.table) s.waiting s.positive s.exact.covers refl o (length c.args.source.now);
+  reaches = search rules;
+  storages = search rules;
+  framed = search rules;
+  refusals = search rules;
+}
 
-pub returns-clause-storages : goal.returns-clause-storages
-returns-clause-storages g c =
-    let s = c.args.self.now in
-    let m = c.args.mapping.now in
-    let f = g.S.Storage.features s.storage in
-    let A = g.S.Storage.bytes s.storage in
-    let n = g.S.Storage.fault_count s.storage + s.faults in
-    let B = g.S.Storage.bytes c.write_stored-2.new.storage in
-    let r = c.write_stored-2.result in
-    let stateless : is_none m.state ≡ true = sym c.if-not-is_nonblocking.ensures in
-    let shown = c.shows_all.ensures.shown c.if-not-shows_all.false in
-    let zero : m.storage ≡ 0 = omega (arith, c.storage-index.ensures, shown.0) in
-    let all : BytesAreWritable (cow_place A s.size s.block.length (entries_of s.table)) 0 c.offset-start.result c.length-count.result = shown.1 in
-    let fits : c.args.at + length c.args.source.now ≤ c.length-count.result = omega (arith, c.requires, c.length-count.ensures) in
-    record {
-      lengths = rw (zero, ← c.offset-start.ensures) (c.write_stored-2.ensures.lengths 0 s.size s.block.length (entries_of s.table) (count_of s.table) s.waiting);
-      faults = storage_faults _ _ s.faults _ _ c.write_stored-2.ensures.cause;
-    }
-
-pub returns-clause-refusals : goal.returns-clause-refusals
-returns-clause-refusals g c =
-    let s = c.args.self.now in
-    let m = c.args.mapping.now in
-    let f = g.S.Storage.features s.storage in
-    let A = g.S.Storage.bytes s.storage in
-    let n = g.S.Storage.fault_count s.storage + s.faults in
-    let B = g.S.Storage.bytes c.write_stored-2.new.storage in
-    let r = c.write_stored-2.result in
-    let stateless : is_none m.state ≡ true = sym c.if-not-is_nonblocking.ensures in
-    let shown = c.shows_all.ensures.shown c.if-not-shows_all.false in
-    let zero : m.storage ≡ 0 = omega (arith, c.storage-index.ensures, shown.0) in
-    let all : BytesAreWritable (cow_place A s.size s.block.length (entries_of s.table)) 0 c.offset-start.result c.length-count.result = shown.1 in
-    let fits : c.args.at + length c.args.source.now ≤ c.length-count.result = omega (arith, c.requires, c.length-count.ensures) in
-    mapping_refused f n A s.size s.block.length (entries_of s.table) (count_of s.table) s.waiting m c.args.at (length c.args.source.now) r c.write_stored-2.ensures.only (rw (← c.offset-start.ensures) (c.write_stored-2.ensures.wraps)) (omega (arith, c.shows_all.ensures.within c.if-not-shows_all.false, fits, c.offset-start.ensures))
-    (λ refused o q.
-    let len = length c.args.source.now in
-    let memory : IsAlignedRequest f (m.offset + c.args.at) len → MayRunOut f.write_memory (length A) (m.offset + c.args.at + len) = rw (← c.offset-start.ensures) (c.write_stored-2.ensures.memory refused) in
-    existing_takes f n A s.size s.block.length (entries_of s.table) (count_of s.table) s.waiting m m.state c.args.at len o stateless (refused_some len r Error.Memory c.write_stored-2.ensures.empty refused) memory q)
+pub returns-clause-call : goal.returns-clause-call
+returns-clause-call g c = record {
+  written =
+      let s = c.args.self.now in
+      let m = c.args.mapping.now in
+      let f = g.S.Storage.features s.storage in
+      let A = g.S.Storage.bytes s.storage in
+      let n = g.S.Storage.fault_count s.storage + s.faults in
+      let B = g.S.Storage.bytes c.write_stored-2.new.storage in
+      let r = c.write_stored-2.result in
+      let stateless : is_none m.state ≡ true = sym c.if-not-is_nonblocking.ensures in
+      let shown = c.shows_all.ensures.shown c.if-not-shows_all.false in
+      let zero : m.storage ≡ 0 = omega (arith, c.storage-index.ensures, shown.0) in
+      let all : BytesAreWritable (cow_place A s.size s.block.length (entries_of s.table)) 0 c.offset-start.result c.length-count.result = shown.1 in
+      let fits : c.args.at + length c.args.source.now ≤ c.length-count.result = omega (arith, c.requires, c.length-count.ensures) in
+      on_ok r (λ x e. written_stateless _ _ m m.state false c.args.at c.args.source.now stateless
+      (pending_stays A B s.size s.block.length (entries_of s.table) (count_of s.table) s.positive c.offset-start.result c.length-count.result c.args.at c.args.source.now false fits all f.keeps_data s.waiting s.waits_apart (λ k. ok_holds x e (c.write_stored-2.ensures.bytes k)))
+      (rw (zero, ← c.offset-start.ensures) (ok_holds x e (c.write_stored-2.ensures.written s.size s.block.length (entries_of s.table)))));
+  torn =
+      let s = c.args.self.now in
+      let m = c.args.mapping.now in
+      let f = g.S.Storage.features s.storage in
+      let A = g.S.Storage.bytes s.storage in
+      let n = g.S.Storage.fault_count s.storage + s.faults in
+      let B = g.S.Storage.bytes c.write_stored-2.new.storage in
+      let r = c.write_stored-2.result in
+      let stateless : is_none m.state ≡ true = sym c.if-not-is_nonblocking.ensures in
+      let shown = c.shows_all.ensures.shown c.if-not-shows_all.false in
+      let zero : m.storage ≡ 0 = omega (arith, c.storage-index.ensures, shown.0) in
+      let all : BytesAreWritable (cow_place A s.size s.block.length (entries_of s.table)) 0 c.offset-start.result c.length-count.result = shown.1 in
+      let fits : c.args.at + length c.args.source.now ≤ c.length-count.result = omega (arith, c.requires, c.length-count.ensures) in
+      on_err r (λ x e. written_stateless _ _ m m.state true c.args.at c.args.source.now stateless
+      (pending_stays A B s.size s.block.length (entries_of s.table) (count_of s.table) s.positive c.offset-start.result c.length-count.result c.args.at c.args.source.now true fits all f.keeps_data s.waiting s.waits_apart (λ k. err_holds x e (c.write_stored-2.ensures.torn_bytes k)))
+      (rw (zero, ← c.offset-start.ensures) (err_holds x e (c.write_stored-2.ensures.torn s.size s.block.length (entries_of s.table)))));
+  round =
+      λ k below.
+      let s = c.args.self.now in
+      let m = c.args.mapping.now in
+      let f = g.S.Storage.features s.storage in
+      let A = g.S.Storage.bytes s.storage in
+      let n = g.S.Storage.fault_count s.storage + s.faults in
+      let B = g.S.Storage.bytes c.write_stored-2.new.storage in
+      let r = c.write_stored-2.result in
+      let stateless : is_none m.state ≡ true = sym c.if-not-is_nonblocking.ensures in
+      let shown = c.shows_all.ensures.shown c.if-not-shows_all.false in
+      let zero : m.storage ≡ 0 = omega (arith, c.storage-index.ensures, shown.0) in
+      let all : BytesAreWritable (cow_place A s.size s.block.length (entries_of s.table)) 0 c.offset-start.result c.length-count.result = shown.1 in
+      let fits : c.args.at + length c.args.source.now ≤ c.length-count.result = omega (arith, c.requires, c.length-count.ensures) in
+      round_other A B s.size s.block.length (entries_of s.table) (count_of s.table) s.positive c.offset-start.result c.length-count.result c.args.at c.args.source.now true fits all s.waiting s.waits_apart (either_bytes _ _ _ _ _ r (c.write_stored-2.ensures.bytes k) (c.write_stored-2.ensures.torn_bytes k)) below;
+  causes =
+      let s = c.args.self.now in
+      let m = c.args.mapping.now in
+      let f = g.S.Storage.features s.storage in
+      let A = g.S.Storage.bytes s.storage in
+      let n = g.S.Storage.fault_count s.storage + s.faults in
+      let B = g.S.Storage.bytes c.write_stored-2.new.storage in
+      let r = c.write_stored-2.result in
+      let stateless : is_none m.state ≡ true = sym c.if-not-is_nonblocking.ensures in
+      let shown = c.shows_all.ensures.shown c.if-not-shows_all.false in
+      let zero : m.storage ≡ 0 = omega (arith, c.storage-index.ensures, shown.0) in
+      let all : BytesAreWritable (cow_place A s.size s.block.length (entries_of s.table)) 0 c.offset-start.result c.length-count.result = shown.1 in
+      let fits : c.args.at + length c.args.source.now ≤ c.length-count.result = omega (arith, c.requires, c.length-count.ensures) in
+      on_ok r (λ x e o q. bytes_settled f (g.S.Storage.features c.write_stored-2.new.storage) 0 0 A B s.size s.block.length (entries_of s.table) (count_of s.table) s.waiting s.positive s.exact.covers c.write_stored-2.ensures.features o (length c.args.source.now));
+  reaches = search rules;
+  storages =
+      let s = c.args.self.now in
+      let m = c.args.mapping.now in
+      let f = g.S.Storage.features s.storage in
+      let A = g.S.Storage.bytes s.storage in
+      let n = g.S.Storage.fault_count s.storage + s.faults in
+      let B = g.S.Storage.bytes c.write_stored-2.new.storage in
+      let r = c.write_stored-2.result in
+      let stateless : is_none m.state ≡ true = sym c.if-not-is_nonblocking.ensures in
+      let shown = c.shows_all.ensures.shown c.if-not-shows_all.false in
+      let zero : m.storage ≡ 0 = omega (arith, c.storage-index.ensures, shown.0) in
+      let all : BytesAreWritable (cow_place A s.size s.block.length (entries_of s.table)) 0 c.offset-start.result c.length-count.result = shown.1 in
+      let fits : c.args.at + length c.args.source.now ≤ c.length-count.result = omega (arith, c.requires, c.length-count.ensures) in
+      record {
+        lengths = rw (zero, ← c.offset-start.ensures) (c.write_stored-2.ensures.lengths 0 s.size s.block.length (entries_of s.table) (count_of s.table) s.waiting);
+        faults = storage_faults _ _ s.faults _ _ c.write_stored-2.ensures.cause;
+      };
+  framed = search rules;
+  refusals =
+      let s = c.args.self.now in
+      let m = c.args.mapping.now in
+      let f = g.S.Storage.features s.storage in
+      let A = g.S.Storage.bytes s.storage in
+      let n = g.S.Storage.fault_count s.storage + s.faults in
+      let B = g.S.Storage.bytes c.write_stored-2.new.storage in
+      let r = c.write_stored-2.result in
+      let stateless : is_none m.state ≡ true = sym c.if-not-is_nonblocking.ensures in
+      let shown = c.shows_all.ensures.shown c.if-not-shows_all.false in
+      let zero : m.storage ≡ 0 = omega (arith, c.storage-index.ensures, shown.0) in
+      let all : BytesAreWritable (cow_place A s.size s.block.length (entries_of s.table)) 0 c.offset-start.result c.length-count.result = shown.1 in
+      let fits : c.args.at + length c.args.source.now ≤ c.length-count.result = omega (arith, c.requires, c.length-count.ensures) in
+      mapping_refused f n A s.size s.block.length (entries_of s.table) (count_of s.table) s.waiting m c.args.at (length c.args.source.now) r c.write_stored-2.ensures.only (rw (← c.offset-start.ensures) (c.write_stored-2.ensures.wraps)) (omega (arith, c.shows_all.ensures.within c.if-not-shows_all.false, fits, c.offset-start.ensures))
+      (λ refused o q.
+      let len = length c.args.source.now in
+      let memory : IsAlignedRequest f (m.offset + c.args.at) len → MayRunOut f.write_memory (length A) (m.offset + c.args.at + len) = rw (← c.offset-start.ensures) (c.write_stored-2.ensures.memory refused) in
+      existing_takes f n A s.size s.block.length (entries_of s.table) (count_of s.table) s.waiting m m.state c.args.at len o stateless (refused_some len r Error.Memory c.write_stored-2.ensures.empty refused) memory q);
+}

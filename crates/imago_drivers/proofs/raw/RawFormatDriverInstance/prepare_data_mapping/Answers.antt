@@ -25,6 +25,6 @@ returns-clause-prepared g c =
         ),
       );
       apart = λ t e. let x = c.existing.ensures.state in let z : ⊥ = cc in absurd z;
-      round = λ k. tt;
+      round = λ k tells. tt;
       near = λ q e. let z : ⊥ = cc in absurd z;
     }

@@ -1,4 +1,4 @@
-use Rattle.std.proofs.Common.{arith, inr, refl, sym, ◌≡◌, ◌+◌, ◌<◌, ◌≤◌, length, true, false}
+use Rattle.std.proofs.Common.{rules, arith, inr, refl, sym, ◌≡◌, ◌+◌, ◌<◌, ◌≤◌, length, true, false}
 use Rattle.std.proofs.lemmas.Grind.{common_steps}
 use Rattle.std.specs.Prelude.{is_none, IsTrue}
 use Rattle.std.proofs.lemmas.Result.{on_err_weaker, on_ok_weaker}
@@ -35,31 +35,6 @@ invariant_of-self g c =
           (either_bytes _ _ _ _ _ c.write_bytes.result (w.written k') (w.torn k')) (s.zero_behind k');
     }
 
-pub returns-clause-written : goal.returns-clause-written
-returns-clause-written g c =
-    let m = c.args.mapping.now in
-    let stateless : is_none m.state ≡ true = sym c.if-not-is_nonblocking.ensures in
-    let zero : m.storage ≡ 0 = c.if-mapping-ne0.false in
-    on_ok_weaker c.write_bytes.result (λ h. written_stateless _ _ m m.state false c.args.at c.args.source.now stateless refl (rw zero h)) (raw_put_on_ok _ _ _ _ (m.offset + c.args.at) _ c.write_bytes.result c.write_bytes.ensures.written)
-
-pub returns-clause-torn : goal.returns-clause-torn
-returns-clause-torn g c =
-    let m = c.args.mapping.now in
-    let stateless : is_none m.state ≡ true = sym c.if-not-is_nonblocking.ensures in
-    let zero : m.storage ≡ 0 = c.if-mapping-ne0.false in
-    on_err_weaker c.write_bytes.result (λ h. written_stateless _ _ m m.state true c.args.at c.args.source.now stateless refl (rw zero h)) (raw_put_on_err _ _ _ _ (m.offset + c.args.at) _ c.write_bytes.result c.write_bytes.ensures.torn)
-
-pub returns-clause-refusals : goal.returns-clause-refusals
-returns-clause-refusals g c =
-    let s = c.args.self.now in
-    let m = c.args.mapping.now in
-    let B = g.S.Storage.bytes s.storage in
-    let n = length c.args.source.now in
-    let stateless : is_none m.state ≡ true = sym c.if-not-is_nonblocking.ensures in
-    let v = raw_view (g.S.Storage.features s.storage) (g.S.Storage.fault_count s.storage) B s.size s.writable in
-    request_refused (g.S.Storage.features s.storage) s.size (length B) (m.offset + c.args.at) n Write _ _ _ (Unit {0}) c.write_bytes.result
-    (λ x h q. raw_at s.size B m.storage (m.offset + c.args.at) n x h (for_stateless v m m.state c.args.at n x stateless q)) (λ zero. (c.write_bytes.ensures.empty zero).0) c.write_bytes.ensures.only (λ e. tt) c.write_bytes.ensures.wraps (λ x h q w. w) c.write_bytes.ensures.memory
-
 pub returns-then-mapping-self-2-clause-foreign : goal.returns-then-mapping-self-2-clause-foreign
 returns-then-mapping-self-2-clause-foreign g c =
     let s = c.args.self.now in
@@ -73,5 +48,42 @@ returns-then-mapping-self-2-clause-foreign g c =
 pub returns-then-not-self-clause-foreign : goal.returns-then-not-self-clause-foreign
 returns-then-not-self-clause-foreign g c = (λ e. grind (arith, common_steps), λ f. refl)
 
-pub returns-then-not-self-clause-written : goal.returns-then-not-self-clause-written
-returns-then-not-self-clause-written g c = tt
+pub returns-clause-call : goal.returns-clause-call
+returns-clause-call g c = record {
+  written =
+      let m = c.args.mapping.now in
+      let stateless : is_none m.state ≡ true = sym c.if-not-is_nonblocking.ensures in
+      let zero : m.storage ≡ 0 = c.if-mapping-ne0.false in
+      on_ok_weaker c.write_bytes.result (λ h. written_stateless _ _ m m.state false c.args.at c.args.source.now stateless refl (rw zero h)) (raw_put_on_ok _ _ _ _ (m.offset + c.args.at) _ c.write_bytes.result c.write_bytes.ensures.written);
+  torn =
+      let m = c.args.mapping.now in
+      let stateless : is_none m.state ≡ true = sym c.if-not-is_nonblocking.ensures in
+      let zero : m.storage ≡ 0 = c.if-mapping-ne0.false in
+      on_err_weaker c.write_bytes.result (λ h. written_stateless _ _ m m.state true c.args.at c.args.source.now stateless refl (rw zero h)) (raw_put_on_err _ _ _ _ (m.offset + c.args.at) _ c.write_bytes.result c.write_bytes.ensures.torn);
+  round = search rules;
+  causes = search rules;
+  reaches = search rules;
+  storages = search rules;
+  framed = search rules;
+  refusals =
+      let s = c.args.self.now in
+      let m = c.args.mapping.now in
+      let B = g.S.Storage.bytes s.storage in
+      let n = length c.args.source.now in
+      let stateless : is_none m.state ≡ true = sym c.if-not-is_nonblocking.ensures in
+      let v = raw_view (g.S.Storage.features s.storage) (g.S.Storage.fault_count s.storage) B s.size s.writable in
+      request_refused (g.S.Storage.features s.storage) s.size (length B) (m.offset + c.args.at) n Write _ _ _ (Unit {0}) c.write_bytes.result
+      (λ x h q. raw_at s.size B m.storage (m.offset + c.args.at) n x h (for_stateless v m m.state c.args.at n x stateless q)) (λ zero. (c.write_bytes.ensures.empty zero).0) c.write_bytes.ensures.only (λ e. tt) c.write_bytes.ensures.wraps (λ x h q w. w) c.write_bytes.ensures.memory;
+}
+
+pub returns-then-not-self-clause-call : goal.returns-then-not-self-clause-call
+returns-then-not-self-clause-call g c = record {
+  written = tt;
+  torn = search rules;
+  round = search rules;
+  causes = search rules;
+  reaches = search rules;
+  storages = search rules;
+  framed = search rules;
+  refusals = search rules;
+}

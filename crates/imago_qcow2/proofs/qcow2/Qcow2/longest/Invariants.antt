@@ -1,12 +1,12 @@
 use Rattle.std.proofs.Common.{◌-◌, ℕ, ◌+◌, ◌<◌, ◌≤◌}
 use Rattle.imago_drivers.specs.Mapping.{Names}
-use Rattle.imago_qcow2.specs.Entry.{qcow2_place}
+use Rattle.imago_qcow2.specs.Tables.{loaded_of, loaded_place}
 use Rattle.imago_qcow2.proofs.qcow2.Qcow2.longest.Given as goal
 
 abbrev pub invariant-loop-count : goal.invariant-loop-count
 invariant-loop-count g l = record {
-  names : (i : ℕ) → i < l.count → Names l.mapping i (qcow2_place (g.S.Storage.bytes l.self.storage) (l.offset + i));
-  fits : l.offset + l.count ≤ l.self.size;
+  names : (i : ℕ) → i < l.count → Names l.mapping i (loaded_place (loaded_of l.self.header l.self.cluster l.self.tables) (g.S.Storage.bytes l.self.storage) (l.offset + i));
+  fits : l.offset + l.count ≤ l.self.header.size;
 }
 
 abbrev pub decreases-loop-count : goal.decreases-loop-count

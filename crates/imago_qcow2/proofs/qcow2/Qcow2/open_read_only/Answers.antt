@@ -1,13 +1,49 @@
-use Rattle.std.proofs.Common.{◌*◌, ◌/◌, ◌^◌, ◌≤◌, arith}
+use Rattle.std.proofs.Common.{◌*◌, ◌/◌, ◌^◌, ◌≤◌, ◌∙◌, ◌≡◌, false, ap, refl, inl, inr, arith}
+use Rattle.std.specs.Int.{div_ceil}
+use Rattle.std.proofs.lemmas.Result.{err_from_is_err_and}
+use Rattle.imago_qcow2.specs.Header.{NamesBacking}
 use Rattle.imago_qcow2.proofs.HeldSteps.{enough, span_positive}
+use Rattle.imago_qcow2.proofs.ToldSteps.{told_header, header_refused, tables_late}
 use Rattle.imago_qcow2.proofs.qcow2.Qcow2.open_read_only.Goals as goal
+use Rattle.imago_qcow2.proofs.qcow2.Qcow2.open_read_only.Goals.{else-not-backing_laid-via-then-not-backing_laid+else-names_backing, else-not-backing_laid-via-else-not-backing_laid}
 
 pub read_tables-requires-clause-inside : goal.read_tables-requires-clause-inside
 read_tables-requires-clause-inside g c =
     let h = c.in_ok-header.header in
-    let s = c.in_ok-header.ensures.sound in
+    let s = c.in_ok-header.ensures.header.sound in
     let cluster = c.cluster_of_bits-cluster.result in
     let covers : h.size ≤ h.l1_count * (2 ^ h.cluster_bits / 8 * 2 ^ h.cluster_bits) = s.covers in
     let here : h.size ≤ h.l1_count * (cluster / 8 * cluster) = rw c.cluster_of_bits-cluster.ensures.value covers in
     let few : c.div_ceil-count.result ≤ h.l1_count = rw c.div_ceil-count.ensures (enough h.size h.l1_count (cluster / 8 * cluster) (span_positive cluster c.cluster_of_bits-cluster.ensures.least) here) in
-    omega (arith, few, s.inside)
+    omega (arith, few, s.inside, c.in_ok-file.ensures.value)
+
+pub returns-in_err-header-clause-refused : goal.returns-in_err-header-clause-refused
+returns-in_err-header-clause-refused g c =
+    let p = err_from_is_err_and c.from_residual-in_err-header.result c.from_residual-in_err-header.ensures.1 in
+    rw (p.1, p.2) (inl (header_refused (g.S.Storage.features c.args.storage) (g.S.Storage.bytes c.args.storage) c.in_err-header.field-0.0 c.in_err-header.ensures.refusals))
+
+pub returns-in_err-tables-clause-refused : goal.returns-in_err-tables-clause-refused
+returns-in_err-tables-clause-refused g c =
+    let h = c.in_ok-header.header in
+    let value = c.cluster_of_bits-cluster.ensures.value in
+    let p = err_from_is_err_and c.from_residual-in_err-tables.result c.from_residual-in_err-tables.ensures.1 in
+    rw (p.1, p.2) (inl (tables_late (g.S.Storage.features c.args.storage) (g.S.Storage.bytes c.args.storage) h h.l1_start c.div_ceil-count.result c.cluster_of_bits-cluster.result c.in_err-tables.field-0.0 c.in_ok-header.ensures.header refl
+    (c.div_ceil-count.ensures ∙ ap (λ x. div_ceil h.size (x / 8 * x)) value) value c.in_err-tables.ensures.refusals))
+
+pub returns-clause-opened : goal.returns-clause-opened
+returns-clause-opened g c =
+    let x = c.in_ok-header.ensures.header in (
+      refl,
+      (x, λ told. told_header (g.S.Storage.features c.args.storage) (g.S.Storage.bytes c.args.storage) told c.in_ok-header.header x),
+      λ (alone : c.args.backing_laid ≡ false) (named : NamesBacking c.in_ok-header.header). elim c.else-not-backing_laid.branch [
+        | else-not-backing_laid-via-then-not-backing_laid+else-names_backing w ↦ w.names_backing.ensures.no w.if-names_backing.false named
+        | else-not-backing_laid-via-else-not-backing_laid w ↦ let laid = w.if-not-backing_laid.false in let z : ⊥ = cc in z
+      ],
+    )
+
+pub returns-then-names_backing-clause-refused : goal.returns-then-names_backing-clause-refused
+returns-then-names_backing-clause-refused g c =
+    let h = c.in_ok-header.header in
+    let x = c.in_ok-header.ensures.header in
+    let alone : c.args.backing_laid ≡ false = c.if-not-backing_laid.true in
+    inr (alone, (refl, (h, (x, λ told. told_header (g.S.Storage.features c.args.storage) (g.S.Storage.bytes c.args.storage) told h x), c.names_backing.ensures.yes c.if-names_backing.true)))

@@ -1,4 +1,5 @@
 use Rattle.std.proofs.Common.{◌+◌, ◌<◌, arith}
+use Rattle.imago_qcow2.specs.Tables.{loaded_of}
 use Rattle.imago_qcow2.proofs.MapSteps.{place_of}
 use Rattle.imago_qcow2.proofs.qcow2.Qcow2.part_at.Goals as goal
 
@@ -8,6 +9,6 @@ returns-clause-names g c = λ i h.
     let B = g.S.Storage.bytes s.storage in
     let r = c.cluster_at-cluster in
     let near : i < r.result.1 = omega (arith, h, c.min.ensures) in
-    let under : c.args.offset + i < s.size = omega (arith, h, c.min.ensures, c.requires) in
-    rw (place_of B s.cluster s.size c.args.offset (omega (arith, s.least)) s.cluster_is s.size_is r.result.0 i (r.ensures.same i near) (λ at e. omega (arith, near, (r.ensures.stored at e).1)) under)
+    let under : c.args.offset + i < s.header.size = omega (arith, h, c.min.ensures, c.requires) in
+    rw (place_of B (loaded_of s.header s.cluster s.tables) c.args.offset (omega (arith, s.least)) r.result.0 i (r.ensures.same i near) (λ at e. omega (arith, near, (r.ensures.stored at e).1)) under)
     (c.in_ok-mapping.ensures.names B i)

@@ -1,4 +1,4 @@
-use Rattle.std.proofs.Common.{◌≡◌, ℕ, ◌+◌, ◌-◌, ◌%◌, length, replicate, max, min, take, arith, refl, ap, ◌∙◌}
+use Rattle.std.proofs.Common.{◌≡◌, ℕ, ◌+◌, ◌-◌, ◌%◌, length, replicate, max, min, take, arith, refl, ap, ◌∙◌, inl, inr, IsErrOf}
 use Rattle.std.proofs.lemmas.List.{length-replicate}
 use Rattle.std.proofs.lemmas.Grind.{common_steps}
 use Rattle.std.proofs.lemmas.Result.{err_from_is_err_and}
@@ -8,6 +8,10 @@ use Rattle.imago_storage.proofs.Outcomes.{WriteOutcome_unchanged, WriteOutcome_o
 use Rattle.imago_storage.proofs.Splices.{length-splice}
 use Rattle.imago_storage.proofs.ZeroPieces.{next_piece, next_whole, zeroes_then, zero_front, OldOrNew_zeroes}
 use Rattle.imago_storage.proofs.Work.{first_piece, next_piece_done, pieces_within, no_pieces}
+use Rattle.imago_storage.specs.declared.error.Error.{Error}
+use Rattle.imago_storage.specs.Steps.{IsPureWrite}
+use Rattle.imago_storage.proofs.Steps.{pure_write, passed_on}
+use Rattle.imago_storage.proofs.Orders.{some_piece, first_whole, next_whole_pieces, first_piece_made, first_piece_refused, next_piece_made, next_piece_refused}
 use Rattle.imago_storage.proofs.storage.Storage.write_zeroes_as_data.Goals as goal
 
 pub returns-then-remainder-ne0-clause-written : goal.returns-then-remainder-ne0-clause-written
@@ -46,6 +50,9 @@ loop-done-init g c =
       written = WriteOutcome_ok _ _ _ _ _ _ _ c.in_ok-pure_writev.was (rw w at c.pure_writev.ensures.written);
       cause = CountsFaults_ok _ _ _ _ tt c.pure_writev.ensures.cause;
       pieces = first_piece (zero_piece f) c.args.count c.min-first.result (omega (arith, n)) (rw (w, length-replicate {A = ℕ} c.min-first.result 0) at c.pure_writev.ensures.work);
+      begun = λ more. omega (arith, n, some_piece f, more);
+      whole_pieces = first_whole (zero_piece f) c.args.count c.min-first.result (omega (arith, n));
+      made = first_piece_made (λ at n. IsPureWrite g.Self.Storage.features g.Self.Storage.bytes g.Self.Storage.maintenance at (replicate {A = ℕ} n 0)) (zero_piece f) c.args.offset c.min-first.result (some_piece f) (omega (arith, n)) (rw (w, c.in_ok-pure_writev.was) at (pure_write g.Self.Storage.features g.Self.Storage.bytes g.Self.Storage.maintenance c.pure_writev.ensures.performed c.pure_writev.ensures.written c.pure_writev.ensures.features));
     }
 
 pub pure_writev-requires-in-loop-done : goal.pure_writev-requires-in-loop-done
@@ -79,31 +86,55 @@ loop-done-preserved g c =
       written = WriteOutcome_ok _ _ _ _ _ _ _ c.in_ok-pure_writev-2.was step;
       cause = CountsFaults_ok _ _ _ _ tt (CountsFaults_then _ _ _ _ _ _ _ (ap (λ f. f.is_reliable) c.loop-done.invariant.features) c.loop-done.invariant.cause c.pure_writev-in-loop-done.ensures.cause);
       pieces = next_piece_done (zero_piece f) c.args.count c.loop-done.done c.min-next.result (omega arith) n c.loop-done.invariant.pieces (rw (w, length-replicate {A = ℕ} c.min-next.result 0) at c.pure_writev-in-loop-done.ensures.work);
+      begun = λ more. omega (arith, n, some_piece f);
+      whole_pieces = next_whole_pieces (zero_piece f) c.args.count c.loop-done.done c.min-next.result (some_piece f) c.loop-done.invariant.whole_pieces (omega arith) n;
+      made = next_piece_made (λ at n. IsPureWrite g.Self.Storage.features g.Self.Storage.bytes g.Self.Storage.maintenance at (replicate {A = ℕ} n 0)) (zero_piece f) c.args.offset c.args.count c.loop-done.done c.min-next.result (some_piece f) c.loop-done.invariant.whole_pieces (c.loop-done.invariant.begun (omega arith)) (omega arith) n c.loop-done.invariant.made
+          (rw (w, c.in_ok-pure_writev-2.was) at (pure_write g.Self.Storage.features g.Self.Storage.bytes g.Self.Storage.maintenance c.pure_writev-in-loop-done.ensures.performed c.pure_writev-in-loop-done.ensures.written c.pure_writev-in-loop-done.ensures.features));
     }
 
-pub returns-then-remainder-ne0-clause-work : goal.returns-then-remainder-ne0-clause-work
-returns-then-remainder-ne0-clause-work g c = no_pieces _ _ _
+pub returns-then-remainder-ne0-clause-performed : goal.returns-then-remainder-ne0-clause-performed
+returns-then-remainder-ne0-clause-performed g c = record { work = no_pieces _ _ _; performed = inl (refl, inl refl) }
 
-pub returns-in_err-zeroes-clause-work : goal.returns-in_err-zeroes-clause-work
-returns-in_err-zeroes-clause-work g c = no_pieces _ _ _
+pub returns-in_err-zeroes-clause-performed : goal.returns-in_err-zeroes-clause-performed
+returns-in_err-zeroes-clause-performed g c =
+    let p = err_from_is_err_and c.from_residual.result c.from_residual.ensures.1 in
+    let memory : IsErrOf c.from_residual.result Error.Memory = grind (arith, common_steps) in
+    record { work = no_pieces _ _ _; performed = inl (refl, inr memory) }
 
-pub returns-in_err-pure_writev-clause-work : goal.returns-in_err-pure_writev-clause-work
-returns-in_err-pure_writev-clause-work g c =
+pub returns-in_err-pure_writev-clause-performed : goal.returns-in_err-pure_writev-clause-performed
+returns-in_err-pure_writev-clause-performed g c =
     let f = g.Self.Storage.features c.args.self.now in
     let n : c.min-first.result ≡ min (zero_piece f) c.args.count = grind (arith, common_steps) in
     let w : c.deref.result.now ≡ replicate {A = ℕ} c.min-first.result 0 = c.deref.ensures.value ∙ c.in_ok-zeroes.ensures.zeroes in
-    pieces_within (zero_piece f) c.args.count c.min-first.result (omega arith) (first_piece (zero_piece f) c.args.count c.min-first.result n (rw (w, length-replicate {A = ℕ} c.min-first.result 0) at c.pure_writev.ensures.work))
+    let e = c.pure_writev.ensures in
+    let same = passed_on _ _ _ c.in_err-pure_writev.was c.from_residual-in_err-pure_writev.ensures.1 in
+    let write = pure_write g.Self.Storage.features g.Self.Storage.bytes g.Self.Storage.maintenance e.performed e.written e.features in
+    record {
+      work = pieces_within (zero_piece f) c.args.count c.min-first.result (omega arith) (first_piece (zero_piece f) c.args.count c.min-first.result n (rw (w, length-replicate {A = ℕ} c.min-first.result 0) at e.work));
+      performed = inr (first_piece_refused (λ at n. IsPureWrite g.Self.Storage.features g.Self.Storage.bytes g.Self.Storage.maintenance at (replicate {A = ℕ} n 0)) (zero_piece f) c.args.offset c.args.count c.min-first.result n (rw w at write) c.in_err-pure_writev.was same);
+    }
 
-pub returns-in_err-pure_writev-2-clause-work : goal.returns-in_err-pure_writev-2-clause-work
-returns-in_err-pure_writev-2-clause-work g c =
+pub returns-in_err-pure_writev-2-clause-performed : goal.returns-in_err-pure_writev-2-clause-performed
+returns-in_err-pure_writev-2-clause-performed g c =
     let f = g.Self.Storage.features c.args.self.now in
     let n : c.min-next.result ≡ min (zero_piece f) (c.args.count - c.loop-done.done) = grind (arith, common_steps) in
     let w = zero_front c.deref-in-loop-done.result.now c.min-first.result c.min-next.result (c.deref-in-loop-done.ensures.value ∙ c.in_ok-zeroes.ensures.zeroes) (omega arith) in
-    pieces_within (zero_piece f) c.args.count (c.loop-done.done + c.min-next.result) (omega arith)
-    (next_piece_done (zero_piece f) c.args.count c.loop-done.done c.min-next.result (omega arith) n c.loop-done.invariant.pieces (rw (w, length-replicate {A = ℕ} c.min-next.result 0) at c.pure_writev-in-loop-done.ensures.work))
+    let e = c.pure_writev-in-loop-done.ensures in
+    let same = passed_on _ _ _ c.in_err-pure_writev-2.was c.from_residual-in_err-pure_writev-2.ensures.1 in
+    let write = pure_write g.Self.Storage.features g.Self.Storage.bytes g.Self.Storage.maintenance e.performed e.written e.features in
+    record {
+      work = pieces_within (zero_piece f) c.args.count (c.loop-done.done + c.min-next.result) (omega arith)
+          (next_piece_done (zero_piece f) c.args.count c.loop-done.done c.min-next.result (omega arith) n c.loop-done.invariant.pieces (rw (w, length-replicate {A = ℕ} c.min-next.result 0) at e.work));
+      performed = inr (next_piece_refused (λ at n. IsPureWrite g.Self.Storage.features g.Self.Storage.bytes g.Self.Storage.maintenance at (replicate {A = ℕ} n 0)) (zero_piece f) c.args.offset c.args.count c.loop-done.done c.min-next.result (some_piece f) c.loop-done.invariant.whole_pieces (c.loop-done.invariant.begun (omega arith)) (omega arith) n c.loop-done.invariant.made (rw w at write) c.in_err-pure_writev-2.was same);
+    }
 
-pub returns-clause-work : goal.returns-clause-work
-returns-clause-work g c = pieces_within _ _ _ c.loop-done.invariant.counted c.loop-done.invariant.pieces
+pub returns-clause-performed : goal.returns-clause-performed
+returns-clause-performed g c =
+    let all : c.loop-done.done ≡ c.args.count = omega (arith, c.loop-done.invariant.counted, c.loop-done-test.false) in
+    record {
+      work = pieces_within _ _ _ c.loop-done.invariant.counted c.loop-done.invariant.pieces;
+      performed = inr (rw all at c.loop-done.invariant.made);
+    }
 
 pub returns-clause-written : goal.returns-clause-written
 returns-clause-written g c =

@@ -31,31 +31,32 @@ returns-then-self-clause-prepared g c =
         ),
       );
       apart = λ t e. let x = c.existing-then-self.ensures.state in let z : ⊥ = cc in absurd z;
-      round = λ k. rw c.requires.spent tt;
+      round = λ k told. rw c.requires.spent tt;
     }
 
-pub returns-in_ok-write_bytes-in-Ok-clause-prepared : goal.returns-in_ok-write_bytes-in-Ok-clause-prepared
-returns-in_ok-write_bytes-in-Ok-clause-prepared g c =
+pub returns-in_ok-write_copy-in-Ok-clause-prepared : goal.returns-in_ok-write_copy-in-Ok-clause-prepared
+returns-in_ok-write_copy-in-Ok-clause-prepared g c =
     let s = c.args.self.now in
     let B = g.S.Storage.bytes s.storage in
     let m = c.to_commit.result in
     let e = c.to_commit.ensures in
     let n : m.length ≡ c.args.count = e.length in
     let items : c.deref.result.now ≡ c.in-Ok.bytes.items = c.deref.ensures.value in
-    let shows : IsTrue (g.S.Storage.features s.storage).keeps_data → (p : ℕ) → p < s.size
-    → values (lent g.B.LowerLayer.as_layer_below c.args.below).at (copy_place s.copied s.size B) p ≡ Byte (slice_index (g.S.Storage.bytes c.write_bytes.new.storage) p)
-    = λ k. copied_below s.size B _ c.in-Ok.bytes.items s.copied _ c.if-self.false c.in-Ok.ensures.count c.in-Ok.ensures.bytes (rw items at (c.in_ok-write_bytes-in-Ok.ensures.written k)) in
+    let shows : IsTrue (g.S.Storage.features s.storage).keeps_data
+    → IsTrue (lent g.B.LowerLayer.as_layer_below c.args.below).tells_bytes → (p : ℕ) → p < s.size
+    → values (lent g.B.LowerLayer.as_layer_below c.args.below).at (copy_place s.copied s.size B) p ≡ Byte (slice_index (g.S.Storage.bytes c.write_copy.new.storage) p)
+    = λ k told. copied_below s.size B _ c.in-Ok.bytes.items s.copied _ c.if-self.false c.in-Ok.ensures.count (c.in-Ok.ensures.bytes told) (rw items at (c.in_ok-write_copy-in-Ok.ensures.written k)) in
     record {
       within = omega (arith, n);
       some = λ h. omega (arith, n);
       part = tt;
       whole = λ h. absurd h;
       no_memory = λ h. absurd h;
-      later = λ i. rw (c.in_ok-write_bytes-in-Ok.ensures.features) (omega arith);
+      later = λ i. rw (c.in_ok-write_copy-in-Ok.ensures.features) (omega arith);
       around = λ q e. around_copy _ _ _ q e (omega (arith, c.requires.inside));
       near = λ q e. copy_near s.size _ _ q c.args.offset m.length e (omega (arith, n, c.if-count-eq0.false))
           (omega (arith, n, c.requires.inside));
       direct = λ x. let y = e.state in let z : ⊥ = cc in absurd z;
-      apart = λ t x. (_, refl, (e.storage, e.offset, e.length, e.state), refl, λ k over p i. shows k p (omega (arith, n, i.1, c.requires.inside)));
-      round = λ k p h l out. shows k p l;
+      apart = λ t x. (_, refl, (e.storage, e.offset, e.length, e.state), refl, λ k told over p i. shows k told p (omega (arith, n, i.1, c.requires.inside)));
+      round = λ k told p h l out. shows k told p l;
     }

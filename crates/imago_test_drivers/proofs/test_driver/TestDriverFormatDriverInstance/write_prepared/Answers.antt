@@ -1,3 +1,4 @@
+use Rattle.std.proofs.Common.{rules}
 use Rattle.std.specs.Prelude.{length}
 use Rattle.imago_test_drivers.specs.declared.test_driver.TestDriver.TheVariants as T
 use Rattle.imago_test_drivers.specs.TestDriver.{test_view}
@@ -9,37 +10,43 @@ returns-in-Raw-clause-foreign g c =
     let s = g.S.Storage in
     foreign_at (test_view s.features s.fault_count s.bytes) c.in-Raw.is c.args.mapping.now _ c.write_prepared.ensures.foreign
 
-pub returns-in-Raw-clause-causes : goal.returns-in-Raw-clause-causes
-returns-in-Raw-clause-causes g c =
-    let s = g.S.Storage in
-    let v = test_view s.features s.fault_count s.bytes in
-    causes_at v c.in-Raw.is c.args.mapping.now (v (T.Raw c.write_prepared.new.self)) c.args.at (length c.args.source.now) c.write_prepared.result c.write_prepared.ensures.causes
-
-pub returns-in-Raw-clause-framed : goal.returns-in-Raw-clause-framed
-returns-in-Raw-clause-framed g c = rw c.in-Raw.is c.write_prepared.ensures.framed
-
-pub returns-in-Raw-clause-refusals : goal.returns-in-Raw-clause-refusals
-returns-in-Raw-clause-refusals g c =
-    let s = g.S.Storage in
-    refusals_at (test_view s.features s.fault_count s.bytes) c.in-Raw.is c.args.mapping.now c.args.at (length c.args.source.now) c.write_prepared.result c.write_prepared.ensures.refusals
-
 pub returns-in-Choppy-clause-foreign : goal.returns-in-Choppy-clause-foreign
 returns-in-Choppy-clause-foreign g c =
     let s = g.S.Storage in
     foreign_at (test_view s.features s.fault_count s.bytes) c.in-Choppy.is c.args.mapping.now _ c.write_prepared-in-Choppy.ensures.foreign
 
-pub returns-in-Choppy-clause-causes : goal.returns-in-Choppy-clause-causes
-returns-in-Choppy-clause-causes g c =
-    let s = g.S.Storage in
-    let v = test_view s.features s.fault_count s.bytes in
-    let x = c.write_prepared-in-Choppy in
-    causes_at v c.in-Choppy.is c.args.mapping.now (v (T.Choppy x.new.self)) c.args.at (length c.args.source.now) x.result x.ensures.causes
+pub returns-in-Raw-clause-call : goal.returns-in-Raw-clause-call
+returns-in-Raw-clause-call g c = record {
+  written = search rules;
+  torn = search rules;
+  round = search rules;
+  causes =
+      let s = g.S.Storage in
+      let v = test_view s.features s.fault_count s.bytes in
+      causes_at v c.in-Raw.is c.args.mapping.now (v (T.Raw c.write_prepared.new.self)) c.args.at (length c.args.source.now) c.write_prepared.result c.write_prepared.ensures.call.causes;
+  reaches = search rules;
+  storages = search rules;
+  framed = rw c.in-Raw.is c.write_prepared.ensures.call.framed;
+  refusals =
+      let s = g.S.Storage in
+      refusals_at (test_view s.features s.fault_count s.bytes) c.in-Raw.is c.args.mapping.now c.args.at (length c.args.source.now) c.write_prepared.result c.write_prepared.ensures.call.refusals;
+}
 
-pub returns-in-Choppy-clause-framed : goal.returns-in-Choppy-clause-framed
-returns-in-Choppy-clause-framed g c = rw c.in-Choppy.is c.write_prepared-in-Choppy.ensures.framed
-
-pub returns-in-Choppy-clause-refusals : goal.returns-in-Choppy-clause-refusals
-returns-in-Choppy-clause-refusals g c =
-    let s = g.S.Storage in
-    let x = c.write_prepared-in-Choppy in
-    refusals_at (test_view s.features s.fault_count s.bytes) c.in-Choppy.is c.args.mapping.now c.args.at (length c.args.source.now) x.result x.ensures.refusals
+pub returns-in-Choppy-clause-call : goal.returns-in-Choppy-clause-call
+returns-in-Choppy-clause-call g c = record {
+  written = search rules;
+  torn = search rules;
+  round = search rules;
+  causes =
+      let s = g.S.Storage in
+      let v = test_view s.features s.fault_count s.bytes in
+      let x = c.write_prepared-in-Choppy in
+      causes_at v c.in-Choppy.is c.args.mapping.now (v (T.Choppy x.new.self)) c.args.at (length c.args.source.now) x.result x.ensures.call.causes;
+  reaches = search rules;
+  storages = search rules;
+  framed = rw c.in-Choppy.is c.write_prepared-in-Choppy.ensures.call.framed;
+  refusals =
+      let s = g.S.Storage in
+      let x = c.write_prepared-in-Choppy in
+      refusals_at (test_view s.features s.fault_count s.bytes) c.in-Choppy.is c.args.mapping.now c.args.at (length c.args.source.now) x.result x.ensures.call.refusals;
+}

@@ -47,7 +47,7 @@ returns-in-Some-clause-prepared g c =
     let equal = rw c.deref-2.ensures.value at c.run_of-run.ensures.equal in
     let ends = rw c.deref-2.ensures.value at c.run_of-run.ensures.ends in
     let e = c.existing-in-Some.ensures in
-    prepared_existing f h n A B table s.size s.settings s.short s.waiting o c.args.count run c.in-Some.index _ c.args.overwrite _ c.existing-in-Some.result
+    prepared_existing f h n A B table s.size s.settings s.short s.waiting o c.args.count run c.in-Some.index _ c.args.overwrite _ _ c.existing-in-Some.result
     c.requires.spent at (sym c.storage_index.ensures ∙ c.in-Some.is) c.run_of-run.ensures.most equal ends e.storage e.offset e.length e.state
 
 pub returns-in-Some-clause-call : goal.returns-in-Some-clause-call
@@ -133,9 +133,9 @@ returns-clause-prepared g c =
     let n' = g.S.Storage.fault_count t.first + g.S.Storage.fault_count t.second + t.faults in
     let e = c.copy_shown.ensures in
     let m = c.to_commit.ensures in
-    prepared_apart f h (g.S.Storage.features t.first) (g.S.Storage.features t.second) n n' A B A' B' table s.size s.settings s.short s.waiting o c.args.count run _ _ c.args.overwrite _ c.to_commit.result
+    prepared_apart f h (g.S.Storage.features t.first) (g.S.Storage.features t.second) n n' A B A' B' table s.size s.settings s.short s.waiting o c.args.count run _ _ c.args.overwrite _ _ c.to_commit.result
     e.first_features e.second_features at c.run_of-run.ensures.most equal ends m.storage m.offset m.length m.state
-    (λ k over. shown_copy _ (at_index A B) table A' o run _ free equal (c.in_ok-copy_shown.ensures.copied (and_left f.keeps_data h.keeps_data k) over))
+    (λ k tells over. shown_copy _ (at_index A B) table A' o run _ free equal (c.in_ok-copy_shown.ensures.copied (and_left f.keeps_data h.keeps_data k) tells over))
 
 pub returns-clause-call : goal.returns-clause-call
 returns-clause-call g c =

@@ -6,5 +6,5 @@ use Rattle.imago_format_tests.proofs.tests.cow.call.write_mapped.Goals as goal
 pub write_mapped-requires-clause-mapped : goal.write_mapped-requires-clause-mapped
 write_mapped-requires-clause-mapped g c = λ i h.
     let n = length-take c.in_ok-mapped.mapped.2 c.args.bytes.now in
-    let x = c.in_ok-mapped.ensures.mapped.origins i (omega (arith, n, h)) in
+    let x = c.in_ok-mapped.ensures.call.mapped.origins i (omega (arith, n, h)) in
     (c.args.offset + i, x.0, x.1)

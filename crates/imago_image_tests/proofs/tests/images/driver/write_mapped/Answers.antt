@@ -4,5 +4,5 @@ use Rattle.imago_image_tests.proofs.tests.images.driver.write_mapped.Goals as go
 -- what a range is mapped to may be written there
 pub write_mapped-requires-clause-mapped : goal.write_mapped-requires-clause-mapped
 write_mapped-requires-clause-mapped g c = λ i h.
-    let x = c.in_ok-mapped.ensures.mapped.origins i (omega arith) in
+    let x = c.in_ok-mapped.ensures.call.mapped.origins i (omega arith) in
     (c.args.offset + i, x.0, x.1)

@@ -1,7 +1,7 @@
 use Rattle.std.proofs.Common.{◌≡◌}
 use Rattle.std.specs.Path.{path_components, components_remaining}
-use Rattle.imago_plan.specs.Names.{none_leads_out}
-use Rattle.imago_plan.proofs.name.stays_below.Given as goal
+use Rattle.imago_file.specs.Names.{none_leads_out}
+use Rattle.imago_file.proofs.name.stays_below.Given as goal
 
 -- what the whole says, what is left says
 abbrev pub invariant-loop-component : goal.invariant-loop-component

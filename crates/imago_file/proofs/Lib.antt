@@ -1,0 +1,5 @@
+pub mod Files
+pub mod Names
+pub mod Openings
+pub mod RoundTrips
+pub mod Sizes

@@ -1,0 +1,7 @@
+//! Tests of storages over files, and files and a host in memory for them.
+#![tactic(auto)]
+
+pub mod named_files;
+#[cfg(test)]
+mod tests;
+pub mod torn_file;
