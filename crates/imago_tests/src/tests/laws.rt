@@ -6,7 +6,7 @@ ghost use Rattle.imago_storage.specs.Features.{IsAlignedRequest};
 ghost use Rattle.imago_drivers.specs.RawImage.{storage_in, size_of, writability_of};
 ghost use Rattle.imago_drivers.specs.Room.{HasRoom};
 ghost use Rattle.imago_vmdk.specs.Image.{is_opened};
-ghost use Rattle.imago_access.specs.Chain.{driver};
+ghost use Rattle.imago_access.specs.Chain.{driver, backing};
 
 use super::files::{opened_vmdk, stored};
 use imago::cow::Cow;
@@ -164,6 +164,7 @@ fn call_laws(alloc: Global) -> Result<(), Error> {
 
 /// A writable raw image of 1024 bytes in memory.
 fn in_memory_image(alloc: Global) -> Result<FormatAccess<Raw<MemStorage>>, Error>
+    ensures alone { IfOk result (λ x. backing x ≡ None) }
     ensures size { IfOk result (λ x. size_of (driver x) ≡ 1024) }
     ensures writable { IfOk result (λ x. writability_of (driver x) ≡ true) }
     ensures room { IfOk result
