@@ -30,6 +30,10 @@ enough size count span positive covers =
     let v : div_ceil size span < count + 1 = lt_of_mul-lt-mul_right span u in
     omega (arith, v)
 
+-- and they cover the disk
+pub covers_disk : (size len count span : ℕ) → 0 < span → count ≡ div_ceil size span → len ≡ count → size ≤ len * span
+covers_disk size len count span positive is all = let t = (div_ceil_times size span positive).0 in rw (all, is) t
+
 pub span_positive : (c : ℕ) → 512 ≤ c → 0 < c / 8 * c
 span_positive c least = mul-pos (let x : 0 < c / 8 = omega (arith, least) in x) (omega (arith, least))
 

@@ -23,7 +23,7 @@ use Rattle.imago_qcow2.specs.declared.table.Tables.{Tables}
 use Rattle.imago_qcow2.specs.Numbers.{be32, be64}
 use Rattle.imago_qcow2.specs.Header.{header_of, own_length, IsSound}
 use Rattle.imago_qcow2.specs.Entry.{version_of, disk_size, l1_start, cluster_length, per_table, table_in_entry, cluster_in_entry, l1_entry, table_of, cluster_by, cluster_of, place_by, qcow2_place}
-use Rattle.imago_qcow2.specs.Tables.{LoadedImage, loaded_of, entry_cluster, held_cluster, loaded_cluster, loaded_place, header_cluster, header_tables, says_entry, IsHeadRead, IsAccepted, AreEntriesRead, IsHeld, IsLoadedImage}
+use Rattle.imago_qcow2.specs.Tables.{AreTables, LoadedImage, loaded_of, entry_cluster, held_cluster, loaded_cluster, loaded_place, header_cluster, header_tables, says_entry, IsHeadRead, IsAccepted, AreEntriesRead, IsHeld, IsLoadedImage}
 use Rattle.imago_qcow2.specs.Opening.{table_count, TablesWrap, EntryWraps, start_reasons, header_reasons, tables_reasons, open_reasons, IsRefusedAsRead, IsRefusedOpening}
 use Rattle.imago_qcow2.specs.Qcow2Laws.{in_disk, past_disk, place_in, place_out}
 use Rattle.imago_qcow2.proofs.NumberSteps.{read64}
@@ -238,3 +238,10 @@ pub tables_late : (f : Features) (bytes : List ℕ) (h : Header) (start count cl
 tables_late f bytes h start count cluster e x a b c r =
     let here : allowed (tables_reasons f bytes h.l1_start (header_tables h) (header_cluster h)) e = reasons_moved f bytes start h.l1_start count (header_tables h) cluster (header_cluster h) e a b c r in
     refused_so f bytes e (inr (inr (h, x, here)))
+
+-- the header and tables that were read are those of the file, by other names of what the header says
+pub loaded_image : (f : Features) (bytes : List ℕ) (h : Header) (tables : Tables) (count cluster : ℕ) → IsAccepted f bytes h → count ≡ header_tables h → cluster ≡ header_cluster h
+    → AreTables f bytes h.l1_start count cluster tables.l1.items tables.l2.items → ∥ IsLoadedImage f bytes h tables ∥₁
+loaded_image f bytes h tables count cluster x a b t =
+    let moved : AreTables f bytes h.l1_start (header_tables h) (header_cluster h) tables.l1.items tables.l2.items = rw (← a, ← b) t in
+    ∣ (x, moved) ∣₁

@@ -4,6 +4,7 @@
 //! [`entry`] what the entries of its tables say, and [`number`] the numbers that these are made of.
 #![tactic(auto)]
 
+mod absent;
 mod backing;
 pub mod entry;
 pub mod fault;

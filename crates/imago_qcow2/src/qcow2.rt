@@ -1,15 +1,17 @@
 //! The driver of qcow2 images.
 ghost use Rattle.std.specs.Prelude.{◌≡◌, ℕ, ◌+◌, ◌-◌, ◌*◌, ◌/◌, ◌%◌, ◌^◌, ◌<◌, ◌≤◌, ◌⊎◌, length};
 ghost use Rattle.std.specs.Prelude.{List, true, false, IsErrOf, IfErr, IfOk, OnOk, IsTrue, Err};
+ghost use Rattle.std.proofs.Props.{props};
 ghost use Rattle.imago_storage.specs.declared.error.Error.{Error};
 ghost use Rattle.imago_storage.specs.Error.{IsExtRefusal};
 ghost use Rattle.imago_drivers.specs.Commit.{IsCommit, IsCancel};
 ghost use Rattle.imago_drivers.specs.Mapping.{Names};
 ghost use Rattle.imago_drivers.specs.Place.{Refused};
 ghost use Rattle.imago_drivers.specs.Reasons.{allowed};
+ghost use Rattle.imago_qcow2.specs.Absent.{IsAbsentIndex};
 ghost use Rattle.imago_qcow2.specs.Header.{header_of, NamesBacking};
 ghost use Rattle.imago_qcow2.specs.Tables.{IsHeadRead, IsAccepted, IsLoadedImage};
-ghost use Rattle.imago_qcow2.specs.Tables.{header_cluster, loaded_cluster, loaded_place};
+ghost use Rattle.imago_qcow2.specs.Tables.{header_cluster, loaded_cluster, loaded_of, loaded_place};
 ghost use Rattle.imago_qcow2.specs.Backing.{IsBackingName, IsBackingNameRead, IsFormatName};
 ghost use Rattle.imago_qcow2.specs.Backing.{IsFormatRefusal, extensions_end, format_of};
 ghost use Rattle.imago_qcow2.specs.Opening.{read_reasons, header_reasons, probe_of};
@@ -19,6 +21,7 @@ ghost use Rattle.imago_qcow2.specs.Qcow2.{loaded_view};
 ghost use Rattle.imago_qcow2.specs.Qcow2Calls.{qcow2_calls};
 ghost use Rattle.imago_qcow2.specs.Qcow2Laws.{qcow2_lawful, qcow2_causes};
 
+use crate::absent::AbsentRuns;
 use crate::backing::find_format;
 use crate::entry::{GuestCluster, cluster_in};
 use crate::header::{HEADER, Header, cluster_of_bits, read_header};
@@ -49,12 +52,14 @@ pub struct Qcow2<S: Storage> {
     /// A cluster's length in bytes.
     cluster: u64,
     tables: Tables,
+    absent: AbsentRuns,
     ghost cluster_is: { cluster ≡ header_cluster header },
     ghost fits: { header.size < 2 ^ 64 },
     ghost least: { 512 ≤ cluster },
     ghost most: { cluster ≤ 2097152 },
     ghost covers: { header.size ≤ length tables.l1.items * (cluster / 8 * cluster) },
     ghost loaded: { ∥ IsLoadedImage (S.features storage) (S.bytes storage) header tables ∥₁ },
+    ghost absent_runs: { IsAbsentIndex (loaded_of header cluster tables) absent } by { Prim.hlevel props },
 }
 
 /// What the header of a storage of that length says.
@@ -137,11 +142,13 @@ impl<S: Storage> Qcow2<S> {
         let cluster = cluster_of_bits(header.cluster_bits);
         let count = header.size.div_ceil(cluster / 8 * cluster);
         let tables = read_tables(&storage, alloc, header.l1_start, count, cluster, file)?;
+        let absent = AbsentRuns::new(alloc, &tables, cluster / 8)?;
         Ok(Qcow2 {
             storage,
             header,
             cluster,
             tables,
+            absent,
         })
     }
 
@@ -228,6 +235,43 @@ impl<S: Storage> Qcow2<S> {
         }
     }
 
+    /// How many bytes from that offset of the disk on are known to stand in absent guest clusters.
+    fn absent_at(&self, offset: u64) -> u64
+        requires { offset < self.now.header.size }
+        ensures { (i : ℕ)
+            → i < result
+            → loaded_cluster (loaded_in self.now) ((offset + i) / self.now.cluster)
+            ≡ GuestCluster.Absent }
+    {
+        let cluster = self.cluster;
+        let entries = cluster / 8;
+        let table = (offset / (entries * cluster)) as usize;
+        let index = offset / cluster % entries;
+        let count = self.absent.count_from(&self.tables, table, index, entries);
+        count
+            .saturating_mul(cluster)
+            .saturating_sub(offset % cluster)
+    }
+
+    /// What the guest cluster at that offset of the disk is, and how many bytes from there on stand
+    /// in such guest clusters: of absent ones as many as are known.
+    fn run_at(&self, offset: u64) -> (GuestCluster, u64)
+        requires { offset < self.now.header.size }
+        ensures same { (i : ℕ)
+            → i < result.1
+            → loaded_cluster (loaded_in self.now) ((offset + i) / self.now.cluster) ≡ result.0 }
+        ensures some { 0 < result.1 }
+        ensures stored { (at : ℕ)
+            → result.0 ≡ GuestCluster.Stored at
+            → (at < 2 ^ 56) × (result.1 ≡ self.now.cluster - offset % self.now.cluster) }
+    {
+        let (cluster, same) = self.cluster_at(offset);
+        match cluster {
+            GuestCluster::Absent => (cluster, same.max(self.absent_at(offset))),
+            _ => (cluster, same),
+        }
+    }
+
     /// The mapping of the places from that offset of the disk on, and of how many it is known: at
     /// least one.
     fn part_at(&self, offset: u64) -> Result<(ShallowMapping, u64), Error>
@@ -242,7 +286,7 @@ impl<S: Storage> Qcow2<S> {
         ensures refused { IfErr result
             (λ e. loaded_place (loaded_in self.now) (S.bytes self.now.storage) offset ≡ Refused e) }
     {
-        let (cluster, same) = self.cluster_at(offset);
+        let (cluster, same) = self.run_at(offset);
         let mapping = mapping_of(cluster, offset % self.cluster, offset)?;
         Ok((mapping, same.min(self.header.size - offset)))
     }

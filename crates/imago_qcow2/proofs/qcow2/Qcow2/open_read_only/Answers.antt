@@ -1,9 +1,13 @@
-use Rattle.std.proofs.Common.{◌*◌, ◌/◌, ◌^◌, ◌≤◌, ◌∙◌, ◌≡◌, false, ap, refl, inl, inr, arith}
+use Rattle.std.proofs.Common.{rules, ◌*◌, ◌/◌, ◌^◌, ◌≤◌, ◌∙◌, ◌≡◌, false, ap, refl, inl, inr, length, arith}
+use Rattle.std.specs.Prelude.{IfErr, ◌⊎◌}
 use Rattle.std.specs.Int.{div_ceil}
+use Rattle.imago_storage.specs.declared.error.Error.TheVariants as E
+use Rattle.imago_qcow2.specs.Opening.{IsRefusedOpening, IsRefusedOverlay}
+use Rattle.imago_qcow2.proofs.AbsentSteps.{lacks_memory}
 use Rattle.std.proofs.lemmas.Result.{err_from_is_err_and}
 use Rattle.imago_qcow2.specs.Header.{NamesBacking}
-use Rattle.imago_qcow2.proofs.HeldSteps.{enough, span_positive}
-use Rattle.imago_qcow2.proofs.ToldSteps.{told_header, header_refused, tables_late}
+use Rattle.imago_qcow2.proofs.HeldSteps.{covers_disk, enough, span_positive}
+use Rattle.imago_qcow2.proofs.ToldSteps.{told_header, header_refused, tables_late, loaded_image}
 use Rattle.imago_qcow2.proofs.qcow2.Qcow2.open_read_only.Goals as goal
 use Rattle.imago_qcow2.proofs.qcow2.Qcow2.open_read_only.Goals.{else-not-backing_laid-via-then-not-backing_laid+else-names_backing, else-not-backing_laid-via-else-not-backing_laid}
 
@@ -47,3 +51,29 @@ returns-then-names_backing-clause-refused g c =
     let x = c.in_ok-header.ensures.header in
     let alone : c.args.backing_laid ≡ false = c.if-not-backing_laid.true in
     inr (alone, (refl, (h, (x, λ told. told_header (g.S.Storage.features c.args.storage) (g.S.Storage.bytes c.args.storage) told h x), c.names_backing.ensures.yes c.if-names_backing.true)))
+
+pub invariant_of-result : goal.invariant_of-result
+invariant_of-result g c = record {
+  cluster_is = search rules;
+  fits = search rules;
+  least = search rules;
+  most = search rules;
+  covers = let cluster = c.cluster_of_bits-cluster.result in
+      covers_disk c.in_ok-header.header.size (length c.in_ok-tables.tables.l1.items) c.div_ceil-count.result (cluster / 8 * cluster) (span_positive cluster c.cluster_of_bits-cluster.ensures.least) c.div_ceil-count.ensures c.in_ok-tables.ensures.held.all;
+  loaded = let value = c.cluster_of_bits-cluster.ensures.value in
+      loaded_image (g.S.Storage.features c.args.storage) (g.S.Storage.bytes c.args.storage) c.in_ok-header.header c.in_ok-tables.tables c.div_ceil-count.result c.cluster_of_bits-cluster.result c.in_ok-header.ensures.header
+      (c.div_ceil-count.ensures ∙ ap (λ x. div_ceil c.in_ok-header.header.size (x / 8 * x)) value) value c.in_ok-tables.ensures.held;
+  absent_runs = c.in_ok-absent.ensures c.in_ok-header.header c.cluster_of_bits-cluster.result refl;
+}
+
+pub returns-in_err-absent-clause-refused : goal.returns-in_err-absent-clause-refused
+returns-in_err-absent-clause-refused g c =
+    let F = g.S.Storage.features c.args.storage in
+    let B = g.S.Storage.bytes c.args.storage in
+    let h = c.in_ok-header.header in
+    let value = c.cluster_of_bits-cluster.ensures.value in
+    let m : IfErr c.from_residual-in_err-absent.result (λ e. e ≡ E.Memory) = search rules in
+    lacks_memory c.from_residual-in_err-absent.result
+    (λ e. IsRefusedOpening F B e ⊎ ((c.args.backing_laid ≡ false) × IsRefusedOverlay F B e)) m
+    (inl (tables_late F B h h.l1_start c.div_ceil-count.result c.cluster_of_bits-cluster.result E.Memory c.in_ok-header.ensures.header refl
+    (c.div_ceil-count.ensures ∙ ap (λ x. div_ceil h.size (x / 8 * x)) value) value tt))

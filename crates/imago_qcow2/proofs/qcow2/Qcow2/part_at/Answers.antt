@@ -7,7 +7,7 @@ pub returns-clause-names : goal.returns-clause-names
 returns-clause-names g c = λ i h.
     let s = c.args.self.now in
     let B = g.S.Storage.bytes s.storage in
-    let r = c.cluster_at-cluster in
+    let r = c.run_at-cluster in
     let near : i < r.result.1 = omega (arith, h, c.min.ensures) in
     let under : c.args.offset + i < s.header.size = omega (arith, h, c.min.ensures, c.requires) in
     rw (place_of B (loaded_of s.header s.cluster s.tables) c.args.offset (omega (arith, s.least)) r.result.0 i (r.ensures.same i near) (λ at e. omega (arith, near, (r.ensures.stored at e).1)) under)
