@@ -2,7 +2,9 @@ pub mod BlockSteps
 pub mod ZeroFill
 pub mod NameSteps
 pub mod FreeSteps
+pub mod EntrySteps
 pub mod TableSteps
+pub mod HeldSteps
 pub mod WholeSteps
 pub mod ZeroSteps
 pub mod MapSteps

@@ -1,5 +1,6 @@
 use Rattle.std.proofs.Common.{suc, zero, ◌≡◌, ◌≢◌, ℕ, ◌+◌, ◌-◌, ◌<◌, ◌≤◌, ⊎_elim, List, [], ◌∷◌, length, Option, Some, None, refl, sym, ap, ◌∙◌, arith}
 use Rattle.std.specs.Prelude.{sum_by, slice_set, slice_get, slice_index_or, take}
+use Rattle.std.proofs.lemmas.Option.{slice_get_within, get_or_from_slice_get}
 use Rattle.std.proofs.lemmas.Bool.{cases_lt}
 use Rattle.std.proofs.lemmas.Bool.Decides.{nat_tests}
 use Rattle.std.proofs.lemmas.List.Sums.{sum_by-cons}
@@ -7,8 +8,10 @@ use Rattle.std.proofs.lemmas.List.{take-take, take_all, length-take-le}
 use Rattle.imago_cow.specs.declared.free.FreeBlocks.{FreeBlocks}
 use Rattle.imago_cow.specs.declared.table.GuestBlock.{GuestBlock}
 use Rattle.imago_cow.specs.declared.table.GuestBlock.TheVariants as G
+use Rattle.imago_cow.specs.declared.table.WithoutData.{WithoutData}
+use Rattle.imago_cow.specs.declared.table.WithoutData.TheVariants as W
 use Rattle.imago_cow.specs.Free.{one_if_same, times_free, IsEmpty, IsLowest, IsWithout, IsSame}
-use Rattle.imago_cow.specs.Table.{names, names_any, named_count, times_used, one_below, IsEachOnce, IsLowestUnused}
+use Rattle.imago_cow.specs.Table.{names, names_any, named_count, times_used, one_below, without_data, IsEachOnce, IsLowestUnused}
 
 -- a sum over a list of which one item was replaced
 pub sum_by_replaced : {X : Type 0} (f : X → ℕ) (xs : List X) (i : ℕ) (d y : X) → i < length xs → sum_by f (slice_set xs i y) + f (slice_index_or xs i d) ≡ sum_by f xs + f y
@@ -131,6 +134,54 @@ entered_count entries i j l none =
     let r = sum_by_replaced names_any entries i d (GuestBlock.Data j) l in
     let e = (empty_entry 0 (slice_index_or entries i d) (no_data_at entries i d l none)).1 in
     omega (arith, r, e)
+
+-- what an entry without data counts
+no_data_counts : (k : ℕ) (kind : WithoutData) → (names k (without_data kind) ≡ 0) × (names_any (without_data kind) ≡ 0)
+no_data_counts k W.Absent = (refl, refl)
+no_data_counts k W.Zero = (refl, refl)
+
+-- a sum over a list of which one item was replaced, by that item
+sum_by_put : (f : GuestBlock → ℕ) (xs : List GuestBlock) (i : ℕ) (x y : GuestBlock) → slice_get xs i ≡ Some x → sum_by f (slice_set xs i y) + f x ≡ sum_by f xs + f y
+sum_by_put f xs i x y e =
+    let l : i < length xs = slice_get_within xs i x e in
+    let r = sum_by_replaced f xs i x y l in
+    let g : f (slice_index_or xs i x) ≡ f x = ap f (get_or_from_slice_get xs i x x e) in
+    omega (arith, r, g)
+
+module _ (entries : List GuestBlock) (i : ℕ) (kind : WithoutData) where
+  -- a guest block that was in a data block is without data
+  pub cleared : (free more : FreeBlocks) (j : ℕ) (held : Option ℕ) (count : ℕ) → slice_get entries i ≡ Some (GuestBlock.Data j) → IsWithout j more free → IsEachOnce free entries held count → IsEachOnce more (slice_set entries i (without_data kind)) held count
+  cleared free more j held count e w once =
+      freed free more j entries (slice_set entries i (without_data kind)) held held count w
+      (λ k.
+      let r = sum_by_put (names k) entries i (GuestBlock.Data j) (without_data kind) e in
+      let z = (no_data_counts k kind).0 in
+      omega (arith, r, z))
+      once
+
+  pub cleared_count : (j : ℕ) → slice_get entries i ≡ Some (GuestBlock.Data j) → named_count (slice_set entries i (without_data kind)) + 1 ≡ named_count entries
+  cleared_count j e =
+      let r = sum_by_put names_any entries i (GuestBlock.Data j) (without_data kind) e in
+      let z = (no_data_counts 0 kind).1 in
+      omega (arith, r, z)
+
+  -- one that wasn't is so still
+  pub still_empty : (free : FreeBlocks) (g : GuestBlock) (held : Option ℕ) (count : ℕ) → slice_get entries i ≡ Some g → ((j : ℕ) → g ≢ GuestBlock.Data j) → IsEachOnce free entries held count → IsEachOnce free (slice_set entries i (without_data kind)) held count
+  still_empty free g held count e none once =
+      moved free entries (slice_set entries i (without_data kind)) held held count
+      (λ k.
+      let r = sum_by_put (names k) entries i g (without_data kind) e in
+      let n = (empty_entry k g none).0 in
+      let z = (no_data_counts k kind).0 in
+      omega (arith, r, n, z))
+      once
+
+  pub still_empty_count : (g : GuestBlock) → slice_get entries i ≡ Some g → ((j : ℕ) → g ≢ GuestBlock.Data j) → named_count (slice_set entries i (without_data kind)) ≡ named_count entries
+  still_empty_count g e none =
+      let r = sum_by_put names_any entries i g (without_data kind) e in
+      let n = (empty_entry 0 g none).1 in
+      let z = (no_data_counts 0 kind).1 in
+      omega (arith, r, n, z)
 
 -- one entry less, down to those that stay
 pub one_less : {X : Type 0} (xs ys : List X) (n : ℕ) → n < length xs → ys ≡ take (length xs - 1) xs → (take n ys ≡ take n xs) × (length ys + 1 ≡ length xs)

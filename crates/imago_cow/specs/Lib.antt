@@ -1,5 +1,7 @@
 pub mod Free
 pub mod Table
+pub mod Packed
+pub mod Entries
 pub mod TableView
 pub mod TableLaws
 pub mod Guest

@@ -1,14 +1,14 @@
 use Rattle.std.specs.Prelude.{◌≡◌, ℕ, ◌+◌, ◌*◌, ◌^◌, ◌<◌, ◌≤◌, max, List, Option, None}
-use Rattle.std.specs.Vec.{vec_capacity}
 use Rattle.imago_cow.specs.declared.free.FreeBlocks.{FreeBlocks}
 use Rattle.imago_cow.specs.declared.table.GuestBlock.{GuestBlock}
 use Rattle.imago_cow.specs.declared.table.Table.{Table}
+use Rattle.imago_cow.specs.Entries.{listed, listed_room}
 use Rattle.imago_cow.specs.Table.{named_count}
 use Rattle.imago_cow.specs.Guest.{IsExact}
 
 -- one entry for each guest block
 abbrev pub entries_of : Table → List GuestBlock
-entries_of t = t.entries.items
+entries_of t = listed t.entries
 
 -- the data block that is held, if one is
 abbrev pub held_of : Table → Option ℕ
@@ -24,7 +24,7 @@ free_of t = t.free
 
 -- how many entries there is room for
 abbrev pub room_of : Table → ℕ
-room_of t = vec_capacity t.entries
+room_of t = listed_room t.entries
 
 -- the room for entries is never lessened
 abbrev pub KeepsRoom : Table → Table → Type 0

@@ -105,7 +105,7 @@ impl<S: Storage> Cow<S> {
     /// layer below, at the same offset, and nothing waits to be committed. `block` is a power of
     /// two from 1 to 1048576.
     ///
-    /// [`Error::Memory`] is no room for the table, which has 16 bytes for each block.
+    /// [`Error::Memory`] is no room for the table, which has 8 bytes for each block.
     pub fn create(alloc: Global, storage: S, size: u64, block: u64) -> Result<Self, Error>
         requires power { IsTrue (is_power_of_two block) }
         requires most { block ≤ 1048576 }

@@ -10,6 +10,7 @@ mod commit;
 mod copy;
 pub mod cow;
 mod cut;
+mod entries;
 mod free;
 mod grow;
 mod guest;

@@ -3,9 +3,11 @@ ghost use Rattle.std.specs.Prelude.{◌≡◌, ◌≢◌, ℕ, ◌+◌, ◌-◌,
 ghost use Rattle.std.specs.Prelude.{take, replicate, max, Some, None, IfOk, IfErr, OnOk, OnErr};
 ghost use Rattle.std.specs.Prelude.{IsOk, IsSome, MatchOption, slice_get, slice_set};
 ghost use Rattle.imago_cow.specs.Free.{free_count, free_room};
+ghost use Rattle.imago_cow.specs.Entries.{listed};
 ghost use Rattle.imago_cow.specs.Table.{IsEachOnce, IsLowestUnused, named_count, held_count};
 ghost use Rattle.imago_cow.specs.Table.{names_any, without_data, is_absent};
 
+use crate::entries::Entries;
 use crate::free::FreeBlocks;
 use crate::room::make_room;
 use imago_storage::error::Error;
@@ -59,7 +61,7 @@ pub(crate) fn kind_of(entry: GuestBlock) -> WithoutData
 /// takes memory: the room is made when a new one is added, 16 bytes for each data block.
 #[derive(Drop)]
 pub struct Table {
-    entries: Vec<GuestBlock>,
+    entries: Entries,
     free: FreeBlocks,
     /// For each data block, the guest block that was put in it last: where that is in it still, no
     /// walk finds it.
@@ -67,9 +69,9 @@ pub struct Table {
     count: u64,
     used: u64,
     held: Option<u64>,
-    ghost each_once: { IsEachOnce free entries.items held count },
+    ghost each_once: { IsEachOnce free (listed entries) held count },
     ghost all_counted: { free_count free + used + held_count held ≡ count },
-    ghost used_counted: { used ≡ named_count entries.items },
+    ghost used_counted: { used ≡ named_count (listed entries) },
     ghost has_room: { count ≤ free_room free },
 }
 
@@ -86,9 +88,8 @@ impl Table {
         ensures count { IfOk result (λ t. count_of t ≡ 0) }
         ensures memory { IfErr result (λ e. e ≡ Error.Memory) }
     {
-        let entries = vec![in alloc; GuestBlock::Absent; guest_blocks]?;
         Ok(Table {
-            entries,
+            entries: Entries::new(alloc, guest_blocks)?,
             free: FreeBlocks::new(alloc),
             last_owners: Vec::new(alloc),
             count: 0,
@@ -109,7 +110,7 @@ impl Table {
         requires { index < length (entries_of self.now) }
         ensures { slice_get (entries_of self.now) index ≡ Some result }
     {
-        self.entries[index]
+        self.entries.get(index)
     }
 
     /// The guest block that is in that data block. It is found at once; only where no guest block
@@ -120,12 +121,12 @@ impl Table {
             (λ i. slice_get (entries_of self.now) i ≡ Some (GuestBlock.Data number)) }
     {
         if let Some(index) = self.last_owners.get(number as usize) {
-            if *index < self.entries.len() && self.entries[*index] == GuestBlock::Data(number) {
+            if *index < self.entries.len() && self.entries.get(*index) == GuestBlock::Data(number) {
                 return Some(*index);
             }
         }
         for index in 0..self.entries.len() {
-            if self.entries[index] == GuestBlock::Data(number) {
+            if self.entries.get(index) == GuestBlock::Data(number) {
                 return Some(index);
             }
         }
@@ -240,7 +241,7 @@ impl Table {
         if let Some(block) = self.held {
             self.held = None;
             note(&mut self.last_owners, block, index);
-            self.entries[index] = GuestBlock::Data(block);
+            self.entries.enter(index, block);
             self.used += 1;
         }
     }
@@ -255,8 +256,8 @@ impl Table {
         ensures count { count_of self.new ≡ count_of self.old }
         ensures room { KeepsRoom self.old self.new }
     {
-        let old = self.entries[index];
-        self.entries[index] = empty_block(kind);
+        let old = self.entries.get(index);
+        self.entries.clear(index, kind);
         if let GuestBlock::Data(block) = old {
             self.used -= 1;
             self.free.put(block);
@@ -274,7 +275,7 @@ impl Table {
             → IsOk result }
         ensures memory { IfErr result (λ e. e ≡ Error.Memory) }
     {
-        make_room(&mut self.entries, additional)
+        self.entries.reserve(additional)
     }
 
     /// Adds so many explicit zeroes, or absent guest blocks. [`Error::Memory`] is no room for their
@@ -289,12 +290,7 @@ impl Table {
         ensures room { KeepsRoom self.old self.new }
         ensures memory { IfErr result (λ e. e ≡ Error.Memory) }
     {
-        let Some(guest_blocks) = self.entries.len().checked_add(additional) else {
-            return Err(Error::Memory);
-        };
-        make_room(&mut self.entries, additional)?;
-        self.entries.resize(guest_blocks, empty_block(kind))?;
-        Ok(())
+        self.entries.grow(additional, kind)
     }
 
     /// Adds a guest block in the held data block, into room that [`Table::reserve`] made. It takes
@@ -312,7 +308,7 @@ impl Table {
         if let Some(block) = self.held {
             self.held = None;
             note(&mut self.last_owners, block, self.entries.len());
-            self.entries.push_reserved(GuestBlock::Data(block));
+            self.entries.push(block);
             self.used += 1;
         }
     }
@@ -350,15 +346,5 @@ impl Table {
 fn note(last_owners: &mut Vec<usize>, block: u64, index: usize) {
     if let Some(owner) = last_owners.get_mut(block as usize) {
         *owner = index;
-    }
-}
-
-/// The entry of a guest block without data.
-fn empty_block(kind: WithoutData) -> GuestBlock
-    ensures { result ≡ without_data kind }
-{
-    match kind {
-        WithoutData::Absent => GuestBlock::Absent,
-        WithoutData::Zero => GuestBlock::Zero,
     }
 }
