@@ -29,6 +29,8 @@ pub struct System<'a> {
 struct OpenFile {
     path: String,
     file: File,
+    /// Whether it is a regular file, once that was asked. An open file stays of its kind.
+    is_regular: Option<bool>,
 }
 
 /// A file that is being made.
@@ -60,6 +62,7 @@ impl<'a> System<'a> {
             _ => Ok(OpenFile {
                 path: String::from_str(self.runtime.alloc(), path)?,
                 file: File::open(self.runtime, path)?,
+                is_regular: None,
             }),
         }
     }
@@ -67,6 +70,27 @@ impl<'a> System<'a> {
     /// Keeps a file for the next read.
     fn keep(&self, open: OpenFile) {
         self.last.set(Some(open));
+    }
+}
+
+impl OpenFile {
+    /// How many bytes the file has now, where it is known to be a regular one.
+    ///
+    /// A seek to the end tells it for less than the attributes do. Reads are at offsets, so nothing
+    /// depends on where it leaves the file. Where it is refused, the attributes still tell.
+    fn length(&mut self) -> Option<u64> {
+        match self.is_regular {
+            Some(false) => return None,
+            Some(true) => {
+                if let Ok(length) = (&self.file).seek(SeekFrom::End(0)) {
+                    return Some(length);
+                }
+            }
+            None => {}
+        }
+        let metadata = self.file.metadata().ok()?;
+        self.is_regular = Some(metadata.is_file());
+        metadata.is_file().then_some(metadata.len())
     }
 }
 
@@ -96,25 +120,25 @@ fn read_padded(file: &File, buf: &mut [u8], offset: u64) -> io::Result<()> {
     Ok(())
 }
 
-/// How many bytes from the offset on are known to be behind the file's end, and so zero: at most
-/// that many. The holes inside a file can't be told.
-fn behind_end(file: &File, offset: u64, most: u64) -> u64
+/// How many bytes from the offset on are known to be behind the end of a file of that length, and
+/// so zero: at most that many. The holes inside a file can't be told.
+fn behind_end(length: Option<u64>, offset: u64, most: u64) -> u64
     ensures { result ≤ most }
 {
-    match file.metadata() {
-        Ok(metadata) if metadata.is_file() && metadata.len() <= offset => most,
+    match length {
+        Some(length) if length <= offset => most,
         _ => 0,
     }
 }
 
-/// How many bytes from the offset on come before the file's end: at most that many. The end of what
-/// is no regular file can't be told so.
-fn before_end(file: &File, offset: u64, most: u64) -> u64
+/// How many bytes from the offset on come before the end of a file of that length: at most that
+/// many. The end of what is no regular file can't be told so.
+fn before_end(length: Option<u64>, offset: u64, most: u64) -> u64
     ensures { result ≤ most }
 {
-    match file.metadata() {
-        Ok(metadata) if metadata.is_file() => most.min(metadata.len().saturating_sub(offset)),
-        _ => most,
+    match length {
+        Some(length) => most.min(length.saturating_sub(offset)),
+        None => most,
     }
 }
 
@@ -180,19 +204,19 @@ impl<'a> Host for System<'a> {
     }
 
     fn hole_at(&self, path: &str, offset: u64, most: u64) -> u64 {
-        let Ok(open) = self.open(path) else {
+        let Ok(mut open) = self.open(path) else {
             return 0;
         };
-        let behind = behind_end(&open.file, offset, most);
+        let behind = behind_end(open.length(), offset, most);
         self.keep(open);
         behind
     }
 
     fn data_at(&self, path: &str, offset: u64, most: u64) -> u64 {
-        let Ok(open) = self.open(path) else {
+        let Ok(mut open) = self.open(path) else {
             return 0;
         };
-        let before = before_end(&open.file, offset, most);
+        let before = before_end(open.length(), offset, most);
         self.keep(open);
         before
     }
