@@ -5,3 +5,5 @@ mod Described
 mod Layers
 mod NamesBelow
 mod FormatBelow
+mod Printed
+mod Decimals

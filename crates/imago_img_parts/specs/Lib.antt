@@ -4,3 +4,4 @@ pub mod Extents
 pub mod Layers
 pub mod Images
 pub mod Disks
+pub mod Lines

@@ -13,6 +13,7 @@ mod command;
 pub mod commands;
 mod compare;
 mod convert;
+mod digits;
 mod extents;
 mod failure;
 pub mod host;

@@ -1,6 +1,12 @@
 //! Where the bytes of an image's disk stand.
-ghost use Rattle.std.specs.Prelude.{◌<◌, ◌≤◌};
+ghost use Rattle.std.specs.Prelude.{◌≡◌, ◌<◌, ◌≤◌, ◌++◌, OnOk, option_map};
+ghost use Rattle.std.specs.Fmt.{decimal};
+ghost use Rattle.std.specs.Io.KnownBytes.{Appends};
+ghost use Rattle.imago_img_parts.specs.Lines.{column, line, place as place_text};
+ghost use Rattle.imago_img_parts.specs.Lines.{object, kind_members as kind_text};
+ghost use Rattle.imago_img_parts.specs.Lines.{members_in, place_members};
 
+use crate::digits::digits_of;
 use crate::failure::Failure;
 use crate::host::Host;
 use crate::json::quoted;
@@ -165,35 +171,98 @@ impl<'a, W: Write> Printer<'a, W> {
     }
 }
 
+/// Prints a number in a column, and what parts it from the next one.
+fn print_column<W: Write>(output: &mut W, number: u64) -> io::Result<()>
+    ensures { OnOk result
+        (Appends (W.contents output.old) (W.contents output.new) (column number)) }
+{
+    let mut digits = [0; 20];
+    let digits = digits_of(number, &mut digits);
+    let mut text = [b' '; 21];
+    text[..digits.len()].copy_from_slice(digits);
+    output.write_all(&text)
+}
+
+/// Prints where a run stands in a file, if in one, behind its kind.
+fn print_place<W: Write>(output: &mut W, place: Option<(&str, u64)>) -> io::Result<()>
+    ensures { OnOk result
+        (Appends (W.contents output.old) (W.contents output.new)
+        (place_text (option_map (λ at. (at.0.now, at.1)) place.entry))) }
+{
+    let Some((file, offset)) = place else {
+        return Ok(());
+    };
+    output.write_all(b" ")?;
+    print_column(output, offset)?;
+    output.write_all(file.as_bytes())
+}
+
 /// Prints a run as a line of columns.
-fn print_line<W: Write>(output: &mut W, run: Run<'_>) -> io::Result<()> {
-    let (start, length) = (run.start, run.length);
-    let kind = if run.is_data { "data" } else { "zero" };
-    match run.place {
-        Some((file, offset)) => {
-            writeln!(
-                output,
-                "{start:<20} {length:<20} {kind:<4} {offset:<20} {file}"
-            )
-        }
-        None => writeln!(output, "{start:<20} {length:<20} {kind}"),
+fn print_line<W: Write>(output: &mut W, run: Run<'_>) -> io::Result<()>
+    ensures { OnOk result (Appends (W.contents output.old) (W.contents output.new)
+        (line run.entry.start run.entry.length run.entry.is_data
+        (option_map (λ at. (at.0.now, at.1)) run.entry.place))) }
+{
+    print_column(output, run.start)?;
+    print_column(output, run.length)?;
+    output.write_all(if run.is_data { b"data" } else { b"zero" })?;
+    print_place(output, run.place)?;
+    output.write_all(b"\n")
+}
+
+/// Prints a member of a JSON object, which is a number, behind its name.
+fn print_number<W: Write>(output: &mut W, name: &[u8], number: u64) -> io::Result<()>
+    ensures { OnOk result (Appends (W.contents output.old) (W.contents output.new)
+        (name.now ++ decimal number)) }
+{
+    output.write_all(name)?;
+    output.write_all(digits_of(number, &mut [0; 20]))
+}
+
+/// What JSON says of data, or of bytes that are known to be 0.
+#[tactic(auto, unfolding(crate::specs::Lines::kind_members))]
+fn kind_members(is_data: bool) -> &'static [u8]
+    ensures { result.now ≡ kind_text is_data }
+{
+    if is_data {
+        b", \"present\": true, \"zero\": false, \"data\": true"
+    } else {
+        b", \"present\": true, \"zero\": true, \"data\": false"
+    }
+}
+
+/// Prints where a run stands in a file as members of a JSON object.
+fn print_members_in<W: Write>(output: &mut W, file: &str, offset: u64) -> io::Result<()>
+    ensures { OnOk result
+        (Appends (W.contents output.old) (W.contents output.new) (members_in file.now offset)) }
+{
+    print_number(output, b", \"offset\": ", offset)?;
+    output.write_all(b", \"filename\": ")?;
+    output.write_all(file.as_bytes())
+}
+
+/// Prints where a run stands in a file, if in one, as members of a JSON object.
+fn print_place_members<W: Write>(output: &mut W, place: Option<(&str, u64)>) -> io::Result<()>
+    ensures { OnOk result
+        (Appends (W.contents output.old) (W.contents output.new)
+        (place_members (option_map (λ at. (at.0.now, at.1)) place.entry))) }
+{
+    match place {
+        Some((file, offset)) => print_members_in(output, file, offset),
+        None => Ok(()),
     }
 }
 
 /// Prints a run as a JSON object, with the names that `qemu-img map` has.
-fn print_object<W: Write>(output: &mut W, run: Run<'_>) -> io::Result<()> {
-    let (start, length, depth) = (run.start, run.length, run.depth);
-    let (data, zero) = (run.is_data, !run.is_data);
-    write!(
-        output,
-        "{{ \"start\": {start}, \"length\": {length}, \"depth\": {depth}"
-    )?;
-    write!(
-        output,
-        ", \"present\": true, \"zero\": {zero}, \"data\": {data}"
-    )?;
-    if let Some((file, offset)) = run.place {
-        write!(output, ", \"offset\": {offset}, \"filename\": {file}")?;
-    }
-    write!(output, "}}")
+fn print_object<W: Write>(output: &mut W, run: Run<'_>) -> io::Result<()>
+    ensures { OnOk result (Appends (W.contents output.old) (W.contents output.new)
+        (object run.entry.start run.entry.length run.entry.depth run.entry.is_data
+        (option_map (λ at. (at.0.now, at.1)) run.entry.place))) }
+{
+    print_number(output, b"{ \"start\": ", run.start)?;
+    print_number(output, b", \"length\": ", run.length)?;
+    print_number(output, b", \"depth\": ", run.depth as u64)?;
+    output.write_all(kind_members(run.is_data))?;
+    print_place_members(output, run.place)?;
+    output.write_all(b"}")
 }
