@@ -1,5 +1,6 @@
 //! Where the commands find files, and make them.
-ghost use Rattle.std.specs.Prelude.{◌≡◌, ◌≤◌, ℕ, List, [], Option, Some, OnOk, OnErr, IfOk, IfSome};
+ghost use Rattle.std.specs.Prelude.{◌≡◌, ◌<◌, ◌≤◌, ℕ, List, [], Option, Some, false};
+ghost use Rattle.std.specs.Prelude.{OnOk, OnErr, IfOk, IfSome};
 ghost use Rattle.std.specs.Prelude.{length, replicate};
 ghost use Rattle.imago_img_parts.specs.Files.{IsMade};
 ghost use Rattle.imago_plan.specs.PieceBytes.{bytes_at};
@@ -64,6 +65,25 @@ pub trait Host {
     /// How many bytes from the offset on come before the file's next hole: at most that many.
     fn data_at(&self, path: &str, offset: u64, most: u64) -> u64
         ensures { result ≤ most };
+
+    /// How many bytes from the offset on, at least one and at most that many, are in one hole of the
+    /// file or come before its next one; and whether they do.
+    fn run_at(&self, path: &str, offset: u64, most: u64) -> (u64, bool)
+        requires { 0 < most }
+        ensures some { 0 < result.0 }
+        ensures within { result.0 ≤ most }
+        ensures zero { IfSome (contents self.now) (λ files. result.1 ≡ false
+            → bytes_at (files path.now) «offset» result.0 ≡ replicate result.0 0) }
+    {
+        let hole = self.hole_at(path, offset, most);
+        if hole > 0 {
+            return (hole, false);
+        }
+        match self.data_at(path, offset, most) {
+            0 => (most, true),
+            length => (length, true),
+        }
+    }
 
     /// The path that it is without links and relative parts.
     fn real_path(&self, path: &str) -> io::Result<String>;

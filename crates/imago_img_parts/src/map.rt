@@ -108,7 +108,7 @@ fn print_stored<H: Host, W: Write>(
     let mut done = 0;
     while done < piece.count {
         let offset = from.offset.saturating_add(done);
-        let (length, is_data) = run_at(host, path, offset, piece.count - done);
+        let (length, is_data) = host.run_at(path, offset, piece.count - done);
         printer.print(Run {
             start: piece.at.saturating_add(done),
             length,
@@ -119,23 +119,6 @@ fn print_stored<H: Host, W: Write>(
         done += length;
     }
     Ok(())
-}
-
-/// How many bytes from the offset on are in one hole of a file, or come before its next one; and
-/// whether they do. There is at least one.
-fn run_at<H: Host>(host: &H, path: &str, offset: u64, most: u64) -> (u64, bool)
-    requires { 0 < most }
-    ensures some { 0 < result.0 }
-    ensures within { result.0 ≤ most }
-{
-    let hole = host.hole_at(path, offset, most);
-    if hole > 0 {
-        return (hole, false);
-    }
-    match host.data_at(path, offset, most) {
-        0 => (most, true),
-        length => (length, true),
-    }
 }
 
 impl<'a, W: Write> Printer<'a, W> {

@@ -1,5 +1,5 @@
 //! The system's files.
-ghost use Rattle.std.specs.Prelude.{◌≤◌, None};
+ghost use Rattle.std.specs.Prelude.{◌≡◌, ◌-◌, ◌<◌, ◌≤◌, min, None, IfSome, IsNone, true, false};
 
 use crate::host::{FileKind, FileStatus, Host};
 use imago_plan::copy::Target;
@@ -142,6 +142,24 @@ fn before_end(length: Option<u64>, offset: u64, most: u64) -> u64
     }
 }
 
+/// How many bytes from the offset on, of at most that many, come before the end of a file of that
+/// length, and that they do; or how many are behind it. There is at least one.
+fn run_in(length: Option<u64>, offset: u64, most: u64) -> (u64, bool)
+    requires { 0 < most }
+    ensures some { 0 < result.0 }
+    ensures within { result.0 ≤ most }
+    ensures before { IfSome length
+        (λ n. «offset» < n → result ≡ (min most (n - «offset»), true)) }
+    ensures behind { IfSome length (λ n. n ≤ «offset» → result ≡ (most, false)) }
+    ensures unknown { IsNone length → result ≡ (most, true) }
+{
+    match length {
+        Some(length) if length <= offset => (most, false),
+        Some(length) => (most.min(length - offset), true),
+        None => (most, true),
+    }
+}
+
 /// How many bytes a device has; 0 where it can't be told.
 fn device_length(mut file: File) -> u64 {
     file.seek(SeekFrom::End(0)).unwrap_or(0)
@@ -219,6 +237,16 @@ impl<'a> Host for System<'a> {
         let before = before_end(open.length(), offset, most);
         self.keep(open);
         before
+    }
+
+    // The length is asked for once, where the calls for holes and for data each ask for it.
+    fn run_at(&self, path: &str, offset: u64, most: u64) -> (u64, bool) {
+        let Ok(mut open) = self.open(path) else {
+            return (most, true);
+        };
+        let run = run_in(open.length(), offset, most);
+        self.keep(open);
+        run
     }
 
     fn real_path(&self, path: &str) -> io::Result<String> {
