@@ -2,6 +2,7 @@
 
 mod attacks;
 mod bad_lines;
+mod digits;
 mod examples;
 mod faults;
 mod rows;

@@ -13,6 +13,10 @@ abbrev pub Spells : List ℕ → List ℕ → Type 0
 Spells digits bytes = ((digits ≡ 45 ∷ []) × (bytes ≡ []))
     ⊎ ((0 < length digits) × (decode_of digits ≡ Ok bytes))
 
+-- no bytes are spelt by digits
+abbrev pub SpellsNone : List ℕ → Type 0
+SpellsNone digits = (bytes : List ℕ) → Spells digits bytes → ⊥
+
 -- A text is cut at its first byte of that value, into what stands before it and what behind it.
 -- Where there is none, all stands before.
 pub record IsCut (separator : ℕ) (text before behind : List ℕ) : Type 0 where

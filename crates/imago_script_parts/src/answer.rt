@@ -1,5 +1,6 @@
 //! What a script answers to a command.
 
+use crate::digits::write_digits;
 use crate::session::Image;
 use crate::words::NO_BYTES;
 use imago::error::{Error, ErrorKind};
@@ -77,7 +78,7 @@ fn print_bytes<W: Write>(bytes: &[u8], output: &mut W) -> io::Result<()> {
     'pieces: while !rest.is_empty() {
         let (piece, others) = rest.split_at(rest.len().min(PIECE));
         let digits = &mut digits[..2 * piece.len()];
-        let _ = hex::encode_to_slice(piece, &mut *digits);
+        write_digits(piece, &mut *digits);
         output.write_all(digits)?;
         rest = others;
     }

@@ -7,6 +7,7 @@
 
 mod answer;
 mod command;
+mod digits;
 pub mod script;
 pub mod script_storage;
 mod session;

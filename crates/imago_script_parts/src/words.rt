@@ -1,12 +1,15 @@
 //! The words of a line, and what they spell.
-ghost use Rattle.std.specs.Prelude.{◌≡◌, ◌^◌, ◌<◌, ◌≤◌, ◌↔◌, length, IsTrue, IfOk};
+ghost use Rattle.std.specs.Prelude.{◌≡◌, ◌^◌, ◌%◌, ◌<◌, ◌≤◌, ◌↔◌, length};
+ghost use Rattle.std.specs.Prelude.{IsTrue, IfOk, IfErr};
 ghost use Rattle.std.specs.Int.{is_power_of_two};
 ghost use Rattle.std.specs.Option.{SomeIff};
 ghost use Rattle.std.specs.Str.Parse.{IsNumeral, digits_value};
 ghost use Rattle.imago.specs.Powers.{IsAlignment};
-ghost use Rattle.imago_script_parts.specs.Words.{IsWord, IsCut, Spells};
+ghost use Rattle.imago_script_parts.specs.Words.{IsWord, IsCut, Spells, SpellsNone};
+ghost use Rattle.imago_script_parts.specs.declared.words.Fault.TheVariants.{Malformed, Memory};
 
-use hex::{FromHexError, decode_to_slice};
+use crate::digits::read_digits;
+use hex::decode_to_slice;
 use imago::format::PreallocateMode;
 use imago::storage::is_alignment;
 use memchr::memchr;
@@ -150,18 +153,22 @@ pub const NO_BYTES: &str = "-";
 /// looked at once.
 pub fn bytes(alloc: Global, digits: &[u8]) -> Result<Vec<u8>, Fault>
     ensures spelt { IfOk result (λ v. Spells digits.now v.items) }
+    ensures malformed { IfErr result (λ fault. fault ≡ Malformed → SpellsNone digits.now) }
+    ensures memory { IfErr result (λ fault. fault ≡ Memory → length digits.now % 2 ≡ 0) }
 {
     if digits == NO_BYTES.as_bytes() {
         return Ok(Vec::new(alloc));
     }
-    if digits.is_empty() {
+    if digits.is_empty() || digits.len() % 2 != 0 {
         return Err(Fault::Malformed);
     }
-    match hex::decode(alloc, digits) {
-        Ok(bytes) => Ok(bytes),
-        Err(FromHexError::OutOfMemory) => Err(Fault::Memory),
-        Err(_) => Err(Fault::Malformed),
+    let Ok(mut bytes) = vec![in alloc; 0u8; digits.len() / 2] else {
+        return Err(Fault::Memory);
+    };
+    if !read_digits(digits, bytes.as_mut_slice()) {
+        return Err(Fault::Malformed);
     }
+    Ok(bytes)
 }
 
 /// The mode that a word names.
