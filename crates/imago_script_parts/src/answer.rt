@@ -1,4 +1,5 @@
 //! What a script answers to a command.
+ghost use Rattle.std.specs.Prelude.{◌≤◌, length};
 
 use crate::digits::write_digits;
 use crate::session::Image;
@@ -67,12 +68,36 @@ fn print_reply<W: Write>(reply: &Reply, output: &mut W) -> io::Result<()> {
 /// How many bytes are turned into digits at a time.
 const PIECE: usize = 4096;
 
+/// Up to how many bytes are few. Their digits need less room, and all room is made ready each time.
+const FEW: usize = 256;
+
 /// Prints a line of bytes, in hex. It takes no memory, however many they are.
 fn print_bytes<W: Write>(bytes: &[u8], output: &mut W) -> io::Result<()> {
     if bytes.is_empty() {
         return writeln!(output, "ok {NO_BYTES}");
     }
     write!(output, "ok ")?;
+    if bytes.len() <= FEW {
+        print_few(bytes, output)?;
+    } else {
+        print_many(bytes, output)?;
+    }
+    writeln!(output)
+}
+
+/// Prints the digits of few bytes.
+fn print_few<W: Write>(bytes: &[u8], output: &mut W) -> io::Result<()>
+    requires { length bytes.now ≤ 256 }
+{
+    let mut digits = [0; 2 * FEW];
+    let digits = &mut digits[..2 * bytes.len()];
+    write_digits(bytes, &mut *digits);
+    output.write_all(digits)
+}
+
+/// Prints the digits of bytes, piece by piece.
+#[inline(never)]
+fn print_many<W: Write>(bytes: &[u8], output: &mut W) -> io::Result<()> {
     let mut digits = [0; 2 * PIECE];
     let mut rest = bytes;
     'pieces: while !rest.is_empty() {
@@ -82,5 +107,5 @@ fn print_bytes<W: Write>(bytes: &[u8], output: &mut W) -> io::Result<()> {
         output.write_all(digits)?;
         rest = others;
     }
-    writeln!(output)
+    Ok(())
 }
