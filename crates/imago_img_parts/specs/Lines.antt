@@ -1,5 +1,6 @@
 -- The lines that tell where the bytes of a disk stand.
-use Rattle.std.specs.Prelude.{ℕ, ◌-◌, Bool, true, false, List, [], ◌∷◌, ◌++◌, Option, None, Some, length, replicate, codes}
+use Rattle.std.specs.Prelude.{ℕ, ◌-◌, Bool, true, false, List, [], ◌∷◌, ◌++◌, Option, None, Some}
+use Rattle.std.specs.Prelude.{length, replicate, codes}
 use Rattle.std.specs.Fmt.{decimal}
 
 -- a number in a column of twenty characters, and what parts it from the next column

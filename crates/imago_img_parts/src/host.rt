@@ -66,8 +66,8 @@ pub trait Host {
     fn data_at(&self, path: &str, offset: u64, most: u64) -> u64
         ensures { result ≤ most };
 
-    /// How many bytes from the offset on, at least one and at most that many, are in one hole of the
-    /// file or come before its next one; and whether they do.
+    /// How many bytes from the offset on, at least one and at most that many, come before the next
+    /// hole of the file, and `true`; or how many are in one hole, and `false`.
     fn run_at(&self, path: &str, offset: u64, most: u64) -> (u64, bool)
         requires { 0 < most }
         ensures some { 0 < result.0 }

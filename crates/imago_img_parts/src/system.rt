@@ -123,7 +123,10 @@ fn read_padded(file: &File, buf: &mut [u8], offset: u64) -> io::Result<()> {
 /// How many bytes from the offset on are known to be behind the end of a file of that length, and
 /// so zero: at most that many. The holes inside a file can't be told.
 fn behind_end(length: Option<u64>, offset: u64, most: u64) -> u64
-    ensures { result ≤ most }
+    ensures within { result ≤ most }
+    ensures behind { IfSome length (λ n. n ≤ «offset» → result ≡ most) }
+    ensures before { IfSome length (λ n. «offset» < n → result ≡ 0) }
+    ensures unknown { IsNone length → result ≡ 0 }
 {
     match length {
         Some(length) if length <= offset => most,
@@ -134,7 +137,9 @@ fn behind_end(length: Option<u64>, offset: u64, most: u64) -> u64
 /// How many bytes from the offset on come before the end of a file of that length: at most that
 /// many. The end of what is no regular file can't be told so.
 fn before_end(length: Option<u64>, offset: u64, most: u64) -> u64
-    ensures { result ≤ most }
+    ensures within { result ≤ most }
+    ensures known { IfSome length (λ n. result ≡ min most (n - «offset»)) }
+    ensures unknown { IsNone length → result ≡ most }
 {
     match length {
         Some(length) => most.min(length.saturating_sub(offset)),
