@@ -4,9 +4,7 @@ use imago_access::mapping::Mapping;
 use imago_access::run::Reply;
 use imago_storage::error::Error;
 use std::alloc::Global;
-
-/// How many bytes are summed at a time: an odd number, so that the sum of equal bytes tells these.
-const PART: usize = 509;
+use std::simd::{u8x32, u64x4};
 
 /// Two running sums, the second of which has the first after each number, so that it tells their
 /// order too, as Fletcher's checksum does.
@@ -34,11 +32,25 @@ impl Digest {
         self.sums = self.sums.wrapping_add(self.sum);
     }
 
-    /// Adds bytes, and how many they are.
+    /// Adds bytes, and how many they are. Eight bytes are one number, and every fourth of these is
+    /// summed apart, so that the processor does four at once.
     pub fn add_bytes(&mut self, bytes: &[u8]) {
         self.add(bytes.len() as u64);
-        for part in bytes.chunks(PART) {
-            self.add(u64::from(sum_of(part)));
+        let (groups, rest) = bytes.as_chunks::<32>();
+        let mut sum = u64x4::splat(0);
+        let mut sums = u64x4::splat(0);
+        for group in groups {
+            sum += u64x4::from_le_bytes(u8x32::from_array(*group));
+            sums += sum;
+        }
+        for number in sum.to_array() {
+            self.add(number);
+        }
+        for number in sums.to_array() {
+            self.add(number);
+        }
+        for byte in rest {
+            self.add(u64::from(*byte));
         }
     }
 
@@ -100,14 +112,4 @@ impl Digest {
             }
         }
     }
-}
-
-/// The sum of bytes, as one byte.
-#[inline(never)]
-fn sum_of(bytes: &[u8]) -> u8 {
-    let mut sum = 0u8;
-    for byte in bytes {
-        sum = sum.wrapping_add(*byte);
-    }
-    sum
 }
