@@ -37,9 +37,13 @@ covers_disk size len count span positive is all = let t = (div_ceil_times size s
 pub span_positive : (c : ℕ) → 512 ≤ c → 0 < c / 8 * c
 span_positive c least = mul-pos (let x : 0 < c / 8 = omega (arith, least) in x) (omega (arith, least))
 
--- the L1 entry that an offset's guest cluster is found by
-pub held_entry : (l1 : List HeldTable) (size span o : ℕ) (t : HeldTable) → 0 < span → o < size → size ≤ length l1 * span → t ≡ get_or l1 (o / span) t → slice_get l1 (o / span) ≡ Some t
-held_entry l1 size span o t positive inside covers is = slice_get_read l1 (length l1) (o / span) t refl (div_below o span (length l1) positive (omega (arith, inside, covers))) is
+-- an offset of the disk has an L1 entry
+pub entry_within : (size len span o : ℕ) → 0 < span → o < size → size ≤ len * span → o / span < len
+entry_within size len span o positive inside covers = div_below o span len positive (omega (arith, inside, covers))
+
+-- the L1 entry that stands at an index
+pub held_there : (l1 : List HeldTable) (at i : ℕ) (t : HeldTable) → i ≡ at → i < length l1 → t ≡ get_or l1 i t → slice_get l1 at ≡ Some t
+held_there l1 at i t is within reads = ap (slice_get l1) (sym is) ∙ slice_get_read l1 (length l1) i t refl within reads
 
 module _ (loaded : LoadedImage) (least : 512 ≤ loaded.cluster) where
   abbrev span : ℕ

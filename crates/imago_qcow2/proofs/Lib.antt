@@ -1,6 +1,7 @@
 pub mod NumberSteps
 pub mod HeaderSteps
 pub mod TableSteps
+pub mod ClusterSteps
 pub mod AbsentSteps
 pub mod MapSteps
 pub mod HeldSteps

@@ -13,4 +13,4 @@ header_in d = d.header
 
 -- the header's numbers and the tables, as they were loaded
 abbrev pub loaded_in : {S : Type 0} {g : _} {h : _} → Qcow2 S g h → LoadedImage
-loaded_in d = loaded_of d.header d.cluster d.tables
+loaded_in d = loaded_of d.header d.cluster.length d.tables

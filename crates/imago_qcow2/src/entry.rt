@@ -2,6 +2,8 @@
 ghost use Rattle.std.specs.Prelude.{◌≡◌, ℕ, ◌^◌, ◌<◌};
 ghost use Rattle.imago_qcow2.specs.Entry.{table_in_entry, cluster_in_entry};
 
+use crate::cluster::ClusterSize;
+
 /// What an entry of the L1 table says of its L2 table.
 #[derive(Clone, Copy, Debug, PartialEq, Eq)]
 pub enum L2Table {
@@ -52,9 +54,8 @@ pub(crate) fn table_in(file: u64, cluster: u64, entry: u64) -> L2Table
 
 /// What an L2 entry says, in an image of that version whose clusters have that length.
 #[tactic(auto, unfolding(crate::specs::Entry::cluster_in_entry))]
-pub(crate) fn cluster_in(version: u32, cluster: u64, entry: u64) -> GuestCluster
-    requires { 0 < cluster }
-    ensures says { result ≡ cluster_in_entry version cluster entry }
+pub(crate) fn cluster_in(version: u32, cluster: ClusterSize, entry: u64) -> GuestCluster
+    ensures says { result ≡ cluster_in_entry version cluster.length entry }
     ensures small { (at : ℕ) → result ≡ GuestCluster.Stored at → at < 2 ^ 56 }
 {
     let low = entry % 72057594037927936;
@@ -62,7 +63,7 @@ pub(crate) fn cluster_in(version: u32, cluster: u64, entry: u64) -> GuestCluster
     if high / 64 % 2 == 1 {
         return GuestCluster::Compressed;
     }
-    if high % 64 != 0 || (low - low % 2) % cluster != 0 {
+    if high % 64 != 0 || cluster.rest(low - low % 2) != 0 {
         return GuestCluster::Invalid;
     }
     if low % 2 == 1 {

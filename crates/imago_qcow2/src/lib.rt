@@ -6,6 +6,7 @@
 
 mod absent;
 mod backing;
+mod cluster;
 pub mod entry;
 pub mod fault;
 pub mod header;

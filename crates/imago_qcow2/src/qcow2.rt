@@ -23,8 +23,9 @@ ghost use Rattle.imago_qcow2.specs.Qcow2Laws.{qcow2_lawful, qcow2_causes};
 
 use crate::absent::AbsentRuns;
 use crate::backing::find_format;
+use crate::cluster::ClusterSize;
 use crate::entry::{GuestCluster, cluster_in};
-use crate::header::{HEADER, Header, cluster_of_bits, read_header};
+use crate::header::{HEADER, Header, read_header};
 use crate::map::{goes_on, mapping_of};
 use crate::number::number32;
 pub use crate::qcow2_builder::Qcow2OpenBuilder;
@@ -49,17 +50,15 @@ use std::fmt::{self, Display, Formatter, Write};
 pub struct Qcow2<S: Storage> {
     storage: S,
     header: Header,
-    /// A cluster's length in bytes.
-    cluster: u64,
+    cluster: ClusterSize,
     tables: Tables,
     absent: AbsentRuns,
-    ghost cluster_is: { cluster ≡ header_cluster header },
+    ghost cluster_is: { cluster.length ≡ header_cluster header },
     ghost fits: { header.size < 2 ^ 64 },
-    ghost least: { 512 ≤ cluster },
-    ghost most: { cluster ≤ 2097152 },
-    ghost covers: { header.size ≤ length tables.l1.items * (cluster / 8 * cluster) },
+    ghost covers: { header.size ≤ length tables.l1.items
+        * (cluster.length / 8 * cluster.length) },
     ghost loaded: { ∥ IsLoadedImage (S.features storage) (S.bytes storage) header tables ∥₁ },
-    ghost absent_runs: { IsAbsentIndex (loaded_of header cluster tables) absent } by { Prim.hlevel props },
+    ghost absent_runs: { IsAbsentIndex (loaded_of header cluster.length tables) absent } by { Prim.hlevel props },
 }
 
 /// What the header of a storage of that length says.
@@ -139,10 +138,17 @@ impl<S: Storage> Qcow2<S> {
         if !backing_laid && header.names_backing() {
             return Err(Error::Unsupported);
         }
-        let cluster = cluster_of_bits(header.cluster_bits);
-        let count = header.size.div_ceil(cluster / 8 * cluster);
-        let tables = read_tables(&storage, alloc, header.l1_start, count, cluster, file)?;
-        let absent = AbsentRuns::new(alloc, &tables, cluster / 8)?;
+        let cluster = ClusterSize::of_bits(header.cluster_bits);
+        let count = header.size.div_ceil(cluster.length / 8 * cluster.length);
+        let tables = read_tables(
+            &storage,
+            alloc,
+            header.l1_start,
+            count,
+            cluster.length,
+            file,
+        )?;
+        let absent = AbsentRuns::new(alloc, &tables, cluster.length / 8)?;
         Ok(Qcow2 {
             storage,
             header,
@@ -198,12 +204,21 @@ impl<S: Storage> Qcow2<S> {
     fn extensions_end(&self) -> u64
         ensures value { IsTrue (S.features self.now.storage).tells_bytes
             → result ≡ extensions_end (S.bytes self.now.storage) }
-        ensures inside { result ≤ self.now.cluster }
+        ensures inside { result ≤ self.now.cluster.length }
     {
         if self.header.name_start == 0 {
-            return self.cluster;
+            return self.cluster.length;
         }
-        self.cluster.min(self.header.name_start)
+        self.cluster.length.min(self.header.name_start)
+    }
+
+    /// The index of the L1 entry for that offset of the disk.
+    fn l1_index(&self, offset: u64) -> usize
+        requires { offset < self.now.header.size }
+        ensures value { result ≡ offset / (self.now.cluster.length / 8 * self.now.cluster.length) }
+        ensures within { result < length self.now.tables.l1.items }
+    {
+        self.cluster.l1_index(offset) as usize
     }
 
     /// What the guest cluster at that offset of the disk is, and how many bytes from there on stand
@@ -213,25 +228,25 @@ impl<S: Storage> Qcow2<S> {
         requires { offset < self.now.header.size }
         ensures same { (i : ℕ)
             → i < result.1
-            → loaded_cluster (loaded_in self.now) ((offset + i) / self.now.cluster) ≡ result.0 }
+            → loaded_cluster (loaded_in self.now) ((offset + i) / self.now.cluster.length)
+            ≡ result.0 }
         ensures some { 0 < result.1 }
         ensures stored { (at : ℕ)
             → result.0 ≡ GuestCluster.Stored at
-            → (at < 2 ^ 56) × (result.1 ≡ self.now.cluster - offset % self.now.cluster) }
+            → (at < 2 ^ 56)
+            × (result.1 ≡ self.now.cluster.length - offset % self.now.cluster.length) }
     {
         let cluster = self.cluster;
-        let span = cluster / 8 * cluster;
-        match self.tables.l1[(offset / span) as usize] {
-            HeldTable::Absent => (GuestCluster::Absent, span - offset % span),
+        match self.tables.l1[self.l1_index(offset)] {
+            HeldTable::Absent => (GuestCluster::Absent, cluster.left_of_table(offset)),
             HeldTable::Loaded(number) => {
-                let index = offset / cluster % (cluster / 8);
-                let entry = entry_at(&self.tables.l2, number, index);
+                let entry = entry_at(&self.tables.l2, number, cluster.l2_index(offset));
                 (
                     cluster_in(self.header.version, cluster, entry),
-                    cluster - offset % cluster,
+                    cluster.length - cluster.rest(offset),
                 )
             }
-            HeldTable::Invalid => (GuestCluster::Invalid, span - offset % span),
+            HeldTable::Invalid => (GuestCluster::Invalid, cluster.left_of_table(offset)),
         }
     }
 
@@ -240,17 +255,18 @@ impl<S: Storage> Qcow2<S> {
         requires { offset < self.now.header.size }
         ensures { (i : ℕ)
             → i < result
-            → loaded_cluster (loaded_in self.now) ((offset + i) / self.now.cluster)
+            → loaded_cluster (loaded_in self.now) ((offset + i) / self.now.cluster.length)
             ≡ GuestCluster.Absent }
     {
         let cluster = self.cluster;
-        let entries = cluster / 8;
-        let table = (offset / (entries * cluster)) as usize;
-        let index = offset / cluster % entries;
-        let count = self.absent.count_from(&self.tables, table, index, entries);
+        let table = self.l1_index(offset);
+        let index = cluster.l2_index(offset);
+        let count = self
+            .absent
+            .count_from(&self.tables, table, index, cluster.entries());
         count
-            .saturating_mul(cluster)
-            .saturating_sub(offset % cluster)
+            .saturating_mul(cluster.length)
+            .saturating_sub(cluster.rest(offset))
     }
 
     /// What the guest cluster at that offset of the disk is, and how many bytes from there on stand
@@ -259,11 +275,13 @@ impl<S: Storage> Qcow2<S> {
         requires { offset < self.now.header.size }
         ensures same { (i : ℕ)
             → i < result.1
-            → loaded_cluster (loaded_in self.now) ((offset + i) / self.now.cluster) ≡ result.0 }
+            → loaded_cluster (loaded_in self.now) ((offset + i) / self.now.cluster.length)
+            ≡ result.0 }
         ensures some { 0 < result.1 }
         ensures stored { (at : ℕ)
             → result.0 ≡ GuestCluster.Stored at
-            → (at < 2 ^ 56) × (result.1 ≡ self.now.cluster - offset % self.now.cluster) }
+            → (at < 2 ^ 56)
+            × (result.1 ≡ self.now.cluster.length - offset % self.now.cluster.length) }
     {
         let (cluster, same) = self.cluster_at(offset);
         match cluster {
@@ -287,7 +305,7 @@ impl<S: Storage> Qcow2<S> {
             (λ e. loaded_place (loaded_in self.now) (S.bytes self.now.storage) offset ≡ Refused e) }
     {
         let (cluster, same) = self.run_at(offset);
-        let mapping = mapping_of(cluster, offset % self.cluster, offset)?;
+        let mapping = mapping_of(cluster, self.cluster.rest(offset), offset)?;
         Ok((mapping, same.min(self.header.size - offset)))
     }
 

@@ -17,12 +17,12 @@ returns-clause-layer g c = λ files known len.
     let same = c.in_ok-driver.ensures.tables files known len in
     let below = known_is (g.H.Host.contents c.args.host.now) _ files known c.in_ok-below.ensures.path in
     let least : 512 ≤ cluster_length own =
-    subst (λ n. 512 ≤ n) (cluster_told loaded_features own refl driver.header driver.tables driver.cluster driver.cluster_is driver.loaded) driver.least in (
+    subst (λ n. 512 ≤ n) (cluster_told loaded_features own refl driver.header driver.tables driver.cluster.length driver.cluster_is driver.loaded) driver.cluster.shortest in (
       qcow2_place file,
       (c.in_ok-storage_paths.ensures, refl, below),
-      size_told loaded_features own refl driver.header driver.tables driver.cluster driver.cluster_is driver.loaded ∙ qcow2_sized file _ same,
+      size_told loaded_features own refl driver.header driver.tables driver.cluster.length driver.cluster_is driver.loaded ∙ qcow2_sized file _ same,
       λ bytes is none p.
-          ap (with_bytes bytes) (places_told loaded_features own refl driver.header driver.tables driver.cluster driver.cluster_is driver.loaded driver.least driver.covers p)
+          ap (with_bytes bytes) (places_told loaded_features own refl driver.header driver.tables driver.cluster.length driver.cluster_is driver.loaded driver.cluster.shortest driver.covers p)
           ∙ qcow2_same file _ same least c.same_tables_stand_alike.ensures.places bytes is p,
     )
 
@@ -31,7 +31,7 @@ returns-clause-format g c = λ files known len.
     let driver = c.in_ok-driver.driver in
     let own = loaded_bytes driver.storage in
     let least : 512 ≤ cluster_length own =
-    subst (λ n. 512 ≤ n) (cluster_told loaded_features own refl driver.header driver.tables driver.cluster driver.cluster_is driver.loaded) driver.least in
+    subst (λ n. 512 ≤ n) (cluster_told loaded_features own refl driver.header driver.tables driver.cluster.length driver.cluster_is driver.loaded) driver.cluster.shortest in
     if_some c.in_ok-below.below _ _
     (λ b. format_by_file (files c.args.path.now) _ (c.in_ok-driver.ensures.tables files known len)
     (c.in_ok-driver.ensures.start files known len) least

@@ -11,8 +11,8 @@ returns g c = λ pieces bytes told layers covers.
     let stored = g.S.Storage.bytes in
     same_listed _ _ _ _ refl
     (λ p. sym (chain_shows _ _
-    (λ d tells p. places_told (features d.storage) (stored d.storage) tells d.header d.tables d.cluster d.cluster_is d.loaded d.least d.covers p)
+    (λ d tells p. places_told (features d.storage) (stored d.storage) tells d.header d.tables d.cluster.length d.cluster_is d.loaded d.cluster.shortest d.covers p)
     (λ d tells a same p. c.same_tables_stand_alike.ensures.places a _ same
-    (same_clusters a _ same (subst (λ n. 512 ≤ n) (cluster_told (features d.storage) (stored d.storage) tells d.header d.tables d.cluster d.cluster_is d.loaded) d.least)) p)
+    (same_clusters a _ same (subst (λ n. 512 ≤ n) (cluster_told (features d.storage) (stored d.storage) tells d.header d.tables d.cluster.length d.cluster_is d.loaded) d.cluster.shortest)) p)
     bytes image told layers p))
     ∙ c.plans_show_stored_bytes.ensures image pieces bytes covers

@@ -6,4 +6,4 @@ use Rattle.imago_qcow2.proofs.laws.disk_of_bytes.Goals as goal
 pub returns : goal.returns
 returns g c = λ told below p.
     let s = c.args.image.now in
-    ap (shown below) (places_told (g.S.Storage.features s.storage) (g.S.Storage.bytes s.storage) told s.header s.tables s.cluster s.cluster_is s.loaded s.least s.covers p)
+    ap (shown below) (places_told (g.S.Storage.features s.storage) (g.S.Storage.bytes s.storage) told s.header s.tables s.cluster.length s.cluster_is s.loaded s.cluster.shortest s.covers p)

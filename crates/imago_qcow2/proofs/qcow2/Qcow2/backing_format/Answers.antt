@@ -12,7 +12,7 @@ returns-in_err-found-clause-refusals g c =
     let F = g.S.Storage.features s.storage in
     let B = g.S.Storage.bytes s.storage in
     let p = err_from_is_err_and c.from_residual.result c.from_residual.ensures.1 in
-    rw (p.1, p.2) (refusal_here F B s.header.own_length c.extensions_end-end.result (header_cluster s.header) c.in_err-found.field-0.0 (λ told. own_told F B told s.header s.tables s.cluster s.cluster_is s.loaded)
+    rw (p.1, p.2) (refusal_here F B s.header.own_length c.extensions_end-end.result (header_cluster s.header) c.in_err-found.field-0.0 (λ told. own_told F B told s.header s.tables s.cluster.length s.cluster_is s.loaded)
     c.extensions_end-end.ensures.value (omega (arith, c.extensions_end-end.ensures.inside, s.cluster_is)) c.in_err-found.ensures.refusals)
 
 pub returns-in_default-clause-name : goal.returns-in_default-clause-name
@@ -20,7 +20,7 @@ returns-in_default-clause-name g c = λ told.
     let s = c.args.self.now in
     let F = g.S.Storage.features s.storage in
     let B = g.S.Storage.bytes s.storage in
-    let here = format_here B s.header.own_length c.extensions_end-end.result (own_told F B told s.header s.tables s.cluster s.cluster_is s.loaded) (c.extensions_end-end.ensures.value told) in
+    let here = format_here B s.header.own_length c.extensions_end-end.result (own_told F B told s.header s.tables s.cluster.length s.cluster_is s.loaded) (c.extensions_end-end.ensures.value told) in
     sym here ∙ c.in_ok-found.ensures.found told ∙ ap Ok c.in_default.is
 
 pub returns-clause-name : goal.returns-clause-name
@@ -28,6 +28,6 @@ returns-clause-name g c = λ told.
     let s = c.args.self.now in
     let F = g.S.Storage.features s.storage in
     let B = g.S.Storage.bytes s.storage in
-    let here = format_here B s.header.own_length c.extensions_end-end.result (own_told F B told s.header s.tables s.cluster s.cluster_is s.loaded) (c.extensions_end-end.ensures.value told) in
+    let here = format_here B s.header.own_length c.extensions_end-end.result (own_told F B told s.header s.tables s.cluster.length s.cluster_is s.loaded) (c.extensions_end-end.ensures.value told) in
     let e : format_of B ≡ Ok (Some (c.in-Some.at, c.in-Some.count)) = sym here ∙ c.in_ok-found.ensures.found told ∙ ap Ok c.in-Some.is in
     (c.in-Some.at, rw c.in_ok-read_bytes.ensures.whole e, c.in_ok-read_bytes.ensures.read told)

@@ -7,11 +7,11 @@ returns-then-self-eq0-clause-value g c = λ told.
     let s = c.args.self.now in
     let F = g.S.Storage.features s.storage in
     let B = g.S.Storage.bytes s.storage in
-    end_unnamed B s.header.name_start s.cluster (name_start_told F B told s.header s.tables s.cluster s.cluster_is s.loaded) (cluster_told F B told s.header s.tables s.cluster s.cluster_is s.loaded) c.if-self-eq0.true
+    end_unnamed B s.header.name_start s.cluster.length (name_start_told F B told s.header s.tables s.cluster.length s.cluster_is s.loaded) (cluster_told F B told s.header s.tables s.cluster.length s.cluster_is s.loaded) c.if-self-eq0.true
 
 pub returns-clause-value : goal.returns-clause-value
 returns-clause-value g c = λ told.
     let s = c.args.self.now in
     let F = g.S.Storage.features s.storage in
     let B = g.S.Storage.bytes s.storage in
-    end_named B s.header.name_start s.cluster c.min.result (name_start_told F B told s.header s.tables s.cluster s.cluster_is s.loaded) (cluster_told F B told s.header s.tables s.cluster s.cluster_is s.loaded) c.if-self-eq0.false c.min.ensures
+    end_named B s.header.name_start s.cluster.length c.min.result (name_start_told F B told s.header s.tables s.cluster.length s.cluster_is s.loaded) (cluster_told F B told s.header s.tables s.cluster.length s.cluster_is s.loaded) c.if-self-eq0.false c.min.ensures

@@ -7,4 +7,4 @@ pub returns-clause-refusals : goal.returns-clause-refusals
 returns-clause-refusals g c =
     let s = c.args.self.now in
     let B = g.S.Storage.bytes s.storage in
-    read_refused (g.S.Storage.features s.storage) B s.header.size (loaded_place (loaded_of s.header s.cluster s.tables) B) c.args._storage c.args.offset (length c.args.buf.now) c.read.result c.requires c.read.ensures.only c.read.ensures.device c.read.ensures.wraps.0 c.read.ensures.memory
+    read_refused (g.S.Storage.features s.storage) B s.header.size (loaded_place (loaded_of s.header s.cluster.length s.tables) B) c.args._storage c.args.offset (length c.args.buf.now) c.read.result c.requires c.read.ensures.only c.read.ensures.device c.read.ensures.wraps.0 c.read.ensures.memory

@@ -1,0 +1,74 @@
+//! The length of clusters, by which guest clusters are found.
+ghost use Rattle.std.specs.Prelude.{◌≡◌, ℕ, ◌-◌, ◌*◌, ◌/◌, ◌%◌, ◌^◌, ◌<◌, ◌≤◌};
+
+use crate::header::cluster_of_bits;
+
+/// The length of a cluster in bytes, which is a power of two. So are that of an L2 table's part of
+/// the disk and the number of its entries, and all that is asked of an offset is told without a
+/// division.
+#[derive(Clone, Copy)]
+pub(crate) struct ClusterSize {
+    pub(crate) length: u64,
+    /// The exponent of that power.
+    bits: u32,
+    ghost power: { length ≡ 2 ^ bits },
+    ghost least: { 9 ≤ bits },
+    ghost most: { bits ≤ 21 },
+    ghost shortest: { 512 ≤ length },
+    ghost longest: { length ≤ 2097152 },
+}
+
+impl ClusterSize {
+    /// Clusters whose length is that power of two.
+    pub(crate) fn of_bits(bits: u32) -> ClusterSize
+        requires least { 9 ≤ bits }
+        requires most { bits ≤ 21 }
+        ensures { result.length ≡ 2 ^ bits }
+    {
+        ClusterSize {
+            length: cluster_of_bits(bits),
+            bits,
+        }
+    }
+
+    /// How many entries an L2 table has.
+    pub(crate) fn entries(self) -> u64
+        ensures value { result ≡ self.length / 8 }
+        ensures least { 64 ≤ result }
+        ensures most { result ≤ 262144 }
+    {
+        self.length / 8
+    }
+
+    /// How far behind the beginning of its cluster an offset lies, in bytes.
+    pub(crate) fn rest(self, offset: u64) -> u64
+        ensures value { result ≡ offset % self.length }
+        ensures below { result < self.length }
+    {
+        offset & (self.length - 1)
+    }
+
+    /// The index of an offset's entry in its L2 table.
+    pub(crate) fn l2_index(self, offset: u64) -> u64
+        ensures value { result ≡ offset / self.length % (self.length / 8) }
+        ensures below { result < self.length / 8 }
+    {
+        (offset >> self.bits) & (self.entries() - 1)
+    }
+
+    /// The index of an offset's entry in the L1 table.
+    pub(crate) fn l1_index(self, offset: u64) -> u64
+        ensures { result ≡ offset / (self.length / 8 * self.length) }
+    {
+        offset >> (2 * self.bits - 3)
+    }
+
+    /// How many bytes from an offset on its L2 table is for.
+    pub(crate) fn left_of_table(self, offset: u64) -> u64
+        ensures { result ≡ self.length / 8 * self.length
+            - offset % (self.length / 8 * self.length) }
+    {
+        let span = self.entries() * self.length;
+        span - (offset & (span - 1))
+    }
+}
