@@ -1,3 +1,3 @@
-pub mod Digits
 pub mod ScriptStorage
+pub mod Digits
 pub mod Words

@@ -68,7 +68,8 @@ fn print_reply<W: Write>(reply: &Reply, output: &mut W) -> io::Result<()> {
 /// How many bytes are turned into digits at a time.
 const PIECE: usize = 4096;
 
-/// Up to how many bytes are few. Their digits need less room, and all room is made ready each time.
+/// Up to how many bytes are few. Their digits get less room, since a function that has room for
+/// digits fills all of it with zeroes before it begins.
 const FEW: usize = 256;
 
 /// Prints a line of bytes, in hex. It takes no memory, however many they are.
