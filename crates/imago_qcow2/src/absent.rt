@@ -79,8 +79,8 @@ fn all_ends(alloc: Global, l2: &[Vec<u8>]) -> Result<Vec<Vec<u32>>, AllocError>
     Ok(ends)
 }
 
-/// The end of the run of absent entries of an L2 table that goes over that entry: no entry from it
-/// on, up to that end, is another one. It is no further than the entry where there is no such run.
+/// An end up to which all entries of an L2 table from that one on are absent, as far as the index
+/// knows; it is no further than the entry where it knows none.
 fn end_in(l2: &[Vec<u8>], ends: &[Vec<u32>], number: usize, index: u64) -> u64
     requires { AreEndsOf l2.now ends.now }
     ensures { (e : ℕ) → index ≤ e → e < result → IsAbsentEntry (slice_get l2.now number) e }

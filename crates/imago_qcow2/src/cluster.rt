@@ -3,9 +3,9 @@ ghost use Rattle.std.specs.Prelude.{◌≡◌, ℕ, ◌-◌, ◌*◌, ◌/◌, �
 
 use crate::header::cluster_of_bits;
 
-/// The length of a cluster in bytes, which is a power of two. So are that of an L2 table's part of
-/// the disk and the number of its entries, and all that is asked of an offset is told without a
-/// division.
+/// The length of a cluster in bytes, which is a power of two. So is the number of entries in an L2
+/// table, and how many bytes of the disk one is for. All that is asked of an offset is told without
+/// a division.
 #[derive(Clone, Copy)]
 pub(crate) struct ClusterSize {
     pub(crate) length: u64,
@@ -63,7 +63,7 @@ impl ClusterSize {
         offset >> (2 * self.bits - 3)
     }
 
-    /// How many bytes from an offset on its L2 table is for.
+    /// How many bytes, from an offset on, belong to its L2 table.
     pub(crate) fn left_of_table(self, offset: u64) -> u64
         ensures { result ≡ self.length / 8 * self.length
             - offset % (self.length / 8 * self.length) }
