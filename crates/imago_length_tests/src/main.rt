@@ -1,10 +1,15 @@
-//! Compares what `System` tells of the lengths of files with their attributes, which are asked for
-//! at each question here: how many bytes are behind a file's end, how many come before it, and both
-//! at once. One file grows and shrinks meanwhile: it is made in the folder that the program is run
-//! in, and removed at the end. It prints how many questions it asked, and each that was answered
-//! otherwise.
+//! Compares what `System` tells of files with what their attributes tell, asked for at each
+//! question: how many bytes are behind a file's end, how many come before it, both at once, and the
+//! bytes themselves. One file grows, shrinks and is replaced meanwhile: it is made in the folder
+//! that the program is run in, and removed at the end. The program prints how many questions it
+//! asked, and each that was answered otherwise.
 #![tactic(auto)]
 
+ghost use Rattle.std.specs.Prelude.{◌<◌};
+
+mod attributes;
+
+use crate::attributes::ByAttributes;
 use imago_img_parts::host::Host;
 use imago_img_parts::system::System;
 use std::fs::{self, File};
@@ -14,7 +19,10 @@ use std::process::ExitCode;
 /// The file that is made, and changed.
 const CHANGED: &str = "changed.bin";
 
-/// Lengths of it, and offsets in each file: around nothing, a sector, a page, and 32 bits.
+/// Another file, which has three bytes.
+const SMALL: &str = "small.bin";
+
+/// Lengths of the file, and offsets in each file: around nothing, a sector, a page, and 32 bits.
 const LENGTHS: [u64; 12] = [
     0, 1, 2, 511, 512, 513, 4095, 4096, 4097, 1048576, 4294967295, 4294967297,
 ];
@@ -22,54 +30,11 @@ const LENGTHS: [u64; 12] = [
 /// Up to how many bytes are asked for.
 const MOST: [u64; 6] = [1, 2, 512, 4096, 4294967296, u64::MAX];
 
-/// How many random questions are asked.
+/// How many questions there are for an offset.
+const KINDS: u64 = 4;
+
+/// At how many random places questions are asked.
 const RANDOM: u64 = 5000;
-
-/// What is told of a file, from an offset on.
-#[derive(PartialEq, Eq, Drop)]
-struct Answers {
-    /// How many bytes are behind its end.
-    hole: u64,
-    /// How many come before its end.
-    data: u64,
-    /// How many are in one hole, or come before the next one, and whether they do.
-    run: (u64, bool),
-}
-
-/// How many bytes from the offset on are behind the file's end, by its attributes.
-fn behind_end(file: &File, offset: u64, most: u64) -> u64 {
-    match file.metadata() {
-        Ok(metadata) if metadata.is_file() && metadata.len() <= offset => most,
-        _ => 0,
-    }
-}
-
-/// How many bytes from the offset on come before the file's end, by its attributes.
-fn before_end(file: &File, offset: u64, most: u64) -> u64 {
-    match file.metadata() {
-        Ok(metadata) if metadata.is_file() => most.min(metadata.len().saturating_sub(offset)),
-        _ => most,
-    }
-}
-
-/// The right answers.
-fn by_attributes(rt: &HostRuntime, path: &str, offset: u64, most: u64) -> Answers {
-    let Ok(file) = File::open(rt, path) else {
-        return Answers {
-            hole: 0,
-            data: 0,
-            run: (most, true),
-        };
-    };
-    let hole = behind_end(&file, offset, most);
-    let data = before_end(&file, offset, most);
-    let run = match (hole, data) {
-        (0, 0) => (most, true),
-        (0, data) => (data, true),
-        (hole, _) => (hole, false),
-    };
-    Answers { hole, data, run }
-}
 
 /// A generator of numbers, SplitMix64 by Steele, Lea and Flood.
 #[derive(Drop)]
@@ -78,7 +43,7 @@ struct Random {
 }
 
 impl Random {
-    /// The next number, of no more than so many bits.
+    /// The next number, of at most so many bits.
     fn bits(&mut self, most: u64) -> u64 {
         self.state = self.state.wrapping_add(0x9e37_79b9_7f4a_7c15);
         let mut mixed = self.state;
@@ -95,27 +60,49 @@ impl Random {
 struct Comparison<'a> {
     rt: &'a HostRuntime,
     host: System<'a>,
+    before: ByAttributes<'a>,
     asked: u64,
     different: u64,
 }
 
 impl<'a> Comparison<'a> {
-    /// Asks both.
-    fn ask(&mut self, path: &str, offset: u64, most: u64) {
-        let most = most.max(1);
-        let told = Answers {
-            hole: self.host.hole_at(path, offset, most),
-            data: self.host.data_at(path, offset, most),
-            run: self.host.run_at(path, offset, most),
-        };
-        self.asked = self.asked.saturating_add(1);
-        if told != by_attributes(self.rt, path, offset, most) {
-            self.different = self.different.saturating_add(1);
-            let _ = println!(self.rt; "{path}, {most} bytes at {offset}: answered otherwise");
+    /// Whether both read the same bytes, or neither reads any.
+    fn reads_same(&self, path: &str, offset: u64) -> bool {
+        let mut told = [0xaa; 16];
+        let mut right = [0xaa; 16];
+        let is_told = self.host.read_at(path, &mut told, offset).is_ok();
+        let is_right = self.before.read_at(path, &mut right, offset).is_ok();
+        is_told == is_right && told == right
+    }
+
+    /// Whether both answer a question the same.
+    fn answers_same(&self, kind: u64, path: &str, offset: u64, most: u64) -> bool
+        requires { 0 < most }
+    {
+        let (host, before) = (&self.host, &self.before);
+        match kind {
+            0 => host.hole_at(path, offset, most) == before.hole_at(path, offset, most),
+            1 => host.data_at(path, offset, most) == before.data_at(path, offset, most),
+            2 => host.run_at(path, offset, most) == before.run_at(path, offset, most),
+            _ => self.reads_same(path, offset),
         }
     }
 
-    /// Asks for all offsets of a file.
+    /// Asks both each question, and begins with another one each time.
+    fn ask(&mut self, path: &str, offset: u64, most: u64) {
+        let most = most.max(1);
+        let first = self.asked / KINDS;
+        for step in 0..KINDS {
+            let kind = first.wrapping_add(step) % KINDS;
+            self.asked = self.asked.saturating_add(1);
+            if !self.answers_same(kind, path, offset, most) {
+                self.different = self.different.saturating_add(1);
+                let _ = println!(self.rt; "{path}, {most} bytes at {offset}: answered otherwise");
+            }
+        }
+    }
+
+    /// Asks for many offsets in a file of that length.
     fn ask_all(&mut self, path: &str, length: u64) {
         for most in MOST {
             for offset in LENGTHS {
@@ -128,7 +115,8 @@ impl<'a> Comparison<'a> {
         }
     }
 
-    /// Asks for a file of each length, which becomes longer, and shorter, and is another one then.
+    /// Asks about the file at each length, one byte longer and half as long, and about another one
+    /// in between.
     fn ask_lengths(&mut self) -> io::Result<()> {
         let file = File::create(self.rt, CHANGED)?;
         for length in LENGTHS {
@@ -136,12 +124,25 @@ impl<'a> Comparison<'a> {
                 file.set_len(changed)?;
                 self.ask_all(CHANGED, changed);
             }
-            self.ask_all("small.bin", 3);
+            self.ask_all(SMALL, 3);
         }
         Ok(())
     }
 
-    /// Asks at random, of a file of random length.
+    /// Asks about a file that another one takes the place of while it is open.
+    fn ask_replaced(&mut self) -> io::Result<()> {
+        for length in LENGTHS {
+            self.ask_all(CHANGED, length);
+            fs::remove_file(self.rt, CHANGED)?;
+            self.ask_all(CHANGED, length);
+            File::create(self.rt, CHANGED)?.set_len(length)?;
+            self.ask_all(CHANGED, length);
+            self.ask_all(SMALL, 3);
+        }
+        Ok(())
+    }
+
+    /// Asks at random, about a file of random length.
     fn ask_random(&mut self) -> io::Result<()> {
         let file = File::create(self.rt, CHANGED)?;
         let mut random = Random { state: 1 };
@@ -152,17 +153,24 @@ impl<'a> Comparison<'a> {
         Ok(())
     }
 
-    /// Asks for what is no regular file, or none at all.
+    /// Asks about what is no regular file, has no length of its own, or isn't there.
     fn ask_others(&mut self) {
-        for path in [".", "/dev/null", "/dev/zero", "missing.bin"] {
+        for path in [
+            ".",
+            "/dev/null",
+            "/dev/zero",
+            "/proc/version",
+            "missing.bin",
+        ] {
             self.ask_all(path, 0);
-            self.ask_all("small.bin", 3);
+            self.ask_all(SMALL, 3);
         }
     }
 
     /// Asks all questions.
     fn ask_each(&mut self) -> io::Result<()> {
         self.ask_lengths()?;
+        self.ask_replaced()?;
         self.ask_random()?;
         self.ask_others();
         fs::remove_file(self.rt, CHANGED)
@@ -173,6 +181,7 @@ fn main(rt: HostRuntime) -> ExitCode {
     let mut comparison = Comparison {
         rt: &rt,
         host: System::new(&rt),
+        before: ByAttributes::new(&rt),
         asked: 0,
         different: 0,
     };
