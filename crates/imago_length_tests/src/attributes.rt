@@ -110,8 +110,8 @@ impl<'a> ByAttributes<'a> {
         before
     }
 
-    /// How many bytes from the offset on are in one hole of a file, or come before its next one; and
-    /// whether they do. There is at least one.
+    /// How many bytes from the offset on are in one hole of a file, or come before its next one;
+    /// and whether they do. There is at least one.
     pub fn run_at(&self, path: &str, offset: u64, most: u64) -> (u64, bool) {
         let hole = self.hole_at(path, offset, most);
         if hole > 0 {
