@@ -1,4 +1,5 @@
 //! Digests of what jobs answer.
+ghost use Rattle.std.specs.Prelude.{◌<◌};
 
 use imago_access::mapping::Mapping;
 use imago_access::run::Reply;
@@ -32,24 +33,23 @@ impl Digest {
         self.sums = self.sums.wrapping_add(self.sum);
     }
 
-    /// Adds bytes, and how many they are. Eight bytes are one number, and every fourth of these is
-    /// summed apart, so that the processor does four at once.
+    /// Adds bytes, and how many they are.
     pub fn add_bytes(&mut self, bytes: &[u8]) {
-        self.add(bytes.len() as u64);
-        let (groups, rest) = bytes.as_chunks::<32>();
-        let mut sum = u64x4::splat(0);
-        let mut sums = u64x4::splat(0);
-        for group in groups {
-            sum += u64x4::from_le_bytes(u8x32::from_array(*group));
-            sums += sum;
-        }
-        for number in sum.to_array() {
+        let mut run = Run::new();
+        run.extend(bytes);
+        self.add_run(&run);
+    }
+
+    /// Adds the bytes of a run, and how many they are.
+    pub fn add_run(&mut self, run: &Run) {
+        self.add(run.length);
+        for number in run.sum.to_array() {
             self.add(number);
         }
-        for number in sums.to_array() {
+        for number in run.sums.to_array() {
             self.add(number);
         }
-        for byte in rest {
+        for byte in &run.rest[..run.held()] {
             self.add(u64::from(*byte));
         }
     }
@@ -111,5 +111,71 @@ impl Digest {
                 self.add(*offset);
             }
         }
+    }
+}
+
+/// Bytes that come in parts. However they are cut, the run is the same. Eight bytes are one number,
+/// and every fourth of these is summed apart, so that the processor does four at once.
+#[derive(Drop)]
+pub struct Run {
+    length: u64,
+    sum: u64x4,
+    sums: u64x4,
+    /// The bytes behind the last whole group of 32, and what is left of earlier ones.
+    rest: [u8; 32],
+}
+
+impl Run {
+    /// No bytes.
+    pub fn new() -> Self {
+        Run {
+            length: 0,
+            sum: u64x4::splat(0),
+            sums: u64x4::splat(0),
+            rest: [0; 32],
+        }
+    }
+
+    /// Whether it has no byte.
+    pub fn is_empty(&self) -> bool {
+        self.length == 0
+    }
+
+    /// How many bytes wait for a whole group.
+    fn held(&self) -> usize
+        ensures { result < 32 }
+    {
+        (self.length % 32) as usize
+    }
+
+    /// Adds the bytes that are next.
+    pub fn extend(&mut self, bytes: &[u8]) {
+        let held = self.held();
+        self.length = self.length.wrapping_add(bytes.len() as u64);
+        if held == 0 {
+            self.add_groups(bytes);
+            return;
+        }
+        let count = bytes.len().min(32 - held);
+        self.rest[held..held + count].copy_from_slice(&bytes[..count]);
+        if held + count == 32 {
+            let group = self.rest;
+            self.add_groups(&group);
+            self.add_groups(&bytes[count..]);
+        }
+    }
+
+    /// Sums whole groups of 32 bytes, and keeps what is left.
+    fn add_groups(&mut self, bytes: &[u8]) {
+        let (groups, rest) = bytes.as_chunks::<32>();
+        let mut sum = self.sum;
+        let mut sums = self.sums;
+        for group in groups {
+            sum += u64x4::from_le_bytes(u8x32::from_array(*group));
+            sums += sum;
+        }
+        self.sum = sum;
+        self.sums = sums;
+        self.rest[..rest.len()].copy_from_slice(rest);
     }
 }
