@@ -1,4 +1,5 @@
 //! Qcow2 files.
+ghost use Rattle.std.specs.Prelude.{◌<◌};
 
 use crate::random::Random;
 use std::alloc::Global;
@@ -27,7 +28,8 @@ pub struct Shape<'a> {
     pub pattern: Pattern,
 }
 
-/// A qcow2 file: its header and tables, and how long the file is. Data stand behind the tables.
+/// A qcow2 file: its header, reference counts and tables, and how long the file is. Data stand
+/// behind the tables.
 #[derive(Drop)]
 pub struct Qcow2File {
     pub head: Vec<u8>,
@@ -55,14 +57,71 @@ fn put(bytes: &mut [u8], at: usize, source: &[u8]) {
     bytes[at..at + source.len()].copy_from_slice(source);
 }
 
+/// Where the parts of a file begin, in clusters, in this order: the table of reference counts, its
+/// blocks, the L1 table, L2 tables, data.
+#[derive(Drop)]
+struct Layout {
+    /// A cluster's length, in bytes.
+    cluster: u64,
+    /// How many clusters the table of reference counts has.
+    count_table: u64,
+    first_block: u64,
+    /// How many blocks of reference counts there are.
+    blocks: u64,
+    l1_table: u64,
+    /// How many L2 tables there is room for.
+    tables: u64,
+    first_table: u64,
+    first_data: u64,
+}
+
+impl Layout {
+    /// The layout of a file with so many L2 tables, and so many clusters behind them. There are as
+    /// many blocks of counts as all clusters of the file need, their own among them.
+    fn new(cluster: u64, tables: u64, data: u64) -> Self {
+        let l1_clusters = tables.saturating_mul(8).div_ceil(cluster.max(1));
+        let others = 1u64
+            .saturating_add(l1_clusters)
+            .saturating_add(tables)
+            .saturating_add(data);
+        let mut blocks = 1;
+        let mut count_table = 1;
+        for _ in 0..8u64 {
+            let all = others.saturating_add(blocks).saturating_add(count_table);
+            blocks = all.div_ceil((cluster / 2).max(1));
+            count_table = blocks.saturating_mul(8).div_ceil(cluster.max(1));
+        }
+        let first_block = count_table.saturating_add(1);
+        let l1_table = first_block.saturating_add(blocks);
+        let first_table = l1_table.saturating_add(l1_clusters);
+        Layout {
+            cluster,
+            count_table,
+            first_block,
+            blocks,
+            l1_table,
+            tables,
+            first_table,
+            first_data: first_table.saturating_add(tables),
+        }
+    }
+
+    /// The offset of a cluster, in bytes.
+    fn offset(&self, cluster: u64) -> u64 {
+        cluster.wrapping_mul(self.cluster)
+    }
+}
+
 /// Puts the header of version 3, the extension with the format of the file below, and its name.
-fn put_header(bytes: &mut [u8], shape: Shape<'_>, size: u64, tables: u32, start: u64) {
+fn put_header(bytes: &mut [u8], shape: Shape<'_>, layout: &Layout) {
     put(bytes, 0, b"QFI\xfb");
     put32(bytes, 4, 3);
     put32(bytes, 20, shape.cluster_bits);
-    put64(bytes, 24, size);
-    put32(bytes, 36, tables);
-    put64(bytes, 40, start);
+    put64(bytes, 24, layout.offset(shape.clusters));
+    put32(bytes, 36, (layout.tables % (1 << 32)) as u32);
+    put64(bytes, 40, layout.offset(layout.l1_table));
+    put64(bytes, 48, layout.cluster);
+    put32(bytes, 56, (layout.count_table % (1 << 32)) as u32);
     put32(bytes, 96, 4);
     put32(bytes, 100, 104);
     if let Some(name) = shape.backing {
@@ -72,6 +131,27 @@ fn put_header(bytes: &mut [u8], shape: Shape<'_>, size: u64, tables: u32, start:
         put32(bytes, 108, 5);
         put(bytes, 112, b"qcow2");
         put(bytes, 256, name.as_bytes());
+    }
+}
+
+/// Counts a cluster as used once.
+fn count_cluster(bytes: &mut [u8], layout: &Layout, cluster: u64) {
+    let at = layout
+        .offset(layout.first_block)
+        .wrapping_add(cluster.wrapping_mul(2));
+    put(bytes, at as usize, &[0, 1]);
+}
+
+/// Puts the table of reference counts, and counts what every file has: all in front of the L2
+/// tables.
+fn put_counts(bytes: &mut [u8], layout: &Layout) {
+    for block in 0..layout.blocks {
+        let entry = layout.cluster.wrapping_add(block.wrapping_mul(8));
+        let at = layout.offset(layout.first_block.wrapping_add(block));
+        put64(bytes, entry as usize, at);
+    }
+    for cluster in 0..layout.first_table {
+        count_cluster(bytes, layout, cluster);
     }
 }
 
@@ -113,47 +193,96 @@ fn is_left_out(random: &mut Random, pattern: Pattern) -> bool {
     }
 }
 
-/// Makes a file.
-pub fn qcow2_file(alloc: Global, random: &mut Random, shape: Shape<'_>) -> Option<Qcow2File> {
-    let cluster = 1u64 << (shape.cluster_bits % 22).max(9);
-    let entries = (cluster / 8).max(1);
-    let tables = shape.clusters.div_ceil(entries).min(4_194_304);
-    let table_clusters = tables.checked_mul(8)?.div_ceil(cluster);
-    let first_table = table_clusters.checked_add(1)?;
-    let first_data = first_table.checked_add(tables)?;
-    let mut head = Vec::new(alloc);
-    head.resize(first_data.checked_mul(cluster)? as usize, 0u8)
-        .ok()?;
-    let size = shape.clusters.checked_mul(cluster)?;
-    put_header(&mut head, shape, size, tables as u32, cluster);
+/// What the entries of a file's tables lead to.
+#[derive(Drop)]
+struct Entries {
+    /// Which L2 tables there are.
+    tables: Vec<bool>,
+    /// For each cluster of the disk that has data, how far behind the file's first data it stands,
+    /// in clusters.
+    places: Vec<Option<u64>>,
+    /// How many clusters the data take, with what is free between them.
+    count: u64,
+}
+
+/// Decides what the entries of a file's tables lead to, for so many entries in a table.
+fn entries_of(
+    alloc: Global,
+    random: &mut Random,
+    shape: Shape<'_>,
+    table_length: usize,
+) -> Option<Entries>
+    requires { 0 < table_length }
+{
     let used = used_clusters(alloc, random, shape)?;
-    let mut next = first_data;
-    let mut table = first_table;
-    for (index, entries) in used.chunks(entries as usize).enumerate() {
-        if is_left_out(random, shape.pattern) {
+    let mut tables = Vec::new(alloc);
+    let mut places = Vec::new(alloc);
+    let mut count: u64 = 0;
+    for clusters in used.chunks(table_length) {
+        let is_there = !is_left_out(random, shape.pattern);
+        tables.push(is_there).ok()?;
+        for &is_used in clusters {
+            let mut place = None;
+            if is_there && is_used {
+                if random.is_one_of(8) {
+                    count = count.wrapping_add(random.below(16));
+                }
+                place = Some(count);
+                count = count.wrapping_add(1);
+            }
+            places.push(place).ok()?;
+        }
+    }
+    Some(Entries {
+        tables,
+        places,
+        count,
+    })
+}
+
+/// Puts the L1 table and the L2 tables, and counts these and the data.
+fn put_tables(bytes: &mut [u8], layout: &Layout, entries: &Entries, table_length: usize)
+    requires { 0 < table_length }
+{
+    let mut table = layout.first_table;
+    for (index, places) in entries.places.chunks(table_length).enumerate() {
+        if entries.tables.get(index) != Some(&true) {
             continue;
         }
-        let at = table.wrapping_mul(cluster);
-        let entry_at = cluster.wrapping_add((index as u64).wrapping_mul(8));
-        put64(&mut head, entry_at as usize, at | COPIED);
-        for (number, &is_used) in entries.iter().enumerate() {
-            if is_used {
-                if random.is_one_of(8) {
-                    next = next.wrapping_add(random.below(16));
-                }
+        let at = layout.offset(table);
+        let entry = layout
+            .offset(layout.l1_table)
+            .wrapping_add((index as u64).wrapping_mul(8));
+        put64(bytes, entry as usize, at | COPIED);
+        count_cluster(bytes, layout, table);
+        for (number, place) in places.iter().enumerate() {
+            if let Some(place) = place {
+                let cluster = layout.first_data.wrapping_add(*place);
                 let entry = at.wrapping_add((number as u64).wrapping_mul(8));
-                put64(
-                    &mut head,
-                    entry as usize,
-                    next.wrapping_mul(cluster) | COPIED,
-                );
-                next = next.wrapping_add(1);
+                put64(bytes, entry as usize, layout.offset(cluster) | COPIED);
+                count_cluster(bytes, layout, cluster);
             }
         }
         table = table.wrapping_add(1);
     }
+}
+
+/// Makes a file.
+pub fn qcow2_file(alloc: Global, random: &mut Random, shape: Shape<'_>) -> Option<Qcow2File> {
+    let cluster = 1u64 << (shape.cluster_bits % 22).max(9);
+    let table_length = (cluster / 8).max(1);
+    let tables = shape.clusters.div_ceil(table_length).min(4_194_304);
+    let entries = entries_of(alloc, random, shape, table_length as usize)?;
+    let layout = Layout::new(cluster, tables, entries.count);
+    let mut head = Vec::new(alloc);
+    head.resize(layout.first_data.checked_mul(cluster)? as usize, 0u8)
+        .ok()?;
+    put_header(&mut head, shape, &layout);
+    put_counts(&mut head, &layout);
+    put_tables(&mut head, &layout, &entries, table_length as usize);
+    let length = layout.first_data.checked_add(entries.count)?;
     Some(Qcow2File {
         head,
-        length: next.checked_mul(cluster)?,
+        length: length.checked_mul(cluster)?,
     })
 }
