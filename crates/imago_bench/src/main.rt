@@ -2,7 +2,9 @@
 //! that the job answers.
 //!
 //! Its words are the job, how many sets of inputs it is done on, how large the largest input of a
-//! set is, and the seed. The others of a set have a half and a quarter of that size.
+//! set is, and the seed. The others of a set have a half and a quarter of that size. A job that it
+//! doesn't know has a status of its own, so that `bench/run` can tell a program that is older than
+//! a workload from one that fails.
 #![tactic(auto)]
 
 mod commands;
@@ -21,6 +23,9 @@ use crate::random::Random;
 use std::alloc::Global;
 use std::env;
 use std::process::ExitCode;
+
+/// The jobs that there are.
+const JOBS: [&str; 6] = ["look", "copy", "serve", "layers", "extents", "script"];
 
 /// Does a job on an input of that size.
 fn work(
@@ -62,29 +67,47 @@ fn work_named(alloc: Global, job: &str, sets: u64, size: u64, seed: u64) -> Opti
         return work_all(alloc, job, sets, size, seed);
     }
     let mut digest = Digest::new();
-    for job in ["look", "copy", "serve", "layers", "extents", "script"] {
+    for job in JOBS {
         digest.add(work_all(alloc, job, sets, size, seed)?);
     }
     Some(digest.value())
 }
 
-/// What the words of the command line ask for.
-fn answer(rt: &HostRuntime) -> Option<u64> {
+/// What comes of the words.
+#[derive(Drop)]
+enum Outcome {
+    /// The digest of all that the job answered.
+    Digest(u64),
+    /// There is no such job.
+    UnknownJob,
+    /// The words aren't those of a job, or it couldn't be done.
+    Refused,
+}
+
+/// What the words of the command line ask for, if they can be read.
+fn answer(rt: &HostRuntime) -> Option<Outcome> {
     let mut words = env::args(rt).ok()?.skip(1);
     let job = words.next()?;
+    if job.as_str() != "each" && !JOBS.contains(&job.as_str()) {
+        return Some(Outcome::UnknownJob);
+    }
     let sets = words.next()?.parse().ok()?;
     let size = words.next()?.parse().ok()?;
     let seed = words.next()?.parse().ok()?;
-    work_named(rt.alloc(), &job, sets, size, seed)
+    work_named(rt.alloc(), &job, sets, size, seed).map(Outcome::Digest)
 }
 
 fn main(rt: HostRuntime) -> ExitCode {
-    match answer(&rt) {
-        Some(digest) => {
+    match answer(&rt).unwrap_or(Outcome::Refused) {
+        Outcome::Digest(digest) => {
             let _ = println!(rt; "{digest:016x}");
             ExitCode::from(0)
         }
-        None => {
+        Outcome::UnknownJob => {
+            let _ = println!(rt; "unknown job");
+            ExitCode::from(2)
+        }
+        Outcome::Refused => {
             let _ = println!(rt; "refused");
             ExitCode::from(1)
         }
