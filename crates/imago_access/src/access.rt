@@ -36,16 +36,11 @@ impl<D: Drop> Drop for FormatAccess<D> {
     }
 }
 
-/// The driver's text, and behind it that of the driver right below; or, where a driver that takes
-/// a layer below has none, that it stands over nothing: `cow[mem] over raw[base]`,
-/// `qcow2[disk] over nothing`.
+/// The driver's text, as `cow[mem:top]`. It says nothing of the layers below, which
+/// [`backing`](FormatAccess::backing) gives.
 impl<D: FormatDriverInstance> Display for FormatAccess<D> {
     fn fmt<W: Write>(&self, f: &mut Formatter<W>) -> fmt::Result {
-        match &self.backing {
-            Some(below) => write!(f, "{} over {}", self.inner, below.inner),
-            None if self.inner.takes_backing() => write!(f, "{} over nothing", self.inner),
-            None => write!(f, "{}", self.inner),
-        }
+        write!(f, "{}", self.inner)
     }
 }
 

@@ -81,7 +81,7 @@ map 16 8
 ok
 ok
 ok
-ok cow[mem:top] over raw[mem:base]
+ok cow[mem:top]
 ok 4 1/0:0x0/ro
 ok
 ok 1011121314aabb1718191a1b1c1d1e1f

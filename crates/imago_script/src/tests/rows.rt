@@ -222,7 +222,7 @@ const COPY_ON_WRITE: [(&str, &str); 15] = [
          ok 00110000\n\
          ok 2 0/0:0x4/rw\nok\nok\nok 1111111111110000\nok\nok 00001111\nok 4 0/0:0x0/rw\n\
          ok 2 0/0:0x4/rw\nok 10\n\
-         ok cow[mem:c] over raw[mem:b]\n",
+         ok cow[mem:c]\n",
     ),
     // The same writes on a storage of old bytes, which takes whole blocks of 8 bytes alone: no old
     // byte shows.
@@ -362,7 +362,7 @@ const COPY_ON_WRITE: [(&str, &str); 15] = [
          ok 2 3/0:0x0/ro\n\
          ok 2 2/0:0x0/ro\nok 3 1/0:0x1/ro\nok 2 3/0:0x8/ro\nok 4 <zero:unallocated>\nok\n\
          ok 000102c304d5060708090a0b0000e700\nok 4 0/0:0x4/rw\nok\nok 08090a0b00000000\n\
-         ok cow[mem:e] over cow[mem:d]\nok 16\n",
+         ok cow[mem:e]\nok 16\n",
     ),
     // An upper disk that is longer than the lower one, which a cut made shorter than its own lower
     // one.
@@ -412,7 +412,7 @@ const COPY_ON_WRITE: [(&str, &str); 15] = [
         "hex b 101112131415161718191a1b1c1d1e1f\nopen raw b ro\nnull c 8\nopen cow c 4\nshow\n\
          write 5 ff\nread 3 6\n\
          map 4 4\ndiscard backing 4 4\nread 3 6\n",
-        "ok\nok\nok\nok\nok cow[null:[8B]] over raw[mem:b]\nok\nok 130000000018\n\
+        "ok\nok\nok\nok\nok cow[null:[8B]]\nok\nok 130000000018\n\
          ok 4 0/0:0x0/rw\nok\n\
          ok 131415161718\n",
     ),
