@@ -2,3 +2,4 @@
 
 pub use imago_access::access::FormatAccess;
 pub use imago_access::mapping::Mapping;
+pub use imago_access::text::ChainText;

@@ -37,7 +37,7 @@ impl<D: Drop> Drop for FormatAccess<D> {
 }
 
 /// The driver's text, as `cow[mem:top]`. It says nothing of the layers below, which
-/// [`backing`](FormatAccess::backing) gives.
+/// [`backing`](FormatAccess::backing) gives and [`chain_text`](FormatAccess::chain_text) prints.
 impl<D: FormatDriverInstance> Display for FormatAccess<D> {
     fn fmt<W: Write>(&self, f: &mut Formatter<W>) -> fmt::Result {
         write!(f, "{}", self.inner)

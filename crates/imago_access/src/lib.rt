@@ -16,5 +16,6 @@ mod prepare;
 mod read;
 mod resize;
 pub mod run;
+pub mod text;
 mod write;
 mod zero;

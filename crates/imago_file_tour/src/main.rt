@@ -96,6 +96,7 @@ fn use_chain(rt: &HostRuntime) -> Result<(), Error> {
     show(rt, "overlay.qcow2", &overlay, 8192)?;
     let data = create(&mut host, rt.alloc(), "data.raw")?;
     let mut disk = copy_on_write(rt.alloc(), data, overlay)?;
+    let _ = println!(rt; "copy-on-write disk: {}", disk.chain_text());
     write_word(rt, "copy-on-write disk", &mut disk, 8200)?;
     match disk.backing() {
         Some(below) => show(rt, "overlay.qcow2", below, 8192),

@@ -4,7 +4,7 @@ use super::check;
 use std::process::Abort;
 
 /// Scripts whose every line is a command, and what they print.
-const ROWS: [(&str, &str); 28] = [
+const ROWS: [(&str, &str); 30] = [
     (
         "mem a 16 00 1 1\nopen raw a rw\nwrite 3 0102\nread 0 6\n",
         "ok\nok\nok\nok 000000010200\n",
@@ -175,6 +175,21 @@ const ROWS: [(&str, &str); 28] = [
         "ok\nok\nok\nok\nok 1024\nok aaaabbbb\nok bbbb0000\nok 100 0/2:0x200/rw\n\
          ok 512 0/1:0x0/rw\nok 0 <eof>\nerr Other\nerr Other\n\
          err Other\nok\nok\nok vmdk[mem:d]\n",
+    ),
+    // An extent that begins at an offset of its file and may only be read. Without the file nothing
+    // is opened; with it the image is opened anew.
+    (
+        "hex d 76657273696f6e3d310a52572032205a45524f0a52444f4e4c59203120464c41542022612e696d672220330a\nopen vmdk d\n\
+         hex d 76657273696f6e3d310a52572032205a45524f0a52444f4e4c59203120464c41542022612e696d672220330a\nmem a.img 4096 11 1 1\nopen vmdk d\n\
+         size\nmap 1024 4096\nmap 0 4096\nmap 1536 1\n",
+        "ok\nerr NotFound\nok\nok\nok\nok 1536\nok 512 0/1:0x600/ro\nok 1024 <zero:explicit>\n\
+         ok 0 <eof>\n",
+    ),
+    // A sector that may not be read, between two of zeroes.
+    (
+        "hex d 76657273696f6e3d310a52572031205a45524f0a4e4f41434345535320310a52572031205a45524f0a\nopen vmdk d\n\
+         read 510 2\nread 0 513\nread 1023 1\nread 1024 2\nmap 0 513\nmap 512 1\n",
+        "ok\nok\nok 0000\nerr Other\nerr Other\nok 0000\nok 512 <zero:explicit>\nerr Other\n",
     ),
     // A file of no bytes, shorter than its extent: what is missing reads as zeroes.
     (

@@ -12,6 +12,7 @@ use imago::qcow2::Qcow2;
 use imago::raw::Raw;
 use imago::{FormatAccess, FormatDriverInstance, Storage};
 use std::alloc::Global;
+use std::fmt::Display;
 use std::process::Abort;
 use std::test::Fail;
 
@@ -85,33 +86,98 @@ fn above<S: Storage>(
     Ok(FormatAccess::with_backing(driver, Box::new(alloc, below)?))
 }
 
-/// Which image is made.
+/// A layer, and the image that it is the top of.
 #[derive(Clone, Copy)]
 enum Kind {
     /// The text as a raw image.
     Raw,
     /// What the descriptor describes.
     Vmdk,
-    /// The qcow2 file above the text.
+    /// The qcow2 file: as an image, above the text.
     Qcow2,
-    /// A copy-on-write disk above that.
+    /// A copy-on-write disk: as an image, above the qcow2 file and the text.
     Cow,
 }
 
-/// An image of each kind, in memory.
+/// The driver of a layer of that kind.
+fn driver_of(alloc: Global, kind: Kind) -> Result<AnyDriver<MemStorage>, Error> {
+    match kind {
+        Kind::Raw => raw_driver(stored(alloc, TEXT)?),
+        Kind::Vmdk => vmdk_driver(alloc, stored(alloc, DESCRIPTOR)?),
+        Kind::Qcow2 => qcow2_driver(alloc, qcow2_file(alloc)?),
+        Kind::Cow => cow_driver(alloc, stored(alloc, b"")?),
+    }
+}
+
+/// An image of these layers, from the lowest up.
+fn laid(alloc: Global, layers: &[Kind]) -> Result<Image<MemStorage>, Error> {
+    let Some((&lowest, others)) = layers.split_first() else {
+        return Err(Error::Unsupported);
+    };
+    let mut image = alone(driver_of(alloc, lowest)?);
+    for &kind in others {
+        image = above(alloc, driver_of(alloc, kind)?, image)?;
+    }
+    Ok(image)
+}
+
+/// The layers of an image of that kind, from the lowest up.
+fn layers_of(kind: Kind) -> &'static [Kind] {
+    match kind {
+        Kind::Raw => &[Kind::Raw],
+        Kind::Vmdk => &[Kind::Vmdk],
+        Kind::Qcow2 => &[Kind::Raw, Kind::Qcow2],
+        Kind::Cow => &[Kind::Raw, Kind::Qcow2, Kind::Cow],
+    }
+}
+
+/// An image of that kind, in memory.
 fn made(alloc: Global, kind: Kind) -> Result<Image<MemStorage>, Error> {
-    if let Kind::Vmdk = kind {
-        return Ok(alone(vmdk_driver(alloc, stored(alloc, DESCRIPTOR)?)?));
+    laid(alloc, layers_of(kind))
+}
+
+/// Layers of an image, from the lowest up, its text, and that of the whole chain.
+type Texts = (&'static [Kind], &'static str, &'static str);
+
+/// The text of an image is its driver's, whatever is below it.
+static TEXTS: [Texts; 5] = [
+    (&[Kind::Raw], "raw[mem:[9B]]", "raw[mem:[9B]]"),
+    (&[Kind::Cow], "cow[mem:[0B]]", "cow[mem:[0B]]"),
+    (
+        &[Kind::Raw, Kind::Cow],
+        "cow[mem:[0B]]",
+        "cow[mem:[0B]] over raw[mem:[9B]]",
+    ),
+    (
+        &[Kind::Raw, Kind::Cow, Kind::Cow],
+        "cow[mem:[0B]]",
+        "cow[mem:[0B]] over cow[mem:[0B]] over raw[mem:[9B]]",
+    ),
+    (
+        &[Kind::Vmdk, Kind::Qcow2],
+        "qcow2[mem:[2048B]]",
+        "qcow2[mem:[2048B]] over vmdk[mem:[42B]]",
+    ),
+];
+
+/// What is printed of a value.
+fn printed<T: Display>(alloc: Global, value: &T) -> Result<String, Error> {
+    Ok(format!(in alloc; "{value}")?)
+}
+
+fn check_texts(rt: &impl Abort, alloc: Global) -> Result<(), Error> {
+    for &(layers, text, of_chain) in &TEXTS {
+        let image = laid(alloc, layers)?;
+        assert_eq!(rt; printed(alloc, &image)?.as_str(), text);
+        assert_eq!(rt; printed(alloc, &image.chain_text())?.as_str(), of_chain);
     }
-    let text = alone(raw_driver(stored(alloc, TEXT)?)?);
-    if let Kind::Raw = kind {
-        return Ok(text);
-    }
-    let qcow2 = above(alloc, qcow2_driver(alloc, qcow2_file(alloc)?)?, text)?;
-    if let Kind::Qcow2 = kind {
-        return Ok(qcow2);
-    }
-    above(alloc, cow_driver(alloc, stored(alloc, b"")?)?, qcow2)
+    Ok(())
+}
+
+#[test]
+fn an_image_prints_its_driver_alone(rt: HostRuntime) -> Result<(), Fail> {
+    check_texts(&rt, rt.alloc())?;
+    Ok(())
 }
 
 /// Whether a changing call may be made: no prepared mapping waits to be spent.

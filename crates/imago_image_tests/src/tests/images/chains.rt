@@ -204,11 +204,15 @@ fn special_bytes_are_read_where_they_can_be(rt: HostRuntime) {
 }
 
 /// Above 512 bytes 11.
-static KEPT: [(Call, Answer); 4] = [
+static KEPT: [(Call, Answer); 5] = [
     (Call::Write(0, &[7]), Answer::Refused(Error::ReadOnly)),
     (Call::Read(0, &[0x11; 2]), Answer::Done),
     (Call::ReadBelow(0, &[0x11; 2]), Answer::Done),
     (Call::Print("pattern[512B]"), Answer::Is(true)),
+    (
+        Call::PrintChain("pattern[512B] over raw[mem:[512B]]"),
+        Answer::Is(true),
+    ),
 ];
 
 fn check_a_pattern_is_not_written_through(rt: &impl Abort, alloc: Global) {

@@ -25,6 +25,8 @@ pub(super) enum Call {
     Depth,
     /// Prints the image.
     Print(&'static str),
+    /// Prints all its layers.
+    PrintChain(&'static str),
     /// Reads bytes from the offset on, which are to be these.
     Read(u64, &'static [u8]),
     /// The same by the call's other name.
@@ -156,6 +158,9 @@ pub(super) fn ask<D: FormatDriverInstance>(
         Call::Aligns => Answer::Aligns(image.req_align(), image.mem_align()),
         Call::Depth => Answer::Length(depth(image)),
         Call::Print(text) => Answer::Is(printed(rt, alloc, image).as_str() == text),
+        Call::PrintChain(text) => {
+            Answer::Is(printed(rt, alloc, &image.chain_text()).as_str() == text)
+        }
         Call::Read(offset, bytes) => read(rt, alloc, image, offset, bytes),
         Call::Readv(offset, bytes) => readv(rt, alloc, image, offset, bytes),
         Call::ReadRuns(offset, given) => read(rt, alloc, image, offset, &runs(rt, alloc, given)),

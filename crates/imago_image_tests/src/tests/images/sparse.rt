@@ -338,7 +338,7 @@ static LAYERS: [(Call, Answer); 14] = [
     (Call::Flush, DONE),
     (Call::Depth, Answer::Length(1)),
     (
-        Call::Print("sparse[mem:[8B], mem:[8B]]"),
+        Call::PrintChain("sparse[mem:[8B], mem:[8B]] over sparse[mem:[8B], mem:[8B]]"),
         Answer::Is(true),
     ),
 ];
