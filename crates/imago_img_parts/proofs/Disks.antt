@@ -7,7 +7,8 @@ use Rattle.imago_vmdk.specs.Reading.{reading_of}
 use Rattle.imago_vmdk.specs.Disk.{described_value}
 use Rattle.imago_plan.specs.declared.piece.Piece.{Piece}
 use Rattle.imago_plan.specs.PieceBytes.{bytes_at, plan_bytes}
-use Rattle.imago_plan.specs.Differences.{IsFirstDifference, IfBoth}
+use Rattle.imago_copy.specs.Differences.{IsFirstDifference}
+use Rattle.imago_plan.specs.Differences.{IfBoth}
 use Rattle.imago_plan.proofs.BytesAt.{read_bytes}
 use Rattle.imago_img_parts.specs.declared.text.ImageFormat.{ImageFormat}
 use Rattle.imago_img_parts.specs.declared.text.ImageFormat.TheVariants.{Raw, Vmdk, Qcow2}

@@ -8,7 +8,8 @@ use Rattle.std.proofs.lemmas.Option.{slice_get-map}
 use Rattle.imago_plan.specs.declared.piece.Location.{Location}
 use Rattle.imago_plan.specs.declared.piece.Piece.{Piece}
 use Rattle.imago_plan.specs.PieceBytes.{bytes_at, bytes_from, plan_bytes}
-use Rattle.imago_plan.specs.Copies.{IsAppended, IsAppendedOf}
+use Rattle.imago_copy.specs.Appended.{IsAppended}
+use Rattle.imago_plan.specs.Copies.{IsAppendedOf}
 use Rattle.imago_plan.proofs.BytesAt.{read_bytes}
 use Rattle.imago_img_parts.specs.Files.{path_at, storages_by, storages_in, IsMade, piece_contents}
 

@@ -5,7 +5,7 @@ use Rattle.imago_vmdk.specs.declared.line.Extent.{Extent}
 use Rattle.imago_vmdk.specs.Reading.{reading_of}
 use Rattle.imago_vmdk.specs.Disk.{described_value}
 use Rattle.imago_qcow2.specs.Entry.{disk_size}
-use Rattle.imago_plan.specs.Differences.{IsFirstDifference}
+use Rattle.imago_copy.specs.Differences.{IsFirstDifference}
 use Rattle.imago_img_parts.specs.declared.text.ImageFormat.{ImageFormat}
 use Rattle.imago_img_parts.specs.declared.text.ImageFormat.TheVariants.{Raw, Vmdk, Qcow2}
 use Rattle.imago_img_parts.specs.Files.{storages_by, IsMade}

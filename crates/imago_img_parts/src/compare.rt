@@ -1,7 +1,8 @@
 //! Whether two images show the same.
 ghost use Rattle.std.specs.Prelude.{map, IfOk};
 ghost use Rattle.std.specs.String.{string_bytes};
-ghost use Rattle.imago_plan.specs.Differences.{IsFirstDifference, IfBoth};
+ghost use Rattle.imago_copy.specs.Differences.{IsFirstDifference};
+ghost use Rattle.imago_plan.specs.Differences.{IfBoth};
 ghost use Rattle.imago_plan.specs.PieceBytes.{plan_bytes};
 ghost use Rattle.imago_img_parts.specs.Files.{storages_in};
 

@@ -5,7 +5,8 @@ use Rattle.std.proofs.lemmas.Bool.{cases_lt}
 use Rattle.std.proofs.lemmas.List.{same_lists, get_or_append_left, get_or-append_right, length-append, append_assoc, take_more, flat_map_more}
 use Rattle.std.proofs.lemmas.List.FromFn.{length-map-range_with_len, get_or-map-range_with_len}
 use Rattle.imago_plan.specs.PieceBytes.{bytes_at}
-use Rattle.imago_plan.specs.Copies.{IsAppended, IsAppendedOf}
+use Rattle.imago_copy.specs.Appended.{IsAppended}
+use Rattle.imago_plan.specs.Copies.{IsAppendedOf}
 
 pub bytes_at_append : (xs : List ℕ) (o a b : ℕ) → bytes_at xs o (a + b) ≡ bytes_at xs o a ++ bytes_at xs (o + a) b
 bytes_at_append xs o a b =

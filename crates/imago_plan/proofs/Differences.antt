@@ -8,7 +8,8 @@ use Rattle.imago_plan.specs.declared.piece.Source.{Source}
 use Rattle.imago_plan.specs.declared.piece.Source.TheVariants as S
 use Rattle.imago_plan.specs.declared.piece.Piece.{Piece}
 use Rattle.imago_plan.specs.PieceBytes.{bytes_from, source_bytes, piece_bytes, plan_bytes}
-use Rattle.imago_plan.specs.Differences.{AreSameBefore, GoOnTheSame, IfBoth, first_count, HasNext, left_byte}
+use Rattle.imago_copy.specs.Differences.{AreSameBefore}
+use Rattle.imago_plan.specs.Differences.{GoOnTheSame, IfBoth, first_count, HasNext, left_byte}
 
 pub if_some : {A : Type 0} (P Q : A → Type 0) (o : Option A) → ((a : A) → P a → Q a) → IfSome o P → IfSome o Q
 if_some P Q (Some a) f h = f a h

@@ -4,7 +4,7 @@ use Rattle.std.proofs.lemmas.Bool.{cases_lt}
 use Rattle.std.proofs.lemmas.List.{get_or-map, get_or_past, length-map}
 use Rattle.imago_drivers.specs.Place.{Value, Byte, Unreadable}
 use Rattle.imago_access.specs.Disk.{value_at}
-use Rattle.imago_plan.specs.Differences.{IsFirstDifference, IsFirstDifferentValue}
+use Rattle.imago_copy.specs.Differences.{IsFirstDifference, IsFirstDifferentValue}
 
 -- the values of bytes, one by one
 value_of : (xs : List ℕ) (k : ℕ) → value_at (map Byte xs) k ≡ Byte (slice_index xs k)

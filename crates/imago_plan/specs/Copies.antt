@@ -1,12 +1,9 @@
 use Rattle.std.specs.Prelude.{◌≡◌, ℕ, List, ◌++◌, map, Option, Some, None}
 use Rattle.imago_drivers.specs.Place.{Value, Byte}
+use Rattle.imago_copy.specs.Appended.{IsAppended}
 
--- bytes were put behind what was there before, where that is known
-abbrev pub IsAppended : Option (List ℕ) → Option (List ℕ) → List ℕ → Type 0
-IsAppended None new xs = Unit {0}
-IsAppended (Some old) new xs = new ≡ Some (old ++ xs)
-
--- the same of bytes that follow from those of the storages of each layer, where these are known
+-- bytes that follow from those of the storages of each layer were put behind what was there before,
+-- where all of these are known
 abbrev pub IsAppendedOf :
     Option (ℕ → ℕ → List ℕ) → Option (List ℕ) → Option (List ℕ)
     → ((ℕ → ℕ → List ℕ) → List ℕ) → Type 0

@@ -3,7 +3,8 @@ ghost use Rattle.std.specs.Prelude.{◌≡◌, ◌≢◌, ◌+◌, ◌<◌, ◌�
 ghost use Rattle.std.specs.Prelude.{IsTrue, true, false};
 ghost use Rattle.std.specs.Prelude.{length, slice_index, IfOk, IfSome, OnOk, MatchOption};
 ghost use Rattle.imago_plan.specs.PieceBytes.{plan_bytes};
-ghost use Rattle.imago_plan.specs.Differences.{IsFirstDifference, IsNextDifference, IfBoth};
+ghost use Rattle.imago_copy.specs.Differences.{IsFirstDifference};
+ghost use Rattle.imago_plan.specs.Differences.{IsNextDifference, IfBoth};
 ghost use Rattle.imago_plan.specs.Differences.{first_count, HasNext, IsFewer, GoesOn, left_byte};
 
 use crate::copy::{Sources, invalid_input, moved};

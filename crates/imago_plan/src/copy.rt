@@ -2,9 +2,10 @@
 ghost use Rattle.std.specs.Prelude.{◌≡◌, ◌+◌, ◌<◌, ◌≤◌, ℕ, List, Option, IfOk, IfSome, OnOk};
 ghost use Rattle.std.specs.Prelude.{length, replicate};
 ghost use Rattle.imago_plan.specs.PieceBytes.{bytes_from, piece_bytes, plan_bytes};
-ghost use Rattle.imago_plan.specs.Copies.{IsAppended, IsAppendedOf};
+ghost use Rattle.imago_plan.specs.Copies.{IsAppendedOf};
 
 use crate::piece::{Location, Piece, Source};
+pub use imago_copy::target::Target;
 use std::io::{self, ErrorKind};
 
 /// What the bytes of storages are read from: files, or memory.
@@ -24,21 +25,6 @@ pub trait Sources {
         ensures within { result ≤ most }
         ensures zero { IfSome (contents self.now)
             (λ bytes. bytes_from bytes from result ≡ replicate result 0) };
-}
-
-/// What bytes are put into, one after the other: a file, or memory.
-pub trait Target {
-    /// What was put in so far, where an implementation says it.
-    ghost contents: { Self → Option (List ℕ) };
-
-    /// Puts bytes behind what was put in before.
-    fn append(&mut self, source: &[u8]) -> io::Result<()>
-        ensures { OnOk result (IsAppended (contents self.old) (contents self.new) source.now) };
-
-    /// Puts that many zeroes behind what was put in before.
-    fn append_zeroes(&mut self, count: u64) -> io::Result<()>
-        ensures { OnOk result
-            (IsAppended (contents self.old) (contents self.new) (replicate count 0)) };
 }
 
 /// The refusal of an empty buffer or piece, and of a range that passes the greatest offset.

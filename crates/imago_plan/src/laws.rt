@@ -10,7 +10,7 @@ ghost use Rattle.imago_vmdk.specs.Disk.{described_value};
 ghost use Rattle.imago_plan.specs.declared.piece.Piece.{Piece};
 ghost use Rattle.imago_plan.specs.Pieces.{IsPlan};
 ghost use Rattle.imago_plan.specs.PieceBytes.{bytes_at, plan_bytes};
-ghost use Rattle.imago_plan.specs.Differences.{IsFirstDifference, IsFirstDifferentValue};
+ghost use Rattle.imago_copy.specs.Differences.{IsFirstDifference, IsFirstDifferentValue};
 ghost use Rattle.imago_plan.specs.StoredBytes.{disk_with, layer_bytes};
 
 use imago_access::access::FormatAccess;

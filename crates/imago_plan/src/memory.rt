@@ -1,7 +1,7 @@
-//! Storages in memory, and a target there.
+//! Storages in memory.
 ghost use Rattle.std.specs.Prelude.{◌≡◌, ◌+◌, Some, EachIndex, slice_index, MatchOption, []};
 
-use crate::copy::{Sources, Target};
+use crate::copy::Sources;
 use crate::piece::Location;
 use std::io::{self, ErrorKind};
 
@@ -67,24 +67,5 @@ impl Sources for MemorySources {
             Some(bytes) if from.offset >= bytes.len() as u64 => most,
             _ => 0,
         }
-    }
-}
-
-/// Bytes are put behind those that are there. [`ErrorKind::OutOfMemory`] is no room for them, and
-/// changes nothing.
-impl Target for Vec<u8> {
-    ghost contents = { λ v. Some v.items };
-
-    fn append(&mut self, source: &[u8]) -> io::Result<()> {
-        self.extend_from_slice(source)?;
-        Ok(())
-    }
-
-    fn append_zeroes(&mut self, count: u64) -> io::Result<()> {
-        let Some(len) = self.len().checked_add(count as usize) else {
-            return Err(io::Error::from(ErrorKind::OutOfMemory));
-        };
-        self.resize(len, 0)?;
-        Ok(())
     }
 }

@@ -1,6 +1,7 @@
 use Rattle.std.proofs.Common.{◌≡◌, ◌≢◌, ◌+◌, ℕ, List, [], true, arith, rules, slice_index, sym, ap, ◌∙◌}
 use Rattle.imago_plan.specs.PieceBytes.{plan_bytes}
-use Rattle.imago_plan.specs.Differences.{AreSameBefore, GoOnTheSame, left_byte}
+use Rattle.imago_copy.specs.Differences.{AreSameBefore}
+use Rattle.imago_plan.specs.Differences.{GoOnTheSame, left_byte}
 use Rattle.imago_plan.proofs.Differences.{both, same_more, same_all, differ_next, none_left}
 use Rattle.imago_plan.proofs.compare.difference.Goals as goal
 

@@ -1,6 +1,7 @@
 use Rattle.std.proofs.Common.{◌≡◌, ◌+◌, ℕ, List, slice_index}
 use Rattle.imago_plan.specs.PieceBytes.{plan_bytes}
-use Rattle.imago_plan.specs.Differences.{AreSameBefore, IfBoth, left_byte, left_count}
+use Rattle.imago_copy.specs.Differences.{AreSameBefore}
+use Rattle.imago_plan.specs.Differences.{IfBoth, left_byte, left_count}
 use Rattle.imago_plan.proofs.compare.difference.Given as goal
 
 abbrev pub invariant-loop-there : goal.invariant-loop-there

@@ -1,4 +1,4 @@
-use Rattle.imago_plan.specs.Differences.{AreSameBefore}
+use Rattle.imago_copy.specs.Differences.{AreSameBefore}
 use Rattle.imago_plan.proofs.compare.first_difference.Given as goal
 
 abbrev pub invariant-loop-i : goal.invariant-loop-i

@@ -1,0 +1,83 @@
+-- Parts of two disks, compared.
+use Rattle.std.proofs.Common.{◌≡◌, ◌≢◌, ℕ, ◌+◌, ◌-◌, ◌<◌, ◌≤◌, ◌⊎◌, inl, inr, ⊎_elim, Bool, true, List, length, slice_index, Option, Some, None, refl, sym, ap, ◌∙◌, subst, arith}
+use Rattle.std.proofs.lemmas.Bool.{cases_lt}
+use Rattle.std.proofs.lemmas.List.{get_or_past}
+use Rattle.std.proofs.lemmas.List.FromFn.{length-map-range_with_len, get_or-map-range_with_len}
+use Rattle.imago_drivers.specs.Place.{Value, Byte, Unreadable}
+use Rattle.imago_drivers.specs.View.{View}
+use Rattle.imago_access.specs.declared.access.FormatAccess.{FormatAccess}
+use Rattle.imago_access.specs.Chain.{driver, disk_value}
+use Rattle.imago_access.specs.Disk.{values_from, value_at, disk, IsPartOf}
+use Rattle.imago_access.specs.Target.{target}
+use Rattle.imago_access.proofs.Targets.{target_shows}
+use Rattle.imago_copy.specs.Differences.{IsFirstDifference, IsFirstDifferentValue}
+use Rattle.imago_copy.specs.declared.runs.Kind.{Kind}
+use Rattle.imago_copy.specs.declared.runs.Kind.TheVariants as K
+use Rattle.imago_copy.specs.declared.runs.Run.{Run}
+use Rattle.imago_copy.specs.Runs.{Stands, IsRunAt}
+use Rattle.imago_copy.specs.Compared.{AreSameIn, IsZeroIn, IsDifferenceIn}
+use Rattle.imago_copy.proofs.Copies.{zero_shown}
+
+abbrev byte_in : Value → ℕ
+byte_in (Byte b) = b
+byte_in (Unreadable e) = 0
+
+module _ (xs ys : List Value) (at n m : ℕ) (l r : List ℕ) where
+  -- where two buffers are the same, so are the disks that they were read from
+  same_at : IsPartOf xs at n l → IsPartOf ys at m r → n ≡ m → (k j : ℕ) → at + j ≡ k → j < n → slice_index l j ≡ slice_index r j → value_at xs k ≡ value_at ys k
+  same_at h g e k j is lt same =
+      let there : j < m = omega (arith, lt, e) in
+      ap (value_at xs) (sym is) ∙ h.1 j lt ∙ ap Byte same ∙ sym (g.1 j there) ∙ ap (value_at ys) is
+
+  pub alike : IsPartOf xs at n l → IsPartOf ys at m r → n ≡ m → IsFirstDifference l r None → AreSameIn xs ys at (at + n)
+  alike h g e same k from to = same_at h g e k (k - at) (omega (arith, from)) (omega (arith, from, to)) (same (k - at))
+
+  pub unlike : (i : ℕ) → IsPartOf xs at n l → IsPartOf ys at m r → n ≡ m → i < length l → IsFirstDifference l r (Some i) → IsDifferenceIn xs ys at n (Some (at + i))
+  unlike i h g e inside first =
+      let here : i < n = omega (arith, inside, h.0) in
+      let there : i < m = omega (arith, here, e) in (
+        (λ k from to. same_at h g e k (k - at) (omega (arith, from)) (omega (arith, from, to, here)) (first.0 (k - at) (omega (arith, from, to)))),
+        omega (arith, here),
+        (λ same. first.1 (ap byte_in (sym (h.1 i here) ∙ same ∙ g.1 i there))),
+      )
+
+module _ {D St : Type 0} (view : D → View St) (x : FormatAccess D) where
+  abbrev size : ℕ
+  size = (view (driver x)).size
+
+  listed : length (disk view x) ≡ size
+  listed = length-map-range_with_len (disk_value view x) 0 size
+
+  -- the value at an offset of a disk
+  value_in : (k : ℕ) → k < size → value_at (disk view x) k ≡ disk_value view x k
+  value_in k lt = get_or-map-range_with_len (disk_value view x) 0 size k k (Byte 0) lt (omega arith)
+
+  -- behind its end it is 0
+  pub zero_behind : (k : ℕ) → size ≤ k → value_at (disk view x) k ≡ Byte 0
+  zero_behind k le = get_or_past (disk view x) k (Byte 0) (omega (arith, le, listed))
+
+  -- a run of zeroes is zero
+  pub zero_run : (p q : ℕ) (run : Run) → IsRunAt (target view x) p run → run.kind ≡ K.Zero → q ≡ p + run.count → q ≤ size → IsZeroIn (disk view x) p q
+  zero_run p q run h e is inside k from to =
+      let i : ℕ = k - p in
+      let here : p + i ≡ k = omega (arith, from) in
+      let lt : i < run.count = omega (arith, from, to, is) in
+      let within : k < size = omega (arith, to, inside) in
+      let zero = subst (λ (z : Kind). Stands z i (target view x k)) e (subst (λ (z : ℕ). Stands run.kind i (target view x z)) here (h.2 i lt)) in
+      value_in k within ∙ target_shows view x k ∙ zero_shown zero.0 (target view x k) zero.1
+
+  -- nothing but zeroes is behind the end
+  pub zero_end : (p q : ℕ) → size ≤ p → IsZeroIn (disk view x) p q
+  zero_end p q le k from to = zero_behind k (omega (arith, le, from))
+
+-- what is at hand ended where the next run begins
+pub ends_at : (p end at : ℕ) → (end ≡ at) ⊎ (end ≡ 18446744073709551615) → p ≤ end → end ≤ p → p < 18446744073709551615 → at ≡ p
+ends_at p end at h le ge lt = ⊎_elim (λ (e : end ≡ at). omega (arith, e, le, ge)) (λ (e : end ≡ 18446744073709551615). absurd (omega (arith, e, ge, lt))) h
+
+module _ {D E St Tt : Type 0} (view : D → View St) (other : E → View Tt) (x : FormatAccess D) (y : FormatAccess E) where
+  -- disks that are the same up to the end of the longer one are the same
+  pub all_same : (p : ℕ) → (view (driver x)).size ≤ p → (other (driver y)).size ≤ p → AreSameIn (disk view x) (disk other y) 0 p → IsFirstDifferentValue (disk view x) (disk other y) None
+  all_same p one two same k = ⊎_elim
+      (λ (lt : k < p). same k (omega arith) lt)
+      (λ (le : p ≤ k). zero_behind view x k (omega (arith, one, le)) ∙ sym (zero_behind other y k (omega (arith, two, le))))
+      (cases_lt k p)

@@ -1,0 +1,101 @@
+-- Values put behind one another.
+use Rattle.std.proofs.Common.{◌≡◌, ℕ, ◌+◌, ◌-◌, ◌<◌, ◌≤◌, ⊎_elim, Bool, List, [], ◌++◌, length, map, slice_index, replicate, Option, Some, None, refl, sym, ap, ◌∙◌, subst, arith}
+use Rattle.std.proofs.lemmas.Bool.{cases_lt}
+use Rattle.std.proofs.lemmas.List.{same_lists, get_or_append_left, get_or-append_right, get_or-map, get_or-replicate, length-replicate, length-append, length-map, append_assoc, append-nil}
+use Rattle.std.proofs.lemmas.List.FromFn.{length-map-range_with_len, get_or-map-range_with_len}
+use Rattle.imago_drivers.specs.Place.{Place, Zeroed, End, Value, Byte, shown, HasValues}
+use Rattle.imago_drivers.specs.View.{View}
+use Rattle.imago_access.specs.declared.access.FormatAccess.{FormatAccess}
+use Rattle.imago_access.specs.Chain.{driver, disk_value}
+use Rattle.imago_access.specs.Disk.{values_from, disk}
+use Rattle.imago_access.specs.Resolved.{LeadsToZero}
+use Rattle.imago_access.specs.Target.{Target, target}
+use Rattle.imago_access.proofs.Targets.{target_shows}
+use Rattle.imago_copy.specs.Appended.{IsAppended}
+use Rattle.imago_copy.specs.declared.runs.Kind.TheVariants as K
+use Rattle.imago_copy.specs.declared.runs.Run.{Run}
+use Rattle.imago_copy.specs.Runs.{Stands, IsRunAt, IsNextRun}
+use Rattle.imago_copy.specs.Copies.{IsPut, IsDiskPut}
+
+-- no values were put
+pub put_none : (at : ℕ → Value) (o : ℕ) (s : Option (List ℕ)) → IsPut at o 0 s s
+put_none at o None = tt
+put_none at o (Some old) = ([], refl, (λ k lt. absurd (omega (arith, lt))), ap (λ (z : List ℕ). Some z) (sym (append-nil old)))
+
+-- bytes that were appended were put
+pub put_bytes : (at : ℕ → Value) (o n : ℕ) (s t : Option (List ℕ)) (bytes : List ℕ) → length bytes ≡ n → HasValues at o bytes → IsAppended s t bytes → IsPut at o n s t
+put_bytes at o n None t bytes len values is = tt
+put_bytes at o n (Some old) t bytes len values is = (bytes, len, values, is)
+
+-- two that were put are one
+pub put_more : (at : ℕ → Value) (o a b : ℕ) (s mid t : Option (List ℕ)) → IsPut at o a s mid → IsPut at (o + a) b mid t → IsPut at o (a + b) s t
+put_more at o a b None mid t h k = tt
+put_more at o a b (Some old) mid t (xs, len, values, is) k =
+    let (ys, more, behind, then) = subst (λ (z : Option (List ℕ)). IsPut at (o + a) b z t) is k in
+    let both : length (xs ++ ys) ≡ a + b = length-append xs ys ∙ ap (λ (z : ℕ). z + length ys) len ∙ ap (λ (z : ℕ). a + z) more in (
+      xs ++ ys,
+      both,
+      (λ i lt. ⊎_elim
+          (λ (inside : i < length xs). values i inside ∙ ap Byte (sym (get_or_append_left xs ys 0 i inside)))
+          (λ (past : length xs ≤ i).
+          let j : ℕ = i - length xs in
+          let within : j < length ys = omega (arith, lt, past, both, len, more) in
+          let place : o + a + j ≡ o + i = omega (arith, past, len) in
+          ap at (sym place) ∙ behind j within ∙ ap Byte (sym (get_or-append_right xs ys (length xs) i 0 refl past)))
+          (cases_lt i (length xs))),
+      then ∙ ap (λ (z : List ℕ). Some z) (append_assoc old xs ys),
+    )
+
+-- what is shown of zeroes of no storage
+pub zero_shown : (explicit : Bool) (t : Target) → LeadsToZero explicit t → shown (λ (q : ℕ). Byte 0) t.place ≡ Byte 0
+zero_shown explicit t h = ⊎_elim
+    (λ top. ap (shown (λ (q : ℕ). Byte 0)) top.0)
+    (λ deep. ⊎_elim (λ zero. ap (shown (λ (q : ℕ). Byte 0)) zero.1) (λ end. ap (shown (λ (q : ℕ). Byte 0)) end.0) deep)
+    h
+
+module _ {D St : Type 0} (view : D → View St) (x : FormatAccess D) where
+  -- zeroes were put for a run of zeroes
+  pub put_zeroes : (p : ℕ) (run : Run) (s t : Option (List ℕ)) → run.kind ≡ K.Zero → IsRunAt (target view x) p run → IsAppended s t (replicate run.count 0) → IsPut (disk_value view x) p run.count s t
+  put_zeroes p run None t e h is = tt
+  put_zeroes p run (Some old) t e h is = (
+    replicate run.count 0,
+    length-replicate run.count 0,
+    (λ i lt.
+        let inside : i < run.count = omega (arith, lt, length-replicate {A = ℕ} run.count 0) in
+        let zero = subst (λ k. Stands k i (target view x (p + i))) e (h.2 i inside) in
+        target_shows view x (p + i) ∙ zero_shown zero.0 (target view x (p + i)) zero.1 ∙ ap Byte (sym (get_or-replicate run.count i 0 0 inside))),
+    is,
+  )
+
+  -- all values of a disk were put
+  pub put_disk : (n : ℕ) (s t : Option (List ℕ)) → n ≡ (view (driver x)).size → IsPut (disk_value view x) 0 n s t → IsDiskPut (disk view x) s t
+  put_disk n None t e h = tt
+  put_disk n (Some old) t e (bytes, len, values, is) =
+      let f : ℕ → Value = disk_value view x in
+      let size : ℕ = (view (driver x)).size in
+      let listed : length (values_from f 0 size) ≡ size = length-map-range_with_len f 0 size in (
+        bytes,
+        same_lists (values_from f 0 size) (map Byte bytes) (listed ∙ sym e ∙ sym len ∙ sym (length-map bytes Byte))
+            (λ k d lt.
+            let here : k < size = omega (arith, lt, listed) in
+            let there : k < length bytes = omega (arith, here, e, len) in
+            get_or-map-range_with_len f 0 size k (0 + k) d here refl ∙ values k there ∙ sym (get_or-map Byte bytes k 0 d there)),
+        is,
+      )
+
+-- what was put up to a run, and the run, is what was put up to its end
+pub put_run : (at : ℕ → Value) (p q : ℕ) (run : Run) (s mid t : Option (List ℕ)) → run.at ≡ p → q ≡ p + run.count → IsPut at 0 p s mid → IsPut at run.at run.count mid t → IsPut at 0 q s t
+put_run at p q run s mid t here there h k =
+    let from : run.at ≡ 0 + p = omega (arith, here) in
+    subst (λ (n : ℕ). IsPut at 0 n s t) (sym there) (put_more at 0 p run.count s mid t h (subst (λ (o : ℕ). IsPut at o run.count mid t) from k))
+
+module _ {D St : Type 0} (view : D → View St) where
+  -- the next run, where there is one
+  pub next_is : (x y : FormatAccess D) (p q : ℕ) (o : Option Run) (run : Run) → x ≡ y → o ≡ Some run → IsNextRun view x p o q → IsRunAt (target view y) p run × (q ≡ p + run.count) × (q ≤ (view (driver y)).size)
+  next_is x y p q o run e is h = subst (λ (z : FormatAccess D). IsNextRun view z p (Some run) q) e (subst (λ (z : Option Run). IsNextRun view x p z q) is h)
+
+  -- where there is none, the disk ends
+  pub next_ends : (x y : FormatAccess D) (p q : ℕ) (o : Option Run) → x ≡ y → o ≡ None → IsNextRun view x p o q → (view (driver y)).size ≤ p
+  next_ends x y p q o e is h =
+      let ends : ((view (driver x)).size ≤ p) × (q ≡ p) = subst (λ (z : Option Run). IsNextRun view x p z q) is h in
+      subst (λ (z : FormatAccess D). (view (driver z)).size ≤ p) e ends.0

@@ -1,0 +1,13 @@
+use Rattle.imago_access.specs.Disk.{disk}
+use Rattle.imago_copy.proofs.Compared.{alike, unlike}
+use Rattle.imago_copy.proofs.compare.unequal.Goals as goal
+
+pub returns-in-Some : goal.returns-in-Some
+returns-in-Some g c = λ left right.
+    unlike (disk g.D.FormatDriverInstance.view c.args.left.now) (disk g.E.FormatDriverInstance.view c.args.right.now) c.args.at _ _ _ _ c.in-Some.index
+    (c.in_ok-read.ensures.disk left) (c.in_ok-read-2.ensures.disk right) c.requires.lengths c.in-Some.ensures.inside c.in-Some.ensures.first
+
+pub returns-in-None : goal.returns-in-None
+returns-in-None g c = λ left right.
+    alike (disk g.D.FormatDriverInstance.view c.args.left.now) (disk g.E.FormatDriverInstance.view c.args.right.now) c.args.at _ _ _ _
+    (c.in_ok-read.ensures.disk left) (c.in_ok-read-2.ensures.disk right) c.requires.lengths c.in-None.ensures.first

@@ -1,0 +1,19 @@
+-- What is seen of the runs that are left.
+use Rattle.std.specs.Prelude.{ℕ, ◌≤◌}
+use Rattle.imago_drivers.specs.View.{View}
+use Rattle.imago_access.specs.declared.access.FormatAccess.{FormatAccess}
+use Rattle.imago_access.specs.Chain.{driver}
+use Rattle.imago_copy.specs.declared.runs.Runs.{Runs}
+use Rattle.imago_copy.specs.Runs.{IsRestOf}
+
+-- the image
+abbrev pub image_of : {D : Type 0} → Runs D → FormatAccess D
+image_of r = r.image.now
+
+-- where the next one begins
+abbrev pub at_of : {D : Type 0} → Runs D → ℕ
+at_of r = r.at
+
+-- what is at hand is the next mapping of the image
+abbrev pub IsReady : {D St : Type 0} → (D → View St) → Runs D → Type 0
+IsReady view r = IsRestOf view r.image.now r.at r.next × (r.at ≤ (view (driver r.image.now)).size)

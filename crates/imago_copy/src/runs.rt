@@ -1,0 +1,207 @@
+//! The runs of a disk: its mappings, joined where they go on.
+ghost use Rattle.std.specs.Prelude.{◌≡◌, ℕ, ◌+◌, ◌<◌, ◌≤◌, ◌^◌, false, true, IfOk, IfSome};
+ghost use Rattle.imago_access.specs.Chain.{driver};
+ghost use Rattle.imago_access.specs.Target.{target};
+ghost use Rattle.imago_copy.specs.declared.runs.Kind.TheVariants as Kind;
+ghost use Rattle.imago_copy.specs.Runs.{named_kind, goes_on, IsRunAt, IsRestOf, IsNextRun};
+
+use imago_access::access::FormatAccess;
+use imago_access::mapping::Mapping;
+use imago_drivers::drivers::FormatDriverInstance;
+use imago_storage::error::Error;
+
+/// What a run is. Offsets are in bytes.
+#[derive(Clone, Copy, Debug, PartialEq, Eq)]
+pub enum Kind {
+    /// Zeroes that stand in no storage.
+    Zero,
+    /// Bytes of a storage.
+    Stored {
+        /// The depth of the layer whose driver has the storage: 0 at the top.
+        layer: usize,
+        /// The storage's index in that driver.
+        storage: usize,
+        /// The first byte's offset in the storage.
+        offset: u64,
+    },
+    /// Bytes that a driver makes up: they can be read, and stand nowhere.
+    Special {
+        /// The depth of the layer: 0 at the top.
+        layer: usize,
+        /// Where the run begins for that driver.
+        offset: u64,
+    },
+}
+
+/// Bytes of a disk that are one thing. Offsets and counts are in bytes.
+#[derive(Clone, Copy, Debug, PartialEq, Eq)]
+pub struct Run {
+    /// The first byte's offset on the disk.
+    pub at: u64,
+    /// How many bytes there are.
+    pub count: u64,
+    /// What they are.
+    pub kind: Kind,
+}
+
+/// What a mapping names. The end of the image is none.
+fn kind_of(mapping: Mapping) -> Option<Kind>
+    ensures { result ≡ named_kind mapping }
+{
+    match mapping {
+        Mapping::Raw {
+            layer,
+            storage,
+            offset,
+            ..
+        } => Some(Kind::Stored {
+            layer,
+            storage,
+            offset,
+        }),
+        Mapping::Zero { .. } => Some(Kind::Zero),
+        Mapping::Special { layer, offset } => Some(Kind::Special { layer, offset }),
+        Mapping::Eof => None,
+    }
+}
+
+impl Kind {
+    /// Whether it is zeroes that stand in no storage.
+    pub fn is_zero(self) -> bool
+        ensures { result ≡ true → self ≡ Kind.Zero }
+    {
+        match self {
+            Kind::Zero => true,
+            _ => false,
+        }
+    }
+
+    /// Whether what is next on the disk goes on as that many bytes of this kind.
+    fn goes_on(self, count: u64, next: Kind) -> bool
+        ensures { result ≡ goes_on self «count» next }
+    {
+        match (self, next) {
+            (Kind::Zero, Kind::Zero) => true,
+            (
+                Kind::Stored {
+                    layer,
+                    storage,
+                    offset,
+                },
+                Kind::Stored {
+                    layer: next_layer,
+                    storage: next_storage,
+                    offset: next_offset,
+                },
+            ) => {
+                layer == next_layer
+                    && storage == next_storage
+                    && offset.checked_add(count) == Some(next_offset)
+            }
+            _ => false,
+        }
+    }
+}
+
+impl Run {
+    /// This run with that many bytes more.
+    fn longer(self, more: u64) -> Run
+        requires { self.count + more < 2 ^ 64 }
+        ensures { result ≡ record self { count = self.count + more } }
+    {
+        Run {
+            count: self.count + more,
+            ..self
+        }
+    }
+}
+
+/// The run from an offset inside the disk on, as one mapping has it.
+fn mapped_run<D: FormatDriverInstance>(image: &FormatAccess<D>, at: u64) -> Result<Run, Error>
+    requires { at < (D.view (driver image.now)).size }
+    ensures run { IfOk result (λ r. IsRunAt (target D.view image.now) «at» r) }
+    ensures inside { IfOk result (λ r. at + r.count ≤ (D.view (driver image.now)).size) }
+{
+    let (mapping, count) = image.get_mapping(at, image.size() - at)?;
+    match kind_of(mapping) {
+        Some(kind) => Ok(Run { at, count, kind }),
+        None => Err(Error::Unsupported),
+    }
+}
+
+/// The run that begins as that one, as far as it goes on, and the next mapping behind it, if the
+/// disk doesn't end there.
+fn longest<D: FormatDriverInstance>(
+    image: &FormatAccess<D>,
+    first: Run,
+) -> Result<(Run, Option<Run>), Error>
+    requires run { IsRunAt (target D.view image.now) first.at first }
+    requires inside { first.at + first.count ≤ (D.view (driver image.now)).size }
+    ensures run { IfOk result (λ r. IsRunAt (target D.view image.now) first.at r.0) }
+    ensures rest { IfOk result
+        (λ r. IsRestOf D.view image.now (first.at + r.0.count) r.1) }
+    ensures inside { IfOk result
+        (λ r. first.at + r.0.count ≤ (D.view (driver image.now)).size) }
+    ensures fits { IfOk result (λ r. first.at + r.0.count < 2 ^ 64) }
+    ensures apart { IfOk result
+        (λ r. IfSome r.1 (λ next. goes_on r.0.kind r.0.count next.kind ≡ false)) }
+{
+    let size = image.size();
+    let mut run = first;
+    while run.at + run.count < size {
+        let next = mapped_run(image, run.at + run.count)?;
+        if !run.kind.goes_on(run.count, next.kind) {
+            return Ok((run, Some(next)));
+        }
+        run = run.longer(next.count);
+    }
+    Ok((run, None))
+}
+
+/// The runs of a disk, from its start to its end, each as long as it goes on.
+///
+/// A refusal is that of [`get_mapping`](FormatAccess::get_mapping), and comes in place of the run
+/// that leads up to it.
+#[derive(Drop)]
+pub struct Runs<'a, D> {
+    image: &'a FormatAccess<D>,
+    /// Where the next one begins.
+    at: u64,
+    /// Its first mapping, if the disk doesn't end there.
+    next: Option<Run>,
+}
+
+impl<'a, D: FormatDriverInstance> Runs<'a, D> {
+    ghost use Rattle.imago_copy.specs.RunsOf.{image_of, at_of, IsReady};
+
+    /// The runs of that image's disk.
+    pub fn new(image: &'a FormatAccess<D>) -> Result<Self, Error>
+        ensures image { IfOk result (λ r. image_of r ≡ image.now) }
+        ensures start { IfOk result (λ r. at_of r ≡ 0) }
+        ensures ready { IfOk result (IsReady D.view) }
+    {
+        let mut next = None;
+        if image.size() > 0 {
+            next = Some(mapped_run(image, 0)?);
+        }
+        Ok(Runs { image, at: 0, next })
+    }
+
+    /// The next run, if one is left.
+    pub fn next_run(&mut self) -> Result<Option<Run>, Error>
+        requires { IsReady D.view self.old }
+        ensures same { image_of self.new ≡ image_of self.old }
+        ensures run { IfOk result
+            (λ r. IsNextRun D.view (image_of self.old) (at_of self.old) r (at_of self.new)) }
+        ensures fits { IfOk result (λ r. IfSome r (λ run. run.at + run.count < 2 ^ 64)) }
+        ensures ready { IfOk result (λ _. IsReady D.view self.new) }
+    {
+        let Some(first) = self.next else {
+            return Ok(None);
+        };
+        let (run, next) = longest(self.image, first)?;
+        self.at += run.count;
+        self.next = next;
+        Ok(Some(run))
+    }
+}

@@ -1,0 +1,39 @@
+//! What a disk's bytes are put into.
+ghost use Rattle.std.specs.Prelude.{◌≡◌, ℕ, List, Option, Some, OnOk, replicate};
+ghost use Rattle.imago_copy.specs.Appended.{IsAppended};
+
+use std::io::{self, ErrorKind};
+
+/// What bytes are put into, one after the other: a file, or memory.
+pub trait Target {
+    /// What was put in so far, where an implementation says it.
+    ghost contents: { Self → Option (List ℕ) };
+
+    /// Puts bytes behind what was put in before.
+    fn append(&mut self, source: &[u8]) -> io::Result<()>
+        ensures { OnOk result (IsAppended (contents self.old) (contents self.new) source.now) };
+
+    /// Puts that many zeroes behind what was put in before.
+    fn append_zeroes(&mut self, count: u64) -> io::Result<()>
+        ensures { OnOk result
+            (IsAppended (contents self.old) (contents self.new) (replicate count 0)) };
+}
+
+/// Bytes are put behind those that are there. [`ErrorKind::OutOfMemory`] is no room for them, and
+/// changes nothing.
+impl Target for Vec<u8> {
+    ghost contents = { λ v. Some v.items };
+
+    fn append(&mut self, source: &[u8]) -> io::Result<()> {
+        self.extend_from_slice(source)?;
+        Ok(())
+    }
+
+    fn append_zeroes(&mut self, count: u64) -> io::Result<()> {
+        let Some(len) = self.len().checked_add(count as usize) else {
+            return Err(io::Error::from(ErrorKind::OutOfMemory));
+        };
+        self.resize(len, 0)?;
+        Ok(())
+    }
+}
