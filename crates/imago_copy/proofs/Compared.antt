@@ -16,6 +16,7 @@ use Rattle.imago_copy.specs.declared.runs.Kind.TheVariants as K
 use Rattle.imago_copy.specs.declared.runs.Run.{Run}
 use Rattle.imago_copy.specs.Runs.{Stands, IsRunAt}
 use Rattle.imago_copy.specs.Compared.{AreSameIn, IsZeroIn, IsDifferenceIn}
+use Rattle.imago_copy.specs.Ends.{AreZeroBehind}
 use Rattle.imago_copy.proofs.Copies.{zero_shown}
 
 abbrev byte_in : Value → ℕ
@@ -56,15 +57,15 @@ module _ {D St : Type 0} (view : D → View St) (x : FormatAccess D) where
   pub zero_behind : (k : ℕ) → size ≤ k → value_at (disk view x) k ≡ Byte 0
   zero_behind k le = get_or_past (disk view x) k (Byte 0) (omega (arith, le, listed))
 
-  -- a run of zeroes is zero
-  pub zero_run : (p q : ℕ) (run : Run) → IsRunAt (target view x) p run → run.kind ≡ K.Zero → q ≡ p + run.count → q ≤ size → IsZeroIn (disk view x) p q
-  zero_run p q run h e is inside k from to =
+  -- what is zero behind the data of a run that ends inside the disk
+  pub zero_tail : (p m n q : ℕ) → AreZeroBehind (disk_value view x) p m n → p + n ≤ q → q ≤ size → IsZeroIn (disk view x) (p + m) (p + n)
+  zero_tail p m n q h end inside k from to =
       let i : ℕ = k - p in
       let here : p + i ≡ k = omega (arith, from) in
-      let lt : i < run.count = omega (arith, from, to, is) in
-      let within : k < size = omega (arith, to, inside) in
-      let zero = subst (λ (z : Kind). Stands z i (target view x k)) e (subst (λ (z : ℕ). Stands run.kind i (target view x z)) here (h.2 i lt)) in
-      value_in k within ∙ target_shows view x k ∙ zero_shown zero.0 (target view x k) zero.1
+      let within : k < size = omega (arith, to, end, inside) in
+      let behind : m ≤ i = omega (arith, from) in
+      let before : i < n = omega (arith, from, to) in
+      value_in k within ∙ ap (disk_value view x) (sym here) ∙ h i behind before
 
   -- nothing but zeroes is behind the end
   pub zero_end : (p q : ℕ) → size ≤ p → IsZeroIn (disk view x) p q

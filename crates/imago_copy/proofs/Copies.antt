@@ -16,6 +16,7 @@ use Rattle.imago_copy.specs.declared.runs.Kind.TheVariants as K
 use Rattle.imago_copy.specs.declared.runs.Run.{Run}
 use Rattle.imago_copy.specs.Runs.{Stands, IsRunAt, IsNextRun}
 use Rattle.imago_copy.specs.Copies.{IsPut, IsDiskPut}
+use Rattle.imago_copy.specs.Ends.{AreZeroBehind}
 
 -- no values were put
 pub put_none : (at : ℕ → Value) (o : ℕ) (s : Option (List ℕ)) → IsPut at o 0 s s
@@ -53,20 +54,37 @@ zero_shown explicit t h = ⊎_elim
     (λ deep. ⊎_elim (λ zero. ap (shown (λ (q : ℕ). Byte 0)) zero.1) (λ end. ap (shown (λ (q : ℕ). Byte 0)) end.0) deep)
     h
 
-module _ {D St : Type 0} (view : D → View St) (x : FormatAccess D) where
-  -- zeroes were put for a run of zeroes
-  pub put_zeroes : (p : ℕ) (run : Run) (s t : Option (List ℕ)) → run.kind ≡ K.Zero → IsRunAt (target view x) p run → IsAppended s t (replicate run.count 0) → IsPut (disk_value view x) p run.count s t
-  put_zeroes p run None t e h is = tt
-  put_zeroes p run (Some old) t e h is = (
-    replicate run.count 0,
-    length-replicate run.count 0,
-    (λ i lt.
-        let inside : i < run.count = omega (arith, lt, length-replicate {A = ℕ} run.count 0) in
-        let zero = subst (λ k. Stands k i (target view x (p + i))) e (h.2 i inside) in
-        target_shows view x (p + i) ∙ zero_shown zero.0 (target view x (p + i)) zero.1 ∙ ap Byte (sym (get_or-replicate run.count i 0 0 inside))),
-    is,
-  )
+-- zeroes were put for values that are zero
+put_zeroes : (at : ℕ → Value) (o n : ℕ) (s t : Option (List ℕ)) → ((i : ℕ) → i < n → at (o + i) ≡ Byte 0) → IsAppended s t (replicate n 0) → IsPut at o n s t
+put_zeroes at o n None t zero is = tt
+put_zeroes at o n (Some old) t zero is = (
+  replicate n 0,
+  length-replicate n 0,
+  (λ i lt.
+      let inside : i < n = omega (arith, lt, length-replicate {A = ℕ} n 0) in
+      zero i inside ∙ ap Byte (sym (get_or-replicate n i 0 0 inside))),
+  is,
+)
 
+-- what was put of a run up to a place behind its data, and zeroes for the rest, is the run
+pub put_tail : (at : ℕ → Value) (o some done n : ℕ) (s mid t : Option (List ℕ)) → some ≤ done → done < n → AreZeroBehind at o some n
+    → IsPut at o done s mid → IsAppended mid t (replicate (n - done) 0) → IsPut at o n s t
+put_tail at o some done n s mid t behind left zero put is =
+    let all : done + (n - done) ≡ n = omega (arith, left) in
+    subst (λ (z : ℕ). IsPut at o z s t) all (put_more at o done (n - done) s mid t put
+    (put_zeroes at (o + done) (n - done) mid t
+    (λ i lt.
+    let place : o + (done + i) ≡ o + done + i = omega arith in
+    ap at (sym place) ∙ zero (done + i) (omega (arith, behind)) (omega (arith, lt)))
+    is))
+
+-- what was put of a run is all of it, if nothing is left
+pub put_whole : (at : ℕ → Value) (o done n : ℕ) (s t : Option (List ℕ)) → n ≤ done → done ≤ n → IsPut at o done s t → IsPut at o n s t
+put_whole at o done n s t le ge put =
+    let same : done ≡ n = omega (arith, le, ge) in
+    subst (λ (z : ℕ). IsPut at o z s t) same put
+
+module _ {D St : Type 0} (view : D → View St) (x : FormatAccess D) where
   -- all values of a disk were put
   pub put_disk : (n : ℕ) (s t : Option (List ℕ)) → n ≡ (view (driver x)).size → IsPut (disk_value view x) 0 n s t → IsDiskPut (disk view x) s t
   put_disk n None t e h = tt

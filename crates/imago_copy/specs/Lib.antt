@@ -1,4 +1,5 @@
 pub mod Runs
+pub mod Ends
 pub mod RunsOf
 pub mod Appended
 pub mod Copies

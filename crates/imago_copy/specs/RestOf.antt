@@ -1,5 +1,5 @@
--- What is seen of the rest of a disk.
-use Rattle.std.specs.Prelude.{◌≡◌, ℕ, ◌-◌, ◌^◌, ◌≤◌, ◌⊎◌, true}
+-- What is left of a disk that is compared.
+use Rattle.std.specs.Prelude.{◌≡◌, ℕ, ◌-◌, ◌^◌, ◌≤◌, ◌⊎◌}
 use Rattle.imago_drivers.specs.View.{View}
 use Rattle.imago_access.specs.declared.access.FormatAccess.{FormatAccess}
 use Rattle.imago_access.specs.Disk.{disk}
@@ -7,17 +7,17 @@ use Rattle.imago_copy.specs.declared.compare.Rest.{Rest}
 use Rattle.imago_copy.specs.RunsOf.{image_of, at_of, IsReady}
 use Rattle.imago_copy.specs.Compared.{IsZeroIn}
 
--- the image
+-- the image whose disk it is
 abbrev pub disk_of : {D : Type 0} → Rest D → FormatAccess D
 disk_of r = image_of r.runs
 
--- where what is at hand ends
+-- where the run at hand ends
 abbrev pub end_of : {D : Type 0} → Rest D → ℕ
 end_of r = r.end
 
--- What is at hand goes on from an offset up to where the next run begins, or past the disk without
--- an end.
+-- The run at hand ends where the next one begins, or behind the disk never, and not before that
+-- offset; it is zero behind its data.
 abbrev pub HasPart : {D St : Type 0} → (D → View St) → ℕ → Rest D → Type 0
 HasPart view p r =
     IsReady view r.runs × ((r.end ≡ at_of r.runs) ⊎ (r.end ≡ 2 ^ 64 - 1)) × (p ≤ r.end)
-    × (r.is_zero ≡ true → IsZeroIn (disk view (disk_of r)) p r.end)
+    × (r.data_end ≤ r.end) × IsZeroIn (disk view (disk_of r)) r.data_end r.end

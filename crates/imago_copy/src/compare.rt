@@ -4,40 +4,51 @@ ghost use Rattle.std.specs.Prelude.{length};
 ghost use Rattle.imago_access.specs.Chain.{tells_bytes};
 ghost use Rattle.imago_access.specs.Disk.{disk};
 ghost use Rattle.imago_copy.specs.Differences.{IsFirstDifference, IsFirstDifferentValue};
-ghost use Rattle.imago_copy.specs.Compared.{IsDifferenceIn};
+ghost use Rattle.imago_copy.specs.Compared.{IsZeroIn, IsDifferenceIn};
 
+use crate::ends::data_count;
 use crate::runs::Runs;
 use imago_access::access::FormatAccess;
 use imago_drivers::drivers::FormatDriverInstance;
 use imago_storage::error::Error;
 use std::alloc::Global;
 
-/// What is left of a disk. Behind its end all is 0.
+/// Bytes of a disk from an offset on.
+#[derive(Clone, Copy)]
+struct Part {
+    /// Where they end.
+    end: u64,
+    /// Whether they are known to be zero, without a look at them.
+    is_zero: bool,
+}
+
+/// What is left of a disk. Behind its end all is zero.
 #[derive(Drop)]
 struct Rest<'a, D> {
     runs: Runs<'a, D>,
-    /// Where what is at hand ends.
+    /// Where what isn't known to be zero of the run at hand ends.
+    data_end: u64,
+    /// Where the run at hand ends.
     end: u64,
-    /// Whether it is zero, without a look at it.
-    is_zero: bool,
 }
 
 impl<'a, D: FormatDriverInstance> Rest<'a, D> {
     ghost use Rattle.imago_copy.specs.RestOf.{disk_of, end_of, HasPart};
 
-    /// All of a disk, of which nothing is at hand.
+    /// All of a disk, of which no run is at hand.
     fn new(image: &'a FormatAccess<D>) -> Result<Self, Error>
         ensures disk { IfOk result (λ r. disk_of r ≡ image.now) }
         ensures part { IfOk result (HasPart D.view 0) }
     {
         Ok(Rest {
             runs: Runs::new(image)?,
+            data_end: 0,
             end: 0,
-            is_zero: false,
         })
     }
 
-    /// Takes the next run at hand where nothing is left of the last one.
+    /// Takes the next run at hand where the offset lies behind the last one. Behind the disk the
+    /// run at hand is zeroes without an end.
     fn reach(&mut self, at: u64) -> Result<(), Error>
         requires part { HasPart D.view «at» self.old }
         requires inside { at < 2 ^ 64 - 1 }
@@ -50,15 +61,39 @@ impl<'a, D: FormatDriverInstance> Rest<'a, D> {
         }
         match self.runs.next_run()? {
             Some(run) => {
+                self.data_end = run.at + data_count(self.runs.image(), run);
                 self.end = run.at + run.count;
-                self.is_zero = run.kind.is_zero();
             }
             None => {
+                self.data_end = at;
                 self.end = u64::MAX;
-                self.is_zero = true;
             }
         }
         Ok(())
+    }
+
+    /// The next bytes from the offset on, which nothing before is left of.
+    fn part(&mut self, at: u64) -> Result<Part, Error>
+        requires part { HasPart D.view «at» self.old }
+        requires inside { at < 2 ^ 64 - 1 }
+        ensures disk { disk_of self.new ≡ disk_of self.old }
+        ensures rest { OnOk result (HasPart D.view «at» self.new) }
+        ensures some { IfOk result (λ part. at < part.end) }
+        ensures within { IfOk result (λ part. part.end ≤ end_of self.new) }
+        ensures zero { IfOk result (λ part. part.is_zero ≡ true
+            → IsZeroIn (disk D.view (disk_of self.new)) «at» part.end) }
+    {
+        self.reach(at)?;
+        if at < self.data_end {
+            return Ok(Part {
+                end: self.data_end,
+                is_zero: false,
+            });
+        }
+        Ok(Part {
+            end: self.end,
+            is_zero: true,
+        })
     }
 }
 
@@ -102,8 +137,21 @@ fn unequal<D: FormatDriverInstance, E: FormatDriverInstance>(
     }
 }
 
-/// The first offset at which two disks differ, if they do. Behind the end of the shorter one all is
-/// 0. What no storage has is passed over, and all else is compared by way of the buffers.
+/// The first offset at which the disks of two images differ, if they do. Behind the end of the
+/// shorter one it is zero: so a disk that ends in zeroes is the same as the one without these.
+///
+/// What is known to be zero on both disks is passed over without a look at it: zeroes that stand in
+/// no storage, and what lies behind the end of a storage, as its length is when the run that goes
+/// over it begins. Where a storage refuses to tell its length, all of the run is read. All else is
+/// read into the buffers and compared, a part at a time: as many bytes as both buffers have room
+/// for.
+///
+/// # Errors
+///
+/// A refusal of either image ends it, and tells nothing of the disks: that of a mapping, as by
+/// [`get_mapping`](FormatAccess::get_mapping), of a read, as by [`read`](FormatAccess::read), or
+/// [`Error::Unsupported`] where a driver maps nothing inside the disk. Nothing is changed but the
+/// buffers, which are unspecified afterwards.
 pub fn first_difference<D: FormatDriverInstance, E: FormatDriverInstance>(
     alloc: Global,
     left: &FormatAccess<D>,
@@ -123,10 +171,10 @@ pub fn first_difference<D: FormatDriverInstance, E: FormatDriverInstance>(
     let mut other = Rest::new(right)?;
     let mut at: u64 = 0;
     while at < size {
-        one.reach(at)?;
-        other.reach(at)?;
-        let mut end = one.end.min(other.end).min(size);
-        if !(one.is_zero && other.is_zero) {
+        let here = one.part(at)?;
+        let there = other.part(at)?;
+        let mut end = here.end.min(there.end).min(size);
+        if !(here.is_zero && there.is_zero) {
             end = end.min(at.saturating_add(most));
             let count = (end - at) as usize;
             let found = unequal(

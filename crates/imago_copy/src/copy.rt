@@ -1,26 +1,37 @@
-//! A disk, put into a target.
+//! A disk, copied to a target.
 ghost use Rattle.std.specs.Prelude.{◌≡◌, ◌+◌, ◌<◌, ◌≤◌, ◌^◌, IsTrue, OnOk, IfOk};
-ghost use Rattle.imago_access.specs.Chain.{driver, disk_value, tells_bytes};
+ghost use Rattle.imago_access.specs.Chain.{disk_value, tells_bytes};
 ghost use Rattle.imago_access.specs.Disk.{disk};
 ghost use Rattle.imago_access.specs.Target.{target as leads_to};
 ghost use Rattle.imago_copy.specs.Copies.{IsPut, IsDiskPut};
 ghost use Rattle.imago_copy.specs.Runs.{IsRunAt};
 
-use crate::runs::{Kind, Run, Runs};
+use crate::ends::data_count;
+use crate::runs::{Run, Runs};
 use crate::target::Target;
 use imago_access::access::FormatAccess;
 use imago_drivers::drivers::FormatDriverInstance;
 use imago_storage::error::Error;
 use std::alloc::Global;
+use std::fmt::{self, Display, Formatter, Write};
 use std::io::{self, ErrorKind};
 
 /// Why a disk isn't copied.
 #[derive(Debug, Drop)]
 pub enum CopyError {
-    /// The image refused.
+    /// A mapping or a read of the image was refused.
     Image(Error),
-    /// The target refused.
+    /// The target refused, or the buffer is empty.
     Target(io::Error),
+}
+
+impl Display for CopyError {
+    fn fmt<W: Write>(&self, f: &mut Formatter<W>) -> fmt::Result {
+        match self {
+            CopyError::Image(error) => write!(f, "{error}"),
+            CopyError::Target(error) => write!(f, "{error}"),
+        }
+    }
 }
 
 impl From<Error> for CopyError {
@@ -35,8 +46,8 @@ impl From<io::Error> for CopyError {
     }
 }
 
-/// Puts the first bytes of a range of the disk into the target, as many as the buffer has room
-/// for.
+/// Reads the first bytes of a range of the disk and puts them into the target: as many as the
+/// buffer has room for, and at most `most`. It answers how many.
 fn copy_first<D: FormatDriverInstance, T: Target>(
     alloc: Global,
     image: &FormatAccess<D>,
@@ -59,28 +70,33 @@ fn copy_first<D: FormatDriverInstance, T: Target>(
     Ok(count)
 }
 
-/// Puts a range of the disk into the target, by way of the buffer.
-fn copy_range<D: FormatDriverInstance, T: Target>(
+/// Puts at least the first `least` bytes of a run into the target, by way of the buffer, and
+/// answers how many were put. No chunk begins behind these, but the last one may go on there.
+fn copy_data<D: FormatDriverInstance, T: Target>(
     alloc: Global,
     image: &FormatAccess<D>,
     target: &mut T,
-    at: u64,
-    count: u64,
+    run: Run,
+    least: u64,
     buf: &mut [u8],
-) -> Result<(), CopyError>
-    requires { at + count < 2 ^ 64 }
-    ensures { IsTrue (tells_bytes D.view image.now) → OnOk result
-        (IsPut (disk_value D.view image.now) at count (T.contents target.old)
+) -> Result<u64, CopyError>
+    requires inside { run.at + run.count < 2 ^ 64 }
+    requires within { least ≤ run.count }
+    ensures least { IfOk result (λ n. least ≤ n) }
+    ensures within { IfOk result (λ n. n ≤ run.count) }
+    ensures put { IsTrue (tells_bytes D.view image.now) → IfOk result (λ n.
+        IsPut (disk_value D.view image.now) run.at n (T.contents target.old)
         (T.contents target.new)) }
 {
     let mut done: u64 = 0;
-    while done < count {
-        done += copy_first(alloc, image, target, at + done, count - done, buf)?;
+    while done < least {
+        done += copy_first(alloc, image, target, run.at + done, run.count - done, buf)?;
     }
-    Ok(())
+    Ok(done)
 }
 
-/// Puts a run of the disk into the target.
+/// Puts a run of the disk into the target: its data by way of the buffer, and then what is known to
+/// be zero.
 fn copy_run<D: FormatDriverInstance, T: Target>(
     alloc: Global,
     image: &FormatAccess<D>,
@@ -94,17 +110,32 @@ fn copy_run<D: FormatDriverInstance, T: Target>(
         (IsPut (disk_value D.view image.now) run.at run.count (T.contents target.old)
         (T.contents target.new)) }
 {
-    match run.kind {
-        Kind::Zero => {
-            target.append_zeroes(run.count)?;
-            Ok(())
-        }
-        _ => copy_range(alloc, image, target, run.at, run.count, buf),
+    let data = data_count(image, run);
+    let done = copy_data(alloc, image, target, run, data, buf)?;
+    if done < run.count {
+        target.append_zeroes(run.count - done)?;
     }
+    Ok(())
 }
 
-/// Puts an image's disk into the target, from its start to its end: run by run, and what is stored
-/// by way of the buffer.
+/// Copies an image's disk to a target, from its start to its end: all of its bytes, as many as its
+/// size says, behind what was put into the target before.
+///
+/// The disk is copied run by run, as [`Runs`] has them. Zeroes that stand in no storage are put in
+/// as zeroes by one call for each run. Bytes that are stored, and special ones, are read into the
+/// buffer and put in a part at a time, each as large as the buffer but for the last one of a run. No
+/// part is read that begins behind the end of its storage, as its length is when its run begins:
+/// what is left of the run is put in as zeroes. Where a storage refuses to tell its length, all of
+/// the run is read. Whether bytes that were read are zero isn't tested.
+///
+/// # Errors
+///
+/// [`CopyError::Image`] is the refusal of a mapping, as by [`get_mapping`](FormatAccess::get_mapping),
+/// or of a read, as by [`read`](FormatAccess::read), or [`Error::Unsupported`] where a driver maps
+/// nothing inside the disk. [`CopyError::Target`] is what the target refused, or
+/// [`ErrorKind::InvalidInput`] for an empty buffer, where there is something to read. A refusal ends
+/// the copy: the target keeps what was put into it until then, of which no contract says anything,
+/// and the buffer is unspecified.
 pub fn copy_disk<D: FormatDriverInstance, T: Target>(
     alloc: Global,
     image: &FormatAccess<D>,

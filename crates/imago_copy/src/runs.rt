@@ -1,5 +1,5 @@
-//! The runs of a disk: its mappings, joined where they go on.
-ghost use Rattle.std.specs.Prelude.{◌≡◌, ℕ, ◌+◌, ◌<◌, ◌≤◌, ◌^◌, false, true, IfOk, IfSome};
+//! The runs of a disk: its mappings, joined where one goes on as the last one ended.
+ghost use Rattle.std.specs.Prelude.{◌≡◌, ℕ, ◌+◌, ◌<◌, ◌≤◌, ◌^◌, false, true, IfOk, IfErr, IfSome};
 ghost use Rattle.imago_access.specs.Chain.{driver};
 ghost use Rattle.imago_access.specs.Target.{target};
 ghost use Rattle.imago_copy.specs.declared.runs.Kind.TheVariants as Kind;
@@ -17,34 +17,36 @@ pub enum Kind {
     Zero,
     /// Bytes of a storage.
     Stored {
-        /// The depth of the layer whose driver has the storage: 0 at the top.
+        /// The depth of the layer whose driver has the storage: 0 at the top. `usize::MAX` stands
+        /// for each depth from there on.
         layer: usize,
         /// The storage's index in that driver.
         storage: usize,
         /// The first byte's offset in the storage.
         offset: u64,
     },
-    /// Bytes that a driver makes up: they can be read, and stand nowhere.
+    /// Bytes that a driver makes up, such as those of compressed data: they can be read where the
+    /// driver offers it, and stand in no storage as they are.
     Special {
-        /// The depth of the layer: 0 at the top.
+        /// The depth of the layer: 0 at the top. `usize::MAX` stands for each depth from there on.
         layer: usize,
         /// Where the run begins for that driver.
         offset: u64,
     },
 }
 
-/// Bytes of a disk that are one thing. Offsets and counts are in bytes.
+/// A range of a disk that is of one kind. Offsets and counts are in bytes.
 #[derive(Clone, Copy, Debug, PartialEq, Eq)]
 pub struct Run {
     /// The first byte's offset on the disk.
     pub at: u64,
-    /// How many bytes there are.
+    /// How many bytes there are, at least one.
     pub count: u64,
     /// What they are.
     pub kind: Kind,
 }
 
-/// What a mapping names. The end of the image is none.
+/// What a mapping names: nothing where it is the end of the image.
 fn kind_of(mapping: Mapping) -> Option<Kind>
     ensures { result ≡ named_kind mapping }
 {
@@ -76,7 +78,7 @@ impl Kind {
         }
     }
 
-    /// Whether what is next on the disk goes on as that many bytes of this kind.
+    /// Whether that many bytes of this kind go on as the kind that is next on the disk.
     fn goes_on(self, count: u64, next: Kind) -> bool
         ensures { result ≡ goes_on self «count» next }
     {
@@ -116,7 +118,7 @@ impl Run {
     }
 }
 
-/// The run from an offset inside the disk on, as one mapping has it.
+/// The run that begins at an offset inside the disk, as far as one mapping goes.
 fn mapped_run<D: FormatDriverInstance>(image: &FormatAccess<D>, at: u64) -> Result<Run, Error>
     requires { at < (D.view (driver image.now)).size }
     ensures run { IfOk result (λ r. IsRunAt (target D.view image.now) «at» r) }
@@ -129,8 +131,8 @@ fn mapped_run<D: FormatDriverInstance>(image: &FormatAccess<D>, at: u64) -> Resu
     }
 }
 
-/// The run that begins as that one, as far as it goes on, and the next mapping behind it, if the
-/// disk doesn't end there.
+/// The run that begins as that one, as far as it goes on; and the first mapping of the next one, if
+/// the disk doesn't end there.
 fn longest<D: FormatDriverInstance>(
     image: &FormatAccess<D>,
     first: Run,
@@ -138,6 +140,7 @@ fn longest<D: FormatDriverInstance>(
     requires run { IsRunAt (target D.view image.now) first.at first }
     requires inside { first.at + first.count ≤ (D.view (driver image.now)).size }
     ensures run { IfOk result (λ r. IsRunAt (target D.view image.now) first.at r.0) }
+    ensures kind { IfOk result (λ r. r.0.kind ≡ first.kind) }
     ensures rest { IfOk result
         (λ r. IsRestOf D.view image.now (first.at + r.0.count) r.1) }
     ensures inside { IfOk result
@@ -158,10 +161,11 @@ fn longest<D: FormatDriverInstance>(
     Ok((run, None))
 }
 
-/// The runs of a disk, from its start to its end, each as long as it goes on.
+/// The runs of a disk, from its start to its end: no run goes on as the one behind it.
 ///
-/// A refusal is that of [`get_mapping`](FormatAccess::get_mapping), and comes in place of the run
-/// that leads up to it.
+/// Each mapping of the image is asked for once, and no more is kept than one that is still to come.
+/// What a run is follows from where its bytes stand alone: no byte is read, and what lies behind the
+/// end of a storage is stored there as its other bytes are.
 #[derive(Drop)]
 pub struct Runs<'a, D> {
     image: &'a FormatAccess<D>,
@@ -172,9 +176,10 @@ pub struct Runs<'a, D> {
 }
 
 impl<'a, D: FormatDriverInstance> Runs<'a, D> {
-    ghost use Rattle.imago_copy.specs.RunsOf.{image_of, at_of, IsReady};
+    ghost use Rattle.imago_copy.specs.RunsOf.{image_of, at_of, next_of, IsReady};
 
-    /// The runs of that image's disk.
+    /// The runs of that image's disk. The first mapping is asked for at once, and its refusal is
+    /// passed on, as by [`next_run`](Self::next_run).
     pub fn new(image: &'a FormatAccess<D>) -> Result<Self, Error>
         ensures image { IfOk result (λ r. image_of r ≡ image.now) }
         ensures start { IfOk result (λ r. at_of r ≡ 0) }
@@ -187,14 +192,32 @@ impl<'a, D: FormatDriverInstance> Runs<'a, D> {
         Ok(Runs { image, at: 0, next })
     }
 
-    /// The next run, if one is left.
+    /// The image whose disk it is.
+    pub fn image(&self) -> &'a FormatAccess<D>
+        ensures { result.now ≡ image_of self.now }
+    {
+        self.image
+    }
+
+    /// The next run, or `None` at the end of the disk.
+    ///
+    /// Mappings are asked for up to the first that is no part of the run, so a refusal comes in
+    /// place of the run before it. It is that of [`get_mapping`](FormatAccess::get_mapping), or
+    /// [`Error::Unsupported`] where the driver maps nothing inside the disk. Refused, nothing has
+    /// changed: the next call asks for the same again.
     pub fn next_run(&mut self) -> Result<Option<Run>, Error>
         requires { IsReady D.view self.old }
         ensures same { image_of self.new ≡ image_of self.old }
         ensures run { IfOk result
             (λ r. IsNextRun D.view (image_of self.old) (at_of self.old) r (at_of self.new)) }
+        ensures kind { IfOk result
+            (λ r. IfSome r (λ run. IfSome (next_of self.old) (λ first. run.kind ≡ first.kind))) }
+        ensures apart { IfOk result
+            (λ r. IfSome r (λ run. IfSome (next_of self.new)
+            (λ next. goes_on run.kind run.count next.kind ≡ false))) }
         ensures fits { IfOk result (λ r. IfSome r (λ run. run.at + run.count < 2 ^ 64)) }
         ensures ready { IfOk result (λ _. IsReady D.view self.new) }
+        ensures refused { IfErr result (λ _. self.new ≡ self.old) }
     {
         let Some(first) = self.next else {
             return Ok(None);

@@ -18,6 +18,7 @@ loop-run-preserved g c =
     rw c.longer-run.ensures (record {
       size = l.invariant.size;
       at = l.invariant.at;
+      kind = l.invariant.kind;
       inside = omega (arith, inside);
       run = joined;
     })

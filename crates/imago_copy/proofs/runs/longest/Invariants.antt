@@ -10,6 +10,7 @@ invariant-loop-run g l =
     record {
       size : l.size ≡ (view (driver l.image)).size;
       at : l.run.at ≡ l.fn.first.at;
+      kind : l.run.kind ≡ l.fn.first.kind;
       inside : l.run.at + l.run.count ≤ l.size;
       run : IsRunAt (target view l.image) l.run.at l.run;
     }

@@ -1,15 +1,15 @@
 use Rattle.std.proofs.Common.{◌≡◌, ◌-◌, ◌≤◌, IsTrue}
 use Rattle.imago_access.specs.Chain.{disk_value, tells_bytes}
 use Rattle.imago_copy.specs.Copies.{IsPut}
-use Rattle.imago_copy.proofs.copy.copy_range.Given as goal
+use Rattle.imago_copy.proofs.copy.copy_data.Given as goal
 
 abbrev pub invariant-loop-done : goal.invariant-loop-done
 invariant-loop-done g l =
     let view = g.D.FormatDriverInstance.view in
     record {
-      within : l.done ≤ l.count;
-      put : IsTrue (tells_bytes view l.image) → IsPut (disk_value view l.image) l.at l.done (g.T.Target.contents l.initial.target) (g.T.Target.contents l.target);
+      within : l.done ≤ l.run.count;
+      put : IsTrue (tells_bytes view l.image) → IsPut (disk_value view l.image) l.run.at l.done (g.T.Target.contents l.initial.target) (g.T.Target.contents l.target);
     }
 
 abbrev pub decreases-loop-done : goal.decreases-loop-done
-decreases-loop-done g l = l.count - l.done
+decreases-loop-done g l = l.run.count - l.done

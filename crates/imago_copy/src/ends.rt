@@ -1,0 +1,55 @@
+//! Where the storages of a disk end: what lies behind is zero, without a look at it.
+ghost use Rattle.std.specs.Prelude.{◌≡◌, ℕ, ◌+◌, ◌-◌, ◌<◌, ◌≤◌, ◌^◌, IfSome};
+ghost use Rattle.imago_access.specs.Chain.{disk_value};
+ghost use Rattle.imago_access.specs.Target.{target};
+ghost use Rattle.imago_copy.specs.Ends.{IsEndOf, AreZeroBehind};
+ghost use Rattle.imago_copy.specs.Runs.{IsRunAt};
+
+use crate::runs::{Kind, Run};
+use imago_access::access::FormatAccess;
+use imago_drivers::drivers::FormatDriverInstance;
+use imago_storage::storage::Storage;
+
+/// The length of a storage of that many layers below the top, if it can be told.
+fn storage_end<D: FormatDriverInstance>(
+    image: &FormatAccess<D>,
+    depth: usize,
+    storage: usize,
+) -> Option<u64>
+    ensures { IfSome result (IsEndOf (target D.view image.now) depth storage) }
+{
+    if depth > 0 {
+        return match image.backing() {
+            Some(below) => storage_end(below, depth - 1, storage),
+            None => None,
+        };
+    }
+    match image.inner().storage(storage) {
+        Some(storage) => storage.size().ok(),
+        None => None,
+    }
+}
+
+/// How many bytes of a run come before those that are known to be zero, which are the rest of it:
+/// none of a run of zeroes, and of a stored one those before the end of its storage.
+///
+/// A storage is asked for its length once. Where it refuses to tell it, nothing is known of what
+/// lies behind its end; nor is it where the layer is too deep for a mapping to tell its depth.
+pub(crate) fn data_count<D: FormatDriverInstance>(image: &FormatAccess<D>, run: Run) -> u64
+    requires { IsRunAt (target D.view image.now) run.at run }
+    ensures within { result ≤ run.count }
+    ensures zero { AreZeroBehind (disk_value D.view image.now) run.at result run.count }
+{
+    match run.kind {
+        Kind::Zero => 0,
+        Kind::Stored {
+            layer,
+            storage,
+            offset,
+        } if layer < usize::MAX => match storage_end(image, layer, storage) {
+            Some(end) => run.count.min(end.saturating_sub(offset)),
+            None => run.count,
+        },
+        _ => run.count,
+    }
+}
