@@ -1,5 +1,5 @@
 -- Parts of two disks, compared.
-use Rattle.std.proofs.Common.{◌≡◌, ◌≢◌, ℕ, ◌+◌, ◌-◌, ◌<◌, ◌≤◌, ◌⊎◌, inl, inr, ⊎_elim, Bool, true, List, length, slice_index, Option, Some, None, refl, sym, ap, ◌∙◌, subst, arith}
+use Rattle.std.proofs.Common.{◌≡◌, ℕ, ◌+◌, ◌-◌, ◌<◌, ◌≤◌, ◌⊎◌, ⊎_elim, List, length, slice_index, Some, None, sym, ap, ◌∙◌, arith}
 use Rattle.std.proofs.lemmas.Bool.{cases_lt}
 use Rattle.std.proofs.lemmas.List.{get_or_past}
 use Rattle.std.proofs.lemmas.List.FromFn.{length-map-range_with_len, get_or-map-range_with_len}
@@ -7,17 +7,10 @@ use Rattle.imago_drivers.specs.Place.{Value, Byte, Unreadable}
 use Rattle.imago_drivers.specs.View.{View}
 use Rattle.imago_access.specs.declared.access.FormatAccess.{FormatAccess}
 use Rattle.imago_access.specs.Chain.{driver, disk_value}
-use Rattle.imago_access.specs.Disk.{values_from, value_at, disk, IsPartOf}
-use Rattle.imago_access.specs.Target.{target}
-use Rattle.imago_access.proofs.Targets.{target_shows}
+use Rattle.imago_access.specs.Disk.{value_at, disk, IsPartOf}
 use Rattle.imago_copy.specs.Differences.{IsFirstDifference, IsFirstDifferentValue}
-use Rattle.imago_copy.specs.declared.runs.Kind.{Kind}
-use Rattle.imago_copy.specs.declared.runs.Kind.TheVariants as K
-use Rattle.imago_copy.specs.declared.runs.Run.{Run}
-use Rattle.imago_copy.specs.Runs.{Stands, IsRunAt}
 use Rattle.imago_copy.specs.Compared.{AreSameIn, IsZeroIn, IsDifferenceIn}
 use Rattle.imago_copy.specs.Ends.{AreZeroBehind}
-use Rattle.imago_copy.proofs.Copies.{zero_shown}
 
 abbrev byte_in : Value → ℕ
 byte_in (Byte b) = b

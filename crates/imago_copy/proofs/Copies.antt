@@ -1,20 +1,18 @@
 -- Values put behind one another.
-use Rattle.std.proofs.Common.{◌≡◌, ℕ, ◌+◌, ◌-◌, ◌<◌, ◌≤◌, ⊎_elim, Bool, List, [], ◌++◌, length, map, slice_index, replicate, Option, Some, None, refl, sym, ap, ◌∙◌, subst, arith}
+use Rattle.std.proofs.Common.{◌≡◌, ℕ, ◌+◌, ◌-◌, ◌<◌, ◌≤◌, ⊎_elim, Bool, List, [], ◌++◌, length, map, replicate, Option, Some, None, refl, sym, ap, ◌∙◌, subst, arith}
 use Rattle.std.proofs.lemmas.Bool.{cases_lt}
 use Rattle.std.proofs.lemmas.List.{same_lists, get_or_append_left, get_or-append_right, get_or-map, get_or-replicate, length-replicate, length-append, length-map, append_assoc, append-nil}
 use Rattle.std.proofs.lemmas.List.FromFn.{length-map-range_with_len, get_or-map-range_with_len}
-use Rattle.imago_drivers.specs.Place.{Place, Zeroed, End, Value, Byte, shown, HasValues}
+use Rattle.imago_drivers.specs.Place.{Value, Byte, shown, HasValues}
 use Rattle.imago_drivers.specs.View.{View}
 use Rattle.imago_access.specs.declared.access.FormatAccess.{FormatAccess}
 use Rattle.imago_access.specs.Chain.{driver, disk_value}
 use Rattle.imago_access.specs.Disk.{values_from, disk}
 use Rattle.imago_access.specs.Resolved.{LeadsToZero}
 use Rattle.imago_access.specs.Target.{Target, target}
-use Rattle.imago_access.proofs.Targets.{target_shows}
 use Rattle.imago_copy.specs.Appended.{IsAppended}
-use Rattle.imago_copy.specs.declared.runs.Kind.TheVariants as K
 use Rattle.imago_copy.specs.declared.runs.Run.{Run}
-use Rattle.imago_copy.specs.Runs.{Stands, IsRunAt, IsNextRun}
+use Rattle.imago_copy.specs.Runs.{IsRunAt, IsNextRun}
 use Rattle.imago_copy.specs.Copies.{IsPut, IsDiskPut}
 use Rattle.imago_copy.specs.Ends.{AreZeroBehind}
 

@@ -141,17 +141,16 @@ fn unequal<D: FormatDriverInstance, E: FormatDriverInstance>(
 /// shorter one it is zero: so a disk that ends in zeroes is the same as the one without these.
 ///
 /// What is known to be zero on both disks is passed over without a look at it: zeroes that stand in
-/// no storage, and what lies behind the end of a storage, as its length is when the run that goes
-/// over it begins. Where a storage refuses to tell its length, all of the run is read. All else is
-/// read into the buffers and compared, a part at a time: as many bytes as both buffers have room
-/// for.
+/// no storage, and what lies behind the end of a storage. A storage is asked for its length when a
+/// run of it begins; where it refuses to tell it, all of the run is read. All else is read into the
+/// buffers and compared, a part at a time: at most as many bytes as either buffer has room for.
 ///
 /// # Errors
 ///
-/// A refusal of either image ends it, and tells nothing of the disks: that of a mapping, as by
-/// [`get_mapping`](FormatAccess::get_mapping), of a read, as by [`read`](FormatAccess::read), or
-/// [`Error::Unsupported`] where a driver maps nothing inside the disk. Nothing is changed but the
-/// buffers, which are unspecified afterwards.
+/// A refusal of either image ends the comparison, and tells nothing of the disks. It is that of a
+/// mapping, as by [`get_mapping`](FormatAccess::get_mapping), or of a read, as by
+/// [`read`](FormatAccess::read); or it is [`Error::Unsupported`], where a driver maps nothing
+/// inside the disk. Nothing but the buffers is changed; they are unspecified afterwards.
 pub fn first_difference<D: FormatDriverInstance, E: FormatDriverInstance>(
     alloc: Global,
     left: &FormatAccess<D>,

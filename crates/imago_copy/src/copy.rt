@@ -118,24 +118,25 @@ fn copy_run<D: FormatDriverInstance, T: Target>(
     Ok(())
 }
 
-/// Copies an image's disk to a target, from its start to its end: all of its bytes, as many as its
-/// size says, behind what was put into the target before.
+/// Copies an image's disk to a target, from its start to its end: all of its bytes, behind what was
+/// put into the target before.
 ///
 /// The disk is copied run by run, as [`Runs`] has them. Zeroes that stand in no storage are put in
-/// as zeroes by one call for each run. Bytes that are stored, and special ones, are read into the
-/// buffer and put in a part at a time, each as large as the buffer but for the last one of a run. No
-/// part is read that begins behind the end of its storage, as its length is when its run begins:
-/// what is left of the run is put in as zeroes. Where a storage refuses to tell its length, all of
-/// the run is read. Whether bytes that were read are zero isn't tested.
+/// as zeroes, by one call for each run. Stored and special bytes are read into the buffer, and put
+/// in a part at a time; each part fills the buffer, but for the last one of a run. A part of a
+/// stored run that would begin behind the end of its storage isn't read: all that is left of the
+/// run is zero then, and is put in as zeroes by one call. A storage is asked for its length when a
+/// run of it begins; where it refuses to tell it, all of the run is read. Bytes that were read
+/// aren't tested for being zero.
 ///
 /// # Errors
 ///
-/// [`CopyError::Image`] is the refusal of a mapping, as by [`get_mapping`](FormatAccess::get_mapping),
-/// or of a read, as by [`read`](FormatAccess::read), or [`Error::Unsupported`] where a driver maps
-/// nothing inside the disk. [`CopyError::Target`] is what the target refused, or
-/// [`ErrorKind::InvalidInput`] for an empty buffer, where there is something to read. A refusal ends
-/// the copy: the target keeps what was put into it until then, of which no contract says anything,
-/// and the buffer is unspecified.
+/// [`CopyError::Image`] is the refusal of a mapping, as by
+/// [`get_mapping`](FormatAccess::get_mapping), or of a read, as by [`read`](FormatAccess::read); or
+/// it is [`Error::Unsupported`], where the driver maps nothing inside the disk.
+/// [`CopyError::Target`] is what the target refused; or it is [`ErrorKind::InvalidInput`], where
+/// there is something to read and the buffer is empty. A refusal ends the copy. What was put in
+/// until then stays in the target, and no contract says what that is; the buffer is unspecified.
 pub fn copy_disk<D: FormatDriverInstance, T: Target>(
     alloc: Global,
     image: &FormatAccess<D>,

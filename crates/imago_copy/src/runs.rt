@@ -1,5 +1,6 @@
 //! The runs of a disk: its mappings, joined where one goes on as the last one ended.
-ghost use Rattle.std.specs.Prelude.{◌≡◌, ℕ, ◌+◌, ◌<◌, ◌≤◌, ◌^◌, false, true, IfOk, IfErr, IfSome};
+ghost use Rattle.std.specs.Prelude.{◌≡◌, ℕ, ◌+◌, ◌<◌, ◌≤◌, ◌^◌, ◌↔◌, false, IsTrue};
+ghost use Rattle.std.specs.Prelude.{IfOk, IfErr, IfSome};
 ghost use Rattle.imago_access.specs.Chain.{driver};
 ghost use Rattle.imago_access.specs.Target.{target};
 ghost use Rattle.imago_copy.specs.declared.runs.Kind.TheVariants as Kind;
@@ -70,7 +71,7 @@ fn kind_of(mapping: Mapping) -> Option<Kind>
 impl Kind {
     /// Whether it is zeroes that stand in no storage.
     pub fn is_zero(self) -> bool
-        ensures { result ≡ true → self ≡ Kind.Zero }
+        ensures { IsTrue result ↔ (self ≡ Kind.Zero) }
     {
         match self {
             Kind::Zero => true,
@@ -164,8 +165,8 @@ fn longest<D: FormatDriverInstance>(
 /// The runs of a disk, from its start to its end: no run goes on as the one behind it.
 ///
 /// Each mapping of the image is asked for once, and no more is kept than one that is still to come.
-/// What a run is follows from where its bytes stand alone: no byte is read, and what lies behind the
-/// end of a storage is stored there as its other bytes are.
+/// What a run is follows from where its bytes stand alone: no byte is read, and no storage is asked
+/// for its length. So a run that passes the end of its storage goes on there as stored.
 #[derive(Drop)]
 pub struct Runs<'a, D> {
     image: &'a FormatAccess<D>,

@@ -6,11 +6,11 @@ use std::io::{self, ErrorKind};
 
 /// What bytes are put into, one after the other: a file, or memory. Counts are in bytes.
 ///
-/// What an implementation can't do, it refuses by an error of its own. Nothing is promised of what a
-/// target holds after a refusal.
+/// What an implementation can't do, it refuses by an error of its own. Nothing is promised of what
+/// a target holds after a refusal.
 pub trait Target {
-    /// What was put in so far, where an implementation says it. One over files says `None`, since no
-    /// contract says what a file holds.
+    /// What was put in so far, where an implementation says it. One over files says `None`, since
+    /// no contract says what a file holds.
     ghost contents: { Self → Option (List ℕ) };
 
     /// Puts bytes behind what was put in before.

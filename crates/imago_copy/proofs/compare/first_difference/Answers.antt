@@ -1,4 +1,4 @@
-use Rattle.std.proofs.Common.{arith, ◌≡◌, ◌≤◌}
+use Rattle.std.proofs.Common.{arith, ◌≤◌}
 use Rattle.imago_access.specs.Chain.{driver}
 use Rattle.imago_copy.proofs.Compared.{all_same}
 use Rattle.imago_copy.proofs.compare.first_difference.Goals as goal

@@ -1,4 +1,4 @@
-use Rattle.std.proofs.Common.{◌≡◌, ◌-◌, ◌≤◌, IsTrue}
+use Rattle.std.proofs.Common.{◌-◌, ◌≤◌, IsTrue}
 use Rattle.imago_access.specs.Chain.{disk_value, tells_bytes}
 use Rattle.imago_copy.specs.Copies.{IsPut}
 use Rattle.imago_copy.proofs.copy.copy_data.Given as goal

@@ -1,4 +1,4 @@
-use Rattle.std.proofs.Common.{◌≡◌, ◌-◌, ◌≤◌, IsTrue}
+use Rattle.std.proofs.Common.{◌≡◌, ◌-◌, IsTrue}
 use Rattle.imago_access.specs.Chain.{driver, disk_value, tells_bytes}
 use Rattle.imago_copy.specs.RunsOf.{image_of, at_of, IsReady}
 use Rattle.imago_copy.specs.Copies.{IsPut}

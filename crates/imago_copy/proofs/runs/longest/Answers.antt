@@ -1,7 +1,5 @@
-use Rattle.std.proofs.Common.{arith, ◌≡◌, ◌+◌, ◌≤◌, sym, subst, ◌∙◌}
-use Rattle.imago_access.specs.Chain.{driver}
+use Rattle.std.proofs.Common.{arith, ◌+◌, ◌≤◌, sym, subst, ◌∙◌}
 use Rattle.imago_access.specs.Target.{target}
-use Rattle.imago_copy.specs.declared.runs.Run.{Run}
 use Rattle.imago_copy.specs.Runs.{IsRunAt}
 use Rattle.imago_copy.proofs.RunSteps.{joined_run}
 use Rattle.imago_copy.proofs.runs.longest.Goals as goal
