@@ -130,6 +130,11 @@ pub use Rattle.imago_file.specs.GateParts as FileGateParts
 pub use Rattle.imago_file.specs.Names as FileNames
 pub use Rattle.imago_file.specs.Opening as FileOpening
 pub use Rattle.imago_file.specs.MemoryFile
+pub use Rattle.imago_copy.specs.Appended as AppendedBytes
+pub use Rattle.imago_copy.specs.Runs as DiskRuns
+pub use Rattle.imago_copy.specs.RunsOf as RunsLeft
+pub use Rattle.imago_copy.specs.Copies as DiskCopies
+pub use Rattle.imago_copy.specs.Differences as FirstDifferences
 pub use Rattle.imago_plan.specs.Pieces
 pub use Rattle.imago_plan.specs.PieceBytes
 pub use Rattle.imago_plan.specs.StoredBytes
@@ -173,6 +178,10 @@ pub use Rattle.imago_access.specs.declared.run.Reply
 pub use Rattle.imago_file.specs.declared.file.FileStorage
 pub use Rattle.imago_file.specs.declared.host.MemoryFile as DeclaredMemoryFile
 pub use Rattle.imago_file.specs.declared.gate.FileGate as DeclaredFileGate
+pub use Rattle.imago_copy.specs.declared.runs.Kind as RunKind
+pub use Rattle.imago_copy.specs.declared.runs.Run
+pub use Rattle.imago_copy.specs.declared.runs.Runs as DeclaredRuns
+pub use Rattle.imago_copy.specs.declared.copy.CopyError
 pub use Rattle.imago_plan.specs.declared.piece.Location
 pub use Rattle.imago_plan.specs.declared.piece.Source
 pub use Rattle.imago_plan.specs.declared.piece.Piece

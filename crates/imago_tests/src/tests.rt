@@ -1,4 +1,5 @@
 //! The example that the README gives.
+mod copied;
 mod files;
 mod formats;
 mod laws;

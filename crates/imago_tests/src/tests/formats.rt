@@ -39,7 +39,7 @@ static PARTS: [(usize, &[u8]); 8] = [
 ];
 
 /// The file of that qcow2 image.
-fn qcow2_file(alloc: Global) -> Result<MemStorage, Error> {
+pub(super) fn qcow2_file(alloc: Global) -> Result<MemStorage, Error> {
     let mut file = vec![in alloc; 0u8; 2048]?;
     for &(at, bytes) in &PARTS {
         for (to, &byte) in file.iter_mut().skip(at).zip(bytes) {
@@ -50,10 +50,10 @@ fn qcow2_file(alloc: Global) -> Result<MemStorage, Error> {
 }
 
 /// An image of any format.
-type Image<S> = FormatAccess<AnyDriver<S>>;
+pub(super) type Image<S> = FormatAccess<AnyDriver<S>>;
 
 /// The driver of a writable raw image.
-fn raw_driver<S: Storage>(file: S) -> Result<AnyDriver<S>, Error> {
+pub(super) fn raw_driver<S: Storage>(file: S) -> Result<AnyDriver<S>, Error> {
     Ok(AnyDriver::from(Raw::open_image(file, true)?))
 }
 
@@ -63,22 +63,22 @@ fn vmdk_driver<S: Storage>(alloc: Global, file: S) -> Result<AnyDriver<S>, Error
 }
 
 /// The driver of a qcow2 image.
-fn qcow2_driver<S: Storage>(alloc: Global, file: S) -> Result<AnyDriver<S>, Error> {
+pub(super) fn qcow2_driver<S: Storage>(alloc: Global, file: S) -> Result<AnyDriver<S>, Error> {
     Ok(AnyDriver::from(Qcow2::open_image(alloc, file, false)?))
 }
 
 /// The driver of a copy-on-write disk of 1024 bytes, in blocks of 512.
-fn cow_driver<S: Storage>(alloc: Global, file: S) -> Result<AnyDriver<S>, Error> {
+pub(super) fn cow_driver<S: Storage>(alloc: Global, file: S) -> Result<AnyDriver<S>, Error> {
     Ok(AnyDriver::from(Cow::create(alloc, file, 1024, 512)?))
 }
 
 /// An image with nothing below it.
-fn alone<S: Storage>(driver: AnyDriver<S>) -> Image<S> {
+pub(super) fn alone<S: Storage>(driver: AnyDriver<S>) -> Image<S> {
     FormatAccess::new(driver)
 }
 
 /// An image above another one.
-fn above<S: Storage>(
+pub(super) fn above<S: Storage>(
     alloc: Global,
     driver: AnyDriver<S>,
     below: Image<S>,
@@ -188,7 +188,7 @@ fn is_spent<D: FormatDriverInstance>(image: &FormatAccess<D>) -> bool
 }
 
 /// Writes bytes to an image.
-fn write<D: FormatDriverInstance>(
+pub(super) fn write<D: FormatDriverInstance>(
     rt: &impl Abort,
     alloc: Global,
     image: &mut FormatAccess<D>,
