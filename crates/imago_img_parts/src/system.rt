@@ -1,12 +1,15 @@
 //! The system's files.
-ghost use Rattle.std.specs.Prelude.{◌≡◌, ◌-◌, ◌<◌, ◌≤◌, min, None, IfSome, IsNone, true, false};
+ghost use Rattle.std.specs.Prelude.{◌≡◌, ◌+◌, ◌-◌, ◌<◌, ◌≤◌, min, None, IfOk, IfSome, IsNone, true, false};
+ghost use Rattle.std.specs.Prelude.{length, drop, option_to_list};
+ghost use Rattle.std.specs.String.{string_bytes};
 
 use crate::host::{FileKind, FileStatus, Host};
+use imago_file::host::HostFile;
 use imago_plan::copy::Target;
 use std::alloc::Global;
 use std::cell::Cell;
 use std::fs::{self, File, Metadata, OpenOptions};
-use std::io::{self, IsTerminal, Seek, SeekFrom};
+use std::io::{self, ErrorKind, IsTerminal, Seek, SeekFrom};
 use std::os::unix::fs::{FileExt, FileTypeExt, MetadataExt};
 
 /// The least run of zeroes that stays a hole, in bytes.
@@ -15,11 +18,22 @@ const BLOCK: usize = 4096;
 /// What the path of a file that is to replace another one ends in, until it does.
 const UNFINISHED: &str = ".imago-img-unfinished";
 
-/// The system's files. One that was read stays open until another one is.
+/// How many files are kept open, where nothing else is asked for.
+const MOST_OPEN: usize = 16;
+
+/// The system's files.
+///
+/// A file is opened for the first question about it, and stays open for later ones. A number of
+/// files do: before another is opened, the one that wasn't used for the longest time is closed. A
+/// file that refuses a read is closed at once, and all are when a new file gets its path. While a
+/// file is open, what its path leads to isn't asked again.
 #[derive(Drop)]
 pub struct System<'a> {
     runtime: &'a HostRuntime,
-    last: Cell<Option<OpenFile>>,
+    /// The files that are kept open, in the order in which they were used.
+    kept: Cell<Vec<OpenFile>>,
+    /// How many files may be open beside the one that is used.
+    others: usize,
     /// Whether the standard error is a terminal.
     has_terminal: bool,
 }
@@ -46,34 +60,105 @@ pub struct NewFile {
 }
 
 impl<'a> System<'a> {
-    /// The files of that runtime.
+    /// The files of that runtime, of which up to sixteen are kept open.
     pub fn new(runtime: &'a HostRuntime) -> Self {
+        System::with_most_open(runtime, MOST_OPEN)
+    }
+
+    /// The files of that runtime, of which up to that many are kept open, and at least one.
+    pub fn with_most_open(runtime: &'a HostRuntime, most: usize) -> Self {
         System {
             runtime,
-            last: Cell::new(None),
+            kept: Cell::new(Vec::new(runtime.alloc())),
+            others: most.saturating_sub(1),
             has_terminal: runtime.stderr().is_terminal(),
         }
     }
 
-    /// The file of a path, open: the one that was kept, if it is that.
-    fn open(&self, path: &str) -> io::Result<OpenFile> {
-        match self.last.take() {
-            Some(open) if open.path.as_str() == path => Ok(open),
-            _ => Ok(OpenFile {
-                path: String::from_str(self.runtime.alloc(), path)?,
-                file: File::open(self.runtime, path)?,
-                is_regular: None,
-            }),
-        }
+    /// The files that are kept open, out of their cell: none are in it until it is set again.
+    fn take_kept(&self) -> Vec<OpenFile> {
+        self.kept.replace(Vec::new(self.runtime.alloc()))
     }
 
-    /// Keeps a file for the next read.
+    /// The file of a path, open. It is no longer among those that are kept.
+    fn open(&self, path: &str) -> io::Result<OpenFile>
+        ensures { IfOk result (λ found. string_bytes found.path ≡ path.now) }
+    {
+        let mut kept = self.take_kept();
+        let opened = match take_file(&mut kept, path) {
+            Some(open) => Ok(open),
+            None => {
+                close_unused(&mut kept, self.others);
+                OpenFile::open(self.runtime, path)
+            }
+        };
+        self.kept.set(kept);
+        opened
+    }
+
+    /// Keeps a file open, as the one that was used last.
     fn keep(&self, open: OpenFile) {
-        self.last.set(Some(open));
+        let mut kept = self.take_kept();
+        put_last(&mut kept, open, self.others);
+        self.kept.set(kept);
     }
 }
 
+/// Takes the file of a path out of those that are kept, if it is there. The one that was used last
+/// is looked at first.
+fn take_file(kept: &mut Vec<OpenFile>, path: &str) -> Option<OpenFile>
+    ensures path { IfSome result (λ found. string_bytes found.path ≡ path.now) }
+    ensures taken { length kept.new.items + length (option_to_list result)
+        ≡ length kept.old.items }
+{
+    for index in (0..kept.len()).rev() {
+        if kept[index].path.as_str() == path {
+            return Some(kept.remove(index));
+        }
+    }
+    None
+}
+
+/// Closes the files that weren't used for the longest time, until at most that many are kept.
+fn close_unused(kept: &mut Vec<OpenFile>, most: usize)
+    ensures { kept.new.items ≡ drop (length kept.old.items - most) kept.old.items }
+{
+    let surplus = kept.len().saturating_sub(most);
+    if surplus > 0 {
+        kept.drain(..surplus);
+    }
+}
+
+/// Puts a file behind those that are kept, of which at most that many others stay. Where memory for
+/// it is refused, it is closed.
+fn put_last(kept: &mut Vec<OpenFile>, open: OpenFile, others: usize)
+    ensures { length kept.new.items ≤ others + 1 }
+{
+    close_unused(kept, others);
+    let _ = kept.push(open);
+}
+
 impl OpenFile {
+    /// Opens the file of a path.
+    fn open(runtime: &HostRuntime, path: &str) -> io::Result<OpenFile>
+        ensures { IfOk result (λ found. string_bytes found.path ≡ path.now) }
+    {
+        Ok(OpenFile {
+            path: String::from_str(runtime.alloc(), path)?,
+            file: File::open(runtime, path)?,
+            is_regular: None,
+        })
+    }
+
+    /// Fills the buffer with the file's bytes from the offset on, with 0 past its end. A read that
+    /// would pass the greatest offset is refused.
+    fn read(&self, buf: &mut [u8], offset: u64) -> io::Result<()> {
+        if buf.len() as u64 > u64::MAX - offset {
+            return Err(io::Error::from(ErrorKind::InvalidInput));
+        }
+        HostFile::read_at(&self.file, buf, offset)
+    }
+
     /// How many bytes the file has now, where it is known to be a regular one.
     ///
     /// A seek to the end tells it for less than the attributes do. Reads are at offsets, so nothing
@@ -104,20 +189,6 @@ fn kind_of(metadata: &Metadata) -> FileKind {
     } else {
         FileKind::Other
     }
-}
-
-/// Fills the buffer with a file's bytes from the offset on, with 0 past its end.
-fn read_padded(file: &File, buf: &mut [u8], offset: u64) -> io::Result<()> {
-    let mut done: usize = 0;
-    while done < buf.len() {
-        let count = file.read_at(&mut buf[done..], offset.wrapping_add(done as u64))?;
-        if count == 0 {
-            buf[done..].fill(0);
-            return Ok(());
-        }
-        done += count;
-    }
-    Ok(())
 }
 
 /// How many bytes from the offset on are known to be behind the end of a file of that length, and
@@ -221,7 +292,7 @@ impl<'a> Host for System<'a> {
 
     fn read_at(&self, path: &str, buf: &mut [u8], offset: u64) -> io::Result<()> {
         let open = self.open(path)?;
-        read_padded(&open.file, buf, offset)?;
+        open.read(buf, offset)?;
         self.keep(open);
         Ok(())
     }
@@ -289,7 +360,9 @@ impl<'a> Host for System<'a> {
         }
     }
 
+    // The files that are kept open are closed, since one may be what the new file replaces.
     fn finish(&mut self, _path: &str, target: NewFile) -> io::Result<()> {
+        self.take_kept();
         let Some(replaced) = &target.replaced else {
             return Ok(());
         };

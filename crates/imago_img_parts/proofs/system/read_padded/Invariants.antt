@@ -1,8 +1,0 @@
-use Rattle.std.proofs.Common.{◌-◌, ◌≤◌, length}
-use Rattle.imago_img_parts.proofs.system.read_padded.Given as goal
-
-abbrev pub invariant-loop-done : goal.invariant-loop-done
-invariant-loop-done l = l.done ≤ length l.buf
-
-abbrev pub decreases-loop-done : goal.decreases-loop-done
-decreases-loop-done l = length l.buf - l.done
