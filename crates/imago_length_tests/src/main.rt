@@ -1,8 +1,10 @@
 //! Compares what `System` tells of files with what their attributes tell, asked for at each
 //! question: how many bytes are behind a file's end, how many come before it, both at once, and the
-//! bytes themselves. One file grows, shrinks and is replaced meanwhile: it is made in the folder
-//! that the program is run in, and removed at the end. The program prints how many questions it
-//! asked, and each that was answered otherwise.
+//! bytes themselves. One file grows, shrinks and is replaced meanwhile. Which files `System` keeps
+//! open is seen where all are replaced: those that it keeps are told to be as long as they were.
+//!
+//! The files are made in the folder that the program is run in, and removed at the end. The program
+//! prints how many questions it asked, and each that was answered otherwise.
 #![tactic(auto)]
 
 ghost use Rattle.std.specs.Prelude.{◌<◌};
@@ -22,10 +24,72 @@ const CHANGED: &str = "changed.bin";
 /// Another file, which has three bytes.
 const SMALL: &str = "small.bin";
 
+/// The files of which some are kept open.
+const CROWD: [&str; 4] = ["one.bin", "two.bin", "three.bin", "four.bin"];
+
+/// Which files are kept open.
+#[derive(Drop)]
+struct KeptRow {
+    /// How many are, at most.
+    most: usize,
+    /// The order in which they are used.
+    used: &'static [&'static str],
+    /// Those that are kept open then.
+    kept: &'static [&'static str],
+}
+
+static KEPT_ROWS: [KeptRow; 7] = [
+    KeptRow {
+        most: 0,
+        used: &["one.bin", "two.bin"],
+        kept: &["two.bin"],
+    },
+    KeptRow {
+        most: 1,
+        used: &["one.bin", "two.bin", "two.bin"],
+        kept: &["two.bin"],
+    },
+    KeptRow {
+        most: 2,
+        used: &["one.bin", "two.bin"],
+        kept: &["one.bin", "two.bin"],
+    },
+    KeptRow {
+        most: 2,
+        used: &["one.bin", "two.bin", "three.bin"],
+        kept: &["two.bin", "three.bin"],
+    },
+    KeptRow {
+        most: 2,
+        used: &["one.bin", "two.bin", "one.bin", "three.bin"],
+        kept: &["one.bin", "three.bin"],
+    },
+    KeptRow {
+        most: 3,
+        used: &[
+            "one.bin",
+            "two.bin",
+            "three.bin",
+            "two.bin",
+            "one.bin",
+            "four.bin",
+        ],
+        kept: &["one.bin", "two.bin", "four.bin"],
+    },
+    KeptRow {
+        most: 16,
+        used: &["one.bin", "two.bin", "three.bin", "four.bin"],
+        kept: &["one.bin", "two.bin", "three.bin", "four.bin"],
+    },
+];
+
 /// Lengths of the file, and offsets in each file: around nothing, a sector, a page, and 32 bits.
 const LENGTHS: [u64; 12] = [
     0, 1, 2, 511, 512, 513, 4095, 4096, 4097, 1048576, 4294967295, 4294967297,
 ];
+
+/// More bytes than a file of the crowd has.
+const ENOUGH: u64 = 9;
 
 /// Up to how many bytes are asked for.
 const MOST: [u64; 6] = [1, 2, 512, 4096, 4294967296, u64::MAX];
@@ -94,11 +158,17 @@ impl<'a> Comparison<'a> {
         let first = self.asked / KINDS;
         for step in 0..KINDS {
             let kind = first.wrapping_add(step) % KINDS;
-            self.asked = self.asked.saturating_add(1);
-            if !self.answers_same(kind, path, offset, most) {
-                self.different = self.different.saturating_add(1);
-                let _ = println!(self.rt; "{path}, {most} bytes at {offset}: answered otherwise");
-            }
+            let is_same = self.answers_same(kind, path, offset, most);
+            self.count(is_same, path, offset, most);
+        }
+    }
+
+    /// Counts a question.
+    fn count(&mut self, is_same: bool, path: &str, offset: u64, most: u64) {
+        self.asked = self.asked.saturating_add(1);
+        if !is_same {
+            self.different = self.different.saturating_add(1);
+            let _ = println!(self.rt; "{path}, {most} bytes at {offset}: answered otherwise");
         }
     }
 
@@ -167,14 +237,67 @@ impl<'a> Comparison<'a> {
         }
     }
 
+    /// Asks about each file of a crowd whether it is kept open, as the rows say.
+    fn ask_kept(&mut self) -> io::Result<()> {
+        for row in &KEPT_ROWS {
+            for path in CROWD {
+                let right = if row.kept.contains(&path) { 1 } else { 2 };
+                let told = told_length(self.rt, row, path)?;
+                self.count(told == right, path, 0, ENOUGH);
+            }
+        }
+        Ok(())
+    }
+
+    /// Asks about a file that was open when `System` itself replaced it.
+    fn ask_finished(&mut self) -> io::Result<()> {
+        make_crowd(self.rt, 1)?;
+        let path = CROWD[0];
+        let mut host = System::new(self.rt);
+        host.data_at(path, 0, ENOUGH);
+        let target = host.create(path, 2, true)?;
+        host.finish(path, target)?;
+        self.count(host.data_at(path, 0, ENOUGH) == 2, path, 0, ENOUGH);
+        Ok(())
+    }
+
     /// Asks all questions.
     fn ask_each(&mut self) -> io::Result<()> {
         self.ask_lengths()?;
         self.ask_replaced()?;
         self.ask_random()?;
         self.ask_others();
-        fs::remove_file(self.rt, CHANGED)
+        fs::remove_file(self.rt, CHANGED)?;
+        self.ask_kept()?;
+        self.ask_finished()?;
+        for path in CROWD {
+            fs::remove_file(self.rt, path)?;
+        }
+        Ok(())
     }
+}
+
+/// Makes each file of the crowd anew, of that length.
+fn make_crowd(rt: &HostRuntime, length: u64) -> io::Result<()> {
+    for path in CROWD {
+        if fs::exists(rt, path)? {
+            fs::remove_file(rt, path)?;
+        }
+        File::create(rt, path)?.set_len(length)?;
+    }
+    Ok(())
+}
+
+/// How long a file of the crowd is told to be. All have one byte while they are used in the row's
+/// order. Files of two bytes replace them then.
+fn told_length(rt: &HostRuntime, row: &KeptRow, path: &str) -> io::Result<u64> {
+    make_crowd(rt, 1)?;
+    let host = System::with_most_open(rt, row.most);
+    for used in row.used {
+        host.data_at(used, 0, ENOUGH);
+    }
+    make_crowd(rt, 2)?;
+    Ok(host.data_at(path, 0, ENOUGH))
 }
 
 fn main(rt: HostRuntime) -> ExitCode {
