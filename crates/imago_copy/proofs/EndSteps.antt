@@ -61,13 +61,32 @@ module _ {D St : Type 0} (view : D → View St) where
       let same : leads_of (backing x) q ≡ target view y q = ap (λ (z : Option (FormatAccess D)). leads_of z q) is in
       h q b o w (ap (λ (t : Target). t.depth) (sym same) ∙ d) (ap (λ (t : Target). t.place) (sym same) ∙ e) past
 
-  -- the same of an end that may be told
-  pub told_below : (x y : FormatAccess D) (depth storage : ℕ) (told : Option ℕ) → 0 < depth → backing x ≡ Some y
-      → IfSome told (IsEndOf (target view y) (depth - 1) storage) → IfSome told (IsEndOf (target view x) depth storage)
-  told_below x y depth storage None some is h = tt
-  told_below x y depth storage (Some n) some is h =
-      let deeper : suc (depth - 1) ≡ depth = omega (arith, some) in
-      subst (λ (d : ℕ). IsEndOf (target view x) d storage n) deeper (end_below x y (depth - 1) storage n is h)
+  -- a layer lies that many layers below an image: where a storage ends for it, or for one further
+  -- down, there it ends for the image
+  abbrev pub LiesBelow : FormatAccess D → ℕ → FormatAccess D → Type 0
+  LiesBelow x depth y = (k storage n : ℕ) → IsEndOf (target view y) k storage n → IsEndOf (target view x) (depth + k) storage n
+
+  pub lies_here : (x : FormatAccess D) → LiesBelow x 0 x
+  lies_here x k storage n h =
+      let same : k ≡ 0 + k = omega arith in
+      subst (λ (d : ℕ). IsEndOf (target view x) d storage n) same h
+
+  pub lies_lower : (x y z : FormatAccess D) (depth : ℕ) → backing y ≡ Some z → LiesBelow x depth y → LiesBelow x (depth + 1) z
+  lies_lower x y z depth is h k storage n e =
+      let lower = h (suc k) storage n (end_below y z k storage n is e) in
+      let same : depth + suc k ≡ depth + 1 + k = omega arith in
+      subst (λ (d : ℕ). IsEndOf (target view x) d storage n) same lower
+
+  pub lies_at : (x y : FormatAccess D) (depth done : ℕ) → done ≤ depth → depth ≤ done → LiesBelow x done y
+      → (storage n : ℕ) → IsEndOf (target view y) 0 storage n → IsEndOf (target view x) depth storage n
+  lies_at x y depth done within reached h storage n e =
+      let same : done + 0 ≡ depth = omega (arith, within, reached) in
+      subst (λ (d : ℕ). IsEndOf (target view x) d storage n) same (h 0 storage n e)
+
+  pub told_at : (x y : FormatAccess D) (depth storage : ℕ) (told : Option ℕ) → ((storage n : ℕ) → IsEndOf (target view y) 0 storage n → IsEndOf (target view x) depth storage n)
+      → IfSome told (IsEndOf (target view y) 0 storage) → IfSome told (IsEndOf (target view x) depth storage)
+  told_at x y depth storage None lies h = tt
+  told_at x y depth storage (Some n) lies h = lies storage n h
 
 module _ {D St : Type 0} (view : D → View St) (lawful : (d : D) → IsLawful (view d)) where
   -- a storage of the top layer ends where its bytes do

@@ -10,22 +10,48 @@ use imago_access::access::FormatAccess;
 use imago_drivers::drivers::FormatDriverInstance;
 use imago_storage::storage::Storage;
 
-/// The length of a storage of that many layers below the top, if it can be told.
-fn storage_end<D: FormatDriverInstance>(
+/// The layer that many layers below the top, if the chain goes as far. A storage of it ends for the
+/// whole chain where it ends for the layer itself.
+fn layer_at<D: FormatDriverInstance>(
+    image: &FormatAccess<D>,
+    depth: usize,
+) -> Option<&FormatAccess<D>>
+    ensures { IfSome result (λ layer. (storage n : ℕ)
+        → IsEndOf (target D.view layer.now) 0 storage n
+        → IsEndOf (target D.view image.now) depth storage n) }
+{
+    let mut layer = image;
+    let mut done: usize = 0;
+    while done < depth {
+        match layer.backing() {
+            Some(below) => layer = below,
+            None => return None,
+        }
+        done += 1;
+    }
+    Some(layer)
+}
+
+/// The length of a storage of the top layer, if it can be told.
+fn storage_end<D: FormatDriverInstance>(image: &FormatAccess<D>, storage: usize) -> Option<u64>
+    ensures { IfSome result (IsEndOf (target D.view image.now) 0 storage) }
+{
+    match image.inner().storage(storage) {
+        Some(storage) => storage.size().ok(),
+        None => None,
+    }
+}
+
+/// The length of a storage of the layer of that depth, if it can be told.
+fn end_at<D: FormatDriverInstance>(
     image: &FormatAccess<D>,
     depth: usize,
     storage: usize,
 ) -> Option<u64>
     ensures { IfSome result (IsEndOf (target D.view image.now) depth storage) }
 {
-    if depth > 0 {
-        return match image.backing() {
-            Some(below) => storage_end(below, depth - 1, storage),
-            None => None,
-        };
-    }
-    match image.inner().storage(storage) {
-        Some(storage) => storage.size().ok(),
+    match layer_at(image, depth) {
+        Some(layer) => storage_end(layer, storage),
         None => None,
     }
 }
@@ -46,7 +72,7 @@ pub(crate) fn data_count<D: FormatDriverInstance>(image: &FormatAccess<D>, run: 
             layer,
             storage,
             offset,
-        } if layer < usize::MAX => match storage_end(image, layer, storage) {
+        } if layer < usize::MAX => match end_at(image, layer, storage) {
             Some(end) => run.count.min(end.saturating_sub(offset)),
             None => run.count,
         },
