@@ -1,0 +1,9 @@
+pub mod ShownBytes
+pub mod OverSteps
+pub mod PathSteps
+pub mod LayerSteps
+pub mod NameSteps
+pub mod ChainSteps
+pub mod ExtentSteps
+pub mod PartSteps
+pub mod VmdkSteps

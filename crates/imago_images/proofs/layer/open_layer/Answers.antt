@@ -1,0 +1,65 @@
+use Rattle.imago_any_driver.specs.AnyDriver.{view_over}
+use Rattle.imago_images.proofs.PathSteps.{features_of, faults_of, bytes_of}
+use Rattle.imago_images.proofs.PartSteps.{driver_in, below_in, path_in, format_in}
+use Rattle.imago_images.proofs.LayerSteps.{raw_told, qcow2_told, vmdk_told, qcow2_said, alone_said}
+use Rattle.imago_images.proofs.layer.open_layer.Goals as goal
+
+pub returns-in-Raw-clause-layer : goal.returns-in-Raw-clause-layer
+returns-in-Raw-clause-layer g c =
+    let contents = g.H.Files.contents in
+    let file = c.args.file in
+    raw_told (view_over (features_of contents) faults_of (bytes_of contents)) (features_of contents) (bytes_of contents)
+    c.args.how.strict c.args.how.allow_outside (contents c.args.host.now) c.args.path.now file c.raw_layer.result
+    driver_in below_in path_in format_in
+    c.requires.told
+    c.args.format c.in-Raw.is c.raw_layer.ensures.alone c.raw_layer.ensures.driver
+
+pub returns-in-Qcow2-clause-layer : goal.returns-in-Qcow2-clause-layer
+returns-in-Qcow2-clause-layer g c =
+    let contents = g.H.Files.contents in
+    let file = c.args.file in
+    qcow2_told (view_over (features_of contents) faults_of (bytes_of contents)) (features_of contents) (bytes_of contents)
+    c.args.how.strict c.args.how.allow_outside (contents c.args.host.now) c.args.path.now file c.qcow2_layer.result
+    driver_in below_in path_in format_in
+    c.requires.told
+    c.args.format c.in-Qcow2.is c.qcow2_layer.ensures.driver c.qcow2_layer.ensures.below
+
+pub returns-in-Vmdk-clause-layer : goal.returns-in-Vmdk-clause-layer
+returns-in-Vmdk-clause-layer g c =
+    let contents = g.H.Files.contents in
+    let file = c.args.file in
+    vmdk_told (view_over (features_of contents) faults_of (bytes_of contents)) (features_of contents) (bytes_of contents)
+    c.args.how.strict c.args.how.allow_outside (contents c.args.host.now) c.args.path.now file c.vmdk_layer.result
+    driver_in below_in path_in format_in
+    c.requires.told
+    c.args.format c.in-Vmdk.is c.vmdk_layer.ensures.alone c.vmdk_layer.ensures.layer
+
+pub returns-in-Raw-clause-format : goal.returns-in-Raw-clause-format
+returns-in-Raw-clause-format g c =
+    let contents = g.H.Files.contents in
+    let file = c.args.file in
+    alone_said (view_over (features_of contents) faults_of (bytes_of contents)) (features_of contents) (bytes_of contents)
+    c.args.how.strict c.args.how.allow_outside (contents c.args.host.now) c.args.path.now file c.raw_layer.result
+    driver_in below_in path_in format_in
+    c.requires.told
+    c.raw_layer.ensures.alone
+
+pub returns-in-Vmdk-clause-format : goal.returns-in-Vmdk-clause-format
+returns-in-Vmdk-clause-format g c =
+    let contents = g.H.Files.contents in
+    let file = c.args.file in
+    alone_said (view_over (features_of contents) faults_of (bytes_of contents)) (features_of contents) (bytes_of contents)
+    c.args.how.strict c.args.how.allow_outside (contents c.args.host.now) c.args.path.now file c.vmdk_layer.result
+    driver_in below_in path_in format_in
+    c.requires.told
+    c.vmdk_layer.ensures.alone
+
+pub returns-in-Qcow2-clause-format : goal.returns-in-Qcow2-clause-format
+returns-in-Qcow2-clause-format g c =
+    let contents = g.H.Files.contents in
+    let file = c.args.file in
+    qcow2_said (view_over (features_of contents) faults_of (bytes_of contents)) (features_of contents) (bytes_of contents)
+    c.args.how.strict c.args.how.allow_outside (contents c.args.host.now) c.args.path.now file c.qcow2_layer.result
+    driver_in below_in path_in format_in
+    c.requires.told
+    c.qcow2_layer.ensures.format

@@ -1,0 +1,16 @@
+-- What a VMDK descriptor says of its extents' files and of its disk's size.
+use Rattle.std.specs.Prelude.{ℕ, List, [], ◌∷◌, Result, Ok, Err}
+use Rattle.imago_storage.specs.declared.error.Error.{Error}
+use Rattle.imago_vmdk.specs.declared.line.Extent.{Extent}
+
+-- the names of FLAT extents, in order
+abbrev pub flat_names : List (Extent (List ℕ)) → List (List ℕ)
+flat_names [] = []
+flat_names (Extent.Zero sectors ∷ extents) = flat_names extents
+flat_names (Extent.NoAccess sectors ∷ extents) = flat_names extents
+flat_names (Extent.Flat sectors name offset writable ∷ extents) = name ∷ flat_names extents
+
+-- the size of the disk that a descriptor describes, by what was read of it
+abbrev pub size_read : Result (List (Extent (List ℕ)) × ℕ) Error → ℕ
+size_read (Ok disk) = disk.1
+size_read (Err e) = 0

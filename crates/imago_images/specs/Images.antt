@@ -1,0 +1,82 @@
+-- What the image of a file is, layer by layer, by the bytes of the files.
+use Rattle.std.specs.Prelude.{◌≡◌, ℕ, Bool, not, List, [], ◌∷◌, map, Option, Some, None, length, Ok}
+use Rattle.std.specs.Prelude.{slice_index_or}
+use Rattle.imago_drivers.specs.Place.{Place}
+use Rattle.imago_drivers.specs.Raw.{raw_place}
+use Rattle.imago_drivers.specs.View.{View}
+use Rattle.imago_access.specs.declared.access.FormatAccess.{FormatAccess}
+use Rattle.imago_vmdk.specs.declared.line.Extent.{Extent}
+use Rattle.imago_vmdk.specs.Reading.{reading_of}
+use Rattle.imago_vmdk.specs.Disk.{described_place}
+use Rattle.imago_qcow2.specs.Entry.{qcow2_place}
+use Rattle.imago_file.specs.Names.{path_beside}
+use Rattle.imago_images.specs.declared.format.ImageFormat.{ImageFormat}
+use Rattle.imago_images.specs.declared.format.ImageFormat.TheVariants.{Raw, Vmdk, Qcow2}
+use Rattle.imago_images.specs.Formats.{IsFormatBelow}
+use Rattle.imago_images.specs.Extents.{flat_names}
+use Rattle.imago_images.specs.Layers.{SaysBacking, size_by, IsDriverOf, ShowsLayers}
+use Rattle.imago_images.specs.Gate.{IsLetThrough, AreLetThrough}
+
+-- The path of the file below a qcow2 file that has that path and these bytes, if there is one: the
+-- name that they have stands for it.
+abbrev pub LeadsTo : List ℕ → List ℕ → Option (List ℕ) → Type 0
+LeadsTo bytes path None = SaysBacking bytes None
+LeadsTo bytes path (Some next) =
+    (name : List ℕ) × SaysBacking bytes (Some name) × (next ≡ path_beside path name)
+
+-- the paths of the files that extents of these names stand in
+abbrev pub extent_paths : List ℕ → List (Extent (List ℕ)) → List (List ℕ)
+extent_paths path extents = map (path_beside path) (flat_names extents)
+
+-- what the i-th of the files of these paths has
+abbrev pub bytes_in : (List ℕ → List ℕ) → List (List ℕ) → ℕ → List ℕ
+bytes_in files paths i = slice_index_or (map files paths) i []
+
+-- A layer that the file of a path is, in that format: what stands at each offset of its disk, and
+-- the path of the file below it, if there is one. Nothing is below a VMDK image, whose descriptor
+-- names the files of its FLAT extents.
+abbrev pub IsLayer :
+    Bool → Bool → (List ℕ → List ℕ) → List ℕ → ImageFormat → (ℕ → Place) → Option (List ℕ) → Type 0
+IsLayer strict allow files path Raw place next =
+    (place ≡ raw_place (length (files path)) (files path)) × (next ≡ None)
+IsLayer strict allow files path Qcow2 place next =
+    (place ≡ qcow2_place (files path)) × LeadsTo (files path) path next
+IsLayer strict allow files path Vmdk place next =
+    (extents : List (Extent (List ℕ))) × (size : ℕ)
+    × (reading_of (not strict) (files path) ≡ Ok (extents, size))
+    × AreLetThrough allow path (extent_paths path extents)
+    × (place ≡ described_place (not strict) (bytes_in files (path ∷ extent_paths path extents)))
+    × (next ≡ None)
+
+-- A chain goes on with the file of the next path, and those below it, or ends.
+abbrev pub GoesOn : Option (List ℕ) → List (ℕ → Place) → (List ℕ → Type 0) → Type 0
+GoesOn None below rest = below ≡ []
+GoesOn (Some next) below rest = rest next
+
+-- The layers of an image whose file has that path and that format, the top one first. Each lower
+-- file is let through by the one above it, and has the format that this one says, or else its own
+-- first bytes.
+abbrev pub AreLayers :
+    Bool → Bool → (List ℕ → List ℕ) → List ℕ → ImageFormat → List (ℕ → Place) → Type 0
+AreLayers strict allow files path format [] = ⊥
+AreLayers strict allow files path format (place ∷ below) =
+    (next : Option (List ℕ)) × IsLayer strict allow files path format place next
+    × GoesOn next below (λ p. IsLetThrough allow path p
+    × ((lower : ImageFormat) × IsFormatBelow (files path) (files p) lower
+    × AreLayers strict allow files p lower below))
+
+-- a driver is that layer, and shows it
+abbrev pub IsLayerOf :
+    {D St : Type 0} → (D → View St) → Bool → Bool → (List ℕ → List ℕ) → List ℕ → ImageFormat → D
+    → Option (List ℕ) → Type 0
+IsLayerOf view strict allow files path format inner next =
+    (place : ℕ → Place) × IsLayer strict allow files path format place next
+    × IsDriverOf view (size_by strict format (files path)) place inner
+
+-- an image is that of the file of a path, which has that format: it shows the layers of the files
+abbrev pub IsImageIn :
+    {D St : Type 0} → (D → View St) → Bool → Bool → (List ℕ → List ℕ) → List ℕ → ImageFormat
+    → FormatAccess D → Type 0
+IsImageIn view strict allow files path format x =
+    (layers : List (ℕ → Place)) × AreLayers strict allow files path format layers
+    × ShowsLayers view x (size_by strict format (files path)) layers

@@ -1,0 +1,46 @@
+-- What a layer's file says of its disk's size and of the file below it, and what layers show.
+use Rattle.std.specs.Prelude.{◌≡◌, ℕ, ◌<◌, ◌⊎◌, Bool, not, List, [], ◌∷◌, Option, Some, None}
+use Rattle.std.specs.Prelude.{length, IsTrue}
+use Rattle.imago_drivers.specs.Place.{Place, Value, Byte, shown}
+use Rattle.imago_drivers.specs.View.{View}
+use Rattle.imago_access.specs.declared.access.FormatAccess.{FormatAccess}
+use Rattle.imago_access.specs.Chain.{driver, disk_value, tells_bytes}
+use Rattle.imago_vmdk.specs.Reading.{reading_of}
+use Rattle.imago_qcow2.specs.Numbers.{be32, be64}
+use Rattle.imago_qcow2.specs.Entry.{disk_size}
+use Rattle.imago_plan.specs.PieceBytes.{bytes_at}
+use Rattle.imago_images.specs.declared.format.ImageFormat.{ImageFormat}
+use Rattle.imago_images.specs.declared.format.ImageFormat.TheVariants.{Raw, Vmdk, Qcow2}
+use Rattle.imago_images.specs.Extents.{size_read}
+
+-- the name of the file below it that a qcow2 file has, if it has one: no bytes are no name
+abbrev pub SaysBacking : List ℕ → Option (List ℕ) → Type 0
+SaysBacking bytes None = (be64 bytes 8 ≡ 0) ⊎ (be32 bytes 16 ≡ 0)
+SaysBacking bytes (Some name) =
+    (0 < be64 bytes 8) × (0 < be32 bytes 16)
+    × (name ≡ bytes_at bytes (be64 bytes 8) (be32 bytes 16))
+
+-- what a read of each offset gives of the disk of layers, the top one first: below the last one all
+-- is zero
+abbrev pub layers_value : List (ℕ → Place) → ℕ → Value
+layers_value [] p = Byte 0
+layers_value (place ∷ below) p = shown (layers_value below) (place p)
+
+-- the size of the disk that a layer's file has, in that format
+abbrev pub size_by : Bool → ImageFormat → List ℕ → ℕ
+size_by strict Raw bytes = length bytes
+size_by strict Qcow2 bytes = disk_size bytes
+size_by strict Vmdk bytes = size_read (reading_of (not strict) bytes)
+
+-- a driver of a disk of that size tells its bytes, and has these places
+abbrev pub IsDriverOf : {D St : Type 0} → (D → View St) → ℕ → (ℕ → Place) → D → Type 0
+IsDriverOf view size place inner =
+    ((view inner).size ≡ size) × IsTrue (view inner).abilities.tells_bytes
+    × ((p : ℕ) → (view inner).place p ≡ place p)
+
+-- an image tells its bytes, has a disk of that size, and shows these layers, the top one first
+abbrev pub ShowsLayers :
+    {D St : Type 0} → (D → View St) → FormatAccess D → ℕ → List (ℕ → Place) → Type 0
+ShowsLayers view x size layers =
+    IsTrue (tells_bytes view x) × ((view (driver x)).size ≡ size)
+    × ((p : ℕ) → disk_value view x p ≡ layers_value layers p)

@@ -1,0 +1,117 @@
+//! Why an image isn't opened.
+ghost use Rattle.std.specs.Prelude.{◌≡◌, MatchResult, IsErr};
+
+use imago_qcow2::fault::HeaderFault;
+use imago_storage::error;
+use std::alloc::{AllocError, AllocFailed, Global};
+use std::io;
+use thiserror::Error;
+
+/// Why an image isn't opened. It is printed as one line.
+#[derive(Debug, Drop, Error)]
+pub enum OpenError {
+    /// A file can't be used.
+    #[error("{path:?}: {reason}")]
+    OfFile {
+        /// The path of the file, as it was opened.
+        path: String,
+        /// Why.
+        reason: Reason,
+    },
+    /// An allocation failed. Nothing is open.
+    #[error("out of memory")]
+    Memory,
+}
+
+/// Why a file can't be used. Nothing was written to any file, and none stays open.
+#[derive(Debug, Drop, Error)]
+pub enum Reason {
+    /// The system refused to look at the file, or to read it, and this is its answer.
+    #[error("{0}")]
+    System(io::Error),
+    /// The driver of the image's format refused it.
+    #[error("{0}")]
+    Image(error::Error),
+    /// A qcow2 image whose header has this fault.
+    #[error("{0}")]
+    Header(HeaderFault),
+    /// A VMDK image of another kind than a text descriptor with extents.
+    #[error("a sparse VMDK image, which isn't supported")]
+    Sparse,
+    /// A qcow2 image whose backing file of that name isn't beside it, nor below.
+    #[error("its backing file {0:?} isn't in its folder")]
+    BackingOutside(String),
+    /// A qcow2 image which says that its backing file has this format.
+    #[error("its backing file has the format {0:?}, which isn't supported")]
+    BackingFormat(String),
+    /// A backing file that stands above itself in the chain of these paths.
+    #[error("backing files lead in a circle: {0}")]
+    Loop(String),
+    /// A chain of more than 200 files, which begins with these paths.
+    #[error("more than 200 files stand one below the other: {0}")]
+    TooManyBelow(String),
+    /// A descriptor whose extent of that name isn't beside it, nor below.
+    #[error("its extent {0:?} isn't in the descriptor's folder")]
+    Outside(String),
+    /// What has no bytes at offsets: a folder, a pipe, a socket, a terminal.
+    #[error("neither a regular file nor a block device")]
+    NotAFile,
+}
+
+impl Reason {
+    /// Whether a driver answers that memory was refused.
+    fn is_memory(&self) -> bool {
+        matches!(self, Reason::Image(error::Error::Memory))
+    }
+}
+
+impl OpenError {
+    /// The system's answer for a file, or why the file can't be used.
+    pub fn or_system<T>(alloc: Global, path: &str, answer: io::Result<T>) -> Result<T, OpenError>
+        ensures { MatchResult answer (λ x. result ≡ Ok x) (λ _. IsErr result) }
+    {
+        match answer {
+            Ok(found) => Ok(found),
+            Err(cause) => Err(OpenError::of_file(alloc, path, Reason::System(cause))),
+        }
+    }
+
+    /// A driver's answer for an image's file, or why the file can't be used.
+    pub fn or_image<T>(
+        alloc: Global,
+        path: &str,
+        answer: Result<T, error::Error>,
+    ) -> Result<T, OpenError>
+        ensures { MatchResult answer (λ x. result ≡ Ok x) (λ _. IsErr result) }
+    {
+        match answer {
+            Ok(found) => Ok(found),
+            Err(cause) => Err(OpenError::of_file(alloc, path, Reason::Image(cause))),
+        }
+    }
+
+    /// The file of that path can't be used, for that reason. Where memory was refused, or there is
+    /// none for the path, it is [`OpenError::Memory`].
+    pub fn of_file(alloc: Global, path: &str, reason: Reason) -> OpenError {
+        if reason.is_memory() {
+            return OpenError::Memory;
+        }
+        match String::from_str(alloc, path) {
+            Ok(path) => OpenError::OfFile { path, reason },
+            Err(_) => OpenError::Memory,
+        }
+    }
+}
+
+impl From<AllocError> for OpenError {
+    fn from(_refused: AllocError) -> OpenError {
+        OpenError::Memory
+    }
+}
+
+impl<T: Drop> From<AllocFailed<T>> for OpenError {
+    fn from(refused: AllocFailed<T>) -> OpenError {
+        let _ = refused;
+        OpenError::Memory
+    }
+}

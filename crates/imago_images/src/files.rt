@@ -1,0 +1,56 @@
+//! Files that are found and read by their paths.
+ghost use Rattle.std.specs.Prelude.{◌≡◌, ℕ, List, Option, OnOk, IfOk, IfSome, length};
+ghost use Rattle.imago_plan.specs.PieceBytes.{bytes_at};
+
+use std::alloc::Global;
+use std::io;
+
+/// What a path leads to.
+#[derive(Clone, Copy, PartialEq, Eq)]
+pub enum FileKind {
+    /// A regular file.
+    Regular,
+    /// A block device.
+    BlockDevice,
+    /// What has no bytes at offsets: a folder, a pipe, a socket, a terminal.
+    Other,
+}
+
+/// What a file is, beside its bytes.
+#[derive(Clone, Copy)]
+pub struct FileStatus {
+    /// What it is.
+    pub kind: FileKind,
+    /// How many bytes it has.
+    pub length: u64,
+    /// The device that it stands on.
+    pub device: u64,
+    /// Its number there: files with the same device and number are one.
+    pub inode: u64,
+}
+
+/// Files that are found and read by their paths. This is all that opening an image and reading it
+/// asks of a host.
+pub trait Files {
+    /// The bytes of each file, by its path, where an implementation says them. No contract says
+    /// what the system's files hold.
+    ghost contents: { Self → Option (List ℕ → List ℕ) };
+
+    /// Where an image takes its memory.
+    fn alloc(&self) -> Global;
+
+    /// What the file is that the path leads to.
+    fn status(&self, path: &str) -> io::Result<FileStatus>
+        ensures { IfOk result
+            (λ s. IfSome (contents self.now) (λ files. s.length ≡ length (files path.now))) };
+
+    /// Fills the buffer with the file's bytes from the offset on, with 0 past its end. The offset
+    /// is in bytes. Refused, the buffer is unspecified.
+    fn read_at(&self, path: &str, buf: &mut [u8], offset: u64) -> io::Result<()>
+        ensures { OnOk result
+            (IfSome (contents self.now)
+            (λ files. buf.new ≡ bytes_at (files path.now) «offset» (length buf.new))) };
+
+    /// The path that it is without links and relative parts.
+    fn real_path(&self, path: &str) -> io::Result<String>;
+}

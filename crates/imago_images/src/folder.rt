@@ -1,0 +1,60 @@
+//! The folder of an image, and the links that lead out of it.
+
+use crate::failure::OpenError;
+use crate::files::Files;
+use std::io::{self, ErrorKind};
+use std::path::Path;
+
+/// The folder of an image's file, and whether files outside of it are looked at.
+#[derive(Drop)]
+pub struct Folder<'a> {
+    /// The image's path.
+    image: &'a str,
+    /// The folder's path without links, where only files in it are looked at.
+    bounds: Option<String>,
+}
+
+impl<'a> Folder<'a> {
+    /// The folder of the image of that path. Where files outside may be looked at, the host isn't
+    /// asked; otherwise it may refuse to tell the folder's path without links.
+    pub fn of<H: Files>(host: &H, image: &'a str, allow_outside: bool) -> Result<Self, OpenError> {
+        if allow_outside {
+            return Ok(Folder {
+                image,
+                bounds: None,
+            });
+        }
+        let folder = match Path::new(image).parent() {
+            Some(folder) if !folder.as_str().is_empty() => folder.as_str(),
+            _ => ".",
+        };
+        let real = OpenError::or_system(host.alloc(), folder, host.real_path(folder))?;
+        Ok(Folder {
+            image,
+            bounds: Some(real),
+        })
+    }
+
+    /// The image's path.
+    pub fn image(&self) -> &'a str {
+        self.image
+    }
+
+    /// Whether only files in the folder, and below it, are looked at.
+    pub fn is_bounded(&self) -> bool {
+        self.bounds.is_some()
+    }
+
+    /// Whether a link leads a path out of the folder, where that isn't permitted. A path that leads
+    /// nowhere doesn't.
+    pub fn leaves<H: Files>(&self, host: &H, path: &str) -> io::Result<bool> {
+        let Some(bounds) = &self.bounds else {
+            return Ok(false);
+        };
+        match host.real_path(path) {
+            Ok(real) => Ok(!Path::new(&real).starts_with(bounds.as_str())),
+            Err(cause) if cause.kind() == ErrorKind::NotFound => Ok(false),
+            Err(cause) => Err(cause),
+        }
+    }
+}

@@ -1,0 +1,291 @@
+//! A layer by itself: a file in a format, and the name of the file below it.
+ghost use Rattle.std.specs.Prelude.{◌≡◌, ℕ, List, None, Some, IfOk, IfSome, IsTrue, length, option_map};
+ghost use Rattle.std.specs.String.{string_bytes};
+ghost use Rattle.imago_drivers.specs.Raw.{raw_place};
+ghost use Rattle.imago_qcow2.specs.Entry.{disk_size, qcow2_place};
+ghost use Rattle.imago_images.specs.HostBytes.{HasBytes};
+ghost use Rattle.imago_images.specs.Layers.{IsDriverOf};
+ghost use Rattle.imago_images.specs.Images.{IsLayerOf, LeadsTo};
+ghost use Rattle.imago_images.specs.Layers.{SaysBacking};
+ghost use Rattle.imago_file.specs.Names.{path_beside as path_beside_file};
+ghost use Rattle.imago_qcow2.specs.Qcow2Image.{storage_in};
+ghost use Rattle.imago_images.specs.declared.format.ImageFormat.TheVariants as Of;
+ghost use Rattle.imago_images.specs.Formats.{SaysFormat, IsFormatBy};
+
+use crate::failure::{OpenError, Reason};
+use crate::file::PathStorage;
+use crate::files::Files;
+use crate::format::{ImageFormat, guess};
+use crate::gate::FolderGate;
+use crate::opening::Opening;
+use imago_any_driver::any::AnyDriver;
+use imago_drivers::builder::FormatDriverBuilder;
+use imago_drivers::drivers::FormatDriverInstance;
+use imago_drivers::raw::Raw;
+use imago_file::file::FileStorage;
+use imago_file::host::HostFile;
+use imago_file::name::path_beside;
+use imago_qcow2::laws::image_of_bytes;
+use imago_qcow2::layout::l1_table;
+use imago_qcow2::qcow2::Qcow2;
+use imago_storage::error::Error;
+use imago_storage::ext::StorageExt;
+use imago_storage::storage::Storage;
+use imago_vmdk::laws::places_of_bytes;
+use imago_vmdk::vmdk::Vmdk;
+use std::alloc::Global;
+
+/// The file below a layer.
+#[derive(Drop)]
+pub struct Below {
+    pub path: String,
+    /// Its format, where the layer says it.
+    pub format: Option<ImageFormat>,
+}
+
+/// A layer, and the file below it, if there is one.
+#[derive(Drop)]
+pub struct Layer<S: Storage> {
+    pub driver: AnyDriver<S>,
+    pub below: Option<Below>,
+}
+
+/// Opens a file as a layer of that format.
+pub fn open_layer<'a, H: Files>(
+    host: &'a H,
+    path: &str,
+    file: PathStorage<'a, H>,
+    format: ImageFormat,
+    how: Opening,
+) -> Result<Layer<PathStorage<'a, H>>, OpenError>
+    requires told { IfSome (H.contents host.now)
+        (λ files. HasBytes ⟦<PathStorage<'a, H> as Storage>⟧.features
+        ⟦<PathStorage<'a, H> as Storage>⟧.bytes (files path.now) file) }
+    requires path { (⟦<PathStorage<'a, H> as Storage>⟧.features file).filename ≡ Some path.now }
+    ensures layer { IfOk result (λ l. IfSome (H.contents host.now)
+        (λ files. IsLayerOf ⟦<AnyDriver<PathStorage<'a, H>> as FormatDriverInstance>⟧.view
+        how.strict how.allow_outside files path.now format l.driver
+        (option_map (λ b. string_bytes b.path) l.below))) }
+    ensures format { IfOk result (λ l. IfSome (H.contents host.now)
+        (λ files. IfSome l.below (λ b. SaysFormat (files path.now) b.format))) }
+{
+    match format {
+        ImageFormat::Raw => raw_layer(host.alloc(), path, file),
+        ImageFormat::Qcow2 => qcow2_layer(host, path, file),
+        ImageFormat::Vmdk => vmdk_layer(host, path, file, how),
+    }
+}
+
+fn raw_layer<S: Storage>(alloc: Global, path: &str, file: S) -> Result<Layer<S>, OpenError>
+    ensures alone { IfOk result (λ l. l.below ≡ None) }
+    ensures driver { (bytes : List ℕ) → HasBytes S.features S.bytes bytes file → IfOk result (λ l.
+        IsDriverOf ⟦<AnyDriver<S> as FormatDriverInstance>⟧.view (length bytes)
+        (raw_place (length bytes) bytes) l.driver) }
+{
+    let raw = OpenError::or_image(alloc, path, Raw::open_image(file, false))?;
+    Ok(Layer {
+        driver: AnyDriver::Raw(raw),
+        below: None,
+    })
+}
+
+/// The layer of a qcow2 image.
+fn layer_in_qcow2<S: Storage>(
+    alloc: Global,
+    path: &str,
+    qcow2: Qcow2<S>,
+) -> Result<Layer<S>, OpenError>
+    ensures driver { (bytes : List ℕ) → HasBytes S.features S.bytes bytes (storage_in qcow2)
+        → IfOk result (λ l. IsDriverOf ⟦<AnyDriver<S> as FormatDriverInstance>⟧.view
+        (disk_size bytes) (qcow2_place bytes) l.driver) }
+    ensures below { (bytes : List ℕ) → HasBytes S.features S.bytes bytes (storage_in qcow2)
+        → IfOk result (λ l. LeadsTo bytes path.now (option_map (λ b. string_bytes b.path) l.below)) }
+    ensures format { (bytes : List ℕ) → HasBytes S.features S.bytes bytes (storage_in qcow2)
+        → IfOk result (λ l. IfSome l.below (λ b. SaysFormat bytes b.format)) }
+{
+    image_of_bytes(&qcow2);
+    let below = below_qcow2(alloc, path, &qcow2)?;
+    Ok(Layer {
+        driver: AnyDriver::Qcow2(qcow2),
+        below,
+    })
+}
+
+fn qcow2_layer<H: Files, S: Storage>(host: &H, path: &str, file: S) -> Result<Layer<S>, OpenError>
+    ensures driver { (bytes : List ℕ) → HasBytes S.features S.bytes bytes file
+        → IfOk result (λ l. IsDriverOf ⟦<AnyDriver<S> as FormatDriverInstance>⟧.view
+        (disk_size bytes) (qcow2_place bytes) l.driver) }
+    ensures below { (bytes : List ℕ) → HasBytes S.features S.bytes bytes file
+        → IfOk result (λ l. LeadsTo bytes path.now (option_map (λ b. string_bytes b.path) l.below)) }
+    ensures format { (bytes : List ℕ) → HasBytes S.features S.bytes bytes file
+        → IfOk result (λ l. IfSome l.below (λ b. SaysFormat bytes b.format)) }
+{
+    match Qcow2::open_image(host.alloc(), file, false) {
+        Ok(qcow2) => layer_in_qcow2(host.alloc(), path, qcow2),
+        Err(cause) => Err(not_opened(host, path, cause)),
+    }
+}
+
+/// Tells why a qcow2 file isn't opened: with its header's fault, where that is why.
+fn not_opened<H: Files>(host: &H, path: &str, cause: Error) -> OpenError {
+    let mut head = [0u8; 112];
+    if let Ok(status) = host.status(path) {
+        if let Ok(()) = host.read_at(path, &mut head, 0) {
+            if let Err(fault) = l1_table(&head, status.length) {
+                return OpenError::of_file(host.alloc(), path, Reason::Header(fault));
+            }
+        }
+    }
+    OpenError::of_file(host.alloc(), path, Reason::Image(cause))
+}
+
+/// The name that a qcow2 image has of the file below it, if there is one. A name without bytes is
+/// none.
+fn name_below<S: Storage>(
+    alloc: Global,
+    path: &str,
+    qcow2: &Qcow2<S>,
+) -> Result<Option<Vec<u8>>, OpenError>
+    ensures { IsTrue (S.features (storage_in qcow2.now)).tells_bytes
+        → IfOk result (λ name. SaysBacking (S.bytes (storage_in qcow2.now))
+        (option_map (λ n. n.items) name)) }
+{
+    let Some(name) = OpenError::or_image(alloc, path, qcow2.backing_file(alloc))? else {
+        return Ok(None);
+    };
+    if name.is_empty() {
+        return Ok(None);
+    }
+    Ok(Some(name))
+}
+
+/// A name that stands in a file. Only UTF-8 is supported.
+pub fn text_of(alloc: Global, path: &str, name: Vec<u8>) -> Result<String, OpenError>
+    ensures { IfOk result (λ text. string_bytes text ≡ name.items) }
+{
+    match String::from_utf8(name) {
+        Ok(name) => Ok(name),
+        Err(_) => Err(OpenError::of_file(alloc, path, Reason::Image(Error::Unsupported))),
+    }
+}
+
+/// The path that a name stands for which the file of that path has.
+fn path_below(alloc: Global, path: &str, name: Vec<u8>) -> Result<String, OpenError>
+    ensures { IfOk result (λ next. string_bytes next ≡ path_beside_file path.now name.items) }
+{
+    let name = text_of(alloc, path, name)?;
+    Ok(path_beside(alloc, path, &name)?)
+}
+
+/// The file below a qcow2 image, if there is one.
+fn below_qcow2<S: Storage>(
+    alloc: Global,
+    path: &str,
+    qcow2: &Qcow2<S>,
+) -> Result<Option<Below>, OpenError>
+    ensures below { IsTrue (S.features (storage_in qcow2.now)).tells_bytes
+        → IfOk result (λ below. LeadsTo (S.bytes (storage_in qcow2.now)) path.now
+        (option_map (λ b. string_bytes b.path) below)) }
+    ensures format { IsTrue (S.features (storage_in qcow2.now)).tells_bytes
+        → IfOk result (λ below. IfSome below
+        (λ b. SaysFormat (S.bytes (storage_in qcow2.now)) b.format)) }
+{
+    let Some(name) = name_below(alloc, path, qcow2)? else {
+        return Ok(None);
+    };
+    Ok(Some(Below {
+        path: path_below(alloc, path, name)?,
+        format: format_below(alloc, path, qcow2)?,
+    }))
+}
+
+/// The format that a qcow2 image says of the file below it, if it does.
+fn format_below<S: Storage>(
+    alloc: Global,
+    path: &str,
+    qcow2: &Qcow2<S>,
+) -> Result<Option<ImageFormat>, OpenError>
+    ensures { IsTrue (S.features (storage_in qcow2.now)).tells_bytes
+        → IfOk result (SaysFormat (S.bytes (storage_in qcow2.now))) }
+{
+    let Some(name) = OpenError::or_image(alloc, path, qcow2.backing_format(alloc))? else {
+        return Ok(None);
+    };
+    let name = text_of(alloc, path, name)?;
+    match ImageFormat::named(&name) {
+        Some(format) => Ok(Some(format)),
+        None => Err(OpenError::of_file(alloc, path, Reason::BackingFormat(name))),
+    }
+}
+
+fn vmdk_layer<'a, H: Files>(
+    host: &'a H,
+    path: &str,
+    file: PathStorage<'a, H>,
+    how: Opening,
+) -> Result<Layer<PathStorage<'a, H>>, OpenError>
+    requires told { IfSome (H.contents host.now)
+        (λ files. HasBytes ⟦<PathStorage<'a, H> as Storage>⟧.features
+        ⟦<PathStorage<'a, H> as Storage>⟧.bytes (files path.now) file) }
+    requires path { (⟦<PathStorage<'a, H> as Storage>⟧.features file).filename ≡ Some path.now }
+    ensures alone { IfOk result (λ l. l.below ≡ None) }
+    ensures layer { IfOk result (λ l. IfSome (H.contents host.now)
+        (λ files. IsLayerOf ⟦<AnyDriver<PathStorage<'a, H>> as FormatDriverInstance>⟧.view
+        how.strict how.allow_outside files path.now Of.Vmdk l.driver None)) }
+{
+    let alloc = host.alloc();
+    let mut gate = FolderGate::of(host, path, how.allow_outside)?;
+    let builder = Vmdk::builder(file).accept_unknown_keys(!how.strict);
+    match builder.open(alloc, &mut gate) {
+        Ok(vmdk) => {
+            places_of_bytes(&vmdk);
+            Ok(Layer {
+                driver: AnyDriver::Vmdk(vmdk),
+                below: None,
+            })
+        }
+        Err(cause) => Err(match gate.into_refusal() {
+            Some(refusal) => refusal,
+            None => OpenError::of_file(alloc, path, Reason::Image(cause)),
+        }),
+    }
+}
+
+/// The format of a file: the one that is said, or else the one that its first bytes tell. Only where
+/// it is said to be raw is a sparse VMDK image taken as its bytes are.
+pub fn format_of<F: HostFile>(
+    alloc: Global,
+    path: &str,
+    file: &FileStorage<F>,
+    said: Option<ImageFormat>,
+) -> Result<ImageFormat, OpenError>
+    ensures { (bytes : List ℕ) → HasBytes ⟦<FileStorage<F> as Storage>⟧.features
+        ⟦<FileStorage<F> as Storage>⟧.bytes bytes file.now
+        → IfOk result (IsFormatBy said bytes) }
+{
+    if let Some(ImageFormat::Raw) = said {
+        return Ok(ImageFormat::Raw);
+    }
+    let mut head = [0u8; 21];
+    let read = file.read(alloc, &mut head, 0);
+    if let Err(cause) = read {
+        return Err(unread(alloc, path, file, cause));
+    }
+    match guess(&head) {
+        Some(guessed) => Ok(said.unwrap_or(guessed)),
+        None => Err(OpenError::of_file(alloc, path, Reason::Sparse)),
+    }
+}
+
+/// Why a file wasn't read: by the system's own answer, where the storage kept one.
+fn unread<F: HostFile>(
+    alloc: Global,
+    path: &str,
+    file: &FileStorage<F>,
+    cause: Error,
+) -> OpenError {
+    match file.last_error() {
+        Some(answer) => OpenError::of_file(alloc, path, Reason::System(answer)),
+        None => OpenError::of_file(alloc, path, Reason::Image(cause)),
+    }
+}

@@ -1,0 +1,102 @@
+//! An image, opened by its path.
+ghost use Rattle.std.specs.Prelude.{◌≡◌, Some, IfOk, IfSome};
+ghost use Rattle.std.specs.String.{string_bytes};
+ghost use Rattle.imago_images.specs.Formats.{IsFormatBy};
+ghost use Rattle.imago_images.specs.Gate.{IsLetThrough};
+ghost use Rattle.imago_images.specs.Images.{IsImageIn};
+ghost use Rattle.imago_images.specs.HostBytes.{HasBytes};
+
+use crate::failure::OpenError;
+use crate::file::PathStorage;
+use crate::files::Files;
+use crate::format::ImageFormat;
+use crate::gate::{FolderGate, look_at};
+use crate::layer::{Below, Layer, format_of, open_layer};
+use crate::opening::Opening;
+use crate::over::{alone, over};
+use crate::way::Way;
+use imago_access::access::FormatAccess;
+use imago_any_driver::any::AnyDriver;
+use imago_drivers::drivers::FormatDriverInstance;
+use imago_storage::storage::Storage;
+
+/// The most files that a chain has below its first.
+const MOST: usize = 199;
+
+/// An image in files.
+pub type FileImage<'a, H> = FormatAccess<AnyDriver<PathStorage<'a, H>>>;
+
+/// Opens the image of that path: the layers of a chain each in its file, those of the top one first.
+/// Each file is looked at once, before it is read.
+pub fn open_image<'a, H: Files>(
+    host: &'a H,
+    path: &str,
+    how: Opening,
+) -> Result<(ImageFormat, FileImage<'a, H>), OpenError>
+    ensures format { IfOk result (λ r. IfSome (H.contents host.now)
+        (λ files. IsFormatBy how.format (files path.now) r.0)) }
+    ensures image { IfOk result (λ r. IfSome (H.contents host.now)
+        (λ files. IsImageIn ⟦<AnyDriver<PathStorage<'a, H>> as FormatDriverInstance>⟧.view
+        how.strict how.allow_outside files path.now r.0 r.1)) }
+{
+    let file = look_at(host, path)?;
+    let format = format_of(host.alloc(), path, &file, how.format)?;
+    let mut way = Way::new(host.alloc());
+    let image = open_chain(host, path, file, format, how, &mut way, MOST)?;
+    Ok((format, image))
+}
+
+/// Opens the chain that begins with that file, and goes on with at most so many.
+fn open_chain<'a, H: Files>(
+    host: &'a H,
+    path: &str,
+    file: PathStorage<'a, H>,
+    format: ImageFormat,
+    how: Opening,
+    way: &mut Way,
+    most: usize,
+) -> Result<FileImage<'a, H>, OpenError>
+    requires told { IfSome (H.contents host.now)
+        (λ files. HasBytes ⟦<PathStorage<'a, H> as Storage>⟧.features
+        ⟦<PathStorage<'a, H> as Storage>⟧.bytes (files path.now) file) }
+    requires path { (⟦<PathStorage<'a, H> as Storage>⟧.features file).filename ≡ Some path.now }
+    ensures { IfOk result (λ x. IfSome (H.contents host.now)
+        (λ files. IsImageIn ⟦<AnyDriver<PathStorage<'a, H>> as FormatDriverInstance>⟧.view
+        how.strict how.allow_outside files path.now format x)) }
+{
+    let alloc = host.alloc();
+    way.enter(alloc, file.file())?;
+    let Layer { driver, below } = open_layer(host, path, file, format, how)?;
+    let Some(next) = below else {
+        return Ok(alone(driver));
+    };
+    if most == 0 {
+        return Err(way.too_many_below(alloc, path));
+    }
+    let (file, format) = next_file(host, path, &next, how)?;
+    let below = open_chain(host, &next.path, file, format, how, way, most - 1)?;
+    Ok(over(alloc, driver, below)?)
+}
+
+/// The file below that of a path, and its format.
+fn next_file<'a, H: Files>(
+    host: &'a H,
+    path: &str,
+    next: &Below,
+    how: Opening,
+) -> Result<(PathStorage<'a, H>, ImageFormat), OpenError>
+    ensures told { IfOk result (λ r. IfSome (H.contents host.now)
+        (λ files. HasBytes ⟦<PathStorage<'a, H> as Storage>⟧.features
+        ⟦<PathStorage<'a, H> as Storage>⟧.bytes (files (string_bytes next.now.path)) r.0)) }
+    ensures path { IfOk result (λ r. (⟦<PathStorage<'a, H> as Storage>⟧.features r.0).filename
+        ≡ Some (string_bytes next.now.path)) }
+    ensures through { IfOk result
+        (λ _. IsLetThrough how.allow_outside path.now (string_bytes next.now.path)) }
+    ensures format { IfOk result (λ r. IfSome (H.contents host.now)
+        (λ files. IsFormatBy next.now.format (files (string_bytes next.now.path)) r.1)) }
+{
+    let gate = FolderGate::of(host, path, how.allow_outside)?;
+    let file = gate.look(&next.path)?;
+    let format = format_of(host.alloc(), &next.path, &file, next.format)?;
+    Ok((file, format))
+}
