@@ -15,10 +15,11 @@ folder_path path = unwrap_or (path_parent path) []
 abbrev pub IsLetThrough : Bool → List ℕ → List ℕ → Type 0
 IsLetThrough allow image path = allow ≡ false → lies_below (folder_path image) path ≡ true
 
--- each of these is
+-- each of these paths is let through
 abbrev pub AreLetThrough : Bool → List ℕ → List (List ℕ) → Type 0
 AreLetThrough allow image [] = Unit {0}
-AreLetThrough allow image (path ∷ paths) = IsLetThrough allow image path × AreLetThrough allow image paths
+AreLetThrough allow image (path ∷ paths) =
+    IsLetThrough allow image path × AreLetThrough allow image paths
 
 -- A storage was handed out for the path that was asked for, which is let through. Where the host
 -- tells what its files hold, the storage has the bytes of the file of that path.

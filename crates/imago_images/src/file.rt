@@ -1,7 +1,6 @@
 //! A file by its path, as a file that is open.
 ghost use Rattle.std.specs.Prelude.{◌≡◌, ◌<◌, ◌≤◌, ◌+◌, ℕ, Some, Ok, IsErr, IfOk, IfSome};
 ghost use Rattle.std.specs.Prelude.{length, slice_index};
-ghost use Rattle.std.specs.String.{string_bytes};
 ghost use Rattle.imago_file.specs.FileCalls.{any_calls};
 ghost use Rattle.imago_images.specs.HostBytes.{shown_bytes};
 
@@ -35,6 +34,8 @@ fn never_changed() -> io::Error {
 }
 
 impl<'a, H: Files> PathFile<'a, H> {
+    ghost use Rattle.imago_images.specs.PathFile.{file_path};
+
     /// Looks at the file of that path, and doesn't open it. What is neither a regular file nor a
     /// block device is [`Reason::NotAFile`], and what the host answers else is
     /// [`Reason::System`].
@@ -57,7 +58,7 @@ impl<'a, H: Files> PathFile<'a, H> {
 
     /// Its path.
     pub fn path(&self) -> &str
-        ensures { result.now ≡ string_bytes self.now.path }
+        ensures { result.now ≡ file_path self.now }
     {
         &self.path
     }
@@ -85,10 +86,12 @@ fn hide(buf: &mut [u8], offset: u64, shown: u64)
 /// [`ErrorKind::PermissionDenied`]. A cut lets fewer bytes be shown, as this trait demands where
 /// bytes are told, and leaves the file itself alone; [`PathStorage`] never asks for one.
 impl<'a, H: Files> HostFile for PathFile<'a, H> {
-    ghost contents = { λ f. shown_bytes (H.contents f.host.now) (string_bytes f.path) f.shown };
+    ghost use Rattle.imago_images.specs.PathFile.{file_path, shown_length};
+
+    ghost contents = { λ f. shown_bytes (H.contents f.host.now) (file_path f) (shown_length f) };
 
     ghost calls = { record any_calls {
-      measured = λ f answer. answer ≡ Ok f.shown;
+      measured = λ f answer. answer ≡ Ok (shown_length f);
       written = λ at source a b answer. (b ≡ a) × IsErr answer;
       synced = λ a b answer. (b ≡ a) × (answer ≡ Ok tt);
     } };

@@ -43,37 +43,60 @@ fn folder_of(path: &str) -> &str
     }
 }
 
-/// A gate that looks at the files which one image names, and opens none. Those that lie elsewhere
-/// than in the image's folder and below, by their paths or by links, are let through only where
-/// that is permitted.
+/// What an image names its files as.
+#[derive(Clone, Copy)]
+pub enum Named {
+    /// The extents of a VMDK descriptor.
+    Extents,
+    /// The backing file of a qcow2 image.
+    Backing,
+}
+
+/// A gate that looks at the files which one image names, and opens none.
+///
+/// A file that lies elsewhere than in the image's folder and below, by its path or by a link, is
+/// let through only where that is permitted. Otherwise it is [`Reason::Outside`] or
+/// [`Reason::BackingOutside`], with its path. The gate itself answers [`Error::Denied`] for
+/// whatever it doesn't let through or can't look at, and
+/// [`into_refusal`](FolderGate::into_refusal) tells why.
 #[derive(Drop)]
 pub struct FolderGate<'a, 'b, H: Files> {
     host: &'a H,
     /// The image's path.
     image: &'b str,
+    named: Named,
     folder: Folder<'b>,
     allow_outside: bool,
-    /// Why the last one wasn't let through.
+    /// Why the last file that wasn't handed out was refused.
     refused: Option<OpenError>,
 }
 
 impl<'a, 'b, H: Files> FolderGate<'a, 'b, H> {
-    /// The gate of the image of that path.
-    pub fn of(host: &'a H, image: &'b str, allow_outside: bool) -> Result<Self, OpenError>
-        ensures host { IfOk result (λ g. g.host.now ≡ host.now) }
-        ensures image { IfOk result (λ g. g.image.now ≡ image.now) }
-        ensures allow { IfOk result (λ g. g.allow_outside ≡ allow_outside) }
+    ghost use Rattle.imago_images.specs.GateParts.{gate_host, gate_image, permits_outside};
+
+    /// The gate of the image of that path, which names such files. The host may refuse to tell the
+    /// path of the image's folder without links.
+    pub fn of(
+        host: &'a H,
+        image: &'b str,
+        named: Named,
+        allow_outside: bool,
+    ) -> Result<Self, OpenError>
+        ensures host { IfOk result (λ g. gate_host g ≡ host.now) }
+        ensures image { IfOk result (λ g. gate_image g ≡ image.now) }
+        ensures allow { IfOk result (λ g. permits_outside g ≡ allow_outside) }
     {
         Ok(FolderGate {
             host,
             image,
+            named,
             folder: Folder::of(host, image, allow_outside)?,
             allow_outside,
             refused: None,
         })
     }
 
-    /// Why the last file wasn't let through.
+    /// Why the last file that was asked for wasn't handed out, if one wasn't.
     pub fn into_refusal(self) -> Option<OpenError> {
         self.refused
     }
@@ -81,7 +104,7 @@ impl<'a, 'b, H: Files> FolderGate<'a, 'b, H> {
     /// Whether a path is let through.
     fn lets_through(&self, path: &str) -> Result<bool, OpenError>
         ensures { IfOk result (λ yes. yes ≡ true
-            → IsLetThrough self.now.allow_outside self.now.image.now path.now) }
+            → IsLetThrough (permits_outside self.now) (gate_image self.now) path.now) }
     {
         if self.allow_outside {
             return Ok(true);
@@ -95,36 +118,46 @@ impl<'a, 'b, H: Files> FolderGate<'a, 'b, H> {
 
     /// The file of that path, if it is let through.
     pub(crate) fn look(&self, path: &str) -> Result<PathStorage<'a, H>, OpenError>
-        ensures told { IfOk result (λ s. IfSome (H.contents self.now.host.now)
+        ensures told { IfOk result (λ s. IfSome (H.contents (gate_host self.now))
             (λ files. HasBytes ⟦<PathStorage<'a, H> as Storage>⟧.features
             ⟦<PathStorage<'a, H> as Storage>⟧.bytes (files path.now) s)) }
         ensures path { IfOk result
             (λ s. (⟦<PathStorage<'a, H> as Storage>⟧.features s).filename ≡ Some path.now) }
         ensures through { IfOk result
-            (λ _. IsLetThrough self.now.allow_outside self.now.image.now path.now) }
+            (λ _. IsLetThrough (permits_outside self.now) (gate_image self.now) path.now) }
     {
         if self.lets_through(path)? {
             look_at(self.host, path)
         } else {
-            Err(outside(self.host.alloc(), self.image, path))
+            Err(outside(self.host.alloc(), self.image, self.named, path))
         }
     }
 }
 
-/// A path leads out of the folder of that image.
-fn outside(alloc: Global, image: &str, path: &str) -> OpenError {
+/// A path leads out of the folder of that image, which names such files.
+fn outside(alloc: Global, image: &str, named: Named, path: &str) -> OpenError {
     match String::from_str(alloc, path) {
-        Ok(path) => OpenError::of_file(alloc, image, Reason::Outside(path)),
+        Ok(path) => OpenError::of_file(alloc, image, outside_reason(named, path)),
         Err(_) => OpenError::Memory,
     }
 }
 
+/// Why it isn't let through.
+fn outside_reason(named: Named, path: String) -> Reason {
+    match named {
+        Named::Extents => Reason::Outside(path),
+        Named::Backing => Reason::BackingOutside(path),
+    }
+}
+
 impl<'a, 'b, H: Files> ImplicitOpenGate<PathStorage<'a, H>> for FolderGate<'a, 'b, H> {
-    ghost opened = { λ o a b r. (b.host.now ≡ a.host.now) × (b.image.now ≡ a.image.now)
-        × (b.allow_outside ≡ a.allow_outside)
+    ghost use Rattle.imago_images.specs.GateParts.{gate_host, gate_image, permits_outside};
+
+    ghost opened = { λ o a b r. (gate_host b ≡ gate_host a) × (gate_image b ≡ gate_image a)
+        × (permits_outside b ≡ permits_outside a)
         × IfOk r (IsLooked ⟦<PathStorage<'a, H> as Storage>⟧.features
-        ⟦<PathStorage<'a, H> as Storage>⟧.bytes (H.contents a.host.now) a.allow_outside a.image.now
-        o.filename) };
+        ⟦<PathStorage<'a, H> as Storage>⟧.bytes (H.contents (gate_host a)) (permits_outside a)
+        (gate_image a) o.filename) };
 
     fn open_storage(
         &mut self,

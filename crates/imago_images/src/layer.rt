@@ -1,5 +1,6 @@
 //! A layer by itself: a file in a format, and the name of the file below it.
-ghost use Rattle.std.specs.Prelude.{◌≡◌, ℕ, List, None, Some, IfOk, IfSome, IsTrue, length, option_map};
+ghost use Rattle.std.specs.Prelude.{◌≡◌, ℕ, List, None, Some, IfOk, IfSome, IsTrue};
+ghost use Rattle.std.specs.Prelude.{length, option_map};
 ghost use Rattle.std.specs.String.{string_bytes};
 ghost use Rattle.imago_drivers.specs.Raw.{raw_place};
 ghost use Rattle.imago_qcow2.specs.Entry.{disk_size, qcow2_place};
@@ -16,7 +17,7 @@ use crate::failure::{OpenError, Reason};
 use crate::file::PathStorage;
 use crate::files::Files;
 use crate::format::{ImageFormat, guess};
-use crate::gate::FolderGate;
+use crate::gate::{FolderGate, Named};
 use crate::opening::Opening;
 use imago_any_driver::any::AnyDriver;
 use imago_drivers::builder::FormatDriverBuilder;
@@ -38,6 +39,7 @@ use std::alloc::Global;
 /// The file below a layer.
 #[derive(Drop)]
 pub struct Below {
+    /// Its path, as it is opened.
     pub path: String,
     /// Its format, where the layer says it.
     pub format: Option<ImageFormat>,
@@ -46,11 +48,15 @@ pub struct Below {
 /// A layer, and the file below it, if there is one.
 #[derive(Drop)]
 pub struct Layer<S: Storage> {
+    /// The driver of the layer's file.
     pub driver: AnyDriver<S>,
+    /// What the file says of the one below it.
     pub below: Option<Below>,
 }
 
-/// Opens a file as a layer of that format.
+/// Opens a file, which was looked at, as a layer of that format. The files of a descriptor's
+/// extents are looked at too. The file below a qcow2 image isn't: only what its header says of it
+/// is read.
 pub fn open_layer<'a, H: Files>(
     host: &'a H,
     path: &str,
@@ -76,6 +82,7 @@ pub fn open_layer<'a, H: Files>(
     }
 }
 
+/// The layer of a raw file.
 fn raw_layer<S: Storage>(alloc: Global, path: &str, file: S) -> Result<Layer<S>, OpenError>
     ensures alone { IfOk result (λ l. l.below ≡ None) }
     ensures driver { (bytes : List ℕ) → HasBytes S.features S.bytes bytes file → IfOk result (λ l.
@@ -99,7 +106,8 @@ fn layer_in_qcow2<S: Storage>(
         → IfOk result (λ l. IsDriverOf ⟦<AnyDriver<S> as FormatDriverInstance>⟧.view
         (disk_size bytes) (qcow2_place bytes) l.driver) }
     ensures below { (bytes : List ℕ) → HasBytes S.features S.bytes bytes (storage_in qcow2)
-        → IfOk result (λ l. LeadsTo bytes path.now (option_map (λ b. string_bytes b.path) l.below)) }
+        → IfOk result (λ l. LeadsTo bytes path.now
+        (option_map (λ b. string_bytes b.path) l.below)) }
     ensures format { (bytes : List ℕ) → HasBytes S.features S.bytes bytes (storage_in qcow2)
         → IfOk result (λ l. IfSome l.below (λ b. SaysFormat bytes b.format)) }
 {
@@ -111,12 +119,14 @@ fn layer_in_qcow2<S: Storage>(
     })
 }
 
+/// The layer of a qcow2 file.
 fn qcow2_layer<H: Files, S: Storage>(host: &H, path: &str, file: S) -> Result<Layer<S>, OpenError>
     ensures driver { (bytes : List ℕ) → HasBytes S.features S.bytes bytes file
         → IfOk result (λ l. IsDriverOf ⟦<AnyDriver<S> as FormatDriverInstance>⟧.view
         (disk_size bytes) (qcow2_place bytes) l.driver) }
     ensures below { (bytes : List ℕ) → HasBytes S.features S.bytes bytes file
-        → IfOk result (λ l. LeadsTo bytes path.now (option_map (λ b. string_bytes b.path) l.below)) }
+        → IfOk result (λ l. LeadsTo bytes path.now
+        (option_map (λ b. string_bytes b.path) l.below)) }
     ensures format { (bytes : List ℕ) → HasBytes S.features S.bytes bytes file
         → IfOk result (λ l. IfSome l.below (λ b. SaysFormat bytes b.format)) }
 {
@@ -136,7 +146,18 @@ fn not_opened<H: Files>(host: &H, path: &str, cause: Error) -> OpenError {
             }
         }
     }
-    OpenError::of_file(host.alloc(), path, Reason::Image(cause))
+    OpenError::of_file(host.alloc(), path, reason_of(host, path, cause))
+}
+
+/// Why a driver didn't open a file's image. Where a read was refused, its storage is gone with the
+/// answer of the host, which is asked once more.
+fn reason_of<H: Files>(host: &H, path: &str, cause: Error) -> Reason {
+    if cause == Error::Device {
+        if let Err(answer) = host.read_at(path, &mut [0u8; 1], 0) {
+            return Reason::System(answer);
+        }
+    }
+    Reason::Image(cause)
 }
 
 /// The name that a qcow2 image has of the file below it, if there is one. A name without bytes is
@@ -218,6 +239,7 @@ fn format_below<S: Storage>(
     }
 }
 
+/// The layer of a VMDK descriptor's file, over the files that its extents name.
 fn vmdk_layer<'a, H: Files>(
     host: &'a H,
     path: &str,
@@ -234,7 +256,7 @@ fn vmdk_layer<'a, H: Files>(
         how.strict how.allow_outside files path.now Of.Vmdk l.driver None)) }
 {
     let alloc = host.alloc();
-    let mut gate = FolderGate::of(host, path, how.allow_outside)?;
+    let mut gate = FolderGate::of(host, path, Named::Extents, how.allow_outside)?;
     let builder = Vmdk::builder(file).accept_unknown_keys(!how.strict);
     match builder.open(alloc, &mut gate) {
         Ok(vmdk) => {
@@ -246,13 +268,14 @@ fn vmdk_layer<'a, H: Files>(
         }
         Err(cause) => Err(match gate.into_refusal() {
             Some(refusal) => refusal,
-            None => OpenError::of_file(alloc, path, Reason::Image(cause)),
+            None => OpenError::of_file(alloc, path, reason_of(host, path, cause)),
         }),
     }
 }
 
-/// The format of a file: the one that is said, or else the one that its first bytes tell. Only where
-/// it is said to be raw is a sparse VMDK image taken as its bytes are.
+/// The format of a file: the one that is said, or else the one that its first bytes tell. The first
+/// 21 bytes are read, unless it is said to be raw; only then is a sparse VMDK image taken as its
+/// bytes are, and otherwise it is [`Reason::Sparse`].
 pub fn format_of<F: HostFile>(
     alloc: Global,
     path: &str,

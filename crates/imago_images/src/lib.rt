@@ -1,5 +1,20 @@
-//! Images in files, opened by their paths: the way from a path to an image's bytes, and the only
-//! one.
+//! Disk images in files, opened by their paths: raw files, VMDK descriptors with the files of
+//! their extents, and qcow2 images with all of their backing files.
+//!
+//! [`open_image`](opener::open_image) takes a host, a path and an [`Opening`](opening::Opening),
+//! and gives an image that is read like any other:
+//!
+//! ```ignore
+//! let how = Opening { format: None, strict: false, allow_outside: false };
+//! let (format, image) = open_image(&host, "disk.qcow2", how)?;
+//! let mut first = [0u8; 512];
+//! image.read(alloc, &mut first, 0)?; // the first 512 bytes of the disk
+//! ```
+//!
+//! The host implements [`Files`](files::Files): it finds files by their paths, and reads them.
+//! Where it states what its files hold, the contract of `open_image` says what each byte of the
+//! disk is. Images are only read, and the files that an image names are looked at only in its
+//! folder and below, unless [`Opening`](opening::Opening) permits others.
 #![tactic(auto)]
 
 pub mod failure;

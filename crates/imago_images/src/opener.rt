@@ -10,7 +10,7 @@ use crate::failure::OpenError;
 use crate::file::PathStorage;
 use crate::files::Files;
 use crate::format::ImageFormat;
-use crate::gate::{FolderGate, look_at};
+use crate::gate::{FolderGate, Named, look_at};
 use crate::layer::{Below, Layer, format_of, open_layer};
 use crate::opening::Opening;
 use crate::over::{alone, over};
@@ -26,8 +26,19 @@ const MOST: usize = 199;
 /// An image in files.
 pub type FileImage<'a, H> = FormatAccess<AnyDriver<PathStorage<'a, H>>>;
 
-/// Opens the image of that path: the layers of a chain each in its file, those of the top one first.
-/// Each file is looked at once, before it is read.
+/// Opens the image of a path: its file, the files of its extents or, of a qcow2 image, the whole
+/// chain of files below it. Tells the format of the file of that path too.
+///
+/// Each file is looked at before it is read, and none is kept open. What is read is the first 21
+/// bytes of a file whose format isn't said to be raw, and headers, tables and descriptors; data is
+/// read when the image is. No file is written to, now or later.
+///
+/// # Errors
+///
+/// [`OpenError::OfFile`] names the file that can't be used, and its
+/// [`Reason`](crate::failure::Reason) says why: so a chain of more than 200 files is
+/// `TooManyBelow`, and one that leads back to a file above is `Loop`. [`OpenError::Memory`] means
+/// that an allocation failed.
 pub fn open_image<'a, H: Files>(
     host: &'a H,
     path: &str,
@@ -39,14 +50,16 @@ pub fn open_image<'a, H: Files>(
         (λ files. IsImageIn ⟦<AnyDriver<PathStorage<'a, H>> as FormatDriverInstance>⟧.view
         how.strict how.allow_outside files path.now r.0 r.1)) }
 {
-    let file = look_at(host, path)?;
-    let format = format_of(host.alloc(), path, &file, how.format)?;
     let mut way = Way::new(host.alloc());
+    let file = look_at(host, path)?;
+    way.enter(host.alloc(), file.file())?;
+    let format = format_of(host.alloc(), path, &file, how.format)?;
     let image = open_chain(host, path, file, format, how, &mut way, MOST)?;
     Ok((format, image))
 }
 
-/// Opens the chain that begins with that file, and goes on with at most so many.
+/// Opens the chain that begins with that file, which the way has entered, and goes on with at most
+/// so many.
 fn open_chain<'a, H: Files>(
     host: &'a H,
     path: &str,
@@ -65,7 +78,6 @@ fn open_chain<'a, H: Files>(
         how.strict how.allow_outside files path.now format x)) }
 {
     let alloc = host.alloc();
-    way.enter(alloc, file.file())?;
     let Layer { driver, below } = open_layer(host, path, file, format, how)?;
     let Some(next) = below else {
         return Ok(alone(driver));
@@ -73,17 +85,18 @@ fn open_chain<'a, H: Files>(
     if most == 0 {
         return Err(way.too_many_below(alloc, path));
     }
-    let (file, format) = next_file(host, path, &next, how)?;
+    let (file, format) = next_file(host, path, &next, how, way)?;
     let below = open_chain(host, &next.path, file, format, how, way, most - 1)?;
     Ok(over(alloc, driver, below)?)
 }
 
-/// The file below that of a path, and its format.
+/// The file below that of a path, by which the way goes on, and its format.
 fn next_file<'a, H: Files>(
     host: &'a H,
     path: &str,
     next: &Below,
     how: Opening,
+    way: &mut Way,
 ) -> Result<(PathStorage<'a, H>, ImageFormat), OpenError>
     ensures told { IfOk result (λ r. IfSome (H.contents host.now)
         (λ files. HasBytes ⟦<PathStorage<'a, H> as Storage>⟧.features
@@ -95,8 +108,9 @@ fn next_file<'a, H: Files>(
     ensures format { IfOk result (λ r. IfSome (H.contents host.now)
         (λ files. IsFormatBy next.now.format (files (string_bytes next.now.path)) r.1)) }
 {
-    let gate = FolderGate::of(host, path, how.allow_outside)?;
+    let gate = FolderGate::of(host, path, Named::Backing, how.allow_outside)?;
     let file = gate.look(&next.path)?;
+    way.enter(host.alloc(), file.file())?;
     let format = format_of(host.alloc(), &next.path, &file, next.format)?;
     Ok((file, format))
 }
