@@ -11,8 +11,9 @@ use Rattle.imago_plan.specs.declared.piece.Piece.{Piece}
 use Rattle.imago_plan.specs.PieceBytes.{plan_bytes}
 use Rattle.imago_loaded.specs.declared.loaded.LoadedFile.{LoadedFile}
 use Rattle.imago_loaded.specs.Loaded.{loaded_bytes}
-use Rattle.imago_img_parts.specs.declared.text.ImageFormat.TheVariants as ImageFormat
-use Rattle.imago_img_parts.specs.Extents.{flat_names, storage_paths, AreLetThrough}
+use Rattle.imago_images.specs.declared.format.ImageFormat.TheVariants as ImageFormat
+use Rattle.imago_images.specs.Extents.{flat_names}
+use Rattle.imago_img_parts.specs.Extents.{storage_paths, AreLetThrough}
 use Rattle.imago_img_parts.specs.Images.{IsImageOf}
 
 -- the image of a descriptor's driver

@@ -10,11 +10,11 @@ use Rattle.imago_plan.specs.PieceBytes.{bytes_at, plan_bytes}
 use Rattle.imago_copy.specs.Differences.{IsFirstDifference}
 use Rattle.imago_plan.specs.Differences.{IfBoth}
 use Rattle.imago_plan.proofs.BytesAt.{read_bytes}
-use Rattle.imago_img_parts.specs.declared.text.ImageFormat.{ImageFormat}
-use Rattle.imago_img_parts.specs.declared.text.ImageFormat.TheVariants.{Raw, Vmdk, Qcow2}
+use Rattle.imago_images.specs.declared.format.ImageFormat.{ImageFormat}
+use Rattle.imago_images.specs.declared.format.ImageFormat.TheVariants.{Raw, Vmdk, Qcow2}
 use Rattle.imago_img_parts.specs.Files.{path_at, storages_by, IsMade, piece_contents}
-use Rattle.imago_img_parts.specs.Layers.{layers_value}
-use Rattle.imago_img_parts.specs.Formats.{IsFormatBy}
+use Rattle.imago_images.specs.Layers.{layers_value}
+use Rattle.imago_images.specs.Formats.{IsFormatBy}
 use Rattle.imago_img_parts.specs.Images.{IsImageOf}
 use Rattle.imago_img_parts.specs.Disks.{IsDiskOf, IsConverted, AreCompared}
 

@@ -19,8 +19,8 @@ use Rattle.imago_plan.specs.PieceBytes.{bytes_at}
 use Rattle.imago_plan.proofs.BytesAt.{read_bytes}
 use Rattle.imago_loaded.proofs.LoadedSteps.{byte_at}
 use Rattle.imago_loaded.specs.Tables.{HaveSameStart}
-use Rattle.imago_img_parts.specs.declared.text.ImageFormat.{ImageFormat}
-use Rattle.imago_img_parts.specs.Formats.{SaysFormat, format_named}
+use Rattle.imago_images.specs.declared.format.ImageFormat.{ImageFormat}
+use Rattle.imago_images.specs.Formats.{SaysFormat, format_named}
 
 -- what is found at an extension, by its type, its length, and what is found behind it
 abbrev found_at : ℕ → ℕ → ℕ → ℕ → (ℕ → Result (Option (ℕ × ℕ)) Error) → Result (Option (ℕ × ℕ)) Error

@@ -17,11 +17,12 @@ use Rattle.imago_plan.specs.declared.piece.Piece.{Piece}
 use Rattle.imago_plan.specs.PieceBytes.{plan_bytes}
 use Rattle.imago_plan.specs.StoredBytes.{target_value, disk_with}
 use Rattle.imago_loaded.proofs.Chain.{same_place, same_clusters}
-use Rattle.imago_img_parts.specs.declared.text.ImageFormat.{ImageFormat}
-use Rattle.imago_img_parts.specs.declared.text.ImageFormat.TheVariants.{Raw, Vmdk, Qcow2}
+use Rattle.imago_images.specs.declared.format.ImageFormat.{ImageFormat}
+use Rattle.imago_images.specs.declared.format.ImageFormat.TheVariants.{Raw, Vmdk, Qcow2}
 use Rattle.imago_img_parts.specs.Files.{path_at, storages_by}
-use Rattle.imago_img_parts.specs.Formats.{SaysFormat, IsFormatBy, IsFormatBelow}
-use Rattle.imago_img_parts.specs.Layers.{layers_value, IsLayer, IsLayerOf, ShowsLayers, IsChainImage}
+use Rattle.imago_images.specs.Formats.{SaysFormat, IsFormatBy, IsFormatBelow}
+use Rattle.imago_images.specs.Layers.{layers_value}
+use Rattle.imago_img_parts.specs.Layers.{IsLayer, IsLayerOf, ShowsLayers, IsChainImage}
 
 -- a place of a layer, over what is below it
 followed_value :

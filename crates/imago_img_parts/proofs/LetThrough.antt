@@ -14,7 +14,8 @@ use Rattle.imago_plan.specs.Names.{stays_below}
 use Rattle.imago_plan.specs.Gate.{allows_outside}
 use Rattle.imago_storage.specs.Options.{OpenOptions}
 use Rattle.imago_loaded.specs.Gate.{IsLoadedOpening}
-use Rattle.imago_img_parts.specs.Extents.{flat_names, AllStayBelow, AreLetThrough}
+use Rattle.imago_images.specs.Extents.{flat_names}
+use Rattle.imago_img_parts.specs.Extents.{AllStayBelow, AreLetThrough}
 
 -- the name of a file that a gate opened is let through, and the gate stays as it is
 let_through :

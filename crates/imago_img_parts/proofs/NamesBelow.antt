@@ -6,7 +6,7 @@ use Rattle.imago_qcow2.specs.Numbers.{be32, be64}
 use Rattle.imago_qcow2.proofs.NumberSteps.{range32, range64}
 use Rattle.imago_plan.specs.PieceBytes.{bytes_at}
 use Rattle.imago_loaded.proofs.LoadedSteps.{byte_at}
-use Rattle.imago_img_parts.specs.Layers.{SaysBacking}
+use Rattle.imago_images.specs.Layers.{SaysBacking}
 
 head_byte :
     (file head : List ℕ) (n i : ℕ) → head ≡ bytes_at file 0 n → i < n

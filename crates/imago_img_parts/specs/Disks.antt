@@ -6,12 +6,14 @@ use Rattle.imago_vmdk.specs.Reading.{reading_of}
 use Rattle.imago_vmdk.specs.Disk.{described_value}
 use Rattle.imago_qcow2.specs.Entry.{disk_size}
 use Rattle.imago_copy.specs.Differences.{IsFirstDifference}
-use Rattle.imago_img_parts.specs.declared.text.ImageFormat.{ImageFormat}
-use Rattle.imago_img_parts.specs.declared.text.ImageFormat.TheVariants.{Raw, Vmdk, Qcow2}
+use Rattle.imago_images.specs.declared.format.ImageFormat.{ImageFormat}
+use Rattle.imago_images.specs.declared.format.ImageFormat.TheVariants.{Raw, Vmdk, Qcow2}
 use Rattle.imago_img_parts.specs.Files.{storages_by, IsMade}
-use Rattle.imago_img_parts.specs.Formats.{IsFormatBy}
-use Rattle.imago_img_parts.specs.Layers.{AreLayers, layers_value}
-use Rattle.imago_img_parts.specs.Extents.{flat_names, storage_paths}
+use Rattle.imago_images.specs.Formats.{IsFormatBy}
+use Rattle.imago_images.specs.Extents.{flat_names}
+use Rattle.imago_images.specs.Layers.{layers_value}
+use Rattle.imago_img_parts.specs.Layers.{AreLayers}
+use Rattle.imago_img_parts.specs.Extents.{storage_paths}
 
 -- The bytes of a disk that the image of a path has, among these files: of a raw image, the file's
 -- own. Of a VMDK image, those that its descriptor describes, where the storages of its FLAT extents

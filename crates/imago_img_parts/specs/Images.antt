@@ -7,9 +7,10 @@ use Rattle.imago_vmdk.specs.Reading.{reading_of}
 use Rattle.imago_vmdk.specs.Disk.{described_value}
 use Rattle.imago_plan.specs.declared.piece.Piece.{Piece}
 use Rattle.imago_plan.specs.PieceBytes.{bytes_at, plan_bytes}
-use Rattle.imago_img_parts.specs.declared.text.ImageFormat.{ImageFormat}
-use Rattle.imago_img_parts.specs.declared.text.ImageFormat.TheVariants.{Raw, Vmdk, Qcow2}
-use Rattle.imago_img_parts.specs.Extents.{flat_names, storage_paths, AreLetThrough}
+use Rattle.imago_images.specs.declared.format.ImageFormat.{ImageFormat}
+use Rattle.imago_images.specs.declared.format.ImageFormat.TheVariants.{Raw, Vmdk, Qcow2}
+use Rattle.imago_images.specs.Extents.{flat_names}
+use Rattle.imago_img_parts.specs.Extents.{storage_paths, AreLetThrough}
 use Rattle.imago_img_parts.specs.Layers.{IsChainImage}
 
 -- Whatever the storages' bytes are, those of the pieces are the disk that this descriptor

@@ -1,6 +1,6 @@
-use Rattle.std.specs.Prelude.{◌≡◌, ℕ, ◌<◌, ◌⊎◌, Bool, true, false, not, List, [], ◌∷◌, map}
+use Rattle.std.specs.Prelude.{◌≡◌, ℕ, Bool, true, false, not, List, [], ◌∷◌, map}
 use Rattle.std.specs.Prelude.{Option, Some, None, length, Ok}
-use Rattle.imago_drivers.specs.Place.{Place, Value, Byte, shown}
+use Rattle.imago_drivers.specs.Place.{Place, Byte}
 use Rattle.imago_drivers.specs.Raw.{raw_place}
 use Rattle.imago_drivers.specs.View.{View}
 use Rattle.imago_access.specs.declared.access.FormatAccess.{FormatAccess}
@@ -10,24 +10,18 @@ use Rattle.imago_access.specs.Target.{target}
 use Rattle.imago_vmdk.specs.declared.line.Extent.{Extent}
 use Rattle.imago_vmdk.specs.Reading.{reading_of}
 use Rattle.imago_vmdk.specs.Disk.{described_place, with_bytes}
-use Rattle.imago_qcow2.specs.Numbers.{be32, be64}
 use Rattle.imago_qcow2.specs.Entry.{disk_size, qcow2_place}
 use Rattle.imago_plan.specs.declared.piece.Piece.{Piece}
-use Rattle.imago_plan.specs.PieceBytes.{bytes_at, plan_bytes}
+use Rattle.imago_plan.specs.PieceBytes.{plan_bytes}
 use Rattle.imago_plan.specs.StoredBytes.{target_value}
-use Rattle.imago_img_parts.specs.declared.text.ImageFormat.{ImageFormat}
-use Rattle.imago_img_parts.specs.declared.text.ImageFormat.TheVariants.{Raw, Vmdk, Qcow2}
+use Rattle.imago_images.specs.declared.format.ImageFormat.{ImageFormat}
+use Rattle.imago_images.specs.declared.format.ImageFormat.TheVariants.{Raw, Vmdk, Qcow2}
 use Rattle.imago_plan.specs.Names.{stays_below, path_beside}
 use Rattle.imago_img_parts.specs.Files.{storages_by}
-use Rattle.imago_img_parts.specs.Formats.{IsFormatBelow}
-use Rattle.imago_img_parts.specs.Extents.{flat_names, storage_paths, AreLetThrough, size_read}
-
--- the name of the file below it that a qcow2 file has, if it has one: no bytes are no name
-abbrev pub SaysBacking : List ℕ → Option (List ℕ) → Type 0
-SaysBacking bytes None = (be64 bytes 8 ≡ 0) ⊎ (be32 bytes 16 ≡ 0)
-SaysBacking bytes (Some name) =
-    (0 < be64 bytes 8) × (0 < be32 bytes 16)
-    × (name ≡ bytes_at bytes (be64 bytes 8) (be32 bytes 16))
+use Rattle.imago_images.specs.Formats.{IsFormatBelow}
+use Rattle.imago_images.specs.Extents.{flat_names}
+use Rattle.imago_images.specs.Layers.{SaysBacking, layers_value, size_by}
+use Rattle.imago_img_parts.specs.Extents.{storage_paths, AreLetThrough}
 
 -- The path of the file below that of a qcow2 image, if there is one: the name that the image has
 -- stands for it. The name doesn't lead out of the image's folder, unless that is permitted.
@@ -75,18 +69,6 @@ AreLayers strict allow files path format paths (place ∷ below) =
     × GoesOn path own next paths below
     (λ p more. (lower : ImageFormat) × IsFormatBelow (files path) (files p) lower
     × AreLayers strict allow files p lower more below)
-
--- what a read of each offset gives of the disk of layers, the top one first: below the last one all
--- is zero
-abbrev pub layers_value : List (ℕ → Place) → ℕ → Value
-layers_value [] p = Byte 0
-layers_value (place ∷ below) p = shown (layers_value below) (place p)
-
--- the size of the disk that a layer's file has, in that format
-abbrev pub size_by : Bool → ImageFormat → List ℕ → ℕ
-size_by strict Raw bytes = length bytes
-size_by strict Qcow2 bytes = disk_size bytes
-size_by strict Vmdk bytes = size_read (reading_of (not strict) bytes)
 
 -- A driver has each byte of the layer where the files have it, whatever else than headers and
 -- tables these have. Those of its own that aren't the first are looked at in the last layer alone.

@@ -1,5 +1,4 @@
 pub mod Files
-pub mod Formats
 pub mod Extents
 pub mod Layers
 pub mod Images

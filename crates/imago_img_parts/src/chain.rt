@@ -6,8 +6,8 @@ ghost use Rattle.imago_access.specs.Chain.{driver as driver_of, backing};
 ghost use Rattle.imago_drivers.specs.Place.{Byte};
 ghost use Rattle.imago_plan.specs.PieceBytes.{plan_bytes};
 ghost use Rattle.imago_plan.specs.StoredBytes.{disk_with};
-ghost use Rattle.imago_img_parts.specs.declared.text.ImageFormat.TheVariants as ImageFormat;
-ghost use Rattle.imago_img_parts.specs.Formats.{SaysFormat};
+ghost use Rattle.imago_images.specs.declared.format.ImageFormat.TheVariants as ImageFormat;
+ghost use Rattle.imago_images.specs.Formats.{SaysFormat};
 ghost use Rattle.imago_img_parts.specs.Layers.{IsLayerOf, ShowsLayers, IsChainImage};
 
 use crate::backing::{Backing, backing_of};

@@ -1,7 +1,7 @@
 //! Whether an image is in order.
 
 use crate::clusters::{cluster_runs, tell_faults};
-use crate::extents::{Folder, bytes_of, tell_fault};
+use crate::extents::{Folder, bytes_of, find, tell_fault};
 use crate::failure::Failure;
 use crate::host::Host;
 use crate::opened::{Opening, format_of};
@@ -198,7 +198,7 @@ fn check_extents<H: Host, W: Write>(
             ..
         } = extent
         {
-            let file = folder.find(host, name)?;
+            let file = find(host, &folder, name)?;
             let end = bytes_of(*offset).saturating_add(bytes_of(*sectors));
             if tell_fault(output, "", name, end, &file).map_err(Failure::Output)? {
                 faults = faults.saturating_add(1);

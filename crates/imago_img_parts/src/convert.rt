@@ -5,7 +5,7 @@ ghost use Rattle.imago_plan.specs.Copies.{IsAppendedOf};
 ghost use Rattle.imago_plan.specs.PieceBytes.{plan_bytes};
 ghost use Rattle.imago_img_parts.specs.Files.{storages_in, IsMade, piece_contents};
 
-use crate::failure::{Failure, Reason};
+use crate::failure::{Failure, Reason, Refusal};
 use crate::host::{FileKind, FileStatus, Host};
 use crate::opened::OpenedImage;
 use crate::progress::Progress;
@@ -115,7 +115,7 @@ fn test_target<H: Host>(
         return Ok(());
     };
     match target_fault(there, is_source, replace) {
-        Some(reason) => Err(Failure::of_file(host.alloc(), to, reason)),
+        Some(refusal) => Err(Failure::of_target(host.alloc(), to, refusal)),
         None => Ok(()),
     }
 }
@@ -144,15 +144,15 @@ fn has_file<H: Host>(
 }
 
 /// Why a file isn't replaced, which may be one of the image that is read.
-fn target_fault(there: FileStatus, is_source: bool, replace: bool) -> Option<Reason> {
+fn target_fault(there: FileStatus, is_source: bool, replace: bool) -> Option<Refusal> {
     if is_source {
-        return Some(Reason::IsSource);
+        return Some(Refusal::IsSource);
     }
     if !replace {
-        return Some(Reason::Exists);
+        return Some(Refusal::Exists);
     }
     if there.kind != FileKind::Regular {
-        return Some(Reason::NotReplaced);
+        return Some(Refusal::NotReplaced);
     }
     None
 }

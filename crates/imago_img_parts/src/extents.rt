@@ -2,9 +2,9 @@
 
 use crate::failure::Failure;
 use crate::host::{FileKind, Host};
+pub use imago_images::folder::Folder;
 use imago_plan::name::{path_beside, stays_below};
-use std::io::{self, ErrorKind, Write};
-use std::path::Path;
+use std::io::{self, Write};
 
 /// What is found under the name of an extent.
 #[derive(Drop)]
@@ -19,63 +19,16 @@ pub enum ExtentFile {
     Refused(io::Error),
 }
 
-/// The descriptor's folder, and whether files outside are looked at.
-#[derive(Drop)]
-pub struct Folder<'a> {
-    /// The descriptor's path.
-    descriptor: &'a str,
-    /// The folder's path without links, where only files in it are looked at.
-    bounds: Option<String>,
-}
-
-impl<'a> Folder<'a> {
-    /// The folder of a descriptor.
-    pub fn of<H: Host>(
-        host: &H,
-        descriptor: &'a str,
-        allow_outside: bool,
-    ) -> Result<Self, Failure> {
-        if allow_outside {
-            return Ok(Folder {
-                descriptor,
-                bounds: None,
-            });
-        }
-        let folder = match Path::new(descriptor).parent() {
-            Some(folder) if !folder.as_str().is_empty() => folder.as_str(),
-            _ => ".",
-        };
-        let real = Failure::or_system(host.alloc(), folder, host.real_path(folder))?;
-        Ok(Folder {
-            descriptor,
-            bounds: Some(real),
-        })
+/// What is found under the name of an extent of the descriptor that the folder is of.
+pub fn find<H: Host>(host: &H, folder: &Folder<'_>, name: &str) -> Result<ExtentFile, Failure> {
+    if folder.is_bounded() && !stays_below(name) {
+        return Ok(ExtentFile::Outside);
     }
-
-    /// Whether a link leads a path out of the folder, where that isn't permitted. A path that leads
-    /// nowhere doesn't.
-    pub fn leaves<H: Host>(&self, host: &H, path: &str) -> io::Result<bool> {
-        let Some(bounds) = &self.bounds else {
-            return Ok(false);
-        };
-        match host.real_path(path) {
-            Ok(real) => Ok(!Path::new(&real).starts_with(bounds.as_str())),
-            Err(cause) if cause.kind() == ErrorKind::NotFound => Ok(false),
-            Err(cause) => Err(cause),
-        }
-    }
-
-    /// What is found under the name of an extent.
-    pub fn find<H: Host>(&self, host: &H, name: &str) -> Result<ExtentFile, Failure> {
-        if self.bounds.is_some() && !stays_below(name) {
-            return Ok(ExtentFile::Outside);
-        }
-        let path = path_beside(host.alloc(), self.descriptor, name)?;
-        match self.leaves(host, &path) {
-            Ok(false) => Ok(found(host, &path)),
-            Ok(true) => Ok(ExtentFile::Outside),
-            Err(cause) => Ok(ExtentFile::Refused(cause)),
-        }
+    let path = path_beside(host.alloc(), folder.image(), name)?;
+    match folder.leaves(host, &path) {
+        Ok(false) => Ok(found(host, &path)),
+        Ok(true) => Ok(ExtentFile::Outside),
+        Err(cause) => Ok(ExtentFile::Refused(cause)),
     }
 }
 

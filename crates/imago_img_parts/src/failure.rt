@@ -1,8 +1,8 @@
 //! Why a command isn't done.
 ghost use Rattle.std.specs.Prelude.{◌≡◌, MatchResult, IsErr};
 
+pub use imago_images::failure::{OpenError, Reason};
 use imago_loaded::loaded::LoadError;
-use imago_qcow2::fault::HeaderFault;
 use imago_storage::error;
 use std::alloc::{AllocError, AllocFailed, Global};
 use std::io;
@@ -14,13 +14,16 @@ pub enum Failure {
     /// The words of the command line are no command.
     #[error("{0}; imago-img --help tells the commands")]
     Misuse(Misuse),
-    /// A file can't be used.
-    #[error("{path:?}: {reason}")]
-    OfFile {
-        /// The file, as the program opens it.
+    /// A file can't be used. What can be done about it, if anything, ends the line.
+    #[error("{0}{advice}", advice = advice_on(.0))]
+    NotOpened(OpenError),
+    /// A file isn't made.
+    #[error("{path:?}: {refusal}")]
+    NotMade {
+        /// The file, as the program was given it.
         path: String,
         /// Why.
-        reason: Reason,
+        refusal: Refusal,
     },
     /// The standard output can't be written.
     #[error("the output can't be written: {0}")]
@@ -53,39 +56,9 @@ pub enum Misuse {
     OtherFiles,
 }
 
-/// Why a file can't be used, and what to do where something can be done.
+/// Why a file isn't made.
 #[derive(Debug, Drop, Error)]
-pub enum Reason {
-    /// What the system answers.
-    #[error("{0}")]
-    System(io::Error),
-    /// What the image layer answers.
-    #[error("{0}{advice}", advice = advice_on(.0))]
-    Image(error::Error),
-    /// A qcow2 image whose header is refused.
-    #[error("{0}")]
-    Header(HeaderFault),
-    /// A VMDK image of another kind than a text descriptor with extents.
-    #[error("a sparse VMDK image, which isn't supported; -f raw takes its bytes as they are")]
-    Sparse,
-    /// A qcow2 image whose backing file of that name isn't beside it, nor below.
-    #[error("its backing file {0:?} isn't in its folder; --allow-outside permits it")]
-    BackingOutside(String),
-    /// A qcow2 image that says so of its backing file's format.
-    #[error("its backing file has the format {0:?}, which isn't supported")]
-    BackingFormat(String),
-    /// A backing file that stands above itself, by these paths.
-    #[error("backing files lead in a circle: {0}")]
-    Loop(String),
-    /// A chain that goes on, by these paths.
-    #[error("more than 200 files stand one below the other: {0}")]
-    TooManyBelow(String),
-    /// A descriptor whose extent of that name isn't beside it, nor below.
-    #[error("its extent {0:?} isn't in the descriptor's folder; --allow-outside permits it")]
-    Outside(String),
-    /// What has no bytes at offsets: a folder, a pipe, a terminal.
-    #[error("neither a regular file nor a block device")]
-    NotAFile,
+pub enum Refusal {
     /// What is to be made is there already.
     #[error("it exists already; --force replaces it")]
     Exists,
@@ -97,18 +70,23 @@ pub enum Reason {
     IsSource,
 }
 
-/// What to do about a refusal of the image layer, as the end of its line.
-fn advice_on(cause: &error::Error) -> &'static str {
+/// What to do about a file that can't be used, as the end of its line.
+fn advice_on(cause: &OpenError) -> &'static str {
     match cause {
-        error::Error::InvalidData | error::Error::Unsupported => "; imago-img check tells where",
-        _ => "",
+        OpenError::OfFile { reason, .. } => advice_for(reason),
+        OpenError::Memory => "",
     }
 }
 
-impl Reason {
-    /// Whether the image layer answers that memory was refused.
-    fn is_memory(&self) -> bool {
-        matches!(self, Reason::Image(error::Error::Memory))
+/// The same, by the reason.
+fn advice_for(reason: &Reason) -> &'static str {
+    match reason {
+        Reason::Image(error::Error::InvalidData | error::Error::Unsupported) => {
+            "; imago-img check tells where"
+        }
+        Reason::Sparse => "; -f raw takes its bytes as they are",
+        Reason::BackingOutside(_) | Reason::Outside(_) => "; --allow-outside permits it",
+        _ => "",
     }
 }
 
@@ -148,12 +126,23 @@ impl Failure {
 
     /// That file can't be used, for that reason.
     pub fn of_file(alloc: Global, path: &str, reason: Reason) -> Failure {
-        if reason.is_memory() {
-            return Failure::Memory;
-        }
+        Failure::from(OpenError::of_file(alloc, path, reason))
+    }
+
+    /// That file isn't made, for that reason.
+    pub fn of_target(alloc: Global, path: &str, refusal: Refusal) -> Failure {
         match String::from_str(alloc, path) {
-            Ok(path) => Failure::OfFile { path, reason },
+            Ok(path) => Failure::NotMade { path, refusal },
             Err(_) => Failure::Memory,
+        }
+    }
+}
+
+impl From<OpenError> for Failure {
+    fn from(cause: OpenError) -> Failure {
+        match cause {
+            OpenError::Memory => Failure::Memory,
+            cause => Failure::NotOpened(cause),
         }
     }
 }

@@ -5,61 +5,19 @@ ghost use Rattle.std.specs.Prelude.{length, replicate};
 ghost use Rattle.imago_img_parts.specs.Files.{IsMade};
 ghost use Rattle.imago_plan.specs.PieceBytes.{bytes_at};
 
+pub use imago_images::files::{FileKind, FileStatus, Files};
 use imago_plan::copy::Target;
-use std::alloc::Global;
 use std::io;
 
-/// What a name leads to.
-#[derive(Clone, Copy, PartialEq, Eq)]
-pub enum FileKind {
-    /// A regular file.
-    Regular,
-    /// A block device.
-    BlockDevice,
-    /// What has no bytes at offsets.
-    Other,
-}
-
-/// What a file is, beside its bytes.
-#[derive(Clone, Copy)]
-pub struct FileStatus {
-    /// What it is.
-    pub kind: FileKind,
-    /// How many bytes it has.
-    pub length: u64,
-    /// The device that it stands on.
-    pub device: u64,
-    /// Its number there: files with the same device and number are one.
-    pub inode: u64,
-}
-
 /// Where the commands find files by their paths, and make them.
-pub trait Host {
+pub trait Host: Files {
     /// A file that is being made. It has its bytes under its path once it is finished.
     type Target: Target + Drop;
-
-    /// The bytes of each file, by its path, where an implementation says them. No contract says
-    /// what the system's files hold.
-    ghost contents: { Self → Option (List ℕ → List ℕ) };
-
-    /// Where the commands take their memory.
-    fn alloc(&self) -> Global;
-
-    /// What the file is that the path leads to.
-    fn status(&self, path: &str) -> io::Result<FileStatus>
-        ensures { IfOk result
-            (λ s. IfSome (contents self.now) (λ files. s.length ≡ length (files path.now))) };
-
-    /// Fills the buffer with the file's bytes from the offset on, with 0 past its end.
-    fn read_at(&self, path: &str, buf: &mut [u8], offset: u64) -> io::Result<()>
-        ensures { OnOk result
-            (IfSome (contents self.now)
-            (λ files. buf.new ≡ bytes_at (files path.now) «offset» (length buf.new))) };
 
     /// How many of the file's bytes from the offset on are known to be 0: at most that many.
     fn hole_at(&self, path: &str, offset: u64, most: u64) -> u64
         ensures within { result ≤ most }
-        ensures zero { IfSome (contents self.now)
+        ensures zero { IfSome (Self.contents self.now)
             (λ files. bytes_at (files path.now) «offset» result ≡ replicate result 0) };
 
     /// How many bytes from the offset on come before the file's next hole: at most that many.
@@ -72,7 +30,7 @@ pub trait Host {
         requires { 0 < most }
         ensures some { 0 < result.0 }
         ensures within { result.0 ≤ most }
-        ensures zero { IfSome (contents self.now) (λ files. result.1 ≡ false
+        ensures zero { IfSome (Self.contents self.now) (λ files. result.1 ≡ false
             → bytes_at (files path.now) «offset» result.0 ≡ replicate result.0 0) }
     {
         let hole = self.hole_at(path, offset, most);
@@ -85,9 +43,6 @@ pub trait Host {
         }
     }
 
-    /// The path that it is without links and relative parts.
-    fn real_path(&self, path: &str) -> io::Result<String>;
-
     /// Shows how many bytes of a copy are done, of how many, and how many hundredths that is.
     fn show_progress(&self, done: u64, total: u64, hundredths: u64);
 
@@ -97,17 +52,17 @@ pub trait Host {
     /// Begins a file of that many bytes. What has the path stays until the new file is finished;
     /// where it isn't to be replaced, it is [`AlreadyExists`](io::ErrorKind::AlreadyExists).
     fn create(&mut self, path: &str, size: u64, replace: bool) -> io::Result<Self::Target>
-        ensures same { contents self.new ≡ contents self.old }
+        ensures same { Self.contents self.new ≡ Self.contents self.old }
         ensures empty { IfOk result
-            (λ t. IfSome (contents self.old) (λ _. Self.Target.contents t ≡ Some [])) };
+            (λ t. IfSome (Self.contents self.old) (λ _. Self.Target.contents t ≡ Some [])) };
 
     /// Gives a file that was begun for that path the path. Refused, the file is gone.
     fn finish(&mut self, path: &str, target: Self::Target) -> io::Result<()>
-        ensures made { OnOk result (IsMade (contents self.old) (contents self.new) path.now
+        ensures made { OnOk result (IsMade (Self.contents self.old) (Self.contents self.new) path.now
             (Self.Target.contents target)) }
-        ensures refused { OnErr result (contents self.new ≡ contents self.old) };
+        ensures refused { OnErr result (Self.contents self.new ≡ Self.contents self.old) };
 
     /// Lets a file go that isn't to be.
     fn abandon(&mut self, target: Self::Target)
-        ensures { contents self.new ≡ contents self.old };
+        ensures { Self.contents self.new ≡ Self.contents self.old };
 }

@@ -1,6 +1,6 @@
 //! What an image is.
 
-use crate::extents::{ExtentFile, Folder, bytes_of, tell_fault};
+use crate::extents::{ExtentFile, Folder, bytes_of, find, tell_fault};
 use crate::failure::Failure;
 use crate::host::Host;
 use crate::json::quoted;
@@ -119,7 +119,7 @@ fn file_of<H: Host>(
     extent: &Extent<String>,
 ) -> Result<Option<ExtentFile>, Failure> {
     match extent {
-        Extent::Flat { name, .. } => Ok(Some(folder.find(host, name)?)),
+        Extent::Flat { name, .. } => Ok(Some(find(host, folder, name)?)),
         _ => Ok(None),
     }
 }

@@ -11,9 +11,10 @@ ghost use Rattle.imago_drivers.specs.RawImage.{size_of};
 ghost use Rattle.imago_vmdk.specs.Image.{is_opened, takes_unknown_keys, descriptor_in};
 ghost use Rattle.imago_vmdk.specs.Disk.{described_value};
 ghost use Rattle.imago_plan.specs.PieceBytes.{plan_bytes};
-ghost use Rattle.imago_img_parts.specs.declared.text.ImageFormat.TheVariants as ImageFormat;
-ghost use Rattle.imago_img_parts.specs.Formats.{IsFormatBy};
-ghost use Rattle.imago_img_parts.specs.Extents.{flat_names, storage_paths as paths_of};
+ghost use Rattle.imago_images.specs.declared.format.ImageFormat.TheVariants as ImageFormat;
+ghost use Rattle.imago_images.specs.Formats.{IsFormatBy};
+ghost use Rattle.imago_images.specs.Extents.{flat_names};
+ghost use Rattle.imago_img_parts.specs.Extents.{storage_paths as paths_of};
 ghost use Rattle.imago_img_parts.specs.Images.{ShowsRaw, IsImageOf};
 
 use crate::chain::{Planned, planned_chain};
@@ -24,6 +25,7 @@ use crate::vmdk::{VmdkFile, vmdk_file};
 use imago_access::access::FormatAccess;
 use imago_drivers::drivers::FormatDriverInstance;
 use imago_drivers::raw::Raw;
+pub use imago_images::opening::Opening;
 use imago_plan::laws::{plans_of_raw, plans_of_vmdk};
 use imago_plan::name::path_beside;
 use imago_plan::piece::Piece;
@@ -34,17 +36,6 @@ use imago_storage::storage::Storage;
 use imago_vmdk::line::Extent;
 use imago_vmdk::vmdk::Vmdk;
 use std::alloc::{AllocError, Global};
-
-/// How images are to be opened.
-#[derive(Clone, Copy)]
-pub struct Opening {
-    /// The format, if it isn't to be told from the file's first bytes.
-    pub format: Option<ImageFormat>,
-    /// Whether a descriptor's keys that aren't known are refused.
-    pub strict: bool,
-    /// Whether a descriptor may name files elsewhere than in its folder and below.
-    pub allow_outside: bool,
-}
 
 /// An image: where the bytes of its disk stand, and in which files.
 #[derive(Drop)]

@@ -3,7 +3,7 @@ ghost use Rattle.std.specs.Prelude.{◌≡◌, ◌+◌, ◌-◌, ◌<◌, ◌≤
 ghost use Rattle.std.specs.Prelude.{length, drop, option_to_list};
 ghost use Rattle.std.specs.String.{string_bytes};
 
-use crate::host::{FileKind, FileStatus, Host};
+use crate::host::{FileKind, FileStatus, Files, Host};
 use imago_file::host::HostFile;
 use imago_plan::copy::Target;
 use std::alloc::Global;
@@ -266,9 +266,7 @@ fn is_zero(bytes: &[u8]) -> bool {
     all == 0
 }
 
-impl<'a> Host for System<'a> {
-    type Target = NewFile;
-
+impl<'a> Files for System<'a> {
     ghost contents = { λ _. None };
 
     fn alloc(&self) -> Global {
@@ -297,6 +295,14 @@ impl<'a> Host for System<'a> {
         Ok(())
     }
 
+    fn real_path(&self, path: &str) -> io::Result<String> {
+        Ok(fs::canonicalize(self.runtime, path)?.into_string())
+    }
+}
+
+impl<'a> Host for System<'a> {
+    type Target = NewFile;
+
     fn hole_at(&self, path: &str, offset: u64, most: u64) -> u64 {
         let Ok(mut open) = self.open(path) else {
             return 0;
@@ -323,10 +329,6 @@ impl<'a> Host for System<'a> {
         let run = run_in(open.length(), offset, most);
         self.keep(open);
         run
-    }
-
-    fn real_path(&self, path: &str) -> io::Result<String> {
-        Ok(fs::canonicalize(self.runtime, path)?.into_string())
     }
 
     // That something can't be shown is no failure of the copy.

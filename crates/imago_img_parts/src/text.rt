@@ -1,57 +1,13 @@
 //! What an image file begins with, and the text of a descriptor.
 ghost use Rattle.std.specs.Prelude.{◌≡◌, length, Some, IfOk, IfSome, OnOk};
 ghost use Rattle.imago_plan.specs.PieceBytes.{bytes_at};
-ghost use Rattle.imago_img_parts.specs.Formats.{format_by_start, guessed};
+ghost use Rattle.imago_images.specs.Formats.{guessed};
 
 use crate::failure::{Failure, Reason};
 use crate::host::{FileKind, FileStatus, Host};
+pub use imago_images::format::ImageFormat;
+use imago_images::format::guess;
 use imago_storage::error::Error;
-
-/// The format of an image in files.
-#[derive(Clone, Copy, PartialEq, Eq)]
-pub enum ImageFormat {
-    /// The file is the disk.
-    Raw,
-    /// The file is the text descriptor of a VMDK image.
-    Vmdk,
-    /// The file is a qcow2 image.
-    Qcow2,
-}
-
-impl ImageFormat {
-    ghost use Rattle.imago_img_parts.specs.Formats.{format_named};
-
-    /// The format of that name, if one has it.
-    #[tactic(auto, unfolding(crate::specs::Formats::format_named))]
-    pub fn named(name: &str) -> Option<ImageFormat>
-        ensures { result ≡ format_named name.now }
-    {
-        match name {
-            "raw" => Some(ImageFormat::Raw),
-            "vmdk" => Some(ImageFormat::Vmdk),
-            "qcow2" => Some(ImageFormat::Qcow2),
-            _ => None,
-        }
-    }
-
-    /// The name by which the command line and the output know it.
-    pub fn name(self) -> &'static str {
-        match self {
-            ImageFormat::Raw => "raw",
-            ImageFormat::Vmdk => "vmdk",
-            ImageFormat::Qcow2 => "qcow2",
-        }
-    }
-}
-
-/// What each descriptor begins with.
-const SIGNATURE: &[u8; 21] = b"# Disk DescriptorFile";
-
-/// What a sparse VMDK image begins with.
-const SPARSE: &[u8; 4] = b"KDMV";
-
-/// What each qcow2 image begins with.
-const QCOW2: &[u8; 4] = b"QFI\xfb";
 
 /// The most bytes that a descriptor has.
 const LONGEST_TEXT: u64 = 2097152;
@@ -66,24 +22,6 @@ pub fn file_status<H: Host>(host: &H, path: &str) -> Result<FileStatus, Failure>
         return Err(Failure::of_file(host.alloc(), path, Reason::NotAFile));
     }
     Ok(status)
-}
-
-/// The format of an image by the bytes that its file begins with: a VMDK image begins with a
-/// descriptor, a qcow2 image with its magic number. A sparse VMDK image has none.
-#[tactic(auto, unfolding(crate::specs::Formats::format_by_start))]
-fn guess(head: &[u8; 21]) -> Option<ImageFormat>
-    ensures { result ≡ format_by_start head.now }
-{
-    if head.starts_with(SPARSE) {
-        return None;
-    }
-    if head.starts_with(SIGNATURE) {
-        return Some(ImageFormat::Vmdk);
-    }
-    if head.starts_with(QCOW2) {
-        return Some(ImageFormat::Qcow2);
-    }
-    Some(ImageFormat::Raw)
 }
 
 /// The format of an image by the bytes that its file begins with. A sparse VMDK image is refused,

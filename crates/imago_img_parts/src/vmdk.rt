@@ -3,7 +3,8 @@ ghost use Rattle.std.specs.Prelude.{◌≡◌, List, length, map, not, true, IfO
 ghost use Rattle.std.specs.String.{string_bytes};
 ghost use Rattle.imago_vmdk.specs.Image.{is_opened, takes_unknown_keys, descriptor_in, extents_in};
 ghost use Rattle.imago_loaded.specs.Loaded.{loaded_bytes};
-ghost use Rattle.imago_img_parts.specs.Extents.{flat_names, AreLetThrough};
+ghost use Rattle.imago_images.specs.Extents.{flat_names};
+ghost use Rattle.imago_img_parts.specs.Extents.{AreLetThrough};
 ghost use Rattle.imago_img_parts.specs.Extents.{storage_paths as paths_of};
 
 use crate::extents::Folder;

@@ -3,7 +3,7 @@ ghost use Rattle.std.specs.Prelude.{◌≡◌, ◌+◌, ◌≤◌, [], Some, len
 ghost use Rattle.std.specs.Prelude.{EachIndex, MatchOption, MatchResult};
 ghost use Rattle.imago_plan.specs.PieceBytes.{bytes_at};
 
-use imago_img_parts::host::{FileKind, FileStatus, Host};
+use imago_img_parts::host::{FileKind, FileStatus, Files, Host};
 use imago_plan::copy::Target;
 use std::alloc::{AllocError, Global};
 use std::cell::Cell;
@@ -178,10 +178,8 @@ fn byte_at(bytes: &[u8], offset: u64, count: u64) -> Option<u8>
     Some(bytes[index as usize])
 }
 
-impl Host for MemoryHost {
+impl Files for MemoryHost {
     ghost use Rattle.imago_img_tests.specs.MemoryFiles.{file_bytes};
-
-    type Target = MemoryTarget;
 
     ghost contents = { λ h. Some (file_bytes h.files.items) };
 
@@ -213,6 +211,20 @@ impl Host for MemoryHost {
         Ok(())
     }
 
+    fn real_path(&self, path: &str) -> io::Result<String> {
+        if path == "." {
+            return Ok(String::from_str(self.alloc, "/images")?);
+        }
+        match self.file(path)?.nature {
+            Nature::Link(to) => Ok(String::from_str(self.alloc, to)?),
+            _ => Ok(format!(in self.alloc; "/images/{path}")?),
+        }
+    }
+}
+
+impl Host for MemoryHost {
+    type Target = MemoryTarget;
+
     fn hole_at(&self, path: &str, offset: u64, most: u64) -> u64 {
         match self.bytes(path) {
             Some(bytes) => zeroes_at(bytes, offset, most),
@@ -224,16 +236,6 @@ impl Host for MemoryHost {
         match self.bytes(path) {
             Some(bytes) => others_at(bytes, offset, most),
             None => 0,
-        }
-    }
-
-    fn real_path(&self, path: &str) -> io::Result<String> {
-        if path == "." {
-            return Ok(String::from_str(self.alloc, "/images")?);
-        }
-        match self.file(path)?.nature {
-            Nature::Link(to) => Ok(String::from_str(self.alloc, to)?),
-            _ => Ok(format!(in self.alloc; "/images/{path}")?),
         }
     }
 

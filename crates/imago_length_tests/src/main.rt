@@ -12,7 +12,7 @@ ghost use Rattle.std.specs.Prelude.{◌<◌};
 mod attributes;
 
 use crate::attributes::ByAttributes;
-use imago_img_parts::host::Host;
+use imago_img_parts::host::{Files, Host};
 use imago_img_parts::system::System;
 use std::fs::{self, File};
 use std::io;

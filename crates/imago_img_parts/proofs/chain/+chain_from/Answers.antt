@@ -5,14 +5,14 @@ use Rattle.imago_loaded.specs.Features.{loaded_features}
 use Rattle.imago_loaded.specs.Loaded.{loaded_bytes}
 use Rattle.imago_loaded.specs.declared.loaded.LoadedFile.{LoadedFile}
 use Rattle.imago_img_parts.specs.declared.backing.Backing.{Backing}
-use Rattle.imago_img_parts.specs.Formats.{IsFormatBy}
+use Rattle.imago_images.specs.Formats.{IsFormatBy}
 use Rattle.imago_img_parts.specs.Layers.{IsLayerOf, ShowsLayers}
 use Rattle.imago_img_parts.proofs.Layers.{alone_told, over_told, told_format}
 use Rattle.imago_img_parts.proofs.chain.+chain_from.Goals as goal
 
 pub returns-in_default : goal.returns-in_default
 returns-in_default g t c =
-    let known = g.H.Host.contents c.args.host.now in
+    let known = g.H.Files.contents c.args.host.now in
     let layer = c.in_ok-driver.field-0 in
     let says : Option Backing → Type 0 = λ b. IfSome known (λ files. IsLayerOf
     (view_over (λ (s : LoadedFile). loaded_features) (λ (s : LoadedFile). 0) loaded_bytes)
@@ -26,7 +26,7 @@ returns-in_default g t c =
 
 pub returns : goal.returns
 returns g t c =
-    let known = g.H.Host.contents c.args.host.now in
+    let known = g.H.Files.contents c.args.host.now in
     let chain = c.in_ok-over.field-0 in
     let below = c.in_ok-below.below in
     let layer = c.in_ok-driver.field-0 in

@@ -10,6 +10,6 @@ use Rattle.imago_img_parts.proofs.chain.planned_chain.Goals as goal
 pub returns : goal.returns
 returns g c =
     let chain = c.in_ok-chain.chain in
-    planned_told (view_over (λ (s : LoadedFile). loaded_features) (λ (s : LoadedFile). 0) loaded_bytes) c.args.how.strict c.args.how.allow_outside (g.H.Host.contents c.args.host.now)
+    planned_told (view_over (λ (s : LoadedFile). loaded_features) (λ (s : LoadedFile). 0) loaded_bytes) c.args.how.strict c.args.how.allow_outside (g.H.Files.contents c.args.host.now)
     c.args.path.now chain.image (map string_bytes chain.paths.items) c.in_ok-size.size
     c.in_ok-size.pieces.items c.in_ok-size.ensures.pieces c.in_ok-size.ensures.size c.in_ok-chain.ensures

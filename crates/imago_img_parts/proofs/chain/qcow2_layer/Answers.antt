@@ -1,4 +1,4 @@
-use Rattle.std.proofs.Common.{◌≡◌, refl, ap, subst, ◌∙◌, ◌≤◌}
+use Rattle.std.proofs.Common.{refl, ap, subst, ◌∙◌, ◌≤◌}
 use Rattle.imago_vmdk.specs.Disk.{with_bytes}
 use Rattle.imago_qcow2.specs.Entry.{qcow2_place, cluster_length}
 use Rattle.imago_qcow2.proofs.ToldSteps.{places_told, size_told, cluster_told}
@@ -15,7 +15,7 @@ returns-clause-layer g c = λ files known len.
     let driver = c.in_ok-driver.driver in
     let own = loaded_bytes driver.storage in
     let same = c.in_ok-driver.ensures.tables files known len in
-    let below = known_is (g.H.Host.contents c.args.host.now) _ files known c.in_ok-below.ensures.path in
+    let below = known_is (g.H.Files.contents c.args.host.now) _ files known c.in_ok-below.ensures.path in
     let least : 512 ≤ cluster_length own =
     subst (λ n. 512 ≤ n) (cluster_told loaded_features own refl driver.header driver.tables driver.cluster.length driver.cluster_is driver.loaded) driver.cluster.shortest in (
       qcow2_place file,

@@ -6,7 +6,7 @@ use Rattle.imago_vmdk.specs.Image.{extents_in}
 use Rattle.imago_vmdk.specs.Disk.{described_place}
 use Rattle.imago_loaded.specs.Loaded.{loaded_bytes}
 use Rattle.imago_loaded.proofs.LoadedSteps.{known_is}
-use Rattle.imago_img_parts.specs.Extents.{size_read}
+use Rattle.imago_images.specs.Extents.{size_read}
 use Rattle.imago_img_parts.specs.Files.{path_at, storages_by}
 use Rattle.imago_img_parts.proofs.Layers.{vmdk_same}
 use Rattle.imago_img_parts.proofs.chain.vmdk_layer.Goals as goal
@@ -20,7 +20,7 @@ returns-clause-layer g c = λ files known len.
     let keys = c.in_ok-driver.ensures.keys in
     let named = c.in_ok-driver.ensures.paths in
     let is : loaded_bytes v.descriptor ≡ files path =
-    known_is (g.H.Host.contents c.args.host.now) _ files known c.in_ok-driver.ensures.text len in
+    known_is (g.H.Files.contents c.args.host.now) _ files known c.in_ok-driver.ensures.text len in
     let first : files (path_at own 0) ≡ files path = ap (λ (ps : List (List ℕ)). files (path_at ps 0)) named in
     let reading : reading_of (not c.args.how.strict) (files path) ≡ Ok (extents_in v, v.size) =
     subst (λ (xs : List ℕ). reading_of (not c.args.how.strict) xs ≡ Ok (extents_in v, v.size)) is

@@ -10,7 +10,7 @@ returns g c =
     let on_left = c.in_ok-left.ensures.image in
     let on_right = c.in_ok-right.ensures.image in
     compared_images c.args.how.strict c.args.how.allow_outside c.args.how.format
-    (g.H.Host.contents c.args.host.now) c.args.first.now c.args.second.now on_left.0 on_right.0
+    (g.H.Files.contents c.args.host.now) c.args.first.now c.args.second.now on_left.0 on_right.0
     left.format right.format left.size right.size (map string_bytes left.paths.items)
     (map string_bytes right.paths.items) left.pieces.items right.pieces.items
     c.in_ok-difference.difference c.in_ok-left.ensures.format c.in_ok-right.ensures.format

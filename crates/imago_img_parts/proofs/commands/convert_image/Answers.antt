@@ -7,8 +7,8 @@ pub returns-clause-converted : goal.returns-clause-converted
 returns-clause-converted g c =
     let image = c.in_ok-image.image in
     let opened = c.in_ok-image.ensures.image in
-    let old = g.H.Host.contents c.args.host.now in
-    let new = g.H.Host.contents c.convert.new.host in
+    let old = g.H.Files.contents c.args.host.now in
+    let new = g.H.Files.contents c.convert.new.host in
     on_ok c.convert.result _ _
     (converted_image c.args.how.strict c.args.how.allow_outside c.args.how.format old new
     c.args.from.now c.args.to.now opened.0 image.format image.size

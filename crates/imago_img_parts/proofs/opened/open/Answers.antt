@@ -7,7 +7,7 @@ use Rattle.imago_img_parts.proofs.opened.open.Goals as goal
 
 pub returns-in-Raw-clause-image : goal.returns-in-Raw-clause-image
 returns-in-Raw-clause-image g c =
-    let contents = g.H.Host.contents c.args.host.now in
+    let contents = g.H.Files.contents c.args.host.now in
     let text = raw_text contents c.args.path.now c.in_ok-length.field-0.length c.in_ok-length.ensures in
     let is : List ℕ → Type 0 = λ x. IfSome contents (λ files. x ≡ files c.args.path.now) in
     let shows : List ℕ → OpenedImage → Type 0 = λ x image.
@@ -17,7 +17,7 @@ returns-in-Raw-clause-image g c =
 
 pub returns-in-Qcow2-clause-image : goal.returns-in-Qcow2-clause-image
 returns-in-Qcow2-clause-image g c =
-    let contents = g.H.Host.contents c.args.host.now in
+    let contents = g.H.Files.contents c.args.host.now in
     let text = raw_text contents c.args.path.now c.in_ok-length.field-0.length c.in_ok-length.ensures in
     let is : List ℕ → Type 0 = λ x. IfSome contents (λ files. x ≡ files c.args.path.now) in
     let shows : List ℕ → OpenedImage → Type 0 = λ x image.

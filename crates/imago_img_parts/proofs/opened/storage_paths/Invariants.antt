@@ -2,7 +2,8 @@ use Rattle.std.proofs.Common.{◌≡◌, ◌++◌, map, drop}
 use Rattle.std.specs.String.{string_bytes}
 use Rattle.imago_vmdk.specs.Line.{extent_with}
 use Rattle.imago_plan.specs.Names.{path_beside}
-use Rattle.imago_img_parts.specs.Extents.{flat_names, storage_paths}
+use Rattle.imago_images.specs.Extents.{flat_names}
+use Rattle.imago_img_parts.specs.Extents.{storage_paths}
 use Rattle.imago_img_parts.proofs.opened.storage_paths.Given as goal
 
 -- with those that are left, the paths are all
