@@ -3,6 +3,7 @@ pub mod FileCalls
 pub mod Features
 pub mod FileGate
 pub mod GateParts
+pub mod StorageParts
 pub mod Names
 pub mod Opening
 pub mod MemoryFile

@@ -1,5 +1,6 @@
 use Rattle.imago_any_driver.specs.AnyDriver.{view_over}
-use Rattle.imago_images.proofs.PathSteps.{features_of, faults_of, bytes_of}
+use Rattle.imago_images.proofs.PathSteps.{features_of, bytes_of}
+use Rattle.imago_file.specs.StorageParts.{faults_of}
 use Rattle.imago_images.proofs.PartSteps.{driver_in, below_in, path_in, format_in}
 use Rattle.imago_images.proofs.LayerSteps.{raw_told, qcow2_told, vmdk_told, qcow2_said, alone_said}
 use Rattle.imago_images.proofs.layer.open_layer.Goals as goal

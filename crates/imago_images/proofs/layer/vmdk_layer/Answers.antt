@@ -1,7 +1,8 @@
 use Rattle.std.proofs.Common.{◌≡◌, ◌∙◌, refl, IfSome}
 use Rattle.std.specs.String.{string_bytes}
 use Rattle.imago_file.specs.Names.{path_beside}
-use Rattle.imago_images.proofs.PathSteps.{features_of, faults_of, bytes_of}
+use Rattle.imago_images.proofs.PathSteps.{features_of, bytes_of}
+use Rattle.imago_file.specs.StorageParts.{faults_of}
 use Rattle.imago_images.proofs.PartSteps.{beside_named}
 use Rattle.imago_images.proofs.VmdkSteps.{vmdk_opened}
 use Rattle.imago_images.proofs.layer.vmdk_layer.Goals as goal

@@ -4,7 +4,8 @@ use Rattle.imago_any_driver.specs.AnyDriver.{view_over}
 use Rattle.imago_images.proofs.NameSteps.{told_format}
 use Rattle.imago_images.specs.declared.layer.Below.{Below}
 use Rattle.imago_images.specs.Images.{IsLayerOf, IsImageIn}
-use Rattle.imago_images.proofs.PathSteps.{features_of, faults_of, bytes_of}
+use Rattle.imago_images.proofs.PathSteps.{features_of, bytes_of}
+use Rattle.imago_file.specs.StorageParts.{faults_of}
 use Rattle.imago_images.proofs.PartSteps.{path_in, format_in}
 use Rattle.imago_images.proofs.ChainSteps.{alone_image, over_image}
 use Rattle.imago_images.proofs.opener.+open_chain.Goals as goal
