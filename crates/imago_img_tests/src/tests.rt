@@ -5,6 +5,7 @@ mod chains;
 mod commands;
 mod headers;
 mod loaded;
+mod opener;
 mod qcow2;
 mod refusals;
 mod set_up;

@@ -282,9 +282,26 @@ static PARTS: [PartsRow; 14] = [
     ),
 ];
 
+/// A host with the files, in which no file can be made.
+pub fn files(alloc: Global) -> Result<MemoryHost, AllocError> {
+    filled(alloc, MemoryHost::new(alloc, 0, false), &[])
+}
+
 /// A host with the files and some more.
 fn set_up(alloc: Global, case: &Case, more: &[PartsRow]) -> Result<MemoryHost, AllocError> {
-    let mut host = MemoryHost::new(alloc, case.appends, case.finishes);
+    filled(
+        alloc,
+        MemoryHost::new(alloc, case.appends, case.finishes),
+        more,
+    )
+}
+
+/// A host, with the files and some more put into it.
+fn filled(
+    alloc: Global,
+    mut host: MemoryHost,
+    more: &[PartsRow],
+) -> Result<MemoryHost, AllocError> {
     for (path, zeroes, bytes, nature) in &FILES {
         let mut whole = vec![in alloc; 0u8; *zeroes]?;
         whole.extend_from_slice(bytes)?;

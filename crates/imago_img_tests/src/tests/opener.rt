@@ -1,0 +1,191 @@
+//! Images opened by their paths: what they show, and why others aren't opened.
+
+use super::set_up::files;
+use imago_access::access::FormatAccess;
+use imago_drivers::drivers::FormatDriverInstance;
+use imago_images::files::Files;
+use imago_images::format::ImageFormat;
+use imago_images::opener::open_image;
+use imago_images::opening::Opening;
+use std::alloc::Global;
+use std::process::Abort;
+
+/// What comes of an opening.
+#[derive(Drop)]
+enum Opened {
+    /// An image of that format and size in bytes, and four bytes at each of those offsets.
+    Shows(ImageFormat, u64, &'static [(u64, [u8; 4])]),
+    /// A refusal, as it is printed.
+    Refused(&'static str),
+}
+
+/// A path, whether files outside of the image's folder may be opened, and what comes of it.
+type Row = (&'static str, bool, Opened);
+
+static ROWS: [Row; 16] = [
+    (
+        "plain.raw",
+        false,
+        Opened::Shows(ImageFormat::Raw, 7, &[(2, *b"hell"), (5, *b"lo\0\0")]),
+    ),
+    (
+        "disk.vmdk",
+        false,
+        Opened::Shows(
+            ImageFormat::Vmdk,
+            2048,
+            &[(2, *b"\0abc"), (510, [0; 4]), (1536, *b"xyz\0")],
+        ),
+    ),
+    // A cluster of each of three layers, and one that none has.
+    (
+        "top.qcow2",
+        false,
+        Opened::Shows(
+            ImageFormat::Qcow2,
+            2048,
+            &[
+                (0, *b"t\0\0\0"),
+                (512, *b"m\0\0\0"),
+                (1024, *b"b\0\0\0"),
+                (1536, [0; 4]),
+            ],
+        ),
+    ),
+    // All of it stands in the files of the descriptor below.
+    (
+        "above.qcow2",
+        false,
+        Opened::Shows(
+            ImageFormat::Qcow2,
+            2048,
+            &[(2, *b"\0abc"), (1536, *b"xyz\0")],
+        ),
+    ),
+    (
+        "outside.qcow2",
+        true,
+        Opened::Shows(ImageFormat::Qcow2, 2048, &[(0, *b"top\0")]),
+    ),
+    (
+        "outside.qcow2",
+        false,
+        Opened::Refused("\"outside.qcow2\": its backing file \"/etc/secret\" isn't in its folder"),
+    ),
+    (
+        "linked.qcow2",
+        false,
+        Opened::Refused("\"linked.qcow2\": its backing file \"link.bin\" isn't in its folder"),
+    ),
+    (
+        "outside.vmdk",
+        false,
+        Opened::Refused(
+            "\"outside.vmdk\": its extent \"/etc/secret\" isn't in the descriptor's folder",
+        ),
+    ),
+    (
+        "linked.vmdk",
+        false,
+        Opened::Refused(
+            "\"linked.vmdk\": its extent \"link.bin\" isn't in the descriptor's folder",
+        ),
+    ),
+    (
+        "circle.qcow2",
+        false,
+        Opened::Refused(
+            "\"circle.qcow2\": backing files lead in a circle: \"circle.qcow2\", \"around.qcow2\", \
+            \"circle.qcow2\"",
+        ),
+    ),
+    (
+        "lost.qcow2",
+        false,
+        Opened::Refused("\"nowhere.raw\": entity not found"),
+    ),
+    (
+        "other.qcow2",
+        false,
+        Opened::Refused(
+            "\"other.qcow2\": its backing file has the format \"luks\", which isn't supported",
+        ),
+    ),
+    (
+        "parts",
+        false,
+        Opened::Refused("\"parts\": neither a regular file nor a block device"),
+    ),
+    (
+        "folder.vmdk",
+        false,
+        Opened::Refused("\"parts\": neither a regular file nor a block device"),
+    ),
+    (
+        "sparse.vmdk",
+        false,
+        Opened::Refused("\"sparse.vmdk\": a sparse VMDK image, which isn't supported"),
+    ),
+    (
+        "nothing.raw",
+        false,
+        Opened::Refused("\"nothing.raw\": entity not found"),
+    ),
+];
+
+/// An image has that size, and those bytes.
+fn shows<D: FormatDriverInstance>(
+    rt: &impl Abort,
+    alloc: Global,
+    image: &FormatAccess<D>,
+    size: u64,
+    parts: &[(u64, [u8; 4])],
+) {
+    assert_eq!(rt; image.size(), size);
+    for &(offset, bytes) in parts {
+        let mut buf = [0xff; 4];
+        let read = image.read(alloc, &mut buf, offset);
+        assert!(rt; read.is_ok());
+        assert_eq!(rt; buf, bytes);
+    }
+}
+
+/// Opens the image of a row.
+fn check_row<H: Files>(rt: &impl Abort, host: &H, row: &Row) {
+    let alloc = host.alloc();
+    let (path, allow_outside, opened) = row;
+    let how = Opening {
+        format: None,
+        strict: false,
+        allow_outside: *allow_outside,
+    };
+    match (open_image(host, path, how), opened) {
+        (Ok((format, image)), Opened::Shows(expected, size, parts)) => {
+            assert!(rt; format == *expected, "the format of {path}");
+            shows(rt, alloc, &image, *size, parts);
+        }
+        (Err(cause), Opened::Refused(told)) => {
+            let text = format!(in alloc; "{cause}");
+            assert!(rt;
+                matches!(&text, Ok(text) if text.as_str() == *told),
+                "{cause}"
+            );
+        }
+        _ => assert!(rt; false, "the opening of {path}"),
+    }
+}
+
+/// Opens the images of all rows.
+fn check_rows<H: Files>(rt: &impl Abort, host: &H) {
+    for row in &ROWS {
+        check_row(rt, host, row);
+    }
+}
+
+#[test]
+fn images_are_opened_by_their_paths(rt: HostRuntime) {
+    let host = files(rt.alloc());
+    assert!(&rt; host.is_ok());
+    let Ok(host) = &host else { return };
+    check_rows(&rt, host);
+}
