@@ -18,12 +18,12 @@ pub enum OpenError {
         /// Why.
         reason: Reason,
     },
-    /// An allocation failed. Nothing is open.
+    /// An allocation failed.
     #[error("out of memory")]
     Memory,
 }
 
-/// Why a file can't be used. Nothing was written to any file, and none stays open.
+/// Why a file can't be used.
 #[derive(Debug, Drop, Error)]
 pub enum Reason {
     /// The system refused to look at the file, or to read it, and this is its answer.
@@ -38,7 +38,7 @@ pub enum Reason {
     /// A VMDK image of another kind than a text descriptor with extents.
     #[error("a sparse VMDK image, which isn't supported")]
     Sparse,
-    /// A qcow2 image whose backing file of that name isn't beside it, nor below.
+    /// A qcow2 image whose backing file of that name or path isn't beside it, nor below.
     #[error("its backing file {0:?} isn't in its folder")]
     BackingOutside(String),
     /// A qcow2 image which says that its backing file has this format.
@@ -50,7 +50,7 @@ pub enum Reason {
     /// A chain of more than 200 files, which begins with these paths.
     #[error("more than 200 files stand one below the other: {0}")]
     TooManyBelow(String),
-    /// A descriptor whose extent of that name isn't beside it, nor below.
+    /// A descriptor whose extent of that name or path isn't beside it, nor below.
     #[error("its extent {0:?} isn't in the descriptor's folder")]
     Outside(String),
     /// What has no bytes at offsets: a folder, a pipe, a socket, a terminal.

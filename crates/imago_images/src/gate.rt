@@ -58,7 +58,8 @@ pub enum Named {
 /// let through only where that is permitted. Otherwise it is [`Reason::Outside`] or
 /// [`Reason::BackingOutside`], with its path. The gate itself answers [`Error::Denied`] for
 /// whatever it doesn't let through or can't look at, and
-/// [`into_refusal`](FolderGate::into_refusal) tells why.
+/// [`into_refusal`](FolderGate::into_refusal) tells why; and [`Error::NotFound`] where no path is
+/// asked for.
 #[derive(Drop)]
 pub struct FolderGate<'a, 'b, H: Files> {
     host: &'a H,
@@ -96,7 +97,7 @@ impl<'a, 'b, H: Files> FolderGate<'a, 'b, H> {
         })
     }
 
-    /// Why the last file that was asked for wasn't handed out, if one wasn't.
+    /// Why the last file that wasn't handed out was refused, if there is one.
     pub fn into_refusal(self) -> Option<OpenError> {
         self.refused
     }

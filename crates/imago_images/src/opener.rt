@@ -29,7 +29,7 @@ pub type FileImage<'a, H> = FormatAccess<AnyDriver<PathStorage<'a, H>>>;
 /// Opens the image of a path: its file, the files of its extents or, of a qcow2 image, the whole
 /// chain of files below it. Tells the format of the file of that path too.
 ///
-/// Each file is looked at before it is read, and none is kept open. What is read is the first 21
+/// Each file is looked at before it is read. The image holds none open; its host may. What is read is the first 21
 /// bytes of a file whose format isn't said to be raw, and headers, tables and descriptors; data is
 /// read when the image is. No file is written to, now or later.
 ///

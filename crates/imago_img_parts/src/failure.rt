@@ -14,10 +14,11 @@ pub enum Failure {
     /// The words of the command line are no command.
     #[error("{0}; imago-img --help tells the commands")]
     Misuse(Misuse),
-    /// A file can't be used. What can be done about it, if anything, ends the line.
+    /// A file can't be opened, read or written. What can be done about it, if anything, ends the
+    /// line.
     #[error("{0}{advice}", advice = advice_on(.0))]
     NotOpened(OpenError),
-    /// A file isn't made.
+    /// A file isn't begun, because of what has its path already.
     #[error("{path:?}: {refusal}")]
     NotMade {
         /// The file, as the program was given it.

@@ -23,10 +23,11 @@ const MOST_OPEN: usize = 16;
 
 /// The system's files.
 ///
-/// A file is opened for the first question about it, and stays open for later ones. A number of
-/// files do: before another is opened, the one that wasn't used for the longest time is closed. A
-/// file that refuses a read is closed at once, and all are when a new file gets its path. While a
-/// file is open, what its path leads to isn't asked again.
+/// A file is opened for the first question about its bytes or its end, and stays open for later
+/// ones. A number of files do: before another is opened, the one that wasn't used for the longest
+/// time is closed, and all are where the system refuses to open one more. A file that refuses a read
+/// is closed at once, and all are when a new file gets its path. While a file is open, such
+/// questions don't ask again what its path leads to; `status` and `real_path` always do.
 #[derive(Drop)]
 pub struct System<'a> {
     runtime: &'a HostRuntime,
@@ -89,11 +90,24 @@ impl<'a> System<'a> {
             Some(open) => Ok(open),
             None => {
                 close_unused(&mut kept, self.others);
-                OpenFile::open(self.runtime, path)
+                self.open_anew(&mut kept, path)
             }
         };
         self.kept.set(kept);
         opened
+    }
+
+    /// Opens the file of a path. Where that is refused, it is tried once more with all files closed
+    /// that are kept: the system may allow fewer open files than these.
+    fn open_anew(&self, kept: &mut Vec<OpenFile>, path: &str) -> io::Result<OpenFile>
+        ensures { IfOk result (λ found. string_bytes found.path ≡ path.now) }
+    {
+        let opened = OpenFile::open(self.runtime, path);
+        if opened.is_ok() || kept.is_empty() {
+            return opened;
+        }
+        close_unused(kept, 0);
+        OpenFile::open(self.runtime, path)
     }
 
     /// Keeps a file open, as the one that was used last.
