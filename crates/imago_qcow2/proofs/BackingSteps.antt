@@ -27,7 +27,7 @@ module _ (bytes : List ℕ) (end : ℕ) where
       ap (λ (x : Result (Option (ℕ × ℕ)) Error). if nat_lt at end then
       (if nat_lt (end - at) (8 + be32 bytes (at + 4)) then Err Error.InvalidData else
       (if nat_eq (be32 bytes at) 0 then Ok None else
-      (if nat_eq (be32 bytes at) 3799591626 then Ok (Some (at + 8, be32 bytes (at + 4))) else x)))
+      (if nat_eq (be32 bytes at) 0xe2792aca then Ok (Some (at + 8, be32 bytes (at + 4))) else x)))
       else Ok None)
       (steps_free a b (next at) (omega (arith, h)) (omega (arith, k)))
 
@@ -56,20 +56,20 @@ module _ (bytes : List ℕ) (end : ℕ) where
         let v : nat_eq (be32 bytes at) 0 ≡ true = grind (arith, nat_tests) in
         one_step at ∙ rw (t, u, v) refl
 
-    pub found_here : 8 + count ≤ end - at → kind ≡ 3799591626 → format_from bytes at end ≡ Ok (Some (at + 8, count))
+    pub found_here : 8 + count ≤ end - at → kind ≡ 0xe2792aca → format_from bytes at end ≡ Ok (Some (at + 8, count))
     found_here h e =
         let t : nat_lt at end ≡ true = grind (arith, nat_tests) in
         let u : nat_lt (end - at) (8 + be32 bytes (at + 4)) ≡ false = grind (arith, nat_tests) in
         let v : nat_eq (be32 bytes at) 0 ≡ false = grind (arith, nat_tests) in
-        let w : nat_eq (be32 bytes at) 3799591626 ≡ true = grind (arith, nat_tests) in
+        let w : nat_eq (be32 bytes at) 0xe2792aca ≡ true = grind (arith, nat_tests) in
         one_step at ∙ rw (t, u, v, w, is_count) refl
 
-    pub goes_on : (then_at : ℕ) → then_at ≡ at + (8 + next_multiple_of count 8) → 8 + count ≤ end - at → (kind ≡ 0 → ⊥) → (kind ≡ 3799591626 → ⊥) → format_from bytes then_at end ≡ format_from bytes at end
+    pub goes_on : (then_at : ℕ) → then_at ≡ at + (8 + next_multiple_of count 8) → 8 + count ≤ end - at → (kind ≡ 0 → ⊥) → (kind ≡ 0xe2792aca → ⊥) → format_from bytes then_at end ≡ format_from bytes at end
     goes_on then_at is h no_end other =
         let t : nat_lt at end ≡ true = grind (arith, nat_tests) in
         let u : nat_lt (end - at) (8 + be32 bytes (at + 4)) ≡ false = grind (arith, nat_tests) in
         let v : nat_eq (be32 bytes at) 0 ≡ false = grind (arith, nat_tests, no_end) in
-        let w : nat_eq (be32 bytes at) 3799591626 ≡ false = grind (arith, nat_tests, other) in
+        let w : nat_eq (be32 bytes at) 0xe2792aca ≡ false = grind (arith, nat_tests, other) in
         let e : format_by (suc (end - at)) bytes at end ≡ format_by (end - at) bytes (next at) end = rw (t, u, v, w) refl in
         let f : format_from bytes at end ≡ format_from bytes (next at) end = one_step at ∙ e ∙ rest_steps at in
         let g : then_at ≡ next at = rw is_count at is in

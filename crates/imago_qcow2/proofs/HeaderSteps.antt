@@ -1,10 +1,10 @@
 -- The headers of two lists of bytes that begin alike.
-use Rattle.std.proofs.Common.{◌≡◌, ℕ, ◌+◌, ◌<◌, ◌≤◌, List, length, refl, ap, ◌∙◌, arith}
+use Rattle.std.proofs.Common.{◌≡◌, ℕ, ◌+◌, ◌^◌, ◌<◌, ◌≤◌, List, length, refl, ap, ◌∙◌, arith}
 use Rattle.std.specs.Prelude.{slice_index}
 use Rattle.imago_storage.specs.Bytes.{IsReadAt}
 use Rattle.imago_qcow2.specs.declared.header.Header.{Header}
 use Rattle.imago_qcow2.specs.Numbers.{be32, be64}
-use Rattle.imago_qcow2.specs.Header.{magic_fault, features_of, support_fault, bounds_fault, added_fault, name_fault, size_fault, table_fault, own_length, header_of, IsSound}
+use Rattle.imago_qcow2.specs.Header.{magic_fault, features_at, support_fault, bounds_fault, added_fault, name_fault, size_fault, table_fault, own_length, header_of, IsSound}
 use Rattle.imago_qcow2.proofs.NumberSteps.{range32, range64}
 
 module _ (bytes head : List ℕ) (same : (i : ℕ) → i < 112 → slice_index head i ≡ slice_index bytes i) where
@@ -21,7 +21,7 @@ module _ (bytes head : List ℕ) (same : (i : ℕ) → i < 112 → slice_index h
   same8 = same 104 (omega arith)
 
   pub header_same : (file : ℕ) → header_of head file ≡ header_of bytes file
-  unfolding header_of own_length magic_fault features_of support_fault bounds_fault added_fault name_fault size_fault table_fault
+  unfolding header_of own_length magic_fault features_at support_fault bounds_fault added_fault name_fault size_fault table_fault
   header_same file =
       let a = same32 0 (omega arith) in
       let b = same32 4 (omega arith) in
@@ -35,7 +35,9 @@ module _ (bytes head : List ℕ) (same : (i : ℕ) → i < 112 → slice_index h
       let j = same64 24 (omega arith) in
       let k = same64 40 (omega arith) in
       let m = same64 72 (omega arith) in
-      rw (a, b, c, d, e, f, g, h, i, j, k, m, same8) refl
+      let n = same64 80 (omega arith) in
+      let o = same64 88 (omega arith) in
+      rw (a, b, c, d, e, f, g, h, i, j, k, m, n, o, same8) refl
 
   own_same : own_length head ≡ own_length bytes
   unfolding own_length
@@ -45,11 +47,12 @@ module _ (bytes head : List ℕ) (same : (i : ℕ) → i < 112 → slice_index h
   sound_same file h s = record {
     version = s.version ∙ same32 4 (omega arith);
     own = s.own ∙ own_same;
-    bits = s.bits ∙ same32 20 (omega arith);
+    cluster = s.cluster ∙ ap (λ b. 2 ^ b) (same32 20 (omega arith));
     size = s.size ∙ same64 24 (omega arith);
     start = s.start ∙ same64 40 (omega arith);
     name_start = s.name_start ∙ same64 8 (omega arith);
     name_length = s.name_length ∙ same32 16 (omega arith);
+    is_size = s.is_size;
     least = s.least;
     most = s.most;
     inside = s.inside;

@@ -1,5 +1,5 @@
 -- What was loaded of a file that tells its bytes is what these say.
-use Rattle.std.proofs.Common.{◌≡◌, ℕ, ◌+◌, ◌*◌, ◌/◌, ◌%◌, ◌^◌, ◌<◌, ◌≤◌, ◌⊎◌, ⊎_elim, inl, inr, List, length, Option, Some, None, Ok, Err, refl, sym, ap, ◌∙◌, arith}
+use Rattle.std.proofs.Common.{◌≡◌, ℕ, ◌+◌, ◌*◌, ◌/◌, ◌%◌, ◌<◌, ◌≤◌, ◌⊎◌, ⊎_elim, inl, inr, List, length, Option, Some, None, Ok, Err, refl, sym, ap, ◌∙◌, arith}
 use Rattle.std.specs.Prelude.{slice_index, slice_get, IfSome, IsTrue, IsOk}
 use Rattle.std.specs.Int.{div_ceil}
 use Rattle.std.specs.declared.vec.Vec.{Vec}
@@ -64,7 +64,7 @@ module _ (f : Features) (bytes : List ℕ) (told : IsTrue f.tells_bytes) where
     told_sound = sound_same bytes x.head (same_head x.head x.is_head) (length bytes) h x.sound
 
     pub told_cluster : header_cluster h ≡ cluster_length bytes
-    told_cluster = ap (λ b. 2 ^ b) told_sound.bits
+    told_cluster = told_sound.cluster
 
     told_count : header_tables h ≡ table_count bytes
     told_count = ap (λ s. div_ceil s (header_cluster h / 8 * header_cluster h)) told_sound.size ∙ ap (λ c. div_ceil (disk_size bytes) (c / 8 * c)) told_cluster

@@ -32,7 +32,7 @@ format_by (suc steps) bytes at end =
     if nat_lt at end then
     (if nat_lt (end - at) (8 + be32 bytes (at + 4)) then Err Error.InvalidData else
     (if nat_eq (be32 bytes at) 0 then Ok None else
-    (if nat_eq (be32 bytes at) 3799591626 then Ok (Some (at + 8, be32 bytes (at + 4))) else
+    (if nat_eq (be32 bytes at) 0xe2792aca then Ok (Some (at + 8, be32 bytes (at + 4))) else
     format_by steps bytes (at + (8 + next_multiple_of (be32 bytes (at + 4)) 8)) end)))
     else Ok None
 

@@ -28,10 +28,10 @@ per_table bytes = cluster_length bytes / 8
 
 -- an entry's lower 56 bits, and its upper 8
 abbrev pub low : ℕ → ℕ
-low entry = entry % 72057594037927936
+low entry = entry % 2 ^ 56
 
 abbrev pub high : ℕ → ℕ
-high entry = entry / 72057594037927936
+high entry = entry / 2 ^ 56
 
 -- What an L1 entry says of its L2 table, in a file of that length: bits 0 to 8 and 56 to 62 are
 -- reserved, bit 63 says nothing here, and the bits between are the table's offset, which lies on a

@@ -1,6 +1,6 @@
 -- What the header of a file says, and its faults.
 use Rattle.std.specs.Prelude.{◌≡◌, ◌<◌, ◌≤◌, ℕ, ◌+◌, ◌-◌, ◌*◌, ◌%◌, ◌/◌, ◌^◌, ◌||◌, not}
-use Rattle.std.specs.Prelude.{List, slice_index, if◌then◌else◌, nat_lt, nat_eq, Result, Ok}
+use Rattle.std.specs.Prelude.{Bool, List, slice_index, if◌then◌else◌, nat_lt, nat_eq, Result, Ok}
 use Rattle.std.specs.Prelude.{Err}
 use Rattle.imago_storage.specs.declared.error.Error.{Error}
 use Rattle.imago_qcow2.specs.declared.header.Header.{Header}
@@ -15,11 +15,15 @@ and_then (Err e) next = Err e
 -- and 251
 unfoldable pub magic_fault : List ℕ → ℕ → Result (Unit {0}) Error
 magic_fault head file = if nat_lt file 72
-    || not (nat_eq (be32 head 0) 1363560955) then Err Error.InvalidData else Ok tt
+    || not (nat_eq (be32 head 0) 0x514649fb) then Err Error.InvalidData else Ok tt
 
--- the incompatible features, which version 2 doesn't have
-unfoldable pub features_of : List ℕ → ℕ
-features_of head = if nat_lt (be32 head 4) 3 then 0 else be64 head 72
+-- the features in the word at that offset; version 2 has none
+unfoldable pub features_at : List ℕ → ℕ → ℕ
+features_at head at = if nat_lt (be32 head 4) 3 then 0 else be64 head at
+
+-- a word of features has that bit
+unfoldable pub has_bit : ℕ → ℕ → Bool
+has_bit features bit = nat_eq (features / 2 ^ bit % 2) 1
 
 -- What isn't offered: another version than 2 and 3, any encryption, and an incompatible feature but
 -- bit 0, the image wasn't closed, and bit 3, its compressed clusters aren't deflated. So the image
@@ -28,8 +32,8 @@ unfoldable pub support_fault : List ℕ → Result (Unit {0}) Error
 support_fault head =
     if (nat_lt (be32 head 4) 2 || nat_lt 3 (be32 head 4))
     || not (nat_eq (be32 head 32) 0) then Err Error.Unsupported else
-    (if nat_lt 15 (features_of head)
-    || not (nat_eq (features_of head / 2 % 4) 0) then Err Error.Unsupported else Ok tt)
+    (if nat_lt 15 (features_at head 72)
+    || not (nat_eq (features_at head 72 / 2 % 4) 0) then Err Error.Unsupported else Ok tt)
 
 -- a cluster has 512 bytes at least, and 2 MiB at most
 unfoldable pub bounds_fault : List ℕ → Result (Unit {0}) Error
@@ -87,8 +91,11 @@ header_of head file =
     (and_then (table_fault head file (2 ^ be32 head 20))
     (Ok (record {
       version = be32 head 4;
+      incompatible_features = features_at head 72;
+      compatible_features = features_at head 80;
+      autoclear_features = features_at head 88;
       own_length = own_length head;
-      cluster_bits = be32 head 20;
+      cluster_size = 2 ^ be32 head 20;
       size = be64 head 24;
       l1_start = be64 head 40;
       l1_count = be32 head 36;
@@ -96,19 +103,24 @@ header_of head file =
       name_length = be32 head 16;
     }))))))))
 
+-- a cluster's length in bytes is a power of two, from 512 bytes to 2 MiB
+abbrev pub IsClusterSize : ℕ → Type 0
+IsClusterSize size = (bits : ℕ) × (9 ≤ bits) × (bits ≤ 21) × (size ≡ 2 ^ bits)
+
 -- What holds of a header that has no fault.
 pub record IsSound (head : List ℕ) (file : ℕ) (h : Header) : Type 0 where
   pub version : h.version ≡ be32 head 4
   pub own : h.own_length ≡ own_length head
-  pub bits : h.cluster_bits ≡ be32 head 20
+  pub cluster : h.cluster_size ≡ 2 ^ be32 head 20
   pub size : h.size ≡ be64 head 24
   pub start : h.l1_start ≡ be64 head 40
   pub name_start : h.name_start ≡ be64 head 8
   pub name_length : h.name_length ≡ be32 head 16
-  pub least : 9 ≤ h.cluster_bits
-  pub most : h.cluster_bits ≤ 21
+  pub is_size : IsClusterSize h.cluster_size
+  pub least : 512 ≤ h.cluster_size
+  pub most : h.cluster_size ≤ 2097152
   pub inside : h.l1_start + h.l1_count * 8 ≤ file
-  pub covers : h.size ≤ h.l1_count * (2 ^ h.cluster_bits / 8 * 2 ^ h.cluster_bits)
+  pub covers : h.size ≤ h.l1_count * (h.cluster_size / 8 * h.cluster_size)
 
 -- the header names a backing file; a name without bytes is none
 abbrev pub NamesBacking : Header → Type 0

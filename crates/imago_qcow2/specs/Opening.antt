@@ -112,7 +112,7 @@ IsRefusedOverlay f bytes e = (e ≡ Error.Unsupported) × ((h : Header) × IsOpe
 
 -- whether a file that begins so looks like an image: the magic number, and a version that is known
 unfoldable pub probe_of : List ℕ → Bool
-probe_of bytes = nat_eq (be32 bytes 0) 1363560955
+probe_of bytes = nat_eq (be32 bytes 0) 0x514649fb
     && (nat_eq (be32 bytes 4) 2 || nat_eq (be32 bytes 4) 3)
 
 -- why the file can't be read for that

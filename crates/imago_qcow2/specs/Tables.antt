@@ -1,6 +1,6 @@
 -- What was loaded of an image when it was opened, what that says of its disk, and how it follows
 -- from the bytes of the file.
-use Rattle.std.specs.Prelude.{◌≡◌, ℕ, ◌*◌, ◌/◌, ◌%◌, ◌^◌, List, length, slice_get}
+use Rattle.std.specs.Prelude.{◌≡◌, ℕ, ◌*◌, ◌/◌, ◌%◌, List, length, slice_get}
 use Rattle.std.specs.Prelude.{Option, Some, None, IfSome, IsTrue, Ok}
 use Rattle.std.specs.Int.{div_ceil}
 use Rattle.std.specs.declared.vec.Vec.{Vec}
@@ -66,7 +66,7 @@ loaded_place loaded bytes p =
 
 -- a cluster's length, and how many L2 tables the disk has, as the header says
 abbrev pub header_cluster : Header → ℕ
-header_cluster h = 2 ^ h.cluster_bits
+header_cluster h = h.cluster_size
 
 abbrev pub header_tables : Header → ℕ
 header_tables h = div_ceil h.size (header_cluster h / 8 * header_cluster h)

@@ -11,6 +11,9 @@ use imago_storage::ext::StorageExt;
 use imago_storage::storage::Storage;
 use std::alloc::Global;
 
+/// The type of the header extension that holds the name of the backing file's format.
+const BACKING_FORMAT: u32 = 0xe279_2aca;
+
 /// The type of the header extension at that offset of the file, and the length of what it holds, in
 /// bytes.
 fn extension_at<S: Storage>(storage: &S, alloc: Global, at: u64) -> Result<(u32, u64), Error>
@@ -51,7 +54,7 @@ pub(crate) fn find_format<S: Storage>(
         if kind == 0 {
             return Ok(None);
         }
-        if kind == 3799591626 {
+        if kind == BACKING_FORMAT {
             return Ok(Some((at + 8, count)));
         }
         at += 8 + count.next_multiple_of(8);

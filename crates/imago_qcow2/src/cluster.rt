@@ -1,7 +1,6 @@
 //! The length of clusters, by which guest clusters are found.
 ghost use Rattle.std.specs.Prelude.{◌≡◌, ℕ, ◌-◌, ◌*◌, ◌/◌, ◌%◌, ◌^◌, ◌<◌, ◌≤◌};
-
-use crate::header::cluster_of_bits;
+ghost use Rattle.imago_qcow2.specs.Header.{IsClusterSize};
 
 /// The length of a cluster in bytes, which is a power of two. So is the number of entries in an L2
 /// table, and how many bytes of the disk one is for. All that is asked of an offset is told without
@@ -19,15 +18,14 @@ pub(crate) struct ClusterSize {
 }
 
 impl ClusterSize {
-    /// Clusters whose length is that power of two.
-    pub(crate) fn of_bits(bits: u32) -> ClusterSize
-        requires least { 9 ≤ bits }
-        requires most { bits ≤ 21 }
-        ensures { result.length ≡ 2 ^ bits }
+    /// Clusters of that length.
+    pub(crate) fn of_length(size: u64) -> ClusterSize
+        requires { IsClusterSize size }
+        ensures { result.length ≡ size }
     {
         ClusterSize {
-            length: cluster_of_bits(bits),
-            bits,
+            length: size,
+            bits: size.trailing_zeros(),
         }
     }
 

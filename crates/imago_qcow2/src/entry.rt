@@ -4,6 +4,9 @@ ghost use Rattle.imago_qcow2.specs.Entry.{table_in_entry, cluster_in_entry};
 
 use crate::cluster::ClusterSize;
 
+/// An entry's lower 56 bits are an offset of the file; its upper 8 say other things.
+const OFFSETS: u64 = 1 << 56;
+
 /// What an entry of the L1 table says of its L2 table.
 #[derive(Clone, Copy, Debug, PartialEq, Eq)]
 pub enum L2Table {
@@ -38,8 +41,8 @@ pub(crate) fn table_in(file: u64, cluster: u64, entry: u64) -> L2Table
     ensures says { result ≡ table_in_entry file cluster entry }
     ensures small { (at : ℕ) → result ≡ L2Table.Stored at → at < 2 ^ 56 }
 {
-    let low = entry % 72057594037927936;
-    let high = entry / 72057594037927936;
+    let low = entry % OFFSETS;
+    let high = entry / OFFSETS;
     if high % 128 != 0 || low % cluster != 0 {
         return L2Table::Invalid;
     }
@@ -58,8 +61,8 @@ pub(crate) fn cluster_in(version: u32, cluster: ClusterSize, entry: u64) -> Gues
     ensures says { result ≡ cluster_in_entry version cluster.length entry }
     ensures small { (at : ℕ) → result ≡ GuestCluster.Stored at → at < 2 ^ 56 }
 {
-    let low = entry % 72057594037927936;
-    let high = entry / 72057594037927936;
+    let low = entry % OFFSETS;
+    let high = entry / OFFSETS;
     if high / 64 % 2 == 1 {
         return GuestCluster::Compressed;
     }

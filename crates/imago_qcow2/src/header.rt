@@ -3,24 +3,34 @@ ghost use Rattle.std.specs.Prelude.{◌≡◌, ◌≤◌, ◌<◌, ◌^◌, ◌+
 ghost use Rattle.std.specs.Prelude.{true, false};
 ghost use Rattle.imago_qcow2.specs.Numbers.{be32, be64};
 ghost use Rattle.imago_qcow2.specs.Fault.{answer_of};
-ghost use Rattle.imago_qcow2.specs.Header.{features_of, own_length, magic_fault, support_fault};
+ghost use Rattle.imago_qcow2.specs.Header.{features_at, own_length, magic_fault, support_fault};
 ghost use Rattle.imago_qcow2.specs.Header.{added_fault, bounds_fault, table_fault, size_fault};
 ghost use Rattle.imago_qcow2.specs.Header.{name_fault, header_of, IsSound, NamesBacking};
+ghost use Rattle.imago_qcow2.specs.Header.{has_bit as is_bit_set};
 
 use crate::fault::HeaderFault;
 use crate::number::{number32, number64};
 
 /// How many bytes of the file's start are looked at as its header.
-pub(crate) const HEADER: usize = 112;
+pub const HEAD_LENGTH: usize = 112;
+
+/// What a file begins with: `QFI\xfb`.
+pub(crate) const MAGIC: u32 = 0x5146_49fb;
 
 /// What the header says of the disk.
 #[derive(Clone, Copy, Debug, PartialEq, Eq)]
 pub struct Header {
     pub(crate) version: u32,
+    /// Features that a reader has to know, each by its bit. Version 2 has none of any kind.
+    pub(crate) incompatible_features: u64,
+    /// Features that may be passed over.
+    pub(crate) compatible_features: u64,
+    /// Features that a writer who doesn't know them has to clear.
+    pub(crate) autoclear_features: u64,
     /// The header's own length in bytes.
     pub(crate) own_length: u32,
-    /// The base 2 logarithm of a cluster's length in bytes.
-    pub(crate) cluster_bits: u32,
+    /// A cluster's length in bytes.
+    pub(crate) cluster_size: u64,
     /// The disk's size in bytes.
     pub(crate) size: u64,
     /// Where the L1 table begins in the file, in bytes.
@@ -34,6 +44,62 @@ pub struct Header {
 }
 
 impl Header {
+    /// The version of the format, which is 2 or 3.
+    pub fn version(self) -> u32
+        ensures { result ≡ self.version }
+    {
+        self.version
+    }
+
+    /// The disk's size in bytes.
+    pub fn disk_size(self) -> u64
+        ensures { result ≡ self.size }
+    {
+        self.size
+    }
+
+    /// A cluster's length in bytes.
+    pub fn cluster_size(self) -> u64
+        ensures { result ≡ self.cluster_size }
+    {
+        self.cluster_size
+    }
+
+    /// Whether the image wasn't closed, so that its reference counts may be wrong.
+    pub fn is_dirty(self) -> bool
+        ensures { result ≡ is_bit_set self.incompatible_features 0 }
+    {
+        has_bit(self.incompatible_features, 0)
+    }
+
+    /// Whether the kind of compression is told, and isn't deflate.
+    pub fn has_compression_type(self) -> bool
+        ensures { result ≡ is_bit_set self.incompatible_features 3 }
+    {
+        has_bit(self.incompatible_features, 3)
+    }
+
+    /// Whether a writer may leave reference counts behind while the image is open.
+    pub fn has_lazy_refcounts(self) -> bool
+        ensures { result ≡ is_bit_set self.compatible_features 0 }
+    {
+        has_bit(self.compatible_features, 0)
+    }
+
+    /// Whether the image has bitmaps that are in order.
+    pub fn has_bitmaps(self) -> bool
+        ensures { result ≡ is_bit_set self.autoclear_features 0 }
+    {
+        has_bit(self.autoclear_features, 0)
+    }
+
+    /// Whether an external data file, if the image has one, is the disk as it is.
+    pub fn has_raw_external_data(self) -> bool
+        ensures { result ≡ is_bit_set self.autoclear_features 1 }
+    {
+        has_bit(self.autoclear_features, 1)
+    }
+
     /// Whether a backing file is named. A name without bytes is none.
     pub(crate) fn names_backing(self) -> bool
         ensures yes { result ≡ true → NamesBacking self }
@@ -49,22 +115,32 @@ fn check_magic(head: &[u8], file: u64) -> Result<(), HeaderFault>
     requires { 112 ≤ length head.now }
     ensures { answer_of result ≡ magic_fault head.now file }
 {
-    if file < 72 || number32(head, 0) != 1363560955 {
+    if file < 72 || number32(head, 0) != MAGIC {
         return Err(HeaderFault::NoImage);
     }
     Ok(())
 }
 
-/// The incompatible features of the image. Version 2 has none.
-#[tactic(auto, unfolding(crate::specs::Header::features_of))]
-fn features(head: &[u8]) -> u64
-    requires { 112 ≤ length head.now }
-    ensures { result ≡ features_of head.now }
+/// Whether a word of features has that bit.
+#[tactic(auto, unfolding(crate::specs::Header::has_bit))]
+fn has_bit(features: u64, bit: u32) -> bool
+    requires { bit < 64 }
+    ensures { result ≡ is_bit_set features bit }
+{
+    features >> bit & 1 == 1
+}
+
+/// The features in the word at that offset of the header. Version 2 has none.
+#[tactic(auto, unfolding(crate::specs::Header::features_at))]
+fn features(head: &[u8], at: usize) -> u64
+    requires len { 112 ≤ length head.now }
+    requires within { at ≤ 104 }
+    ensures { result ≡ features_at head.now at }
 {
     if number32(head, 4) < 3 {
         return 0;
     }
-    number64(head, 72)
+    number64(head, at)
 }
 
 /// The header's own length in bytes.
@@ -94,7 +170,7 @@ fn check_support(head: &[u8]) -> Result<(), HeaderFault>
     if number32(head, 32) != 0 {
         return Err(HeaderFault::Encryption);
     }
-    let features = features(head);
+    let features = features(head, 72);
     if features > 15 || features / 2 % 4 != 0 {
         return Err(HeaderFault::Features(features & !9));
     }
@@ -205,9 +281,11 @@ pub(crate) fn cluster_of_bits(bits: u32) -> u64
     2u64.pow(bits)
 }
 
-/// What the header of a file of that length says, or its first fault.
+/// What the header of a file of that length says, or its first fault: by the first
+/// [`HEAD_LENGTH`] bytes of the file, with 0 past its end. The fault is the one for which
+/// [`open_image`](crate::qcow2::Qcow2::open_image) refuses the file.
 #[tactic(auto, unfolding(crate::specs::Header::header_of))]
-pub(crate) fn read_header(head: &[u8], file: u64) -> Result<Header, HeaderFault>
+pub fn read(head: &[u8], file: u64) -> Result<Header, HeaderFault>
     requires { 112 ≤ length head.now }
     ensures header { answer_of result ≡ header_of head.now file }
     ensures sound { IfOk result (λ h. IsSound head.now file h) }
@@ -215,16 +293,18 @@ pub(crate) fn read_header(head: &[u8], file: u64) -> Result<Header, HeaderFault>
     check_magic(head, file)?;
     check_support(head)?;
     check_bounds(head)?;
-    let cluster_bits = number32(head, 20);
-    let cluster = cluster_of_bits(cluster_bits);
+    let cluster = cluster_of_bits(number32(head, 20));
     check_added(head, cluster)?;
     check_name(head, cluster)?;
     check_size(head, cluster)?;
     check_table(head, file, cluster)?;
     Ok(Header {
         version: number32(head, 4),
+        incompatible_features: features(head, 72),
+        compatible_features: features(head, 80),
+        autoclear_features: features(head, 88),
         own_length: own_length_of(head),
-        cluster_bits,
+        cluster_size: cluster,
         size: number64(head, 24),
         l1_start: number64(head, 40),
         l1_count: number32(head, 36),

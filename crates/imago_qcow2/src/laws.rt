@@ -62,25 +62,25 @@ pub fn same_tables_stand_alike()
 /// What entries of L2 tables say: in version 3 and in clusters of 64 KiB, unless the name says
 /// else.
 pub fn worked_l2_entries()
-    ensures stored { cluster_in_entry 3 65536 9223372036855103488 ≡ GuestCluster.Stored 327680 }
+    ensures stored { cluster_in_entry 3 65536 0x8000000000050000 ≡ GuestCluster.Stored 0x50000 }
     ensures not_allocated { cluster_in_entry 3 65536 0 ≡ GuestCluster.Absent }
-    ensures copied_bit_alone { cluster_in_entry 3 65536 9223372036854775808 ≡ GuestCluster.Absent }
+    ensures copied_bit_alone { cluster_in_entry 3 65536 0x8000000000000000 ≡ GuestCluster.Absent }
     ensures zero { cluster_in_entry 3 65536 1 ≡ GuestCluster.Zero }
-    ensures zero_with_a_cluster { cluster_in_entry 3 65536 327681 ≡ GuestCluster.Zero }
+    ensures zero_with_a_cluster { cluster_in_entry 3 65536 0x50001 ≡ GuestCluster.Zero }
     ensures zero_in_version_2 { cluster_in_entry 2 65536 1 ≡ GuestCluster.Invalid }
-    ensures compressed { cluster_in_entry 3 65536 4611686018427715875 ≡ GuestCluster.Compressed }
-    ensures unaligned { cluster_in_entry 3 65536 328192 ≡ GuestCluster.Invalid }
-    ensures in_clusters_of_512 { cluster_in_entry 3 512 328192 ≡ GuestCluster.Stored 328192 }
-    ensures reserved_bit { cluster_in_entry 3 65536 72057594038255616 ≡ GuestCluster.Invalid }
+    ensures compressed { cluster_in_entry 3 65536 0x4000000000050123 ≡ GuestCluster.Compressed }
+    ensures unaligned { cluster_in_entry 3 65536 0x50200 ≡ GuestCluster.Invalid }
+    ensures in_clusters_of_512 { cluster_in_entry 3 512 0x50200 ≡ GuestCluster.Stored 0x50200 }
+    ensures reserved_bit { cluster_in_entry 3 65536 0x100000000050000 ≡ GuestCluster.Invalid }
 {}
 
 /// What entries of an L1 table say, in clusters of 64 KiB: in a file of 1 MiB, and of the table's
 /// end.
 pub fn worked_l1_entries()
-    ensures stored { table_in_entry 1048576 65536 9223372036854972416 ≡ L2Table.Stored 196608 }
+    ensures stored { table_in_entry 1048576 65536 0x8000000000030000 ≡ L2Table.Stored 0x30000 }
     ensures absent { table_in_entry 1048576 65536 0 ≡ L2Table.Absent }
-    ensures low_bit { table_in_entry 1048576 65536 196609 ≡ L2Table.Invalid }
-    ensures high_bit { table_in_entry 1048576 65536 144115188076052480 ≡ L2Table.Invalid }
-    ensures to_the_end { table_in_entry 262144 65536 196608 ≡ L2Table.Stored 196608 }
-    ensures past_the_end { table_in_entry 262143 65536 196608 ≡ L2Table.Invalid }
+    ensures low_bit { table_in_entry 1048576 65536 0x30001 ≡ L2Table.Invalid }
+    ensures high_bit { table_in_entry 1048576 65536 0x200000000030000 ≡ L2Table.Invalid }
+    ensures to_the_end { table_in_entry 262144 65536 0x30000 ≡ L2Table.Stored 0x30000 }
+    ensures past_the_end { table_in_entry 262143 65536 0x30000 ≡ L2Table.Invalid }
 {}

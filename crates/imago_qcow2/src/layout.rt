@@ -8,7 +8,7 @@ ghost use Rattle.imago_qcow2.specs.Opening.{table_count};
 
 use crate::entry::{L2Table, table_in};
 use crate::fault::HeaderFault;
-use crate::header::{cluster_of_bits, read_header};
+use crate::header;
 use crate::number::number64;
 
 /// The L1 table of a file, as far as the disk needs it.
@@ -35,8 +35,8 @@ pub fn l1_table(head: &[u8], file: u64) -> Result<L1Table, HeaderFault>
     ensures inside { IfOk result (λ t. t.start + 8 * t.count ≤ file) }
     ensures refused { IfErr result (λ f. header_of head.now file ≡ Err (error_of f)) }
 {
-    let header = read_header(head, file)?;
-    let cluster = cluster_of_bits(header.cluster_bits);
+    let header = header::read(head, file)?;
+    let cluster = header.cluster_size;
     Ok(L1Table {
         start: header.l1_start,
         count: header.size.div_ceil(cluster / 8 * cluster),

@@ -25,7 +25,7 @@ use crate::absent::AbsentRuns;
 use crate::backing::find_format;
 use crate::cluster::ClusterSize;
 use crate::entry::{GuestCluster, cluster_in};
-use crate::header::{HEADER, Header, read_header};
+use crate::header::{self, HEAD_LENGTH, Header, MAGIC};
 use crate::map::{goes_on, mapping_of};
 use crate::number::number32;
 pub use crate::qcow2_builder::Qcow2OpenBuilder;
@@ -71,9 +71,9 @@ fn load_header<S: Storage>(storage: &S, alloc: Global, file: u64) -> Result<Head
         × (header_of head (length (S.bytes storage.now)) ≡ Err e))
         ⊎ allowed (header_reasons (S.features storage.now) (S.bytes storage.now)) e) }
 {
-    let mut head = [0u8; HEADER];
+    let mut head = [0u8; HEAD_LENGTH];
     storage.read(alloc, &mut head, 0)?;
-    match read_header(&head, file) {
+    match header::read(&head, file) {
         Ok(header) => Ok(header),
         Err(fault) => Err(fault.error()),
     }
@@ -86,7 +86,7 @@ fn is_recognized(head: &[u8]) -> bool
     ensures { result ≡ probe_of head.now }
 {
     let version = number32(head, 4);
-    number32(head, 0) == 1363560955 && (version == 2 || version == 3)
+    number32(head, 0) == MAGIC && (version == 2 || version == 3)
 }
 
 impl<S: Storage> Qcow2<S> {
@@ -138,7 +138,7 @@ impl<S: Storage> Qcow2<S> {
         if !backing_laid && header.names_backing() {
             return Err(Error::Unsupported);
         }
-        let cluster = ClusterSize::of_bits(header.cluster_bits);
+        let cluster = ClusterSize::of_length(header.cluster_size);
         let count = header.size.div_ceil(cluster.length / 8 * cluster.length);
         let tables = read_tables(
             &storage,
@@ -156,6 +156,14 @@ impl<S: Storage> Qcow2<S> {
             tables,
             absent,
         })
+    }
+
+    /// What the header says.
+    pub fn header(&self) -> Header
+        ensures header { result ≡ header_in self.now }
+        ensures cluster { 512 ≤ result.cluster_size }
+    {
+        self.header
     }
 
     /// The name of the backing file, as it stands in the file, where there is one. It is in the

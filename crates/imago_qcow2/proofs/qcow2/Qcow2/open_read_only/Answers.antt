@@ -1,4 +1,4 @@
-use Rattle.std.proofs.Common.{rules, ◌*◌, ◌/◌, ◌^◌, ◌≤◌, ◌∙◌, ◌≡◌, false, ap, refl, inl, inr, length, arith}
+use Rattle.std.proofs.Common.{rules, ◌*◌, ◌/◌, ◌≤◌, ◌∙◌, ◌≡◌, false, ap, refl, inl, inr, length, arith}
 use Rattle.std.specs.Prelude.{IfErr, ◌⊎◌}
 use Rattle.std.specs.Int.{div_ceil}
 use Rattle.imago_storage.specs.declared.error.Error.TheVariants as E
@@ -15,10 +15,9 @@ pub read_tables-requires-clause-inside : goal.read_tables-requires-clause-inside
 read_tables-requires-clause-inside g c =
     let h = c.in_ok-header.header in
     let s = c.in_ok-header.ensures.header.sound in
-    let cluster = c.of_bits-cluster.result.length in
-    let covers : h.size ≤ h.l1_count * (2 ^ h.cluster_bits / 8 * 2 ^ h.cluster_bits) = s.covers in
-    let here : h.size ≤ h.l1_count * (cluster / 8 * cluster) = rw c.of_bits-cluster.ensures covers in
-    let few : c.div_ceil-count.result ≤ h.l1_count = rw c.div_ceil-count.ensures (enough h.size h.l1_count (cluster / 8 * cluster) (span_positive cluster c.of_bits-cluster.result.shortest) here) in
+    let cluster = c.of_length-cluster.result.length in
+    let here : h.size ≤ h.l1_count * (cluster / 8 * cluster) = rw c.of_length-cluster.ensures s.covers in
+    let few : c.div_ceil-count.result ≤ h.l1_count = rw c.div_ceil-count.ensures (enough h.size h.l1_count (cluster / 8 * cluster) (span_positive cluster c.of_length-cluster.result.shortest) here) in
     omega (arith, few, s.inside, c.in_ok-file.ensures.value)
 
 pub returns-in_err-header-clause-refused : goal.returns-in_err-header-clause-refused
@@ -29,9 +28,9 @@ returns-in_err-header-clause-refused g c =
 pub returns-in_err-tables-clause-refused : goal.returns-in_err-tables-clause-refused
 returns-in_err-tables-clause-refused g c =
     let h = c.in_ok-header.header in
-    let value = c.of_bits-cluster.ensures in
+    let value = c.of_length-cluster.ensures in
     let p = err_from_is_err_and c.from_residual-in_err-tables.result c.from_residual-in_err-tables.ensures.1 in
-    rw (p.1, p.2) (inl (tables_late (g.S.Storage.features c.args.storage) (g.S.Storage.bytes c.args.storage) h h.l1_start c.div_ceil-count.result c.of_bits-cluster.result.length c.in_err-tables.field-0.0 c.in_ok-header.ensures.header refl
+    rw (p.1, p.2) (inl (tables_late (g.S.Storage.features c.args.storage) (g.S.Storage.bytes c.args.storage) h h.l1_start c.div_ceil-count.result c.of_length-cluster.result.length c.in_err-tables.field-0.0 c.in_ok-header.ensures.header refl
     (c.div_ceil-count.ensures ∙ ap (λ x. div_ceil h.size (x / 8 * x)) value) value c.in_err-tables.ensures.refusals))
 
 pub returns-clause-opened : goal.returns-clause-opened
@@ -56,12 +55,12 @@ pub invariant_of-result : goal.invariant_of-result
 invariant_of-result g c = record {
   cluster_is = search rules;
   fits = search rules;
-  covers = let cluster = c.of_bits-cluster.result.length in
-      covers_disk c.in_ok-header.header.size (length c.in_ok-tables.tables.l1.items) c.div_ceil-count.result (cluster / 8 * cluster) (span_positive cluster c.of_bits-cluster.result.shortest) c.div_ceil-count.ensures c.in_ok-tables.ensures.held.all;
-  loaded = let value = c.of_bits-cluster.ensures in
-      loaded_image (g.S.Storage.features c.args.storage) (g.S.Storage.bytes c.args.storage) c.in_ok-header.header c.in_ok-tables.tables c.div_ceil-count.result c.of_bits-cluster.result.length c.in_ok-header.ensures.header
+  covers = let cluster = c.of_length-cluster.result.length in
+      covers_disk c.in_ok-header.header.size (length c.in_ok-tables.tables.l1.items) c.div_ceil-count.result (cluster / 8 * cluster) (span_positive cluster c.of_length-cluster.result.shortest) c.div_ceil-count.ensures c.in_ok-tables.ensures.held.all;
+  loaded = let value = c.of_length-cluster.ensures in
+      loaded_image (g.S.Storage.features c.args.storage) (g.S.Storage.bytes c.args.storage) c.in_ok-header.header c.in_ok-tables.tables c.div_ceil-count.result c.of_length-cluster.result.length c.in_ok-header.ensures.header
       (c.div_ceil-count.ensures ∙ ap (λ x. div_ceil c.in_ok-header.header.size (x / 8 * x)) value) value c.in_ok-tables.ensures.held;
-  absent_runs = c.in_ok-absent.ensures c.in_ok-header.header c.of_bits-cluster.result.length refl;
+  absent_runs = c.in_ok-absent.ensures c.in_ok-header.header c.of_length-cluster.result.length refl;
 }
 
 pub returns-in_err-absent-clause-refused : goal.returns-in_err-absent-clause-refused
@@ -69,9 +68,9 @@ returns-in_err-absent-clause-refused g c =
     let F = g.S.Storage.features c.args.storage in
     let B = g.S.Storage.bytes c.args.storage in
     let h = c.in_ok-header.header in
-    let value = c.of_bits-cluster.ensures in
+    let value = c.of_length-cluster.ensures in
     let m : IfErr c.from_residual-in_err-absent.result (λ e. e ≡ E.Memory) = search rules in
     lacks_memory c.from_residual-in_err-absent.result
     (λ e. IsRefusedOpening F B e ⊎ ((c.args.backing_laid ≡ false) × IsRefusedOverlay F B e)) m
-    (inl (tables_late F B h h.l1_start c.div_ceil-count.result c.of_bits-cluster.result.length E.Memory c.in_ok-header.ensures.header refl
+    (inl (tables_late F B h h.l1_start c.div_ceil-count.result c.of_length-cluster.result.length E.Memory c.in_ok-header.ensures.header refl
     (c.div_ceil-count.ensures ∙ ap (λ x. div_ceil h.size (x / 8 * x)) value) value tt))
