@@ -57,6 +57,7 @@ fn copy_first<D: FormatDriverInstance, T: Target>(
     buf: &mut [u8],
 ) -> Result<u64, CopyError>
     ensures some { IfOk result (λ n. (0 < n) × (n ≤ most)) }
+    ensures same { T.made_for target.new ≡ T.made_for target.old }
     ensures put { IsTrue (tells_bytes D.view image.now) → IfOk result (λ n.
         IsPut (disk_value D.view image.now) at n (T.contents target.old) (T.contents target.new)) }
 {
@@ -84,6 +85,7 @@ fn copy_data<D: FormatDriverInstance, T: Target>(
     requires within { least ≤ run.count }
     ensures least { IfOk result (λ n. least ≤ n) }
     ensures within { IfOk result (λ n. n ≤ run.count) }
+    ensures same { T.made_for target.new ≡ T.made_for target.old }
     ensures put { IsTrue (tells_bytes D.view image.now) → IfOk result (λ n.
         IsPut (disk_value D.view image.now) run.at n (T.contents target.old)
         (T.contents target.new)) }
@@ -106,7 +108,8 @@ fn copy_run<D: FormatDriverInstance, T: Target>(
 ) -> Result<(), CopyError>
     requires run { IsRunAt (leads_to D.view image.now) run.at run }
     requires inside { run.at + run.count < 2 ^ 64 }
-    ensures { IsTrue (tells_bytes D.view image.now) → OnOk result
+    ensures same { T.made_for target.new ≡ T.made_for target.old }
+    ensures put { IsTrue (tells_bytes D.view image.now) → OnOk result
         (IsPut (disk_value D.view image.now) run.at run.count (T.contents target.old)
         (T.contents target.new)) }
 {
@@ -143,7 +146,8 @@ pub fn copy_disk<D: FormatDriverInstance, T: Target>(
     target: &mut T,
     buf: &mut [u8],
 ) -> Result<(), CopyError>
-    ensures { IsTrue (tells_bytes D.view image.now) → OnOk result
+    ensures same { T.made_for target.new ≡ T.made_for target.old }
+    ensures put { IsTrue (tells_bytes D.view image.now) → OnOk result
         (IsDiskPut (disk D.view image.now) (T.contents target.old) (T.contents target.new)) }
 {
     let mut runs = Runs::new(image)?;

@@ -1,5 +1,5 @@
 //! What a disk's bytes are put into.
-ghost use Rattle.std.specs.Prelude.{◌≡◌, ℕ, List, Option, Some, OnOk, replicate};
+ghost use Rattle.std.specs.Prelude.{◌≡◌, ℕ, List, Option, Some, None, OnOk, replicate};
 ghost use Rattle.imago_copy.specs.Appended.{IsAppended};
 
 use std::io::{self, ErrorKind};
@@ -13,13 +13,19 @@ pub trait Target {
     /// no contract says what a file holds.
     ghost contents: { Self → Option (List ℕ) };
 
+    /// The path and the size in bytes of the file that it is to be, where an implementation says
+    /// them. No call changes them. What isn't to be a file says `None`.
+    ghost made_for: { Self → Option (List ℕ × ℕ) };
+
     /// Puts bytes behind what was put in before.
     fn append(&mut self, source: &[u8]) -> io::Result<()>
-        ensures { OnOk result (IsAppended (contents self.old) (contents self.new) source.now) };
+        ensures same { made_for self.new ≡ made_for self.old }
+        ensures appended { OnOk result (IsAppended (contents self.old) (contents self.new) source.now) };
 
     /// Puts that many zeroes behind what was put in before.
     fn append_zeroes(&mut self, count: u64) -> io::Result<()>
-        ensures { OnOk result
+        ensures same { made_for self.new ≡ made_for self.old }
+        ensures appended { OnOk result
             (IsAppended (contents self.old) (contents self.new) (replicate count 0)) };
 }
 
@@ -27,6 +33,8 @@ pub trait Target {
 /// changes nothing.
 impl Target for Vec<u8> {
     ghost contents = { λ v. Some v.items };
+
+    ghost made_for = { λ _. None };
 
     fn append(&mut self, source: &[u8]) -> io::Result<()> {
         self.extend_from_slice(source)?;

@@ -14,12 +14,13 @@ loop-run-preserved g c =
     let next = next_is view (image_of l.runs) c.args.image.now (at_of l.runs) (at_of new) c.in_ok-run.field-0 run l.invariant.image c.in-Some.is c.in_ok-run.ensures.run in
     record {
       image = c.in_ok-run.ensures.same ∙ l.invariant.image;
+      same = c.in_ok-copy_run.ensures.same ∙ l.invariant.same;
       ready = c.in_ok-run.ensures.ready;
-      put = λ tells. put_run (disk_value view c.args.image.now) (at_of l.runs) (at_of new) run _ _ _ next.0.0 next.1 (l.invariant.put tells) (c.in_ok-copy_run.ensures tells);
+      put = λ tells. put_run (disk_value view c.args.image.now) (at_of l.runs) (at_of new) run _ _ _ next.0.0 next.1 (l.invariant.put tells) (c.in_ok-copy_run.ensures.put tells);
     }
 
-pub returns : goal.returns
-returns g c = λ tells.
+pub returns-clause-put : goal.returns-clause-put
+returns-clause-put g c = λ tells.
     let view = g.D.FormatDriverInstance.view in
     let l = c.loop-run in
     let x = c.args.image.now in

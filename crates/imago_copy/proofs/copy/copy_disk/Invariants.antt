@@ -9,6 +9,7 @@ invariant-loop-run g l =
     let view = g.D.FormatDriverInstance.view in
     record {
       image : image_of l.runs ≡ l.image;
+      same : g.T.Target.made_for l.target ≡ g.T.Target.made_for l.initial.target;
       ready : IsReady view l.runs;
       put : IsTrue (tells_bytes view l.image) → IsPut (disk_value view l.image) 0 (at_of l.runs) (g.T.Target.contents l.initial.target) (g.T.Target.contents l.target);
     }
