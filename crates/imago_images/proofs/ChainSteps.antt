@@ -1,5 +1,5 @@
 -- What an image over layers is, where its host tells what files have.
-use Rattle.std.proofs.Common.{ℕ, Bool, List, [], ◌∷◌, Option, Some, None, IfSome, refl}
+use Rattle.std.proofs.Common.{◌≡◌, ℕ, ◌+◌, ◌≤◌, ◌++◌, Bool, false, arith, List, [], ◌∷◌, Option, Some, None, IfSome, length, inl, inr, refl, subst}
 use Rattle.imago_drivers.specs.Place.{Place}
 use Rattle.imago_drivers.specs.View.{View}
 use Rattle.imago_access.specs.declared.access.FormatAccess.{FormatAccess}
@@ -8,16 +8,26 @@ use Rattle.imago_images.specs.Formats.{SaysFormat, IsFormatBy}
 use Rattle.imago_images.specs.Layers.{size_by}
 use Rattle.imago_images.specs.Gate.{IsLetThrough}
 use Rattle.imago_images.specs.Layers.{IsDriverOf, ShowsLayers}
-use Rattle.imago_images.specs.Images.{IsLayerOf, IsImageIn}
+use Rattle.imago_images.specs.Images.{IsLayerOf, IsImageIn, LeadsTo}
+use Rattle.imago_images.specs.Way.{is_among}
+use Rattle.imago_images.specs.declared.failure.OpenError.{OpenError}
+use Rattle.imago_images.specs.declared.files.FileStatus.{FileStatus}
+use Rattle.imago_images.specs.declared.format.ImageFormat.TheVariants.{Raw, Vmdk, Qcow2}
+use Rattle.imago_images.specs.Refusals.{IsRefused, IsTooDeep}
+use Rattle.imago_images.specs.Chains.{HasIdentity, GoesDown, IsLayerRefused, IsNextRefused, IsChainRefused, IsWayDown, IsEndingWay}
+use Rattle.imago_images.specs.declared.opening.OtherFiles.{OtherFiles}
 
-module _ {D St : Type 0} (view : D → View St) (strict allow : Bool) where
+one_more : (down : List (List ℕ)) (next : List ℕ) (less most : ℕ) → less + 1 ≤ most → length down ≤ less → length (next ∷ down) ≤ most
+one_more down next less most n h = grind (arith, n, h)
+
+module _ {D St : Type 0} (view : D → View St) (strict : Bool) (others : OtherFiles) where
   pub alone_image :
       (known : Option (List ℕ → List ℕ)) (path : List ℕ) (format : ImageFormat) (inner : D)
       (x : FormatAccess D)
       → ((size : ℕ) (place : ℕ → Place) → IsDriverOf view size place inner
       → ShowsLayers view x size (place ∷ []))
-      → IfSome known (λ files. IsLayerOf view strict allow files path format inner None)
-      → IfSome known (λ files. IsImageIn view strict allow files path format x)
+      → IfSome known (λ files. IsLayerOf view strict others files path format inner None)
+      → IfSome known (λ files. IsImageIn view strict others files path format x)
   alone_image None path format inner x shows h = tt
   alone_image (Some files) path format inner x shows h =
       (h.0 ∷ [], (None, h.1, refl), shows (size_by strict format (files path)) h.0 h.2)
@@ -28,15 +38,130 @@ module _ {D St : Type 0} (view : D → View St) (strict allow : Bool) where
       → ((size rest : ℕ) (place : ℕ → Place) (layers : List (ℕ → Place))
       → IsDriverOf view size place inner → ShowsLayers view y rest layers
       → ShowsLayers view x size (place ∷ layers))
-      → IfSome known (λ files. IsLayerOf view strict allow files path format inner (Some next))
+      → IfSome known (λ files. IsLayerOf view strict others files path format inner (Some next))
       → IfSome known (λ files. SaysFormat (files path) said)
       → IfSome known (λ files. IsFormatBy said (files next) lower)
-      → IsLetThrough allow path next
-      → IfSome known (λ files. IsImageIn view strict allow files next lower y)
-      → IfSome known (λ files. IsImageIn view strict allow files path format x)
+      → IsLetThrough others path next
+      → IfSome known (λ files. IsImageIn view strict others files next lower y)
+      → IfSome known (λ files. IsImageIn view strict others files path format x)
   over_image None path next format lower inner x y said shows h s f t k = tt
   over_image (Some files) path next format lower inner x y said shows h s f t k = (
     h.0 ∷ k.0,
     (Some next, h.1, (t, (lower, (said, s, f), k.1))),
     shows (size_by strict format (files path)) (size_by strict lower (files next)) h.0 k.0 h.2 k.2,
   )
+
+  -- a layer with a file below it goes down to that
+  goes_down :
+      (files : List ℕ → List ℕ) (path next : List ℕ) (format : ImageFormat) (inner : D)
+      → IsLayerOf view strict others files path format inner (Some next) → GoesDown files path format next
+  goes_down files path next Raw inner h = let none : ⊥ = cc h.1.1 in absurd none
+  goes_down files path next Qcow2 inner h = (refl, h.1.1)
+  goes_down files path next Vmdk inner h = let none : ⊥ = cc h.1.5 in absurd none
+
+  module _ (statuses : Option (List ℕ → FileStatus)) (reals : Option (List ℕ → List ℕ)) (above : List (ℕ × ℕ))
+      (path : List ℕ) (format : ImageFormat) (e : OpenError) where
+    -- what is shown of a chain that isn't opened from here on
+    abbrev pub IsChainOut : (List ℕ → List ℕ) → Type 0
+    IsChainOut files = (down : List (List ℕ)) × IsChainRefused files statuses reals others above path format down e
+
+    pub layer_out :
+        (known : Option (List ℕ → List ℕ))
+        → IfSome known (λ files. IsLayerRefused files statuses reals others path format e)
+        → IfSome known IsChainOut
+    layer_out None h = tt
+    layer_out (Some files) h = ([], inl h)
+
+    pub too_deep_out :
+        (known : Option (List ℕ → List ℕ)) (next : List ℕ) (inner : D)
+        → IfSome known (λ files. IsLayerOf view strict others files path format inner (Some next))
+        → length above ≡ 200 → IsRefused path IsTooDeep e → IfSome known IsChainOut
+    too_deep_out None next inner h n r = tt
+    too_deep_out (Some files) next inner h n r =
+        ([], inr (next, goes_down files path next format inner h, inl (n, r)))
+
+    pub next_out :
+        (known : Option (List ℕ → List ℕ)) (next : List ℕ) (said : Option ImageFormat) (inner : D)
+        → IfSome known (λ files. IsLayerOf view strict others files path format inner (Some next))
+        → IfSome known (λ files. SaysFormat (files path) said)
+        → IfSome known (λ files. SaysFormat (files path) said
+        → IsNextRefused files statuses reals others above path next e)
+        → IfSome known IsChainOut
+    next_out None next said inner h s r = tt
+    next_out (Some files) next said inner h s r =
+        ([], inr (next, goes_down files path next format inner h, inr (r s)))
+
+    pub below_out :
+        (known : Option (List ℕ → List ℕ)) (next : List ℕ) (said : Option ImageFormat) (lower : ImageFormat)
+        (inner : D) (file : ℕ × ℕ) (now : List (ℕ × ℕ))
+        → IfSome known (λ files. IsLayerOf view strict others files path format inner (Some next))
+        → IfSome known (λ files. SaysFormat (files path) said)
+        → IfSome known (λ files. IsFormatBy said (files next) lower)
+        → IsLetThrough others path next → HasIdentity statuses next file → now ≡ above ++ file ∷ []
+        → IfSome known (λ files. (down : List (List ℕ))
+        × IsChainRefused files statuses reals others now next lower down e)
+        → IfSome known IsChainOut
+    below_out None next said lower inner file now h s f t i is r = tt
+    below_out (Some files) next said lower inner file now h s f t i is r = (
+      next ∷ r.0,
+      (
+        goes_down files path next format inner h,
+        t,
+        (
+          lower,
+          (said, s, f),
+          (
+            file,
+            i,
+            subst (λ (xs : List (ℕ × ℕ)). IsChainRefused files statuses reals others xs next lower r.0 e) is r.1,
+          ),
+        ),
+      ),
+    )
+
+  -- a layer with no file below it is the end of the way
+  ends_here :
+      (files : List ℕ → List ℕ) (path : List ℕ) (format : ImageFormat) (inner : D)
+      → IsLayerOf view strict others files path format inner None
+      → format ≡ Qcow2 → LeadsTo (files path) path None
+  ends_here files path Raw inner h is = let none : ⊥ = cc is in absurd none
+  ends_here files path Qcow2 inner h is = h.1.1
+  ends_here files path Vmdk inner h is = let none : ⊥ = cc is in absurd none
+
+  module _ (statuses : Option (List ℕ → FileStatus)) (above : List (ℕ × ℕ)) (path : List ℕ)
+      (format : ImageFormat) where
+    pub last_ends :
+        (known : Option (List ℕ → List ℕ)) (inner : D) (most : ℕ)
+        → IfSome known (λ files. IsLayerOf view strict others files path format inner None)
+        → IfSome known (λ files. IsEndingWay files statuses above path format most)
+    last_ends None inner most h = tt
+    last_ends (Some files) inner most h = ([], ends_here files path format inner h, omega arith)
+
+    pub next_ends :
+        (known : Option (List ℕ → List ℕ)) (next : List ℕ) (said : Option ImageFormat) (lower : ImageFormat)
+        (inner : D) (file : ℕ × ℕ) (now : List (ℕ × ℕ)) (less most : ℕ)
+        → IfSome known (λ files. IsLayerOf view strict others files path format inner (Some next))
+        → IfSome known (λ files. SaysFormat (files path) said)
+        → IfSome known (λ files. IsFormatBy said (files next) lower)
+        → HasIdentity statuses next file → is_among above file ≡ false → now ≡ above ++ file ∷ []
+        → less + 1 ≤ most
+        → IfSome known (λ files. IsEndingWay files statuses now next lower less)
+        → IfSome known (λ files. IsEndingWay files statuses above path format most)
+    next_ends None next said lower inner file now less most h s f i a is n r = tt
+    next_ends (Some files) next said lower inner file now less most h s f i a is n r = (
+      next ∷ r.0,
+      (
+        goes_down files path next format inner h,
+        (
+          lower,
+          (said, s, f),
+          (
+            file,
+            i,
+            a,
+            subst (λ (xs : List (ℕ × ℕ)). IsWayDown files statuses xs next lower r.0) is r.1,
+          ),
+        ),
+      ),
+      one_more r.0 next less most n r.2,
+    )

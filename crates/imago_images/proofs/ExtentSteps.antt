@@ -22,21 +22,22 @@ use Rattle.imago_images.specs.declared.format.ImageFormat.TheVariants as Of
 use Rattle.imago_images.specs.Extents.{size_read}
 use Rattle.imago_images.specs.Gate.{IsLetThrough, AreLetThrough}
 use Rattle.imago_images.specs.Images.{extent_paths, bytes_in, IsLayerOf}
+use Rattle.imago_images.specs.declared.opening.OtherFiles.{OtherFiles}
 
 both : (a b : Bool) → a ≡ true → b ≡ true → (a && b) ≡ true
 both a b h k = ap (λ (z : Bool). z && b) h ∙ k
 
 module _ {S Gate : Type 0} (bytes : S → List ℕ) (features : S → Features) (opened : Opening Gate S)
-    (files : List ℕ → List ℕ) (allow : Bool) (path : List ℕ) (IsGood : Gate → Type 0)
+    (files : List ℕ → List ℕ) (others : OtherFiles) (path : List ℕ) (IsGood : Gate → Type 0)
     (step : (direct : Bool) (name : List ℕ) (before after : Gate) (s : S) → IsGood before
     → opened (extent_options direct name) before after (Ok s)
-    → IsGood after × IsTrue (features s).tells_bytes × (bytes s ≡ files name) × IsLetThrough allow path name) where
+    → IsGood after × IsTrue (features s).tells_bytes × (bytes s ≡ files name) × IsLetThrough others path name) where
   -- the storages of extents are the files of the paths that their names stand for
   abbrev pub AreFiles : List (Extent (List ℕ)) → List S → Type 0
   AreFiles extents storages =
       (all_tell (map features storages) ≡ true)
       × (map bytes storages ≡ map files (extent_paths path extents))
-      × AreLetThrough allow path (extent_paths path extents)
+      × AreLetThrough others path (extent_paths path extents)
 
   pub storages_told :
       (resolved : List ℕ → List ℕ → Type 0)
@@ -47,36 +48,36 @@ module _ {S Gate : Type 0} (bytes : S → List ℕ) (features : S → Features) 
   storages_told resolved beside direct [] before after storages good none =
       (ap (λ (ss : List S). all_tell (map features ss)) none.0, ap (map bytes) none.0, tt)
   storages_told resolved beside direct (Extent.Zero sectors ∷ extents) before after storages good
-      (between, own, others, first, rest, all) =
-      let more = storages_told resolved beside direct extents between after others
+      (between, own, left, first, rest, all) =
+      let more = storages_told resolved beside direct extents between after left
       (subst IsGood (sym first.1) good) rest in
-      let is : storages ≡ others = all ∙ ap (λ (o : List S). o ++ others) first.0 in (
+      let is : storages ≡ left = all ∙ ap (λ (o : List S). o ++ left) first.0 in (
         ap (λ (ss : List S). all_tell (map features ss)) is ∙ more.0,
         ap (map bytes) is ∙ more.1,
         more.2,
       )
   storages_told resolved beside direct (Extent.NoAccess sectors ∷ extents) before after storages good
-      (between, own, others, first, rest, all) =
-      let more = storages_told resolved beside direct extents between after others
+      (between, own, left, first, rest, all) =
+      let more = storages_told resolved beside direct extents between after left
       (subst IsGood (sym first.1) good) rest in
-      let is : storages ≡ others = all ∙ ap (λ (o : List S). o ++ others) first.0 in (
+      let is : storages ≡ left = all ∙ ap (λ (o : List S). o ++ left) first.0 in (
         ap (λ (ss : List S). all_tell (map features ss)) is ∙ more.0,
         ap (map bytes) is ∙ more.1,
         more.2,
       )
   storages_told resolved beside direct (Extent.Flat sectors name offset writable ∷ extents) before after storages good
-      (between, own, others, first, rest, all) =
+      (between, own, left, first, rest, all) =
       let opening = first.1 in
       let at : List ℕ = opening.0 in
       let s : S = opening.1 in
       let named : at ≡ path_beside path name = beside name at opening.2 in
       let stepped = step direct at before between s good opening.3 in
-      let more = storages_told resolved beside direct extents between after others stepped.0 rest in
-      let is : storages ≡ s ∷ others = all ∙ ap (λ (o : List S). o ++ others) opening.4 in (
+      let more = storages_told resolved beside direct extents between after left stepped.0 rest in
+      let is : storages ≡ s ∷ left = all ∙ ap (λ (o : List S). o ++ left) opening.4 in (
         ap (λ (ss : List S). all_tell (map features ss)) is ∙ both _ _ stepped.1 more.0,
-        ap (map bytes) is ∙ ap (λ (x : List ℕ). x ∷ map bytes others) (stepped.2 ∙ ap files named)
+        ap (map bytes) is ∙ ap (λ (x : List ℕ). x ∷ map bytes left) (stepped.2 ∙ ap files named)
             ∙ ap (λ (xs : List (List ℕ)). files (path_beside path name) ∷ xs) more.1,
-        (subst (λ (n : List ℕ). IsLetThrough allow path n) named stepped.3, more.2),
+        (subst (λ (n : List ℕ). IsLetThrough others path n) named stepped.3, more.2),
       )
 
   -- the same of an image whose descriptor was handed in
@@ -104,18 +105,18 @@ module _ {S Gate : Type 0} (bytes : S → List ℕ) (features : S → Features) 
 -- a driver over these storages is the layer of the descriptor's file
 pub vmdk_is :
     {S : Type 0} {g : _} {h : _} (features : S → Features) (faults : S → ℕ) (bytes : S → List ℕ)
-    (strict allow : Bool) (files : List ℕ → List ℕ) (path : List ℕ) (v : Vmdk S g h)
+    (strict : Bool) (others : OtherFiles) (files : List ℕ → List ℕ) (path : List ℕ) (v : Vmdk S g h)
     → takes_unknown_keys v ≡ not strict
     → (features (descriptor_in v)).tells_bytes ≡ true → bytes (descriptor_in v) ≡ files path
     → all_tell (map features (storages_of_extents v)) ≡ true
     → map bytes (storages_of_extents v) ≡ map files (extent_paths path (extents_in v))
-    → AreLetThrough allow path (extent_paths path (extents_in v))
+    → AreLetThrough others path (extent_paths path (extents_in v))
     → reading_of (takes_unknown_keys v) (bytes (descriptor_in v)) ≡ Ok (extents_in v, v.size)
     → v.size ≡ sum_by size_of v.extents.items
     → ((p : ℕ) → (vmdk_in features bytes v).place p
     ≡ described_place (takes_unknown_keys v) (λ i. slice_index_or (bytes v.descriptor ∷ map bytes v.storages.items) i []) p)
-    → IsLayerOf (view_over features faults bytes) strict allow files path Of.Vmdk (Any.Vmdk v) None
-vmdk_is {S} {g} {h} features faults bytes strict allow files path v keys tells own all named through read sized places =
+    → IsLayerOf (view_over features faults bytes) strict others files path Of.Vmdk (Any.Vmdk v) None
+vmdk_is {S} {g} {h} features faults bytes strict others files path v keys tells own all named through read sized places =
     let reading : reading_of (not strict) (files path) ≡ Ok (extents_in v, v.size) =
     subst (λ (xs : List ℕ). reading_of (not strict) xs ≡ Ok (extents_in v, v.size)) own
     (subst (λ (b : Bool). reading_of b (bytes (descriptor_in v)) ≡ Ok (extents_in v, v.size)) keys read) in

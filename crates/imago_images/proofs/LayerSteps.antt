@@ -12,6 +12,7 @@ use Rattle.imago_images.specs.Formats.{SaysFormat}
 use Rattle.imago_images.specs.HostBytes.{HasBytes}
 use Rattle.imago_images.specs.Layers.{IsDriverOf}
 use Rattle.imago_images.specs.Images.{IsLayerOf, LeadsTo}
+use Rattle.imago_images.specs.declared.opening.OtherFiles.{OtherFiles}
 
 -- what holds of each host that tells what files have
 pub told_by :
@@ -31,12 +32,12 @@ both_ok (Ok x) P Q R p q f = f x p q
 both_ok (Err e) P Q R p q f = tt
 
 module _ {D St S L B E : Type 0} (view : D → View St) (features : S → Features)
-    (bytes : S → List ℕ) (strict allow : Bool) (known : Option (List ℕ → List ℕ)) (path : List ℕ)
+    (bytes : S → List ℕ) (strict : Bool) (others : OtherFiles) (known : Option (List ℕ → List ℕ)) (path : List ℕ)
     (file : S) (r : Result L E) (inner : L → D) (below : L → Option B) (path_in : B → List ℕ)
     (format_in : B → Option ImageFormat)
     (told : IfSome known (λ files. HasBytes features bytes (files path) file)) where
   abbrev pub layer_in : ImageFormat → (List ℕ → List ℕ) → L → Type 0
-  layer_in format files l = IsLayerOf view strict allow files path format (inner l) (option_map path_in (below l))
+  layer_in format files l = IsLayerOf view strict others files path format (inner l) (option_map path_in (below l))
 
   pub raw_told :
       (format : ImageFormat) → format ≡ Raw → IfOk r (λ l. below l ≡ None)
@@ -68,15 +69,15 @@ module _ {D St S L B E : Type 0} (view : D → View St) (features : S → Featur
 
   pub vmdk_told :
       (format : ImageFormat) → format ≡ Vmdk → IfOk r (λ l. below l ≡ None)
-      → IfOk r (λ l. IfSome known (λ files. IsLayerOf view strict allow files path Vmdk (inner l) None))
+      → IfOk r (λ l. IfSome known (λ files. IsLayerOf view strict others files path Vmdk (inner l) None))
       → IfOk r (λ l. IfSome known (λ files. layer_in format files l))
   vmdk_told format is alone layer =
       both_ok r (λ l. below l ≡ None)
-      (λ l. IfSome known (λ files. IsLayerOf view strict allow files path Vmdk (inner l) None))
+      (λ l. IfSome known (λ files. IsLayerOf view strict others files path Vmdk (inner l) None))
       (λ l. IfSome known (λ files. layer_in format files l)) alone layer
       (λ l none h.
       subst (λ (f : ImageFormat). IfSome known (λ files. layer_in f files l)) (sym is)
-      (subst (λ (o : Option (List ℕ)). IfSome known (λ files. IsLayerOf view strict allow files path Vmdk (inner l) o))
+      (subst (λ (o : Option (List ℕ)). IfSome known (λ files. IsLayerOf view strict others files path Vmdk (inner l) o))
       (sym (ap (option_map path_in) none)) h))
 
   -- what it says of the format below

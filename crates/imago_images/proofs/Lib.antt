@@ -7,3 +7,5 @@ pub mod ChainSteps
 pub mod ExtentSteps
 pub mod PartSteps
 pub mod VmdkSteps
+pub mod RefusalSteps
+pub mod ImageSteps

@@ -1,5 +1,5 @@
 -- What a qcow2 file says of the one below it, and which format a file has.
-use Rattle.std.proofs.Common.{◌≡◌, ℕ, ◌<◌, Bool, false, List, Option, Some, None, Result, Ok, Err}
+use Rattle.std.proofs.Common.{◌≡◌, ℕ, ◌<◌, Bool, true, false, List, Option, Some, None, Result, Ok, Err}
 use Rattle.std.proofs.Common.{IfOk, IfSome, OnOk, MatchResult, IsErr, IsTrue, Global, refl, sym, ap, ◌∙◌, subst, length, inl, inr}
 use Rattle.std.specs.Prelude.{unwrap_or, option_map}
 use Rattle.std.specs.Result.{is_err}
@@ -10,9 +10,10 @@ use Rattle.imago_qcow2.specs.Backing.{IsBackingName, IsFormatName}
 use Rattle.imago_plan.specs.PieceBytes.{bytes_at}
 use Rattle.imago_plan.proofs.BytesAt.{read_bytes}
 use Rattle.imago_images.specs.declared.format.ImageFormat.{ImageFormat}
-use Rattle.imago_images.specs.declared.format.ImageFormat.TheVariants.{Raw}
-use Rattle.imago_images.specs.Formats.{format_by_start, format_named, guessed, IsFormatBy, SaysFormat}
+use Rattle.imago_images.specs.declared.format.ImageFormat.TheVariants.{Raw, Vmdk, Qcow2}
+use Rattle.imago_images.specs.Formats.{format_by_start, format_named, guessed, is_said_raw, IsFormatBy, SaysFormat}
 use Rattle.imago_images.specs.Layers.{SaysBacking}
+use Rattle.imago_images.specs.Refusals.{SaysOtherFormat}
 
 -- what the image layer gave is passed on
 pub passed_on :
@@ -43,6 +44,15 @@ format_is bytes answer r name text f h m e t k =
       here.1,
       ap format_named (sym (read_bytes bytes here.0 name.items here.2) ∙ sym t) ∙ k,
     )
+
+pub other_format :
+    {E F : Type 0} (bytes : List ℕ) (answer : Result (Option (Vec ℕ Global)) E)
+    (r : Result (Option (Vec ℕ Global)) F) (name : Vec ℕ Global) (text : List ℕ)
+    → IfOk answer (IsFormatName bytes) → MatchResult answer (λ y. r ≡ Ok y) (λ e. IsErr r)
+    → r ≡ Ok (Some name) → text ≡ name.items → format_named text ≡ None → SaysOtherFormat bytes text
+other_format bytes answer r name text h m e t k =
+    let here : IsFormatName bytes (Some name) = passed_on answer r (Some name) (IsFormatName bytes) h m e in
+    (here.0, length name.items, here.1, sym (read_bytes bytes here.0 name.items here.2) ∙ sym t, k)
 
 -- what is said of the format of a file below, if there is one
 pub told_format :
@@ -95,24 +105,30 @@ said_raw None path said e = tt
 said_raw (Some files) path said e =
     subst (λ (o : Option ImageFormat). IsFormatBy o (files path) Raw) (sym e) refl
 
-format_said :
+-- the format that is said, or else that of the first bytes
+pub format_said :
     (said : Option ImageFormat) (bytes : List ℕ) (found result : ImageFormat)
     → guessed bytes ≡ Some found → result ≡ unwrap_or said found → IsFormatBy said bytes result
 format_said None bytes found result g e = g ∙ ap (λ (f : ImageFormat). Some f) (sym e)
 format_said (Some f) bytes found result g e = e
+
+pub raw_said : (said : Option ImageFormat) (bytes : List ℕ) → is_said_raw said ≡ true → IsFormatBy said bytes Raw
+raw_said None bytes e = let none : ⊥ = cc e in absurd none
+raw_said (Some Raw) bytes e = refl
+raw_said (Some Vmdk) bytes e = let none : ⊥ = cc e in absurd none
+raw_said (Some Qcow2) bytes e = let none : ⊥ = cc e in absurd none
 
 -- a read that wasn't refused
 pub was_read : {T E : Type 0} (r : Result T E) (P : Type 0) → is_err r ≡ false → OnOk r P → P
 was_read (Ok x) P e h = h
 was_read (Err x) P e h = let none : ⊥ = cc e in absurd none
 
-pub format_told :
-    (bytes own head : List ℕ) (tells : Bool) (said : Option ImageFormat) (found result : ImageFormat)
-    → IsTrue tells × (own ≡ bytes)
-    → (IsTrue tells → IsReadAt own 0 head) → length head ≡ 21
-    → format_by_start head ≡ Some found → result ≡ unwrap_or said found
-    → IsFormatBy said bytes result
-format_told bytes own head tells said found result t read n g e =
+-- what the first bytes that were read tell
+pub head_told :
+    (bytes own head : List ℕ) (tells : Bool) (found : Option ImageFormat) → IsTrue tells × (own ≡ bytes)
+    → (IsTrue tells → IsReadAt own 0 head) → length head ≡ 21 → format_by_start head ≡ found
+    → guessed bytes ≡ found
+head_told bytes own head tells found t read n g =
     let is : head ≡ bytes_at bytes 0 21 =
     read_bytes own 0 head (read t.0) ∙ ap (bytes_at own 0) n ∙ ap (λ (xs : List ℕ). bytes_at xs 0 21) t.1 in
-    format_said said bytes found result (ap format_by_start (sym is) ∙ g) e
+    ap format_by_start (sym is) ∙ g

@@ -14,6 +14,7 @@ use Rattle.imago_images.specs.declared.layer.Below.{Below}
 use Rattle.imago_images.specs.declared.layer.Layer.{Layer}
 use Rattle.imago_images.specs.HostBytes.{HasBytes}
 use Rattle.imago_images.specs.Gate.{IsLooked, IsLetThrough}
+use Rattle.imago_images.specs.declared.opening.OtherFiles.{OtherFiles}
 
 abbrev pub driver_in : {S : Type 0} {g : _} {h : _} → Layer S g h → AnyDriver S g h
 driver_in l = l.driver
@@ -55,25 +56,25 @@ beside_named text (Some file) filename path relative name is of beside =
     beside ∙ ap (λ (p : List ℕ). path_beside p relative) here
 
 -- the gate of the image of that path
-abbrev pub IsGateOf : {H : Type 0} → H → List ℕ → Bool → MutBor (FolderGate H) → Type 0
-IsGateOf host path allow m = (m.now.host.now ≡ host) × (m.now.image.now ≡ path) × (m.now.allow_outside ≡ allow)
+abbrev pub IsGateOf : {H : Type 0} → H → List ℕ → OtherFiles → MutBor (FolderGate H) → Type 0
+IsGateOf host path others m = (m.now.host.now ≡ host) × (m.now.image.now ≡ path) × (m.now.other_files ≡ others)
 
 module _ {H S : Type 0} (contents : H → Option (List ℕ → List ℕ)) (features : S → Features) (bytes : S → List ℕ) where
   -- what it answers
   abbrev pub IsLookedBy : Opening (MutBor (FolderGate H)) S
   IsLookedBy o a b r = (b.now.host.now ≡ a.now.host.now) × (b.now.image.now ≡ a.now.image.now)
-      × (b.now.allow_outside ≡ a.now.allow_outside)
-      × IfOk r (IsLooked features bytes (contents a.now.host.now) a.now.allow_outside a.now.image.now o.filename)
+      × (b.now.other_files ≡ a.now.other_files)
+      × IfOk r (IsLooked features bytes (contents a.now.host.now) a.now.other_files a.now.image.now o.filename)
 
   -- a storage that it hands out is that of the file of its path
   pub looked :
-      (host : H) (path : List ℕ) (allow : Bool)
+      (host : H) (path : List ℕ) (others : OtherFiles)
       (files : List ℕ → List ℕ) → contents host ≡ Some files
       → (direct : Bool) (name : List ℕ) (before after : MutBor (FolderGate H)) (s : S)
-      → IsGateOf host path allow before → IsLookedBy (extent_options direct name) before after (Ok s)
-      → IsGateOf host path allow after × IsTrue (features s).tells_bytes
-      × (bytes s ≡ files name) × IsLetThrough allow path name
-  looked host path allow files is direct name before after s good (same, image, allowed, at) =
+      → IsGateOf host path others before → IsLookedBy (extent_options direct name) before after (Ok s)
+      → IsGateOf host path others after × IsTrue (features s).tells_bytes
+      × (bytes s ≡ files name) × IsLetThrough others path name
+  looked host path others files is direct name before after s good (same, image, allowed, at) =
       let known : contents before.now.host.now ≡ Some files = ap contents good.0 ∙ is in
       let here : name ≡ at.0 = named name at.0 at.1 in
       let told : HasBytes features bytes (files at.0) s =
@@ -81,9 +82,9 @@ module _ {H S : Type 0} (contents : H → Option (List ℕ → List ℕ)) (featu
         (same ∙ good.0, image ∙ good.1, allowed ∙ good.2),
         told.0,
         told.1 ∙ ap files (sym here),
-        subst (λ (p : List ℕ). IsLetThrough allow path p) (sym here)
-            (subst (λ (i : List ℕ). IsLetThrough allow i at.0) good.1
-            (subst (λ (a : Bool). IsLetThrough a before.now.image.now at.0) good.2 at.2)),
+        subst (λ (p : List ℕ). IsLetThrough others path p) (sym here)
+            (subst (λ (i : List ℕ). IsLetThrough others i at.0) good.1
+            (subst (λ (a : OtherFiles). IsLetThrough a before.now.image.now at.0) good.2 at.2)),
       )
 
 -- a storage that is another one has its bytes

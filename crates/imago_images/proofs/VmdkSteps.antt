@@ -17,13 +17,14 @@ use Rattle.imago_images.specs.declared.format.ImageFormat.TheVariants as Of
 use Rattle.imago_images.specs.declared.gate.FolderGate.{FolderGate}
 use Rattle.imago_images.specs.HostBytes.{HasBytes}
 use Rattle.imago_images.specs.Images.{IsLayerOf}
+use Rattle.imago_images.specs.declared.opening.OtherFiles.{OtherFiles}
 use Rattle.imago_images.proofs.PartSteps.{told_one, where_told, IsGateOf, IsLookedBy, looked}
 use Rattle.imago_images.proofs.ExtentSteps.{image_told, vmdk_is}
 
 module _ {H S : Type 0} {i : _} {j : _} (contents : H → Option (List ℕ → List ℕ))
     (features : S → Features) (faults : S → ℕ) (bytes : S → List ℕ)
     (resolved : S → List ℕ → List ℕ → Type 0) (host : H)
-    (path : List ℕ) (strict allow : Bool) (file : S) where
+    (path : List ℕ) (strict : Bool) (others : OtherFiles) (file : S) where
   pub vmdk_opened :
       (gate : MutBor (FolderGate H)) (settings : OpenSettings S)
       (accept : Bool) (v : Vmdk S i j)
@@ -31,7 +32,7 @@ module _ {H S : Type 0} {i : _} {j : _} (contents : H → Option (List ℕ → L
       → ((relative name : List ℕ) → resolved file relative name → name ≡ path_beside path relative)
       → settings ≡ unset (HandedIn file) → accept ≡ not strict
       → IsVmdkOpening bytes features resolved (IsLookedBy contents features bytes) gate settings accept (Ok v)
-      → IsGateOf host path allow gate
+      → IsGateOf host path others gate
       → (IsTrue (features (descriptor_in v)).tells_bytes
       → reading_of (takes_unknown_keys v) (bytes (descriptor_in v)) ≡ Ok (extents_in v, v.size))
       → v.size ≡ sum_by size_of v.extents.items
@@ -40,17 +41,17 @@ module _ {H S : Type 0} {i : _} {j : _} (contents : H → Option (List ℕ → L
       ≡ described_place (takes_unknown_keys v)
       (λ n. slice_index_or (bytes v.descriptor ∷ map bytes v.storages.items) n []) p)
       → IfSome (contents host) (λ files. IsLayerOf (view_over features faults bytes)
-      strict allow files path Of.Vmdk (Any.Vmdk v) None)
+      strict others files path Of.Vmdk (Any.Vmdk v) None)
   vmdk_opened gate settings accept v told beside is keys opening good read sized places =
       where_told (contents host) (λ files. IsLayerOf (view_over features faults bytes)
-      strict allow files path Of.Vmdk (Any.Vmdk v) None)
+      strict others files path Of.Vmdk (Any.Vmdk v) None)
       (λ files known.
       let own : HasBytes features bytes (files path) file =
       told_one (contents host) files (λ fs. HasBytes features bytes (fs path) file) known told in
-      let image = image_told bytes features (IsLookedBy contents features bytes) files allow path
-      (IsGateOf host path allow) (looked contents features bytes host path allow files known)
+      let image = image_told bytes features (IsLookedBy contents features bytes) files others path
+      (IsGateOf host path others) (looked contents features bytes host path others files known)
       resolved settings file accept gate v beside is good opening in
       let first : HasBytes features bytes (files path) (descriptor_in v) =
       subst (λ (s : S). HasBytes features bytes (files path) s) (sym image.0) own in
-      vmdk_is features faults bytes strict allow files path v
+      vmdk_is features faults bytes strict others files path v
       (image.2 ∙ keys) first.0 first.1 image.3.0 image.3.1 image.3.2 (read first.0) sized (places first.0))

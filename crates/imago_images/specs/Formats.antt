@@ -1,6 +1,6 @@
 -- The formats of images in files: their names, and the bytes that a file of each begins with.
-use Rattle.std.specs.Prelude.{◌≡◌, ℕ, List, [], ◌∷◌, Option, Some, None, Ok, codes, nat_eq}
-use Rattle.std.specs.Prelude.{if◌then◌else◌}
+use Rattle.std.specs.Prelude.{◌≡◌, ℕ, Bool, true, false, List, [], ◌∷◌, Option, Some, None, Ok}
+use Rattle.std.specs.Prelude.{codes, nat_eq, if◌then◌else◌}
 use Rattle.std.specs.List.{starts_with}
 use Rattle.std.specs.Str.{bytes_eq}
 use Rattle.imago_qcow2.specs.Backing.{format_of}
@@ -31,6 +31,13 @@ guessed bytes = format_by_start (bytes_at bytes 0 21)
 abbrev pub IsFormatBy : Option ImageFormat → List ℕ → ImageFormat → Type 0
 IsFormatBy None bytes format = guessed bytes ≡ Some format
 IsFormatBy (Some said) bytes format = format ≡ said
+
+-- whether a file is said to be raw
+abbrev pub is_said_raw : Option ImageFormat → Bool
+is_said_raw None = false
+is_said_raw (Some Raw) = true
+is_said_raw (Some Vmdk) = false
+is_said_raw (Some Qcow2) = false
 
 -- what a qcow2 file says of the format of the one below it: nothing, or the name that its header
 -- extension for that has

@@ -1,6 +1,9 @@
 -- What is seen of the gate of an image's files.
-use Rattle.std.specs.Prelude.{ℕ, Bool, List}
+use Rattle.std.specs.Prelude.{ℕ, List, Option}
 use Rattle.imago_images.specs.declared.gate.FolderGate.{FolderGate}
+use Rattle.imago_images.specs.declared.gate.Named.{Named}
+use Rattle.imago_images.specs.declared.opening.OtherFiles.{OtherFiles}
+use Rattle.imago_images.specs.FolderParts.{bounds_in}
 
 -- the host whose files it looks at
 abbrev pub gate_host : {H : Type 0} → FolderGate H → H
@@ -10,6 +13,14 @@ gate_host gate = gate.host.now
 abbrev pub gate_image : {H : Type 0} → FolderGate H → List ℕ
 gate_image gate = gate.image.now
 
--- whether files outside the image's folder are permitted
-abbrev pub permits_outside : {H : Type 0} → FolderGate H → Bool
-permits_outside gate = gate.allow_outside
+-- which files it lets through
+abbrev pub gate_files : {H : Type 0} → FolderGate H → OtherFiles
+gate_files gate = gate.other_files
+
+-- what the image names its files as
+abbrev pub gate_named : {H : Type 0} → FolderGate H → Named
+gate_named gate = gate.named
+
+-- the path without links of the folder that its files stand in, where only such are let through
+abbrev pub gate_bounds : {H : Type 0} → FolderGate H → Option (List ℕ)
+gate_bounds gate = bounds_in gate.folder

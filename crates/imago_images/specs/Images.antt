@@ -11,6 +11,7 @@ use Rattle.imago_vmdk.specs.Disk.{described_place}
 use Rattle.imago_qcow2.specs.Entry.{qcow2_place}
 use Rattle.imago_file.specs.Names.{path_beside}
 use Rattle.imago_images.specs.declared.format.ImageFormat.{ImageFormat}
+use Rattle.imago_images.specs.declared.opening.OtherFiles.{OtherFiles}
 use Rattle.imago_images.specs.declared.format.ImageFormat.TheVariants.{Raw, Vmdk, Qcow2}
 use Rattle.imago_images.specs.Formats.{IsFormatBelow}
 use Rattle.imago_images.specs.Extents.{flat_names}
@@ -36,15 +37,16 @@ bytes_in files paths i = slice_index_or (map files paths) i []
 -- the path of the file below it, if there is one. Nothing is below a VMDK image, whose descriptor
 -- names the files of its FLAT extents.
 abbrev pub IsLayer :
-    Bool → Bool → (List ℕ → List ℕ) → List ℕ → ImageFormat → (ℕ → Place) → Option (List ℕ) → Type 0
-IsLayer strict allow files path Raw place next =
+    Bool → OtherFiles → (List ℕ → List ℕ) → List ℕ → ImageFormat → (ℕ → Place) → Option (List ℕ)
+    → Type 0
+IsLayer strict others files path Raw place next =
     (place ≡ raw_place (length (files path)) (files path)) × (next ≡ None)
-IsLayer strict allow files path Qcow2 place next =
+IsLayer strict others files path Qcow2 place next =
     (place ≡ qcow2_place (files path)) × LeadsTo (files path) path next
-IsLayer strict allow files path Vmdk place next =
+IsLayer strict others files path Vmdk place next =
     (extents : List (Extent (List ℕ))) × (size : ℕ)
     × (reading_of (not strict) (files path) ≡ Ok (extents, size))
-    × AreLetThrough allow path (extent_paths path extents)
+    × AreLetThrough others path (extent_paths path extents)
     × (place ≡ described_place (not strict) (bytes_in files (path ∷ extent_paths path extents)))
     × (next ≡ None)
 
@@ -57,26 +59,26 @@ GoesOn (Some next) below rest = rest next
 -- file is let through by the one above it, and has the format that this one says, or else its own
 -- first bytes.
 abbrev pub AreLayers :
-    Bool → Bool → (List ℕ → List ℕ) → List ℕ → ImageFormat → List (ℕ → Place) → Type 0
-AreLayers strict allow files path format [] = ⊥
-AreLayers strict allow files path format (place ∷ below) =
-    (next : Option (List ℕ)) × IsLayer strict allow files path format place next
-    × GoesOn next below (λ p. IsLetThrough allow path p
+    Bool → OtherFiles → (List ℕ → List ℕ) → List ℕ → ImageFormat → List (ℕ → Place) → Type 0
+AreLayers strict others files path format [] = ⊥
+AreLayers strict others files path format (place ∷ below) =
+    (next : Option (List ℕ)) × IsLayer strict others files path format place next
+    × GoesOn next below (λ p. IsLetThrough others path p
     × ((lower : ImageFormat) × IsFormatBelow (files path) (files p) lower
-    × AreLayers strict allow files p lower below))
+    × AreLayers strict others files p lower below))
 
 -- a driver is that layer, and shows it
 abbrev pub IsLayerOf :
-    {D St : Type 0} → (D → View St) → Bool → Bool → (List ℕ → List ℕ) → List ℕ → ImageFormat → D
-    → Option (List ℕ) → Type 0
-IsLayerOf view strict allow files path format inner next =
-    (place : ℕ → Place) × IsLayer strict allow files path format place next
+    {D St : Type 0} → (D → View St) → Bool → OtherFiles → (List ℕ → List ℕ) → List ℕ → ImageFormat
+    → D → Option (List ℕ) → Type 0
+IsLayerOf view strict others files path format inner next =
+    (place : ℕ → Place) × IsLayer strict others files path format place next
     × IsDriverOf view (size_by strict format (files path)) place inner
 
 -- an image is that of the file of a path, which has that format: it shows the layers of the files
 abbrev pub IsImageIn :
-    {D St : Type 0} → (D → View St) → Bool → Bool → (List ℕ → List ℕ) → List ℕ → ImageFormat
+    {D St : Type 0} → (D → View St) → Bool → OtherFiles → (List ℕ → List ℕ) → List ℕ → ImageFormat
     → FormatAccess D → Type 0
-IsImageIn view strict allow files path format x =
-    (layers : List (ℕ → Place)) × AreLayers strict allow files path format layers
+IsImageIn view strict others files path format x =
+    (layers : List (ℕ → Place)) × AreLayers strict others files path format layers
     × ShowsLayers view x (size_by strict format (files path)) layers

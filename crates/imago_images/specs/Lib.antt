@@ -1,8 +1,13 @@
 pub mod Formats
+pub mod Opening
 pub mod Extents
 pub mod HostBytes
 pub mod PathFile
 pub mod Gate
+pub mod FolderParts
 pub mod GateParts
 pub mod Layers
 pub mod Images
+pub mod Way
+pub mod Refusals
+pub mod Chains

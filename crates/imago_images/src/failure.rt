@@ -1,5 +1,7 @@
 //! Why an image isn't opened.
-ghost use Rattle.std.specs.Prelude.{◌≡◌, MatchResult, IsErr};
+ghost use Rattle.std.specs.Prelude.{◌≡◌, MatchResult, IsErr, IfErr};
+ghost use Rattle.imago_images.specs.declared.failure.OpenError.TheVariants.{Memory};
+ghost use Rattle.imago_images.specs.Refusals.{IsRefused, IsBySystem, IsByDriver};
 
 use imago_qcow2::fault::HeaderFault;
 use imago_storage::error;
@@ -41,6 +43,9 @@ pub enum Reason {
     /// A qcow2 image whose backing file of that name or path isn't beside it, nor below.
     #[error("its backing file {0:?} isn't in its folder")]
     BackingOutside(String),
+    /// A qcow2 image with a backing file of that path, where no other files are opened.
+    #[error("its backing file {0:?} isn't opened: other files aren't permitted")]
+    BackingNotPermitted(String),
     /// A qcow2 image which says that its backing file has this format.
     #[error("its backing file has the format {0:?}, which isn't supported")]
     BackingFormat(String),
@@ -53,6 +58,9 @@ pub enum Reason {
     /// A descriptor whose extent of that name or path isn't beside it, nor below.
     #[error("its extent {0:?} isn't in the descriptor's folder")]
     Outside(String),
+    /// A descriptor with an extent in the file of that path, where no other files are opened.
+    #[error("its extent {0:?} isn't opened: other files aren't permitted")]
+    NotPermitted(String),
     /// What has no bytes at offsets: a folder, a pipe, a socket, a terminal.
     #[error("neither a regular file nor a block device")]
     NotAFile,
@@ -68,7 +76,8 @@ impl Reason {
 impl OpenError {
     /// The system's answer for a file, or why the file can't be used.
     pub fn or_system<T>(alloc: Global, path: &str, answer: io::Result<T>) -> Result<T, OpenError>
-        ensures { MatchResult answer (λ x. result ≡ Ok x) (λ _. IsErr result) }
+        ensures given { MatchResult answer (λ x. result ≡ Ok x) (λ _. IsErr result) }
+        ensures refused { IfErr result (IsRefused path.now IsBySystem) }
     {
         match answer {
             Ok(found) => Ok(found),
@@ -82,7 +91,8 @@ impl OpenError {
         path: &str,
         answer: Result<T, error::Error>,
     ) -> Result<T, OpenError>
-        ensures { MatchResult answer (λ x. result ≡ Ok x) (λ _. IsErr result) }
+        ensures given { MatchResult answer (λ x. result ≡ Ok x) (λ _. IsErr result) }
+        ensures refused { IfErr result (IsRefused path.now IsByDriver) }
     {
         match answer {
             Ok(found) => Ok(found),
@@ -92,7 +102,9 @@ impl OpenError {
 
     /// The file of that path can't be used, for that reason. Where memory was refused, or there is
     /// none for the path, it is [`OpenError::Memory`].
-    pub fn of_file(alloc: Global, path: &str, reason: Reason) -> OpenError {
+    pub fn of_file(alloc: Global, path: &str, reason: Reason) -> OpenError
+        ensures { IsRefused path.now (λ told. told ≡ reason) result }
+    {
         if reason.is_memory() {
             return OpenError::Memory;
         }
@@ -104,12 +116,16 @@ impl OpenError {
 }
 
 impl From<AllocError> for OpenError {
+    ghost from_gives = { λ _ e. e ≡ Memory };
+
     fn from(_refused: AllocError) -> OpenError {
         OpenError::Memory
     }
 }
 
 impl<T: Drop> From<AllocFailed<T>> for OpenError {
+    ghost from_gives = { λ _ e. e ≡ Memory };
+
     fn from(refused: AllocFailed<T>) -> OpenError {
         let _ = refused;
         OpenError::Memory

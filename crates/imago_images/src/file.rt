@@ -1,13 +1,16 @@
 //! A file by its path, as a file that is open.
-ghost use Rattle.std.specs.Prelude.{◌≡◌, ◌<◌, ◌≤◌, ◌+◌, ℕ, Some, Ok, IsErr, IfOk, IfSome};
+ghost use Rattle.std.specs.Prelude.{◌≡◌, ◌<◌, ◌≤◌, ◌+◌, ℕ, List, Some, Ok};
+ghost use Rattle.std.specs.Prelude.{IsErr, IfOk, IfErr, IfSome};
 ghost use Rattle.std.specs.Prelude.{length, slice_index};
 ghost use Rattle.imago_file.specs.FileCalls.{any_calls};
-ghost use Rattle.imago_images.specs.HostBytes.{shown_bytes};
+ghost use Rattle.imago_images.specs.HostBytes.{HasBytes, shown_bytes};
+ghost use Rattle.imago_images.specs.Refusals.{IsRefused, IsBySystem, IsUnseen};
 
 use crate::failure::{OpenError, Reason};
 use crate::files::{FileKind, FileStatus, Files};
 use imago_file::file::FileStorage;
 use imago_file::host::HostFile;
+use imago_storage::storage::Storage;
 use std::io::{self, ErrorKind};
 
 /// The file of a path, to be read. It was looked at once, and isn't open: its host reads by paths,
@@ -34,14 +37,19 @@ fn never_changed() -> io::Error {
 }
 
 impl<'a, H: Files> PathFile<'a, H> {
-    ghost use Rattle.imago_images.specs.PathFile.{file_path};
+    ghost use Rattle.imago_images.specs.PathFile.{file_path, file_status};
 
     /// Looks at the file of that path, and doesn't open it. What is neither a regular file nor a
     /// block device is [`Reason::NotAFile`], and what the host answers else is
     /// [`Reason::System`].
     pub fn look_at(host: &'a H, path: &str) -> Result<Self, OpenError>
-        ensures { IfOk result (λ f. IfSome (H.contents host.now)
+        ensures told { IfOk result (λ f. IfSome (H.contents host.now)
             (λ files. ⟦<PathFile<'a, H> as HostFile>⟧.contents f ≡ Some (files path.now))) }
+        ensures path { IfOk result (λ f. file_path f ≡ path.now) }
+        ensures status { IfOk result (λ f. IfSome (H.statuses host.now)
+            (λ status_of. file_status f ≡ status_of path.now)) }
+        ensures refused { IfErr result (IsRefused path.now
+            (IsUnseen (H.statuses host.now) path.now)) }
     {
         let alloc = host.alloc();
         let status = OpenError::or_system(alloc, path, host.status(path))?;
@@ -64,9 +72,40 @@ impl<'a, H: Files> PathFile<'a, H> {
     }
 
     /// What the file was when it was looked at.
-    pub fn status(&self) -> FileStatus {
+    pub fn status(&self) -> FileStatus
+        ensures { result ≡ file_status self.now }
+    {
         self.status
     }
+}
+
+/// The file of that path, which was looked at, as a storage that has the path as its name.
+pub fn storage_of<'a, H: Files>(
+    file: PathFile<'a, H>,
+    path: &str,
+) -> Result<PathStorage<'a, H>, OpenError>
+    ensures told { (held : List ℕ) → ⟦<PathFile<'a, H> as HostFile>⟧.contents file.entry ≡ Some held
+        → IfOk result (HasBytes ⟦<PathStorage<'a, H> as Storage>⟧.features
+        ⟦<PathStorage<'a, H> as Storage>⟧.bytes held) }
+    ensures path { IfOk result
+        (λ s. (⟦<PathStorage<'a, H> as Storage>⟧.features s).filename ≡ Some path.now) }
+    ensures refused { IfErr result (IsRefused path.now IsBySystem) }
+{
+    let alloc = file.host.alloc();
+    let name = String::from_str(alloc, path)?;
+    OpenError::or_system(alloc, path, FileStorage::new(file, Some(name), false))
+}
+
+/// Looks at the file of that path, and doesn't open it: the file as a storage. It is refused as by
+/// [`PathFile::look_at`].
+pub fn look_at<'a, H: Files>(host: &'a H, path: &str) -> Result<PathStorage<'a, H>, OpenError>
+    ensures told { IfOk result (λ s. IfSome (H.contents host.now)
+        (λ files. HasBytes ⟦<PathStorage<'a, H> as Storage>⟧.features
+        ⟦<PathStorage<'a, H> as Storage>⟧.bytes (files path.now) s)) }
+    ensures path { IfOk result
+        (λ s. (⟦<PathStorage<'a, H> as Storage>⟧.features s).filename ≡ Some path.now) }
+{
+    storage_of(PathFile::look_at(host, path)?, path)
 }
 
 /// Fills with 0 what of a buffer lies behind that many bytes of a file, where the buffer has the

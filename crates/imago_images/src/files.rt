@@ -1,5 +1,6 @@
 //! Files that are found and read by their paths.
-ghost use Rattle.std.specs.Prelude.{◌≡◌, ℕ, List, Option, OnOk, IfOk, IfSome, length};
+ghost use Rattle.std.specs.Prelude.{◌≡◌, ℕ, List, Option, None, OnOk, IfOk, IfSome, length};
+ghost use Rattle.std.specs.String.{string_bytes};
 ghost use Rattle.imago_plan.specs.PieceBytes.{bytes_at};
 
 use std::alloc::Global;
@@ -32,17 +33,28 @@ pub struct FileStatus {
 /// Files that are found and read by their paths. This is all that opening an image and reading it
 /// asks of a host.
 pub trait Files {
+    ghost use Rattle.imago_images.specs.declared.files.FileStatus.{FileStatus};
+
     /// The bytes of each file, by its path, where an implementation says them. No contract says
     /// what the system's files hold.
     ghost contents: { Self → Option (List ℕ → List ℕ) };
+
+    /// What each file is, by its path, where an implementation says it.
+    ghost statuses: { Self → Option (List ℕ → FileStatus) } = { λ _. None };
+
+    /// The path that each file has without links and relative parts, by its path, where an
+    /// implementation says it.
+    ghost real_paths: { Self → Option (List ℕ → List ℕ) } = { λ _. None };
 
     /// Where an image takes its memory.
     fn alloc(&self) -> Global;
 
     /// What the file is that the path leads to.
     fn status(&self, path: &str) -> io::Result<FileStatus>
-        ensures { IfOk result
-            (λ s. IfSome (contents self.now) (λ files. s.length ≡ length (files path.now))) };
+        ensures length { IfOk result
+            (λ s. IfSome (contents self.now) (λ files. s.length ≡ length (files path.now))) }
+        ensures told { IfOk result
+            (λ s. IfSome (statuses self.now) (λ status_of. s ≡ status_of path.now)) };
 
     /// Fills the buffer with the file's bytes from the offset on, with 0 past its end. The offset
     /// is in bytes. Refused, the buffer is unspecified.
@@ -52,5 +64,7 @@ pub trait Files {
             (λ files. buf.new ≡ bytes_at (files path.now) «offset» (length buf.new))) };
 
     /// The path that it is without links and relative parts.
-    fn real_path(&self, path: &str) -> io::Result<String>;
+    fn real_path(&self, path: &str) -> io::Result<String>
+        ensures { IfOk result
+            (λ p. IfSome (real_paths self.now) (λ real. string_bytes p ≡ real path.now)) };
 }

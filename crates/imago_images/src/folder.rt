@@ -1,5 +1,8 @@
 //! The folder of an image, and the links that lead out of it.
 
+ghost use Rattle.std.specs.Prelude.{◌≡◌, true, IfOk, IfErr};
+ghost use Rattle.imago_images.specs.Refusals.{IsRefused, IsBySystem, folder_asked};
+
 use crate::failure::OpenError;
 use crate::files::Files;
 use std::io::{self, ErrorKind};
@@ -15,19 +18,22 @@ pub struct Folder<'a> {
 }
 
 impl<'a> Folder<'a> {
+    ghost use Rattle.imago_images.specs.FolderParts.{bounds_in, IsBounded, IsBeyond};
+
     /// The folder of the image of that path. Where files outside may be looked at, the host isn't
     /// asked; otherwise it may refuse to tell the folder's path without links.
-    pub fn of<H: Files>(host: &H, image: &'a str, allow_outside: bool) -> Result<Self, OpenError> {
+    pub fn of<H: Files>(host: &H, image: &'a str, allow_outside: bool) -> Result<Self, OpenError>
+        ensures bounds { IfOk result
+            (λ f. IsBounded (H.real_paths host.now) image.now (bounds_in f)) }
+        ensures refused { IfErr result (IsRefused (folder_asked image.now) IsBySystem) }
+    {
         if allow_outside {
             return Ok(Folder {
                 image,
                 bounds: None,
             });
         }
-        let folder = match Path::new(image).parent() {
-            Some(folder) if !folder.as_str().is_empty() => folder.as_str(),
-            _ => ".",
-        };
+        let folder = folder_to_ask(image);
         let real = OpenError::or_system(host.alloc(), folder, host.real_path(folder))?;
         Ok(Folder {
             image,
@@ -47,7 +53,10 @@ impl<'a> Folder<'a> {
 
     /// Whether a link leads a path out of the folder, where that isn't permitted. A path that leads
     /// nowhere doesn't.
-    pub fn leaves<H: Files>(&self, host: &H, path: &str) -> io::Result<bool> {
+    pub fn leaves<H: Files>(&self, host: &H, path: &str) -> io::Result<bool>
+        ensures { IfOk result (λ yes. yes ≡ true
+            → IsBeyond (H.real_paths host.now) path.now (bounds_in self.now)) }
+    {
         let Some(bounds) = &self.bounds else {
             return Ok(false);
         };
@@ -56,5 +65,15 @@ impl<'a> Folder<'a> {
             Err(cause) if cause.kind() == ErrorKind::NotFound => Ok(false),
             Err(cause) => Err(cause),
         }
+    }
+}
+
+/// The path by which a host finds the folder of the image of that path.
+fn folder_to_ask(image: &str) -> &str
+    ensures { result.now ≡ folder_asked image.now }
+{
+    match Path::new(image).parent() {
+        Some(folder) if !folder.as_str().is_empty() => folder.as_str(),
+        _ => ".",
     }
 }

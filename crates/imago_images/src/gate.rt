@@ -1,37 +1,26 @@
 //! The gate of the files that an image names.
-ghost use Rattle.std.specs.Prelude.{◌≡◌, true, Some, IfOk, IfSome};
+ghost use Rattle.std.specs.Prelude.{◌≡◌, ℕ, List, Option, true, false, Some, IfOk, IfErr, IfSome};
+ghost use Rattle.std.specs.String.{string_bytes};
 ghost use Rattle.imago_images.specs.Gate.{folder_path, IsLetThrough, IsLooked};
 ghost use Rattle.imago_images.specs.HostBytes.{HasBytes};
+ghost use Rattle.imago_images.specs.FolderParts.{IsBounded};
+ghost use Rattle.imago_images.specs.PathFile.{file_path, file_status};
+ghost use Rattle.imago_images.specs.Refusals.{IsRefused, IsBySystem, IsOutside, IsOut, IsKeptOut};
+ghost use Rattle.imago_images.specs.Refusals.{IsNotHandedOut, folder_asked};
+ghost use Rattle.imago_file.specs.Names.{lies_below as lies_below_folder};
 
 use crate::failure::{OpenError, Reason};
-use crate::file::{PathFile, PathStorage};
+use crate::file::{PathFile, PathStorage, storage_of};
 use crate::files::Files;
 use crate::folder::Folder;
+use crate::opening::OtherFiles;
 use imago_drivers::gate::ImplicitOpenGate;
-use imago_file::file::FileStorage;
+use imago_file::host::HostFile;
 use imago_file::name::lies_below;
 use imago_storage::error::Error;
 use imago_storage::storage::{Storage, StorageOpenOptions};
 use std::alloc::Global;
 use std::path::Path;
-
-/// Looks at the file of a path, and doesn't open it. [`Reason::NotAFile`] is what is neither a
-/// regular file nor a block device, and [`Reason::System`] what the host answers.
-pub fn look_at<'a, H: Files>(host: &'a H, path: &str) -> Result<PathStorage<'a, H>, OpenError>
-    ensures told { IfOk result (λ s. IfSome (H.contents host.now)
-        (λ files. HasBytes ⟦<PathStorage<'a, H> as Storage>⟧.features
-        ⟦<PathStorage<'a, H> as Storage>⟧.bytes (files path.now) s)) }
-    ensures path { IfOk result
-        (λ s. (⟦<PathStorage<'a, H> as Storage>⟧.features s).filename ≡ Some path.now) }
-{
-    let alloc = host.alloc();
-    let file = PathFile::look_at(host, path)?;
-    let name = String::from_str(alloc, path)?;
-    match FileStorage::new(file, Some(name), false) {
-        Ok(storage) => Ok(storage),
-        Err(cause) => Err(OpenError::of_file(alloc, path, Reason::System(cause))),
-    }
-}
 
 /// The path of the folder that a file of that path is in, by its text.
 fn folder_of(path: &str) -> &str
@@ -54,12 +43,13 @@ pub enum Named {
 
 /// A gate that looks at the files which one image names, and opens none.
 ///
-/// A file that lies elsewhere than in the image's folder and below, by its path or by a link, is
-/// let through only where that is permitted. Otherwise it is [`Reason::Outside`] or
-/// [`Reason::BackingOutside`], with its path. The gate itself answers [`Error::Denied`] for
-/// whatever it doesn't let through or can't look at, and
-/// [`into_refusal`](FolderGate::into_refusal) tells why; and [`Error::NotFound`] where no path is
-/// asked for.
+/// With [`OtherFiles::None`] each is refused before it is looked at, as [`Reason::NotPermitted`] or
+/// [`Reason::BackingNotPermitted`]. With [`OtherFiles::InFolder`] one that lies elsewhere than in
+/// the image's folder and below, by its path or by a link, is [`Reason::Outside`] or
+/// [`Reason::BackingOutside`]. Each of these has the file's path. The gate itself answers
+/// [`Error::Denied`] for whatever it doesn't let through or can't look at, and
+/// [`into_refused`](FolderGate::into_refused) tells for which path; and [`Error::NotFound`] where
+/// no path is asked for.
 #[derive(Drop)]
 pub struct FolderGate<'a, 'b, H: Files> {
     host: &'a H,
@@ -67,13 +57,14 @@ pub struct FolderGate<'a, 'b, H: Files> {
     image: &'b str,
     named: Named,
     folder: Folder<'b>,
-    allow_outside: bool,
-    /// Why the last file that wasn't handed out was refused.
-    refused: Option<OpenError>,
+    other_files: OtherFiles,
+    /// The path of the last file that wasn't handed out.
+    refused: Option<String>,
 }
 
 impl<'a, 'b, H: Files> FolderGate<'a, 'b, H> {
-    ghost use Rattle.imago_images.specs.GateParts.{gate_host, gate_image, permits_outside};
+    ghost use Rattle.imago_images.specs.GateParts.{gate_host, gate_image, gate_named};
+    ghost use Rattle.imago_images.specs.GateParts.{gate_files, gate_bounds};
 
     /// The gate of the image of that path, which names such files. The host may refuse to tell the
     /// path of the image's folder without links.
@@ -81,35 +72,57 @@ impl<'a, 'b, H: Files> FolderGate<'a, 'b, H> {
         host: &'a H,
         image: &'b str,
         named: Named,
-        allow_outside: bool,
+        other_files: OtherFiles,
     ) -> Result<Self, OpenError>
         ensures host { IfOk result (λ g. gate_host g ≡ host.now) }
         ensures image { IfOk result (λ g. gate_image g ≡ image.now) }
-        ensures allow { IfOk result (λ g. permits_outside g ≡ allow_outside) }
+        ensures named { IfOk result (λ g. gate_named g ≡ named) }
+        ensures files { IfOk result (λ g. gate_files g ≡ other_files) }
+        ensures bounds { IfOk result
+            (λ g. IsBounded (H.real_paths host.now) image.now (gate_bounds g)) }
+        ensures refused { IfErr result (IsRefused (folder_asked image.now) IsBySystem) }
     {
         Ok(FolderGate {
             host,
             image,
             named,
-            folder: Folder::of(host, image, allow_outside)?,
-            allow_outside,
+            folder: Folder::of(host, image, other_files != OtherFiles::InFolder)?,
+            other_files,
             refused: None,
         })
     }
 
-    /// Why the last file that wasn't handed out was refused, if there is one.
-    pub fn into_refusal(self) -> Option<OpenError> {
+    /// The path of the last file that wasn't handed out, if there is one.
+    pub fn into_refused(self) -> Option<String> {
         self.refused
     }
 
     /// Whether a path is let through.
     fn lets_through(&self, path: &str) -> Result<bool, OpenError>
-        ensures { IfOk result (λ yes. yes ≡ true
-            → IsLetThrough (permits_outside self.now) (gate_image self.now) path.now) }
+        ensures through { IfOk result (λ yes. yes ≡ true
+            → IsLetThrough (gate_files self.now) (gate_image self.now) path.now) }
+        ensures out { IsBounded (H.real_paths (gate_host self.now)) (gate_image self.now)
+            (gate_bounds self.now) → IfOk result (λ yes. yes ≡ false
+            → IsOut (H.real_paths (gate_host self.now)) (gate_files self.now)
+            (gate_image self.now) path.now) }
+        ensures refused { IfErr result (IsRefused path.now IsBySystem) }
     {
-        if self.allow_outside {
-            return Ok(true);
+        match self.other_files {
+            OtherFiles::None => Ok(false),
+            OtherFiles::InFolder => self.is_in_folder(path),
+            OtherFiles::Any => Ok(true),
         }
+    }
+
+    /// Whether a path lies in the image's folder or below, by its text and without links.
+    fn is_in_folder(&self, path: &str) -> Result<bool, OpenError>
+        ensures below { IfOk result (λ yes. yes ≡ true
+            → lies_below_folder (folder_path (gate_image self.now)) path.now ≡ true) }
+        ensures out { IsBounded (H.real_paths (gate_host self.now)) (gate_image self.now)
+            (gate_bounds self.now) → IfOk result (λ yes. yes ≡ false
+            → IsOutside (H.real_paths (gate_host self.now)) (gate_image self.now) path.now) }
+        ensures refused { IfErr result (IsRefused path.now IsBySystem) }
+    {
         if !lies_below(folder_of(self.image), path) {
             return Ok(false);
         }
@@ -117,61 +130,92 @@ impl<'a, 'b, H: Files> FolderGate<'a, 'b, H> {
         Ok(!OpenError::or_system(self.host.alloc(), path, leaves)?)
     }
 
-    /// The file of that path, if it is let through.
-    pub(crate) fn look(&self, path: &str) -> Result<PathStorage<'a, H>, OpenError>
+    /// Looks at the file of that path, if it is let through.
+    pub(crate) fn look(&self, path: &str) -> Result<PathFile<'a, H>, OpenError>
+        ensures told { IfOk result (λ f. IfSome (H.contents (gate_host self.now))
+            (λ files. ⟦<PathFile<'a, H> as HostFile>⟧.contents f ≡ Some (files path.now))) }
+        ensures path { IfOk result (λ f. file_path f ≡ path.now) }
+        ensures status { IfOk result (λ f. IfSome (H.statuses (gate_host self.now))
+            (λ status_of. file_status f ≡ status_of path.now)) }
+        ensures through { IfOk result
+            (λ _. IsLetThrough (gate_files self.now) (gate_image self.now) path.now) }
+        ensures refused { IsBounded (H.real_paths (gate_host self.now)) (gate_image self.now)
+            (gate_bounds self.now) → IfErr result (IsNotHandedOut (gate_named self.now)
+            (H.statuses (gate_host self.now)) (H.real_paths (gate_host self.now))
+            (gate_files self.now) (gate_image self.now) path.now) }
+    {
+        if self.lets_through(path)? {
+            PathFile::look_at(self.host, path)
+        } else {
+            Err(self.kept_out(path))
+        }
+    }
+
+    /// A path isn't let through.
+    fn kept_out(&self, path: &str) -> OpenError
+        ensures { (reals : Option (List ℕ → List ℕ))
+            → IsOut reals (gate_files self.now) (gate_image self.now) path.now
+            → IsRefused (gate_image self.now) (IsKeptOut (gate_named self.now) reals
+            (gate_files self.now) (gate_image self.now) path.now) result }
+    {
+        let alloc = self.host.alloc();
+        match String::from_str(alloc, path) {
+            Ok(path) => {
+                let reason = reason_outside(self.named, self.other_files, path);
+                OpenError::of_file(alloc, self.image, reason)
+            }
+            Err(_) => OpenError::Memory,
+        }
+    }
+
+    /// The storage of the file of that path, if it is let through.
+    fn storage(&self, path: &str) -> Result<PathStorage<'a, H>, OpenError>
         ensures told { IfOk result (λ s. IfSome (H.contents (gate_host self.now))
             (λ files. HasBytes ⟦<PathStorage<'a, H> as Storage>⟧.features
             ⟦<PathStorage<'a, H> as Storage>⟧.bytes (files path.now) s)) }
-        ensures path { IfOk result
-            (λ s. (⟦<PathStorage<'a, H> as Storage>⟧.features s).filename ≡ Some path.now) }
         ensures through { IfOk result
-            (λ _. IsLetThrough (permits_outside self.now) (gate_image self.now) path.now) }
+            (λ _. IsLetThrough (gate_files self.now) (gate_image self.now) path.now) }
     {
-        if self.lets_through(path)? {
-            look_at(self.host, path)
-        } else {
-            Err(outside(self.host.alloc(), self.image, self.named, path))
-        }
+        let file = self.look(path)?;
+        storage_of(file, path)
     }
 }
 
-/// A path leads out of the folder of that image, which names such files.
-fn outside(alloc: Global, image: &str, named: Named, path: &str) -> OpenError {
-    match String::from_str(alloc, path) {
-        Ok(path) => OpenError::of_file(alloc, image, outside_reason(named, path)),
-        Err(_) => OpenError::Memory,
-    }
-}
-
-/// Why it isn't let through.
-fn outside_reason(named: Named, path: String) -> Reason {
-    match named {
-        Named::Extents => Reason::Outside(path),
-        Named::Backing => Reason::BackingOutside(path),
+/// Why a path isn't let through.
+fn reason_outside(named: Named, other_files: OtherFiles, path: String) -> Reason
+    ensures { (reals : Option (List ℕ → List ℕ)) (image : List ℕ)
+        → IsOut reals other_files image (string_bytes path)
+        → IsKeptOut named reals other_files image (string_bytes path) result }
+{
+    match (named, other_files) {
+        (Named::Extents, OtherFiles::None) => Reason::NotPermitted(path),
+        (Named::Backing, OtherFiles::None) => Reason::BackingNotPermitted(path),
+        (Named::Extents, _) => Reason::Outside(path),
+        (Named::Backing, _) => Reason::BackingOutside(path),
     }
 }
 
 impl<'a, 'b, H: Files> ImplicitOpenGate<PathStorage<'a, H>> for FolderGate<'a, 'b, H> {
-    ghost use Rattle.imago_images.specs.GateParts.{gate_host, gate_image, permits_outside};
+    ghost use Rattle.imago_images.specs.GateParts.{gate_host, gate_image, gate_files};
 
     ghost opened = { λ o a b r. (gate_host b ≡ gate_host a) × (gate_image b ≡ gate_image a)
-        × (permits_outside b ≡ permits_outside a)
+        × (gate_files b ≡ gate_files a)
         × IfOk r (IsLooked ⟦<PathStorage<'a, H> as Storage>⟧.features
-        ⟦<PathStorage<'a, H> as Storage>⟧.bytes (H.contents (gate_host a)) (permits_outside a)
+        ⟦<PathStorage<'a, H> as Storage>⟧.bytes (H.contents (gate_host a)) (gate_files a)
         (gate_image a) o.filename) };
 
     fn open_storage(
         &mut self,
-        _alloc: Global,
+        alloc: Global,
         opts: StorageOpenOptions,
     ) -> Result<PathStorage<'a, H>, Error> {
         let Some(path) = opts.get_filename() else {
             return Err(Error::NotFound);
         };
-        match self.look(path) {
+        match self.storage(path) {
             Ok(storage) => Ok(storage),
-            Err(cause) => {
-                self.refused = Some(cause);
+            Err(_) => {
+                self.refused = Some(String::from_str(alloc, path)?);
                 Err(Error::Denied)
             }
         }

@@ -1,6 +1,6 @@
 //! A layer by itself: a file in a format, and the name of the file below it.
-ghost use Rattle.std.specs.Prelude.{◌≡◌, ℕ, List, None, Some, IfOk, IfSome, IsTrue};
-ghost use Rattle.std.specs.Prelude.{length, option_map};
+ghost use Rattle.std.specs.Prelude.{◌≡◌, ℕ, ◌⊎◌, List, None, Some, IfOk, IfErr, IfSome, IsErr};
+ghost use Rattle.std.specs.Prelude.{IsTrue, MatchResult, length, option_map};
 ghost use Rattle.std.specs.String.{string_bytes};
 ghost use Rattle.imago_drivers.specs.Raw.{raw_place};
 ghost use Rattle.imago_qcow2.specs.Entry.{disk_size, qcow2_place};
@@ -9,12 +9,18 @@ ghost use Rattle.imago_images.specs.Layers.{IsDriverOf};
 ghost use Rattle.imago_images.specs.Images.{IsLayerOf, LeadsTo};
 ghost use Rattle.imago_images.specs.Layers.{SaysBacking};
 ghost use Rattle.imago_file.specs.Names.{path_beside as path_beside_file};
-ghost use Rattle.imago_qcow2.specs.Qcow2Image.{storage_in};
+ghost use Rattle.imago_qcow2.specs.Opening.{IsOpened};
+ghost use Rattle.imago_qcow2.specs.Qcow2Image.{storage_in, header_in};
 ghost use Rattle.imago_images.specs.declared.format.ImageFormat.TheVariants as Of;
-ghost use Rattle.imago_images.specs.Formats.{SaysFormat, IsFormatBy};
+ghost use Rattle.imago_images.specs.Formats.{SaysFormat, IsFormatBy, is_said_raw};
+ghost use Rattle.imago_images.specs.Formats.{guessed as guessed_by};
+ghost use Rattle.imago_images.specs.Refusals.{IsRefused, IsByDriver, IsByEither, IsUnknown};
+ghost use Rattle.imago_images.specs.Refusals.{IsSparse, IsUnopened};
+ghost use Rattle.imago_images.specs.Chains.{IsNamedRefused, IsLayerRefused};
+ghost use Rattle.imago_images.specs.declared.gate.Named.TheVariants as NamedAs;
 
 use crate::failure::{OpenError, Reason};
-use crate::file::PathStorage;
+use crate::file::{PathStorage, look_at};
 use crate::files::Files;
 use crate::format::{ImageFormat, guess};
 use crate::gate::{FolderGate, Named};
@@ -26,8 +32,8 @@ use imago_drivers::raw::Raw;
 use imago_file::file::FileStorage;
 use imago_file::host::HostFile;
 use imago_file::name::path_beside;
+use imago_qcow2::header::{self, HEAD_LENGTH};
 use imago_qcow2::laws::image_of_bytes;
-use imago_qcow2::layout::l1_table;
 use imago_qcow2::qcow2::Qcow2;
 use imago_storage::error::Error;
 use imago_storage::ext::StorageExt;
@@ -70,10 +76,13 @@ pub fn open_layer<'a, H: Files>(
     requires path { (⟦<PathStorage<'a, H> as Storage>⟧.features file).filename ≡ Some path.now }
     ensures layer { IfOk result (λ l. IfSome (H.contents host.now)
         (λ files. IsLayerOf ⟦<AnyDriver<PathStorage<'a, H>> as FormatDriverInstance>⟧.view
-        how.strict how.allow_outside files path.now format l.driver
+        how.strict how.other_files files path.now format l.driver
         (option_map (λ b. string_bytes b.path) l.below))) }
     ensures format { IfOk result (λ l. IfSome (H.contents host.now)
         (λ files. IfSome l.below (λ b. SaysFormat (files path.now) b.format))) }
+    ensures refused { IfErr result (λ e. IfSome (H.contents host.now)
+        (λ files. IsLayerRefused files (H.statuses host.now) (H.real_paths host.now)
+        how.other_files path.now format e)) }
 {
     match format {
         ImageFormat::Raw => raw_layer(host.alloc(), path, file),
@@ -88,6 +97,7 @@ fn raw_layer<S: Storage>(alloc: Global, path: &str, file: S) -> Result<Layer<S>,
     ensures driver { (bytes : List ℕ) → HasBytes S.features S.bytes bytes file → IfOk result (λ l.
         IsDriverOf ⟦<AnyDriver<S> as FormatDriverInstance>⟧.view (length bytes)
         (raw_place (length bytes) bytes) l.driver) }
+    ensures refused { IfErr result (IsRefused path.now IsByDriver) }
 {
     let raw = OpenError::or_image(alloc, path, Raw::open_image(file, false))?;
     Ok(Layer {
@@ -110,6 +120,8 @@ fn layer_in_qcow2<S: Storage>(
         (option_map (λ b. string_bytes b.path) l.below)) }
     ensures format { (bytes : List ℕ) → HasBytes S.features S.bytes bytes (storage_in qcow2)
         → IfOk result (λ l. IfSome l.below (λ b. SaysFormat bytes b.format)) }
+    ensures refused { (bytes : List ℕ) → HasBytes S.features S.bytes bytes (storage_in qcow2)
+        → IfErr result (IsRefused path.now (IsUnopened bytes)) }
 {
     image_of_bytes(&qcow2);
     let below = below_qcow2(alloc, path, &qcow2)?;
@@ -129,29 +141,68 @@ fn qcow2_layer<H: Files, S: Storage>(host: &H, path: &str, file: S) -> Result<La
         (option_map (λ b. string_bytes b.path) l.below)) }
     ensures format { (bytes : List ℕ) → HasBytes S.features S.bytes bytes file
         → IfOk result (λ l. IfSome l.below (λ b. SaysFormat bytes b.format)) }
+    ensures refused { IfErr result (λ e. IfSome (H.contents host.now)
+        (λ files. HasBytes S.features S.bytes (files path.now) file
+        → IsRefused path.now (IsUnopened (files path.now)) e)) }
+{
+    let qcow2 = open_qcow2(host, path, file)?;
+    layer_in_qcow2(host.alloc(), path, qcow2)
+}
+
+/// Opens a qcow2 file of that path by itself: the file below it isn't looked at. A refusal is told
+/// by the header's fault, where that is why, and by the host's answer where a read was refused.
+pub fn open_qcow2<H: Files, S: Storage>(
+    host: &H,
+    path: &str,
+    file: S,
+) -> Result<Qcow2<S>, OpenError>
+    ensures opened { IfOk result (λ d. (storage_in d ≡ «file»)
+        × IsOpened (S.features file) (S.bytes file) (header_in d)) }
+    ensures refused { IfErr result (λ e. IfSome (H.contents host.now)
+        (λ files. IsRefused path.now (IsUnopened (files path.now)) e)) }
 {
     match Qcow2::open_image(host.alloc(), file, false) {
-        Ok(qcow2) => layer_in_qcow2(host.alloc(), path, qcow2),
+        Ok(qcow2) => Ok(qcow2),
         Err(cause) => Err(not_opened(host, path, cause)),
     }
 }
 
-/// Tells why a qcow2 file isn't opened: with its header's fault, where that is why.
-fn not_opened<H: Files>(host: &H, path: &str, cause: Error) -> OpenError {
-    let mut head = [0u8; 112];
+/// Why a qcow2 file isn't opened: its header's fault, where that is why.
+fn not_opened<H: Files>(host: &H, path: &str, cause: Error) -> OpenError
+    ensures { IfSome (H.contents host.now)
+        (λ files. IsRefused path.now (IsUnopened (files path.now)) result) }
+{
+    let mut head = [0u8; HEAD_LENGTH];
     if let Ok(status) = host.status(path) {
         if let Ok(()) = host.read_at(path, &mut head, 0) {
-            if let Err(fault) = l1_table(&head, status.length) {
+            if let Err(fault) = header::read(&head, status.length) {
                 return OpenError::of_file(host.alloc(), path, Reason::Header(fault));
             }
         }
     }
-    OpenError::of_file(host.alloc(), path, reason_of(host, path, cause))
+    read_again(host, path, cause)
 }
 
-/// Why a driver didn't open a file's image. Where a read was refused, its storage is gone with the
-/// answer of the host, which is asked once more.
-fn reason_of<H: Files>(host: &H, path: &str, cause: Error) -> Reason {
+/// Why the driver didn't open the file of a path, which no fault of its header tells. Where a read
+/// was refused, the storage is gone, with what the host answered: so the file is opened once more.
+fn read_again<H: Files>(host: &H, path: &str, cause: Error) -> OpenError
+    ensures { IsRefused path.now IsByEither result }
+{
+    let alloc = host.alloc();
+    if cause == Error::Device {
+        if let Ok(mut file) = look_at(host, path) {
+            let _is_opened = Qcow2::open_image(alloc, &mut file, false).is_ok();
+            return unread(alloc, path, &file, cause);
+        }
+    }
+    OpenError::of_file(alloc, path, Reason::Image(cause))
+}
+
+/// Why the driver of VMDK images didn't open a file's. Where a read was refused, its storage is
+/// gone with the answer of the host, which is asked once more.
+fn reason_of<H: Files>(host: &H, path: &str, cause: Error) -> Reason
+    ensures { IsByEither result }
+{
     if cause == Error::Device {
         if let Err(answer) = host.read_at(path, &mut [0u8; 1], 0) {
             return Reason::System(answer);
@@ -167,9 +218,10 @@ fn name_below<S: Storage>(
     path: &str,
     qcow2: &Qcow2<S>,
 ) -> Result<Option<Vec<u8>>, OpenError>
-    ensures { IsTrue (S.features (storage_in qcow2.now)).tells_bytes
+    ensures said { IsTrue (S.features (storage_in qcow2.now)).tells_bytes
         → IfOk result (λ name. SaysBacking (S.bytes (storage_in qcow2.now))
         (option_map (λ n. n.items) name)) }
+    ensures refused { IfErr result (IsRefused path.now IsByDriver) }
 {
     let Some(name) = OpenError::or_image(alloc, path, qcow2.backing_file(alloc))? else {
         return Ok(None);
@@ -182,7 +234,8 @@ fn name_below<S: Storage>(
 
 /// A name that stands in a file. Only UTF-8 is supported.
 pub fn text_of(alloc: Global, path: &str, name: Vec<u8>) -> Result<String, OpenError>
-    ensures { IfOk result (λ text. string_bytes text ≡ name.items) }
+    ensures text { IfOk result (λ text. string_bytes text ≡ name.items) }
+    ensures refused { IfErr result (IsRefused path.now IsByDriver) }
 {
     match String::from_utf8(name) {
         Ok(name) => Ok(name),
@@ -192,7 +245,8 @@ pub fn text_of(alloc: Global, path: &str, name: Vec<u8>) -> Result<String, OpenE
 
 /// The path that a name stands for which the file of that path has.
 fn path_below(alloc: Global, path: &str, name: Vec<u8>) -> Result<String, OpenError>
-    ensures { IfOk result (λ next. string_bytes next ≡ path_beside_file path.now name.items) }
+    ensures path { IfOk result (λ next. string_bytes next ≡ path_beside_file path.now name.items) }
+    ensures refused { IfErr result (IsRefused path.now IsByDriver) }
 {
     let name = text_of(alloc, path, name)?;
     Ok(path_beside(alloc, path, &name)?)
@@ -210,6 +264,8 @@ fn below_qcow2<S: Storage>(
     ensures format { IsTrue (S.features (storage_in qcow2.now)).tells_bytes
         → IfOk result (λ below. IfSome below
         (λ b. SaysFormat (S.bytes (storage_in qcow2.now)) b.format)) }
+    ensures refused { IsTrue (S.features (storage_in qcow2.now)).tells_bytes
+        → IfErr result (IsRefused path.now (IsUnopened (S.bytes (storage_in qcow2.now)))) }
 {
     let Some(name) = name_below(alloc, path, qcow2)? else {
         return Ok(None);
@@ -226,8 +282,10 @@ fn format_below<S: Storage>(
     path: &str,
     qcow2: &Qcow2<S>,
 ) -> Result<Option<ImageFormat>, OpenError>
-    ensures { IsTrue (S.features (storage_in qcow2.now)).tells_bytes
+    ensures said { IsTrue (S.features (storage_in qcow2.now)).tells_bytes
         → IfOk result (SaysFormat (S.bytes (storage_in qcow2.now))) }
+    ensures refused { IsTrue (S.features (storage_in qcow2.now)).tells_bytes
+        → IfErr result (IsRefused path.now (IsUnopened (S.bytes (storage_in qcow2.now)))) }
 {
     let Some(name) = OpenError::or_image(alloc, path, qcow2.backing_format(alloc))? else {
         return Ok(None);
@@ -253,10 +311,13 @@ fn vmdk_layer<'a, H: Files>(
     ensures alone { IfOk result (λ l. l.below ≡ None) }
     ensures layer { IfOk result (λ l. IfSome (H.contents host.now)
         (λ files. IsLayerOf ⟦<AnyDriver<PathStorage<'a, H>> as FormatDriverInstance>⟧.view
-        how.strict how.allow_outside files path.now Of.Vmdk l.driver None)) }
+        how.strict how.other_files files path.now Of.Vmdk l.driver None)) }
+    ensures refused { IfErr result (λ e. IsRefused path.now IsByEither e
+        ⊎ ((extent : List ℕ) × IsNamedRefused NamedAs.Extents (H.statuses host.now)
+        (H.real_paths host.now) how.other_files path.now extent e)) }
 {
     let alloc = host.alloc();
-    let mut gate = FolderGate::of(host, path, Named::Extents, how.allow_outside)?;
+    let mut gate = FolderGate::of(host, path, Named::Extents, how.other_files)?;
     let builder = Vmdk::builder(file).accept_unknown_keys(!how.strict);
     match builder.open(alloc, &mut gate) {
         Ok(vmdk) => {
@@ -266,11 +327,39 @@ fn vmdk_layer<'a, H: Files>(
                 below: None,
             })
         }
-        Err(cause) => Err(match gate.into_refusal() {
-            Some(refusal) => refusal,
-            None => OpenError::of_file(alloc, path, reason_of(host, path, cause)),
-        }),
+        Err(cause) => Err(not_described(host, path, gate.into_refused(), how, cause)),
     }
+}
+
+/// Tells why a descriptor's image isn't opened. Where the gate refused a file, it is asked for it
+/// once more, since what it answered is gone with the driver.
+fn not_described<H: Files>(
+    host: &H,
+    path: &str,
+    refused: Option<String>,
+    how: Opening,
+    cause: Error,
+) -> OpenError
+    ensures { IsRefused path.now IsByEither result
+        ⊎ ((extent : List ℕ) × IsNamedRefused NamedAs.Extents (H.statuses host.now)
+        (H.real_paths host.now) how.other_files path.now extent result) }
+{
+    if let Some(extent) = refused {
+        if let Err(refusal) = try_extent(host, path, &extent, how) {
+            return refusal;
+        }
+    }
+    OpenError::of_file(host.alloc(), path, reason_of(host, path, cause))
+}
+
+/// Asks the gate of a descriptor's files for one of them.
+fn try_extent<H: Files>(host: &H, path: &str, extent: &str, how: Opening) -> Result<(), OpenError>
+    ensures { IfErr result (IsNamedRefused NamedAs.Extents (H.statuses host.now)
+        (H.real_paths host.now) how.other_files path.now extent.now) }
+{
+    let gate = FolderGate::of(host, path, Named::Extents, how.other_files)?;
+    gate.look(extent)?;
+    Ok(())
 }
 
 /// The format of a file: the one that is said, or else the one that its first bytes tell. The first
@@ -282,31 +371,74 @@ pub fn format_of<F: HostFile>(
     file: &FileStorage<F>,
     said: Option<ImageFormat>,
 ) -> Result<ImageFormat, OpenError>
-    ensures { (bytes : List ℕ) → HasBytes ⟦<FileStorage<F> as Storage>⟧.features
+    ensures told { (bytes : List ℕ) → HasBytes ⟦<FileStorage<F> as Storage>⟧.features
         ⟦<FileStorage<F> as Storage>⟧.bytes bytes file.now
         → IfOk result (IsFormatBy said bytes) }
+    ensures refused { (bytes : List ℕ) → HasBytes ⟦<FileStorage<F> as Storage>⟧.features
+        ⟦<FileStorage<F> as Storage>⟧.bytes bytes file.now
+        → IfErr result (IsRefused path.now (IsUnknown bytes said)) }
 {
-    if let Some(ImageFormat::Raw) = said {
+    if is_raw(said) {
         return Ok(ImageFormat::Raw);
     }
+    let guessed = guessed_format(alloc, path, file)?;
+    Ok(said.unwrap_or(guessed))
+}
+
+/// Whether a file is said to be raw.
+fn is_raw(said: Option<ImageFormat>) -> bool
+    ensures { result ≡ is_said_raw said }
+{
+    matches!(said, Some(ImageFormat::Raw))
+}
+
+/// The format that a file's first bytes tell.
+fn guessed_format<F: HostFile>(
+    alloc: Global,
+    path: &str,
+    file: &FileStorage<F>,
+) -> Result<ImageFormat, OpenError>
+    ensures told { (bytes : List ℕ) → HasBytes ⟦<FileStorage<F> as Storage>⟧.features
+        ⟦<FileStorage<F> as Storage>⟧.bytes bytes file.now
+        → IfOk result (λ format. guessed_by bytes ≡ Some format) }
+    ensures refused { (bytes : List ℕ) → HasBytes ⟦<FileStorage<F> as Storage>⟧.features
+        ⟦<FileStorage<F> as Storage>⟧.bytes bytes file.now
+        → IfErr result (IsRefused path.now (λ r. IsByEither r ⊎ IsSparse bytes r)) }
+{
     let mut head = [0u8; 21];
     let read = file.read(alloc, &mut head, 0);
     if let Err(cause) = read {
         return Err(unread(alloc, path, file, cause));
     }
     match guess(&head) {
-        Some(guessed) => Ok(said.unwrap_or(guessed)),
+        Some(format) => Ok(format),
         None => Err(OpenError::of_file(alloc, path, Reason::Sparse)),
     }
 }
 
-/// Why a file wasn't read: by the system's own answer, where the storage kept one.
-fn unread<F: HostFile>(
+/// What was found in the file of that path, or why it isn't: by the host's own answer, where a read
+/// of its storage was refused.
+pub fn told_by_host<F: HostFile, T>(
     alloc: Global,
     path: &str,
     file: &FileStorage<F>,
-    cause: Error,
-) -> OpenError {
+    found: Result<T, OpenError>,
+) -> Result<T, OpenError>
+    ensures { MatchResult found (λ x. result ≡ Ok x) (λ _. IsErr result) }
+{
+    match found {
+        Ok(found) => Ok(found),
+        Err(cause) => match file.last_error() {
+            Some(answer) => Err(OpenError::of_file(alloc, path, Reason::System(answer))),
+            None => Err(cause),
+        },
+    }
+}
+
+/// Why a file wasn't read: by the system's own answer, where the storage kept one.
+fn unread<F: HostFile>(alloc: Global, path: &str, file: &FileStorage<F>, cause: Error) -> OpenError
+    ensures { IsRefused path.now IsByEither result }
+{
     match file.last_error() {
         Some(answer) => OpenError::of_file(alloc, path, Reason::System(answer)),
         None => OpenError::of_file(alloc, path, Reason::Image(cause)),

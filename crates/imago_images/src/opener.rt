@@ -1,16 +1,20 @@
 //! An image, opened by its path.
-ghost use Rattle.std.specs.Prelude.{◌≡◌, Some, IfOk, IfSome};
+ghost use Rattle.std.specs.Prelude.{◌≡◌, ◌+◌, ◌++◌, ◌∷◌, [], ℕ, List, Some, false, length};
+ghost use Rattle.std.specs.Prelude.{IfOk, IfErr, IfSome};
 ghost use Rattle.std.specs.String.{string_bytes};
-ghost use Rattle.imago_images.specs.Formats.{IsFormatBy};
+ghost use Rattle.imago_images.specs.Formats.{IsFormatBy, SaysFormat};
 ghost use Rattle.imago_images.specs.Gate.{IsLetThrough};
 ghost use Rattle.imago_images.specs.Images.{IsImageIn};
 ghost use Rattle.imago_images.specs.HostBytes.{HasBytes};
+ghost use Rattle.imago_images.specs.Way.{entered, is_among};
+ghost use Rattle.imago_images.specs.Chains.{HasIdentity, IsNextRefused, IsChainRefused};
+ghost use Rattle.imago_images.specs.Chains.{IsImageRefused, IsEndingWay, HasEnd};
 
 use crate::failure::OpenError;
-use crate::file::PathStorage;
+use crate::file::{PathFile, PathStorage, storage_of};
 use crate::files::Files;
 use crate::format::ImageFormat;
-use crate::gate::{FolderGate, Named, look_at};
+use crate::gate::{FolderGate, Named};
 use crate::layer::{Below, Layer, format_of, open_layer};
 use crate::opening::Opening;
 use crate::over::{alone, over};
@@ -29,9 +33,9 @@ pub type FileImage<'a, H> = FormatAccess<AnyDriver<PathStorage<'a, H>>>;
 /// Opens the image of a path: its file, the files of its extents or, of a qcow2 image, the whole
 /// chain of files below it. Tells the format of the file of that path too.
 ///
-/// Each file is looked at before it is read. The image holds none open; its host may. What is read is the first 21
-/// bytes of a file whose format isn't said to be raw, and headers, tables and descriptors; data is
-/// read when the image is. No file is written to, now or later.
+/// Each file is looked at before it is read. The image holds none open; its host may. What is read
+/// is the first 21 bytes of a file whose format isn't said to be raw, and headers, tables and
+/// descriptors; data is read when the image is. No file is written to, now or later.
 ///
 /// # Errors
 ///
@@ -48,11 +52,17 @@ pub fn open_image<'a, H: Files>(
         (λ files. IsFormatBy how.format (files path.now) r.0)) }
     ensures image { IfOk result (λ r. IfSome (H.contents host.now)
         (λ files. IsImageIn ⟦<AnyDriver<PathStorage<'a, H>> as FormatDriverInstance>⟧.view
-        how.strict how.allow_outside files path.now r.0 r.1)) }
+        how.strict how.other_files files path.now r.0 r.1)) }
+    ensures end { IfOk result (λ r. IfSome (H.contents host.now)
+        (λ files. HasEnd files (H.statuses host.now) path.now r.0)) }
+    ensures refused { IfErr result (λ e. IfSome (H.contents host.now)
+        (λ files. IsImageRefused files (H.statuses host.now) (H.real_paths host.now)
+        how.other_files how.format path.now e)) }
 {
     let mut way = Way::new(host.alloc());
-    let file = look_at(host, path)?;
-    way.enter(host.alloc(), file.file())?;
+    let file = PathFile::look_at(host, path)?;
+    way.enter(host.alloc(), &file)?;
+    let file = storage_of(file, path)?;
     let format = format_of(host.alloc(), path, &file, how.format)?;
     let image = open_chain(host, path, file, format, how, &mut way, MOST)?;
     Ok((format, image))
@@ -73,9 +83,16 @@ fn open_chain<'a, H: Files>(
         (λ files. HasBytes ⟦<PathStorage<'a, H> as Storage>⟧.features
         ⟦<PathStorage<'a, H> as Storage>⟧.bytes (files path.now) file) }
     requires path { (⟦<PathStorage<'a, H> as Storage>⟧.features file).filename ≡ Some path.now }
-    ensures { IfOk result (λ x. IfSome (H.contents host.now)
+    requires depth { length (entered way.old) + most ≡ 200 }
+    ensures image { IfOk result (λ x. IfSome (H.contents host.now)
         (λ files. IsImageIn ⟦<AnyDriver<PathStorage<'a, H>> as FormatDriverInstance>⟧.view
-        how.strict how.allow_outside files path.now format x)) }
+        how.strict how.other_files files path.now format x)) }
+    ensures end { IfOk result (λ _. IfSome (H.contents host.now)
+        (λ files. IsEndingWay files (H.statuses host.now) (entered way.old) path.now format
+        most)) }
+    ensures refused { IfErr result (λ e. IfSome (H.contents host.now)
+        (λ files. (down : List (List ℕ)) × IsChainRefused files (H.statuses host.now)
+        (H.real_paths host.now) how.other_files (entered way.old) path.now format down e)) }
 {
     let alloc = host.alloc();
     let Layer { driver, below } = open_layer(host, path, file, format, how)?;
@@ -104,13 +121,22 @@ fn next_file<'a, H: Files>(
     ensures path { IfOk result (λ r. (⟦<PathStorage<'a, H> as Storage>⟧.features r.0).filename
         ≡ Some (string_bytes next.now.path)) }
     ensures through { IfOk result
-        (λ _. IsLetThrough how.allow_outside path.now (string_bytes next.now.path)) }
+        (λ _. IsLetThrough how.other_files path.now (string_bytes next.now.path)) }
     ensures format { IfOk result (λ r. IfSome (H.contents host.now)
         (λ files. IsFormatBy next.now.format (files (string_bytes next.now.path)) r.1)) }
+    ensures anew { IfOk result (λ _. (id : ℕ × ℕ)
+        × HasIdentity (H.statuses host.now) (string_bytes next.now.path) id
+        × (is_among (entered way.old) id ≡ false)
+        × (entered way.new ≡ entered way.old ++ id ∷ [])) }
+    ensures refused { IfErr result (λ e. IfSome (H.contents host.now)
+        (λ files. SaysFormat (files path.now) next.now.format
+        → IsNextRefused files (H.statuses host.now) (H.real_paths host.now) how.other_files
+        (entered way.old) path.now (string_bytes next.now.path) e)) }
 {
-    let gate = FolderGate::of(host, path, Named::Backing, how.allow_outside)?;
+    let gate = FolderGate::of(host, path, Named::Backing, how.other_files)?;
     let file = gate.look(&next.path)?;
-    way.enter(host.alloc(), file.file())?;
+    way.enter(host.alloc(), &file)?;
+    let file = storage_of(file, &next.path)?;
     let format = format_of(host.alloc(), &next.path, &file, next.format)?;
     Ok((file, format))
 }

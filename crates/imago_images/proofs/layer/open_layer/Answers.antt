@@ -10,7 +10,7 @@ returns-in-Raw-clause-layer g c =
     let contents = g.H.Files.contents in
     let file = c.args.file in
     raw_told (view_over (features_of contents) faults_of (bytes_of contents)) (features_of contents) (bytes_of contents)
-    c.args.how.strict c.args.how.allow_outside (contents c.args.host.now) c.args.path.now file c.raw_layer.result
+    c.args.how.strict c.args.how.other_files (contents c.args.host.now) c.args.path.now file c.raw_layer.result
     driver_in below_in path_in format_in
     c.requires.told
     c.args.format c.in-Raw.is c.raw_layer.ensures.alone c.raw_layer.ensures.driver
@@ -20,7 +20,7 @@ returns-in-Qcow2-clause-layer g c =
     let contents = g.H.Files.contents in
     let file = c.args.file in
     qcow2_told (view_over (features_of contents) faults_of (bytes_of contents)) (features_of contents) (bytes_of contents)
-    c.args.how.strict c.args.how.allow_outside (contents c.args.host.now) c.args.path.now file c.qcow2_layer.result
+    c.args.how.strict c.args.how.other_files (contents c.args.host.now) c.args.path.now file c.qcow2_layer.result
     driver_in below_in path_in format_in
     c.requires.told
     c.args.format c.in-Qcow2.is c.qcow2_layer.ensures.driver c.qcow2_layer.ensures.below
@@ -30,7 +30,7 @@ returns-in-Vmdk-clause-layer g c =
     let contents = g.H.Files.contents in
     let file = c.args.file in
     vmdk_told (view_over (features_of contents) faults_of (bytes_of contents)) (features_of contents) (bytes_of contents)
-    c.args.how.strict c.args.how.allow_outside (contents c.args.host.now) c.args.path.now file c.vmdk_layer.result
+    c.args.how.strict c.args.how.other_files (contents c.args.host.now) c.args.path.now file c.vmdk_layer.result
     driver_in below_in path_in format_in
     c.requires.told
     c.args.format c.in-Vmdk.is c.vmdk_layer.ensures.alone c.vmdk_layer.ensures.layer
@@ -40,7 +40,7 @@ returns-in-Raw-clause-format g c =
     let contents = g.H.Files.contents in
     let file = c.args.file in
     alone_said (view_over (features_of contents) faults_of (bytes_of contents)) (features_of contents) (bytes_of contents)
-    c.args.how.strict c.args.how.allow_outside (contents c.args.host.now) c.args.path.now file c.raw_layer.result
+    c.args.how.strict c.args.how.other_files (contents c.args.host.now) c.args.path.now file c.raw_layer.result
     driver_in below_in path_in format_in
     c.requires.told
     c.raw_layer.ensures.alone
@@ -50,7 +50,7 @@ returns-in-Vmdk-clause-format g c =
     let contents = g.H.Files.contents in
     let file = c.args.file in
     alone_said (view_over (features_of contents) faults_of (bytes_of contents)) (features_of contents) (bytes_of contents)
-    c.args.how.strict c.args.how.allow_outside (contents c.args.host.now) c.args.path.now file c.vmdk_layer.result
+    c.args.how.strict c.args.how.other_files (contents c.args.host.now) c.args.path.now file c.vmdk_layer.result
     driver_in below_in path_in format_in
     c.requires.told
     c.vmdk_layer.ensures.alone
@@ -60,7 +60,7 @@ returns-in-Qcow2-clause-format g c =
     let contents = g.H.Files.contents in
     let file = c.args.file in
     qcow2_said (view_over (features_of contents) faults_of (bytes_of contents)) (features_of contents) (bytes_of contents)
-    c.args.how.strict c.args.how.allow_outside (contents c.args.host.now) c.args.path.now file c.qcow2_layer.result
+    c.args.how.strict c.args.how.other_files (contents c.args.host.now) c.args.path.now file c.qcow2_layer.result
     driver_in below_in path_in format_in
     c.requires.told
     c.qcow2_layer.ensures.format

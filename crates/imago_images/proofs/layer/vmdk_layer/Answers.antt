@@ -12,10 +12,10 @@ returns-in-Ok-clause-layer g c =
     let contents = g.H.Files.contents in
     vmdk_opened contents (features_of contents) faults_of (bytes_of contents)
     (λ s relative name. IfSome s.name (λ file. name ≡ path_beside (string_bytes file) relative))
-    c.args.host.now c.args.path.now c.args.how.strict c.args.how.allow_outside
+    c.args.host.now c.args.path.now c.args.how.strict c.args.how.other_files
     c.args.file _ _ _ c.in-Ok.vmdk c.requires.told
     (λ relative name. beside_named string_bytes c.args.file.name _ c.args.path.now relative name c.requires.path refl)
     (c.accept_unknown_keys-builder.ensures.settings ∙ c.builder.ensures.settings)
     c.accept_unknown_keys-builder.ensures.keys c.in-Ok.ensures.opened
-    (c.in_ok-gate.ensures.host, c.in_ok-gate.ensures.image, c.in_ok-gate.ensures.allow)
+    (c.in_ok-gate.ensures.host, c.in_ok-gate.ensures.image, c.in_ok-gate.ensures.files)
     c.in-Ok.vmdk.read c.in-Ok.vmdk.sized c.places_of_bytes.ensures

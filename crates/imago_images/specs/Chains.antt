@@ -1,0 +1,115 @@
+-- The files on the way down from an image's, and why one of them isn't opened.
+use Rattle.std.specs.Prelude.{◌≡◌, ℕ, ◌≤◌, ◌⊎◌, ◌++◌, List, [], ◌∷◌, Option, Some, None, IfSome}
+use Rattle.std.specs.Prelude.{false, length}
+use Rattle.imago_images.specs.declared.failure.OpenError.{OpenError}
+use Rattle.imago_images.specs.declared.files.FileStatus.{FileStatus}
+use Rattle.imago_images.specs.declared.format.ImageFormat.{ImageFormat}
+use Rattle.imago_images.specs.declared.format.ImageFormat.TheVariants.{Raw, Vmdk, Qcow2}
+use Rattle.imago_images.specs.declared.gate.Named.{Named}
+use Rattle.imago_images.specs.declared.gate.Named.TheVariants.{Extents, Backing}
+use Rattle.imago_images.specs.declared.opening.OtherFiles.{OtherFiles}
+use Rattle.imago_images.specs.Formats.{SaysFormat, IsFormatBy, IsFormatBelow}
+use Rattle.imago_images.specs.Gate.{IsLetThrough}
+use Rattle.imago_images.specs.Images.{LeadsTo}
+use Rattle.imago_images.specs.Way.{identity, is_among}
+use Rattle.imago_images.specs.Refusals.{IsRefused, IsBySystem, IsByDriver, IsByEither, IsUnseen}
+use Rattle.imago_images.specs.Refusals.{IsUnknown, IsInCircle, IsTooDeep, IsUnopened, folder_asked}
+use Rattle.imago_images.specs.Refusals.{IsNotHandedOut}
+
+-- a file has that device and number, where the host tells what its files are
+abbrev pub HasIdentity : Option (List ℕ → FileStatus) → List ℕ → ℕ × ℕ → Type 0
+HasIdentity statuses path file = IfSome statuses (λ status_of. file ≡ identity (status_of path))
+
+-- The way goes down from the file of a path, which has that format, to that of the next one.
+abbrev pub GoesDown : (List ℕ → List ℕ) → List ℕ → ImageFormat → List ℕ → Type 0
+GoesDown files path format next = (format ≡ Qcow2) × LeadsTo (files path) path (Some next)
+
+-- One of the files that an image names as that isn't handed out: its folder's path without links
+-- isn't told, or the file isn't let through, or not looked at.
+abbrev pub IsNamedRefused :
+    Named → Option (List ℕ → FileStatus) → Option (List ℕ → List ℕ) → OtherFiles → List ℕ
+    → List ℕ → OpenError → Type 0
+IsNamedRefused named statuses reals others image path e =
+    IsRefused (folder_asked image) IsBySystem e
+    ⊎ IsNotHandedOut named statuses reals others image path e
+
+-- the file of a path isn't opened as a layer of that format: the fault is its own, or that of an
+-- extent's file
+abbrev pub IsLayerRefused :
+    (List ℕ → List ℕ) → Option (List ℕ → FileStatus) → Option (List ℕ → List ℕ) → OtherFiles
+    → List ℕ → ImageFormat → OpenError → Type 0
+IsLayerRefused files statuses reals others path Raw e = IsRefused path IsByDriver e
+IsLayerRefused files statuses reals others path Qcow2 e =
+    IsRefused path (IsUnopened (files path)) e
+IsLayerRefused files statuses reals others path Vmdk e = IsRefused path IsByEither e
+    ⊎ ((extent : List ℕ) × IsNamedRefused Extents statuses reals others path extent e)
+
+-- The file of the next path, which is below that of a path, isn't opened: it isn't handed out, it
+-- is one of those above, or its format isn't told.
+abbrev pub IsNextRefused :
+    (List ℕ → List ℕ) → Option (List ℕ → FileStatus) → Option (List ℕ → List ℕ) → OtherFiles
+    → List (ℕ × ℕ) → List ℕ → List ℕ → OpenError → Type 0
+IsNextRefused files statuses reals others above path next e =
+    IsNamedRefused Backing statuses reals others path next e
+    ⊎ ((file : ℕ × ℕ) × HasIdentity statuses next file
+    × IsRefused next (IsInCircle above file) e)
+    ⊎ ((said : Option ImageFormat) × SaysFormat (files path) said
+    × IsRefused next (IsUnknown (files next) said) e)
+
+-- A chain isn't opened from the file of a path on, which has that format and is the last one of
+-- those that are given by device and number. The way goes down by these paths to a file, and it
+-- isn't opened as a layer, or what is below it isn't opened: it would be one more than 200 files,
+-- or that file is refused.
+abbrev pub IsChainRefused :
+    (List ℕ → List ℕ) → Option (List ℕ → FileStatus) → Option (List ℕ → List ℕ) → OtherFiles
+    → List (ℕ × ℕ) → List ℕ → ImageFormat → List (List ℕ) → OpenError → Type 0
+IsChainRefused files statuses reals others above path format [] e =
+    IsLayerRefused files statuses reals others path format e
+    ⊎ ((next : List ℕ) × GoesDown files path format next
+    × (((length above ≡ 200) × IsRefused path IsTooDeep e)
+    ⊎ IsNextRefused files statuses reals others above path next e))
+IsChainRefused files statuses reals others above path format (next ∷ down) e =
+    GoesDown files path format next × IsLetThrough others path next
+    × ((lower : ImageFormat) × IsFormatBelow (files path) (files next) lower
+    × ((file : ℕ × ℕ) × HasIdentity statuses next file
+    × IsChainRefused files statuses reals others (above ++ file ∷ []) next lower down e))
+
+-- The image of the file of a path isn't opened, whose format is said or isn't: the file isn't
+-- looked at, its format isn't told, or the chain that begins with it isn't opened.
+abbrev pub IsImageRefused :
+    (List ℕ → List ℕ) → Option (List ℕ → FileStatus) → Option (List ℕ → List ℕ) → OtherFiles
+    → Option ImageFormat → List ℕ → OpenError → Type 0
+IsImageRefused files statuses reals others said path e =
+    IsRefused path (IsUnseen statuses path) e
+    ⊎ IsRefused path (IsUnknown (files path) said) e
+    ⊎ ((format : ImageFormat) × IsFormatBy said (files path) format
+    × ((file : ℕ × ℕ) × HasIdentity statuses path file × ((down : List (List ℕ))
+    × IsChainRefused files statuses reals others (file ∷ []) path format down e)))
+
+-- The files below that of a path, which has that format, down to the last one, which leads to none:
+-- none of them is one of those that are given, nor of those above it.
+abbrev pub IsWayDown :
+    (List ℕ → List ℕ) → Option (List ℕ → FileStatus) → List (ℕ × ℕ) → List ℕ → ImageFormat
+    → List (List ℕ) → Type 0
+IsWayDown files statuses above path format [] =
+    format ≡ Qcow2 → LeadsTo (files path) path None
+IsWayDown files statuses above path format (next ∷ down) =
+    GoesDown files path format next
+    × ((lower : ImageFormat) × IsFormatBelow (files path) (files next) lower
+    × ((file : ℕ × ℕ) × HasIdentity statuses next file × (is_among above file ≡ false)
+    × IsWayDown files statuses (above ++ file ∷ []) next lower down))
+
+-- The way down from the file of a path, which has that format, leads to an end, and over at most
+-- that many files: none of them is one of those that are given, nor of those above it.
+abbrev pub IsEndingWay :
+    (List ℕ → List ℕ) → Option (List ℕ → FileStatus) → List (ℕ × ℕ) → List ℕ → ImageFormat → ℕ
+    → Type 0
+IsEndingWay files statuses above path format most =
+    (down : List (List ℕ)) × IsWayDown files statuses above path format down
+    × (length down ≤ most)
+
+-- An image's file and those below it are at most 200, and none is one of those above it.
+abbrev pub HasEnd :
+    (List ℕ → List ℕ) → Option (List ℕ → FileStatus) → List ℕ → ImageFormat → Type 0
+HasEnd files statuses path format = (file : ℕ × ℕ) × HasIdentity statuses path file
+    × IsEndingWay files statuses (file ∷ []) path format 199

@@ -1,0 +1,129 @@
+-- Why files aren't opened for an image: whose fault it is, and what holds there.
+use Rattle.std.specs.Prelude.{◌≡◌, ℕ, ◌⊎◌, true, false, List, [], ◌∷◌, Option, Some, None, Ok, Err}
+use Rattle.std.specs.Prelude.{IfSome, codes, length}
+use Rattle.std.specs.Path.{PathStartsWith}
+use Rattle.std.specs.String.{string_bytes}
+use Rattle.std.specs.declared.io.Error.{Error as IoError}
+use Rattle.imago_storage.specs.declared.error.Error.{Error}
+use Rattle.imago_file.specs.Names.{lies_below}
+use Rattle.imago_qcow2.specs.Backing.{format_of}
+use Rattle.imago_qcow2.specs.Fault.{error_of}
+use Rattle.imago_qcow2.specs.Header.{header_of}
+use Rattle.imago_plan.specs.PieceBytes.{bytes_at}
+use Rattle.imago_images.specs.declared.failure.OpenError.{OpenError}
+use Rattle.imago_images.specs.declared.failure.Reason.{Reason}
+use Rattle.imago_images.specs.declared.files.FileKind.TheVariants as Kind
+use Rattle.imago_images.specs.declared.files.FileStatus.{FileStatus}
+use Rattle.imago_images.specs.declared.format.ImageFormat.{ImageFormat}
+use Rattle.imago_images.specs.declared.gate.Named.{Named}
+use Rattle.imago_images.specs.declared.opening.OtherFiles.{OtherFiles}
+use Rattle.imago_images.specs.declared.opening.OtherFiles.TheVariants as Others
+use Rattle.imago_images.specs.Formats.{format_named, guessed, is_said_raw}
+use Rattle.imago_images.specs.Gate.{folder_path}
+use Rattle.imago_images.specs.Way.{is_among}
+
+-- A refusal names the file of that path, and this holds of its reason. Where memory was refused,
+-- nothing is said.
+abbrev pub IsRefused : List ℕ → (Reason → Type 0) → OpenError → Type 0
+IsRefused path why (OpenError.OfFile named reason) = (string_bytes named ≡ path) × why reason
+IsRefused path why OpenError.Memory = Unit {0}
+
+-- the host's answer
+abbrev pub IsBySystem : Reason → Type 0
+IsBySystem reason = (answer : IoError) × (reason ≡ Reason.System answer)
+
+-- an answer of the format's driver
+abbrev pub IsByDriver : Reason → Type 0
+IsByDriver reason = (error : Error) × (reason ≡ Reason.Image error)
+
+-- either of these
+abbrev pub IsByEither : Reason → Type 0
+IsByEither reason = IsBySystem reason ⊎ IsByDriver reason
+
+-- The file of a path isn't looked at: the host's answer, or it has no bytes at offsets, where the
+-- host tells what its files are.
+abbrev pub IsUnseen : Option (List ℕ → FileStatus) → List ℕ → Reason → Type 0
+IsUnseen statuses path (Reason.System answer) = Unit {0}
+IsUnseen statuses path Reason.NotAFile =
+    IfSome statuses (λ status_of. (status_of path).kind ≡ Kind.Other)
+IsUnseen statuses path reason = ⊥
+
+-- a file with these bytes begins as a sparse VMDK image does
+abbrev pub IsSparse : List ℕ → Reason → Type 0
+IsSparse bytes Reason.Sparse = guessed bytes ≡ None
+IsSparse bytes reason = ⊥
+
+-- The format of a file with these bytes isn't told: it isn't read, or it is a sparse VMDK image
+-- that isn't said to be raw.
+abbrev pub IsUnknown : List ℕ → Option ImageFormat → Reason → Type 0
+IsUnknown bytes said reason =
+    IsByEither reason ⊎ ((is_said_raw said ≡ false) × IsSparse bytes reason)
+
+-- a file stands among those above it
+abbrev pub IsInCircle : List (ℕ × ℕ) → ℕ × ℕ → Reason → Type 0
+IsInCircle above file (Reason.Loop told) = is_among above file ≡ true
+IsInCircle above file reason = ⊥
+
+-- a file below one isn't opened any more
+abbrev pub IsTooDeep : Reason → Type 0
+IsTooDeep (Reason.TooManyBelow told) = Unit {0}
+IsTooDeep reason = ⊥
+
+-- the path by which a host finds the folder of that path by its text
+abbrev pub or_here : List ℕ → List ℕ
+or_here [] = codes "."
+or_here (c ∷ path) = c ∷ path
+
+-- the same of the folder of an image's file
+abbrev pub folder_asked : List ℕ → List ℕ
+folder_asked image = or_here (folder_path image)
+
+-- A path leads out of an image's folder: by its text, or by links, where the host tells which paths
+-- its files have without them.
+abbrev pub IsOutside : Option (List ℕ → List ℕ) → List ℕ → List ℕ → Type 0
+IsOutside reals image path = (lies_below (folder_path image) path ≡ false)
+    ⊎ IfSome reals (λ real. PathStartsWith (real path) (real (folder_asked image)) → ⊥)
+
+-- a path isn't let through: none is, or it leads out of the folder
+abbrev pub IsOut : Option (List ℕ → List ℕ) → OtherFiles → List ℕ → List ℕ → Type 0
+IsOut reals Others.None image path = Unit {0}
+IsOut reals Others.InFolder image path = IsOutside reals image path
+IsOut reals Others.Any image path = ⊥
+
+-- The file of a path, which an image names as that, isn't let through: no other files are, or it
+-- lies outside of the image's folder where only those in it are.
+abbrev pub IsKeptOut :
+    Named → Option (List ℕ → List ℕ) → OtherFiles → List ℕ → List ℕ → Reason → Type 0
+IsKeptOut Named.Extents reals others image path (Reason.NotPermitted named) =
+    (string_bytes named ≡ path) × (others ≡ Others.None)
+IsKeptOut Named.Extents reals others image path (Reason.Outside named) =
+    (string_bytes named ≡ path) × (others ≡ Others.InFolder) × IsOutside reals image path
+IsKeptOut Named.Backing reals others image path (Reason.BackingNotPermitted named) =
+    (string_bytes named ≡ path) × (others ≡ Others.None)
+IsKeptOut Named.Backing reals others image path (Reason.BackingOutside named) =
+    (string_bytes named ≡ path) × (others ≡ Others.InFolder) × IsOutside reals image path
+IsKeptOut named reals others image path reason = ⊥
+
+-- The file of a path, which an image names as that, isn't handed out: the image's fault, where it
+-- isn't let through, or its own.
+abbrev pub IsNotHandedOut :
+    Named → Option (List ℕ → FileStatus) → Option (List ℕ → List ℕ) → OtherFiles → List ℕ → List ℕ
+    → OpenError → Type 0
+IsNotHandedOut named statuses reals others image path e =
+    IsRefused image (IsKeptOut named reals others image path) e
+    ⊎ IsRefused path (IsUnseen statuses path) e
+
+-- a qcow2 file says that the one below it has a format of this name, which none of the formats has
+abbrev pub SaysOtherFormat : List ℕ → List ℕ → Type 0
+SaysOtherFormat bytes name = (at : ℕ) × (count : ℕ) × (format_of bytes ≡ Ok (Some (at, count)))
+    × (bytes_at bytes at count ≡ name) × (format_named name ≡ None)
+
+-- A qcow2 file with these bytes isn't opened: its header has that fault, it says another format of
+-- the file below, or the driver refuses it.
+abbrev pub IsUnopened : List ℕ → Reason → Type 0
+IsUnopened bytes (Reason.Header fault) =
+    header_of (bytes_at bytes 0 112) (length bytes) ≡ Err (error_of fault)
+IsUnopened bytes (Reason.BackingFormat name) = SaysOtherFormat bytes (string_bytes name)
+IsUnopened bytes (Reason.Image error) = Unit {0}
+IsUnopened bytes (Reason.System answer) = Unit {0}
+IsUnopened bytes reason = ⊥
