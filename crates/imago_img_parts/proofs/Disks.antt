@@ -1,88 +1,197 @@
-use Rattle.std.proofs.Common.{◌≡◌, ℕ, Bool, List, Option, Some, None, Result, Ok, Err, map}
-use Rattle.std.proofs.Common.{length, OnOk, IfSome, sym, ap, subst, ◌∙◌, not, zero-add}
-use Rattle.std.specs.Prelude.{option_map, slice_index}
-use Rattle.imago_drivers.specs.Place.{Byte}
-use Rattle.imago_access.specs.Disk.{values_from}
-use Rattle.imago_vmdk.specs.Reading.{reading_of}
-use Rattle.imago_vmdk.specs.Disk.{described_value}
-use Rattle.imago_plan.specs.declared.piece.Piece.{Piece}
-use Rattle.imago_plan.specs.PieceBytes.{bytes_at, plan_bytes}
-use Rattle.imago_copy.specs.Differences.{IsFirstDifference}
-use Rattle.imago_plan.specs.Differences.{IfBoth}
-use Rattle.imago_plan.proofs.BytesAt.{read_bytes}
+-- The disks of opened images, and what is made of them.
+use Rattle.std.proofs.Common.{◌≡◌, ℕ, ◌+◌, ◌-◌, Bool, true, false, List, [], Option, Some, None, Result, Ok, Err, length, OnOk, IsOk, IfSome, IsTrue, refl, sym, ap, subst, ◌∙◌, arith}
+use Rattle.std.specs.Prelude.{option_map}
+use Rattle.std.proofs.lemmas.Bool.{false≢true}
+use Rattle.std.proofs.lemmas.Option.{same_Some}
+use Rattle.std.proofs.lemmas.Slice.Eq.{bytes_eq-Decides}
+use Rattle.std.specs.Str.{bytes_eq}
+use Rattle.std.proofs.lemmas.List.{length-map}
+use Rattle.std.proofs.lemmas.List.FromFn.{length-map-range_with_len}
+use Rattle.imago_drivers.specs.Place.{Value, Byte}
+use Rattle.imago_drivers.specs.View.{View}
+use Rattle.imago_access.specs.declared.access.FormatAccess.{FormatAccess}
+use Rattle.imago_access.specs.Chain.{driver, disk_value, tells_bytes}
+use Rattle.imago_access.specs.Disk.{disk}
+use Rattle.imago_access.proofs.DiskLists.{same_listed}
+use Rattle.imago_copy.specs.Copies.{IsDiskPut}
+use Rattle.imago_copy.specs.Differences.{IsFirstDifferentValue}
 use Rattle.imago_images.specs.declared.format.ImageFormat.{ImageFormat}
-use Rattle.imago_images.specs.declared.format.ImageFormat.TheVariants.{Raw, Vmdk, Qcow2}
-use Rattle.imago_img_parts.specs.Files.{path_at, storages_by, IsMade, piece_contents}
-use Rattle.imago_images.specs.Layers.{layers_value}
+use Rattle.imago_images.specs.declared.opening.OtherFiles.{OtherFiles}
 use Rattle.imago_images.specs.Formats.{IsFormatBy}
-use Rattle.imago_img_parts.specs.Images.{IsImageOf}
-use Rattle.imago_img_parts.specs.Disks.{IsDiskOf, IsConverted, AreCompared}
+use Rattle.imago_images.specs.Layers.{layers_value, size_by}
+use Rattle.imago_images.specs.Images.{IsImageIn}
+use Rattle.imago_img_parts.specs.Files.{Around, begun, ended, with_file, IsMade, IsWhole}
+use Rattle.imago_img_parts.specs.Disks.{ShowsDisk, HasSize, IsDiskAppended, IsConverted, AreCompared}
 
--- all of a list
-all_of : (xs : List ℕ) → bytes_at xs 0 (length xs) ≡ xs
-all_of xs = sym (read_bytes xs 0 xs (λ k lt. ap (slice_index xs) (sym (zero-add k))))
+-- a file has one format by what is said
+one_format :
+    (said : Option ImageFormat) (bytes : List ℕ) (f g : ImageFormat)
+    → IsFormatBy said bytes f → IsFormatBy said bytes g → f ≡ g
+one_format None bytes f g h k = same_Some f g (sym h ∙ k)
+one_format (Some said) bytes f g h k = h ∙ sym k
 
--- the pieces' bytes are the disk of the image
-pub disk_of_image :
-    (strict allow : Bool) (path text : List ℕ) (format : ImageFormat) (size : ℕ)
-    (paths : List (List ℕ)) (pieces : List Piece) (files : List ℕ → List ℕ)
-    → text ≡ files path → IsImageOf strict allow (Some files) path text format size paths pieces
-    → IsDiskOf strict files path format (plan_bytes (storages_by paths files) pieces)
-disk_of_image strict allow path text Raw size paths pieces files e (len, is, shows) =
-    let own : files (path_at paths 0) ≡ files path = ap (λ (ps : List (List ℕ)). files (path_at ps 0)) is in
-    let n : size ≡ length (files path) = len ∙ ap length e in
-    shows (storages_by paths files) ∙ ap (λ (xs : List ℕ). bytes_at xs 0 size) own
-    ∙ ap (bytes_at (files path) 0) n ∙ all_of (files path)
-disk_of_image strict allow path text Vmdk size paths pieces files e (extents, reading, is, through, shows) =
-    let own : files (path_at paths 0) ≡ text = ap (λ (ps : List (List ℕ)). files (path_at ps 0)) is ∙ sym e in
-    let put = plan_bytes (storages_by paths files) pieces in (
-      extents,
-      size,
-      subst (λ (xs : List ℕ). reading_of (not strict) xs ≡ Ok (extents, size)) e reading,
-      subst (λ (ps : List (List ℕ)). values_from (described_value (not strict) (storages_by ps files 0)) 0 size ≡ map Byte put) is
-          (shows (storages_by paths files) own),
+-- a file that is begun and then ended leaves no trace
+pub begun_ended : (o : Option Around) → option_map ended (option_map begun o) ≡ o
+begun_ended None = refl
+begun_ended (Some a) =
+    let back : a.unfinished + 1 - 1 ≡ a.unfinished = omega arith in
+    let counted : ℕ → Option Around = λ n. Some (record { there = a.there; unfinished = n }) in
+    ap counted back
+
+module _ {D St : Type 0} (view : D → View St) (strict : Bool) (others : OtherFiles) (said : Option ImageFormat) where
+  -- an opened image shows its disk
+  pub shows_disk :
+      (files : List ℕ → List ℕ) (path : List ℕ) (format : ImageFormat) (x : FormatAccess D)
+      → IsFormatBy said (files path) format
+      → IsImageIn view strict others files path format x
+      → ShowsDisk strict others said files path (disk view x)
+  shows_disk files path format x by (layers, are, shown) = (
+    format,
+    layers,
+    by,
+    are,
+    same_listed (layers_value layers) (disk_value view x) _ _ shown.1 shown.2,
+  )
+
+  -- the size of an opened image
+  pub sized :
+      (known : Option (List ℕ → List ℕ)) (path : List ℕ) (format : ImageFormat) (x : FormatAccess D)
+      (size : ℕ) → size ≡ (view (driver x)).size
+      → IfSome known (λ files. IsFormatBy said (files path) format)
+      → IfSome known (λ files. IsImageIn view strict others files path format x)
+      → IfSome known (λ files. HasSize strict said files path size)
+  sized None path format x size e by image = tt
+  sized (Some files) path format x size e by (layers, are, shown) = (format, by, e ∙ shown.1)
+
+  -- a disk that was copied was appended
+  pub appended_disk :
+      (known : Option (List ℕ → List ℕ)) (path : List ℕ) (format : ImageFormat)
+      (x : FormatAccess D) (old new : Option (List ℕ))
+      → IfSome known (λ files. IsFormatBy said (files path) format)
+      → IfSome known (λ files. IsImageIn view strict others files path format x)
+      → (IsTrue (tells_bytes view x) → IsDiskPut (disk view x) old new)
+      → IsDiskAppended strict others said known path old new
+  appended_disk None path format x old new by image put = tt
+  appended_disk (Some files) path format x None new by image put = tt
+  appended_disk (Some files) path format x (Some old) new by image put =
+      let (bytes, is, then) = put image.2.0 in
+      let shown : ShowsDisk strict others said files path (disk view x) = shows_disk files path format x by image in
+      (bytes, subst (λ (d : List Value). ShowsDisk strict others said files path d) is shown, then)
+
+  -- the disks of two opened images were compared
+  pub compared_disks :
+      (known : Option (List ℕ → List ℕ)) (first second : List ℕ) (f g : ImageFormat)
+      (x y : FormatAccess D) (found : Option ℕ)
+      → IfSome known (λ files. IsFormatBy said (files first) f)
+      → IfSome known (λ files. IsImageIn view strict others files first f x)
+      → IfSome known (λ files. IsFormatBy said (files second) g)
+      → IfSome known (λ files. IsImageIn view strict others files second g y)
+      → (IsTrue (tells_bytes view x) → IsTrue (tells_bytes view y)
+      → IsFirstDifferentValue (disk view x) (disk view y) found)
+      → IfSome known (λ files. AreCompared strict others said files first second found)
+  compared_disks None first second f g x y found a b c d h = tt
+  compared_disks (Some files) first second f g x y found a b c d h = (
+    disk view x,
+    disk view y,
+    shows_disk files first f x a b,
+    shows_disk files second g y c d,
+    h b.2.0 d.2.0,
+  )
+
+  -- an image and itself are the same
+  pub compared_same :
+      (known : Option (List ℕ → List ℕ)) (first second : List ℕ) (f : ImageFormat)
+      (x : FormatAccess D) → bytes_eq first second ≡ true
+      → IfSome known (λ files. IsFormatBy said (files first) f)
+      → IfSome known (λ files. IsImageIn view strict others files first f x)
+      → IfSome known (λ files. AreCompared strict others said files first second None)
+  compared_same None first second f x e a b = tt
+  compared_same (Some files) first second f x e a b =
+      let shown : ShowsDisk strict others said files first (disk view x) = shows_disk files first f x a b in (
+        disk view x,
+        disk view x,
+        shown,
+        subst (λ (p : List ℕ). ShowsDisk strict others said files p (disk view x)) ((bytes_eq-Decides first second).0 e) shown,
+        λ k. refl,
+      )
+
+-- what is so where a call succeeded that did
+on_ok : {A E : Type 0} (r : Result A E) (P : Type 0) → IsOk r → OnOk r P → P
+on_ok (Ok x) P is h = h
+on_ok (Err e) P is h = absurd (false≢true is)
+
+-- as many bytes are in a file that was begun for a disk as the disk has
+whole_disk :
+    (strict : Bool) (others : OtherFiles) (said : Option ImageFormat) (known : Option (List ℕ → List ℕ))
+    (from to : List ℕ) (size : ℕ) (made later : Option (List ℕ × ℕ)) (old put : Option (List ℕ))
+    → later ≡ made → IfSome known (λ files. HasSize strict said files from size)
+    → IfSome known (λ files. old ≡ Some []) → IfSome known (λ files. made ≡ Some (to, size))
+    → IsDiskAppended strict others said known from old put → IfSome known (λ files. IsWhole later put)
+whole_disk strict others said None from to size made later old put e sized empty is filled = tt
+whole_disk strict others said (Some files) from to size made later old put e (f, by, len) empty is filled =
+    let (bytes, (format, layers, other, are, shows), then) = subst (λ (o : Option (List ℕ)). IsDiskAppended strict others said (Some files) from o put) empty filled in
+    let same : format ≡ f = one_format said (files from) format f other by in
+    let all : length bytes ≡ size = sym (length-map bytes Byte) ∙ ap length shows
+    ∙ length-map-range_with_len (layers_value layers) 0 (size_by strict format (files from))
+    ∙ ap (λ (g : ImageFormat). size_by strict g (files from)) same ∙ sym len in
+    let whole : IsWhole (Some (to, size)) put = subst (λ (o : Option (List ℕ)). IsWhole (Some (to, size)) o) (sym then) all in
+    subst (λ (m : Option (List ℕ × ℕ)). IsWhole m put) (sym (e ∙ is)) whole
+
+-- what was put into a file that was begun, and finished then, is converted
+converted_disk :
+    (strict : Bool) (others : OtherFiles) (replace : Bool) (said : Option ImageFormat) (known new : Option (List ℕ → List ℕ))
+    (before mid after : Option Around) (from to : List ℕ) (size : ℕ)
+    (made later : Option (List ℕ × ℕ)) (old put : Option (List ℕ))
+    → later ≡ made → IfSome known (λ files. old ≡ Some [])
+    → IfSome known (λ files. made ≡ Some (to, size))
+    → IsDiskAppended strict others said known from old put
+    → IfSome later (λ m. IsMade known new m.0 put) → mid ≡ option_map begun before
+    → IfSome later (λ m. after ≡ option_map (with_file m.0) (option_map ended mid))
+    → (replace ≡ false → IfSome before (λ a. a.there to ≡ false))
+    → IsConverted strict others said replace known new before after from to
+converted_disk strict others replace said None new before mid after from to size made later old put e empty is filled finished began there free = tt
+converted_disk strict others replace said (Some files) new before mid after from to size made later old put e empty is filled finished began there free =
+    let (bytes, has, then) = subst (λ (o : Option (List ℕ)). IsDiskAppended strict others said (Some files) from o put) empty filled in
+    let at : IsMade (Some files) new to put = subst (λ (m : Option (List ℕ × ℕ)). IfSome m (λ n. IsMade (Some files) new n.0 put)) (e ∙ is) finished in
+    let around : after ≡ option_map (with_file to) (option_map ended mid) =
+    subst (λ (m : Option (List ℕ × ℕ)). IfSome m (λ n. after ≡ option_map (with_file n.0) (option_map ended mid))) (e ∙ is) there in (
+      bytes,
+      has,
+      subst (λ (o : Option (List ℕ)). IsMade (Some files) new to o) then at,
+      around ∙ ap (λ (a : Option Around). option_map (with_file to) (option_map ended a)) began ∙ ap (option_map (with_file to)) (begun_ended before),
+      free,
     )
-disk_of_image strict allow path text Qcow2 size paths pieces files e (layers, are, len, shows) =
-    let put = plan_bytes (storages_by paths files) pieces in
-    (allow, paths, layers, are, subst (λ n. values_from (layers_value layers) 0 n ≡ map Byte put) len shows)
 
--- the same of an opened image, with what a command did
-pub converted_image :
-    (strict allow : Bool) (said : Option ImageFormat) (old new : Option (List ℕ → List ℕ))
-    (from to text : List ℕ) (format : ImageFormat) (size : ℕ) (paths : List (List ℕ))
-    (pieces : List Piece)
-    → IfSome old (λ files. IsFormatBy said (files from) format) → IfSome old (λ files. text ≡ files from)
-    → IsImageOf strict allow old from text format size paths pieces
-    → IsMade old new to (piece_contents (option_map (storages_by paths) old) pieces)
-    → IsConverted strict said old new from to
-converted_image strict allow said None new from to text format size paths pieces f e image made = tt
-converted_image strict allow said (Some files) new from to text format size paths pieces f e image made = (
-  plan_bytes (storages_by paths files) pieces,
-  (format, f, disk_of_image strict allow from text format size paths pieces files e image),
-  made,
-)
+-- The same of the calls that `convert` makes: a file is begun, which changes no other, filled, and
+-- then ended.
+module _ (strict : Bool) (others : OtherFiles) (said : Option ImageFormat) {E : Type 0} (known mid : Option (List ℕ → List ℕ))
+    (from to : List ℕ) (size : ℕ) (made later : Option (List ℕ × ℕ)) (old put : Option (List ℕ))
+    (filled : Result (Unit {0}) E) where
+  pub whole_file :
+      mid ≡ known → later ≡ made → IfSome known (λ files. HasSize strict said files from size)
+      → IfSome known (λ files. old ≡ Some []) → IfSome known (λ files. made ≡ Some (to, size))
+      → OnOk filled (IsDiskAppended strict others said mid from old put)
+      → OnOk filled (IfSome mid (λ files. IsWhole later put))
+  whole_file same e sized empty is h = each filled h
+    where
+      each : (r : Result (Unit {0}) E) → OnOk r (IsDiskAppended strict others said mid from old put) → OnOk r (IfSome mid (λ files. IsWhole later put))
+      each (Err _) k = tt
+      each (Ok _) k =
+          let whole : IsDiskAppended strict others said known from old put → IfSome known (λ files. IsWhole later put) =
+          whole_disk strict others said known from to size made later old put e sized empty is in
+          subst (λ (m : Option (List ℕ → List ℕ)). IsDiskAppended strict others said m from old put → IfSome m (λ files. IsWhole later put)) (sym same) whole k
 
-pub compared_images :
-    (strict allow : Bool) (said : Option ImageFormat) (known : Option (List ℕ → List ℕ))
-    (first second left right : List ℕ) (f g : ImageFormat) (n m : ℕ) (ps qs : List (List ℕ))
-    (xs ys : List Piece) (found : Option ℕ)
-    → IfSome known (λ files. IsFormatBy said (files first) f)
-    → IfSome known (λ files. IsFormatBy said (files second) g)
-    → IfSome known (λ files. left ≡ files first) → IfSome known (λ files. right ≡ files second)
-    → IsImageOf strict allow known first left f n ps xs → IsImageOf strict allow known second right g m qs ys
-    → IfBoth (option_map (storages_by ps) known) (option_map (storages_by qs) known)
-    (λ x y. IsFirstDifference (plan_bytes x xs) (plan_bytes y ys) found)
-    → IfSome known (λ files. AreCompared strict said files first second found)
-compared_images strict allow said None first second left right f g n m ps qs xs ys found a b c d x y h = tt
-compared_images strict allow said (Some files) first second left right f g n m ps qs xs ys found a b c d x y h = (
-  plan_bytes (storages_by ps files) xs,
-  plan_bytes (storages_by qs files) ys,
-  (f, a, disk_of_image strict allow first left f n ps xs files c x),
-  (g, b, disk_of_image strict allow second right g m qs ys files d y),
-  h,
-)
-
--- what a success gives
-pub on_ok : {A E : Type 0} (r : Result A E) (P Q : Type 0) → (P → Q) → OnOk r P → OnOk r Q
-on_ok (Ok x) P Q f h = f h
-on_ok (Err e) P Q f h = tt
+  pub converted_file :
+      (replace : Bool) (done : Result (Unit {0}) E) (new : Option (List ℕ → List ℕ)) (before begins after : Option Around)
+      → mid ≡ known → later ≡ made → IfSome known (λ files. old ≡ Some [])
+      → IfSome known (λ files. made ≡ Some (to, size))
+      → OnOk filled (IsDiskAppended strict others said mid from old put) → OnOk done (IsOk filled)
+      → OnOk done (IfSome later (λ m. IsMade mid new m.0 put)) → begins ≡ option_map begun before
+      → OnOk done (IfSome later (λ m. after ≡ option_map (with_file m.0) (option_map ended begins)))
+      → (replace ≡ false → IfSome before (λ a. a.there to ≡ false))
+      → OnOk done (IsConverted strict others said replace known new before after from to)
+  converted_file replace (Err _) new before begins after same e empty is h ok finished began there free = tt
+  converted_file replace (Ok _) new before begins after same e empty is h ok finished began there free =
+      converted_disk strict others replace said known new before begins after from to size made later old put e empty is
+      (subst (λ (m : Option (List ℕ → List ℕ)). IsDiskAppended strict others said m from old put) same (on_ok filled _ ok h))
+      (subst (λ (m : Option (List ℕ → List ℕ)). IfSome later (λ n. IsMade m new n.0 put)) same finished) began there free

@@ -1,9 +1,5 @@
-mod LetThrough
-mod Files
 mod Disks
-mod Described
-mod Layers
-mod NamesBelow
-mod FormatBelow
+mod Told
 mod Printed
 mod Decimals
+mod Spoken

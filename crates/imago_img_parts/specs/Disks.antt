@@ -1,58 +1,62 @@
-use Rattle.std.specs.Prelude.{◌≡◌, ℕ, Bool, not, List, map, Option, Some, None, Ok}
-use Rattle.imago_drivers.specs.Place.{Place, Byte}
+-- The disks of images in files, and what the commands on whole disks do with them.
+use Rattle.std.specs.Prelude.{◌≡◌, ℕ, Bool, false, List, ◌++◌, map, Option, Some, None, option_map}
+use Rattle.std.specs.Prelude.{IfSome}
+use Rattle.imago_drivers.specs.Place.{Place, Value, Byte}
 use Rattle.imago_access.specs.Disk.{values_from}
-use Rattle.imago_vmdk.specs.declared.line.Extent.{Extent}
-use Rattle.imago_vmdk.specs.Reading.{reading_of}
-use Rattle.imago_vmdk.specs.Disk.{described_value}
-use Rattle.imago_qcow2.specs.Entry.{disk_size}
-use Rattle.imago_copy.specs.Differences.{IsFirstDifference}
+use Rattle.imago_copy.specs.Differences.{IsFirstDifferentValue}
 use Rattle.imago_images.specs.declared.format.ImageFormat.{ImageFormat}
-use Rattle.imago_images.specs.declared.format.ImageFormat.TheVariants.{Raw, Vmdk, Qcow2}
-use Rattle.imago_img_parts.specs.Files.{storages_by, IsMade}
+use Rattle.imago_images.specs.declared.opening.OtherFiles.{OtherFiles}
 use Rattle.imago_images.specs.Formats.{IsFormatBy}
-use Rattle.imago_images.specs.Extents.{flat_names}
-use Rattle.imago_images.specs.Layers.{layers_value}
-use Rattle.imago_img_parts.specs.Layers.{AreLayers}
-use Rattle.imago_img_parts.specs.Extents.{storage_paths}
+use Rattle.imago_images.specs.Layers.{layers_value, size_by}
+use Rattle.imago_images.specs.Images.{AreLayers}
+use Rattle.imago_img_parts.specs.Files.{Around, with_file, IsMade}
 
--- The bytes of a disk that the image of a path has, among these files: of a raw image, the file's
--- own. Of a VMDK image, those that its descriptor describes, where the storages of its FLAT extents
--- are the files of the names that it has for them. Of a qcow2 image, those that
--- its file and those below it say, as many as its header has.
-abbrev pub IsDiskOf : Bool → (List ℕ → List ℕ) → List ℕ → ImageFormat → List ℕ → Type 0
-IsDiskOf strict files path Raw disk = disk ≡ files path
-IsDiskOf strict files path Vmdk disk =
-    (extents : List (Extent (List ℕ))) × (size : ℕ)
-    × (reading_of (not strict) (files path) ≡ Ok (extents, size))
-    × (values_from
-    (described_value (not strict)
-    (storages_by (storage_paths path (flat_names extents)) files 0)) 0 size
-    ≡ map Byte disk)
-IsDiskOf strict files path Qcow2 disk =
-    (allow : Bool) × (paths : List (List ℕ)) × (layers : List (ℕ → Place))
-    × AreLayers strict allow files path Qcow2 paths layers
-    × (values_from (layers_value layers) 0 (disk_size (files path)) ≡ map Byte disk)
+-- The image of a path shows these values, one for each offset of its disk: it is opened as the
+-- format that was said, or else as the one that its first bytes tell, and its layers are what its
+-- file and the files that this one leads to have.
+abbrev pub ShowsDisk :
+    Bool → OtherFiles → Option ImageFormat → (List ℕ → List ℕ) → List ℕ → List Value → Type 0
+ShowsDisk strict others said files path disk =
+    (format : ImageFormat) × (layers : List (ℕ → Place)) × IsFormatBy said (files path) format
+    × AreLayers strict others files path format layers
+    × (disk ≡ values_from (layers_value layers) 0 (size_by strict format (files path)))
 
--- the image of a path has that disk, opened as the format that was said, or else as the one that
--- its first bytes tell
+-- the same, where all values are bytes
 abbrev pub HasDisk :
-    Bool → Option ImageFormat → (List ℕ → List ℕ) → List ℕ → List ℕ → Type 0
-HasDisk strict said files path disk =
+    Bool → OtherFiles → Option ImageFormat → (List ℕ → List ℕ) → List ℕ → List ℕ → Type 0
+HasDisk strict others said files path disk =
+    ShowsDisk strict others said files path (map Byte disk)
+
+-- the size of the disk that the image of a path has, in bytes
+abbrev pub HasSize : Bool → Option ImageFormat → (List ℕ → List ℕ) → List ℕ → ℕ → Type 0
+HasSize strict said files path size =
     (format : ImageFormat) × IsFormatBy said (files path) format
-    × IsDiskOf strict files path format disk
+    × (size ≡ size_by strict format (files path))
+
+-- the disk of the image of a path was put behind what was there before, where both are told
+abbrev pub IsDiskAppended :
+    Bool → OtherFiles → Option ImageFormat → Option (List ℕ → List ℕ) → List ℕ → Option (List ℕ)
+    → Option (List ℕ) → Type 0
+IsDiskAppended strict others said None path old new = Unit {0}
+IsDiskAppended strict others said (Some files) path None new = Unit {0}
+IsDiskAppended strict others said (Some files) path (Some old) new =
+    (disk : List ℕ) × HasDisk strict others said files path disk × (new ≡ Some (old ++ disk))
 
 -- The file of one path now has the disk that the image of another path had, and all other files
--- have what they had, where that is told.
+-- have what they had, where that is told. Nothing else was made, and nothing is left unfinished;
+-- unless it was to be replaced, nothing had that path.
 abbrev pub IsConverted :
-    Bool → Option ImageFormat → Option (List ℕ → List ℕ) → Option (List ℕ → List ℕ)
-    → List ℕ → List ℕ → Type 0
-IsConverted strict said None new from to = Unit {0}
-IsConverted strict said (Some files) new from to =
-    (disk : List ℕ) × HasDisk strict said files from disk × IsMade (Some files) new to (Some disk)
+    Bool → OtherFiles → Option ImageFormat → Bool → Option (List ℕ → List ℕ) → Option (List ℕ → List ℕ)
+    → Option Around → Option Around → List ℕ → List ℕ → Type 0
+IsConverted strict others said replace None new before after from to = Unit {0}
+IsConverted strict others said replace (Some files) new before after from to =
+    (disk : List ℕ) × HasDisk strict others said files from disk
+    × IsMade (Some files) new to (Some disk) × (after ≡ option_map (with_file to) before)
+    × (replace ≡ false → IfSome before (λ a. a.there to ≡ false))
 
 -- the disks of the images of two paths are the same, or differ first there
 abbrev pub AreCompared :
-    Bool → Option ImageFormat → (List ℕ → List ℕ) → List ℕ → List ℕ → Option ℕ → Type 0
-AreCompared strict said files first second found =
-    (x : List ℕ) × (y : List ℕ) × HasDisk strict said files first x
-    × HasDisk strict said files second y × IsFirstDifference x y found
+    Bool → OtherFiles → Option ImageFormat → (List ℕ → List ℕ) → List ℕ → List ℕ → Option ℕ → Type 0
+AreCompared strict others said files first second found =
+    (x : List Value) × (y : List Value) × ShowsDisk strict others said files first x
+    × ShowsDisk strict others said files second y × IsFirstDifferentValue x y found

@@ -1,22 +1,25 @@
-use Rattle.std.specs.Prelude.{◌≡◌, ◌≢◌, ℕ, ◌+◌, List, [], Option, Some, None, option_map, slice_get}
-use Rattle.std.specs.Prelude.{unwrap_or}
-use Rattle.imago_plan.specs.declared.piece.Piece.{Piece}
-use Rattle.imago_plan.specs.PieceBytes.{plan_bytes}
+-- The files of a host: what is told of them, and what making one does to them.
+use Rattle.std.specs.Prelude.{◌≡◌, ◌≢◌, ℕ, ◌+◌, ◌-◌, Bool, ◌||◌, List, Option, Some, None, length}
+use Rattle.std.specs.Str.{bytes_eq}
 
--- the i-th of paths, or the empty one
-abbrev pub path_at : List (List ℕ) → ℕ → List ℕ
-path_at paths i = unwrap_or (slice_get paths i) []
+-- What is told of files beside their bytes: which paths lead to something, and how many files are
+-- begun, and neither finished nor abandoned.
+pub record Around : Type 0 where
+  pub there : List ℕ → Bool
+  pub unfinished : ℕ
 
--- the bytes of the storages of an image, which are the files of these paths: those of each layer
--- begin behind the first of the one above
-abbrev pub storages_by : List (List ℕ) → (List ℕ → List ℕ) → ℕ → ℕ → List ℕ
-storages_by paths files layer storage = files (path_at paths (storage + layer))
+-- one more file is begun, which has no path yet
+abbrev pub begun : Around → Around
+begun a = record { there = a.there; unfinished = a.unfinished + 1 }
 
--- the same, where a host says what its files have
-abbrev pub storages_in : {H : Type 0} → (H → Option (List ℕ → List ℕ)) → H → List (List ℕ)
-    → Option (ℕ → ℕ → List ℕ)
-storages_in contents host paths =
-    option_map (storages_by paths) (contents host)
+-- one fewer is
+abbrev pub ended : Around → Around
+ended a = record { there = a.there; unfinished = a.unfinished - 1 }
+
+-- a file has that path
+abbrev pub with_file : List ℕ → Around → Around
+with_file path a =
+    record { there = λ other. bytes_eq path other || a.there other; unfinished = a.unfinished }
 
 -- A file of that path has those bytes now, and all others have what they had, where that is told.
 abbrev pub IsMade : Option (List ℕ → List ℕ) → Option (List ℕ → List ℕ) → List ℕ → Option (List ℕ)
@@ -27,6 +30,8 @@ IsMade (Some old) new path (Some bytes) =
     (files : List ℕ → List ℕ) × (new ≡ Some files) × (files path ≡ bytes)
     × ((other : List ℕ) → other ≢ path → files other ≡ old other)
 
--- what pieces of an image's storages have for bytes, where that is told
-abbrev pub piece_contents : Option (ℕ → ℕ → List ℕ) → List Piece → Option (List ℕ)
-piece_contents storages pieces = option_map (λ bytes. plan_bytes bytes pieces) storages
+-- as many bytes were put into a file as it was begun for, where both are told
+abbrev pub IsWhole : Option (List ℕ × ℕ) → Option (List ℕ) → Type 0
+IsWhole None bytes = Unit {0}
+IsWhole (Some made) None = Unit {0}
+IsWhole (Some made) (Some bytes) = length bytes ≡ made.1

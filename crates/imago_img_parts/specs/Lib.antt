@@ -1,6 +1,5 @@
 pub mod Files
-pub mod Extents
-pub mod Layers
-pub mod Images
 pub mod Disks
 pub mod Lines
+pub mod Words
+pub mod Commands

@@ -1,15 +1,18 @@
 //! Whether an image is in order.
 
-use crate::clusters::{cluster_runs, tell_faults};
+use crate::clusters::{ClusterRun, cluster_runs, tell_faults};
 use crate::extents::{Folder, bytes_of, find, tell_fault};
-use crate::failure::Failure;
-use crate::host::Host;
-use crate::opened::{Opening, format_of};
-use crate::qcow2::{qcow2_file, qcow2_head};
-use crate::text::{ImageFormat, descriptor_text, file_status, read_start};
+use crate::failure::{Failure, OpenError, Reason};
+use crate::host::{Files, Host};
+use crate::looked::{descriptor_text, try_file};
+use imago_access::access::FormatAccess;
+use imago_images::file::{PathStorage, look_at};
+use imago_images::format::ImageFormat;
+use imago_images::layer::{format_of, open_qcow2, told_by_host};
+use imago_images::opening::Opening;
 use imago_qcow2::fault::HeaderFault;
-use imago_qcow2::layout::l1_table;
 use imago_storage::error::Error;
+use imago_storage::storage::Storage;
 use imago_vmdk::descriptor::{self, Descriptor};
 use imago_vmdk::line::{Extent, verdict};
 use std::io::{self, Write};
@@ -47,14 +50,14 @@ fn check_format<H: Host, W: Write>(
     how: Opening,
     output: &mut W,
 ) -> Result<u64, Failure> {
-    let length = file_status(host, path)?.length;
-    match format_of(host, path, how)? {
+    let file = look_at(host, path)?;
+    match format_of(host.alloc(), path, &file, how.format)? {
         ImageFormat::Raw => {
-            read_start(host, path, &mut [0u8; 1])?;
+            try_file(host.alloc(), path, &file)?;
             Ok(0)
         }
-        ImageFormat::Vmdk => check_vmdk(host, path, length, how, output),
-        ImageFormat::Qcow2 => check_qcow2(host, path, length, output),
+        ImageFormat::Vmdk => check_vmdk(host, path, &file, how, output),
+        ImageFormat::Qcow2 => check_qcow2(host, path, file, output),
     }
 }
 
@@ -62,17 +65,35 @@ fn check_format<H: Host, W: Write>(
 fn check_qcow2<H: Host, W: Write>(
     host: &H,
     path: &str,
-    length: u64,
+    mut file: PathStorage<'_, H>,
     output: &mut W,
 ) -> Result<u64, Failure> {
-    let head = qcow2_head(host, path)?;
-    if let Err(fault) = l1_table(&head, length) {
-        return tell_header(path, fault, output).map_err(Failure::Output);
+    let found = runs_of(host, path, &mut file);
+    match told_by_host(host.alloc(), path, &file, found) {
+        Ok(runs) => {
+            let length = file.file().status().length;
+            tell_faults(host.alloc(), path, &runs, length, output)
+        }
+        Err(
+            OpenError::OfFile {
+                reason: Reason::Header(fault),
+                ..
+            },
+        ) => tell_header(path, fault, output).map_err(Failure::Output),
+        Err(cause) => Err(Failure::from(cause)),
     }
-    let file = qcow2_file(host, path, length)?;
-    let alloc = host.alloc();
-    let runs = Failure::or_image(alloc, path, cluster_runs(alloc, &file.image, file.cluster))?;
-    tell_faults(alloc, path, &runs, length, output)
+}
+
+/// The clusters of a qcow2 file that was looked at.
+fn runs_of<H: Files, S: Storage>(
+    host: &H,
+    path: &str,
+    file: S,
+) -> Result<Vec<ClusterRun>, OpenError> {
+    let image = FormatAccess::new(open_qcow2(host, path, file)?);
+    let cluster = image.inner().header().cluster_size();
+    let runs = cluster_runs(host.alloc(), &image, cluster);
+    OpenError::or_image(host.alloc(), path, runs)
 }
 
 /// Tells what is wrong with a header, each feature by itself, and how many faults that is.
@@ -96,11 +117,11 @@ fn tell_header<W: Write>(path: &str, fault: HeaderFault, output: &mut W) -> io::
 fn check_vmdk<H: Host, W: Write>(
     host: &H,
     path: &str,
-    length: u64,
+    file: &PathStorage<'_, H>,
     how: Opening,
     output: &mut W,
 ) -> Result<u64, Failure> {
-    let text = descriptor_text(host, path, length)?;
+    let text = descriptor_text(host.alloc(), path, file)?;
     let faults = check_lines(path, !how.strict, &text, output).map_err(Failure::Output)?;
     match descriptor::read(host.alloc(), !how.strict, &text) {
         Ok(described) => check_extents(host, path, &described, how, output),
@@ -188,7 +209,7 @@ fn check_extents<H: Host, W: Write>(
     how: Opening,
     output: &mut W,
 ) -> Result<u64, Failure> {
-    let folder = Folder::of(host, path, how.allow_outside)?;
+    let folder = Folder::of(host, path, how.allows_outside())?;
     let mut faults: u64 = 0;
     for extent in &described.extents {
         if let Extent::Flat {

@@ -104,22 +104,58 @@ pub fn cluster_runs<D: FormatDriverInstance>(
     Ok(runs)
 }
 
-/// How many clusters of that length runs of one kind are: data, or compressed data.
-pub fn count_clusters(runs: &[ClusterRun], cluster: u64, compressed: bool) -> u64
-    requires { 0 < cluster }
-{
-    let mut count: u64 = 0;
-    for run in runs {
-        let counts = match run.kind {
-            ClusterKind::Stored(_) => !compressed,
-            ClusterKind::Compressed => compressed,
-            _ => false,
-        };
-        if counts {
-            count = count.saturating_add(run.length.div_ceil(cluster));
+/// How many clusters a disk has.
+#[derive(Clone, Copy)]
+pub struct ClusterCounts {
+    /// All of them.
+    pub all: u64,
+    /// Those that have data in the file.
+    pub stored: u64,
+    /// Those that have compressed data there.
+    pub compressed: u64,
+}
+
+impl ClusterCounts {
+    /// With the clusters of a run, which have that length.
+    fn with(self, run: ClusterRun, cluster: u64) -> ClusterCounts
+        requires { 0 < cluster }
+    {
+        let count = run.length.div_ceil(cluster);
+        match run.kind {
+            ClusterKind::Stored(_) => ClusterCounts {
+                stored: self.stored.saturating_add(count),
+                ..self
+            },
+            ClusterKind::Compressed => ClusterCounts {
+                compressed: self.compressed.saturating_add(count),
+                ..self
+            },
+            ClusterKind::Invalid | ClusterKind::Absent => self,
         }
     }
-    count
+}
+
+/// How many clusters of that length the disk of an image has. They are counted one run after the
+/// other, and no run is kept.
+pub fn count_clusters<D: FormatDriverInstance>(
+    image: &FormatAccess<D>,
+    cluster: u64,
+) -> Result<ClusterCounts, Error>
+    requires { 0 < cluster }
+{
+    let size = image.size();
+    let mut counts = ClusterCounts {
+        all: size.div_ceil(cluster),
+        stored: 0,
+        compressed: 0,
+    };
+    let mut at = 0;
+    while at < size {
+        let run = run_at(image, cluster, at, size - at)?;
+        counts = counts.with(run, cluster);
+        at += run.length;
+    }
+    Ok(counts)
 }
 
 /// What the clusters of a run are, and why they can't be read in a file of that length, if they

@@ -1,68 +1,77 @@
 //! Whether two images show the same.
-ghost use Rattle.std.specs.Prelude.{map, IfOk};
-ghost use Rattle.std.specs.String.{string_bytes};
-ghost use Rattle.imago_copy.specs.Differences.{IsFirstDifference};
-ghost use Rattle.imago_plan.specs.Differences.{IfBoth};
-ghost use Rattle.imago_plan.specs.PieceBytes.{plan_bytes};
-ghost use Rattle.imago_img_parts.specs.Files.{storages_in};
+ghost use Rattle.std.specs.Prelude.{IsTrue, IfOk, IfSome};
+ghost use Rattle.imago_access.specs.Chain.{tells_bytes};
+ghost use Rattle.imago_access.specs.Disk.{disk};
+ghost use Rattle.imago_copy.specs.Differences.{IsFirstDifferentValue};
+ghost use Rattle.imago_img_parts.specs.Disks.{AreCompared};
 
-use crate::failure::{Failure, Reason};
+use crate::failure::Failure;
 use crate::host::Host;
-use crate::opened::{OpenedImage, test_files};
-use crate::sources::FileSources;
-use imago_plan::compare::difference;
+use crate::image::{CHUNK, not_read, readable_size, refusal_in};
+use imago_access::access::FormatAccess;
+use imago_copy::compare::first_difference;
+use imago_drivers::drivers::FormatDriverInstance;
+use imago_images::opener::open_image;
+use imago_images::opening::Opening;
+use imago_storage::error::Error;
+use std::alloc::Global;
 
-/// How much of each is read at a time, in bytes.
-const CHUNK: usize = 1048576;
-
-/// The first offset at which the disks of two images differ, if they do. Behind the end of the
-/// shorter one all is 0.
-pub fn first_difference<H: Host>(
-    host: &H,
-    first: &OpenedImage,
-    second: &OpenedImage,
-) -> Result<Option<u64>, Failure>
-    ensures { IfOk result (λ found. IfBoth
-        (storages_in H.contents host.now (map string_bytes first.now.paths.items))
-        (storages_in H.contents host.now (map string_bytes second.now.paths.items))
-        (λ x y. IsFirstDifference (plan_bytes x first.now.pieces.items)
-        (plan_bytes y second.now.pieces.items) found)) }
-{
-    test_files(host, first)?;
-    test_files(host, second)?;
-    let mut left_buf = vec![in host.alloc(); 0u8; CHUNK]?;
-    let mut right_buf = vec![in host.alloc(); 0u8; CHUNK]?;
-    compared(host, first, second, &mut left_buf, &mut right_buf)
+/// What is found of two images.
+#[derive(Clone, Copy)]
+pub struct Comparison {
+    /// The sizes of their disks, in bytes.
+    pub sizes: (u64, u64),
+    /// The first offset at which the disks differ, if they do. Behind the end of the shorter one
+    /// all is 0.
+    pub difference: Option<u64>,
 }
 
-/// The same, by way of two buffers.
-fn compared<H: Host>(
+/// Where the disks of two images differ first, if they do. What the images' files have says what
+/// the disks are.
+pub fn compare_images<H: Host>(
     host: &H,
-    first: &OpenedImage,
-    second: &OpenedImage,
-    left_buf: &mut [u8],
-    right_buf: &mut [u8],
-) -> Result<Option<u64>, Failure>
-    ensures { IfOk result (λ found. IfBoth
-        (storages_in H.contents host.now (map string_bytes first.now.paths.items))
-        (storages_in H.contents host.now (map string_bytes second.now.paths.items))
-        (λ x y. IsFirstDifference (plan_bytes x first.now.pieces.items)
-        (plan_bytes y second.now.pieces.items) found)) }
+    first: &str,
+    second: &str,
+    how: Opening,
+) -> Result<Comparison, Failure>
+    ensures { IfOk result (λ found. IfSome (H.contents host.now)
+        (λ files. AreCompared how.strict how.other_files how.format files first.now second.now
+        found.difference)) }
 {
-    let left = FileSources::new(host, &first.paths);
-    let right = FileSources::new(host, &second.paths);
-    match difference(
-        &left,
-        &first.pieces,
-        &right,
-        &second.pieces,
-        left_buf,
-        right_buf,
-    ) {
-        Ok(found) => Ok(found),
+    let alloc = host.alloc();
+    let (_, left) = open_image(host, first, how)?;
+    let size = readable_size(alloc, first, &left)?;
+    if first == second {
+        return Ok(Comparison {
+            sizes: (size, size),
+            difference: None,
+        });
+    }
+    let (_, right) = open_image(host, second, how)?;
+    let other = readable_size(alloc, second, &right)?;
+    match compared(alloc, &left, &right) {
+        Ok(difference) => Ok(Comparison {
+            sizes: (size, other),
+            difference,
+        }),
         Err(cause) => {
-            let path = left.failed_path().or(right.failed_path()).unwrap_or("");
-            Err(Failure::of_file(host.alloc(), path, Reason::System(cause)))
+            let refusal = refusal_in(&left).or(refusal_in(&right));
+            Err(not_read(alloc, first, refusal, cause))
         }
     }
+}
+
+/// The first offset at which two disks differ, if they do.
+fn compared<D: FormatDriverInstance>(
+    alloc: Global,
+    left: &FormatAccess<D>,
+    right: &FormatAccess<D>,
+) -> Result<Option<u64>, Error>
+    ensures { IsTrue (tells_bytes D.view left.now) → IsTrue (tells_bytes D.view right.now)
+        → IfOk result (λ found.
+        IsFirstDifferentValue (disk D.view left.now) (disk D.view right.now) found) }
+{
+    let mut left_buf = vec![in alloc; 0u8; CHUNK]?;
+    let mut right_buf = vec![in alloc; 0u8; CHUNK]?;
+    first_difference(alloc, left, right, &mut left_buf, &mut right_buf)
 }

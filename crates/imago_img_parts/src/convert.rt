@@ -1,146 +1,149 @@
 //! An image's disk, written to a raw file.
-ghost use Rattle.std.specs.Prelude.{◌≡◌, map, OnOk, OnErr, IsOk};
-ghost use Rattle.std.specs.String.{string_bytes};
-ghost use Rattle.imago_plan.specs.Copies.{IsAppendedOf};
-ghost use Rattle.imago_plan.specs.PieceBytes.{plan_bytes};
-ghost use Rattle.imago_img_parts.specs.Files.{storages_in, IsMade, piece_contents};
+ghost use Rattle.std.specs.Prelude.{◌≡◌, OnOk, OnErr, IfOk, IfSome, IsOk, option_map};
+ghost use Rattle.imago_img_parts.specs.Disks.{HasSize, IsDiskAppended, IsConverted};
+ghost use Rattle.imago_img_parts.specs.Files.{ended, with_file, IsMade, IsWhole};
 
 use crate::failure::{Failure, Reason, Refusal};
 use crate::host::{FileKind, FileStatus, Host};
-use crate::opened::OpenedImage;
+use crate::image::{CHUNK, has_file, not_read, readable_size, refusal_in};
 use crate::progress::Progress;
-use crate::sources::FileSources;
-use crate::text::file_status;
-use imago_plan::copy::{Target, copy};
+use imago_copy::copy::{CopyError, copy_disk};
+use imago_copy::target::Target;
+use imago_images::opener::{FileImage, open_image};
+use imago_images::opening::Opening;
 use std::io::ErrorKind;
 
-/// How much is read at a time, in bytes.
-const CHUNK: usize = 1048576;
-
-/// Writes the disk of an image to a file of that path. What is zero there stays a hole.
+/// Writes the disk of an image to a raw file of that path. What the image's files have says what
+/// the new file then has: the image's disk, byte for byte. What is known to be zero there stays a
+/// hole.
 ///
 /// The path may be taken only where what it leads to is to be replaced, and never by a file of the
 /// image. The files of the image are looked at before the new one is made. Refused, no file was
 /// made or changed.
-pub fn convert<H: Host>(
+pub fn convert_image<H: Host>(
     host: &mut H,
-    image: &OpenedImage,
+    from: &str,
     to: &str,
+    how: Opening,
     replace: bool,
     show: bool,
 ) -> Result<(), Failure>
-    ensures made { OnOk result (IsMade (H.contents host.old) (H.contents host.new) to.now
-        (piece_contents (storages_in H.contents host.old (map string_bytes image.now.paths.items))
-        image.now.pieces.items)) }
-    ensures refused { OnErr result (H.contents host.new ≡ H.contents host.old) }
+    ensures converted { OnOk result (IsConverted how.strict how.other_files how.format replace
+        (H.contents host.old) (H.contents host.new) (H.around host.old) (H.around host.new)
+        from.now to.now) }
+    ensures refused { OnErr result
+        ((H.contents host.new ≡ H.contents host.old) × (H.around host.new ≡ H.around host.old)) }
 {
-    test_target(&*host, image, to, replace)?;
-    let alloc = host.alloc();
-    let target = Failure::or_system(alloc, to, host.create(to, image.size, replace))?;
-    let (target, filled) = fill_shown(&*host, image, target, to, show);
-    end(host, target, to, filled)
+    let size = tested_size(&*host, from, to, how, replace)?;
+    match host.create(to, size, replace) {
+        Ok(target) => {
+            let (target, filled) = fill_shown(&*host, from, to, how, target, size, show);
+            end(host, to, target, filled)
+        }
+        Err(cause) => Err(Failure::of_file(host.alloc(), to, Reason::System(cause))),
+    }
+}
+
+/// The size in bytes of an image's disk, which can be read and may be written to a file of that
+/// path.
+fn tested_size<H: Host>(
+    host: &H,
+    from: &str,
+    to: &str,
+    how: Opening,
+    replace: bool,
+) -> Result<u64, Failure>
+    ensures { IfOk result (λ size. IfSome (H.contents host.now)
+        (λ files. HasSize how.strict how.format files from.now size)) }
+{
+    let (_, image) = open_image(host, from, how)?;
+    let size = readable_size(host.alloc(), from, &image)?;
+    test_target(host, &image, to, replace)?;
+    Ok(size)
 }
 
 /// Puts the bytes of the disk into a new file, and shows how far it is.
 fn fill_shown<H: Host>(
     host: &H,
-    image: &OpenedImage,
-    target: H::Target,
+    from: &str,
     to: &str,
+    how: Opening,
+    target: H::Target,
+    size: u64,
     show: bool,
 ) -> (H::Target, Result<(), Failure>)
-    ensures { OnOk result.1
-        (IsAppendedOf (storages_in H.contents host.now (map string_bytes image.now.paths.items))
-        (H.Target.contents target) (H.Target.contents result.0)
-        (λ bytes. plan_bytes bytes image.now.pieces.items)) }
+    ensures same { H.Target.made_for result.0 ≡ H.Target.made_for target }
+    ensures filled { OnOk result.1 (IsDiskAppended how.strict how.other_files how.format
+        (H.contents host.now) from.now (H.Target.contents target) (H.Target.contents result.0)) }
 {
-    let mut target = Progress::new(target, host, show, image.size);
-    let filled = fill(host, image, &mut target, to);
+    let mut target = Progress::new(target, host, show, size);
+    let filled = fill(host, from, to, how, &mut target);
     (target.into_target(), filled)
 }
 
 /// Puts the bytes of the disk into a target, one after the other.
 fn fill<H: Host, T: Target>(
     host: &H,
-    image: &OpenedImage,
-    target: &mut T,
+    from: &str,
     to: &str,
+    how: Opening,
+    target: &mut T,
 ) -> Result<(), Failure>
-    ensures { OnOk result
-        (IsAppendedOf (storages_in H.contents host.now (map string_bytes image.now.paths.items))
-        (T.contents target.old) (T.contents target.new)
-        (λ bytes. plan_bytes bytes image.now.pieces.items)) }
+    ensures same { T.made_for target.new ≡ T.made_for target.old }
+    ensures filled { OnOk result (IsDiskAppended how.strict how.other_files how.format
+        (H.contents host.now) from.now (T.contents target.old) (T.contents target.new)) }
 {
-    let mut buf = vec![in host.alloc(); 0u8; CHUNK]?;
-    let sources = FileSources::new(host, &image.paths);
-    match copy(&sources, target, &image.pieces, &mut buf) {
+    let alloc = host.alloc();
+    let (_, image) = open_image(host, from, how)?;
+    let mut buf = vec![in alloc; 0u8; CHUNK]?;
+    match copy_disk(alloc, &image, target, &mut buf) {
         Ok(()) => Ok(()),
-        Err(cause) => {
-            let path = sources.failed_path().unwrap_or(to);
-            Err(Failure::of_file(host.alloc(), path, Reason::System(cause)))
-        }
+        Err(CopyError::Image(cause)) => { Err(not_read(alloc, from, refusal_in(&image), cause)) }
+        Err(CopyError::Target(cause)) => Err(Failure::of_file(alloc, to, Reason::System(cause))),
     }
 }
 
 /// Gives a file its path, or lets it go where not all of it was written.
 fn end<H: Host>(
     host: &mut H,
-    target: H::Target,
     to: &str,
+    target: H::Target,
     filled: Result<(), Failure>,
 ) -> Result<(), Failure>
-    ensures made { OnOk result
-        (IsMade (H.contents host.old) (H.contents host.new) to.now (H.Target.contents target)) }
+    requires whole { OnOk filled (IfSome (H.contents host.old)
+        (λ _. IsWhole (H.Target.made_for target) (H.Target.contents target))) }
+    ensures made { OnOk result (IfSome (H.Target.made_for target)
+        (λ m. IsMade (H.contents host.old) (H.contents host.new) m.0 (H.Target.contents target))) }
+    ensures there { OnOk result (IfSome (H.Target.made_for target) (λ m. H.around host.new
+        ≡ option_map (with_file m.0) (option_map ended (H.around host.old)))) }
     ensures done { OnOk result (IsOk filled) }
     ensures refused { OnErr result (H.contents host.new ≡ H.contents host.old) }
+    ensures gone { OnErr result (H.around host.new ≡ option_map ended (H.around host.old)) }
 {
     if filled.is_err() {
         host.abandon(target);
         return filled;
     }
     let alloc = host.alloc();
-    Failure::or_system(alloc, to, host.finish(to, target))
+    Failure::or_system(alloc, to, host.finish(target))
 }
 
 /// Whether the disk of an image may be written to a file of that path.
 fn test_target<H: Host>(
     host: &H,
-    image: &OpenedImage,
+    image: &FileImage<'_, H>,
     to: &str,
     replace: bool,
 ) -> Result<(), Failure> {
-    let there = status_there(host, to)?;
-    let is_source = has_file(host, image, there)?;
-    let Some(there) = there else {
-        return Ok(());
+    let there = match host.status(to) {
+        Ok(there) => there,
+        Err(cause) if cause.kind() == ErrorKind::NotFound => return Ok(()),
+        Err(cause) => return Err(Failure::of_file(host.alloc(), to, Reason::System(cause))),
     };
-    match target_fault(there, is_source, replace) {
+    match target_fault(there, has_file(image, there), replace) {
         Some(refusal) => Err(Failure::of_target(host.alloc(), to, refusal)),
         None => Ok(()),
     }
-}
-
-/// What the file of a path is, if there is one.
-fn status_there<H: Host>(host: &H, path: &str) -> Result<Option<FileStatus>, Failure> {
-    match host.status(path) {
-        Ok(there) => Ok(Some(there)),
-        Err(cause) if cause.kind() == ErrorKind::NotFound => Ok(None),
-        Err(cause) => Err(Failure::of_file(host.alloc(), path, Reason::System(cause))),
-    }
-}
-
-/// Whether a file, if there is one, is one of an image, whose files all are looked at.
-fn has_file<H: Host>(
-    host: &H,
-    image: &OpenedImage,
-    there: Option<FileStatus>,
-) -> Result<bool, Failure> {
-    let mut is_source = false;
-    for path in &image.paths {
-        let source = file_status(host, path)?;
-        is_source |= there.is_some_and(|there| is_same_file(there, source));
-    }
-    Ok(is_source)
 }
 
 /// Why a file isn't replaced, which may be one of the image that is read.
@@ -155,9 +158,4 @@ fn target_fault(there: FileStatus, is_source: bool, replace: bool) -> Option<Ref
         return Some(Refusal::NotReplaced);
     }
     None
-}
-
-/// Whether two are one file.
-fn is_same_file(one: FileStatus, other: FileStatus) -> bool {
-    one.device == other.device && one.inode == other.inode
 }

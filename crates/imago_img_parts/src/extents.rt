@@ -1,9 +1,12 @@
 //! The files that extents stand in, as they are found.
 
 use crate::failure::Failure;
-use crate::host::{FileKind, Host};
+use crate::host::Host;
+use crate::looked::try_file;
+use imago_file::name::{path_beside, stays_below};
+use imago_images::failure::{OpenError, Reason};
+use imago_images::file::look_at;
 pub use imago_images::folder::Folder;
-use imago_plan::name::{path_beside, stays_below};
 use std::io::{self, Write};
 
 /// What is found under the name of an extent.
@@ -26,24 +29,36 @@ pub fn find<H: Host>(host: &H, folder: &Folder<'_>, name: &str) -> Result<Extent
     }
     let path = path_beside(host.alloc(), folder.image(), name)?;
     match folder.leaves(host, &path) {
-        Ok(false) => Ok(found(host, &path)),
+        Ok(false) => found(readable_length(host, &path)),
         Ok(true) => Ok(ExtentFile::Outside),
         Err(cause) => Ok(ExtentFile::Refused(cause)),
     }
 }
 
-/// What is found under a path. A file whose first byte can't be read is refused.
-fn found<H: Host>(host: &H, path: &str) -> ExtentFile {
-    let status = match host.status(path) {
-        Ok(status) => status,
-        Err(cause) => return ExtentFile::Refused(cause),
-    };
-    if status.kind == FileKind::Other {
-        return ExtentFile::NotAFile;
-    }
-    match host.read_at(path, &mut [0u8; 1], 0) {
-        Ok(()) => ExtentFile::Length(status.length),
-        Err(cause) => ExtentFile::Refused(cause),
+/// The length of a file whose first byte can be read, in bytes.
+fn readable_length<H: Host>(host: &H, path: &str) -> Result<u64, OpenError> {
+    let file = look_at(host, path)?;
+    try_file(host.alloc(), path, &file)?;
+    Ok(file.file().status().length)
+}
+
+/// What is found under a path, by what is answered for its length.
+fn found(answer: Result<u64, OpenError>) -> Result<ExtentFile, Failure> {
+    match answer {
+        Ok(length) => Ok(ExtentFile::Length(length)),
+        Err(
+            OpenError::OfFile {
+                reason: Reason::NotAFile,
+                ..
+            },
+        ) => Ok(ExtentFile::NotAFile),
+        Err(
+            OpenError::OfFile {
+                reason: Reason::System(cause),
+                ..
+            },
+        ) => Ok(ExtentFile::Refused(cause)),
+        Err(cause) => Err(Failure::from(cause)),
     }
 }
 

@@ -2,7 +2,6 @@
 ghost use Rattle.std.specs.Prelude.{◌≡◌, MatchResult, IsErr};
 
 pub use imago_images::failure::{OpenError, Reason};
-use imago_loaded::loaded::LoadError;
 use imago_storage::error;
 use std::alloc::{AllocError, AllocFailed, Global};
 use std::io;
@@ -113,15 +112,6 @@ impl Failure {
         match answer {
             Ok(found) => Ok(found),
             Err(cause) => Err(Failure::of_file(alloc, path, Reason::Image(cause))),
-        }
-    }
-
-    /// That file can't be used, since it can't be loaded.
-    pub fn of_load(alloc: Global, path: &str, cause: LoadError) -> Failure {
-        match cause {
-            LoadError::Image(cause) => Failure::of_file(alloc, path, Reason::Image(cause)),
-            LoadError::Header(fault) => Failure::of_file(alloc, path, Reason::Header(fault)),
-            LoadError::Io(cause) => Failure::of_file(alloc, path, Reason::System(cause)),
         }
     }
 

@@ -1,28 +1,21 @@
 //! Where the commands find files, and make them.
-ghost use Rattle.std.specs.Prelude.{◌≡◌, ◌<◌, ◌≤◌, ℕ, List, [], Option, Some, false};
-ghost use Rattle.std.specs.Prelude.{OnOk, OnErr, IfOk, IfSome};
-ghost use Rattle.std.specs.Prelude.{length, replicate};
-ghost use Rattle.imago_img_parts.specs.Files.{IsMade};
+ghost use Rattle.std.specs.Prelude.{◌≡◌, ◌<◌, ◌≤◌, [], Option, Some, false};
+ghost use Rattle.std.specs.Prelude.{OnOk, OnErr, IfOk, IfSome, option_map, replicate};
 ghost use Rattle.imago_plan.specs.PieceBytes.{bytes_at};
+ghost use Rattle.imago_img_parts.specs.Files.{Around, begun, ended, with_file, IsMade, IsWhole};
 
+use imago_copy::target::Target;
 pub use imago_images::files::{FileKind, FileStatus, Files};
-use imago_plan::copy::Target;
 use std::io;
 
 /// Where the commands find files by their paths, and make them.
 pub trait Host: Files {
-    /// A file that is being made. It has its bytes under its path once it is finished.
-    type Target: Target + Drop;
+    /// A file that is being made. What its path leads to, and its bytes, are promised once it is
+    /// finished. It can't be dropped: it is either finished or abandoned.
+    type Target: Target;
 
-    /// How many of the file's bytes from the offset on are known to be 0: at most that many.
-    fn hole_at(&self, path: &str, offset: u64, most: u64) -> u64
-        ensures within { result ≤ most }
-        ensures zero { IfSome (Self.contents self.now)
-            (λ files. bytes_at (files path.now) «offset» result ≡ replicate result 0) };
-
-    /// How many bytes from the offset on come before the file's next hole: at most that many.
-    fn data_at(&self, path: &str, offset: u64, most: u64) -> u64
-        ensures { result ≤ most };
+    /// What is told of the files beside their bytes, where an implementation says it.
+    ghost around: { Self → Option Around };
 
     /// How many bytes from the offset on, at least one and at most that many, come before the next
     /// hole of the file, and `true`; or how many are in one hole, and `false`.
@@ -31,17 +24,7 @@ pub trait Host: Files {
         ensures some { 0 < result.0 }
         ensures within { result.0 ≤ most }
         ensures zero { IfSome (Self.contents self.now) (λ files. result.1 ≡ false
-            → bytes_at (files path.now) «offset» result.0 ≡ replicate result.0 0) }
-    {
-        let hole = self.hole_at(path, offset, most);
-        if hole > 0 {
-            return (hole, false);
-        }
-        match self.data_at(path, offset, most) {
-            0 => (most, true),
-            length => (length, true),
-        }
-    }
+            → bytes_at (files path.now) «offset» result.0 ≡ replicate result.0 0) };
 
     /// Shows how many bytes of a copy are done, of how many, and how many hundredths that is.
     fn show_progress(&self, done: u64, total: u64, hundredths: u64);
@@ -49,20 +32,35 @@ pub trait Host: Files {
     /// Ends what was shown of a copy.
     fn end_progress(&self);
 
-    /// Begins a file of that many bytes. What has the path stays until the new file is finished;
-    /// where it isn't to be replaced, it is [`AlreadyExists`](io::ErrorKind::AlreadyExists).
+    /// Begins a file of that many bytes for a path. What has the path stays until the new file is
+    /// finished; where it isn't to be replaced, it is
+    /// [`AlreadyExists`](io::ErrorKind::AlreadyExists).
     fn create(&mut self, path: &str, size: u64, replace: bool) -> io::Result<Self::Target>
         ensures same { Self.contents self.new ≡ Self.contents self.old }
+        ensures begun { OnOk result (around self.new ≡ option_map begun (around self.old)) }
+        ensures refused { OnErr result (around self.new ≡ around self.old) }
+        ensures free { OnOk result (replace ≡ false
+            → IfSome (around self.old) (λ a. a.there path.now ≡ false)) }
         ensures empty { IfOk result
-            (λ t. IfSome (Self.contents self.old) (λ _. Self.Target.contents t ≡ Some [])) };
+            (λ t. IfSome (Self.contents self.old) (λ _. Self.Target.contents t ≡ Some [])) }
+        ensures made_for { IfOk result (λ t. IfSome (Self.contents self.old)
+            (λ _. Self.Target.made_for t ≡ Some (path.now, size))) };
 
-    /// Gives a file that was begun for that path the path. Refused, the file is gone.
-    fn finish(&mut self, path: &str, target: Self::Target) -> io::Result<()>
-        ensures made { OnOk result (IsMade (Self.contents self.old) (Self.contents self.new) path.now
-            (Self.Target.contents target)) }
-        ensures refused { OnErr result (Self.contents self.new ≡ Self.contents self.old) };
+    /// Gives a file, into which all of its bytes were put, the path for which it was begun.
+    /// Refused, the file is gone, and what had the path still has it.
+    fn finish(&mut self, target: Self::Target) -> io::Result<()>
+        requires whole { IfSome (Self.contents self.old)
+            (λ _. IsWhole (Self.Target.made_for target) (Self.Target.contents target)) }
+        ensures made { OnOk result (IfSome (Self.Target.made_for target)
+            (λ m. IsMade (Self.contents self.old) (Self.contents self.new) m.0
+            (Self.Target.contents target))) }
+        ensures there { OnOk result (IfSome (Self.Target.made_for target) (λ m. around self.new
+            ≡ option_map (with_file m.0) (option_map ended (around self.old)))) }
+        ensures refused { OnErr result (Self.contents self.new ≡ Self.contents self.old) }
+        ensures gone { OnErr result (around self.new ≡ option_map ended (around self.old)) };
 
-    /// Lets a file go that isn't to be.
+    /// Lets a file go that isn't to be. Nothing is left of it.
     fn abandon(&mut self, target: Self::Target)
-        ensures { Self.contents self.new ≡ Self.contents self.old };
+        ensures same { Self.contents self.new ≡ Self.contents self.old }
+        ensures gone { around self.new ≡ option_map ended (around self.old) };
 }

@@ -4,10 +4,13 @@ use crate::extents::{ExtentFile, Folder, bytes_of, find, tell_fault};
 use crate::failure::Failure;
 use crate::host::Host;
 use crate::json::quoted;
-use crate::opened::{Opening, format_of};
+use crate::looked::descriptor_text;
 use crate::qcow2_info::{Qcow2Report, print_qcow2, print_qcow2_json, report_on_qcow2};
-use crate::text::{ImageFormat, descriptor_text, file_status};
-use imago_vmdk::descriptor::{self, Descriptor};
+use imago_images::file::{PathStorage, look_at};
+use imago_images::format::ImageFormat;
+use imago_images::layer::format_of;
+use imago_images::opening::Opening;
+use imago_vmdk::descriptor;
 use imago_vmdk::line::Extent;
 use std::io::{self, Write};
 
@@ -47,20 +50,20 @@ pub fn info<H: Host, W: Write, E: Write>(
 
 /// Looks at an image, and for the files of its extents.
 fn report_on<H: Host>(host: &H, path: &str, how: Opening) -> Result<Report, Failure> {
-    let length = file_status(host, path)?.length;
-    match format_of(host, path, how)? {
+    let file = look_at(host, path)?;
+    match format_of(host.alloc(), path, &file, how.format)? {
         ImageFormat::Raw => Ok(Report {
             format: ImageFormat::Raw,
-            size: length,
+            size: file.file().status().length,
             extents: Vec::new(host.alloc()),
             qcow2: None,
         }),
-        ImageFormat::Vmdk => report_on_vmdk(host, path, length, how),
+        ImageFormat::Vmdk => report_on_vmdk(host, path, &file, how),
         ImageFormat::Qcow2 => {
-            let found = report_on_qcow2(host, path, length)?;
+            let found = report_on_qcow2(host, path, file)?;
             Ok(Report {
                 format: ImageFormat::Qcow2,
-                size: found.size,
+                size: found.header.disk_size(),
                 extents: Vec::new(host.alloc()),
                 qcow2: Some(found),
             })
@@ -68,32 +71,22 @@ fn report_on<H: Host>(host: &H, path: &str, how: Opening) -> Result<Report, Fail
     }
 }
 
-/// Looks at a descriptor of that length, and for the files of its extents.
+/// Looks at a descriptor, and for the files of its extents.
 fn report_on_vmdk<H: Host>(
     host: &H,
     path: &str,
-    length: u64,
+    file: &PathStorage<'_, H>,
     how: Opening,
 ) -> Result<Report, Failure> {
-    let described = described_by(host, path, length, how)?;
+    let text = descriptor_text(host.alloc(), path, file)?;
+    let said = descriptor::read(host.alloc(), !how.strict, &text);
+    let described = Failure::or_image(host.alloc(), path, said)?;
     Ok(Report {
         format: ImageFormat::Vmdk,
         size: described.size,
         extents: found_extents(host, path, described.extents, how)?,
         qcow2: None,
     })
-}
-
-/// What a descriptor of that length describes.
-fn described_by<H: Host>(
-    host: &H,
-    path: &str,
-    length: u64,
-    how: Opening,
-) -> Result<Descriptor, Failure> {
-    let text = descriptor_text(host, path, length)?;
-    let said = descriptor::read(host.alloc(), !how.strict, &text);
-    Failure::or_image(host.alloc(), path, said)
 }
 
 /// The extents of a descriptor, and what is found under their names.
@@ -103,7 +96,7 @@ fn found_extents<H: Host>(
     extents: Vec<Extent<String>>,
     how: Opening,
 ) -> Result<Vec<Found>, Failure> {
-    let folder = Folder::of(host, path, how.allow_outside)?;
+    let folder = Folder::of(host, path, how.allows_outside())?;
     let mut all = Vec::new(host.alloc());
     for extent in extents {
         let file = file_of(host, &folder, &extent)?;

@@ -5,8 +5,6 @@
 //! tests have one in memory.
 #![tactic(auto)]
 
-mod backing;
-mod chain;
 mod check;
 mod clusters;
 mod command;
@@ -17,15 +15,12 @@ mod digits;
 mod extents;
 mod failure;
 pub mod host;
+mod image;
 mod info;
 mod json;
+mod looked;
 mod map;
-mod opened;
 mod progress;
-mod qcow2;
 mod qcow2_info;
 pub mod run;
-mod sources;
 pub mod system;
-mod text;
-mod vmdk;

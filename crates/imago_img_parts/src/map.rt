@@ -2,22 +2,27 @@
 ghost use Rattle.std.specs.Prelude.{◌≡◌, ◌<◌, ◌≤◌, ◌++◌, OnOk, option_map};
 ghost use Rattle.std.specs.Fmt.{decimal};
 ghost use Rattle.std.specs.Io.KnownBytes.{Appends};
-ghost use Rattle.imago_img_parts.specs.Lines.{column, line, place as place_text};
+ghost use Rattle.imago_img_parts.specs.Lines.{column, line as line_text, place as place_text};
 ghost use Rattle.imago_img_parts.specs.Lines.{object, kind_members as kind_text};
 ghost use Rattle.imago_img_parts.specs.Lines.{members_in, place_members};
 
 use crate::digits::digits_of;
 use crate::failure::Failure;
 use crate::host::Host;
+use crate::image::readable_runs;
 use crate::json::quoted;
-use crate::opened::{OpenedImage, test_files};
-use imago_plan::piece::{Location, Piece, Source};
+use imago_access::access::FormatAccess;
+use imago_copy::runs::{Kind, Run};
+use imago_drivers::drivers::FormatDriverInstance;
+use imago_images::opener::open_image;
+use imago_images::opening::Opening;
+use imago_storage::storage::Storage;
 use std::alloc::{AllocError, Global};
 use std::io::{self, Write};
 
 /// Bytes of a disk that all are data, or all are known to be 0.
 #[derive(Clone, Copy)]
-struct Run<'a> {
+struct Line<'a> {
     /// The first byte's offset on the disk.
     start: u64,
     /// How many bytes there are.
@@ -37,84 +42,138 @@ struct Printer<'a, W> {
     is_first: bool,
 }
 
-/// Tells where the bytes of an image's disk stand, and which are zero. Holes of the files are told
-/// as zero.
-pub fn map<H: Host, W: Write>(
+/// A file of an image.
+#[derive(Drop)]
+struct NamedFile<'a> {
+    path: &'a str,
+    /// The path, as it is printed.
+    printed: String,
+}
+
+/// Tells where the bytes of the disk of the image of that path stand, and which are zero. Holes of
+/// the files are told as zero.
+pub fn map_image<H: Host, W: Write>(
     host: &H,
-    image: &OpenedImage,
+    path: &str,
+    how: Opening,
     json: bool,
     output: &mut W,
 ) -> Result<(), Failure> {
-    test_files(host, image)?;
-    let printed = printed_paths(host.alloc(), &image.paths, json)?;
+    let (_, image) = open_image(host, path, how)?;
+    map(host, path, &image, json, output)
+}
+
+/// The same of an image.
+fn map<H: Host, D: FormatDriverInstance, W: Write>(
+    host: &H,
+    path: &str,
+    image: &FormatAccess<D>,
+    json: bool,
+    output: &mut W,
+) -> Result<(), Failure> {
+    let alloc = host.alloc();
+    let runs = Failure::or_image(alloc, path, readable_runs(alloc, image))?;
+    let files = files_of(alloc, image, json)?;
     let mut printer = Printer {
         output,
         json,
         is_first: true,
     };
-    print_image(host, image, &printed, &mut printer).map_err(Failure::Output)
+    print_runs(host, &runs, &files, &mut printer).map_err(Failure::Output)
 }
 
-/// The paths of the storages, as they are printed.
-fn printed_paths(alloc: Global, paths: &[String], json: bool) -> Result<Vec<String>, AllocError> {
-    let mut printed = Vec::new(alloc);
-    for path in paths {
-        let path = if json {
-            quoted(alloc, path)?
-        } else {
-            path.clone()?
-        };
-        printed.push(path)?;
+/// The files of an image, by the depth of the layer and the index of the storage.
+fn files_of<D: FormatDriverInstance>(
+    alloc: Global,
+    image: &FormatAccess<D>,
+    json: bool,
+) -> Result<Vec<Vec<NamedFile<'_>>>, AllocError> {
+    let mut all = Vec::new(alloc);
+    let mut layer = Some(image);
+    while let Some(here) = layer {
+        all.push(files_of_driver(alloc, here.inner(), json)?)?;
+        layer = here.backing();
     }
-    Ok(printed)
+    Ok(all)
 }
 
-fn print_image<H: Host, W: Write>(
+/// The files of a layer's storages, by their indices. A storage without a name has none.
+fn files_of_driver<D: FormatDriverInstance>(
+    alloc: Global,
+    driver: &D,
+    json: bool,
+) -> Result<Vec<NamedFile<'_>>, AllocError> {
+    let mut files = Vec::new(alloc);
+    for index in 0..driver.storage_count() {
+        let path = match driver.storage(index) {
+            Some(storage) => storage.get_filename().unwrap_or(""),
+            None => "",
+        };
+        files.push(named(alloc, path, json)?)?;
+    }
+    Ok(files)
+}
+
+/// The file of a path.
+fn named(alloc: Global, path: &str, json: bool) -> Result<NamedFile<'_>, AllocError> {
+    let printed = if json {
+        quoted(alloc, path)?
+    } else {
+        String::from_str(alloc, path)?
+    };
+    Ok(NamedFile { path, printed })
+}
+
+/// Prints the runs of a disk whose layers have those files.
+fn print_runs<H: Host, W: Write>(
     host: &H,
-    image: &OpenedImage,
-    printed: &[String],
+    runs: &[Run],
+    files: &[Vec<NamedFile<'_>>],
     printer: &mut Printer<'_, W>,
 ) -> io::Result<()> {
     printer.begin()?;
-    for piece in &image.pieces {
-        match piece.source {
-            Source::Zero => printer.print(Run {
-                start: piece.at,
-                length: piece.count,
+    for run in runs {
+        match run.kind {
+            Kind::Stored {
+                layer,
+                storage,
+                offset,
+            } => {
+                if let Some(file) = files.get(layer).and_then(|files| files.get(storage)) {
+                    print_stored(host, file, run, layer, offset, printer)?;
+                }
+            }
+            _ => printer.print(Line {
+                start: run.at,
+                length: run.count,
                 is_data: false,
                 depth: 0,
                 place: None,
             })?,
-            Source::Stored(from) => {
-                let index = from.storage.saturating_add(from.layer);
-                if let (Some(path), Some(name)) = (image.paths.get(index), printed.get(index)) {
-                    print_stored(host, path, name, piece, from, printer)?;
-                }
-            }
         }
     }
     printer.end()
 }
 
-/// Prints a piece of a file: its holes, and what lies between them.
+/// Prints a run of a file: its holes, and what lies between them.
 fn print_stored<H: Host, W: Write>(
     host: &H,
-    path: &str,
-    name: &str,
-    piece: &Piece,
-    from: Location,
+    file: &NamedFile<'_>,
+    run: &Run,
+    depth: usize,
+    start: u64,
     printer: &mut Printer<'_, W>,
 ) -> io::Result<()> {
     let mut done = 0;
-    while done < piece.count {
-        let offset = from.offset.saturating_add(done);
-        let (length, is_data) = host.run_at(path, offset, piece.count - done);
-        printer.print(Run {
-            start: piece.at.saturating_add(done),
+    while done < run.count {
+        let offset = start.saturating_add(done);
+        let (length, is_data) = host.run_at(file.path, offset, run.count - done);
+        printer.print(Line {
+            start: run.at.saturating_add(done),
             length,
             is_data,
-            depth: from.layer,
-            place: Some((name, offset)),
+            depth,
+            place: Some((&file.printed, offset)),
         })?;
         done += length;
     }
@@ -142,15 +201,15 @@ impl<'a, W: Write> Printer<'a, W> {
         }
     }
 
-    fn print(&mut self, run: Run<'_>) -> io::Result<()> {
+    fn print(&mut self, line: Line<'_>) -> io::Result<()> {
         if !self.json {
-            return print_line(self.output, run);
+            return print_line(self.output, line);
         }
         if !self.is_first {
             writeln!(self.output, ",")?;
         }
         self.is_first = false;
-        print_object(self.output, run)
+        print_object(self.output, line)
     }
 }
 
@@ -181,15 +240,15 @@ fn print_place<W: Write>(output: &mut W, place: Option<(&str, u64)>) -> io::Resu
 }
 
 /// Prints a run as a line of columns.
-fn print_line<W: Write>(output: &mut W, run: Run<'_>) -> io::Result<()>
+fn print_line<W: Write>(output: &mut W, line: Line<'_>) -> io::Result<()>
     ensures { OnOk result (Appends (W.contents output.old) (W.contents output.new)
-        (line run.entry.start run.entry.length run.entry.is_data
-        (option_map (λ at. (at.0.now, at.1)) run.entry.place))) }
+        (line_text line.entry.start line.entry.length line.entry.is_data
+        (option_map (λ at. (at.0.now, at.1)) line.entry.place))) }
 {
-    print_column(output, run.start)?;
-    print_column(output, run.length)?;
-    output.write_all(if run.is_data { b"data" } else { b"zero" })?;
-    print_place(output, run.place)?;
+    print_column(output, line.start)?;
+    print_column(output, line.length)?;
+    output.write_all(if line.is_data { b"data" } else { b"zero" })?;
+    print_place(output, line.place)?;
     output.write_all(b"\n")
 }
 
@@ -237,15 +296,15 @@ fn print_place_members<W: Write>(output: &mut W, place: Option<(&str, u64)>) -> 
 }
 
 /// Prints a run as a JSON object, with the names that `qemu-img map` has.
-fn print_object<W: Write>(output: &mut W, run: Run<'_>) -> io::Result<()>
+fn print_object<W: Write>(output: &mut W, line: Line<'_>) -> io::Result<()>
     ensures { OnOk result (Appends (W.contents output.old) (W.contents output.new)
-        (object run.entry.start run.entry.length run.entry.depth run.entry.is_data
-        (option_map (λ at. (at.0.now, at.1)) run.entry.place))) }
+        (object line.entry.start line.entry.length line.entry.depth line.entry.is_data
+        (option_map (λ at. (at.0.now, at.1)) line.entry.place))) }
 {
-    print_number(output, b"{ \"start\": ", run.start)?;
-    print_number(output, b", \"length\": ", run.length)?;
-    print_number(output, b", \"depth\": ", run.depth as u64)?;
-    output.write_all(kind_members(run.is_data))?;
-    print_place_members(output, run.place)?;
+    print_number(output, b"{ \"start\": ", line.start)?;
+    print_number(output, b", \"length\": ", line.length)?;
+    print_number(output, b", \"depth\": ", line.depth as u64)?;
+    output.write_all(kind_members(line.is_data))?;
+    print_place_members(output, line.place)?;
     output.write_all(b"}")
 }

@@ -2,11 +2,10 @@
 ghost use Rattle.std.specs.Prelude.{◌≡◌};
 
 use crate::host::Host;
-use imago_plan::copy::Target;
+use imago_copy::target::Target;
 use std::io;
 
 /// A target of which the host shows how much was put into it.
-#[derive(Drop)]
 pub struct Progress<'a, T, H> {
     target: T,
     host: &'a H,
@@ -38,10 +37,18 @@ impl<'a, T: Target, H: Host> Progress<'a, T, H> {
     pub fn into_target(self) -> T
         ensures { result ≡ self.entry.target }
     {
-        if self.is_shown {
-            self.host.end_progress();
+        let Progress {
+            target,
+            host,
+            is_shown,
+            done: _done,
+            total: _total,
+            shown: _shown,
+        } = self;
+        if is_shown {
+            host.end_progress();
         }
-        self.target
+        target
     }
 
     /// Shows how much is put in, where a hundredth more is.
@@ -67,6 +74,8 @@ fn hundredths_of(done: u64, total: u64) -> u64 {
 
 impl<'a, T: Target, H: Host> Target for Progress<'a, T, H> {
     ghost contents = { λ s. T.contents s.target };
+
+    ghost made_for = { λ s. T.made_for s.target };
 
     fn append(&mut self, source: &[u8]) -> io::Result<()> {
         self.target.append(source)?;

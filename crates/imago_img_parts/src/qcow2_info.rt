@@ -1,50 +1,25 @@
 //! What a qcow2 file is.
-ghost use Rattle.std.specs.Prelude.{◌<◌, ◌≤◌};
 
-use crate::backing::text_of;
-use crate::clusters::{cluster_runs, count_clusters};
-use crate::failure::Failure;
-use crate::host::Host;
+use crate::clusters::{ClusterCounts, count_clusters};
+use crate::failure::{Failure, OpenError};
+use crate::host::{Files, Host};
 use crate::json::quoted;
-use crate::qcow2::{Qcow2File, qcow2_file};
 use imago_access::access::FormatAccess;
-use imago_drivers::drivers::FormatDriverInstance;
+use imago_images::file::PathStorage;
+use imago_images::layer::{open_qcow2, text_of, told_by_host};
+use imago_qcow2::header::Header;
 use imago_qcow2::qcow2::Qcow2;
 use imago_storage::storage::Storage;
 use std::alloc::Global;
 use std::io::{self, Write};
 
-/// Features, each by the byte of the header that has its bit, and that bit.
-const FEATURES: [(usize, u8, &str); 5] = [
-    (79, 1, "dirty"),
-    (79, 8, "compression type"),
-    (87, 1, "lazy refcounts"),
-    (95, 1, "bitmaps"),
-    (95, 2, "raw external data"),
-];
-
 /// What a qcow2 file is.
 #[derive(Drop)]
 pub struct Qcow2Report {
-    /// The disk's size in bytes.
-    pub size: u64,
-    /// The first bytes of the file, which tell its version and features.
-    head: [u8; 112],
-    /// How many bytes a cluster has.
-    cluster: u64,
-    counts: Counts,
+    /// What its header says.
+    pub header: Header,
+    counts: ClusterCounts,
     below: NamesBelow,
-}
-
-/// How many clusters there are.
-#[derive(Clone, Copy)]
-struct Counts {
-    /// Those of the disk.
-    all: u64,
-    /// Those of them that have data in the file.
-    stored: u64,
-    /// Those that have compressed data there.
-    compressed: u64,
 }
 
 /// What a file says of the one below it.
@@ -56,27 +31,33 @@ struct NamesBelow {
     format: Option<String>,
 }
 
-/// The version of the format that a header tells.
-fn version_of(head: &[u8; 112]) -> u8 {
-    head[7]
-}
-
-/// Whether a header tells the feature of that bit of a byte. Version 2 has none.
-fn has_feature(head: &[u8; 112], index: usize, bit: u8) -> bool {
-    version_of(head) >= 3 && head.get(index).is_some_and(|byte| *byte & bit != 0)
+/// The names of features, and whether a header tells each.
+fn features_of(header: Header) -> [(bool, &'static str); 5] {
+    [
+        (header.is_dirty(), "dirty"),
+        (header.has_compression_type(), "compression type"),
+        (header.has_lazy_refcounts(), "lazy refcounts"),
+        (header.has_bitmaps(), "bitmaps"),
+        (header.has_raw_external_data(), "raw external data"),
+    ]
 }
 
 /// A name that stands in a file, if it does. One without bytes is none.
-fn named(alloc: Global, path: &str, name: Option<Vec<u8>>) -> Result<Option<String>, Failure> {
+fn named(alloc: Global, path: &str, name: Option<Vec<u8>>) -> Result<Option<String>, OpenError> {
     match name {
         Some(name) if !name.is_empty() => Ok(Some(text_of(alloc, path, name)?)),
         _ => Ok(None),
     }
 }
 
-/// Looks at a qcow2 file of that length.
-pub fn report_on_qcow2<H: Host>(host: &H, path: &str, count: u64) -> Result<Qcow2Report, Failure> {
-    report_of(host.alloc(), path, &qcow2_file(host, path, count)?)
+/// Tells what a qcow2 file is, and what it says of the one below it.
+pub fn report_on_qcow2<H: Host>(
+    host: &H,
+    path: &str,
+    mut file: PathStorage<'_, H>,
+) -> Result<Qcow2Report, Failure> {
+    let found = report_of(host, path, &mut file);
+    Ok(told_by_host(host.alloc(), path, &file, found)?)
 }
 
 /// The name that an image has of the file below it.
@@ -84,8 +65,8 @@ fn name_below<S: Storage>(
     alloc: Global,
     path: &str,
     image: &Qcow2<S>,
-) -> Result<Option<String>, Failure> {
-    let name = Failure::or_image(alloc, path, image.backing_file(alloc))?;
+) -> Result<Option<String>, OpenError> {
+    let name = OpenError::or_image(alloc, path, image.backing_file(alloc))?;
     named(alloc, path, name)
 }
 
@@ -94,8 +75,8 @@ fn format_name_below<S: Storage>(
     alloc: Global,
     path: &str,
     image: &Qcow2<S>,
-) -> Result<Option<String>, Failure> {
-    let name = Failure::or_image(alloc, path, image.backing_format(alloc))?;
+) -> Result<Option<String>, OpenError> {
+    let name = OpenError::or_image(alloc, path, image.backing_format(alloc))?;
     named(alloc, path, name)
 }
 
@@ -104,55 +85,37 @@ fn names_below<S: Storage>(
     alloc: Global,
     path: &str,
     image: &Qcow2<S>,
-) -> Result<NamesBelow, Failure> {
+) -> Result<NamesBelow, OpenError> {
     Ok(NamesBelow {
         name: name_below(alloc, path, image)?,
         format: format_name_below(alloc, path, image)?,
     })
 }
 
-/// How many clusters of that length, and of each kind, the disk of an image has.
-fn counts_of<D: FormatDriverInstance>(
-    alloc: Global,
+/// Tells what a file is that was looked at.
+fn report_of<H: Files, S: Storage>(
+    host: &H,
     path: &str,
-    image: &FormatAccess<D>,
-    cluster: u64,
-) -> Result<Counts, Failure>
-    requires { 0 < cluster }
-{
-    let runs = Failure::or_image(alloc, path, cluster_runs(alloc, image, cluster))?;
-    Ok(Counts {
-        all: image.size().div_ceil(cluster),
-        stored: count_clusters(&runs, cluster, false),
-        compressed: count_clusters(&runs, cluster, true),
-    })
-}
-
-/// Tells what a file is.
-fn report_of<S: Storage>(
-    alloc: Global,
-    path: &str,
-    file: &Qcow2File<S>,
-) -> Result<Qcow2Report, Failure>
-    requires { 512 ≤ file.now.cluster }
-{
-    let counts = counts_of(alloc, path, &file.image, file.cluster)?;
+    file: S,
+) -> Result<Qcow2Report, OpenError> {
+    let alloc = host.alloc();
+    let image = FormatAccess::new(open_qcow2(host, path, file)?);
+    let header = image.inner().header();
+    let counts = count_clusters(&image, header.cluster_size());
     Ok(Qcow2Report {
-        size: file.image.size(),
-        head: file.head,
-        cluster: file.cluster,
-        counts,
-        below: names_below(alloc, path, file.image.inner())?,
+        header,
+        counts: OpenError::or_image(alloc, path, counts)?,
+        below: names_below(alloc, path, image.inner())?,
     })
 }
 
 /// Prints it as lines.
 pub fn print_qcow2<W: Write>(report: &Qcow2Report, output: &mut W) -> io::Result<()> {
-    let (version, cluster) = (version_of(&report.head), report.cluster);
+    let (version, cluster) = (report.header.version(), report.header.cluster_size());
     writeln!(output, "version: {version}\ncluster: {cluster} bytes")?;
     print_below(&report.below, output)?;
-    for (index, bit, name) in &FEATURES {
-        if has_feature(&report.head, *index, *bit) {
+    for (is_told, name) in &features_of(report.header) {
+        if *is_told {
             writeln!(output, "feature: {name}")?;
         }
     }
@@ -171,7 +134,7 @@ fn print_below<W: Write>(below: &NamesBelow, output: &mut W) -> io::Result<()> {
 }
 
 /// Prints counts of clusters as lines.
-fn print_counts<W: Write>(counts: Counts, output: &mut W) -> io::Result<()> {
+fn print_counts<W: Write>(counts: ClusterCounts, output: &mut W) -> io::Result<()> {
     let (all, stored, compressed) = (counts.all, counts.stored, counts.compressed);
     writeln!(output, "data: {stored} of {all} clusters")?;
     if compressed > 0 {
@@ -186,14 +149,14 @@ pub fn print_qcow2_json<W: Write>(
     report: &Qcow2Report,
     output: &mut W,
 ) -> io::Result<()> {
-    let (version, cluster) = (version_of(&report.head), report.cluster);
+    let (version, cluster) = (report.header.version(), report.header.cluster_size());
     write!(
         output,
         ", \"version\": {version}, \"cluster-size\": {cluster}"
     )?;
     print_below_json(alloc, &report.below, output)?;
     print_counts_json(report.counts, output)?;
-    print_features_json(&report.head, output)
+    print_features_json(report.header, output)
 }
 
 /// Prints what is said of the file below as members of a JSON object.
@@ -209,7 +172,7 @@ fn print_below_json<W: Write>(alloc: Global, below: &NamesBelow, output: &mut W)
 }
 
 /// Prints counts of clusters as members of a JSON object.
-fn print_counts_json<W: Write>(counts: Counts, output: &mut W) -> io::Result<()> {
+fn print_counts_json<W: Write>(counts: ClusterCounts, output: &mut W) -> io::Result<()> {
     let (all, stored, compressed) = (counts.all, counts.stored, counts.compressed);
     write!(
         output,
@@ -218,11 +181,11 @@ fn print_counts_json<W: Write>(counts: Counts, output: &mut W) -> io::Result<()>
 }
 
 /// Prints the features that a header tells as a member of a JSON object.
-fn print_features_json<W: Write>(head: &[u8; 112], output: &mut W) -> io::Result<()> {
+fn print_features_json<W: Write>(header: Header, output: &mut W) -> io::Result<()> {
     write!(output, ", \"features\": [")?;
     let mut is_first = true;
-    for (index, bit, name) in &FEATURES {
-        if has_feature(head, *index, *bit) {
+    for (is_told, name) in &features_of(header) {
+        if *is_told {
             let start = if is_first { "" } else { ", " };
             write!(output, "{start}\"{name}\"")?;
             is_first = false;

@@ -1,14 +1,16 @@
 //! The program, over any host.
-ghost use Rattle.std.specs.Prelude.{◌≡◌, ◌≤◌};
+ghost use Rattle.std.specs.Prelude.{◌≡◌, ◌≤◌, IfOk, IfSome, map, string_bytes};
+ghost use Rattle.imago_img_parts.specs.Commands.{AreToldApart, IsAnswered, IsPerformed, IsRun};
+ghost use Rattle.imago_img_parts.specs.Commands.{TellsNothing, outcome_when};
 
 use crate::check::check;
-use crate::command::{Command, HELP, command_of};
+use crate::command::{Command, HELP, Question, command_of};
 use crate::commands::{Comparison, compare_images, convert_image};
 use crate::failure::Failure;
 use crate::host::Host;
 use crate::info::info;
-use crate::map::map;
-use crate::opened::{Opening, open};
+use crate::map::map_image;
+use imago_images::opening::Opening;
 use std::io::{self, BufWriter, Write};
 
 /// What a command comes to.
@@ -28,16 +30,44 @@ pub fn run<H: Host, W: Write, E: Write>(
     output: &mut W,
     errors: &mut E,
 ) -> u8
-    ensures { result ≤ 2 }
+    ensures most { result ≤ 2 }
+    ensures done { IsRun (map string_bytes words.now) (H.contents host.old) (H.contents host.new)
+        (H.around host.old) (H.around host.new) result }
 {
-    let (command, how) = match command_of(words) {
-        Ok(asked) => asked,
-        Err(misuse) => return tell(Failure::Misuse(misuse), errors, 2),
-    };
-    match buffered(host, command, how, output, errors) {
-        Ok(Outcome::Fine) => 0,
-        Ok(Outcome::Unlike) => 1,
-        Err(refused) => tell(refused, errors, trouble(command)),
+    match command_of(words) {
+        Ok((command, how)) => perform(host, command, how, output, errors),
+        Err(misuse) => tell(Failure::Misuse(misuse), errors, 2),
+    }
+}
+
+/// Does a command, and gives the exit status. Only a command that makes a file has the host to
+/// change.
+pub fn perform<H: Host, W: Write, E: Write>(
+    host: &mut H,
+    command: Command<'_>,
+    how: Opening,
+    output: &mut W,
+    errors: &mut E,
+) -> u8
+    ensures most { result ≤ 2 }
+    ensures performed { IsPerformed command.entry how (H.contents host.old) (H.contents host.new)
+        (H.around host.old) (H.around host.new) result }
+{
+    match command {
+        Command::Convert {
+            from,
+            to,
+            force,
+            quiet,
+        } => match convert_image(host, from, to, how, force, !quiet) {
+            Ok(()) => 0,
+            Err(refused) => tell(refused, errors, 1),
+        },
+        Command::Ask(question) => match buffered(&*host, question, how, output, errors) {
+            Ok(Outcome::Fine) => 0,
+            Ok(Outcome::Unlike) => 1,
+            Err(refused) => tell(refused, errors, trouble(question)),
+        },
     }
 }
 
@@ -49,78 +79,70 @@ fn tell<E: Write>(refused: Failure, errors: &mut E, status: u8) -> u8
     status
 }
 
-/// The status where a command is refused.
-fn trouble(command: Command<'_>) -> u8
-    ensures { result ≤ 2 }
+/// The status where a question isn't answered.
+fn trouble(question: Question<'_>) -> u8
+    ensures most { result ≤ 2 }
+    ensures untold { TellsNothing question.entry result }
 {
-    match command {
-        Command::Compare { .. } | Command::Check { .. } => 2,
+    match question {
+        Question::Compare { .. } | Question::Check { .. } => 2,
         _ => 1,
     }
 }
 
-/// Does a command, and writes out what it printed, also where it was refused in the middle.
+/// Answers a question, and writes out what it printed, also where it was refused in the
+/// middle.
 fn buffered<H: Host, W: Write, E: Write>(
-    host: &mut H,
-    command: Command<'_>,
+    host: &H,
+    question: Question<'_>,
     how: Opening,
     output: &mut W,
     errors: &mut E,
-) -> Result<Outcome, Failure> {
+) -> Result<Outcome, Failure>
+    ensures { IfOk result (λ outcome. IfSome (H.contents host.now)
+        (λ files. IsAnswered question.entry how files outcome)) }
+{
     let mut output = BufWriter::new(host.alloc(), &mut *output).map_err(Failure::Output)?;
-    let outcome = obey(host, command, how, &mut output, errors);
+    let outcome = answer(host, question, how, &mut output, errors);
     output.flush().map_err(Failure::Output)?;
     outcome
 }
 
-/// Does a command.
-fn obey<H: Host, W: Write, E: Write>(
-    host: &mut H,
-    command: Command<'_>,
+/// Answers a question.
+fn answer<H: Host, W: Write, E: Write>(
+    host: &H,
+    question: Question<'_>,
     how: Opening,
     output: &mut W,
     errors: &mut E,
-) -> Result<Outcome, Failure> {
-    match command {
-        Command::Help => {
+) -> Result<Outcome, Failure>
+    ensures { IfOk result (λ outcome. IfSome (H.contents host.now)
+        (λ files. IsAnswered question.entry how files outcome)) }
+{
+    match question {
+        Question::Help => {
             let printed = output.write_all(HELP.as_bytes());
             printed.map_err(Failure::Output)?;
         }
-        Command::Info { path, json } => info(&*host, path, how, json, output, errors)?,
-        Command::Map { path, json } => map_file(&*host, path, how, json, output)?,
-        Command::Convert {
-            from,
-            to,
-            force,
-            quiet,
-        } => convert_image(host, from, to, how, force, !quiet)?,
-        Command::Compare {
+        Question::Info { path, json } => info(host, path, how, json, output, errors)?,
+        Question::Map { path, json } => map_image(host, path, how, json, output)?,
+        Question::Compare {
             first,
             second,
             quiet,
-        } => return compare(&*host, (first, second), how, quiet, output),
-        Command::Check { path } => {
-            let is_fine = check(&*host, path, how, output)?;
+        } => return compare(host, (first, second), how, quiet, output),
+        Question::Check { path } => {
+            let is_fine = check(host, path, how, output)?;
             return Ok(outcome_of(is_fine));
         }
     }
     Ok(Outcome::Fine)
 }
 
-/// Tells where the bytes of the disk of a file's image stand.
-fn map_file<H: Host, W: Write>(
-    host: &H,
-    path: &str,
-    how: Opening,
-    json: bool,
-    output: &mut W,
-) -> Result<(), Failure> {
-    let image = open(host, path, how)?;
-    map(host, &image, json, output)
-}
-
 /// The outcome of a question.
-fn outcome_of(is_fine: bool) -> Outcome {
+fn outcome_of(is_fine: bool) -> Outcome
+    ensures { result ≡ outcome_when is_fine }
+{
     if is_fine {
         Outcome::Fine
     } else {
@@ -135,7 +157,10 @@ fn compare<H: Host, W: Write>(
     how: Opening,
     quiet: bool,
     output: &mut W,
-) -> Result<Outcome, Failure> {
+) -> Result<Outcome, Failure>
+    ensures { IfOk result (λ outcome. IfSome (H.contents host.now) (λ files.
+        AreToldApart how files paths.entry.0.now paths.entry.1.now outcome)) }
+{
     let found = compare_images(host, paths.0, paths.1, how)?;
     if !quiet {
         tell_difference(found, output).map_err(Failure::Output)?;

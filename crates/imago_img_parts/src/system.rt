@@ -4,8 +4,8 @@ ghost use Rattle.std.specs.Prelude.{length, drop, option_to_list};
 ghost use Rattle.std.specs.String.{string_bytes};
 
 use crate::host::{FileKind, FileStatus, Files, Host};
+use imago_copy::target::Target;
 use imago_file::host::HostFile;
-use imago_plan::copy::Target;
 use std::alloc::Global;
 use std::cell::Cell;
 use std::fs::{self, File, Metadata, OpenOptions};
@@ -205,33 +205,6 @@ fn kind_of(metadata: &Metadata) -> FileKind {
     }
 }
 
-/// How many bytes from the offset on are known to be behind the end of a file of that length, and
-/// so zero: at most that many. The holes inside a file can't be told.
-fn behind_end(length: Option<u64>, offset: u64, most: u64) -> u64
-    ensures within { result ≤ most }
-    ensures behind { IfSome length (λ n. n ≤ «offset» → result ≡ most) }
-    ensures before { IfSome length (λ n. «offset» < n → result ≡ 0) }
-    ensures unknown { IsNone length → result ≡ 0 }
-{
-    match length {
-        Some(length) if length <= offset => most,
-        _ => 0,
-    }
-}
-
-/// How many bytes from the offset on come before the end of a file of that length: at most that
-/// many. The end of what is no regular file can't be told so.
-fn before_end(length: Option<u64>, offset: u64, most: u64) -> u64
-    ensures within { result ≤ most }
-    ensures known { IfSome length (λ n. result ≡ min most (n - «offset»)) }
-    ensures unknown { IsNone length → result ≡ most }
-{
-    match length {
-        Some(length) => most.min(length.saturating_sub(offset)),
-        None => most,
-    }
-}
-
 /// How many bytes from the offset on, of at most that many, come before the end of a file of that
 /// length, and that they do; or how many are behind it. There is at least one.
 fn run_in(length: Option<u64>, offset: u64, most: u64) -> (u64, bool)
@@ -317,25 +290,8 @@ impl<'a> Files for System<'a> {
 impl<'a> Host for System<'a> {
     type Target = NewFile;
 
-    fn hole_at(&self, path: &str, offset: u64, most: u64) -> u64 {
-        let Ok(mut open) = self.open(path) else {
-            return 0;
-        };
-        let behind = behind_end(open.length(), offset, most);
-        self.keep(open);
-        behind
-    }
+    ghost around = { λ _. None };
 
-    fn data_at(&self, path: &str, offset: u64, most: u64) -> u64 {
-        let Ok(mut open) = self.open(path) else {
-            return 0;
-        };
-        let before = before_end(open.length(), offset, most);
-        self.keep(open);
-        before
-    }
-
-    // The length is asked for once, where the calls for holes and for data each ask for it.
     fn run_at(&self, path: &str, offset: u64, most: u64) -> (u64, bool) {
         let Ok(mut open) = self.open(path) else {
             return (most, true);
@@ -377,7 +333,7 @@ impl<'a> Host for System<'a> {
     }
 
     // The files that are kept open are closed, since one may be what the new file replaces.
-    fn finish(&mut self, _path: &str, target: NewFile) -> io::Result<()> {
+    fn finish(&mut self, target: NewFile) -> io::Result<()> {
         self.take_kept();
         let Some(replaced) = &target.replaced else {
             return Ok(());
@@ -412,6 +368,8 @@ impl<'a> System<'a> {
 
 impl Target for NewFile {
     ghost contents = { λ _. None };
+
+    ghost made_for = { λ _. None };
 
     fn append(&mut self, source: &[u8]) -> io::Result<()> {
         write_blocks(&self.file, source, self.at)?;

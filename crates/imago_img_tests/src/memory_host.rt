@@ -1,10 +1,11 @@
 //! A host whose files are in memory.
-ghost use Rattle.std.specs.Prelude.{◌≡◌, ◌+◌, ◌≤◌, [], Some, length, replicate, slice_index};
-ghost use Rattle.std.specs.Prelude.{EachIndex, MatchOption, MatchResult};
+ghost use Rattle.std.specs.Prelude.{◌≡◌, ◌+◌, ◌≤◌, [], Some, true, false, length, replicate};
+ghost use Rattle.std.specs.Prelude.{slice_index, EachIndex, IfOk, MatchOption, MatchResult};
+ghost use Rattle.std.specs.String.{string_bytes};
 ghost use Rattle.imago_plan.specs.PieceBytes.{bytes_at};
 
+use imago_copy::target::Target;
 use imago_img_parts::host::{FileKind, FileStatus, Files, Host};
-use imago_plan::copy::Target;
 use std::alloc::{AllocError, Global};
 use std::cell::Cell;
 use std::io::{self, ErrorKind};
@@ -16,12 +17,29 @@ pub enum Nature {
     Plain,
     /// A regular file that can't be read.
     Secret,
+    /// A regular file whose byte at that offset can't be read.
+    Torn(u64),
     /// A block device.
     Device,
     /// A folder.
     Folder,
     /// A link to a file with that path.
     Link(&'static str),
+}
+
+impl Nature {
+    ghost use Rattle.imago_img_tests.specs.MemoryFiles.{kind_by};
+
+    /// What a file of this nature is.
+    fn kind(self) -> FileKind
+        ensures { result ≡ kind_by self }
+    {
+        match self {
+            Nature::Folder => FileKind::Other,
+            Nature::Device => FileKind::BlockDevice,
+            _ => FileKind::Regular,
+        }
+    }
 }
 
 /// A file in memory.
@@ -43,6 +61,8 @@ pub struct MemoryHost {
     appends: u64,
     /// Whether a new file that is finished gets its path.
     finishes: bool,
+    /// How many new files are neither finished nor abandoned.
+    unfinished: u64,
     /// How much of a copy was shown to be done.
     shown: Cell<u64>,
 }
@@ -50,13 +70,16 @@ pub struct MemoryHost {
 /// A new file in memory.
 #[derive(Drop)]
 pub struct MemoryTarget {
+    /// The path that it is to have, and how many bytes.
+    path: String,
+    size: u64,
     bytes: Vec<u8>,
     /// How many times something may still be put in.
     appends: u64,
 }
 
 impl MemoryHost {
-    ghost use Rattle.imago_img_tests.specs.MemoryFiles.{file_bytes};
+    ghost use Rattle.imago_img_tests.specs.MemoryFiles.{file_bytes, first_of, has_file};
 
     /// No files. Something may be put into a new one that many times, and then it gets its path or
     /// doesn't.
@@ -66,6 +89,7 @@ impl MemoryHost {
             files: Vec::new(alloc),
             appends,
             finishes,
+            unfinished: 0,
             shown: Cell::new(0),
         }
     }
@@ -90,6 +114,11 @@ impl MemoryHost {
         self.files.len()
     }
 
+    /// How many new files are neither finished nor abandoned.
+    pub fn unfinished(&self) -> u64 {
+        self.unfinished
+    }
+
     /// How many bytes of a copy were shown to be done.
     pub fn shown(&self) -> u64 {
         self.shown.get()
@@ -108,9 +137,14 @@ impl MemoryHost {
 
     /// The first file of that path.
     fn file(&self, path: &str) -> io::Result<&MemoryFile>
-        ensures { MatchResult result
+        ensures bytes { MatchResult result
             (λ f. f.now.bytes.items ≡ file_bytes self.now.files.items path.now)
             (λ _. file_bytes self.now.files.items path.now ≡ []) }
+        ensures first { IfOk result
+            (λ f. first_of self.now.files.items path.now ≡ Some f.now) }
+        ensures there { MatchResult result
+            (λ _. has_file self.now.files.items path.now ≡ true)
+            (λ _. has_file self.now.files.items path.now ≡ false) }
     {
         for file in &self.files {
             if file.path.as_str() == path {
@@ -118,6 +152,15 @@ impl MemoryHost {
             }
         }
         Err(io::Error::from(ErrorKind::NotFound))
+    }
+}
+
+/// Whether so many bytes from the offset on of such a file can't be read.
+fn is_barred(nature: Nature, offset: u64, count: usize) -> bool {
+    match nature {
+        Nature::Secret => true,
+        Nature::Torn(at) => offset <= at && at - offset < count as u64,
+        _ => false,
     }
 }
 
@@ -179,9 +222,13 @@ fn byte_at(bytes: &[u8], offset: u64, count: u64) -> Option<u8>
 }
 
 impl Files for MemoryHost {
-    ghost use Rattle.imago_img_tests.specs.MemoryFiles.{file_bytes};
+    ghost use Rattle.imago_img_tests.specs.MemoryFiles.{file_bytes, file_status, path_without_links};
 
     ghost contents = { λ h. Some (file_bytes h.files.items) };
+
+    ghost statuses = { λ h. Some (file_status h.files.items) };
+
+    ghost real_paths = { λ h. Some (path_without_links h.files.items) };
 
     fn alloc(&self) -> Global {
         self.alloc
@@ -189,13 +236,8 @@ impl Files for MemoryHost {
 
     fn status(&self, path: &str) -> io::Result<FileStatus> {
         let file = self.file(path)?;
-        let kind = match file.nature {
-            Nature::Folder => FileKind::Other,
-            Nature::Device => FileKind::BlockDevice,
-            _ => FileKind::Regular,
-        };
         Ok(FileStatus {
-            kind,
+            kind: file.nature.kind(),
             length: file.bytes.len() as u64,
             device: 1,
             inode: file.inode,
@@ -204,7 +246,7 @@ impl Files for MemoryHost {
 
     fn read_at(&self, path: &str, buf: &mut [u8], offset: u64) -> io::Result<()> {
         let file = self.file(path)?;
-        if file.nature == Nature::Secret {
+        if is_barred(file.nature, offset, buf.len()) {
             return Err(io::Error::from(ErrorKind::PermissionDenied));
         }
         read_padded(&file.bytes, buf, offset);
@@ -223,20 +265,24 @@ impl Files for MemoryHost {
 }
 
 impl Host for MemoryHost {
+    ghost use Rattle.imago_img_tests.specs.MemoryFiles.{has_file};
+
     type Target = MemoryTarget;
 
-    fn hole_at(&self, path: &str, offset: u64, most: u64) -> u64 {
-        match self.bytes(path) {
-            Some(bytes) => zeroes_at(bytes, offset, most),
-            None => 0,
-        }
-    }
+    ghost around = { λ h. Some (record {
+      there = has_file h.files.items;
+      unfinished = h.unfinished;
+    }) };
 
-    fn data_at(&self, path: &str, offset: u64, most: u64) -> u64 {
-        match self.bytes(path) {
-            Some(bytes) => others_at(bytes, offset, most),
-            None => 0,
+    fn run_at(&self, path: &str, offset: u64, most: u64) -> (u64, bool) {
+        let Some(bytes) = self.bytes(path) else {
+            return (most, true);
+        };
+        let zeroes = zeroes_at(bytes, offset, most);
+        if zeroes > 0 {
+            return (zeroes, false);
         }
+        (others_at(bytes, offset, most).max(1), true)
     }
 
     fn show_progress(&self, done: u64, _total: u64, _hundredths: u64) {
@@ -245,22 +291,30 @@ impl Host for MemoryHost {
 
     fn end_progress(&self) {}
 
-    fn create(&mut self, path: &str, _size: u64, replace: bool) -> io::Result<MemoryTarget> {
+    fn create(&mut self, path: &str, size: u64, replace: bool) -> io::Result<MemoryTarget> {
         if !replace && self.file(path).is_ok() {
             return Err(io::Error::from(ErrorKind::AlreadyExists));
         }
+        let path = String::from_str(self.alloc, path)?;
+        let Some(unfinished) = self.unfinished.checked_add(1) else {
+            return Err(io::Error::from(ErrorKind::OutOfMemory));
+        };
+        self.unfinished = unfinished;
         Ok(MemoryTarget {
+            path,
+            size,
             bytes: Vec::new(self.alloc),
             appends: self.appends,
         })
     }
 
-    fn finish(&mut self, path: &str, target: MemoryTarget) -> io::Result<()> {
+    fn finish(&mut self, target: MemoryTarget) -> io::Result<()> {
+        self.unfinished = self.unfinished.saturating_sub(1);
         if !self.finishes {
             return Err(io::Error::from(ErrorKind::PermissionDenied));
         }
         let file = MemoryFile {
-            path: String::from_str(self.alloc, path)?,
+            path: target.path,
             bytes: target.bytes,
             nature: Nature::Plain,
             inode: self.files.len() as u64,
@@ -272,13 +326,16 @@ impl Host for MemoryHost {
 
     fn abandon(&mut self, target: MemoryTarget) {
         let _ = target;
+        self.unfinished = self.unfinished.saturating_sub(1);
     }
 }
 
 impl MemoryTarget {
     /// Counts an append, and refuses one too many, as a full device does.
     fn take_append(&mut self) -> io::Result<()>
-        ensures { self.new.bytes ≡ self.old.bytes }
+        ensures bytes { self.new.bytes ≡ self.old.bytes }
+        ensures path { self.new.path ≡ self.old.path }
+        ensures size { self.new.size ≡ self.old.size }
     {
         if self.appends == 0 {
             return Err(io::Error::from(ErrorKind::StorageFull));
@@ -290,6 +347,8 @@ impl MemoryTarget {
 
 impl Target for MemoryTarget {
     ghost contents = { λ t. Some t.bytes.items };
+
+    ghost made_for = { λ t. Some (string_bytes t.path, t.size) };
 
     fn append(&mut self, source: &[u8]) -> io::Result<()> {
         self.take_append()?;

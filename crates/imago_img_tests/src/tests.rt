@@ -4,7 +4,6 @@ mod below;
 mod chains;
 mod commands;
 mod headers;
-mod loaded;
 mod opener;
 mod qcow2;
 mod refusals;

@@ -1,7 +1,5 @@
 //! The system's files, whose lengths are told by their attributes, asked for at each question. This
 //! is what `System` did before it sought the end of a file, kept as it was for the comparison.
-ghost use Rattle.std.specs.Prelude.{◌≤◌};
-
 use std::cell::Cell;
 use std::fs::File;
 use std::io;
@@ -35,25 +33,15 @@ fn read_padded(file: &File, buf: &mut [u8], offset: u64) -> io::Result<()> {
     Ok(())
 }
 
-/// How many bytes from the offset on are known to be behind the file's end, and so zero: at most
-/// that many. The holes inside a file can't be told.
-fn behind_end(file: &File, offset: u64, most: u64) -> u64
-    ensures { result ≤ most }
-{
+/// How many bytes from the offset on, of at most that many, come before the end of a file, and that
+/// they do; or how many are behind it. The end of what is no regular file can't be told so.
+fn run_in(file: &File, offset: u64, most: u64) -> (u64, bool) {
     match file.metadata() {
-        Ok(metadata) if metadata.is_file() && metadata.len() <= offset => most,
-        _ => 0,
-    }
-}
-
-/// How many bytes from the offset on come before the file's end: at most that many. The end of what
-/// is no regular file can't be told so.
-fn before_end(file: &File, offset: u64, most: u64) -> u64
-    ensures { result ≤ most }
-{
-    match file.metadata() {
-        Ok(metadata) if metadata.is_file() => most.min(metadata.len().saturating_sub(offset)),
-        _ => most,
+        Ok(metadata) if metadata.is_file() => match metadata.len().saturating_sub(offset) {
+            0 => (most, false),
+            left => (most.min(left), true),
+        },
+        _ => (most, true),
     }
 }
 
@@ -90,36 +78,14 @@ impl<'a> ByAttributes<'a> {
         Ok(())
     }
 
-    /// How many of the file's bytes from the offset on are known to be 0: at most that many.
-    pub fn hole_at(&self, path: &str, offset: u64, most: u64) -> u64 {
-        let Ok(open) = self.open(path) else {
-            return 0;
-        };
-        let behind = behind_end(&open.file, offset, most);
-        self.keep(open);
-        behind
-    }
-
-    /// How many bytes from the offset on come before the file's next hole: at most that many.
-    pub fn data_at(&self, path: &str, offset: u64, most: u64) -> u64 {
-        let Ok(open) = self.open(path) else {
-            return 0;
-        };
-        let before = before_end(&open.file, offset, most);
-        self.keep(open);
-        before
-    }
-
     /// How many bytes from the offset on are in one hole of a file, or come before its next one;
     /// and whether they do. There is at least one.
     pub fn run_at(&self, path: &str, offset: u64, most: u64) -> (u64, bool) {
-        let hole = self.hole_at(path, offset, most);
-        if hole > 0 {
-            return (hole, false);
-        }
-        match self.data_at(path, offset, most) {
-            0 => (most, true),
-            length => (length, true),
-        }
+        let Ok(open) = self.open(path) else {
+            return (most, true);
+        };
+        let run = run_in(&open.file, offset, most);
+        self.keep(open);
+        run
     }
 }

@@ -1,6 +1,5 @@
 //! Compares what `System` tells of files with what their attributes tell, asked for at each
-//! question: how many bytes are behind a file's end, how many come before it, both at once, and the
-//! bytes themselves. One file grows, shrinks and is replaced meanwhile. Which files `System` keeps
+//! question: how many bytes come before a file's end or are behind it, and the bytes themselves. One file grows, shrinks and is replaced meanwhile. Which files `System` keeps
 //! open is seen where all are replaced: those that it keeps are told to be as long as they were.
 //!
 //! The files are made in the folder that the program is run in, and removed at the end. The program
@@ -95,7 +94,7 @@ const ENOUGH: u64 = 9;
 const MOST: [u64; 6] = [1, 2, 512, 4096, 4294967296, u64::MAX];
 
 /// How many questions there are for an offset.
-const KINDS: u64 = 4;
+const KINDS: u64 = 2;
 
 /// At how many random places questions are asked.
 const RANDOM: u64 = 5000;
@@ -143,11 +142,11 @@ impl<'a> Comparison<'a> {
     fn answers_same(&self, kind: u64, path: &str, offset: u64, most: u64) -> bool
         requires { 0 < most }
     {
-        let (host, before) = (&self.host, &self.before);
         match kind {
-            0 => host.hole_at(path, offset, most) == before.hole_at(path, offset, most),
-            1 => host.data_at(path, offset, most) == before.data_at(path, offset, most),
-            2 => host.run_at(path, offset, most) == before.run_at(path, offset, most),
+            0 => {
+                let right = self.before.run_at(path, offset, most);
+                self.host.run_at(path, offset, most) == right
+            }
             _ => self.reads_same(path, offset),
         }
     }
@@ -254,10 +253,10 @@ impl<'a> Comparison<'a> {
         make_crowd(self.rt, 1)?;
         let path = CROWD[0];
         let mut host = System::new(self.rt);
-        host.data_at(path, 0, ENOUGH);
+        host.run_at(path, 0, ENOUGH);
         let target = host.create(path, 2, true)?;
-        host.finish(path, target)?;
-        self.count(host.data_at(path, 0, ENOUGH) == 2, path, 0, ENOUGH);
+        host.finish(target)?;
+        self.count(host.run_at(path, 0, ENOUGH).0 == 2, path, 0, ENOUGH);
         Ok(())
     }
 
@@ -294,10 +293,10 @@ fn told_length(rt: &HostRuntime, row: &KeptRow, path: &str) -> io::Result<u64> {
     make_crowd(rt, 1)?;
     let host = System::with_most_open(rt, row.most);
     for used in row.used {
-        host.data_at(used, 0, ENOUGH);
+        host.run_at(used, 0, ENOUGH);
     }
     make_crowd(rt, 2)?;
-    Ok(host.data_at(path, 0, ENOUGH))
+    Ok(host.run_at(path, 0, ENOUGH).0)
 }
 
 fn main(rt: HostRuntime) -> ExitCode {

@@ -1,8 +1,9 @@
-//! What `check` tells of qcow2 files that aren't supported or can't be meant, and `info` as an
-//! error.
+//! What headers of qcow2 files say, and what `check` tells of files that aren't supported or can't
+//! be meant, and `info` as an error.
 
 use super::set_up::{VERSION_3, check_line, expected};
 use crate::memory_host::{MemoryHost, Nature};
+use imago_qcow2::header::{self, HEAD_LENGTH, Header};
 use std::alloc::{AllocError, Global};
 use std::process::Abort;
 
@@ -144,8 +145,64 @@ static OPENED: [(Parts, u8, &str); 2] = [
     ),
 ];
 
-/// A host with one file, `a`: that header, with other bytes in places.
-fn changed(alloc: Global, parts: Parts) -> Result<MemoryHost, AllocError> {
+/// What is changed in a header, the version, the lengths of the disk and of a cluster that it then
+/// tells, and its features in the order of `info`.
+type Told = (Parts, (u32, u64, u64), [bool; 5]);
+
+/// Headers that are in order.
+static TOLD: [Told; 9] = [
+    (&[], (3, 2048, 512), [false; 5]),
+    // A disk of 0x123456 bytes, in clusters of 64 KiB, whose L1 table is at 0.
+    (
+        &[(23, b"\x10"), (29, b"\x12\x34\x56"), (46, b"\0")],
+        (3, 0x12_3456, 65536),
+        [false; 5],
+    ),
+    // Left open; compressed in another way; then one of each other feature.
+    (
+        &[(79, b"\x01")],
+        (3, 2048, 512),
+        [true, false, false, false, false],
+    ),
+    (
+        &[(79, b"\x08"), (103, b"\x70\x01")],
+        (3, 2048, 512),
+        [false, true, false, false, false],
+    ),
+    (
+        &[(87, b"\x01")],
+        (3, 2048, 512),
+        [false, false, true, false, false],
+    ),
+    (
+        &[(95, b"\x01")],
+        (3, 2048, 512),
+        [false, false, false, true, false],
+    ),
+    (
+        &[(95, b"\x02")],
+        (3, 2048, 512),
+        [false, false, false, false, true],
+    ),
+    // All bits that have no name here.
+    (
+        &[
+            (80, b"\xff\xff\xff\xff\xff\xff\xff\xfe"),
+            (88, b"\xff\xff\xff\xff\xff\xff\xff\xfc"),
+        ],
+        (3, 2048, 512),
+        [false; 5],
+    ),
+    // Version 2 has no features, whatever stands there.
+    (
+        &[(7, b"\x02"), (79, b"\xff"), (87, b"\xff"), (95, b"\xff")],
+        (2, 2048, 512),
+        [false; 5],
+    ),
+];
+
+/// The file of that header, with other bytes in places.
+fn changed_bytes(alloc: Global, parts: Parts) -> Result<Vec<u8>, AllocError> {
     let mut bytes = expected(alloc, 2048, HEADER)?;
     for (offset, part) in parts {
         for (index, byte) in part.iter().enumerate() {
@@ -154,9 +211,37 @@ fn changed(alloc: Global, parts: Parts) -> Result<MemoryHost, AllocError> {
             }
         }
     }
+    Ok(bytes)
+}
+
+/// A host with one file, `a`: that header, with other bytes in places.
+fn changed(alloc: Global, parts: Parts, nature: Nature) -> Result<MemoryHost, AllocError> {
+    let bytes = changed_bytes(alloc, parts)?;
     let mut host = MemoryHost::new(alloc, 0, false);
-    host.add("a", &bytes, Nature::Plain)?;
+    host.add("a", &bytes, nature)?;
     Ok(host)
+}
+
+/// What the header of a file with these bytes says, if there is memory and it has no fault.
+fn told(alloc: Global, parts: Parts) -> Option<Header> {
+    let bytes = changed_bytes(alloc, parts).ok()?;
+    if bytes.len() < HEAD_LENGTH {
+        return None;
+    }
+    header::read(&bytes, bytes.len() as u64).ok()
+}
+
+/// The version, the lengths, and the features of a header.
+fn parts_of(header: Header) -> ((u32, u64, u64), [bool; 5]) {
+    let sizes = (header.version(), header.disk_size(), header.cluster_size());
+    let features = [
+        header.is_dirty(),
+        header.has_compression_type(),
+        header.has_lazy_refcounts(),
+        header.has_bitmaps(),
+        header.has_raw_external_data(),
+    ];
+    (sizes, features)
 }
 
 /// Tries a command line on a changed file.
@@ -167,10 +252,23 @@ fn check_changed(
     line: &str,
     wanted: (u8, &str, &str),
 ) {
-    let made = changed(alloc, parts);
+    let made = changed(alloc, parts, Nature::Plain);
     assert!(rt; made.is_ok(), "{line}");
     let Ok(mut host) = made else { return };
     check_line(rt, alloc, &mut host, line, wanted);
+}
+
+#[test]
+fn headers_tell_versions_sizes_and_features(rt: HostRuntime) {
+    for (parts, sizes, features) in &TOLD {
+        let header = told(rt.alloc(), parts);
+        assert!(rt; header.is_some(), "{parts:?}");
+        let Some(header) = header else { continue };
+        assert!(rt;
+            parts_of(header) == (*sizes, *features),
+            "{parts:?}: {header:?}"
+        );
+    }
 }
 
 #[test]
@@ -179,6 +277,34 @@ fn faults_of_headers_are_named(rt: HostRuntime) {
         check_changed(&rt, rt.alloc(), parts, "check -f qcow2 a", (1, output, ""));
         check_changed(&rt, rt.alloc(), parts, "info -f qcow2 a", (1, "", errors));
         check_changed(&rt, rt.alloc(), parts, "map -f qcow2 a", (1, "", errors));
+    }
+}
+
+/// Offsets whose byte can't be read, with a command line that then is refused, and its status: in
+/// the first bytes, the header, the L1 table, the L2 table, and the name of the file below.
+static TORN: [(u64, &str, u8); 9] = [
+    (0, "info a", 1),
+    (0, "check a", 2),
+    (100, "info a", 1),
+    (100, "check a", 2),
+    (512, "info a", 1),
+    (512, "check a", 2),
+    (1024, "info a", 1),
+    (1024, "check a", 2),
+    (400, "info a", 1),
+];
+
+/// A name at 400 and an L2 table at 1024.
+const NAMED: Parts = &[(14, b"\x01\x90\0\0\0\x01"), (400, b"b"), (518, b"\x04")];
+
+#[test]
+fn refused_reads_are_told_by_the_host(rt: HostRuntime) {
+    let refused = "imago-img: \"a\": permission denied\n";
+    for (at, line, status) in &TORN {
+        let made = changed(rt.alloc(), NAMED, Nature::Torn(*at));
+        assert!(rt; made.is_ok(), "{line}");
+        let Ok(mut host) = made else { continue };
+        check_line(&rt, rt.alloc(), &mut host, line, (*status, "", refused));
     }
 }
 

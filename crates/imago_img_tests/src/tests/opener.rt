@@ -6,7 +6,7 @@ use imago_drivers::drivers::FormatDriverInstance;
 use imago_images::files::Files;
 use imago_images::format::ImageFormat;
 use imago_images::opener::open_image;
-use imago_images::opening::Opening;
+use imago_images::opening::{Opening, OtherFiles};
 use std::alloc::Global;
 use std::process::Abort;
 
@@ -19,18 +19,18 @@ enum Opened {
     Refused(&'static str),
 }
 
-/// A path, whether files outside of the image's folder may be opened, and what comes of it.
-type Row = (&'static str, bool, Opened);
+/// A path, which other files may be opened, and what comes of it.
+type Row = (&'static str, OtherFiles, Opened);
 
-static ROWS: [Row; 16] = [
+static ROWS: [Row; 19] = [
     (
         "plain.raw",
-        false,
+        OtherFiles::InFolder,
         Opened::Shows(ImageFormat::Raw, 7, &[(2, *b"hell"), (5, *b"lo\0\0")]),
     ),
     (
         "disk.vmdk",
-        false,
+        OtherFiles::InFolder,
         Opened::Shows(
             ImageFormat::Vmdk,
             2048,
@@ -40,7 +40,7 @@ static ROWS: [Row; 16] = [
     // A cluster of each of three layers, and one that none has.
     (
         "top.qcow2",
-        false,
+        OtherFiles::InFolder,
         Opened::Shows(
             ImageFormat::Qcow2,
             2048,
@@ -55,7 +55,7 @@ static ROWS: [Row; 16] = [
     // All of it stands in the files of the descriptor below.
     (
         "above.qcow2",
-        false,
+        OtherFiles::InFolder,
         Opened::Shows(
             ImageFormat::Qcow2,
             2048,
@@ -64,36 +64,56 @@ static ROWS: [Row; 16] = [
     ),
     (
         "outside.qcow2",
-        true,
+        OtherFiles::Any,
         Opened::Shows(ImageFormat::Qcow2, 2048, &[(0, *b"top\0")]),
     ),
     (
         "outside.qcow2",
-        false,
+        OtherFiles::InFolder,
         Opened::Refused("\"outside.qcow2\": its backing file \"/etc/secret\" isn't in its folder"),
     ),
     (
         "linked.qcow2",
-        false,
+        OtherFiles::InFolder,
         Opened::Refused("\"linked.qcow2\": its backing file \"link.bin\" isn't in its folder"),
     ),
     (
         "outside.vmdk",
-        false,
+        OtherFiles::InFolder,
         Opened::Refused(
             "\"outside.vmdk\": its extent \"/etc/secret\" isn't in the descriptor's folder",
         ),
     ),
     (
         "linked.vmdk",
-        false,
+        OtherFiles::InFolder,
         Opened::Refused(
             "\"linked.vmdk\": its extent \"link.bin\" isn't in the descriptor's folder",
         ),
     ),
     (
+        "plain.raw",
+        OtherFiles::None,
+        Opened::Shows(ImageFormat::Raw, 7, &[(2, *b"hell")]),
+    ),
+    (
+        "outside.qcow2",
+        OtherFiles::None,
+        Opened::Refused(
+            "\"outside.qcow2\": its backing file \"/etc/secret\" isn't opened: other files \
+            aren't permitted",
+        ),
+    ),
+    (
+        "linked.vmdk",
+        OtherFiles::None,
+        Opened::Refused(
+            "\"linked.vmdk\": its extent \"link.bin\" isn't opened: other files aren't permitted",
+        ),
+    ),
+    (
         "circle.qcow2",
-        false,
+        OtherFiles::InFolder,
         Opened::Refused(
             "\"circle.qcow2\": backing files lead in a circle: \"circle.qcow2\", \"around.qcow2\", \
             \"circle.qcow2\"",
@@ -101,34 +121,34 @@ static ROWS: [Row; 16] = [
     ),
     (
         "lost.qcow2",
-        false,
+        OtherFiles::InFolder,
         Opened::Refused("\"nowhere.raw\": entity not found"),
     ),
     (
         "other.qcow2",
-        false,
+        OtherFiles::InFolder,
         Opened::Refused(
             "\"other.qcow2\": its backing file has the format \"luks\", which isn't supported",
         ),
     ),
     (
         "parts",
-        false,
+        OtherFiles::InFolder,
         Opened::Refused("\"parts\": neither a regular file nor a block device"),
     ),
     (
         "folder.vmdk",
-        false,
+        OtherFiles::InFolder,
         Opened::Refused("\"parts\": neither a regular file nor a block device"),
     ),
     (
         "sparse.vmdk",
-        false,
+        OtherFiles::InFolder,
         Opened::Refused("\"sparse.vmdk\": a sparse VMDK image, which isn't supported"),
     ),
     (
         "nothing.raw",
-        false,
+        OtherFiles::InFolder,
         Opened::Refused("\"nothing.raw\": entity not found"),
     ),
 ];
@@ -153,11 +173,11 @@ fn shows<D: FormatDriverInstance>(
 /// Opens the image of a row.
 fn check_row<H: Files>(rt: &impl Abort, host: &H, row: &Row) {
     let alloc = host.alloc();
-    let (path, allow_outside, opened) = row;
+    let (path, other_files, opened) = row;
     let how = Opening {
         format: None,
         strict: false,
-        allow_outside: *allow_outside,
+        other_files: *other_files,
     };
     match (open_image(host, path, how), opened) {
         (Ok((format, image)), Opened::Shows(expected, size, parts)) => {

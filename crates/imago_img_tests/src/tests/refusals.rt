@@ -242,7 +242,7 @@ fn refusals_tell_why_and_leave_no_file(rt: HostRuntime) {
 
 #[test]
 fn a_copy_that_fails_leaves_no_file(rt: HostRuntime) {
-    for appends in 0..4 {
+    for appends in 0..3 {
         check_cases(
             &rt,
             rt.alloc(),
@@ -262,7 +262,7 @@ fn a_copy_that_fails_leaves_no_file(rt: HostRuntime) {
         rt.alloc(),
         &[Case {
             words: "convert disk.vmdk out.raw",
-            appends: 4,
+            appends: 3,
             finishes: false,
             status: 1,
             output: "",

@@ -394,6 +394,7 @@ fn check_text(rt: &impl Abort, words: &str, printed: &[u8], wanted: &str) {
 /// There are as many files as before, and the new one, if there is to be one.
 fn check_files(rt: &impl Abort, alloc: Global, host: &MemoryHost, case: &Case, before: usize) {
     let words = case.words;
+    assert_eq!(rt; host.unfinished(), 0, "{words}");
     let Some((length, parts)) = case.written else {
         assert_eq!(rt; host.count(), before, "{words}");
         return;

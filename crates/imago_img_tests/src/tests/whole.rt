@@ -1,6 +1,7 @@
 //! Whole disks, converted and compared.
 
 use crate::memory_host::{MemoryHost, Nature};
+use imago_images::opening::OtherFiles;
 use imago_img_parts::commands::{Opening, compare_images, convert_image};
 use std::alloc::{AllocError, Global};
 
@@ -11,7 +12,7 @@ const TEXT: &[u8] = b"# Disk DescriptorFile\nversion=1\nRW 1 ZERO\nRW 1 FLAT \"a
 const PLAIN: Opening = Opening {
     format: None,
     strict: false,
-    allow_outside: false,
+    other_files: OtherFiles::InFolder,
 };
 
 /// A host with a disk.

@@ -1,10 +1,13 @@
-use Rattle.std.proofs.Common.{map, ap, ◌∙◌}
-use Rattle.std.specs.String.{string_bytes}
-use Rattle.imago_img_parts.proofs.Files.{filled_by}
+use Rattle.imago_any_driver.specs.AnyDriver.{view_over}
+use Rattle.imago_file.specs.StorageParts.{faults_of}
+use Rattle.imago_images.proofs.PathSteps.{features_of, bytes_of}
+use Rattle.imago_img_parts.proofs.Disks.{appended_disk}
 use Rattle.imago_img_parts.proofs.convert.fill.Goals as goal
 
-pub returns-in-Ok : goal.returns-in-Ok
-returns-in-Ok g c =
-    let paths = ap (map string_bytes) (c.new-sources.ensures.paths ∙ c.deref.ensures.value) in
-    filled_by g.H.Files.contents _ _ _ _ _ _ _ _ c.new-sources.ensures.host paths
-    c.deref-2.ensures.value c.in-Ok.ensures
+pub returns-in-Ok-clause-filled : goal.returns-in-Ok-clause-filled
+returns-in-Ok-clause-filled g c =
+    let contents = g.H.Files.contents in
+    appended_disk (view_over (features_of contents) faults_of (bytes_of contents)) c.args.how.strict
+    c.args.how.other_files c.args.how.format (contents c.args.host.now) c.args.from.now
+    c.in_ok-image.field-0-0 c.in_ok-image.image _ _ c.in_ok-image.ensures.format
+    c.in_ok-image.ensures.image c.in-Ok.ensures.put

@@ -2,7 +2,7 @@ use Rattle.std.proofs.Common.{◌-◌, ◌≤◌}
 use Rattle.imago_img_parts.proofs.map.print_stored.Given as goal
 
 abbrev pub invariant-loop-done : goal.invariant-loop-done
-invariant-loop-done g l = l.done ≤ l.piece.count
+invariant-loop-done g l = l.done ≤ l.run.count
 
 abbrev pub decreases-loop-done : goal.decreases-loop-done
-decreases-loop-done g l = l.piece.count - l.done
+decreases-loop-done g l = l.run.count - l.done

@@ -7,4 +7,4 @@ returns c =
     let buf : List ℕ = c.read_padded.new.buf in
     read_bytes _ _ buf
     (subst (λ (z : List ℕ). EachIndex buf (λ k. slice_index buf k ≡ slice_index z (c.args.offset + k)))
-    (c.deref.ensures.value ∙ c.in_ok-file.ensures) c.read_padded.ensures)
+    (c.deref.ensures.value ∙ c.in_ok-file.ensures.bytes) c.read_padded.ensures)

@@ -1,0 +1,13 @@
+use Rattle.std.proofs.Common.{◌≡◌, ◌-◌}
+use Rattle.imago_access.specs.Chain.{driver}
+use Rattle.imago_copy.specs.RunsOf.{image_of, at_of, IsReady}
+use Rattle.imago_img_parts.proofs.image.test_runs.Given as goal
+
+abbrev pub invariant-loop-run : goal.invariant-loop-run
+invariant-loop-run g l = record {
+  image : image_of l.runs ≡ l.image;
+  ready : IsReady g.D.FormatDriverInstance.view l.runs;
+}
+
+abbrev pub decreases-loop-run : goal.decreases-loop-run
+decreases-loop-run g l = (g.D.FormatDriverInstance.view (driver l.image)).size - at_of l.runs
