@@ -138,9 +138,17 @@ pub use Rattle.imago_copy.specs.Differences as FirstDifferences
 pub use Rattle.imago_plan.specs.Pieces
 pub use Rattle.imago_plan.specs.PieceBytes
 pub use Rattle.imago_plan.specs.StoredBytes
-pub use Rattle.imago_plan.specs.Copies
-pub use Rattle.imago_plan.specs.Memory
-pub use Rattle.imago_plan.specs.Differences
+pub use Rattle.imago_images.specs.Formats as ImageFormats
+pub use Rattle.imago_images.specs.Opening as ImageOpening
+pub use Rattle.imago_images.specs.Extents as ExtentFiles
+pub use Rattle.imago_images.specs.HostBytes
+pub use Rattle.imago_images.specs.PathFile
+pub use Rattle.imago_images.specs.Gate as ImageGate
+pub use Rattle.imago_images.specs.Layers as ImageLayers
+pub use Rattle.imago_images.specs.Images as FileImages
+pub use Rattle.imago_images.specs.Way as FilesAbove
+pub use Rattle.imago_images.specs.Refusals as ImageRefusals
+pub use Rattle.imago_images.specs.Chains as FileChains
 -- The types of these items, under their own names; 'Declared' stands before one that a file of
 -- definitions above has too.
 pub use Rattle.imago_storage.specs.declared.error.Error as DeclaredError
@@ -185,5 +193,11 @@ pub use Rattle.imago_copy.specs.declared.copy.CopyError
 pub use Rattle.imago_plan.specs.declared.piece.Location
 pub use Rattle.imago_plan.specs.declared.piece.Source
 pub use Rattle.imago_plan.specs.declared.piece.Piece
-pub use Rattle.imago_plan.specs.declared.memory.MemorySources
-pub use Rattle.imago_plan.specs.declared.disk.WriteError
+pub use Rattle.imago_images.specs.declared.files.FileKind
+pub use Rattle.imago_images.specs.declared.files.FileStatus
+pub use Rattle.imago_images.specs.declared.file.PathFile as DeclaredPathFile
+pub use Rattle.imago_images.specs.declared.format.ImageFormat
+pub use Rattle.imago_images.specs.declared.opening.Opening as DeclaredOpening
+pub use Rattle.imago_images.specs.declared.opening.OtherFiles
+pub use Rattle.imago_images.specs.declared.failure.OpenError
+pub use Rattle.imago_images.specs.declared.failure.Reason

@@ -1,12 +1,11 @@
 -- What a chain of qcow2 files shows, by the bytes of other files with the same tables.
-use Rattle.std.proofs.Common.{◌≡◌, ℕ, suc, ◌+◌, ◌^◌, ◌%◌, ◌/◌, ◌≤◌, List, [], ◌∷◌, Option, Some, None, IsTrue, Box, Global, refl, sym, ap, subst, ◌∙◌, arith, ⊎_elim}
+use Rattle.std.proofs.Common.{◌≡◌, ℕ, suc, ◌+◌, ◌^◌, ◌%◌, ◌/◌, ◌≤◌, List, Option, Some, None, IsTrue, Box, Global, refl, sym, ap, subst, ◌∙◌, arith, ⊎_elim}
 use Rattle.std.proofs.lemmas.Bool.{cases_lt}
 use Rattle.imago_drivers.specs.Place.{Place, Stored, Zeroed, Special, Lower, Refused, End, Value, Byte, shown}
 use Rattle.imago_drivers.specs.View.{View}
 use Rattle.imago_access.specs.declared.access.FormatAccess.{FormatAccess, FormatAccess', Held-FormatAccess-backing, None', Some', out-FormatAccess, is-FormatAccess', back-FormatAccess-backing}
 use Rattle.imago_access.specs.Chain.{driver, backing, unboxed, tells_bytes, tells_bytes_below}
 use Rattle.imago_access.proofs.Weaker.{and_left, and_right}
-use Rattle.imago_access.specs.Disk.{values_from}
 use Rattle.imago_access.specs.Target.{Target, target, target_below, followed}
 use Rattle.imago_vmdk.specs.Disk.{with_bytes}
 use Rattle.imago_plan.specs.StoredBytes.{target_value}
@@ -93,10 +92,3 @@ alone {D} x h = is-FormatAccess' x ∙ ap (λ (b : Option (Box (FormatAccess D) 
 
 pub layers_of_one : {D : Type 0} (own : D → List ℕ) (files : ℕ → List ℕ) (x : FormatAccess D) → backing x ≡ None → HaveSameTables (files 0) (own (driver x)) → AreLayersOf own files x
 layers_of_one {D} own files x h same = subst (λ (y : FormatAccess D). AreLayersOf own files y) (sym (alone x h)) (same, tt)
-
-pub files_of_one : {D : Type 0} (files : ℕ → List ℕ) (x : FormatAccess D) → backing x ≡ None → layer_files files x ≡ files 0 ∷ []
-files_of_one {D} files x h = ap (λ (y : FormatAccess D). layer_files files y) (alone x h)
-
-pub values_of_one : {D : Type 0} (files : ℕ → List ℕ) (x : FormatAccess D) (n : ℕ) → backing x ≡ None
-    → values_from (files_value (layer_files files x)) 0 n ≡ values_from (files_value (files 0 ∷ [])) 0 n
-values_of_one {D} files x n h = ap (λ (fs : List (List ℕ)). values_from (files_value fs) 0 n) (files_of_one files x h)

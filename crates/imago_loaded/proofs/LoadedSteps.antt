@@ -1,6 +1,6 @@
 -- Files of which some blocks are in memory.
 use Rattle.std.proofs.Common.{◌≡◌, ℕ, ◌+◌, ◌-◌, ◌*◌, ◌%◌, ◌/◌, ◌<◌, ◌≤◌, ⊎_elim, inl, List, length, Result, Ok, Err, OnOk, refl, sym, ap, subst, ◌∙◌, arith, false}
-use Rattle.std.specs.Prelude.{slice_index, max, Option, Some, None, IsSome, IfSome, IsTrue}
+use Rattle.std.specs.Prelude.{slice_index, max, Option, Some, None, IsSome, IsTrue}
 use Rattle.std.specs.declared.vec.Vec.{Vec}
 use Rattle.std.specs.declared.alloc.Global.{Global}
 use Rattle.std.specs.BTreeMap.{is_at, Updates}
@@ -8,16 +8,15 @@ use Rattle.std.specs.Ordering.{nat_cmp}
 use Rattle.std.proofs.lemmas.Bool.{cases_eq, cases_lt}
 use Rattle.std.proofs.lemmas.Bool.Decides.{nat_tests}
 use Rattle.std.proofs.lemmas.Nat.{le-div, div-mul-add}
-use Rattle.std.proofs.lemmas.Grind.{same_number_lists}
 use Rattle.std.proofs.lemmas.List.{get_or_past}
 use Rattle.std.proofs.lemmas.List.FromFn.{length-map-range_with_len, get_or-map-range_with_len}
-use Rattle.std.proofs.Math.Nat.{mod-lt, mod-add-div', div-mul-le_self, div-eq_of_lt, mod-eq_of_lt}
+use Rattle.std.proofs.Math.Nat.{mod-lt, mod-add-div', div-mul-le_self}
 use Rattle.imago_storage.specs.declared.error.Error.{Error}
 use Rattle.imago_storage.specs.Bytes.{splice, OldOrNew, WriteOutcome, IsReadAt}
 use Rattle.imago_storage.proofs.Splices.{splice_length}
 use Rattle.imago_plan.specs.PieceBytes.{bytes_at}
 use Rattle.imago_loaded.specs.declared.loaded.LoadedFile.{LoadedFile}
-use Rattle.imago_loaded.specs.Loaded.{byte_in, block_at, loaded_byte, loaded_bytes, IsBlockOf, HasBytesOf, IsThere, AreThere, Keeps, Loads, LoadsMore}
+use Rattle.imago_loaded.specs.Loaded.{byte_in, block_at, loaded_byte, loaded_bytes, IsBlockOf, HasBytesOf, IsThere, AreThere, Keeps}
 
 pub loaded_length : (f : LoadedFile) → length (loaded_bytes f) ≡ f.length
 loaded_length f = length-map-range_with_len (loaded_byte f) 0 f.length
@@ -106,17 +105,8 @@ module _ (old new : LoadedFile) (n : ℕ) (v : Vec ℕ Global) (same : new.block
   here : block_at new n ≡ Some v
   here = u.1
 
-  pub is_there : IsThere new n
-  is_there = rw here refl
-
   elsewhere : (q : ℕ) → (n ≡ q → ⊥) → block_at new q ≡ block_at old q
   elsewhere q apart = u.2 q (not_at n q apart)
-
-  pub stays_there : (q : ℕ) → IsThere old q → IsThere new q
-  stays_there q h = ⊎_elim
-      (λ e. subst (IsThere new) e is_there)
-      (λ apart. rw (elsewhere q apart) h)
-      (cases_eq n q)
 
   pub has_more : (file : List ℕ) → ((i : ℕ) → i < old.block → slice_index v.items i ≡ slice_index file (n * old.block + i)) → HasBytesOf file old → HasBytesOf file new
   has_more file read has q = ⊎_elim
@@ -146,9 +136,6 @@ blocks_there f at n positive some before last p low high =
 
 pub keeps_refl : (f : LoadedFile) → Keeps f f
 keeps_refl f = record { len = refl; block = refl; kept = λ n h. h }
-
-pub keeps_more : (a b c : LoadedFile) → Keeps a b → Keeps b c → Keeps a c
-keeps_more a b c h k = record { len = k.len ∙ h.len; block = k.block ∙ h.block; kept = λ n x. k.kept n (h.kept n x) }
 
 -- what is in memory stays so
 pub there_stays : (a b : LoadedFile) (at n : ℕ) → Keeps a b → AreThere a at n → AreThere b at n
@@ -191,47 +178,7 @@ in_none f p buf inside within e zero i lt =
     ∙ ap (λ (o : Option (Vec ℕ Global)). byte_in o (p % f.block + i)) e
     ∙ sym (byte_in_part f p i (omega (arith, inside, lt)) (omega (arith, within, lt)))
 
--- what holds of something that is known
-pub known_is : {A : Type 0} (o : Option A) (P : A → Type 0) (x : A) → o ≡ Some x → IfSome o P → P x
-known_is {A} o P x e h = subst (λ (z : Option A). IfSome z P) e h
-
--- a step of loading blocks one after the other
-pub load_next : (old mid new : LoadedFile) (first number : ℕ) → Keeps old mid → Loads mid new number
-    → ((q : ℕ) → first ≤ q → q < number → IsThere mid q) → (q : ℕ) → first ≤ q → q < number + 1 → IsThere new q
-load_next old mid new first number keeps loads before q low high = ⊎_elim
-    (λ inside. loads.keeps.kept q (before q low inside))
-    (λ at_end. let e : number ≡ q = omega (arith, high, at_end) in subst (IsThere new) e loads.there)
-    (cases_lt q number)
-
--- all blocks of a range
-pub load_done : (old mid new : LoadedFile) (at n number : ℕ) → 0 < old.block → 0 < n → Keeps old mid
-    → ((q : ℕ) → at / old.block ≤ q → q < number → IsThere mid q) → (at + (n - 1)) / old.block ≤ number
-    → Loads mid new ((at + (n - 1)) / old.block) → LoadsMore old new at n
-load_done old mid new at n number positive some keeps before done loads =
-    let all = keeps_more old mid new keeps loads.keeps in
-    let same : new.block ≡ old.block = all.block in
-    let stays : (q : ℕ) → at / old.block ≤ q → q < (at + (n - 1)) / old.block → IsThere new q =
-    λ q low high. loads.keeps.kept q (before q low (omega (arith, high, done))) in
-    record {
-      keeps = all;
-      there = blocks_there new at n (rw same positive) some (rw same stays) (rw same loads.there);
-    }
-
 -- a range of a file that is in memory
 pub same_range : (file : List ℕ) (f : LoadedFile) (at n : ℕ) → HasBytesOf file f → length file ≡ f.length → 0 < f.block
     → AreThere f at n → (i : ℕ) → i < n → slice_index file (at + i) ≡ slice_index (loaded_bytes f) (at + i)
 same_range file f at n has len positive there i h = same_byte file f has len positive (at + i) (there (at + i) (omega arith) (omega (arith, h)))
-
--- a file of one block, which is all of it
-pub whole_bytes : (f : LoadedFile) (v : Vec ℕ Global) → f.length ≡ length v.items → f.length ≤ f.block
-    → block_at f 0 ≡ Some v → loaded_bytes f ≡ v.items
-whole_bytes f v len small here =
-    let n : length (loaded_bytes f) ≡ f.length = loaded_length f in
-    same_number_lists (loaded_bytes f) v.items (n ∙ len)
-    (λ k lt.
-    let inside : k < f.length = omega (arith, lt, n) in
-    let under : k < f.block = omega (arith, inside, small) in
-    byte_inside f k inside
-    ∙ ap (λ (q : ℕ). byte_in (block_at f q) (k % f.block)) (div-eq_of_lt under)
-    ∙ ap (byte_in (block_at f 0)) (mod-eq_of_lt under)
-    ∙ ap (λ (o : Option (Vec ℕ Global)). byte_in o k) here)

@@ -14,13 +14,10 @@ use Rattle.imago_qcow2.proofs.NumberSteps.{read64}
 use Rattle.imago_qcow2.proofs.HeaderSteps.{same32, same64}
 use Rattle.imago_loaded.specs.declared.loaded.LoadedFile.{LoadedFile}
 use Rattle.imago_loaded.specs.Loaded.{loaded_bytes, HasBytesOf, AreThere, Keeps}
-use Rattle.imago_loaded.specs.Tables.{AreLoaded, HaveSameStart}
+use Rattle.imago_loaded.specs.Tables.{AreLoaded}
 use Rattle.imago_loaded.proofs.LoadedSteps.{loaded_length, byte_at, same_range, there_stays}
 
--- tables that were in memory before stay so, and with one more there are more
-pub tables_stay : (entries : List ℕ) (cluster file n : ℕ) (a b : LoadedFile) → Keeps a b → AreLoaded entries cluster file n a → AreLoaded entries cluster file n b
-tables_stay entries cluster file n a b keeps h i at lt is = there_stays a b at cluster keeps (h i at lt is)
-
+-- with one table more in memory there are more
 pub tables_more : (entries : List ℕ) (cluster file n : ℕ) (a b : LoadedFile) → Keeps a b → AreLoaded entries cluster file n a
     → ((at : ℕ) → table_in_entry file cluster (be64 entries (8 * n)) ≡ L2Table.Stored at → AreThere b at cluster)
     → AreLoaded entries cluster file (n + 1) b
@@ -77,14 +74,3 @@ module _ (file head entries : List ℕ) (f : LoadedFile) (start count cluster si
             let under : k < cluster = (let e = own_cluster in omega (arith, e, lt)) in
             same_range file f at cluster has whole positive (l2 i at inside says) k under;
       }
-
--- the first cluster of a file of which it is in memory
-pub loads_start : (file head : List ℕ) (f : LoadedFile) (cluster size : ℕ)
-    → head ≡ bytes_at file 0 112 → cluster ≡ cluster_length head → length file ≡ size
-    → HasBytesOf file f → f.length ≡ size → 0 < f.block → AreThere f 0 cluster
-    → HaveSameStart file (loaded_bytes f)
-loads_start file head f cluster size head_is cluster_is size_is has len positive there =
-    let same : (i : ℕ) → i < 112 → slice_index head i ≡ slice_index file i =
-    λ i h. (let e : 0 + i ≡ i = omega arith in byte_at file head 0 112 i head_is h ∙ ap (slice_index file) e) in
-    let own : cluster ≡ cluster_length file = cluster_is ∙ ap (λ (n : ℕ). 2 ^ n) (same32 file head same 20 (omega arith)) in
-    λ i lt. same_range file f 0 cluster has (size_is ∙ sym len) positive there i (let e = own in omega (arith, e, lt))

@@ -59,8 +59,3 @@ pub record Keeps (old new : LoadedFile) : Type 0 where
 pub record Loads (old new : LoadedFile) (n : ℕ) : Type 0 where
   pub keeps : Keeps old new
   pub there : IsThere new n
-
--- the blocks in which these bytes lie are loaded
-pub record LoadsMore (old new : LoadedFile) (at n : ℕ) : Type 0 where
-  pub keeps : Keeps old new
-  pub there : AreThere new at n

@@ -1,8 +1,7 @@
 use Rattle.std.specs.Prelude.{◌≡◌, ℕ, ◌*◌, ◌<◌, List}
 use Rattle.imago_qcow2.specs.declared.entry.L2Table.{L2Table}
 use Rattle.imago_qcow2.specs.Numbers.{be64}
-use Rattle.imago_qcow2.specs.Entry.{table_in_entry, cluster_length}
-use Rattle.imago_qcow2.specs.Disk.{AreSameBytes}
+use Rattle.imago_qcow2.specs.Entry.{table_in_entry}
 use Rattle.imago_loaded.specs.declared.loaded.LoadedFile.{LoadedFile}
 use Rattle.imago_loaded.specs.Loaded.{AreThere}
 
@@ -11,7 +10,3 @@ abbrev pub AreLoaded : List ℕ → ℕ → ℕ → ℕ → LoadedFile → Type 
 AreLoaded entries cluster file n f = (i : ℕ) (at : ℕ) → i < n
     → table_in_entry file cluster (be64 entries (8 * i)) ≡ L2Table.Stored at
     → AreThere f at cluster
-
--- two files agree on the first cluster, in which the header and what follows it stand
-abbrev pub HaveSameStart : List ℕ → List ℕ → Type 0
-HaveSameStart a b = AreSameBytes a b 0 (cluster_length a)

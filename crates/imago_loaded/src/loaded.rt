@@ -1,15 +1,12 @@
 //! A file of which some blocks are in memory.
-ghost use Rattle.std.specs.Prelude.{◌≡◌, ℕ, ◌+◌, ◌%◌, ◌<◌, ◌≤◌, List, length, Some};
-ghost use Rattle.std.specs.Prelude.{OnOk, IfOk};
-ghost use Rattle.imago_plan.specs.PieceBytes.{bytes_at};
+ghost use Rattle.std.specs.Prelude.{◌≡◌, ℕ, ◌+◌, ◌*◌, ◌%◌, ◌<◌, ◌≤◌, List, length, slice_index};
+ghost use Rattle.std.specs.Prelude.{OnOk};
 ghost use Rattle.imago_storage.specs.Bytes.{IsReadAt};
 ghost use Rattle.imago_storage.specs.IoCount.{no_work};
 ghost use Rattle.imago_storage.specs.Maintenance.{no_maintenance};
 ghost use Rattle.imago_storage.specs.Openings.{no_openings};
 ghost use Rattle.imago_loaded.specs.Features.{loaded_features, loaded_lawful};
 
-use imago_plan::copy::Sources;
-use imago_plan::piece::Location;
 use imago_qcow2::fault::HeaderFault;
 use imago_storage::error::Error;
 use imago_storage::storage::{
@@ -92,26 +89,8 @@ fn copy_out(bytes: &[u8], buf: &mut [u8], index: usize)
     buf[count..].fill(0);
 }
 
-/// So many bytes of a file from the offset on, with 0 past its end. The location names the file.
-pub(crate) fn read_part<S: Sources>(
-    alloc: Global,
-    sources: &S,
-    file: Location,
-    offset: u64,
-    count: u64,
-) -> Result<Vec<u8>, LoadError>
-    ensures whole { IfOk result (λ part. length part.items ≡ count) }
-    ensures bytes { IfOk result (λ part. (bytes : ℕ → ℕ → List ℕ)
-        → S.contents sources.now ≡ Some bytes
-        → part.items ≡ bytes_at (bytes file.layer file.storage) offset count) }
-{
-    let mut part = vec![in alloc; 0u8; count as usize]?;
-    sources.read_at(Location { offset, ..file }, &mut part)?;
-    Ok(part)
-}
-
 impl LoadedFile {
-    ghost use Rattle.imago_loaded.specs.Loaded.{loaded_bytes, Loads, LoadsMore, HasBytesOf};
+    ghost use Rattle.imago_loaded.specs.Loaded.{loaded_bytes, Loads, HasBytesOf};
     ghost use Rattle.imago_loaded.specs.Loaded.{block_length, file_length};
 
     /// A file of that many bytes, in blocks of so many. None is in memory.
@@ -126,20 +105,6 @@ impl LoadedFile {
             block,
             blocks: BTreeMap::new(alloc),
         }
-    }
-
-    /// A file that has these bytes, all in memory.
-    pub fn whole(alloc: Global, bytes: Vec<u8>) -> Result<Self, AllocError>
-        ensures { IfOk result (λ file. loaded_bytes file ≡ bytes.items) }
-    {
-        let length = bytes.len() as u64;
-        let mut blocks = BTreeMap::new(alloc);
-        blocks.insert(0, bytes)?;
-        Ok(LoadedFile {
-            length,
-            block: length.max(1),
-            blocks,
-        })
     }
 
     /// How many bytes from the offset on, which is inside the file, are of one block and inside the
@@ -190,56 +155,18 @@ impl LoadedFile {
         }
     }
 
-    /// Loads the block of that number, if it isn't in memory.
-    fn load_block<S: Sources>(
-        &mut self,
-        alloc: Global,
-        sources: &S,
-        file: Location,
-        number: u64,
-    ) -> Result<(), LoadError>
+    /// Puts the block of that number into memory, and lets go of one that was there.
+    ///
+    /// [`Error::Memory`] in [`LoadError::Image`] is no room for it.
+    pub fn put_block(&mut self, number: u64, block: Vec<u8>) -> Result<(), LoadError>
         ensures loaded { OnOk result (Loads self.old self.new number) }
-        ensures bytes { OnOk result ((bytes : ℕ → ℕ → List ℕ) → S.contents sources.now ≡ Some bytes
-            → HasBytesOf (bytes file.layer file.storage) self.old
-            → HasBytesOf (bytes file.layer file.storage) self.new) }
+        ensures bytes { OnOk result ((file : List ℕ)
+            → ((i : ℕ) → i < block_length self.old → slice_index block.items i
+            ≡ slice_index file (number * block_length self.old + i))
+            → HasBytesOf file self.old
+            → HasBytesOf file self.new) }
     {
-        if self.blocks.get(&number).is_some() {
-            return Ok(());
-        }
-        let Some(offset) = number.checked_mul(self.block) else {
-            return Err(LoadError::Image(Error::InvalidData));
-        };
-        let block = read_part(alloc, sources, file, offset, self.block)?;
         self.blocks.insert(number, block)?;
-        Ok(())
-    }
-
-    /// Loads the blocks that lie in a range of the file.
-    pub fn load<S: Sources>(
-        &mut self,
-        alloc: Global,
-        sources: &S,
-        file: Location,
-        at: u64,
-        count: u64,
-    ) -> Result<(), LoadError>
-        requires { at + count < 18446744073709551616 }
-        ensures loaded { OnOk result (LoadsMore self.old self.new at count) }
-        ensures bytes { OnOk result ((bytes : ℕ → ℕ → List ℕ) → S.contents sources.now ≡ Some bytes
-            → HasBytesOf (bytes file.layer file.storage) self.old
-            → HasBytesOf (bytes file.layer file.storage) self.new) }
-    {
-        if count == 0 {
-            return Ok(());
-        }
-        let first = at / self.block;
-        let last = (at + (count - 1)) / self.block;
-        let mut number = first;
-        while number < last {
-            self.load_block(alloc, sources, file, number)?;
-            number += 1;
-        }
-        self.load_block(alloc, sources, file, last)?;
         Ok(())
     }
 }

@@ -1,9 +1,6 @@
 pub mod Mapped
 pub mod Pieces
-pub mod Copies
 pub mod BytesAt
-pub mod Differences
 pub mod Disks
 pub mod Layers
 pub mod Described
-pub mod Values

@@ -1,8 +1,7 @@
-use Rattle.std.specs.Prelude.{ℕ, zero, suc, List, []}
+use Rattle.std.specs.Prelude.{ℕ, List}
 use Rattle.imago_drivers.specs.Place.{Value, Byte, shown}
 use Rattle.imago_drivers.specs.View.{View}
-use Rattle.imago_access.specs.declared.access.FormatAccess.{FormatAccess, FormatAccess'}
-use Rattle.imago_access.specs.declared.access.FormatAccess.{Held-FormatAccess-backing, None', Some'}
+use Rattle.imago_access.specs.declared.access.FormatAccess.{FormatAccess}
 use Rattle.imago_access.specs.Chain.{driver}
 use Rattle.imago_access.specs.Disk.{values_from}
 use Rattle.imago_access.specs.Target.{Target, target}
@@ -18,14 +17,3 @@ abbrev pub disk_with :
     {D St : Type 0} → (D → View St) → FormatAccess D → (ℕ → ℕ → List ℕ) → List Value
 disk_with view x bytes =
     values_from (λ p. target_value bytes (target view x p)) 0 (view (driver x)).size
-
-abbrev mutual
-  -- the bytes of the storages of an image, by the layer and the storage's index there
-  pub layer_bytes : {D St : Type 0} → (D → View St) → FormatAccess D → ℕ → ℕ → List ℕ
-  layer_bytes view (FormatAccess' inner below) zero index = (view inner).stores.bytes index
-  layer_bytes view (FormatAccess' inner below) (suc layer) index =
-      bytes_below view below layer index
-
-  pub bytes_below : {D St : Type 0} → (D → View St) → Held-FormatAccess-backing D → ℕ → ℕ → List ℕ
-  bytes_below view None' layer index = []
-  bytes_below view (Some' k x) layer index = layer_bytes view x layer index

@@ -78,8 +78,6 @@ fn call_laws_of_images<D: FormatDriverInstance>() {
     images::commits_succeed::<D>();
     images::flushes_succeed::<D>();
     plans::plans_show_stored_bytes::<D>();
-    plans::plans_show_the_disk::<D>();
-    plans::differences_of_disks::<D, D>();
     plans::top_layers_lead_nowhere::<D>();
 }
 
@@ -95,7 +93,6 @@ fn call_laws_of_raw<S: Storage>(storage: S) -> Result<(), Error> {
     let raw = Raw::open_image(storage, true)?;
     drivers::raw_images_refuse_nothing(&raw);
     drivers::raw_image_stands_in_its_storage(&raw);
-    plans::plans_of_raw(&FormatAccess::new(raw));
     Ok(())
 }
 

@@ -1,0 +1,8 @@
+//! Images in files, opened by their paths.
+
+pub use imago_images::failure::{OpenError, Reason};
+pub use imago_images::file::{PathFile, PathStorage};
+pub use imago_images::files::{FileKind, FileStatus, Files};
+pub use imago_images::format::ImageFormat;
+pub use imago_images::opener::{FileImage, open_image};
+pub use imago_images::opening::{Opening, OtherFiles};

@@ -1,5 +1,0 @@
-use Rattle.imago_copy.specs.Differences.{AreSameBefore}
-use Rattle.imago_plan.proofs.compare.first_difference.Given as goal
-
-abbrev pub invariant-loop-i : goal.invariant-loop-i
-invariant-loop-i l = AreSameBefore l.left l.right l.i
