@@ -1,3 +1,4 @@
 pub mod ReadOnly
 pub mod BehindHeader
 pub mod BehindHeaderLaws
+pub mod ByPath
