@@ -46,6 +46,8 @@ struct Recorder {
 impl Target for Recorder {
     ghost contents = { λ _. None };
 
+    ghost made_for = { λ _. None };
+
     fn append(&mut self, source: &[u8]) -> io::Result<()> {
         self.calls.push(Put::Bytes(source.len()))?;
         Target::append(&mut self.bytes, source)
