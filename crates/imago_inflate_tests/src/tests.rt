@@ -19,12 +19,12 @@ const STORED: [u8; 11] = [1, 6, 0, 249, 255, 115, 116, 111, 114, 101, 100];
 
 /// A block with codes of its own: `POWERS` at level 9.
 const OWN: [u8; 110] = [
-    29, 142, 193, 1, 3, 65, 8, 2, 91, 161, 4, 81, 68, 183, 255, 198, 226, 229, 43, 194, 12, 145, 16,
-    22, 52, 42, 97, 129, 185, 200, 54, 154, 9, 70, 10, 25, 90, 40, 158, 177, 124, 119, 115, 173,
-    238, 119, 188, 112, 119, 25, 44, 198, 36, 210, 73, 9, 157, 202, 189, 189, 107, 245, 248, 218,
-    111, 216, 199, 224, 83, 197, 145, 106, 215, 241, 241, 102, 38, 63, 106, 117, 75, 31, 123, 24,
-    151, 157, 65, 41, 121, 225, 121, 120, 85, 173, 207, 166, 188, 19, 239, 239, 52, 53, 226, 126,
-    102, 212, 104, 203, 218, 31,
+    29, 142, 193, 1, 3, 65, 8, 2, 91, 161, 4, 81, 68, 183, 255, 198, 226, 229, 43, 194, 12, 145,
+    16, 22, 52, 42, 97, 129, 185, 200, 54, 154, 9, 70, 10, 25, 90, 40, 158, 177, 124, 119, 115,
+    173, 238, 119, 188, 112, 119, 25, 44, 198, 36, 210, 73, 9, 157, 202, 189, 189, 107, 245, 248,
+    218, 111, 216, 199, 224, 83, 197, 145, 106, 215, 241, 241, 102, 38, 63, 106, 117, 75, 31, 123,
+    24, 151, 157, 65, 41, 121, 225, 121, 120, 85, 173, 207, 166, 188, 19, 239, 239, 52, 53, 226,
+    126, 102, 212, 104, 203, 218, 31,
 ];
 
 /// The first 32 powers of two.
@@ -48,35 +48,95 @@ struct Row {
 }
 
 static FIRST_ROWS: [Row; 31] = [
-    Row { stream: &FIXED, room: 24, gives: Ok(HELLO) },
-    Row { stream: &FIXED, room: 7, gives: Ok(b"hello h") },
-    Row { stream: &FIXED, room: 0, gives: Ok(b"") },
-    Row { stream: &STORED, room: 6, gives: Ok(b"stored") },
-    Row { stream: &STORED, room: 3, gives: Ok(b"sto") },
-    Row { stream: &OWN, room: 198, gives: Ok(POWERS) },
-    Row { stream: &FLUSHED, room: 7, gives: Ok(b"one two") },
+    Row {
+        stream: &FIXED,
+        room: 24,
+        gives: Ok(HELLO),
+    },
+    Row {
+        stream: &FIXED,
+        room: 7,
+        gives: Ok(b"hello h"),
+    },
+    Row {
+        stream: &FIXED,
+        room: 0,
+        gives: Ok(b""),
+    },
+    Row {
+        stream: &STORED,
+        room: 6,
+        gives: Ok(b"stored"),
+    },
+    Row {
+        stream: &STORED,
+        room: 3,
+        gives: Ok(b"sto"),
+    },
+    Row {
+        stream: &OWN,
+        room: 198,
+        gives: Ok(POWERS),
+    },
+    Row {
+        stream: &FLUSHED,
+        room: 7,
+        gives: Ok(b"one two"),
+    },
     // A literal and a copy of three bytes from one byte before, and the end.
-    Row { stream: &[75, 4, 2, 0], room: 4, gives: Ok(b"aaaa") },
+    Row {
+        stream: &[75, 4, 2, 0],
+        room: 4,
+        gives: Ok(b"aaaa"),
+    },
     // The same with the single code that there is for distances, of one bit.
     Row {
         stream: &[13, 192, 1, 1, 0, 0, 0, 128, 144, 173, 254, 159, 40, 22],
         room: 4,
         gives: Ok(b"aaaa"),
     },
-    Row { stream: &FIXED, room: 25, gives: Err(InflateError::TooShort) },
-    Row { stream: &STORED, room: 7, gives: Err(InflateError::TooShort) },
-    Row { stream: &[], room: 1, gives: Err(InflateError::EndsEarly) },
-    Row { stream: &[203, 72, 205], room: 24, gives: Err(InflateError::EndsEarly) },
-    Row { stream: &[1, 6, 0], room: 1, gives: Err(InflateError::EndsEarly) },
+    Row {
+        stream: &FIXED,
+        room: 25,
+        gives: Err(InflateError::TooShort),
+    },
+    Row {
+        stream: &STORED,
+        room: 7,
+        gives: Err(InflateError::TooShort),
+    },
+    Row {
+        stream: &[],
+        room: 1,
+        gives: Err(InflateError::EndsEarly),
+    },
+    Row {
+        stream: &[203, 72, 205],
+        room: 24,
+        gives: Err(InflateError::EndsEarly),
+    },
+    Row {
+        stream: &[1, 6, 0],
+        room: 1,
+        gives: Err(InflateError::EndsEarly),
+    },
     Row {
         stream: &[1, 6, 0, 249, 255, 115, 116, 111, 114, 101],
         room: 6,
         gives: Err(InflateError::EndsEarly),
     },
     // "invalid block type"
-    Row { stream: &[7], room: 1, gives: Err(InflateError::BlockKind) },
+    Row {
+        stream: &[7],
+        room: 1,
+        gives: Err(InflateError::BlockKind),
+    },
     // "invalid stored block lengths"
-    Row { stream: &[1, 6, 0, 250, 255, 115], room: 1, gives: Err(InflateError::StoredLength) },
+    Row {
+        stream: &[1, 6, 0, 250, 255, 115],
+        room: 1,
+        gives: Err(InflateError::StoredLength),
+    },
     // "too many length or distance symbols": 287 and 1, then 257 and 31
     Row {
         stream: &[245, 0, 0, 0, 0, 0, 0, 0, 0, 0],
@@ -89,14 +149,22 @@ static FIRST_ROWS: [Row; 31] = [
         gives: Err(InflateError::CodeLengths),
     },
     // "invalid code lengths set": one code of one bit, then three of them
-    Row { stream: &[5, 0, 2, 0, 0, 0, 0, 0, 0], room: 1, gives: Err(InflateError::CodeLengths) },
+    Row {
+        stream: &[5, 0, 2, 0, 0, 0, 0, 0, 0],
+        room: 1,
+        gives: Err(InflateError::CodeLengths),
+    },
     Row {
         stream: &[5, 0, 146, 0, 0, 0, 0, 0, 0],
         room: 1,
         gives: Err(InflateError::CodeLengths),
     },
     // "invalid bit length repeat": of none, then past the last one
-    Row { stream: &[5, 0, 130, 0, 0, 0], room: 1, gives: Err(InflateError::CodeLengths) },
+    Row {
+        stream: &[5, 0, 130, 0, 0, 0],
+        room: 1,
+        gives: Err(InflateError::CodeLengths),
+    },
     Row {
         stream: &[5, 0, 132, 200, 223, 31, 0, 0],
         room: 1,
@@ -126,16 +194,30 @@ static FIRST_ROWS: [Row; 31] = [
         gives: Err(InflateError::CodeLengths),
     },
     // "invalid literal/length code": 286
-    Row { stream: &[27, 3], room: 1, gives: Err(InflateError::Symbol) },
-    // "invalid distance code": 30, then one where there is none
-    Row { stream: &[75, 4, 62], room: 4, gives: Err(InflateError::Symbol) },
     Row {
-        stream: &[13, 192, 129, 5, 0, 0, 0, 192, 160, 91, 251, 255, 137, 141, 1],
+        stream: &[27, 3],
+        room: 1,
+        gives: Err(InflateError::Symbol),
+    },
+    // "invalid distance code": 30, then one where there is none
+    Row {
+        stream: &[75, 4, 62],
+        room: 4,
+        gives: Err(InflateError::Symbol),
+    },
+    Row {
+        stream: &[
+            13, 192, 129, 5, 0, 0, 0, 192, 160, 91, 251, 255, 137, 141, 1,
+        ],
         room: 4,
         gives: Err(InflateError::Symbol),
     },
     // "invalid distance too far back"
-    Row { stream: &[75, 4, 66, 0], room: 4, gives: Err(InflateError::Distance) },
+    Row {
+        stream: &[75, 4, 66, 0],
+        room: 4,
+        gives: Err(InflateError::Distance),
+    },
 ];
 
 /// A whole stream, how many bytes of the input it takes, and as above.
@@ -148,25 +230,57 @@ struct WholeRow {
 }
 
 static WHOLE_ROWS: [WholeRow; 8] = [
-    WholeRow { stream: &FIXED, room: 25, used: 11, gives: Ok(HELLO) },
+    WholeRow {
+        stream: &FIXED,
+        room: 25,
+        used: 11,
+        gives: Ok(HELLO),
+    },
     // The frame's checksum stands behind the stream.
     WholeRow {
-        stream: &[203, 72, 205, 201, 201, 87, 200, 64, 39, 185, 0, 112, 190, 8, 187],
+        stream: &[
+            203, 72, 205, 201, 201, 87, 200, 64, 39, 185, 0, 112, 190, 8, 187,
+        ],
         room: 100,
         used: 11,
         gives: Ok(HELLO),
     },
-    WholeRow { stream: &FLUSHED, room: 8, used: 15, gives: Ok(b"one two") },
-    WholeRow { stream: &[3, 0], room: 1, used: 2, gives: Ok(b"") },
-    WholeRow { stream: &FIXED, room: 24, used: 0, gives: Err(InflateError::TooLong) },
-    WholeRow { stream: &FIXED, room: 0, used: 0, gives: Err(InflateError::TooLong) },
+    WholeRow {
+        stream: &FLUSHED,
+        room: 8,
+        used: 15,
+        gives: Ok(b"one two"),
+    },
+    WholeRow {
+        stream: &[3, 0],
+        room: 1,
+        used: 2,
+        gives: Ok(b""),
+    },
+    WholeRow {
+        stream: &FIXED,
+        room: 24,
+        used: 0,
+        gives: Err(InflateError::TooLong),
+    },
+    WholeRow {
+        stream: &FIXED,
+        room: 0,
+        used: 0,
+        gives: Err(InflateError::TooLong),
+    },
     WholeRow {
         stream: &[203, 72, 205, 201, 201, 87, 200, 64, 39, 185],
         room: 25,
         used: 0,
         gives: Err(InflateError::EndsEarly),
     },
-    WholeRow { stream: &[3], room: 1, used: 0, gives: Err(InflateError::EndsEarly) },
+    WholeRow {
+        stream: &[3],
+        room: 1,
+        used: 0,
+        gives: Err(InflateError::EndsEarly),
+    },
 ];
 
 /// A stream in zlib's frame, and as above.
@@ -178,20 +292,44 @@ struct FrameRow {
 }
 
 static FRAME_ROWS: [FrameRow; 12] = [
-    FrameRow { stream: &FRAMED, room: 25, gives: Ok(HELLO) },
+    FrameRow {
+        stream: &FRAMED,
+        room: 25,
+        gives: Ok(HELLO),
+    },
     // A window of 512 bytes.
     FrameRow {
         stream: &[24, 211, 75, 201, 44, 206, 6, 0, 4, 32, 1, 172],
         room: 5,
         gives: Ok(b"disk"),
     },
-    FrameRow { stream: &[], room: 25, gives: Err(UnzipError::Header) },
-    FrameRow { stream: &[120], room: 25, gives: Err(UnzipError::Header) },
+    FrameRow {
+        stream: &[],
+        room: 25,
+        gives: Err(UnzipError::Header),
+    },
+    FrameRow {
+        stream: &[120],
+        room: 25,
+        gives: Err(UnzipError::Header),
+    },
     // "incorrect header check": another method, then no multiple of 31
-    FrameRow { stream: &[121, 218, 3, 0], room: 25, gives: Err(UnzipError::Header) },
-    FrameRow { stream: &[120, 219, 3, 0], room: 25, gives: Err(UnzipError::Header) },
+    FrameRow {
+        stream: &[121, 218, 3, 0],
+        room: 25,
+        gives: Err(UnzipError::Header),
+    },
+    FrameRow {
+        stream: &[120, 219, 3, 0],
+        room: 25,
+        gives: Err(UnzipError::Header),
+    },
     // "invalid window size"
-    FrameRow { stream: &[136, 28, 3, 0], room: 25, gives: Err(UnzipError::Header) },
+    FrameRow {
+        stream: &[136, 28, 3, 0],
+        room: 25,
+        gives: Err(UnzipError::Header),
+    },
     // a preset dictionary, which zlib asks for
     FrameRow {
         stream: &[120, 249, 4, 9, 1, 165, 75, 1, 98, 0, 4, 9, 1, 165],
@@ -211,12 +349,16 @@ static FRAME_ROWS: [FrameRow; 12] = [
     },
     // "incorrect data check"
     FrameRow {
-        stream: &[120, 218, 203, 72, 205, 201, 201, 87, 200, 64, 39, 185, 0, 112, 190, 8, 186],
+        stream: &[
+            120, 218, 203, 72, 205, 201, 201, 87, 200, 64, 39, 185, 0, 112, 190, 8, 186,
+        ],
         room: 25,
         gives: Err(UnzipError::Checksum),
     },
     FrameRow {
-        stream: &[120, 218, 203, 72, 205, 201, 201, 87, 200, 64, 39, 185, 0, 112, 190, 8],
+        stream: &[
+            120, 218, 203, 72, 205, 201, 201, 87, 200, 64, 39, 185, 0, 112, 190, 8,
+        ],
         room: 25,
         gives: Err(UnzipError::Checksum),
     },
@@ -249,7 +391,10 @@ fn whole_streams_come_out(rt: &impl Abort) {
         let answer = inflate_whole(row.stream, output);
         match row.gives {
             Ok(bytes) => {
-                let ended = Ended { written: bytes.len(), used: row.used };
+                let ended = Ended {
+                    written: bytes.len(),
+                    used: row.used,
+                };
                 assert_eq!(rt; answer, Ok(ended));
                 assert!(rt; &room[..bytes.len()] == bytes);
             }
