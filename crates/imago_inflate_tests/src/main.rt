@@ -33,8 +33,6 @@ fn tell<W: Write>(output: &mut W, bytes: &[u8], used: usize) -> io::Result<()> {
 
 /// Tries what the letter says: `i` the first bytes, `w` the whole stream, and else zlib's frame.
 fn answer<W: Write>(output: &mut W, letter: u8, stream: &[u8], room: &mut [u8]) -> io::Result<()> {
-    let size = room.len().min(MOST);
-    let room = &mut room[..size];
     match letter {
         b'i' => match inflate(stream, room) {
             Ok(()) => tell(output, room, 0),
