@@ -47,7 +47,7 @@ struct Row {
     gives: Result<&'static [u8], InflateError>,
 }
 
-static FIRST_ROWS: [Row; 31] = [
+static FIRST_ROWS: [Row; 34] = [
     Row {
         stream: &FIXED,
         room: 24,
@@ -95,6 +95,18 @@ static FIRST_ROWS: [Row; 31] = [
         room: 4,
         gives: Ok(b"aaaa"),
     },
+    // 30 distances, the most that there may be.
+    Row {
+        stream: &[5, 221, 129, 0, 0, 0, 0, 0, 144, 86, 255, 19, 140, 16],
+        room: 1,
+        gives: Ok(b"a"),
+    },
+    // 286 literals and lengths, the most that there may be, and the end alone.
+    Row {
+        stream: &[237, 192, 1, 5, 0, 0, 0, 0, 160, 255, 175, 59, 18],
+        room: 1,
+        gives: Err(InflateError::TooShort),
+    },
     Row {
         stream: &FIXED,
         room: 25,
@@ -137,14 +149,19 @@ static FIRST_ROWS: [Row; 31] = [
         room: 1,
         gives: Err(InflateError::StoredLength),
     },
-    // "too many length or distance symbols": 287 and 1, then 257 and 31
     Row {
-        stream: &[245, 0, 0, 0, 0, 0, 0, 0, 0, 0],
+        stream: &[1, 6, 0, 248, 255, 115],
+        room: 1,
+        gives: Err(InflateError::StoredLength),
+    },
+    // "too many length or distance symbols": 287, then 31
+    Row {
+        stream: &[245, 192, 1, 5, 0, 0, 0, 0, 160, 255, 175, 91, 18],
         room: 1,
         gives: Err(InflateError::CodeLengths),
     },
     Row {
-        stream: &[5, 30, 0, 0, 0, 0, 0, 0, 0, 0],
+        stream: &[5, 222, 129, 0, 0, 0, 0, 0, 144, 86, 255, 19, 148, 16],
         room: 1,
         gives: Err(InflateError::CodeLengths),
     },
