@@ -1,5 +1,5 @@
 -- What the calls of an open file are, and which of them a storage over it makes.
-use Rattle.std.specs.Prelude.{◌≡◌, ℕ, ◌+◌, ◌<◌, ◌&&◌, Bool, true, false, List, replicate}
+use Rattle.std.specs.Prelude.{◌≡◌, ℕ, ◌+◌, ◌-◌, ◌^◌, ◌<◌, ◌&&◌, Bool, true, false, List, replicate}
 use Rattle.std.specs.Prelude.{nat_lt, length, max, min, Result, Ok, Err, OnOk, OnErr}
 use Rattle.std.specs.declared.io.Error.{Error as IoError}
 use Rattle.imago_storage.specs.declared.error.Error.{Error}
@@ -46,6 +46,12 @@ pub record IsPassedOn (call : Answer → Type 0) (result : Result (Unit {0}) Err
   pub answer : Answer
   pub made : call answer
   pub result_is : result ≡ storage_answer answer
+
+-- The count of faults behind a call: one more where the device refused it, up to the greatest count,
+-- and else as it was.
+abbrev pub faults_behind : ℕ → Result (Unit {0}) Error → ℕ
+faults_behind count (Err Device) = min (count + 1) (2 ^ 64 - 1)
+faults_behind count _ = count
 
 -- The length that a file of that length is taken to have behind a refused write up to some end, by
 -- what it answers when it is asked: no less than it had, and no more than the write would have made

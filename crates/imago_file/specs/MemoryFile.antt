@@ -1,5 +1,6 @@
 -- What the calls of a file in memory are.
-use Rattle.std.specs.Prelude.{◌≡◌, ℕ, ◌+◌, ◌-◌, ◌^◌, List, min, length, Ok, OnOk, OnErr}
+use Rattle.std.specs.Prelude.{◌≡◌, ◌≤◌, ℕ, ◌+◌, ◌-◌, ◌^◌, List, min, length, Ok}
+use Rattle.std.specs.Prelude.{IsOk, OnOk, OnErr}
 use Rattle.imago_storage.specs.Bytes.{splice, IsReadAt}
 use Rattle.imago_file.specs.declared.host.MemoryFile.{MemoryFile}
 use Rattle.imago_file.specs.Contents.{sized}
@@ -9,10 +10,12 @@ use Rattle.imago_file.specs.FileCalls.{FileCalls, Answer}
 abbrev pub sync_count : MemoryFile → ℕ
 sync_count f = f.syncs
 
--- A change of the bytes: made, or refused with nothing changed. It syncs nothing.
+-- A change of the bytes: made, or refused with nothing changed. One that makes the file no longer
+-- isn't refused. It syncs nothing.
 pub record IsMemoryChange (target : List ℕ) (old new : MemoryFile) (answer : Answer) : Type 0 where
   pub done : OnOk answer (new.bytes.items ≡ target)
   pub refused : OnErr answer (new.bytes.items ≡ old.bytes.items)
+  pub within : length target ≤ length old.bytes.items → IsOk answer
   pub syncs : sync_count new ≡ sync_count old
 
 -- Lengths, reads and syncs aren't refused, and a sync is counted.

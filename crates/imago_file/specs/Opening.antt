@@ -1,6 +1,6 @@
 -- What it is to open a file as a storage, and to create one.
 use Rattle.std.specs.Prelude.{◌≡◌, ℕ, ◌⊎◌, Bool, true, false, List, length, Option, Some, None}
-use Rattle.std.specs.Prelude.{is_some, IfSome, Result, Ok, Err}
+use Rattle.std.specs.Prelude.{is_some, IfSome, IsTrue, Result, Ok, Err}
 use Rattle.std.specs.IoError.{error_kind}
 use Rattle.std.specs.declared.io.Error.{Error as IoError}
 use Rattle.std.specs.declared.io.ErrorKind.{ErrorKind}
@@ -21,19 +21,23 @@ FileOpening Host File = List ℕ → Bool → Host → Host → Result File IoEr
 abbrev pub any_opening : {Host File : Type 0} → FileOpening Host File
 any_opening path flag old new answer = Unit {0}
 
--- what is seen of the storage of a file
-pub record IsStorageOf {S File : Type 0} (features_of : S → Features) (bytes_of : S → List ℕ)
-    (contents_of : File → Option (List ℕ)) (calls : FileCalls File) (name : Option (List ℕ))
-    (writable : Bool) (file : File) (storage : S) : Type 0 where
+-- The storage of a file: it has that very file, and is seen so.
+pub record IsStorageOf {S File : Type 0} (file_of : S → File) (features_of : S → Features)
+    (bytes_of : S → List ℕ) (contents_of : File → Option (List ℕ)) (calls : FileCalls File)
+    (name : Option (List ℕ)) (writable : Bool) (file : File) (storage : S) : Type 0 where
+  pub has : file_of storage ≡ file
   pub features : features_of storage ≡ file_features name writable (is_some (contents_of file))
   pub bytes : IfSome (contents_of file) (λ held. bytes_of storage ≡ held)
   pub measured : calls.measured file (Ok (length (bytes_of storage)))
 
--- The options name no file, ask for what isn't offered, or there is no memory for the name.
+-- The first of these: the options ask for direct access, which isn't offered, or name no file, or
+-- there is no memory for the name.
 abbrev pub IsNotAsked : OpenOptions → IoError → Type 0
 IsNotAsked options cause = ((options.direct ≡ true) × (error_kind cause ≡ Kind.Unsupported))
-    ⊎ ((options.filename ≡ None) × (error_kind cause ≡ Kind.InvalidInput))
-    ⊎ (error_kind cause ≡ Kind.OutOfMemory)
+    ⊎ ((options.direct ≡ false) × (options.filename ≡ None)
+    × (error_kind cause ≡ Kind.InvalidInput))
+    ⊎ ((options.direct ≡ false) × IsTrue (is_some options.filename)
+    × (error_kind cause ≡ Kind.OutOfMemory))
 
 -- the file that the options name, through the host's cache
 abbrev pub IsAsked : OpenOptions → List ℕ → Type 0

@@ -6,6 +6,10 @@ use Rattle.imago_file.specs.Contents.{told_bytes}
 use Rattle.imago_file.specs.Features.{file_features}
 use Rattle.imago_file.specs.declared.file.FileStorage.{FileStorage}
 
+-- the file
+abbrev pub file_of : {F : Type 0} {g : _} → FileStorage F g → F
+file_of s = s.file
+
 -- what never changes in it
 abbrev pub features_of : {F : Type 0} {g : _} → (F → Option (List ℕ)) → FileStorage F g → Features
 features_of contents s =

@@ -10,6 +10,7 @@ ghost use Rattle.imago_storage.specs.Openings.{no_openings};
 ghost use Rattle.imago_file.specs.Contents.{told_bytes, IsLong};
 ghost use Rattle.imago_file.specs.Features.{file_features, file_lawful};
 ghost use Rattle.imago_file.specs.FileCalls.{IsPassedOn, IsFileWrite, IsFileResize, length_asked};
+ghost use Rattle.imago_file.specs.FileCalls.{faults_behind};
 ghost use Rattle.imago_file.specs.Opening.{IsStorageOf};
 ghost use Rattle.imago_file.specs.Names.{path_beside as path_beside_file};
 
@@ -78,12 +79,15 @@ fn length_after_refusal<F: HostFile>(file: &F, length: u64, end: u64) -> u64
 }
 
 impl<F: HostFile> FileStorage<F> {
+    ghost use Rattle.imago_file.specs.StorageParts.{file_of};
+
     /// The storage of a file that is open, for writing too where `writable` says so, with the name
     /// that it can be opened by. It is refused where the file doesn't tell its length.
     pub fn new(file: F, name: Option<String>, writable: bool) -> io::Result<Self>
         ensures { MatchResult result
-            (IsStorageOf ⟦<FileStorage<F> as Storage>⟧.features ⟦<FileStorage<F> as Storage>⟧.bytes
-            F.contents F.calls (option_map string_bytes name) writable file)
+            (IsStorageOf file_of ⟦<FileStorage<F> as Storage>⟧.features
+            ⟦<FileStorage<F> as Storage>⟧.bytes F.contents F.calls (option_map string_bytes name)
+            writable file)
             (λ e. F.calls.measured file (Err e)) }
     {
         let length = file.length()?;
@@ -105,7 +109,8 @@ impl<F: HostFile> FileStorage<F> {
 
     /// The file.
     pub fn file(&self) -> &F
-        ensures { told_bytes (F.contents result.now)
+        ensures is { result.now ≡ file_of self.now }
+        ensures told { told_bytes (F.contents result.now)
             (length (⟦<FileStorage<F> as Storage>⟧.bytes self.now))
             ≡ ⟦<FileStorage<F> as Storage>⟧.bytes self.now }
     {
@@ -151,13 +156,17 @@ impl<F: HostFile> Storage for FileStorage<F> {
     ghost work = { λ _. no_work };
 
     ghost maintenance = { record no_maintenance {
-      flushed = λ a b r. IsPassedOn (F.calls.synced a.file b.file) r;
-      synced = λ a b r. IsPassedOn (F.calls.synced a.file b.file) r;
+      flushed = λ a b r. IsPassedOn (F.calls.synced a.file b.file) r
+          × (b.faults ≡ faults_behind a.faults r);
+      synced = λ a b r. IsPassedOn (F.calls.synced a.file b.file) r
+          × (b.faults ≡ faults_behind a.faults r);
       discarded = λ at n a b r. (b ≡ a) × (r ≡ Err Unsupported);
-      resized = λ n mode a b r. IsFileResize F.calls a.writable a.length n mode a.file b.file r;
-      counted = λ at buf a b r. (b.file ≡ a.file) × IsPassedOn (F.calls.read at buf a.file) r;
+      resized = λ n mode a b r. IsFileResize F.calls a.writable a.length n mode a.file b.file r
+          × (b.faults ≡ faults_behind a.faults r);
+      counted = λ at buf a b r. (b.file ≡ a.file) × IsPassedOn (F.calls.read at buf a.file) r
+          × (b.faults ≡ faults_behind a.faults r);
       written = λ at source a b r. IsFileWrite F.calls a.writable at source a.file b.file a.length
-          b.length r;
+          b.length r × (b.faults ≡ faults_behind a.faults r);
       zeroed_in_place = λ kind at n a b r. (b ≡ a) × (r ≡ Err Unsupported);
     } };
 

@@ -4,6 +4,7 @@ ghost use Rattle.std.specs.String.{string_bytes};
 ghost use Rattle.imago_storage.specs.Options.{open_options};
 ghost use Rattle.imago_file.specs.FileGate.{lets_through, IsGateOpening};
 ghost use Rattle.imago_file.specs.Opening.{IsFileOpening, IsStorageOf};
+ghost use Rattle.imago_file.specs.StorageParts.{file_of};
 
 use crate::file::FileStorage;
 use crate::name::lies_below;
@@ -32,12 +33,14 @@ pub struct FileGate<H: HostFiles> {
 }
 
 impl<H: HostFiles> FileGate<H> {
-    ghost use Rattle.imago_file.specs.GateParts.{folder_of};
+    ghost use Rattle.imago_file.specs.GateParts.{host_of, folder_of, kept_in};
 
     /// A gate that opens any file. An image then decides by itself what is opened, so only images
     /// that are trusted should be opened with it.
     pub fn any(host: H) -> Self
-        ensures { folder_of result ≡ None }
+        ensures host { host_of result ≡ «host» }
+        ensures folder { folder_of result ≡ None }
+        ensures kept { kept_in result ≡ None }
     {
         FileGate {
             host,
@@ -50,7 +53,9 @@ impl<H: HostFiles> FileGate<H> {
     /// beside itself it is the folder of the image's own name, as
     /// [`path_beside`](crate::name::path_beside) takes it.
     pub fn below(host: H, folder: String) -> Self
-        ensures { folder_of result ≡ Some (string_bytes folder) }
+        ensures host { host_of result ≡ «host» }
+        ensures folder { folder_of result ≡ Some (string_bytes folder) }
+        ensures kept { kept_in result ≡ None }
     {
         FileGate {
             host,
@@ -60,8 +65,10 @@ impl<H: HostFiles> FileGate<H> {
     }
 
     /// What the last opening was refused for, in the words of the host; nothing where it was the
-    /// gate that refused it.
-    pub fn last_error(&self) -> Option<io::Error> {
+    /// gate that refused it, where it succeeded, and before the first one.
+    pub fn last_error(&self) -> Option<io::Error>
+        ensures { result ≡ kept_in self.now }
+    {
         self.last_error
     }
 
@@ -77,13 +84,13 @@ impl<H: HostFiles> FileGate<H> {
 }
 
 impl<H: HostFiles> ImplicitOpenGate<FileStorage<H::File>> for FileGate<H> {
-    ghost use Rattle.imago_file.specs.GateParts.{folder_of};
+    ghost use Rattle.imago_file.specs.GateParts.{host_of, folder_of, kept_in};
 
     ghost opened = { λ o a b r. (folder_of b ≡ folder_of a)
         × IsGateOpening (folder_of a) (IsFileOpening H.opened H.File.calls
-        (IsStorageOf ⟦<FileStorage<H::File> as Storage>⟧.features
+        (IsStorageOf file_of ⟦<FileStorage<H::File> as Storage>⟧.features
         ⟦<FileStorage<H::File> as Storage>⟧.bytes H.File.contents H.File.calls) o)
-        o.filename a.host b.host b.last_error r };
+        o.filename (host_of a) (host_of b) (kept_in b) r };
 
     fn open_storage(
         &mut self,

@@ -238,6 +238,7 @@ fn grow(bytes: &mut Vec<u8>, size: usize) -> io::Result<()>
     ensures ok { OnOk result
         (bytes.new.items ≡ bytes.old.items ++ replicate (size - length bytes.old.items) 0) }
     ensures err { OnErr result (bytes.new.items ≡ bytes.old.items) }
+    ensures enough { size ≤ length bytes.old.items → IsOk result }
 {
     if size <= bytes.len() {
         return Ok(());
@@ -260,6 +261,7 @@ fn put(bytes: &mut Vec<u8>, source: &[u8], offset: u64) -> io::Result<()>
     requires { offset + length source.now < 2 ^ 64 }
     ensures ok { OnOk result (bytes.new.items ≡ splice bytes.old.items offset source.now) }
     ensures err { OnErr result (bytes.new.items ≡ bytes.old.items) }
+    ensures within { offset + length source.now ≤ length bytes.old.items → IsOk result }
 {
     let end = offset + source.len() as u64;
     grow(bytes, end as usize)?;

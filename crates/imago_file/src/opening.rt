@@ -6,6 +6,7 @@ ghost use Rattle.imago_storage.specs.Options.{open_options, create_options};
 ghost use Rattle.imago_file.specs.Contents.{IsLong};
 ghost use Rattle.imago_file.specs.Opening.{FileOpening, any_opening, IsStorageOf, IsNotAsked};
 ghost use Rattle.imago_file.specs.Opening.{IsAsked, IsFileOpening, IsFileCreation, opening_error};
+ghost use Rattle.imago_file.specs.StorageParts.{file_of};
 
 use crate::file::FileStorage;
 use crate::host::{HostFile, no_file};
@@ -128,8 +129,8 @@ impl<F: HostFile> FileStorage<F> {
         options: StorageOpenOptions,
     ) -> io::Result<Self>
         ensures { IsFileOpening H.opened F.calls
-            (IsStorageOf ⟦<FileStorage<F> as Storage>⟧.features ⟦<FileStorage<F> as Storage>⟧.bytes
-            F.contents F.calls) (open_options options) host.old host.new result }
+            (IsStorageOf file_of ⟦<FileStorage<F> as Storage>⟧.features
+            ⟦<FileStorage<F> as Storage>⟧.bytes F.contents F.calls) (open_options options) host.old host.new result }
     {
         let name = name_asked(alloc, &options)?;
         let writable = options.get_writable();
@@ -147,8 +148,8 @@ impl<F: HostFile> FileStorage<F> {
         options: StorageCreateOptions,
     ) -> io::Result<Self>
         ensures { IsFileCreation H.created F.calls
-            (IsStorageOf ⟦<FileStorage<F> as Storage>⟧.features ⟦<FileStorage<F> as Storage>⟧.bytes
-            F.contents F.calls) (create_options options) host.old host.new result }
+            (IsStorageOf file_of ⟦<FileStorage<F> as Storage>⟧.features
+            ⟦<FileStorage<F> as Storage>⟧.bytes F.contents F.calls) (create_options options) host.old host.new result }
     {
         let size = options.get_size();
         let mode = options.get_preallocate();
