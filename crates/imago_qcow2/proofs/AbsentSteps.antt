@@ -1,8 +1,6 @@
 -- Runs of absent guest clusters.
-use Rattle.std.proofs.Common.{zero, suc, ◌≡◌, ℕ, ◌+◌, ◌-◌, ◌*◌, ◌/◌, ◌%◌, ◌<◌, ◌≤◌, ⊎_elim, List, [], ◌∷◌, ◌++◌, length, get_or, Option, Some, None, refl, sym, ap, ◌∙◌, arith}
+use Rattle.std.proofs.Common.{zero, suc, ◌≡◌, ℕ, ◌+◌, ◌-◌, ◌*◌, ◌/◌, ◌%◌, ◌^◌, ◌<◌, ◌≤◌, ⊎_elim, List, [], ◌∷◌, ◌++◌, length, get_or, Option, Some, None, refl, sym, ap, ◌∙◌, arith}
 use Rattle.std.specs.Prelude.{slice_get, IfSome, IfErr, Result, Ok, Err}
-use Rattle.imago_storage.specs.declared.error.Error.{Error}
-use Rattle.imago_storage.specs.declared.error.Error.TheVariants as E
 use Rattle.std.specs.declared.vec.Vec.{Vec}
 use Rattle.std.specs.declared.alloc.Global.{Global}
 use Rattle.std.proofs.lemmas.Nat.{div-add-mod', div-mul-add, mod-mul-add, div_below}
@@ -24,7 +22,7 @@ each_more P (x ∷ xs) y all here zero = all zero
 each_more P (x ∷ xs) y all here (suc i) = each_more (λ n. P (suc n)) xs y (λ n. all (suc n)) here i
 
 -- an entry without bits, but for the highest, is one of an absent guest cluster
-absent_entry : (version cluster entry : ℕ) → entry % 9223372036854775808 ≡ 0 → cluster_in_entry version cluster entry ≡ GuestCluster.Absent
+absent_entry : (version cluster entry : ℕ) → entry % 2 ^ 63 ≡ 0 → cluster_in_entry version cluster entry ≡ GuestCluster.Absent
 unfolding cluster_in_entry
 absent_entry version cluster entry h =
     let l : low entry ≡ 0 = omega (arith, h) in
@@ -108,6 +106,6 @@ run_of_bytes loaded entries o count i some positive absent h =
     rw at there
 
 -- where only memory is lacking, a refusal for that is one of many
-pub lacks_memory : {A : Type 0} (r : Result A Error) (P : Error → Type 0) → IfErr r (λ e. e ≡ E.Memory) → P E.Memory → IfErr r P
-lacks_memory (Ok x) P h p = tt
-lacks_memory (Err e) P h p = rw h p
+pub lacks_memory : {A E : Type 0} (r : Result A E) (refused : E) (P : E → Type 0) → IfErr r (λ e. e ≡ refused) → P refused → IfErr r P
+lacks_memory (Ok x) refused P h p = tt
+lacks_memory (Err e) refused P h p = rw h p

@@ -40,7 +40,7 @@ pub record IsExponent (size t : ℕ) : Type 0 where
   pub least : 9 ≤ t
   pub most : t ≤ 21
   pub shortest : 512 ≤ size
-  pub longest : size ≤ 2097152
+  pub longest : size ≤ 2 ^ 21
 
 pub size_exponent : (size : ℕ) → IsClusterSize size → size < 2 ^ 64 → IsExponent size (trailing_zeros w64 size)
 size_exponent size (k, least, most, is) fits =

@@ -1,6 +1,7 @@
 pub mod NumberSteps
 pub mod HeaderSteps
 pub mod TableSteps
+pub mod LimitSteps
 pub mod ClusterSteps
 pub mod AbsentSteps
 pub mod MapSteps
@@ -10,3 +11,4 @@ pub mod BackingSteps
 pub mod DiskSteps
 pub mod ToldSteps
 pub mod OpenSteps
+pub mod LimitedSteps

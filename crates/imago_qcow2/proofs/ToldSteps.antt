@@ -210,7 +210,7 @@ module _ (f : Features) (bytes : List ℕ) (told : IsTrue f.tells_bytes) where
           (cases_lt p (disk_size bytes))
 
 -- why the header can't be read is why nothing is known of it
-start_of : (f : Features) (bytes : List ℕ) (e : Error) → allowed (header_reasons f bytes) e → allowed (start_reasons f bytes) e
+pub start_of : (f : Features) (bytes : List ℕ) (e : Error) → allowed (header_reasons f bytes) e → allowed (start_reasons f bytes) e
 start_of f bytes E.WrapAround r = r
 start_of f bytes E.Device r = r
 start_of f bytes E.Memory r = inl r

@@ -1,6 +1,6 @@
 -- Which guest clusters are known to be absent without a look at the entry of each.
-use Rattle.std.specs.Prelude.{◌≡◌, ℕ, suc, ◌+◌, ◌-◌, ◌*◌, ◌%◌, ◌<◌, ◌≤◌, List, length, slice_get}
-use Rattle.std.specs.Prelude.{Option, Some, None, IfSome}
+use Rattle.std.specs.Prelude.{◌≡◌, ℕ, suc, ◌+◌, ◌-◌, ◌*◌, ◌%◌, ◌^◌, ◌<◌, ◌≤◌, List, length}
+use Rattle.std.specs.Prelude.{slice_get, Option, Some, None, IfSome}
 use Rattle.std.specs.declared.vec.Vec.{Vec}
 use Rattle.std.specs.declared.alloc.Global.{Global}
 use Rattle.imago_qcow2.specs.declared.entry.GuestCluster.{GuestCluster}
@@ -12,12 +12,12 @@ use Rattle.imago_qcow2.specs.Tables.{LoadedImage, held_cluster, loaded_cluster}
 -- guest clusters are absent: all of their bits are 0, but for bit 63, which says nothing.
 abbrev pub AreAbsentEntries : List ℕ → ℕ → ℕ → Type 0
 AreAbsentEntries table from end = (e : ℕ) → from ≤ e → e < end
-    → be64 table (8 * e) % 9223372036854775808 ≡ 0
+    → be64 table (8 * e) % 2 ^ 63 ≡ 0
 
 -- entry e of an L2 table, if it is in memory, says so
 abbrev pub IsAbsentEntry : Option (Vec ℕ Global) → ℕ → Type 0
 IsAbsentEntry None e = ⊥
-IsAbsentEntry (Some table) e = be64 table.items (8 * e) % 9223372036854775808 ≡ 0
+IsAbsentEntry (Some table) e = be64 table.items (8 * e) % 2 ^ 63 ≡ 0
 
 -- where runs of absent entries end, for so many groups of 16 of them, the last group first
 abbrev pub AreEnds : List ℕ → ℕ → List ℕ → Type 0

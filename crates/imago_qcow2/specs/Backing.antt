@@ -22,17 +22,21 @@ IsBackingName bytes None = be64 bytes 8 ≡ 0
 IsBackingName bytes (Some name) = (0 < be64 bytes 8) × (length name.items ≡ be32 bytes 16)
     × IsReadAt bytes (be64 bytes 8) name.items
 
+-- the type of the header extension that holds the name of the backing file's format
+abbrev pub backing_format : ℕ
+backing_format = 0xe2792aca
+
 -- Header extensions stand one behind the other: the number of the type, the length of what is held,
 -- and that, up to a multiple of 8 bytes. Each lies before the end. Type 0 ends them. This finds
--- where the first one of type 0xe2792aca, the format of the backing file, holds its name, and how
--- long that is; so many steps are enough.
+-- where the first one for the format of the backing file holds its name, and how long that is; so
+-- many steps are enough.
 abbrev pub format_by : ℕ → List ℕ → ℕ → ℕ → Result (Option (ℕ × ℕ)) Error
 format_by zero bytes at end = Ok None
 format_by (suc steps) bytes at end =
     if nat_lt at end then
     (if nat_lt (end - at) (8 + be32 bytes (at + 4)) then Err Error.InvalidData else
     (if nat_eq (be32 bytes at) 0 then Ok None else
-    (if nat_eq (be32 bytes at) 0xe2792aca then Ok (Some (at + 8, be32 bytes (at + 4))) else
+    (if nat_eq (be32 bytes at) backing_format then Ok (Some (at + 8, be32 bytes (at + 4))) else
     format_by steps bytes (at + (8 + next_multiple_of (be32 bytes (at + 4)) 8)) end)))
     else Ok None
 

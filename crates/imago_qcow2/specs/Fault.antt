@@ -2,6 +2,8 @@ use Rattle.std.specs.Prelude.{Result, Ok, Err}
 use Rattle.imago_storage.specs.declared.error.Error.{Error}
 use Rattle.imago_qcow2.specs.declared.fault.HeaderFault.{HeaderFault}
 use Rattle.imago_qcow2.specs.declared.fault.HeaderFault.TheVariants as F
+use Rattle.imago_qcow2.specs.declared.fault.OpenFault.{OpenFault}
+use Rattle.imago_qcow2.specs.declared.fault.OpenFault.TheVariants as O
 
 -- what the opening of an image answers for that fault of its header
 abbrev pub error_of : HeaderFault → Error
@@ -22,3 +24,8 @@ error_of F.TableBehindEnd = Error.InvalidData
 abbrev pub answer_of : {A : Type 0} → Result A HeaderFault → Result A Error
 answer_of (Ok x) = Ok x
 answer_of (Err f) = Err (error_of f)
+
+-- what holds of a refusal of the driver, and what where the tables are too large
+abbrev pub by_fault : (Error → Type 0) → Type 0 → OpenFault → Type 0
+by_fault of_driver of_tables (O.Driver e) = of_driver e
+by_fault of_driver of_tables O.TablesTooLarge = of_tables

@@ -11,11 +11,15 @@ abbrev pub and_then : {A : Type 0} → Result (Unit {0}) Error → Result A Erro
 and_then (Ok x) next = next
 and_then (Err e) next = Err e
 
+-- what a file begins with: 'QFI' and 251
+abbrev pub magic : ℕ
+magic = 0x514649fb
+
 -- no image of the format: the file is shorter than the shortest header, or doesn't begin with 'QFI'
 -- and 251
 unfoldable pub magic_fault : List ℕ → ℕ → Result (Unit {0}) Error
 magic_fault head file = if nat_lt file 72
-    || not (nat_eq (be32 head 0) 0x514649fb) then Err Error.InvalidData else Ok tt
+    || not (nat_eq (be32 head 0) magic) then Err Error.InvalidData else Ok tt
 
 -- the features in the word at that offset; version 2 has none
 unfoldable pub features_at : List ℕ → ℕ → ℕ
@@ -118,7 +122,7 @@ pub record IsSound (head : List ℕ) (file : ℕ) (h : Header) : Type 0 where
   pub name_length : h.name_length ≡ be32 head 16
   pub is_size : IsClusterSize h.cluster_size
   pub least : 512 ≤ h.cluster_size
-  pub most : h.cluster_size ≤ 2097152
+  pub most : h.cluster_size ≤ 2 ^ 21
   pub inside : h.l1_start + h.l1_count * 8 ≤ file
   pub covers : h.size ≤ h.l1_count * (h.cluster_size / 8 * h.cluster_size)
 

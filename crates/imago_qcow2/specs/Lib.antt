@@ -3,6 +3,7 @@ pub mod Entry
 pub mod Fault
 pub mod Header
 pub mod Tables
+pub mod Limit
 pub mod Absent
 pub mod Backing
 pub mod Opening

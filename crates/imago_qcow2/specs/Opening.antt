@@ -9,7 +9,7 @@ use Rattle.imago_drivers.specs.Reasons.{Reasons, none, allowed}
 use Rattle.imago_qcow2.specs.declared.header.Header.{Header}
 use Rattle.imago_qcow2.specs.declared.entry.L2Table.{L2Table}
 use Rattle.imago_qcow2.specs.Numbers.{be32}
-use Rattle.imago_qcow2.specs.Header.{header_of, NamesBacking}
+use Rattle.imago_qcow2.specs.Header.{header_of, magic, NamesBacking}
 use Rattle.imago_qcow2.specs.Tables.{IsHeadRead, IsAccepted, AreEntriesRead, says_entry}
 use Rattle.imago_qcow2.specs.Tables.{header_cluster, header_tables}
 use Rattle.imago_qcow2.specs.Entry.{disk_size, cluster_length, per_table, l1_start, table_of}
@@ -110,9 +110,19 @@ abbrev pub IsRefusedOverlay : Features → List ℕ → Error → Type 0
 IsRefusedOverlay f bytes e = (e ≡ Error.Unsupported) × ((h : Header) × IsOpened f bytes h
     × NamesBacking h)
 
+-- Why an image isn't opened below which nobody lays a file, by what was read of its own: the header
+-- can't be read; it was read and has this fault; it names a backing file; or it names none, and the
+-- tables that it names can't be read.
+abbrev pub IsRefusedAlone : Features → List ℕ → Error → Type 0
+IsRefusedAlone f bytes e = allowed (start_reasons f bytes) e
+    ⊎ ((head : List ℕ) × IsHeadRead f bytes head × (header_of head (length bytes) ≡ Err e))
+    ⊎ IsRefusedOverlay f bytes e
+    ⊎ ((h : Header) × IsAccepted f bytes h × (NamesBacking h → ⊥)
+    × allowed (tables_reasons f bytes h.l1_start (header_tables h) (header_cluster h)) e)
+
 -- whether a file that begins so looks like an image: the magic number, and a version that is known
 unfoldable pub probe_of : List ℕ → Bool
-probe_of bytes = nat_eq (be32 bytes 0) 0x514649fb
+probe_of bytes = nat_eq (be32 bytes 0) magic
     && (nat_eq (be32 bytes 4) 2 || nat_eq (be32 bytes 4) 3)
 
 -- why the file can't be read for that

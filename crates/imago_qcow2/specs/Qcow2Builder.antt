@@ -8,17 +8,20 @@ use Rattle.imago_drivers.specs.Builder.{OpenSettings, IsImageStorage}
 use Rattle.imago_qcow2.specs.declared.qcow2.Qcow2.{Qcow2}
 use Rattle.imago_qcow2.specs.Header.{NamesBacking}
 use Rattle.imago_qcow2.specs.Opening.{IsOpened, IsRefusedOpening, IsRefusedOverlay}
+use Rattle.imago_qcow2.specs.Opening.{IsRefusedAlone}
 use Rattle.imago_qcow2.specs.Qcow2Image.{storage_in, header_in}
 
 -- The image whose file is a storage, or why it isn't opened: its header is at fault, or it couldn't
--- be read; or it names a backing file, which the caller doesn't lay below.
+-- be read; or it names a backing file, which the caller doesn't lay below. Such an image is refused
+-- for that, and not for its tables.
 abbrev pub IsQcow2Image : {S : Type 0} {g : _} {h : _} → (S → List ℕ) → (S → Features) → Bool → S
     → Result (Qcow2 S g h) Error → Type 0
 IsQcow2Image bytes features laid s (Ok d) = (storage_in d ≡ s)
     × IsOpened (features s) (bytes s) (header_in d)
     × (laid ≡ false → NamesBacking (header_in d) → ⊥)
-IsQcow2Image bytes features laid s (Err e) = IsRefusedOpening (features s) (bytes s) e
-    ⊎ ((laid ≡ false) × IsRefusedOverlay (features s) (bytes s) e)
+IsQcow2Image bytes features laid s (Err e) = (IsRefusedOpening (features s) (bytes s) e
+    ⊎ ((laid ≡ false) × IsRefusedOverlay (features s) (bytes s) e))
+    × (laid ≡ false → IsRefusedAlone (features s) (bytes s) e)
 
 -- The image of the storage that was found, or the refusal of that one.
 abbrev pub IsQcow2ImageOf : {S : Type 0} {g : _} {h : _} → (S → List ℕ) → (S → Features) → Bool

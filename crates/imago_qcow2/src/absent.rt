@@ -19,7 +19,7 @@ const GROUP: usize = 16;
 const COPIED: u64 = 0x8000_0000_0000_0000;
 
 /// The most bytes of an L2 table: those of the longest cluster.
-const LONGEST_TABLE: usize = 2097152;
+const LONGEST_TABLE: usize = 1 << 21;
 
 /// Where runs of absent guest clusters end. Both lists go from the back to the front, since an end
 /// is known from what stands behind.

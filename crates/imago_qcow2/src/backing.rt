@@ -1,5 +1,5 @@
 //! What an image says of its backing file.
-ghost use Rattle.std.specs.Prelude.{◌≡◌, ℕ, ◌+◌, ◌<◌, ◌≤◌, IfOk, IfErr, IfSome, IsTrue, Ok};
+ghost use Rattle.std.specs.Prelude.{◌≡◌, ℕ, ◌+◌, ◌^◌, ◌<◌, ◌≤◌, IfOk, IfErr, IfSome, IsTrue, Ok};
 ghost use Rattle.imago_drivers.specs.Reasons.{allowed};
 ghost use Rattle.imago_qcow2.specs.Numbers.{be32};
 ghost use Rattle.imago_qcow2.specs.Opening.{read_reasons};
@@ -21,7 +21,7 @@ fn extension_at<S: Storage>(storage: &S, alloc: Global, at: u64) -> Result<(u32,
         → IfOk result (λ r. r.0 ≡ be32 (S.bytes storage.now) at) }
     ensures count { IsTrue (S.features storage.now).tells_bytes
         → IfOk result (λ r. r.1 ≡ be32 (S.bytes storage.now) (at + 4)) }
-    ensures small { IfOk result (λ r. r.1 < 4294967296) }
+    ensures small { IfOk result (λ r. r.1 < 2 ^ 32) }
     ensures refusals { IfErr result (allowed (read_reasons (S.features storage.now) at 8)) }
 {
     let mut head = [0u8; 8];
@@ -37,7 +37,7 @@ pub(crate) fn find_format<S: Storage>(
     start: u64,
     end: u64,
 ) -> Result<Option<(u64, u64)>, Error>
-    requires most { end ≤ 2097152 }
+    requires most { end ≤ 2 ^ 21 }
     ensures found { IsTrue (S.features storage.now).tells_bytes
         → IfOk result (λ o. format_from (S.bytes storage.now) start end ≡ Ok o) }
     ensures inside { IfOk result (λ o. IfSome o (λ p. p.0 + p.1 ≤ end)) }

@@ -14,7 +14,7 @@ pub(crate) struct ClusterSize {
     ghost least: { 9 ≤ bits },
     ghost most: { bits ≤ 21 },
     ghost shortest: { 512 ≤ length },
-    ghost longest: { length ≤ 2097152 },
+    ghost longest: { length ≤ 2 ^ 21 },
 }
 
 impl ClusterSize {

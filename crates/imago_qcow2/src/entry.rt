@@ -37,7 +37,7 @@ pub enum GuestCluster {
 #[tactic(auto, unfolding(crate::specs::Entry::table_in_entry))]
 pub(crate) fn table_in(file: u64, cluster: u64, entry: u64) -> L2Table
     requires positive { 0 < cluster }
-    requires most { cluster < 4294967296 }
+    requires most { cluster < 2 ^ 32 }
     ensures says { result ≡ table_in_entry file cluster entry }
     ensures small { (at : ℕ) → result ≡ L2Table.Stored at → at < 2 ^ 56 }
 {

@@ -1,8 +1,11 @@
-//! Why the header of a file is refused.
+//! Why the header of a file is refused, and why an image isn't opened within a limit.
 ghost use Rattle.std.specs.Prelude.{◌≡◌};
 ghost use Rattle.imago_qcow2.specs.Fault.{error_of};
+ghost use Rattle.imago_qcow2.specs.declared.fault.OpenFault.TheVariants.{Driver};
+ghost use Rattle.imago_storage.specs.declared.error.Error.TheVariants.{Memory};
 
 use imago_storage::error;
+use std::alloc::{AllocError, AllocFailed};
 use thiserror::Error;
 
 /// Why the header of a file is refused.
@@ -92,5 +95,40 @@ impl HeaderFault {
             | HeaderFault::UnevenTable
             | HeaderFault::TableBehindEnd => error::Error::InvalidData,
         }
+    }
+}
+
+/// Why an image isn't opened within a limit on its tables.
+#[derive(Clone, Copy, Debug, PartialEq, Eq, Error)]
+pub enum OpenFault {
+    /// What an opening without a limit is refused for too.
+    #[error("{0}")]
+    Driver(error::Error),
+    /// The tables of the image have more bytes than the limit.
+    #[error("the image's tables have more bytes than the limit allows")]
+    TablesTooLarge,
+}
+
+impl From<error::Error> for OpenFault {
+    ghost from_gives = { λ e fault. fault ≡ Driver e };
+
+    fn from(error: error::Error) -> OpenFault {
+        OpenFault::Driver(error)
+    }
+}
+
+impl<T: Drop> From<AllocFailed<T>> for OpenFault {
+    ghost from_gives = { λ _ fault. fault ≡ Driver Memory };
+
+    fn from(_refused: AllocFailed<T>) -> OpenFault {
+        OpenFault::Driver(error::Error::Memory)
+    }
+}
+
+impl From<AllocError> for OpenFault {
+    ghost from_gives = { λ _ fault. fault ≡ Driver Memory };
+
+    fn from(_refused: AllocError) -> OpenFault {
+        OpenFault::Driver(error::Error::Memory)
     }
 }

@@ -239,7 +239,7 @@ fn check_table(head: &[u8], file: u64, cluster: u64) -> Result<(), HeaderFault>
 fn check_size(head: &[u8], cluster: u64) -> Result<(), HeaderFault>
     requires len { 112 ≤ length head.now }
     requires positive { 512 ≤ cluster }
-    requires most { cluster ≤ 2097152 }
+    requires most { cluster ≤ 2 ^ 21 }
     ensures fault { answer_of result ≡ size_fault head.now cluster }
     ensures covers { OnOk result (be64 head.now 24 ≤ be32 head.now 36 * (cluster / 8 * cluster)) }
 {
@@ -276,7 +276,7 @@ pub(crate) fn cluster_of_bits(bits: u32) -> u64
     requires most { bits ≤ 21 }
     ensures value { result ≡ 2 ^ bits }
     ensures least { 512 ≤ result }
-    ensures most { result ≤ 2097152 }
+    ensures most { result ≤ 2 ^ 21 }
 {
     2u64.pow(bits)
 }

@@ -31,7 +31,7 @@ pub fn l1_table(head: &[u8], file: u64) -> Result<L1Table, HeaderFault>
     ensures count { IfOk result (λ t. t.count ≡ table_count head.now) }
     ensures cluster { IfOk result (λ t. t.cluster ≡ cluster_length head.now) }
     ensures least { IfOk result (λ t. 512 ≤ t.cluster) }
-    ensures most { IfOk result (λ t. t.cluster ≤ 2097152) }
+    ensures most { IfOk result (λ t. t.cluster ≤ 2 ^ 21) }
     ensures inside { IfOk result (λ t. t.start + 8 * t.count ≤ file) }
     ensures refused { IfErr result (λ f. header_of head.now file ≡ Err (error_of f)) }
 {
@@ -49,7 +49,7 @@ pub fn l1_table(head: &[u8], file: u64) -> Result<L1Table, HeaderFault>
 pub fn l2_table(entries: &[u8], index: u64, cluster: u64, file: u64) -> L2Table
     requires within { 8 * index + 8 ≤ length entries.now }
     requires positive { 0 < cluster }
-    requires most { cluster < 4294967296 }
+    requires most { cluster < 2 ^ 32 }
     ensures says { result ≡ table_in_entry file cluster (be64 entries.now (8 * index)) }
     ensures small { (at : ℕ) → result ≡ L2Table.Stored at → at < 2 ^ 56 }
 {

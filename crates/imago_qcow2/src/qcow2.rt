@@ -1,6 +1,7 @@
 //! The driver of qcow2 images.
 ghost use Rattle.std.specs.Prelude.{◌≡◌, ℕ, ◌+◌, ◌-◌, ◌*◌, ◌/◌, ◌%◌, ◌^◌, ◌<◌, ◌≤◌, ◌⊎◌, length};
-ghost use Rattle.std.specs.Prelude.{List, true, false, IsErrOf, IfErr, IfOk, OnOk, IsTrue, Err};
+ghost use Rattle.std.specs.Prelude.{List, Some, true, false, IsErrOf, IfErr, IfOk, OnOk, IsTrue};
+ghost use Rattle.std.specs.Prelude.{Err};
 ghost use Rattle.std.proofs.Props.{props};
 ghost use Rattle.imago_storage.specs.declared.error.Error.{Error};
 ghost use Rattle.imago_storage.specs.Error.{IsExtRefusal};
@@ -9,13 +10,16 @@ ghost use Rattle.imago_drivers.specs.Mapping.{Names};
 ghost use Rattle.imago_drivers.specs.Place.{Refused};
 ghost use Rattle.imago_drivers.specs.Reasons.{allowed};
 ghost use Rattle.imago_qcow2.specs.Absent.{IsAbsentIndex};
+ghost use Rattle.imago_qcow2.specs.Fault.{by_fault};
 ghost use Rattle.imago_qcow2.specs.Header.{header_of, NamesBacking};
+ghost use Rattle.imago_qcow2.specs.Limit.{IsWithin, loaded_length, TablesNeedMore};
 ghost use Rattle.imago_qcow2.specs.Tables.{IsHeadRead, IsAccepted, IsLoadedImage};
 ghost use Rattle.imago_qcow2.specs.Tables.{header_cluster, loaded_cluster, loaded_of, loaded_place};
 ghost use Rattle.imago_qcow2.specs.Backing.{IsBackingName, IsBackingNameRead, IsFormatName};
 ghost use Rattle.imago_qcow2.specs.Backing.{IsFormatRefusal, extensions_end, format_of};
 ghost use Rattle.imago_qcow2.specs.Opening.{read_reasons, header_reasons, probe_of};
 ghost use Rattle.imago_qcow2.specs.Opening.{IsOpened, IsRefusedOpening, IsRefusedOverlay};
+ghost use Rattle.imago_qcow2.specs.Opening.{IsRefusedAlone};
 ghost use Rattle.imago_qcow2.specs.Opening.{probe_reasons_of};
 ghost use Rattle.imago_qcow2.specs.Qcow2.{loaded_view};
 ghost use Rattle.imago_qcow2.specs.Qcow2Calls.{qcow2_calls};
@@ -25,6 +29,7 @@ use crate::absent::AbsentRuns;
 use crate::backing::find_format;
 use crate::cluster::ClusterSize;
 use crate::entry::{GuestCluster, cluster_in};
+pub use crate::fault::OpenFault;
 use crate::header::{self, HEAD_LENGTH, Header, MAGIC};
 use crate::map::{goes_on, mapping_of};
 use crate::number::number32;
@@ -117,6 +122,26 @@ impl<S: Storage> Qcow2<S> {
         Qcow2::open_read_only(alloc, storage, true)
     }
 
+    /// Opens the image whose file the storage is, for reading only, as
+    /// [`open_image`](Self::open_image) does, if its tables have at most so many bytes: 8 for each
+    /// entry of the L1 table that the disk needs, and a cluster for each L2 table that these name,
+    /// counted once.
+    ///
+    /// [`OpenFault::TablesTooLarge`] is an image whose tables have more. Before memory is taken for
+    /// a table, and before it is read, the limit is looked at. [`OpenFault::Driver`] is what
+    /// [`open_image`](Self::open_image) would be refused for.
+    pub fn open_within(alloc: Global, storage: S, most_tables: u64) -> Result<Self, OpenFault>
+        ensures opened { IfOk result
+            (λ d. (storage_in d ≡ «storage»)
+            × IsOpened (S.features storage) (S.bytes storage) (header_in d)) }
+        ensures within { IfOk result (λ d. loaded_length (loaded_in d) ≤ most_tables) }
+        ensures refused { IfErr result
+            (by_fault (IsRefusedOpening (S.features storage) (S.bytes storage))
+            (TablesNeedMore (S.features storage) (S.bytes storage) (Some most_tables))) }
+    {
+        Qcow2::open_limited(alloc, storage, true, Some(most_tables))
+    }
+
     /// Opens the image. One that names a backing file is unsupported, unless its caller lays that
     /// below.
     pub(crate) fn open_read_only(
@@ -132,11 +157,43 @@ impl<S: Storage> Qcow2<S> {
             (λ e. IsRefusedOpening (S.features storage) (S.bytes storage) e
             ⊎ ((backing_laid ≡ false)
             × IsRefusedOverlay (S.features storage) (S.bytes storage) e)) }
+        ensures alone { backing_laid ≡ false
+            → IfErr result (IsRefusedAlone (S.features storage) (S.bytes storage)) }
+    {
+        match Qcow2::open_limited(alloc, storage, backing_laid, None) {
+            Ok(image) => Ok(image),
+            Err(OpenFault::Driver(error)) => Err(error),
+            Err(OpenFault::TablesTooLarge) => unreachable!(),
+        }
+    }
+
+    /// Opens the image, if its tables have at most so many bytes, where that is limited. One that
+    /// names a backing file is unsupported, unless its caller lays that below.
+    fn open_limited(
+        alloc: Global,
+        storage: S,
+        backing_laid: bool,
+        most_tables: Option<u64>,
+    ) -> Result<Self, OpenFault>
+        ensures opened { IfOk result
+            (λ d. (storage_in d ≡ «storage»)
+            × IsOpened (S.features storage) (S.bytes storage) (header_in d)
+            × (backing_laid ≡ false → NamesBacking (header_in d) → ⊥)) }
+        ensures within { IfOk result (λ d. IsWithin most_tables (loaded_length (loaded_in d))) }
+        ensures refused { IfErr result
+            (by_fault
+            (λ e. IsRefusedOpening (S.features storage) (S.bytes storage) e
+            ⊎ ((backing_laid ≡ false)
+            × IsRefusedOverlay (S.features storage) (S.bytes storage) e))
+            (TablesNeedMore (S.features storage) (S.bytes storage) most_tables)) }
+        ensures alone { backing_laid ≡ false → IfErr result
+            (by_fault (IsRefusedAlone (S.features storage) (S.bytes storage))
+            (TablesNeedMore (S.features storage) (S.bytes storage) most_tables)) }
     {
         let file = storage.size()?;
         let header = load_header(&storage, alloc, file)?;
         if !backing_laid && header.names_backing() {
-            return Err(Error::Unsupported);
+            return Err(OpenFault::Driver(Error::Unsupported));
         }
         let cluster = ClusterSize::of_length(header.cluster_size);
         let count = header.size.div_ceil(cluster.length / 8 * cluster.length);
@@ -147,6 +204,7 @@ impl<S: Storage> Qcow2<S> {
             count,
             cluster.length,
             file,
+            most_tables,
         )?;
         let absent = AbsentRuns::new(alloc, &tables, cluster.length / 8)?;
         Ok(Qcow2 {

@@ -1,14 +1,20 @@
 //! The tables of an image, as they are in memory.
-ghost use Rattle.std.specs.Prelude.{◌≡◌, ℕ, ◌+◌, ◌*◌, ◌/◌, ◌<◌, ◌≤◌, length, slice_get, OnOk};
-ghost use Rattle.std.specs.Prelude.{IfOk, IfErr, IfSome, IsTrue};
+ghost use Rattle.std.specs.Prelude.{◌≡◌, ℕ, suc, ◌+◌, ◌*◌, ◌/◌, ◌^◌, ◌<◌, ◌≤◌, length, slice_get};
+ghost use Rattle.std.specs.Prelude.{List, [], Option, Some, IfOk, IfErr, IfSome, IsTrue, OnOk};
+ghost use Rattle.std.specs.BTreeMap.{Updates};
+ghost use Rattle.std.specs.Ordering.{nat_cmp};
 ghost use Rattle.imago_storage.specs.Bytes.{IsReadAt};
 ghost use Rattle.imago_drivers.specs.Reasons.{allowed};
 ghost use Rattle.imago_qcow2.specs.Numbers.{be64};
 ghost use Rattle.imago_qcow2.specs.Tables.{IsLoaded, IsHeld, AreHeld, AreTables, AreKnown};
 ghost use Rattle.imago_qcow2.specs.Tables.{KeepsLoaded};
+ghost use Rattle.imago_qcow2.specs.Fault.{by_fault};
+ghost use Rattle.imago_qcow2.specs.Limit.{IsBeyond, IsWithin, HasRoom, IsAccount, NeedMore};
+ghost use Rattle.imago_qcow2.specs.Limit.{with_offset, with_table, table_offsets};
 ghost use Rattle.imago_qcow2.specs.Opening.{read_reasons, entries_reasons, tables_reasons};
 
 use crate::entry::{L2Table, table_in};
+use crate::fault::OpenFault;
 use crate::number::number64;
 use imago_storage::error::Error;
 use imago_storage::ext::StorageExt;
@@ -42,6 +48,8 @@ struct Loaded {
     tables: Vec<Vec<u8>>,
     /// The number of each by its offset in the file.
     numbers: BTreeMap<u64, usize>,
+    /// How many bytes more tables may have, where that is limited.
+    room: Option<u64>,
 }
 
 /// The bytes of the file from the offset on.
@@ -61,9 +69,22 @@ pub(crate) fn read_bytes<S: Storage>(
     Ok(bytes)
 }
 
-/// The number of the L2 table at that offset of the file. It is read, unless another L1 entry named
-/// it before.
-fn load<S: Storage>(
+/// What a limit leaves behind so many bytes, where there is one.
+fn room_behind(room: Option<u64>, taken: u64) -> Result<Option<u64>, OpenFault>
+    ensures left { IfOk result (HasRoom room taken) }
+    ensures full { IfErr result (by_fault (λ _. ⊥) (IsBeyond room taken)) }
+{
+    let Some(most) = room else {
+        return Ok(None);
+    };
+    if taken > most {
+        return Err(OpenFault::TablesTooLarge);
+    }
+    Ok(Some(most - taken))
+}
+
+/// Reads the L2 table at that offset of the file, which isn't loaded yet, and answers its number.
+fn add<S: Storage>(
     storage: &S,
     alloc: Global,
     at: u64,
@@ -77,15 +98,50 @@ fn load<S: Storage>(
         (λ n. IsLoaded (S.features storage.now) (S.bytes storage.now) cluster
         loaded.new.tables.items n at) }
     ensures kept { OnOk result (KeepsLoaded loaded.old.tables.items loaded.new.tables.items) }
+    ensures count { OnOk result
+        (length loaded.new.tables.items ≡ suc (length loaded.old.tables.items)) }
+    ensures numbers { IfOk result
+        (λ n. Updates nat_cmp loaded.old.numbers loaded.new.numbers at (Some n)) }
     ensures refusals { IfErr result (allowed (read_reasons (S.features storage.now) at cluster)) }
 {
-    if let Some(number) = loaded.numbers.get(&at) {
-        return Ok(*number);
-    }
     let number = loaded.tables.len();
     let table = read_bytes(storage, alloc, at, cluster)?;
     loaded.tables.push(table)?;
     loaded.numbers.insert(at, number)?;
+    Ok(number)
+}
+
+/// The number of the L2 table at that offset of the file. It is read, unless another L1 entry named
+/// it before; and it isn't, nor is memory taken for it, where the limit leaves no room.
+fn load<S: Storage>(
+    storage: &S,
+    alloc: Global,
+    at: u64,
+    cluster: u64,
+    loaded: &mut Loaded,
+) -> Result<usize, OpenFault>
+    requires known { AreKnown (S.features storage.now) (S.bytes storage.now) cluster loaded.old }
+    ensures known { OnOk result
+        (AreKnown (S.features storage.now) (S.bytes storage.now) cluster loaded.new) }
+    ensures loaded { IfOk result
+        (λ n. IsLoaded (S.features storage.now) (S.bytes storage.now) cluster
+        loaded.new.tables.items n at) }
+    ensures kept { OnOk result (KeepsLoaded loaded.old.tables.items loaded.new.tables.items) }
+    ensures account { (offsets : List ℕ) (limit : Option ℕ)
+        → IsAccount offsets limit cluster loaded.old
+        → OnOk result (IsAccount (with_offset at offsets) limit cluster loaded.new) }
+    ensures refusals { (offsets : List ℕ) (limit : Option ℕ)
+        → IsAccount offsets limit cluster loaded.old
+        → IfErr result
+        (by_fault (allowed (read_reasons (S.features storage.now) at cluster))
+        (IsBeyond limit (cluster * length (with_offset at offsets)))) }
+{
+    if let Some(number) = loaded.numbers.get(&at) {
+        return Ok(*number);
+    }
+    let room = room_behind(loaded.room, cluster)?;
+    let number = add(storage, alloc, at, cluster, loaded)?;
+    loaded.room = room;
     Ok(number)
 }
 
@@ -96,7 +152,7 @@ fn hold<S: Storage>(
     says: L2Table,
     cluster: u64,
     loaded: &mut Loaded,
-) -> Result<HeldTable, Error>
+) -> Result<HeldTable, OpenFault>
     requires known { AreKnown (S.features storage.now) (S.bytes storage.now) cluster loaded.old }
     ensures known { OnOk result
         (AreKnown (S.features storage.now) (S.bytes storage.now) cluster loaded.new) }
@@ -104,9 +160,16 @@ fn hold<S: Storage>(
         (IsHeld (S.features storage.now) (S.bytes storage.now) cluster loaded.new.tables.items
         says) }
     ensures kept { OnOk result (KeepsLoaded loaded.old.tables.items loaded.new.tables.items) }
-    ensures refusals { IfErr result
+    ensures account { (offsets : List ℕ) (limit : Option ℕ)
+        → IsAccount offsets limit cluster loaded.old
+        → OnOk result (IsAccount (with_table says offsets) limit cluster loaded.new) }
+    ensures refusals { (offsets : List ℕ) (limit : Option ℕ)
+        → IsAccount offsets limit cluster loaded.old
+        → IfErr result
+        (by_fault
         (λ e. (at : ℕ) × (says ≡ L2Table.Stored at)
-        × allowed (read_reasons (S.features storage.now) at cluster) e) }
+        × allowed (read_reasons (S.features storage.now) at cluster) e)
+        (IsBeyond limit (cluster * length (with_table says offsets)))) }
 {
     match says {
         L2Table::Absent => Ok(HeldTable::Absent),
@@ -115,7 +178,8 @@ fn hold<S: Storage>(
     }
 }
 
-/// What is held of the L1 entries that stand in these bytes, whose L2 tables are loaded.
+/// What is held of the L1 entries that stand in these bytes, whose L2 tables are loaded, as far as
+/// the limit leaves room for them.
 fn hold_all<S: Storage>(
     storage: &S,
     alloc: Global,
@@ -123,18 +187,27 @@ fn hold_all<S: Storage>(
     cluster: u64,
     file: u64,
     loaded: &mut Loaded,
-) -> Result<Vec<HeldTable>, Error>
+) -> Result<Vec<HeldTable>, OpenFault>
     requires file { file ≡ length (S.bytes storage.now) }
     requires positive { 0 < cluster }
-    requires most { cluster ≤ 2097152 }
+    requires most { cluster ≤ 2 ^ 21 }
     requires known { AreKnown (S.features storage.now) (S.bytes storage.now) cluster loaded.old }
+    requires account { IsAccount [] loaded.old.room cluster loaded.old }
     ensures held { IfOk result
         (λ v. AreHeld (S.features storage.now) (S.bytes storage.now) cluster entries.now v.items
         loaded.new.tables.items) }
     ensures all { IfOk result (λ v. length v.items ≡ length entries.now / 8) }
+    ensures account { OnOk result
+        (IsAccount
+        (table_offsets (S.bytes storage.now) cluster entries.now (length entries.now / 8))
+        loaded.old.room cluster loaded.new) }
     ensures refusals { IfErr result
+        (by_fault
         (allowed
-        (entries_reasons (S.features storage.now) (S.bytes storage.now) cluster entries.now)) }
+        (entries_reasons (S.features storage.now) (S.bytes storage.now) cluster entries.now))
+        (IsBeyond loaded.old.room
+        (cluster * length
+        (table_offsets (S.bytes storage.now) cluster entries.now (length entries.now / 8))))) }
 {
     let mut l1 = Vec::new(alloc);
     for i in 0..entries.len() / 8 {
@@ -145,7 +218,8 @@ fn hold_all<S: Storage>(
 }
 
 /// Reads the L1 table of a file of that length, of so many entries from `start` on, and the L2
-/// tables that it names, each of them once.
+/// tables that it names, each of them once. All of them have at most so many bytes, where that is
+/// limited: a table that would pass the limit is refused before memory is taken for it.
 pub(crate) fn read_tables<S: Storage>(
     storage: &S,
     alloc: Global,
@@ -153,25 +227,36 @@ pub(crate) fn read_tables<S: Storage>(
     count: u64,
     cluster: u64,
     file: u64,
-) -> Result<Tables, Error>
+    most: Option<u64>,
+) -> Result<Tables, OpenFault>
     requires file { file ≡ length (S.bytes storage.now) }
     requires positive { 0 < cluster }
-    requires most { cluster ≤ 2097152 }
+    requires longest { cluster ≤ 2 ^ 21 }
     requires inside { start + 8 * count ≤ file }
     ensures held { IfOk result
         (λ t. AreTables (S.features storage.now) (S.bytes storage.now) start count cluster
         t.l1.items t.l2.items) }
+    ensures within { IfOk result
+        (λ t. IsWithin most (8 * length t.l1.items + cluster * length t.l2.items)) }
     ensures refusals { IfErr result
+        (by_fault
         (allowed
-        (tables_reasons (S.features storage.now) (S.bytes storage.now) start count cluster)) }
+        (tables_reasons (S.features storage.now) (S.bytes storage.now) start count cluster))
+        (NeedMore (S.features storage.now) (S.bytes storage.now) start count cluster most)) }
 {
+    let room = room_behind(most, 8 * count)?;
     let entries = read_bytes(storage, alloc, start, 8 * count)?;
     let mut loaded = Loaded {
         tables: Vec::new(alloc),
         numbers: BTreeMap::new(alloc),
+        room,
     };
     let l1 = hold_all(storage, alloc, &entries, cluster, file, &mut loaded)?;
-    let Loaded { tables, numbers: _ } = loaded;
+    let Loaded {
+        tables,
+        numbers: _,
+        room: _,
+    } = loaded;
     Ok(Tables { l1, l2: tables })
 }
 

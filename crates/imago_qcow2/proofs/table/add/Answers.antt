@@ -1,9 +1,6 @@
 use Rattle.std.proofs.Common.{◌≡◌, length, arith}
-use Rattle.imago_qcow2.proofs.TableSteps.{there_kept, loaded_last, known_more, known_at}
-use Rattle.imago_qcow2.proofs.table.load.Goals as goal
-
-pub returns-in-Some-clause-loaded : goal.returns-in-Some-clause-loaded
-returns-in-Some-clause-loaded g c = known_at (g.S.Storage.features c.args.storage.now) (g.S.Storage.bytes c.args.storage.now) c.args.cluster c.args.loaded.now c.args.at c.in-Some.number.now c.in-Some.ensures.value c.requires.known
+use Rattle.imago_qcow2.proofs.TableSteps.{there_kept, loaded_last, known_more}
+use Rattle.imago_qcow2.proofs.table.add.Goals as goal
 
 pub returns-clause-kept : goal.returns-clause-kept
 returns-clause-kept g c = λ k x e. rw c.in_ok-push.ensures.items (there_kept c.args.loaded.now.tables.items c.in_ok-table.table k x e)
@@ -15,4 +12,4 @@ returns-clause-loaded g c =
 
 pub returns-clause-known : goal.returns-clause-known
 returns-clause-known g c =
-    known_more (g.S.Storage.features c.args.storage.now) (g.S.Storage.bytes c.args.storage.now) c.args.cluster c.args.loaded.now (record { tables = c.push.new.self; numbers = c.insert.new.self }) c.args.at c.len-number.result (returns-clause-kept g c) (returns-clause-loaded g c) c.in_ok-insert.ensures.updates c.requires.known
+    known_more (g.S.Storage.features c.args.storage.now) (g.S.Storage.bytes c.args.storage.now) c.args.cluster c.args.loaded.now (record { tables = c.push.new.self; numbers = c.insert.new.self; room = c.args.loaded.now.room }) c.args.at c.len-number.result (returns-clause-kept g c) (returns-clause-loaded g c) c.in_ok-insert.ensures.updates c.requires.known

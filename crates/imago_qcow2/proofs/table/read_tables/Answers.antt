@@ -1,8 +1,20 @@
+use Rattle.std.proofs.Common.{◌*◌, inl}
 use Rattle.std.proofs.lemmas.Result.{err_from_is_err_and}
+use Rattle.imago_drivers.specs.Reasons.{allowed}
+use Rattle.imago_qcow2.specs.Limit.{IsBeyond, NeedMore}
+use Rattle.imago_qcow2.specs.Opening.{tables_reasons}
+use Rattle.imago_qcow2.proofs.LimitSteps.{full_by}
 use Rattle.imago_qcow2.proofs.TableSteps.{first_refused}
 use Rattle.imago_qcow2.proofs.table.read_tables.Goals as goal
 
+pub returns-in_err-room-clause-refusals : goal.returns-in_err-room-clause-refusals
+returns-in_err-room-clause-refusals g c =
+    let F = g.S.Storage.features c.args.storage.now in
+    let B = g.S.Storage.bytes c.args.storage.now in
+    let p = err_from_is_err_and c.from_residual.result c.from_residual.ensures.1 in
+    rw (p.1, p.2) (full_by (allowed (tables_reasons F B c.args.start c.args.count c.args.cluster)) (IsBeyond c.args.most (8 * c.args.count)) (NeedMore F B c.args.start c.args.count c.args.cluster c.args.most) c.in_err-room.field-0.0 (λ x. inl x) c.in_err-room.ensures.full)
+
 pub returns-in_err-entries-clause-refusals : goal.returns-in_err-entries-clause-refusals
 returns-in_err-entries-clause-refusals g c =
-    let p = err_from_is_err_and c.from_residual.result c.from_residual.ensures.1 in
+    let p = err_from_is_err_and c.from_residual-in_err-entries.result c.from_residual-in_err-entries.ensures.1 in
     rw (p.1, p.2) (first_refused (g.S.Storage.features c.args.storage.now) (g.S.Storage.bytes c.args.storage.now) c.args.start c.args.count c.args.cluster c.in_err-entries.field-0.0 c.in_err-entries.ensures.refusals)

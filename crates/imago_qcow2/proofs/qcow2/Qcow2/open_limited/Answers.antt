@@ -2,14 +2,18 @@ use Rattle.std.proofs.Common.{rules, ◌*◌, ◌/◌, ◌≤◌, ◌∙◌, ◌
 use Rattle.std.specs.Prelude.{IfErr, ◌⊎◌}
 use Rattle.std.specs.Int.{div_ceil}
 use Rattle.imago_storage.specs.declared.error.Error.TheVariants as E
-use Rattle.imago_qcow2.specs.Opening.{IsRefusedOpening, IsRefusedOverlay}
+use Rattle.imago_qcow2.specs.declared.fault.OpenFault.TheVariants as O
+use Rattle.imago_qcow2.specs.Fault.{by_fault}
+use Rattle.imago_qcow2.specs.Limit.{TablesNeedMore}
+use Rattle.imago_qcow2.specs.Opening.{IsRefusedOpening, IsRefusedOverlay, IsRefusedAlone}
 use Rattle.imago_qcow2.proofs.AbsentSteps.{lacks_memory}
 use Rattle.std.proofs.lemmas.Result.{err_from_is_err_and}
 use Rattle.imago_qcow2.specs.Header.{NamesBacking}
 use Rattle.imago_qcow2.proofs.HeldSteps.{covers_disk, enough, span_positive}
 use Rattle.imago_qcow2.proofs.ToldSteps.{told_header, header_refused, tables_late, loaded_image}
-use Rattle.imago_qcow2.proofs.qcow2.Qcow2.open_read_only.Goals as goal
-use Rattle.imago_qcow2.proofs.qcow2.Qcow2.open_read_only.Goals.{else-not-backing_laid-via-then-not-backing_laid+else-names_backing, else-not-backing_laid-via-else-not-backing_laid}
+use Rattle.imago_qcow2.proofs.LimitedSteps.{tables_fault_late, header_alone, tables_alone}
+use Rattle.imago_qcow2.proofs.qcow2.Qcow2.open_limited.Goals as goal
+use Rattle.imago_qcow2.proofs.qcow2.Qcow2.open_limited.Goals.{else-not-backing_laid-via-then-not-backing_laid+else-names_backing, else-not-backing_laid-via-else-not-backing_laid}
 
 pub read_tables-requires-clause-inside : goal.read_tables-requires-clause-inside
 read_tables-requires-clause-inside g c =
@@ -30,8 +34,9 @@ returns-in_err-tables-clause-refused g c =
     let h = c.in_ok-header.header in
     let value = c.of_length-cluster.ensures in
     let p = err_from_is_err_and c.from_residual-in_err-tables.result c.from_residual-in_err-tables.ensures.1 in
-    rw (p.1, p.2) (inl (tables_late (g.S.Storage.features c.args.storage) (g.S.Storage.bytes c.args.storage) h h.l1_start c.div_ceil-count.result c.of_length-cluster.result.length c.in_err-tables.field-0.0 c.in_ok-header.ensures.header refl
-    (c.div_ceil-count.ensures ∙ ap (λ x. div_ceil h.size (x / 8 * x)) value) value c.in_err-tables.ensures.refusals))
+    rw (p.1, p.2) (tables_fault_late (g.S.Storage.features c.args.storage) (g.S.Storage.bytes c.args.storage) h c.div_ceil-count.result c.of_length-cluster.result.length c.args.most_tables
+    (λ e. (c.args.backing_laid ≡ false) × IsRefusedOverlay (g.S.Storage.features c.args.storage) (g.S.Storage.bytes c.args.storage) e) c.in_err-tables.field-0.0 c.in_ok-header.ensures.header
+    (c.div_ceil-count.ensures ∙ ap (λ x. div_ceil h.size (x / 8 * x)) value) value c.in_err-tables.ensures.refusals)
 
 pub returns-clause-opened : goal.returns-clause-opened
 returns-clause-opened g c =
@@ -69,8 +74,46 @@ returns-in_err-absent-clause-refused g c =
     let B = g.S.Storage.bytes c.args.storage in
     let h = c.in_ok-header.header in
     let value = c.of_length-cluster.ensures in
-    let m : IfErr c.from_residual-in_err-absent.result (λ e. e ≡ E.Memory) = search rules in
-    lacks_memory c.from_residual-in_err-absent.result
-    (λ e. IsRefusedOpening F B e ⊎ ((c.args.backing_laid ≡ false) × IsRefusedOverlay F B e)) m
+    let m : IfErr c.from_residual-in_err-absent.result (λ e. e ≡ O.Driver E.Memory) = search rules in
+    lacks_memory c.from_residual-in_err-absent.result (O.Driver E.Memory)
+    (by_fault (λ e. IsRefusedOpening F B e ⊎ ((c.args.backing_laid ≡ false) × IsRefusedOverlay F B e)) (TablesNeedMore F B c.args.most_tables)) m
     (inl (tables_late F B h h.l1_start c.div_ceil-count.result c.of_length-cluster.result.length E.Memory c.in_ok-header.ensures.header refl
     (c.div_ceil-count.ensures ∙ ap (λ x. div_ceil h.size (x / 8 * x)) value) value tt))
+
+pub returns-in_err-header-clause-alone : goal.returns-in_err-header-clause-alone
+returns-in_err-header-clause-alone g c = λ alone.
+    let p = err_from_is_err_and c.from_residual-in_err-header.result c.from_residual-in_err-header.ensures.1 in
+    rw (p.1, p.2) (header_alone (g.S.Storage.features c.args.storage) (g.S.Storage.bytes c.args.storage) c.in_err-header.field-0.0 c.in_err-header.ensures.refusals)
+
+pub returns-then-names_backing-clause-alone : goal.returns-then-names_backing-clause-alone
+returns-then-names_backing-clause-alone g c = λ alone.
+    let h = c.in_ok-header.header in
+    let x = c.in_ok-header.ensures.header in
+    inr (inr (inl (refl, (h, (x, λ told. told_header (g.S.Storage.features c.args.storage) (g.S.Storage.bytes c.args.storage) told h x), c.names_backing.ensures.yes c.if-names_backing.true))))
+
+pub returns-in_err-tables-clause-alone : goal.returns-in_err-tables-clause-alone
+returns-in_err-tables-clause-alone g c = λ (alone : c.args.backing_laid ≡ false).
+    let h = c.in_ok-header.header in
+    let value = c.of_length-cluster.ensures in
+    let none : NamesBacking h → ⊥ = λ (named : NamesBacking h). elim c.else-not-backing_laid.branch [
+      | else-not-backing_laid-via-then-not-backing_laid+else-names_backing w ↦ w.names_backing.ensures.no w.if-names_backing.false named
+      | else-not-backing_laid-via-else-not-backing_laid w ↦ let laid = w.if-not-backing_laid.false in let z : ⊥ = cc in z
+    ] in
+    let p = err_from_is_err_and c.from_residual-in_err-tables.result c.from_residual-in_err-tables.ensures.1 in
+    rw (p.1, p.2) (tables_alone (g.S.Storage.features c.args.storage) (g.S.Storage.bytes c.args.storage) h c.div_ceil-count.result c.of_length-cluster.result.length c.args.most_tables c.in_err-tables.field-0.0 c.in_ok-header.ensures.header none
+    (c.div_ceil-count.ensures ∙ ap (λ x. div_ceil h.size (x / 8 * x)) value) value c.in_err-tables.ensures.refusals)
+
+pub returns-in_err-absent-clause-alone : goal.returns-in_err-absent-clause-alone
+returns-in_err-absent-clause-alone g c = λ (alone : c.args.backing_laid ≡ false).
+    let F = g.S.Storage.features c.args.storage in
+    let B = g.S.Storage.bytes c.args.storage in
+    let h = c.in_ok-header.header in
+    let value = c.of_length-cluster.ensures in
+    let none : NamesBacking h → ⊥ = λ (named : NamesBacking h). elim c.else-not-backing_laid.branch [
+      | else-not-backing_laid-via-then-not-backing_laid+else-names_backing w ↦ w.names_backing.ensures.no w.if-names_backing.false named
+      | else-not-backing_laid-via-else-not-backing_laid w ↦ let laid = w.if-not-backing_laid.false in let z : ⊥ = cc in z
+    ] in
+    let m : IfErr c.from_residual-in_err-absent.result (λ e. e ≡ O.Driver E.Memory) = search rules in
+    lacks_memory c.from_residual-in_err-absent.result (O.Driver E.Memory) (by_fault (IsRefusedAlone F B) (TablesNeedMore F B c.args.most_tables)) m
+    (tables_alone F B h c.div_ceil-count.result c.of_length-cluster.result.length c.args.most_tables (O.Driver E.Memory) c.in_ok-header.ensures.header none
+    (c.div_ceil-count.ensures ∙ ap (λ x. div_ceil h.size (x / 8 * x)) value) value tt)

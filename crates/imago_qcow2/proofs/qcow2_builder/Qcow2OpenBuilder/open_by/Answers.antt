@@ -8,6 +8,6 @@ returns-clause-opened g c = (
   λ no. (
     Ok c.in_ok-storage.storage,
     c.in_ok-storage.ensures,
-    image_of g.S.Storage.bytes g.S.Storage.features c.args.self.backing_laid c.in_ok-storage.storage c.open_read_only.result c.open_read_only.ensures.opened c.open_read_only.ensures.refused,
+    image_of g.S.Storage.bytes g.S.Storage.features c.args.self.backing_laid c.in_ok-storage.storage c.open_read_only.result c.open_read_only.ensures.opened c.open_read_only.ensures.refused c.open_read_only.ensures.alone,
   ),
 )
