@@ -103,12 +103,12 @@ impl<S: Storage> Cow<S> {
 
     /// A disk of that size over a storage, in blocks of `block` bytes. Each place leads to the
     /// layer below, at the same offset, and nothing waits to be committed. `block` is a power of
-    /// two from 1 to 1048576.
+    /// two, from a byte to 1 MiB.
     ///
     /// [`Error::Memory`] is no room for the table, which has 8 bytes for each block.
     pub fn create(alloc: Global, storage: S, size: u64, block: u64) -> Result<Self, Error>
         requires power { IsTrue (is_power_of_two block) }
-        requires most { block ≤ 1048576 }
+        requires most { block ≤ 2 ^ 20 }
         ensures made { IfOk result
             (λ d. (storage_in d ≡ «storage») × (size_of d ≡ «size») × (block_of d ≡ «block»)
             × (waiting_in d ≡ None) ×

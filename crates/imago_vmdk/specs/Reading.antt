@@ -1,4 +1,4 @@
-use Rattle.std.specs.Prelude.{◌≡◌, ℕ, ◌*◌, ◌^◌, ◌⊎◌, Bool, ◌&&◌, List, [], ◌∷◌, map, length, take}
+use Rattle.std.specs.Prelude.{◌≡◌, ℕ, ◌+◌, ◌*◌, ◌^◌, ◌⊎◌, Bool, ◌&&◌, List, [], ◌∷◌, map, length, take}
 use Rattle.std.specs.Prelude.{Option, Some, None, Result, Ok, Err, IsOk, nat_lt, if◌then◌else◌}
 use Rattle.std.specs.Prelude.{codes, IsTrue}
 use Rattle.std.proofs.Common.{ap, sym, ◌∙◌}
@@ -106,9 +106,9 @@ GivesSize version size result = (r : Result (List (Line (List ℕ))) Error)
 abbrev pub extents_of : Bool → List (List ℕ) → Result (List (Extent (List ℕ))) Error
 extents_of accept lines = lines_say accept lines >>= λ ls. Ok (extents_in ls)
 
--- a descriptor may be that long, in bytes
+-- a descriptor may be that long, in bytes: from 4 bytes to 2 MiB
 abbrev pub is_length : ℕ → Bool
-is_length n = nat_lt 3 n && nat_lt n 2097153
+is_length n = nat_lt 3 n && nat_lt n (2 ^ 21 + 1)
 
 -- the first bytes of another kind of VMDK file
 abbrev pub is_sparse : List ℕ → Bool

@@ -40,7 +40,7 @@ struct Survey {
 const SHORTEST: u64 = 4;
 
 /// How many bytes a descriptor has at most.
-const LONGEST: u64 = 2097152;
+const LONGEST: u64 = 1 << 21;
 
 /// Whether a descriptor may be that long, in bytes.
 pub(crate) fn is_length(length: u64) -> bool
@@ -209,7 +209,7 @@ fn disk_size(version: u32, size: Option<u64>) -> Result<u64, Error>
 /// [`Error::InvalidData`], or say nothing where
 /// `accept_unknown_keys` holds.
 ///
-/// [`Error::InvalidData`] is a length under 4 or over 2097152 bytes. Then [`Error::Unsupported`] is
+/// [`Error::InvalidData`] is a length under 4 bytes or over 2 MiB. Then [`Error::Unsupported`] is
 /// another kind of VMDK file, then the first line that can't be meant or isn't offered is answered,
 /// then as unsupported a version that isn't known, and then as invalid a disk whose size in bytes
 /// doesn't fit. [`Error::Memory`] is answered only where none of these is.
