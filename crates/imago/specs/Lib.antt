@@ -70,6 +70,8 @@ pub use Rattle.imago_qcow2.specs.Numbers as BigEndian
 pub use Rattle.imago_qcow2.specs.Header as Qcow2Header
 pub use Rattle.imago_qcow2.specs.Entry as Qcow2Entry
 pub use Rattle.imago_qcow2.specs.Tables as Qcow2Tables
+pub use Rattle.imago_qcow2.specs.Fault as Qcow2Fault
+pub use Rattle.imago_qcow2.specs.Limit as Qcow2Limit
 pub use Rattle.imago_qcow2.specs.Backing as Qcow2Backing
 pub use Rattle.imago_qcow2.specs.Opening as Qcow2Opening
 pub use Rattle.imago_qcow2.specs.Disk as Qcow2Disk
@@ -127,6 +129,7 @@ pub use Rattle.imago_file.specs.Features as FileFeatures
 pub use Rattle.imago_file.specs.FileCalls
 pub use Rattle.imago_file.specs.FileGate
 pub use Rattle.imago_file.specs.GateParts as FileGateParts
+pub use Rattle.imago_file.specs.StorageParts as FileStorageParts
 pub use Rattle.imago_file.specs.Names as FileNames
 pub use Rattle.imago_file.specs.Opening as FileOpening
 pub use Rattle.imago_file.specs.MemoryFile
@@ -172,6 +175,7 @@ pub use Rattle.imago_vmdk.specs.declared.vmdk.Vmdk as DeclaredVmdk
 pub use Rattle.imago_qcow2.specs.declared.entry.L2Table
 pub use Rattle.imago_qcow2.specs.declared.entry.GuestCluster
 pub use Rattle.imago_qcow2.specs.declared.header.Header as DeclaredQcow2Header
+pub use Rattle.imago_qcow2.specs.declared.fault.OpenFault
 pub use Rattle.imago_qcow2.specs.declared.qcow2.Qcow2 as DeclaredQcow2
 pub use Rattle.imago_cow.specs.declared.table.GuestBlock
 pub use Rattle.imago_cow.specs.declared.table.WithoutData
