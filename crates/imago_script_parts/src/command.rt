@@ -1,5 +1,5 @@
 //! What a line of a script says.
-ghost use Rattle.std.specs.Prelude.{◌≤◌, ◌↔◌, IsSome};
+ghost use Rattle.std.specs.Prelude.{◌≤◌, ◌^◌, ◌↔◌, IsSome};
 
 use crate::words::{
     Alignment, BlockSize, Fault, byte, bytes, cut_at, mode, number, overwriting, word, words_of,
@@ -9,7 +9,7 @@ use imago::run::Call;
 use std::alloc::Global;
 
 /// The longest read, in bytes.
-const LONGEST_READ: u64 = 16777216;
+const LONGEST_READ: u64 = 1 << 24;
 
 /// A command.
 pub enum Command<'a> {
@@ -242,7 +242,7 @@ fn discard_of(to: &str, offset: u64, length: u64) -> Option<Call> {
 
 /// A read that isn't too long.
 fn read_of(offset: u64, count: u64) -> Option<Call>
-    ensures { IsSome result ↔ (count ≤ 16777216) }
+    ensures { IsSome result ↔ (count ≤ 2 ^ 24) }
 {
     if count > LONGEST_READ {
         return None;

@@ -1,5 +1,5 @@
 //! What a script has made so far, and what its commands do to it.
-ghost use Rattle.std.specs.Prelude.{◌≡◌, None};
+ghost use Rattle.std.specs.Prelude.{◌≡◌, None, IsErrOf};
 ghost use Rattle.std.specs.Option.{ForSome};
 ghost use Rattle.imago.specs.Chain.{driver};
 
@@ -119,7 +119,9 @@ impl Session {
     }
 
     /// Takes a storage, and lays a copy-on-write disk with its data there over the open image.
-    fn open_cow(&mut self, name: &str, block: BlockSize) -> Result<Answer<'_>, Error> {
+    fn open_cow(&mut self, name: &str, block: BlockSize) -> Result<Answer<'_>, Error>
+        ensures { self.old.image ≡ None → IsErrOf result Error.NotFound }
+    {
         let size = self.image.as_ref().ok_or(Error::NotFound)?.size();
         let path = String::from_str(self.alloc, name)?;
         let opts = StorageOpenOptions::new().write(true).filename(path);
@@ -132,6 +134,7 @@ impl Session {
     /// image stays.
     fn laid(&mut self, top: AnyDriver<ScriptStorage>) -> Result<Answer<'_>, Error>
         requires { (⟦<AnyDriver<ScriptStorage> as FormatDriverInstance>⟧.view top).pending ≡ None }
+        ensures { self.old.image ≡ None → IsErrOf result Error.NotFound }
     {
         let below = self.image.take().ok_or(Error::NotFound)?;
         match Box::new(self.alloc, below) {
@@ -147,13 +150,17 @@ impl Session {
     }
 
     /// The open image, to be printed.
-    fn show(&self) -> Result<Answer<'_>, Error> {
+    fn show(&self) -> Result<Answer<'_>, Error>
+        ensures { self.now.image ≡ None → IsErrOf result Error.NotFound }
+    {
         let image = self.image.as_ref().ok_or(Error::NotFound)?;
         Ok(Answer::Shown(image))
     }
 
     /// Makes one call on the open image.
-    fn call(&mut self, call: Call) -> Result<Answer<'_>, Error> {
+    fn call(&mut self, call: Call) -> Result<Answer<'_>, Error>
+        ensures { self.old.image ≡ None → IsErrOf result Error.NotFound }
+    {
         let image = self.image.as_mut().ok_or(Error::NotFound)?;
         let mut replies = Vec::new(self.alloc);
         run(self.alloc, image, &[call], &mut replies)?;

@@ -19,7 +19,7 @@ use std::alloc::Global;
 const MOST_WORDS: usize = 6;
 
 /// The longest block of a copy-on-write disk, in bytes.
-const LONGEST_BLOCK: u64 = 1048576;
+const LONGEST_BLOCK: u64 = 1 << 20;
 
 /// Why a line gives no command.
 #[derive(Drop)]
@@ -111,12 +111,12 @@ impl Alignment {
     }
 }
 
-/// How long the blocks of a copy-on-write disk are, in bytes: a power of two from 1 to 1048576.
+/// How long the blocks of a copy-on-write disk are, in bytes: a power of two, from a byte to 1 MiB.
 #[derive(Clone, Copy)]
 pub struct BlockSize {
     bytes: u64,
     ghost power: { IsTrue (is_power_of_two bytes) },
-    ghost most: { bytes ≤ 1048576 },
+    ghost most: { bytes ≤ 2 ^ 20 },
 }
 
 impl BlockSize {
@@ -133,7 +133,7 @@ impl BlockSize {
     /// How many bytes it is.
     pub fn bytes(self) -> u64
         ensures power { IsTrue (is_power_of_two result) }
-        ensures most { result ≤ 1048576 }
+        ensures most { result ≤ 2 ^ 20 }
     {
         self.bytes
     }
@@ -154,7 +154,8 @@ pub const NO_BYTES: &str = "-";
 pub fn bytes(alloc: Global, digits: &[u8]) -> Result<Vec<u8>, Fault>
     ensures spelt { IfOk result (λ v. Spells digits.now v.items) }
     ensures malformed { IfErr result (λ fault. fault ≡ Malformed → SpellsNone digits.now) }
-    ensures memory { IfErr result (λ fault. fault ≡ Memory → length digits.now % 2 ≡ 0) }
+    ensures memory { IfErr result (λ fault. fault ≡ Memory → (0 < length digits.now)
+        × (length digits.now % 2 ≡ 0)) }
 {
     if digits == NO_BYTES.as_bytes() {
         return Ok(Vec::new(alloc));
