@@ -1,6 +1,6 @@
 //! A file of which some blocks are in memory.
-ghost use Rattle.std.specs.Prelude.{◌≡◌, ℕ, ◌+◌, ◌*◌, ◌%◌, ◌<◌, ◌≤◌, List, length, slice_index};
-ghost use Rattle.std.specs.Prelude.{OnOk};
+ghost use Rattle.std.specs.Prelude.{◌≡◌, ℕ, ◌+◌, ◌*◌, ◌%◌, ◌^◌, ◌<◌, ◌≤◌, List, length};
+ghost use Rattle.std.specs.Prelude.{slice_index, OnOk};
 ghost use Rattle.imago_storage.specs.Bytes.{IsReadAt};
 ghost use Rattle.imago_storage.specs.IoCount.{no_work};
 ghost use Rattle.imago_storage.specs.Maintenance.{no_maintenance};
@@ -139,7 +139,7 @@ impl LoadedFile {
     /// Fills the buffer with the bytes from the offset on, with 0 past the end.
     #[tactic(auto, using(std::proofs::lemmas::List::places, crate::proofs::LoadedSteps::byte_behind))]
     fn fill(&self, buf: &mut [u8], offset: u64)
-        requires { offset + length buf.old < 18446744073709551616 }
+        requires { offset + length buf.old < 2 ^ 64 }
         ensures { IsReadAt (loaded_bytes self.now) offset buf.new }
     {
         let mut done: usize = 0;
