@@ -1,6 +1,7 @@
 //! Tests of storages over files, and files and a host in memory for them.
 #![tactic(auto)]
 
+pub mod mute_file;
 pub mod named_files;
 #[cfg(test)]
 mod tests;

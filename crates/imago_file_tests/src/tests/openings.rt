@@ -1,5 +1,6 @@
 //! Files that are opened and created by options, and by a gate.
 use super::set_up::{kind_of, owned};
+use crate::mute_file::{MuteFile, MuteFiles};
 use crate::named_files::{NamedFiles, REFUSED};
 use imago_drivers::gate::ImplicitOpenGate;
 use imago_file::file::FileStorage;
@@ -9,6 +10,7 @@ use imago_file::opening::error_of;
 use imago_storage::error::Error;
 use imago_storage::storage::{PreallocateMode, Storage, StorageCreateOptions, StorageOpenOptions};
 use std::alloc::Global;
+use std::cell::Cell;
 use std::io::{self, ErrorKind};
 use std::process::Abort;
 
@@ -155,6 +157,67 @@ fn check_gates(rt: &impl Abort, alloc: Global) {
         &GATE,
     );
     check_gate(rt, alloc, &mut FileGate::any(NamedFiles::new(alloc)), &ANY);
+}
+
+/// What a file that doesn't tell its length is opened or created for.
+enum Asked {
+    /// A storage over the file that is open.
+    Storage,
+    /// An opening, for writing too.
+    Opening,
+    /// A creation, with 9 bytes in that mode.
+    Creation(PreallocateMode),
+}
+
+/// What is asked, and how many calls change or sync the file until its length is asked for, which
+/// is refused: those alone that give a file that is created its size.
+static UNTOLD: [(Asked, u64); 4] = [
+    (Asked::Storage, 0),
+    (Asked::Opening, 0),
+    (Asked::Creation(PreallocateMode::None), 1),
+    (Asked::Creation(PreallocateMode::WriteData), 1),
+];
+
+/// What is asked of files whose changes and syncs are counted there is refused for.
+fn untold<'a>(
+    rt: &impl Abort,
+    alloc: Global,
+    changes: &'a Cell<u64>,
+    asked: &Asked,
+) -> Option<ErrorKind> {
+    let mut host = MuteFiles::new(changes);
+    let opened = match asked {
+        Asked::Storage => FileStorage::new(MuteFile::new(changes), None, true),
+        Asked::Opening => {
+            let options = StorageOpenOptions::new().filename(owned(rt, alloc, "disk.raw"));
+            FileStorage::open_file(&mut host, alloc, options.write(true))
+        }
+        Asked::Creation(mode) => {
+            let options = StorageCreateOptions::new().filename(owned(rt, alloc, "disk.raw"));
+            FileStorage::create_file(&mut host, alloc, options.size(9).preallocate(*mode))
+        }
+    };
+    match opened {
+        Ok(_) => None,
+        Err(cause) => Some(cause.kind()),
+    }
+}
+
+fn check_untold(rt: &impl Abort, alloc: Global) {
+    for (i, (asked, expected)) in UNTOLD.iter().enumerate() {
+        let changes = Cell::new(0);
+        let mut refused = untold(rt, alloc, &changes, asked);
+        if refused == Some(ErrorKind::OutOfMemory) {
+            refused = untold(rt, alloc, &changes, asked);
+        }
+        assert!(rt; refused == Some(ErrorKind::TimedOut), "row {i}");
+        assert!(rt; changes.get() == *expected, "row {i}");
+    }
+}
+
+#[test]
+fn files_that_tell_no_length_are_left_alone(rt: HostRuntime) {
+    check_untold(&rt, rt.alloc());
 }
 
 #[test]
