@@ -3,6 +3,7 @@ mod copied;
 mod files;
 mod formats;
 mod laws;
+mod tables;
 
 use imago::error::Error;
 use imago::format::PreallocateMode;
