@@ -46,8 +46,8 @@ IsDiskAppended strict others said (Some files) path (Some old) new =
 -- have what they had, where that is told. Nothing else was made, and nothing is left unfinished;
 -- unless it was to be replaced, nothing had that path.
 abbrev pub IsConverted :
-    Bool → OtherFiles → Option ImageFormat → Bool → Option (List ℕ → List ℕ) → Option (List ℕ → List ℕ)
-    → Option Around → Option Around → List ℕ → List ℕ → Type 0
+    Bool → OtherFiles → Option ImageFormat → Bool → Option (List ℕ → List ℕ)
+    → Option (List ℕ → List ℕ) → Option Around → Option Around → List ℕ → List ℕ → Type 0
 IsConverted strict others said replace None new before after from to = Unit {0}
 IsConverted strict others said replace (Some files) new before after from to =
     (disk : List ℕ) × HasDisk strict others said files from disk

@@ -1,6 +1,6 @@
 //! The system's files.
-ghost use Rattle.std.specs.Prelude.{◌≡◌, ◌+◌, ◌-◌, ◌<◌, ◌≤◌, min, None, IfOk, IfSome, IsNone, true, false};
-ghost use Rattle.std.specs.Prelude.{length, drop, option_to_list};
+ghost use Rattle.std.specs.Prelude.{◌≡◌, ◌+◌, ◌-◌, ◌<◌, ◌≤◌, min, None, IfOk, IfSome, IsNone, true};
+ghost use Rattle.std.specs.Prelude.{false, length, drop, option_to_list};
 ghost use Rattle.std.specs.String.{string_bytes};
 
 use crate::host::{FileKind, FileStatus, Files, Host};
@@ -25,8 +25,8 @@ const MOST_OPEN: usize = 16;
 ///
 /// A file is opened for the first question about its bytes or its end, and stays open for later
 /// ones. A number of files do: before another is opened, the one that wasn't used for the longest
-/// time is closed, and all are where the system refuses to open one more. A file that refuses a read
-/// is closed at once, and all are when a new file gets its path. While a file is open, such
+/// time is closed, and all are where the system refuses to open one more. A file that refuses a
+/// read is closed at once, and all are when a new file gets its path. While a file is open, such
 /// questions don't ask again what its path leads to; `status` and `real_path` always do.
 #[derive(Drop)]
 pub struct System<'a> {

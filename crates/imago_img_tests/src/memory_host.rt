@@ -222,7 +222,8 @@ fn byte_at(bytes: &[u8], offset: u64, count: u64) -> Option<u8>
 }
 
 impl Files for MemoryHost {
-    ghost use Rattle.imago_img_tests.specs.MemoryFiles.{file_bytes, file_status, path_without_links};
+    ghost use Rattle.imago_img_tests.specs.MemoryFiles.{file_bytes, file_status};
+    ghost use Rattle.imago_img_tests.specs.MemoryFiles.{path_without_links};
 
     ghost contents = { λ h. Some (file_bytes h.files.items) };
 

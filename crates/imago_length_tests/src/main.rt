@@ -1,6 +1,7 @@
 //! Compares what `System` tells of files with what their attributes tell, asked for at each
-//! question: how many bytes come before a file's end or are behind it, and the bytes themselves. One file grows, shrinks and is replaced meanwhile. Which files `System` keeps
-//! open is seen where all are replaced: those that it keeps are told to be as long as they were.
+//! question: how many bytes come before a file's end or are behind it, and the bytes themselves.
+//! One file grows, shrinks and is replaced meanwhile. Which files `System` keeps open is seen where
+//! all are replaced: those that it keeps are told to be as long as they were.
 //!
 //! The files are made in the folder that the program is run in, and removed at the end. The program
 //! prints how many questions it asked, and each that was answered otherwise.
