@@ -1,13 +1,13 @@
 -- What words say, read one after the other.
-use Rattle.std.proofs.Common.{◌≡◌, ℕ, Bool, true, false, Result, IfOk, if◌then◌else◌, refl, List, [], ◌∷◌, ◌++◌, map, string_bytes, String, Global, sym, ap, subst, ◌∙◌}
+use Rattle.std.proofs.Common.{◌≡◌, ℕ, Bool, false, Result, IfOk, if◌then◌else◌, refl, List, [], ◌∷◌, ◌++◌, map, string_bytes, String, Global, sym, ap, subst, ◌∙◌}
 use Rattle.std.proofs.lemmas.List.{append_assoc}
 use Rattle.std.proofs.lemmas.Result.{IfOk-weaker}
 use Rattle.imago_img_parts.specs.declared.command.Next.{Next}
-use Rattle.imago_img_parts.specs.declared.command.Next.TheVariants as Next
 use Rattle.imago_img_parts.specs.declared.command.Reading.{Reading}
 use Rattle.imago_img_parts.specs.declared.command.Options.{Options}
 use Rattle.imago_img_parts.specs.declared.command.Paths.{Paths}
-use Rattle.imago_img_parts.specs.Words.{Said, Leads, IsStep, IsWithPath, has_dash, paths_of, said, with_file}
+use Rattle.imago_img_parts.specs.Words.{Said, has_dash, said, with_file}
+use Rattle.imago_img_parts.specs.WordSteps.{Leads, IsStep, IsWithPath, paths_of}
 
 -- one path more is known
 pub step_file : (word : List ℕ) (old new : Paths) (options : Options) (s a : Said)

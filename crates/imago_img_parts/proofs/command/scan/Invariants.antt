@@ -1,6 +1,7 @@
 use Rattle.std.proofs.Common.{map, length, string_bytes}
 use Rattle.imago_img_parts.specs.declared.command.Next.TheVariants as Next
-use Rattle.imago_img_parts.specs.Words.{Leads, said}
+use Rattle.imago_img_parts.specs.Words.{said}
+use Rattle.imago_img_parts.specs.WordSteps.{Leads}
 use Rattle.imago_img_parts.proofs.command.scan.Given as goal
 
 abbrev pub invariant-loop-word : goal.invariant-loop-word
