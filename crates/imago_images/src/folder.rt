@@ -10,45 +10,27 @@ use std::path::Path;
 
 /// The folder of an image's file, and whether files outside of it are looked at.
 #[derive(Drop)]
-pub struct Folder<'a> {
-    /// The image's path.
-    image: &'a str,
+pub struct Folder {
     /// The folder's path without links, where only files in it are looked at.
     bounds: Option<String>,
 }
 
-impl<'a> Folder<'a> {
+impl Folder {
     ghost use Rattle.imago_images.specs.FolderParts.{bounds_in, IsBounded, IsBeyond};
 
     /// The folder of the image of that path. Where files outside may be looked at, the host isn't
     /// asked; otherwise it may refuse to tell the folder's path without links.
-    pub fn of<H: Files>(host: &H, image: &'a str, allow_outside: bool) -> Result<Self, OpenError>
+    pub fn of<H: Files>(host: &H, image: &str, allow_outside: bool) -> Result<Self, OpenError>
         ensures bounds { IfOk result
             (λ f. IsBounded (H.real_paths host.now) image.now (bounds_in f)) }
         ensures refused { IfErr result (IsRefused (folder_asked image.now) IsBySystem) }
     {
         if allow_outside {
-            return Ok(Folder {
-                image,
-                bounds: None,
-            });
+            return Ok(Folder { bounds: None });
         }
         let folder = folder_to_ask(image);
         let real = OpenError::or_system(host.alloc(), folder, host.real_path(folder))?;
-        Ok(Folder {
-            image,
-            bounds: Some(real),
-        })
-    }
-
-    /// The image's path.
-    pub fn image(&self) -> &'a str {
-        self.image
-    }
-
-    /// Whether only files in the folder, and below it, are looked at.
-    pub fn is_bounded(&self) -> bool {
-        self.bounds.is_some()
+        Ok(Folder { bounds: Some(real) })
     }
 
     /// Whether a link leads a path out of the folder, where that isn't permitted. A path that leads

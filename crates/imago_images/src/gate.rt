@@ -56,7 +56,7 @@ pub struct FolderGate<'a, 'b, H: Files> {
     /// The image's path.
     image: &'b str,
     named: Named,
-    folder: Folder<'b>,
+    folder: Folder,
     other_files: OtherFiles,
     /// The path of the last file that wasn't handed out.
     refused: Option<String>,
@@ -90,6 +90,13 @@ impl<'a, 'b, H: Files> FolderGate<'a, 'b, H> {
             other_files,
             refused: None,
         })
+    }
+
+    /// The path of the image that names the files.
+    pub fn image(&self) -> &'b str
+        ensures { result.now ≡ gate_image self.now }
+    {
+        self.image
     }
 
     /// The path of the last file that wasn't handed out, if there is one.
@@ -131,7 +138,10 @@ impl<'a, 'b, H: Files> FolderGate<'a, 'b, H> {
     }
 
     /// Looks at the file of that path, if it is let through.
-    pub(crate) fn look(&self, path: &str) -> Result<PathFile<'a, H>, OpenError>
+    ///
+    /// A path that isn't is refused as the image's fault, for one of the reasons above. A file that
+    /// can't be looked at is refused as by [`PathFile::look_at`].
+    pub fn look(&self, path: &str) -> Result<PathFile<'a, H>, OpenError>
         ensures told { IfOk result (λ f. IfSome (H.contents (gate_host self.now))
             (λ files. ⟦<PathFile<'a, H> as HostFile>⟧.contents f ≡ Some (files path.now))) }
         ensures path { IfOk result (λ f. file_path f ≡ path.now) }

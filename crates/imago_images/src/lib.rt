@@ -20,7 +20,7 @@
 pub mod failure;
 pub mod file;
 pub mod files;
-pub mod folder;
+mod folder;
 pub mod format;
 pub mod gate;
 pub mod layer;

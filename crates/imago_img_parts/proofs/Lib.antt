@@ -3,3 +3,5 @@ mod Told
 mod Printed
 mod Decimals
 mod Spoken
+mod ClusterSteps
+mod FaultSteps

@@ -6,7 +6,8 @@ use Rattle.imago_img_parts.specs.declared.command.Question.{Question}
 use Rattle.imago_img_parts.specs.declared.command.Question.TheVariants as Q
 use Rattle.imago_img_parts.specs.declared.run.Outcome.{Outcome}
 use Rattle.imago_img_parts.specs.Disks.{AreCompared}
-use Rattle.imago_img_parts.specs.Commands.{AreToldApart, IsAnswered, outcome_when}
+use Rattle.imago_img_parts.specs.Faultless.{IsFaultless}
+use Rattle.imago_img_parts.specs.Commands.{AreToldApart, IsChecked, IsAnswered, outcome_when}
 
 twice : (b : Bool) → not (not b) ≡ b
 twice true = refl
@@ -37,5 +38,31 @@ pub answered : {E : Type 0} (how : Opening) (contents : Option (List ℕ → Lis
     → IfOk result (λ o. IfSome contents (λ files. AreToldApart how files first.now second.now o))
     → IfOk result (λ o. IfSome contents (λ files. IsAnswered question how files o))
 answered how contents first second quiet question result is =
+    subst (λ (q : Question). IfOk result (λ o. IfSome contents (λ files. IsAnswered q how files o)))
+    (sym is)
+
+nothing : {F : Type 0} (contents : Option F) → IfSome contents (λ files. Unit {0})
+nothing None = tt
+nothing (Some files) = tt
+
+-- whether faults were found tells whether an image is in order
+pub found_faults : (how : Opening) (contents : Option (List ℕ → List ℕ)) (path : List ℕ)
+    (fine : Bool) (outcome : Outcome) → outcome ≡ outcome_when fine
+    → (fine ≡ true → IfSome contents
+    (λ files. IsFaultless how.strict how.other_files how.format files path))
+    → IfSome contents (λ files. IsChecked how files path outcome)
+found_faults how contents path true outcome is h =
+    subst (λ (o : Outcome). IfSome contents (λ files. IsChecked how files path o)) (sym is) (h refl)
+found_faults how contents path false outcome is h =
+    subst (λ (o : Outcome). IfSome contents (λ files. IsChecked how files path o)) (sym is)
+    (nothing contents)
+
+-- and so answers a question for that
+pub answered_check : {E : Type 0} (how : Opening) (contents : Option (List ℕ → List ℕ))
+    (path : Bor (List ℕ)) (question : Question) (result : Result Outcome E)
+    → question ≡ Q.Check path
+    → IfOk result (λ o. IfSome contents (λ files. IsChecked how files path.now o))
+    → IfOk result (λ o. IfSome contents (λ files. IsAnswered question how files o))
+answered_check how contents path question result is =
     subst (λ (q : Question). IfOk result (λ o. IfSome contents (λ files. IsAnswered q how files o)))
     (sym is)

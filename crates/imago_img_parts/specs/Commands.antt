@@ -9,6 +9,7 @@ use Rattle.imago_img_parts.specs.declared.run.Outcome.{Outcome}
 use Rattle.imago_img_parts.specs.declared.run.Outcome.TheVariants.{Fine, Unlike}
 use Rattle.imago_img_parts.specs.Files.{Around}
 use Rattle.imago_img_parts.specs.Disks.{IsConverted, AreCompared}
+use Rattle.imago_img_parts.specs.Faultless.{IsFaultless}
 use Rattle.imago_img_parts.specs.Words.{Asks}
 
 -- fine or not
@@ -24,6 +25,13 @@ AreToldApart how files first second Fine =
 AreToldApart how files first second Unlike =
     (at : ℕ) × AreCompared how.strict how.other_files how.format files first second (Some at)
 
+-- The file of an image has no fault that a check looks for. What it says where it finds one isn't
+-- told here.
+abbrev pub IsChecked : Opening → (List ℕ → List ℕ) → List ℕ → Outcome → Type 0
+IsChecked how files path Fine =
+    IsFaultless how.strict how.other_files how.format files path
+IsChecked how files path Unlike = Unit {0}
+
 -- what the answer to a question says of files
 abbrev pub IsAnswered : Question → Opening → (List ℕ → List ℕ) → Outcome → Type 0
 IsAnswered Q.Help how files outcome = Unit {0}
@@ -31,7 +39,7 @@ IsAnswered (Q.Info path json) how files outcome = Unit {0}
 IsAnswered (Q.Map path json) how files outcome = Unit {0}
 IsAnswered (Q.Compare first second quiet) how files outcome =
     AreToldApart how files first.now second.now outcome
-IsAnswered (Q.Check path) how files outcome = Unit {0}
+IsAnswered (Q.Check path) how files outcome = IsChecked how files path.now outcome
 
 -- a status other than 0, and for a question that has two answers neither of theirs
 abbrev pub TellsNothing : Question → ℕ → Type 0
@@ -55,8 +63,8 @@ IsPerformed (Ask question) how old new before after status =
     × (status ≡ 0 → IfSome old (λ files. IsAnswered question how files Fine))
     × (status ≡ 1 → IfSome old (λ files. IsAnswered question how files Unlike))
 
--- What a command line did to the files of a host: what its words ask for, or nothing, with status 2,
--- where they can't be meant.
+-- What a command line did to the files of a host: what its words ask for, or nothing, with status
+-- 2, where they can't be meant.
 abbrev pub IsRun :
     List (List ℕ) → Option (List ℕ → List ℕ) → Option (List ℕ → List ℕ)
     → Option Around → Option Around → ℕ → Type 0

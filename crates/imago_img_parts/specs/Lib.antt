@@ -3,4 +3,7 @@ pub mod Disks
 pub mod Lines
 pub mod Words
 pub mod WordSteps
+pub mod Faultless
+pub mod Extents
+pub mod ClusterRuns
 pub mod Commands

@@ -1,20 +1,36 @@
 //! Whether an image is in order.
+ghost use Rattle.std.specs.Prelude.{◌≡◌, ℕ, ◌<◌, List, not, map, length, true, false, Ok};
+ghost use Rattle.std.specs.Prelude.{IfOk, IfSome};
+ghost use Rattle.std.specs.String.{string_bytes};
+ghost use Rattle.imago_vmdk.specs.Line.{extent_with};
+ghost use Rattle.imago_vmdk.specs.Reading.{reading_of};
+ghost use Rattle.imago_qcow2.specs.Header.{header_of};
+ghost use Rattle.imago_qcow2.specs.Entry.{disk_size, qcow2_place};
+ghost use Rattle.imago_qcow2.specs.declared.header.Header.{Header};
+ghost use Rattle.imago_images.specs.declared.format.ImageFormat.TheVariants as Of;
+ghost use Rattle.imago_images.specs.GateParts.{gate_host, gate_image, gate_files};
+ghost use Rattle.imago_images.specs.HostBytes.{HasBytes};
+ghost use Rattle.imago_img_parts.specs.ClusterRuns.{AreTold};
+ghost use Rattle.imago_img_parts.specs.Faultless.{IsHeld, AreHeld, IsFaultless, IsFaultlessAs};
 
 use crate::clusters::{ClusterRun, cluster_runs, tell_faults};
-use crate::extents::{Folder, bytes_of, find, tell_fault};
+use crate::extents::{find, tell_fault};
 use crate::failure::{Failure, OpenError, Reason};
 use crate::host::{Files, Host};
 use crate::looked::{descriptor_text, try_file};
 use imago_access::access::FormatAccess;
 use imago_images::file::{PathStorage, look_at};
 use imago_images::format::ImageFormat;
+use imago_images::gate::{FolderGate, Named};
 use imago_images::layer::{format_of, open_qcow2, told_by_host};
 use imago_images::opening::Opening;
 use imago_qcow2::fault::HeaderFault;
+use imago_qcow2::laws::image_of_bytes;
 use imago_storage::error::Error;
 use imago_storage::storage::Storage;
 use imago_vmdk::descriptor::{self, Descriptor};
 use imago_vmdk::line::{Extent, verdict};
+use std::alloc::Global;
 use std::io::{self, Write};
 
 /// The longest line that is shown, in bytes.
@@ -28,7 +44,10 @@ pub fn check<H: Host, W: Write>(
     path: &str,
     how: Opening,
     output: &mut W,
-) -> Result<bool, Failure> {
+) -> Result<bool, Failure>
+    ensures { IfOk result (λ fine. fine ≡ true → IfSome (H.contents host.now)
+        (λ files. IsFaultless how.strict how.other_files how.format files path.now)) }
+{
     let faults = check_format(host, path, how, output)?;
     tell_count(faults, output).map_err(Failure::Output)?;
     Ok(faults == 0)
@@ -49,7 +68,10 @@ fn check_format<H: Host, W: Write>(
     path: &str,
     how: Opening,
     output: &mut W,
-) -> Result<u64, Failure> {
+) -> Result<u64, Failure>
+    ensures { IfOk result (λ n. n ≡ 0 → IfSome (H.contents host.now)
+        (λ files. IsFaultless how.strict how.other_files how.format files path.now)) }
+{
     let file = look_at(host, path)?;
     match format_of(host.alloc(), path, &file, how.format)? {
         ImageFormat::Raw => {
@@ -57,23 +79,28 @@ fn check_format<H: Host, W: Write>(
             Ok(0)
         }
         ImageFormat::Vmdk => check_vmdk(host, path, &file, how, output),
-        ImageFormat::Qcow2 => check_qcow2(host, path, file, output),
+        ImageFormat::Qcow2 => check_qcow2(host, path, file, how, output),
     }
 }
 
 /// Tells the faults of the header of a qcow2 file, or else of its clusters, and how many there are.
-fn check_qcow2<H: Host, W: Write>(
-    host: &H,
+fn check_qcow2<'a, H: Host, W: Write>(
+    host: &'a H,
     path: &str,
-    mut file: PathStorage<'_, H>,
+    mut file: PathStorage<'a, H>,
+    how: Opening,
     output: &mut W,
-) -> Result<u64, Failure> {
+) -> Result<u64, Failure>
+    requires { IfSome (H.contents host.now)
+        (λ files. HasBytes ⟦<PathStorage<'a, H> as Storage>⟧.features
+        ⟦<PathStorage<'a, H> as Storage>⟧.bytes (files path.now) file) }
+    ensures { IfOk result (λ n. n ≡ 0 → IfSome (H.contents host.now)
+        (λ files. IsFaultlessAs how.strict how.other_files files path.now Of.Qcow2)) }
+{
+    let length = Failure::or_image(host.alloc(), path, file.size())?;
     let found = runs_of(host, path, &mut file);
     match told_by_host(host.alloc(), path, &file, found) {
-        Ok(runs) => {
-            let length = file.file().status().length;
-            tell_faults(host.alloc(), path, &runs, length, output)
-        }
+        Ok(runs) => tell_faults(host.alloc(), path, &runs, length, output),
         Err(
             OpenError::OfFile {
                 reason: Reason::Header(fault),
@@ -89,18 +116,36 @@ fn runs_of<H: Files, S: Storage>(
     host: &H,
     path: &str,
     file: S,
-) -> Result<Vec<ClusterRun>, OpenError> {
-    let image = FormatAccess::new(open_qcow2(host, path, file)?);
+) -> Result<Vec<ClusterRun>, OpenError>
+    ensures header { (bytes : List ℕ) → HasBytes S.features S.bytes bytes file → IfOk result
+        (λ _. (header : Header) × (header_of bytes (length bytes) ≡ Ok header)) }
+    ensures told { (bytes : List ℕ) → HasBytes S.features S.bytes bytes file → IfOk result
+        (λ runs. AreTold (qcow2_place bytes) (disk_size bytes) runs.items) }
+{
+    let qcow2 = open_qcow2(host, path, file)?;
+    image_of_bytes(&qcow2);
+    let image = FormatAccess::new(qcow2);
     let cluster = image.inner().header().cluster_size();
     let runs = cluster_runs(host.alloc(), &image, cluster);
     OpenError::or_image(host.alloc(), path, runs)
 }
 
 /// Tells what is wrong with a header, each feature by itself, and how many faults that is.
-fn tell_header<W: Write>(path: &str, fault: HeaderFault, output: &mut W) -> io::Result<u64> {
+fn tell_header<W: Write>(path: &str, fault: HeaderFault, output: &mut W) -> io::Result<u64>
+    ensures { IfOk result (λ n. 0 < n) }
+{
+    let features = tell_features(path, fault, output)?;
+    if features > 0 {
+        return Ok(features);
+    }
+    writeln!(output, "{path:?}: {fault}")?;
+    Ok(1)
+}
+
+/// Tells each feature that a header has and that isn't supported, and how many these are.
+fn tell_features<W: Write>(path: &str, fault: HeaderFault, output: &mut W) -> io::Result<u64> {
     let HeaderFault::Features(features) = fault else {
-        writeln!(output, "{path:?}: {fault}")?;
-        return Ok(1);
+        return Ok(0);
     };
     let mut faults: u64 = 0;
     for bit in 0..64u32 {
@@ -114,13 +159,19 @@ fn tell_header<W: Write>(path: &str, fault: HeaderFault, output: &mut W) -> io::
 }
 
 /// Tells the faults of a descriptor, and how many there are.
-fn check_vmdk<H: Host, W: Write>(
-    host: &H,
+fn check_vmdk<'a, H: Host, W: Write>(
+    host: &'a H,
     path: &str,
-    file: &PathStorage<'_, H>,
+    file: &PathStorage<'a, H>,
     how: Opening,
     output: &mut W,
-) -> Result<u64, Failure> {
+) -> Result<u64, Failure>
+    requires { IfSome (H.contents host.now)
+        (λ files. HasBytes ⟦<PathStorage<'a, H> as Storage>⟧.features
+        ⟦<PathStorage<'a, H> as Storage>⟧.bytes (files path.now) file.now) }
+    ensures { IfOk result (λ n. n ≡ 0 → IfSome (H.contents host.now)
+        (λ files. IsFaultlessAs how.strict how.other_files files path.now Of.Vmdk)) }
+{
     let text = descriptor_text(host.alloc(), path, file)?;
     let faults = check_lines(path, !how.strict, &text, output).map_err(Failure::Output)?;
     match descriptor::read(host.alloc(), !how.strict, &text) {
@@ -136,7 +187,9 @@ fn tell_whole<W: Write>(
     faults: u64,
     cause: Error,
     output: &mut W,
-) -> Result<u64, Failure> {
+) -> Result<u64, Failure>
+    ensures { IfOk result (λ n. 0 < n) }
+{
     if cause == Error::Memory {
         return Err(Failure::Memory);
     }
@@ -208,23 +261,43 @@ fn check_extents<H: Host, W: Write>(
     described: &Descriptor,
     how: Opening,
     output: &mut W,
-) -> Result<u64, Failure> {
-    let folder = Folder::of(host, path, how.allows_outside())?;
+) -> Result<u64, Failure>
+    ensures { IfOk result (λ n. n ≡ 0 → IfSome (H.contents host.now)
+        (λ files. AreHeld how.other_files files path.now
+        (map (extent_with string_bytes) described.now.extents.items))) }
+{
+    let gate = FolderGate::of(host, path, Named::Extents, how.other_files)?;
     let mut faults: u64 = 0;
-    for extent in &described.extents {
-        if let Extent::Flat {
-            sectors,
-            name,
-            offset,
-            ..
-        } = extent
-        {
-            let file = find(host, &folder, name)?;
-            let end = bytes_of(*offset).saturating_add(bytes_of(*sectors));
-            if tell_fault(output, "", name, end, &file).map_err(Failure::Output)? {
-                faults = faults.saturating_add(1);
-            }
+    let mut rest = described.extents.as_slice();
+    while let Some((extent, behind)) = rest.split_first() {
+        rest = behind;
+        if tell_extent(host.alloc(), &gate, extent, output)? {
+            faults = faults.saturating_add(1);
         }
     }
     Ok(faults)
+}
+
+/// Tells an extent of a descriptor that its file doesn't hold, and whether it is one.
+fn tell_extent<H: Host, W: Write>(
+    alloc: Global,
+    gate: &FolderGate<'_, '_, H>,
+    extent: &Extent<String>,
+    output: &mut W,
+) -> Result<bool, Failure>
+    ensures { IfOk result (λ faulty. faulty ≡ false → IfSome (H.contents (gate_host gate.now))
+        (λ files. IsHeld (gate_files gate.now) files (gate_image gate.now)
+        (extent_with string_bytes extent.now))) }
+{
+    let Extent::Flat {
+        sectors,
+        name,
+        offset,
+        ..
+    } = extent
+    else {
+        return Ok(false);
+    };
+    let file = find(alloc, gate, name)?;
+    tell_fault(output, "", name, (*offset, *sectors), &file).map_err(Failure::Output)
 }

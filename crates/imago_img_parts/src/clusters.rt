@@ -1,10 +1,15 @@
 //! The clusters of a qcow2 file, as its disk has them.
-ghost use Rattle.std.specs.Prelude.{◌<◌, ◌≤◌, IfOk};
+ghost use Rattle.std.specs.Prelude.{◌≡◌, ℕ, ◌+◌, ◌<◌, ◌≤◌, IfOk, IfSome, IfNone, OnOk};
+ghost use Rattle.imago_access.specs.Chain.{driver};
+ghost use Rattle.imago_img_parts.specs.declared.clusters.ClusterKind.TheVariants as Kind;
+ghost use Rattle.imago_img_parts.specs.ClusterRuns.{kind_by, AreOfKind, IsPut, AreTold, IsInFile};
+ghost use Rattle.imago_img_parts.specs.ClusterRuns.{AreInFile, AreHeldBy, AreBehind};
+ghost use Rattle.imago_img_parts.specs.ClusterRuns.{AreFaultless, end_of as end_in_file};
 
 use crate::failure::Failure;
 use imago_access::access::FormatAccess;
-use imago_access::mapping::Mapping;
 use imago_drivers::drivers::FormatDriverInstance;
+use imago_drivers::mapping::ShallowMapping;
 use imago_storage::error::Error;
 use std::alloc::Global;
 use std::io::{self, Write};
@@ -39,8 +44,19 @@ impl ClusterRun {
     }
 }
 
-/// What the clusters at that offset of a disk are, and how many bytes, at most so many, are of that
-/// kind.
+/// What clusters are that are mapped so.
+fn kind_of(mapping: ShallowMapping) -> ClusterKind
+    ensures { result ≡ kind_by «mapping» }
+{
+    match mapping {
+        ShallowMapping::Raw { offset, .. } => ClusterKind::Stored(offset),
+        ShallowMapping::Special { .. } => ClusterKind::Compressed,
+        _ => ClusterKind::Absent,
+    }
+}
+
+/// What the clusters at that offset of a disk are, by the file alone, and how many bytes, at most
+/// so many, are of that kind.
 fn run_at<D: FormatDriverInstance>(
     image: &FormatAccess<D>,
     cluster: u64,
@@ -49,49 +65,71 @@ fn run_at<D: FormatDriverInstance>(
 ) -> Result<ClusterRun, Error>
     requires cluster { 0 < cluster }
     requires some { 0 < most }
+    ensures start { IfOk result (λ run. run.start ≡ «at») }
     ensures some { IfOk result (λ run. 0 < run.length) }
     ensures within { IfOk result (λ run. run.length ≤ most) }
+    ensures kind { IfOk result
+        (λ run. AreOfKind (D.view (driver image.now)).place at run.length run.kind) }
 {
-    let (kind, length) = match image.get_mapping(at, most) {
-        Ok((Mapping::Raw { offset, .. }, count)) => (ClusterKind::Stored(offset), count),
-        Ok((Mapping::Special { .. }, count)) => (ClusterKind::Compressed, count),
-        Ok((_, count)) => (ClusterKind::Absent, count),
-        Err(Error::InvalidData) => (ClusterKind::Invalid, cluster - at % cluster),
-        Err(cause) => return Err(cause),
-    };
-    Ok(ClusterRun {
-        start: at,
-        length: length.clamp(1, most),
-        kind,
-    })
+    match image.get_shallow_mapping(at, most) {
+        Ok((mapping, count)) => Ok(ClusterRun {
+            start: at,
+            length: count.max(1),
+            kind: kind_of(mapping),
+        }),
+        Err(Error::InvalidData) => Ok(ClusterRun {
+            start: at,
+            length: most.min(cluster - at % cluster),
+            kind: ClusterKind::Invalid,
+        }),
+        Err(cause) => Err(cause),
+    }
+}
+
+/// Two runs as one, where both are invalid and the second one begins where the first one ends.
+fn joined(first: ClusterRun, second: ClusterRun) -> Option<ClusterRun>
+    ensures { IfSome result (λ run. run.kind ≡ Kind.Invalid) }
+{
+    match (first.kind, second.kind) {
+        (ClusterKind::Invalid, ClusterKind::Invalid) if first.end() == second.start => {
+            Some(ClusterRun {
+                start: first.start,
+                length: first.length.saturating_add(second.length),
+                kind: ClusterKind::Invalid,
+            })
+        }
+        _ => None,
+    }
 }
 
 /// Puts a run to the others. Invalid clusters behind others are one run with them.
-fn put(runs: &mut Vec<ClusterRun>, next: ClusterRun) -> Result<(), Error> {
-    if next.kind == ClusterKind::Absent {
+fn put(runs: &mut Vec<ClusterRun>, next: ClusterRun) -> Result<(), Error>
+    ensures { OnOk result (IsPut runs.old.items next runs.new.items) }
+{
+    if let ClusterKind::Absent = next.kind {
         return Ok(());
     }
-    let mut next = next;
     if let Some(last) = runs.pop() {
-        let both_invalid = last.kind == ClusterKind::Invalid && next.kind == ClusterKind::Invalid;
-        if both_invalid && last.end() == next.start {
-            next.start = last.start;
-            next.length = last.length.saturating_add(next.length);
-        } else {
-            runs.push(last)?;
+        if let Some(both) = joined(last, next) {
+            runs.push(both)?;
+            return Ok(());
         }
+        runs.push(last)?;
     }
     runs.push(next)?;
     Ok(())
 }
 
-/// The clusters of that length that an image has for its disk, by the disk's offsets.
+/// The clusters of that length that an image has for its disk, by the disk's offsets and by its own
+/// file alone.
 pub fn cluster_runs<D: FormatDriverInstance>(
     alloc: Global,
     image: &FormatAccess<D>,
     cluster: u64,
 ) -> Result<Vec<ClusterRun>, Error>
     requires { 0 < cluster }
+    ensures { let view = D.view (driver image.now) in
+        IfOk result (λ runs. AreTold view.place view.size runs.items) }
 {
     let size = image.size();
     let mut runs = Vec::new(alloc);
@@ -135,8 +173,8 @@ impl ClusterCounts {
     }
 }
 
-/// How many clusters of that length the disk of an image has. They are counted one run after the
-/// other, and no run is kept.
+/// How many clusters of that length the disk of an image has, by its own file alone. They are
+/// counted one run after the other, and no run is kept.
 pub fn count_clusters<D: FormatDriverInstance>(
     image: &FormatAccess<D>,
     cluster: u64,
@@ -160,18 +198,21 @@ pub fn count_clusters<D: FormatDriverInstance>(
 
 /// What the clusters of a run are, and why they can't be read in a file of that length, if they
 /// can't.
-fn run_fault(run: &ClusterRun, length: u64) -> Option<(&'static str, &'static str)> {
+fn run_fault(run: &ClusterRun, length: u64) -> Option<(&'static str, &'static str)>
+    ensures { IfNone result (IsInFile length run.now.length run.now.kind) }
+{
     match run.kind {
         ClusterKind::Invalid => Some(("the entries of ", "can't be meant")),
         ClusterKind::Compressed => Some((
             "the clusters at ",
             "are compressed, which isn't supported",
         )),
-        ClusterKind::Stored(offset) if offset.saturating_add(run.length) > length => Some((
+        ClusterKind::Stored(offset) if length < offset || length - offset < run.length => Some((
             "",
             "passes the file's end: what lacks reads as 0",
         )),
-        _ => None,
+        ClusterKind::Stored(_) => None,
+        ClusterKind::Absent => None,
     }
 }
 
@@ -182,9 +223,13 @@ fn tell_unreadable<W: Write>(
     runs: &[ClusterRun],
     length: u64,
     output: &mut W,
-) -> io::Result<u64> {
+) -> io::Result<u64>
+    ensures { IfOk result (λ n. n ≡ 0 → AreInFile length runs.now) }
+{
     let mut faults: u64 = 0;
-    for run in runs {
+    let mut rest = runs;
+    while let Some((run, behind)) = rest.split_first() {
+        rest = behind;
         if let Some((what, fault)) = run_fault(run, length) {
             let (start, end) = (run.start, run.end());
             writeln!(
@@ -201,37 +246,63 @@ fn tell_unreadable<W: Write>(
 #[derive(Clone, Copy)]
 struct Held {
     offset: u64,
-    end: u64,
+    /// How many bytes it is.
+    length: u64,
     /// Where it begins on the disk.
     start: u64,
 }
 
-/// The data of runs, by its places in the file.
-fn held_by_offset(alloc: Global, runs: &[ClusterRun]) -> Result<Vec<Held>, Error> {
+impl Held {
+    /// Where it ends in the file.
+    fn end(&self) -> u64
+        ensures { result ≡ end_in_file self.now }
+    {
+        self.offset.saturating_add(self.length)
+    }
+}
+
+/// The data of runs, in their order.
+fn data_of(alloc: Global, runs: &[ClusterRun]) -> Result<Vec<Held>, Error>
+    ensures { IfOk result (λ all. AreHeldBy runs.now all.items) }
+{
     let mut all = Vec::new(alloc);
-    for run in runs {
+    let mut rest = runs;
+    while let Some((run, behind)) = rest.split_first() {
+        rest = behind;
         if let ClusterKind::Stored(offset) = run.kind {
             all.push(Held {
                 offset,
-                end: offset.saturating_add(run.length),
+                length: run.length,
                 start: run.start,
             })?;
         }
     }
+    Ok(all)
+}
+
+/// The data of runs, by its places in the file.
+fn held_by_offset(alloc: Global, runs: &[ClusterRun]) -> Result<Vec<Held>, Error>
+    ensures { IfOk result (λ all. AreHeldBy runs.now all.items) }
+{
+    let mut all = data_of(alloc, runs)?;
     all.sort_unstable_by_key(|held| held.offset);
     Ok(all)
 }
 
 /// Tells data of the file that two entries name, and how many times.
-fn tell_twice<W: Write>(path: &str, all: &[Held], output: &mut W) -> io::Result<u64> {
+fn tell_twice<W: Write>(path: &str, all: &[Held], output: &mut W) -> io::Result<u64>
+    ensures { IfOk result (λ n. n ≡ 0 → AreBehind 0 all.now) }
+{
     let mut faults: u64 = 0;
     let mut last = Held {
         offset: 0,
-        end: 0,
+        length: 0,
         start: 0,
     };
-    for held in all {
-        if held.offset < last.end {
+    let mut rest = all;
+    while let Some((held, behind)) = rest.split_first() {
+        rest = behind;
+        if held.offset < last.end() {
             let (offset, other) = (held.offset, held.start);
             let one = last
                 .start
@@ -242,7 +313,7 @@ fn tell_twice<W: Write>(path: &str, all: &[Held], output: &mut W) -> io::Result<
             )?;
             faults = faults.saturating_add(1);
         }
-        if held.end > last.end {
+        if held.end() > last.end() {
             last = *held;
         }
     }
@@ -256,7 +327,9 @@ pub fn tell_faults<W: Write>(
     runs: &[ClusterRun],
     length: u64,
     output: &mut W,
-) -> Result<u64, Failure> {
+) -> Result<u64, Failure>
+    ensures { IfOk result (λ n. n ≡ 0 → AreFaultless length runs.now) }
+{
     let unreadable = tell_unreadable(path, runs, length, output).map_err(Failure::Output)?;
     let held = Failure::or_image(alloc, path, held_by_offset(alloc, runs))?;
     let twice = tell_twice(path, &held, output).map_err(Failure::Output)?;

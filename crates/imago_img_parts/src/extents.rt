@@ -1,12 +1,20 @@
 //! The files that extents stand in, as they are found.
 
+ghost use Rattle.std.specs.Prelude.{◌≡◌, ◌+◌, ◌*◌, ◌≤◌, ◌↔◌, IsTrue, IfOk, IfSome, false};
+ghost use Rattle.std.specs.Prelude.{length as count_of};
+ghost use Rattle.imago_images.specs.Gate.{IsLetThrough};
+ghost use Rattle.imago_images.specs.GateParts.{gate_host, gate_image, gate_files};
+ghost use Rattle.imago_img_parts.specs.Extents.{IsFound, HasNoLength, HoldsSectors};
+
 use crate::failure::Failure;
 use crate::host::Host;
 use crate::looked::try_file;
-use imago_file::name::{path_beside, stays_below};
+use imago_file::name::path_beside;
 use imago_images::failure::{OpenError, Reason};
-use imago_images::file::look_at;
-pub use imago_images::folder::Folder;
+use imago_images::file::storage_of;
+use imago_images::gate::FolderGate;
+use imago_storage::storage::Storage;
+use std::alloc::Global;
 use std::io::{self, Write};
 
 /// What is found under the name of an extent.
@@ -14,7 +22,7 @@ use std::io::{self, Write};
 pub enum ExtentFile {
     /// A file of that many bytes.
     Length(u64),
-    /// The name leads out of the descriptor's folder, and isn't looked at.
+    /// The path that the name stands for leads out of the descriptor's folder, and isn't looked at.
     Outside,
     /// What has no bytes at offsets.
     NotAFile,
@@ -22,43 +30,56 @@ pub enum ExtentFile {
     Refused(io::Error),
 }
 
-/// What is found under the name of an extent of the descriptor that the folder is of.
-pub fn find<H: Host>(host: &H, folder: &Folder<'_>, name: &str) -> Result<ExtentFile, Failure> {
-    if folder.is_bounded() && !stays_below(name) {
-        return Ok(ExtentFile::Outside);
-    }
-    let path = path_beside(host.alloc(), folder.image(), name)?;
-    match folder.leaves(host, &path) {
-        Ok(false) => found(readable_length(host, &path)),
-        Ok(true) => Ok(ExtentFile::Outside),
-        Err(cause) => Ok(ExtentFile::Refused(cause)),
-    }
-}
-
-/// The length of a file whose first byte can be read, in bytes.
-fn readable_length<H: Host>(host: &H, path: &str) -> Result<u64, OpenError> {
-    let file = look_at(host, path)?;
-    try_file(host.alloc(), path, &file)?;
-    Ok(file.file().status().length)
-}
-
-/// What is found under a path, by what is answered for its length.
-fn found(answer: Result<u64, OpenError>) -> Result<ExtentFile, Failure> {
-    match answer {
+/// What is found under the name of an extent of the descriptor whose files that gate lets through.
+pub fn find<H: Host>(
+    alloc: Global,
+    gate: &FolderGate<'_, '_, H>,
+    name: &str,
+) -> Result<ExtentFile, Failure>
+    ensures { IfOk result (λ file. IfSome (H.contents (gate_host gate.now))
+        (λ files. IsFound (gate_files gate.now) files (gate_image gate.now) name.now file)) }
+{
+    let path = path_beside(alloc, gate.image(), name)?;
+    match readable_length(alloc, gate, &path) {
         Ok(length) => Ok(ExtentFile::Length(length)),
-        Err(
-            OpenError::OfFile {
-                reason: Reason::NotAFile,
-                ..
-            },
-        ) => Ok(ExtentFile::NotAFile),
-        Err(
-            OpenError::OfFile {
-                reason: Reason::System(cause),
-                ..
-            },
-        ) => Ok(ExtentFile::Refused(cause)),
-        Err(cause) => Err(Failure::from(cause)),
+        Err(cause) => no_length(cause),
+    }
+}
+
+/// The length of a file whose first byte can be read, in bytes, if it is let through.
+fn readable_length<H: Host>(
+    alloc: Global,
+    gate: &FolderGate<'_, '_, H>,
+    path: &str,
+) -> Result<u64, OpenError>
+    ensures through { IfOk result
+        (λ _. IsLetThrough (gate_files gate.now) (gate_image gate.now) path.now) }
+    ensures told { IfOk result (λ n. IfSome (H.contents (gate_host gate.now))
+        (λ files. n ≡ count_of (files path.now))) }
+{
+    let file = storage_of(gate.look(path)?, path)?;
+    try_file(alloc, path, &file)?;
+    OpenError::or_image(alloc, path, file.size())
+}
+
+/// What is found under a path, where its length isn't told for that reason.
+fn no_length(cause: OpenError) -> Result<ExtentFile, Failure>
+    ensures { IfOk result HasNoLength }
+{
+    match cause {
+        OpenError::OfFile {
+            reason: Reason::Outside(_),
+            ..
+        } => Ok(ExtentFile::Outside),
+        OpenError::OfFile {
+            reason: Reason::NotAFile,
+            ..
+        } => Ok(ExtentFile::NotAFile),
+        OpenError::OfFile {
+            reason: Reason::System(cause),
+            ..
+        } => Ok(ExtentFile::Refused(cause)),
+        cause => Err(Failure::from(cause)),
     }
 }
 
@@ -67,20 +88,33 @@ pub fn bytes_of(sectors: u64) -> u64 {
     sectors.saturating_mul(512)
 }
 
-/// Tells what is wrong with the file of a FLAT extent that ends there in it, if anything is. Bytes
-/// behind the file's end read as 0.
+/// Whether a file of that length has so many sectors from one on.
+fn holds(length: u64, offset: u64, sectors: u64) -> bool
+    ensures { IsTrue result ↔ ((offset + sectors) * 512 ≤ «length») }
+{
+    let whole = length / 512;
+    offset <= whole && sectors <= whole - offset
+}
+
+/// Tells what is wrong with the file of a FLAT extent, if anything is, and whether something is.
+/// The extent's part of the file begins with the sector of the first number, and has as many
+/// sectors as the second one. Bytes behind the file's end read as 0.
 pub fn tell_fault<W: Write>(
     output: &mut W,
     start: &str,
     name: &str,
-    end: u64,
+    part: (u64, u64),
     file: &ExtentFile,
-) -> io::Result<bool> {
+) -> io::Result<bool>
+    ensures { IfOk result (λ faulty. faulty ≡ false → HoldsSectors part.0 part.1 file.now) }
+{
+    let (offset, sectors) = part;
     if let ExtentFile::Length(length) = file {
-        if end <= *length {
+        if holds(*length, offset, sectors) {
             return Ok(false);
         }
     }
+    let end = bytes_of(offset).saturating_add(bytes_of(sectors));
     write!(output, "{start}{name:?}: ")?;
     match file {
         ExtentFile::Length(length) => writeln!(

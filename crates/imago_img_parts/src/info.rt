@@ -1,6 +1,6 @@
 //! What an image is.
 
-use crate::extents::{ExtentFile, Folder, bytes_of, find, tell_fault};
+use crate::extents::{ExtentFile, bytes_of, find, tell_fault};
 use crate::failure::Failure;
 use crate::host::Host;
 use crate::json::quoted;
@@ -8,10 +8,12 @@ use crate::looked::descriptor_text;
 use crate::qcow2_info::{Qcow2Report, print_qcow2, print_qcow2_json, report_on_qcow2};
 use imago_images::file::{PathStorage, look_at};
 use imago_images::format::ImageFormat;
+use imago_images::gate::{FolderGate, Named};
 use imago_images::layer::format_of;
 use imago_images::opening::Opening;
 use imago_vmdk::descriptor;
 use imago_vmdk::line::Extent;
+use std::alloc::Global;
 use std::io::{self, Write};
 
 /// An extent, and what is found under its name if it has one.
@@ -96,10 +98,10 @@ fn found_extents<H: Host>(
     extents: Vec<Extent<String>>,
     how: Opening,
 ) -> Result<Vec<Found>, Failure> {
-    let folder = Folder::of(host, path, how.allows_outside())?;
+    let gate = FolderGate::of(host, path, Named::Extents, how.other_files)?;
     let mut all = Vec::new(host.alloc());
     for extent in extents {
-        let file = file_of(host, &folder, &extent)?;
+        let file = file_of(host.alloc(), &gate, &extent)?;
         all.push((extent, file))?;
     }
     Ok(all)
@@ -107,12 +109,12 @@ fn found_extents<H: Host>(
 
 /// What is found under the name of an extent, if it has one.
 fn file_of<H: Host>(
-    host: &H,
-    folder: &Folder<'_>,
+    alloc: Global,
+    gate: &FolderGate<'_, '_, H>,
     extent: &Extent<String>,
 ) -> Result<Option<ExtentFile>, Failure> {
     match extent {
-        Extent::Flat { name, .. } => Ok(Some(find(host, folder, name)?)),
+        Extent::Flat { name, .. } => Ok(Some(find(alloc, gate, name)?)),
         _ => Ok(None),
     }
 }
@@ -130,8 +132,8 @@ fn warn<E: Write>(report: &Report, warnings: &mut E) {
             Some(file),
         ) = (extent, file)
         {
-            let end = bytes_of(*offset).saturating_add(bytes_of(*sectors));
-            let _ = tell_fault(warnings, "imago-img: warning: ", name, end, file);
+            let part = (*offset, *sectors);
+            let _ = tell_fault(warnings, "imago-img: warning: ", name, part, file);
         }
     }
 }

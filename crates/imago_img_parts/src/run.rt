@@ -1,7 +1,7 @@
 //! The program, over any host.
 ghost use Rattle.std.specs.Prelude.{◌≡◌, ◌≤◌, IfOk, IfSome, map, string_bytes};
 ghost use Rattle.imago_img_parts.specs.Commands.{AreToldApart, IsAnswered, IsPerformed, IsRun};
-ghost use Rattle.imago_img_parts.specs.Commands.{TellsNothing, outcome_when};
+ghost use Rattle.imago_img_parts.specs.Commands.{IsChecked, TellsNothing, outcome_when};
 
 use crate::check::check;
 use crate::command::{Command, HELP, Question, command_of};
@@ -131,10 +131,7 @@ fn answer<H: Host, W: Write, E: Write>(
             second,
             quiet,
         } => return compare(host, (first, second), how, quiet, output),
-        Question::Check { path } => {
-            let is_fine = check(host, path, how, output)?;
-            return Ok(outcome_of(is_fine));
-        }
+        Question::Check { path } => return look_for_faults(host, path, how, output),
     }
     Ok(Outcome::Fine)
 }
@@ -148,6 +145,20 @@ fn outcome_of(is_fine: bool) -> Outcome
     } else {
         Outcome::Unlike
     }
+}
+
+/// Tells whether an image is in order.
+fn look_for_faults<H: Host, W: Write>(
+    host: &H,
+    path: &str,
+    how: Opening,
+    output: &mut W,
+) -> Result<Outcome, Failure>
+    ensures { IfOk result (λ outcome. IfSome (H.contents host.now)
+        (λ files. IsChecked how files path.now outcome)) }
+{
+    let is_fine = check(host, path, how, output)?;
+    Ok(outcome_of(is_fine))
 }
 
 /// Tells whether two images show the same.

@@ -6,7 +6,7 @@ use super::set_up::{Case, check_cases};
 type Row = (&'static str, u8, &'static str, &'static str);
 
 /// Command lines that can't be meant, images that are refused, and faults that are found.
-static ROWS: [Row; 34] = [
+static ROWS: [Row; 36] = [
     // The command line.
     (
         "info",
@@ -198,6 +198,14 @@ static ROWS: [Row; 34] = [
     ),
     ("compare --quiet other.raw longer.raw", 1, "", ""),
     ("check plain.raw", 0, "No faults were found.\n", ""),
+    ("check /vm/disk.vmdk", 0, "No faults were found.\n", ""),
+    (
+        "info /vm/disk.vmdk",
+        0,
+        "image: \"/vm/disk.vmdk\"\nformat: vmdk\nsize: 512 bytes\n\
+        extent: FLAT, 512 bytes from 0 of \"/vm/flat.bin\"\n",
+        "",
+    ),
     (
         "check --strict disk.vmdk",
         1,

@@ -24,7 +24,7 @@ pub struct Case {
 }
 
 /// The files.
-static FILES: [FileRow; 22] = [
+static FILES: [FileRow; 25] = [
     (
         "disk.vmdk",
         0,
@@ -60,6 +60,15 @@ static FILES: [FileRow; 22] = [
         Nature::Plain,
     ),
     ("link.bin", 0, b"top", Nature::Link("/etc/secret")),
+    // An absolute name that leads into the descriptor's own folder.
+    ("/vm", 0, b"", Nature::Folder),
+    (
+        "/vm/disk.vmdk",
+        0,
+        b"# Disk DescriptorFile\nversion=1\nRW 1 FLAT \"/vm/flat.bin\" 0\n",
+        Nature::Plain,
+    ),
+    ("/vm/flat.bin", 511, b"f", Nature::Plain),
     (
         "missing.vmdk",
         0,

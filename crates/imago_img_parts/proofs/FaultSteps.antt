@@ -1,0 +1,160 @@
+-- What a check that found no fault says of the files of an image.
+use Rattle.std.proofs.Common.{◌≡◌, ℕ, Bool, not, List, ◌∷◌, map, length, Option, Some, None, Result, Ok, Err, IfOk, IfSome, String, Global, string_bytes, refl, sym, ap, subst, ◌∙◌}
+use Rattle.imago_storage.specs.Features.{Features}
+use Rattle.std.specs.Prelude.{MatchResult, is_ok, IsErr}
+use Rattle.std.specs.declared.vec.Vec.{Vec}
+use Rattle.std.proofs.lemmas.Bool.{false≢true}
+use Rattle.imago_images.proofs.NameSteps.{passed_on}
+use Rattle.imago_qcow2.specs.declared.qcow2.Qcow2.{Qcow2}
+use Rattle.imago_qcow2.specs.Qcow2Image.{storage_in, loaded_in}
+use Rattle.imago_qcow2.specs.Qcow2.{loaded_view}
+use Rattle.imago_drivers.specs.View.{View}
+use Rattle.imago_drivers.specs.Place.{Place, Stored, Zeroed, Special, Lower, Refused, End}
+use Rattle.imago_vmdk.specs.declared.line.Extent.{Extent}
+use Rattle.imago_vmdk.specs.Line.{extent_with}
+use Rattle.imago_vmdk.specs.Reading.{reading_of}
+use Rattle.imago_qcow2.specs.declared.header.Header.{Header}
+use Rattle.imago_qcow2.specs.Header.{header_of}
+use Rattle.imago_qcow2.specs.Entry.{disk_size, qcow2_place}
+use Rattle.imago_images.specs.declared.format.ImageFormat.{ImageFormat}
+use Rattle.imago_images.specs.declared.opening.OtherFiles.{OtherFiles}
+use Rattle.imago_images.specs.Formats.{IsFormatBy}
+use Rattle.imago_images.specs.HostBytes.{HasBytes}
+use Rattle.imago_img_parts.specs.declared.clusters.ClusterRun.{ClusterRun}
+use Rattle.imago_img_parts.specs.ClusterRuns.{AreInFile, StandsIn, IsTold, AreTold, AreFaultless}
+use Rattle.imago_img_parts.specs.Faultless.{IsHeld, AreHeld, IsReadable, StandsAt, HasSoundTables, IsFaultlessAs, IsFaultless}
+use Rattle.imago_img_parts.proofs.ClusterSteps.{stands_inside, stands_once}
+
+-- what was given is passed on, where the error alone is another
+pub mapped : {X E F : Type 0} (answer : Result X E) (r : Result X F) (x : X) (P : X → Type 0)
+    (Q : E → Type 0) → IfOk answer P → MatchResult answer (λ y. r ≡ Ok y) Q
+    → is_ok r ≡ is_ok answer → r ≡ Ok x → P x
+mapped {X} {E} {F} (Ok y) r x P Q h m v e = subst (λ (z : Result X F). IfOk z P) (sym m ∙ e) h
+mapped {X} {E} {F} (Err d) r x P Q h m v e =
+    absurd (false≢true (sym v ∙ ap (λ (z : Result X F). is_ok z) e))
+
+pub given : {X E F : Type 0} (answer : Result X E) (r : Result X F) (P : X → Type 0)
+    → IfOk answer P → MatchResult answer (λ y. r ≡ Ok y) (λ e. IsErr r) → IfOk r P
+given answer (Ok x) P h m = passed_on answer (Ok x) x P h m refl
+given answer (Err e) P h m = tt
+
+-- the view of a qcow2 driver over a storage
+abbrev pub view_by : {S : Type 0} {g : _} {h : _} → (S → Features) → (S → List ℕ)
+    → Qcow2 S g h → View Unit
+view_by features stored d =
+    loaded_view (features (storage_in d)) (stored (storage_in d)) (loaded_in d)
+
+-- the runs of a driver are those of the bytes that it stands on
+pub runs_of_bytes : {S E : Type 0} {g : _} {h : _} (features : S → Features) (stored : S → List ℕ)
+    (d e : Qcow2 S g h) (bytes : List ℕ) (r : Result (Vec ClusterRun Global) E) → d ≡ e
+    → (view_by features stored e).size ≡ disk_size bytes
+    → (view_by features stored e).place ≡ qcow2_place bytes
+    → IfOk r (λ runs. AreTold (view_by features stored d).place (view_by features stored d).size
+    runs.items)
+    → IfOk r (λ runs. AreTold (qcow2_place bytes) (disk_size bytes) runs.items)
+runs_of_bytes {S} {E} {g} {h} features stored d e bytes r is size place told =
+    let now = subst (λ (x : Qcow2 S g h). IfOk r (λ runs.
+    AreTold (view_by features stored x).place (view_by features stored x).size runs.items)) is told in
+    let sized = subst (λ (n : ℕ). IfOk r (λ runs.
+    AreTold (view_by features stored e).place n runs.items)) size now in
+    subst (λ (at : ℕ → Place). IfOk r (λ runs. AreTold at (disk_size bytes) runs.items)) place sized
+
+-- a place that runs tell which a file holds can be read there
+readable_told : (file : ℕ) (runs : List ClusterRun) (p : ℕ) (place : Place) → AreInFile file runs
+    → IsTold runs p place → IsReadable file place
+readable_told file runs p (Stored b s o w) inside h = stands_inside file runs p o inside h
+readable_told file runs p (Zeroed e) inside h = tt
+readable_told file runs p (Special v o) inside h = h
+readable_told file runs p (Lower o w) inside h = tt
+readable_told file runs p (Refused e) inside h = h
+readable_told file runs p End inside h = tt
+
+told_stands : (runs : List ClusterRun) (p at : ℕ) (place : Place) → IsTold runs p place
+    → StandsAt place at → StandsIn runs p at
+told_stands runs p at (Stored b s o w) h e = subst (λ (n : ℕ). StandsIn runs p n) e h
+told_stands runs p at (Zeroed e) h k = absurd k
+told_stands runs p at (Special v o) h k = absurd k
+told_stands runs p at (Lower o w) h k = absurd k
+told_stands runs p at (Refused e) h k = absurd k
+told_stands runs p at End h k = absurd k
+
+-- runs without a fault tell that the tables have none
+sound_tables : (bytes : List ℕ) (runs : List ClusterRun)
+    → AreTold (qcow2_place bytes) (disk_size bytes) runs → AreFaultless (length bytes) runs
+    → HasSoundTables bytes
+sound_tables bytes runs told (inside, apart) = record {
+  readable = λ p h. readable_told (length bytes) runs p (qcow2_place bytes p) inside
+      (told (length bytes) inside p h);
+  once = λ p q at h k x y. stands_once runs p q at apart
+      (told_stands runs p at (qcow2_place bytes p) (told (length bytes) inside p h) x)
+      (told_stands runs q at (qcow2_place bytes q) (told (length bytes) inside q k) y);
+}
+
+module _ {S : Type 0} (features : S → Features) (stored : S → List ℕ)
+    (known : Option (List ℕ → List ℕ)) (path : List ℕ) (file : S) where
+  -- what holds of a storage's bytes holds of the file of the path
+  pub of_file : (P : List ℕ → Type 0) → ((bytes : List ℕ) → HasBytes features stored bytes file → P bytes)
+      → IfSome known (λ files. HasBytes features stored (files path) file)
+      → IfSome known (λ files. P (files path))
+  of_file P h has = each known has
+    where
+      each : (k : Option (List ℕ → List ℕ))
+          → IfSome k (λ files. HasBytes features stored (files path) file)
+          → IfSome k (λ files. P (files path))
+      each None has = tt
+      each (Some files) has = h (files path) has
+
+  pub qcow2_faultless : (count : ℕ) (runs : List ClusterRun) → count ≡ length (stored file)
+      → ((bytes : List ℕ) → HasBytes features stored bytes file
+      → (header : Header) × (header_of bytes (length bytes) ≡ Ok header))
+      → ((bytes : List ℕ) → HasBytes features stored bytes file
+      → AreTold (qcow2_place bytes) (disk_size bytes) runs)
+      → AreFaultless count runs
+      → IfSome known (λ files. HasBytes features stored (files path) file)
+      → IfSome known (λ files. (header : Header)
+      × (header_of (files path) (length (files path)) ≡ Ok header) × HasSoundTables (files path))
+  qcow2_faultless count runs is accepted told none =
+      of_file (λ bytes. (header : Header) × (header_of bytes (length bytes) ≡ Ok header)
+      × HasSoundTables bytes)
+      (λ bytes has. let (header, says) = accepted bytes has in (
+        header,
+        says,
+        sound_tables bytes runs (told bytes has)
+            (subst (λ (n : ℕ). AreFaultless n runs) (is ∙ ap length has.1) none),
+      ))
+
+-- the extents of a descriptor that was read, and that are held
+pub vmdk_faultless : (strict : Bool) (others : OtherFiles) (known : Option (List ℕ → List ℕ))
+    (path text : List ℕ) (extents : List (Extent (List ℕ))) (size : ℕ)
+    → reading_of (not strict) text ≡ Ok (extents, size)
+    → IfSome known (λ files. text ≡ files path)
+    → IfSome known (λ files. AreHeld others files path extents)
+    → IfSome known (λ files. (extents : List (Extent (List ℕ))) × (size : ℕ)
+    × (reading_of (not strict) (files path) ≡ Ok (extents, size))
+    × AreHeld others files path extents)
+vmdk_faultless strict others None path text extents size says same held = tt
+vmdk_faultless strict others (Some files) path text extents size says same held =
+    (extents, size, ap (reading_of (not strict)) (sym same) ∙ says, held)
+
+-- one extent more is held
+pub extent_step : (others : OtherFiles) (known : Option (List ℕ → List ℕ)) (path : List ℕ)
+    (all rest behind : List (Extent (String Global))) (first : Extent (String Global))
+    → rest ≡ first ∷ behind
+    → IfSome known (λ files. IsHeld others files path (extent_with string_bytes first))
+    → IfSome known (λ files. AreHeld others files path (map (extent_with string_bytes) rest)
+    → AreHeld others files path (map (extent_with string_bytes) all))
+    → IfSome known (λ files. AreHeld others files path (map (extent_with string_bytes) behind)
+    → AreHeld others files path (map (extent_with string_bytes) all))
+extent_step others None path all rest behind first is held before = tt
+extent_step others (Some files) path all rest behind first is held before = λ later.
+    before (subst (λ (es : List (Extent (String Global))).
+    AreHeld others files path (map (extent_with string_bytes) es)) (sym is) (held, later))
+
+-- an image of a format that its file has is so without a fault
+pub faultless_by : (strict : Bool) (others : OtherFiles) (said : Option ImageFormat)
+    (known : Option (List ℕ → List ℕ)) (path : List ℕ) (format : ImageFormat)
+    → IfSome known (λ files. IsFormatBy said (files path) format)
+    → IfSome known (λ files. IsFaultlessAs strict others files path format)
+    → IfSome known (λ files. IsFaultless strict others said files path)
+faultless_by strict others said None path format by none = tt
+faultless_by strict others said (Some files) path format by none = (format, by, none)

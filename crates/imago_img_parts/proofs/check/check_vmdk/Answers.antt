@@ -1,0 +1,31 @@
+use Rattle.std.proofs.Common.{◌≡◌, List, ℕ, Ok, IfSome, map, not, subst}
+use Rattle.std.specs.String.{string_bytes}
+use Rattle.std.proofs.lemmas.Result.{IfOk-weaker}
+use Rattle.imago_vmdk.specs.Line.{extent_with}
+use Rattle.imago_vmdk.specs.Reading.{reading_of}
+use Rattle.imago_images.specs.declared.format.ImageFormat.TheVariants as Of
+use Rattle.imago_images.proofs.PathSteps.{features_of, bytes_of}
+use Rattle.imago_img_parts.specs.Faultless.{AreHeld, IsFaultlessAs}
+use Rattle.imago_img_parts.proofs.FaultSteps.{of_file, vmdk_faultless}
+use Rattle.imago_img_parts.proofs.check.check_vmdk.Goals as goal
+
+pub returns-in-Ok : goal.returns-in-Ok
+returns-in-Ok g c =
+    let contents = g.H.Files.contents in
+    let known = contents c.args.host.now in
+    let extents = map (extent_with string_bytes) c.in-Ok.described.extents.items in
+    let same : IfSome known (λ files. c.in_ok-text.text.items ≡ files c.args.path.now) =
+    of_file (features_of contents) (bytes_of contents) known c.args.path.now c.args.file.now
+    (λ bytes. c.in_ok-text.text.items ≡ bytes) c.in_ok-text.ensures c.requires in
+    let says : reading_of (not c.args.how.strict) c.in_ok-text.text.items
+    ≡ Ok (extents, c.in-Ok.described.size) =
+    subst (λ (text : List ℕ). reading_of (not c.args.how.strict) text
+    ≡ Ok (extents, c.in-Ok.described.size)) c.deref-2.ensures.value c.in-Ok.ensures.reading in
+    IfOk-weaker c.check_extents.result
+    (λ n. n ≡ 0 → IfSome known
+    (λ files. AreHeld c.args.how.other_files files c.args.path.now extents))
+    (λ n. n ≡ 0 → IfSome known (λ files. IsFaultlessAs c.args.how.strict c.args.how.other_files
+    files c.args.path.now Of.Vmdk))
+    (λ n held zero. vmdk_faultless c.args.how.strict c.args.how.other_files known c.args.path.now
+    c.in_ok-text.text.items extents c.in-Ok.described.size says same (held zero))
+    c.check_extents.ensures

@@ -1,0 +1,76 @@
+-- What holds of the file of an image in which no fault is found.
+use Rattle.std.specs.Prelude.{◌≡◌, ℕ, ◌+◌, ◌*◌, ◌<◌, ◌≤◌, Bool, not, List, [], ◌∷◌, Option, Ok}
+use Rattle.std.specs.Prelude.{length}
+use Rattle.imago_drivers.specs.Place.{Place, Stored, Zeroed, Special, Lower, Refused, End}
+use Rattle.imago_vmdk.specs.declared.line.Extent.{Extent}
+use Rattle.imago_vmdk.specs.Reading.{reading_of}
+use Rattle.imago_qcow2.specs.declared.header.Header.{Header}
+use Rattle.imago_qcow2.specs.Header.{header_of}
+use Rattle.imago_qcow2.specs.Entry.{disk_size, qcow2_place}
+use Rattle.imago_file.specs.Names.{path_beside}
+use Rattle.imago_images.specs.declared.format.ImageFormat.{ImageFormat}
+use Rattle.imago_images.specs.declared.format.ImageFormat.TheVariants.{Raw, Vmdk, Qcow2}
+use Rattle.imago_images.specs.declared.opening.OtherFiles.{OtherFiles}
+use Rattle.imago_images.specs.Formats.{IsFormatBy}
+use Rattle.imago_images.specs.Gate.{IsLetThrough}
+
+-- The file of an extent may be opened, and holds all of its bytes: a sector has 512 of them. Only a
+-- FLAT extent has a file.
+abbrev pub IsHeld : OtherFiles → (List ℕ → List ℕ) → List ℕ → Extent (List ℕ) → Type 0
+IsHeld others files path (Extent.Zero sectors) = Unit {0}
+IsHeld others files path (Extent.NoAccess sectors) = Unit {0}
+IsHeld others files path (Extent.Flat sectors name offset writable) =
+    IsLetThrough others path (path_beside path name)
+    × ((offset + sectors) * 512 ≤ length (files (path_beside path name)))
+
+-- the same of all extents of the descriptor of that path
+abbrev pub AreHeld : OtherFiles → (List ℕ → List ℕ) → List ℕ → List (Extent (List ℕ)) → Type 0
+AreHeld others files path [] = Unit {0}
+AreHeld others files path (extent ∷ extents) =
+    IsHeld others files path extent × AreHeld others files path extents
+
+-- A place of a disk can be meant and read in a file of that length: data lies inside the file, and
+-- isn't compressed.
+abbrev pub IsReadable : ℕ → Place → Type 0
+IsReadable file (Stored byte storage offset writable) = offset < file
+IsReadable file (Zeroed explicit) = Unit {0}
+IsReadable file (Special value offset) = ⊥
+IsReadable file (Lower offset writable) = Unit {0}
+IsReadable file (Refused e) = ⊥
+IsReadable file End = Unit {0}
+
+-- a place of a disk is the byte of the file at that offset
+abbrev pub StandsAt : Place → ℕ → Type 0
+StandsAt (Stored byte storage offset writable) at = offset ≡ at
+StandsAt (Zeroed explicit) at = ⊥
+StandsAt (Special value offset) at = ⊥
+StandsAt (Lower offset writable) at = ⊥
+StandsAt (Refused e) at = ⊥
+StandsAt End at = ⊥
+
+-- The tables of a qcow2 file have no fault: each offset of its disk has a place that can be meant
+-- and read, and no byte of the file stands at two of them.
+pub record HasSoundTables (bytes : List ℕ) : Type 0 where
+  pub readable : (p : ℕ) → p < disk_size bytes → IsReadable (length bytes) (qcow2_place bytes p)
+  pub once : (p q at : ℕ) → p < disk_size bytes → q < disk_size bytes
+      → StandsAt (qcow2_place bytes p) at → StandsAt (qcow2_place bytes q) at → p ≡ q
+
+-- The file of a path has no fault as an image of that format. In a raw file there is none to find.
+-- The descriptor of a VMDK image can be read, and its extents are held. The header of a qcow2 file
+-- is accepted, and its tables have no fault; what is below it isn't looked at.
+abbrev pub IsFaultlessAs : Bool → OtherFiles → (List ℕ → List ℕ) → List ℕ → ImageFormat → Type 0
+IsFaultlessAs strict others files path Raw = Unit {0}
+IsFaultlessAs strict others files path Vmdk =
+    (extents : List (Extent (List ℕ))) × (size : ℕ)
+    × (reading_of (not strict) (files path) ≡ Ok (extents, size))
+    × AreHeld others files path extents
+IsFaultlessAs strict others files path Qcow2 =
+    (header : Header) × (header_of (files path) (length (files path)) ≡ Ok header)
+    × HasSoundTables (files path)
+
+-- The same as an image of the format that was said, or else of the one that its first bytes tell.
+abbrev pub IsFaultless :
+    Bool → OtherFiles → Option ImageFormat → (List ℕ → List ℕ) → List ℕ → Type 0
+IsFaultless strict others said files path =
+    (format : ImageFormat) × IsFormatBy said (files path) format
+    × IsFaultlessAs strict others files path format
