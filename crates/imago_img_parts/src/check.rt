@@ -1,9 +1,8 @@
 //! Whether an image is in order.
-ghost use Rattle.std.specs.Prelude.{◌≡◌, ℕ, ◌<◌, List, not, map, length, true, false, Ok};
+ghost use Rattle.std.specs.Prelude.{◌≡◌, ℕ, ◌<◌, List, map, length, true, false, Ok};
 ghost use Rattle.std.specs.Prelude.{IfOk, IfSome};
 ghost use Rattle.std.specs.String.{string_bytes};
 ghost use Rattle.imago_vmdk.specs.Line.{extent_with};
-ghost use Rattle.imago_vmdk.specs.Reading.{reading_of};
 ghost use Rattle.imago_qcow2.specs.Header.{header_of};
 ghost use Rattle.imago_qcow2.specs.Entry.{disk_size, qcow2_place};
 ghost use Rattle.imago_qcow2.specs.declared.header.Header.{Header};

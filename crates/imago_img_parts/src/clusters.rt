@@ -1,5 +1,5 @@
 //! The clusters of a qcow2 file, as its disk has them.
-ghost use Rattle.std.specs.Prelude.{◌≡◌, ℕ, ◌+◌, ◌<◌, ◌≤◌, IfOk, IfSome, IfNone, OnOk};
+ghost use Rattle.std.specs.Prelude.{◌≡◌, ◌+◌, ◌<◌, ◌≤◌, IfOk, IfSome, IfNone, OnOk};
 ghost use Rattle.imago_access.specs.Chain.{driver};
 ghost use Rattle.imago_img_parts.specs.declared.clusters.ClusterKind.TheVariants as Kind;
 ghost use Rattle.imago_img_parts.specs.ClusterRuns.{kind_by, AreOfKind, IsPut, AreTold, IsInFile};
