@@ -10,11 +10,11 @@ use imago::any::AnyDriver;
 use imago::copy::{CopyError, copy_disk};
 use imago::file::HostFile;
 use imago::images::{
-    FileImage, FileKind, FileStatus, Files, OpenError, Opening, OtherFiles, PathStorage, Reason,
-    open_image,
+    FileImage, FileKind, FileStatus, Files, ImageFormat, OpenError, Opening, OtherFiles,
+    PathStorage, Reason, open_image,
 };
 use std::alloc::Global;
-use std::fs::{self, File, Metadata};
+use std::fs::{self, File, Metadata, OpenOptions};
 use std::io::{self, ErrorKind};
 use std::os::unix::fs::{FileTypeExt, MetadataExt};
 
@@ -46,6 +46,8 @@ fn kind_of(metadata: &Metadata) -> FileKind {
 /// The length of a block device is asked of the device. A read that would pass the greatest offset
 /// is refused.
 impl<'a> Files for SystemFiles<'a> {
+    type File = File;
+
     ghost contents = { λ _. None };
 
     fn alloc(&self) -> Global {
@@ -74,6 +76,19 @@ impl<'a> Files for SystemFiles<'a> {
         HostFile::read_at(&File::open(self.rt, path)?, buf, offset)
     }
 
+    fn is_same_file(&self, one: &str, other: &str) -> io::Result<bool> {
+        let one = fs::metadata(self.rt, one)?;
+        let other = fs::metadata(self.rt, other)?;
+        Ok(one.dev() == other.dev() && one.ino() == other.ino())
+    }
+
+    fn open_to_write(&self, path: &str) -> io::Result<File> {
+        OpenOptions::new()
+            .read(true)
+            .write(true)
+            .open(self.rt, path)
+    }
+
     fn real_path(&self, path: &str) -> io::Result<String> {
         Ok(fs::canonicalize(self.rt, path)?.into_string())
     }
@@ -90,6 +105,8 @@ pub fn open_disk<'a, H: Files>(host: &'a H, path: &str) -> Result<FileImage<'a, 
         format: None,
         strict: false,
         other_files: OtherFiles::InFolder,
+        tables: None,
+        writable: false,
     };
     let (_format, image) = open_image(host, path, how)?;
     Ok(image)
@@ -106,6 +123,27 @@ pub fn first_sector<H: Files>(host: &H, path: &str) -> Result<[u8; 512], OpenErr
     let read = image.read(host.alloc(), &mut sector, 0);
     OpenError::or_image(host.alloc(), path, read)?;
     Ok(sector)
+}
+
+/// Writes bytes to the disk of the raw image of that path, from the offset in bytes on, and syncs
+/// the file. Neither grows by that: a write that would pass the disk's end is refused.
+pub fn write_at_path<H: Files>(
+    host: &H,
+    path: &str,
+    source: &[u8],
+    offset: u64,
+) -> Result<(), OpenError> {
+    let alloc = host.alloc();
+    let how = Opening {
+        format: Some(ImageFormat::Raw),
+        strict: false,
+        other_files: OtherFiles::None,
+        tables: None,
+        writable: true,
+    };
+    let (_format, mut image) = open_image(host, path, how)?;
+    OpenError::or_image(alloc, path, image.write(alloc, source, offset))?;
+    OpenError::or_image(alloc, path, image.sync())
 }
 
 /// The whole disk of the image of that path, in memory.

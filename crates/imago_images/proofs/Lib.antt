@@ -9,3 +9,5 @@ pub mod PartSteps
 pub mod VmdkSteps
 pub mod RefusalSteps
 pub mod ImageSteps
+pub mod NameAlike
+pub mod WriteSteps

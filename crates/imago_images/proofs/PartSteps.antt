@@ -56,12 +56,12 @@ beside_named text (Some file) filename path relative name is of beside =
     beside ∙ ap (λ (p : List ℕ). path_beside p relative) here
 
 -- the gate of the image of that path
-abbrev pub IsGateOf : {H : Type 0} → H → List ℕ → OtherFiles → MutBor (FolderGate H) → Type 0
+abbrev pub IsGateOf : {H File : Type 0} → H → List ℕ → OtherFiles → MutBor (FolderGate H File) → Type 0
 IsGateOf host path others m = (m.now.host.now ≡ host) × (m.now.image.now ≡ path) × (m.now.other_files ≡ others)
 
-module _ {H S : Type 0} (contents : H → Option (List ℕ → List ℕ)) (features : S → Features) (bytes : S → List ℕ) where
+module _ {H File S : Type 0} (contents : H → Option (List ℕ → List ℕ)) (features : S → Features) (bytes : S → List ℕ) where
   -- what it answers
-  abbrev pub IsLookedBy : Opening (MutBor (FolderGate H)) S
+  abbrev pub IsLookedBy : Opening (MutBor (FolderGate H File)) S
   IsLookedBy o a b r = (b.now.host.now ≡ a.now.host.now) × (b.now.image.now ≡ a.now.image.now)
       × (b.now.other_files ≡ a.now.other_files)
       × IfOk r (IsLooked features bytes (contents a.now.host.now) a.now.other_files a.now.image.now o.filename)
@@ -70,7 +70,7 @@ module _ {H S : Type 0} (contents : H → Option (List ℕ → List ℕ)) (featu
   pub looked :
       (host : H) (path : List ℕ) (others : OtherFiles)
       (files : List ℕ → List ℕ) → contents host ≡ Some files
-      → (direct : Bool) (name : List ℕ) (before after : MutBor (FolderGate H)) (s : S)
+      → (direct : Bool) (name : List ℕ) (before after : MutBor (FolderGate H File)) (s : S)
       → IsGateOf host path others before → IsLookedBy (extent_options direct name) before after (Ok s)
       → IsGateOf host path others after × IsTrue (features s).tells_bytes
       × (bytes s ≡ files name) × IsLetThrough others path name

@@ -4,8 +4,12 @@ use Rattle.std.proofs.Common.{refl, sym, ap, ◌∙◌, subst, length, inl, inr}
 use Rattle.std.specs.Path.{PathStartsWith}
 use Rattle.imago_storage.specs.Features.{Features}
 use Rattle.imago_plan.specs.PieceBytes.{bytes_at}
-use Rattle.imago_qcow2.specs.Fault.{error_of}
 use Rattle.imago_qcow2.specs.Header.{header_of}
+use Rattle.imago_qcow2.specs.declared.fault.OpenFault.{OpenFault}
+use Rattle.imago_qcow2.specs.declared.fault.OpenFault.TheVariants as OpenFault
+use Rattle.imago_qcow2.specs.Fault.{error_of, by_fault}
+use Rattle.imago_qcow2.specs.Limit.{TablesNeedMore}
+use Rattle.imago_storage.specs.declared.error.Error.{Error}
 use Rattle.imago_images.specs.declared.failure.OpenError.{OpenError}
 use Rattle.imago_images.specs.declared.failure.Reason.{Reason}
 use Rattle.imago_images.specs.declared.format.ImageFormat.{ImageFormat}
@@ -107,6 +111,22 @@ pub unknown :
 unknown path bytes said other (OpenError.OfFile named reason) (is, inl by) = (is, inl by)
 unknown path bytes said other (OpenError.OfFile named reason) (is, inr sparse) = (is, inr (other, sparse))
 unknown path bytes said other OpenError.Memory h = tt
+
+-- a qcow2 file whose tables are larger than the limit
+pub too_large :
+    {S : Type 0} (features : S → Features) (bytes : S → List ℕ) (known : Option (List ℕ → List ℕ))
+    (path : List ℕ) (s : S) (most : ℕ) (e : OpenError) (driver : Error → Type 0) (fault : OpenFault)
+    → fault ≡ OpenFault.TablesTooLarge
+    → by_fault driver (TablesNeedMore (features s) (bytes s) (Some most)) fault
+    → IsRefused path (λ told. told ≡ Reason.TablesTooLarge most) e
+    → IfSome known (λ files. HasBytes features bytes (files path) s
+    → IsRefused path (IsUnopened (files path)) e)
+too_large features bytes None path s most e driver fault is need h = tt
+too_large features bytes (Some files) path s most e driver fault is need h = λ told.
+    let needs : TablesNeedMore (features s) (bytes s) (Some most) =
+    subst (λ (f : OpenFault). by_fault driver (TablesNeedMore (features s) (bytes s) (Some most)) f) is need in
+    refused_for path (IsUnopened (files path)) (Reason.TablesTooLarge most)
+    (features s, told.0, subst (λ (b : List ℕ). TablesNeedMore (features s) b (Some most)) told.1 needs) e h
 
 -- a layer that isn't opened, over the bytes of the host's own file
 pub layer_refused :

@@ -1,6 +1,6 @@
 -- The files on the way down from an image's, and why one of them isn't opened.
 use Rattle.std.specs.Prelude.{◌≡◌, ℕ, ◌≤◌, ◌⊎◌, ◌++◌, List, [], ◌∷◌, Option, Some, None, IfSome}
-use Rattle.std.specs.Prelude.{false, length}
+use Rattle.std.specs.Prelude.{Bool, true, false, length}
 use Rattle.imago_images.specs.declared.failure.OpenError.{OpenError}
 use Rattle.imago_images.specs.declared.files.FileStatus.{FileStatus}
 use Rattle.imago_images.specs.declared.format.ImageFormat.{ImageFormat}
@@ -14,7 +14,7 @@ use Rattle.imago_images.specs.Images.{LeadsTo}
 use Rattle.imago_images.specs.Way.{identity, is_among}
 use Rattle.imago_images.specs.Refusals.{IsRefused, IsBySystem, IsByDriver, IsByEither, IsUnseen}
 use Rattle.imago_images.specs.Refusals.{IsUnknown, IsInCircle, IsTooDeep, IsUnopened, folder_asked}
-use Rattle.imago_images.specs.Refusals.{IsNotHandedOut}
+use Rattle.imago_images.specs.Refusals.{IsNotHandedOut, IsUnwritten}
 
 -- a file has that device and number, where the host tells what its files are
 abbrev pub HasIdentity : Option (List ℕ → FileStatus) → List ℕ → ℕ × ℕ → Type 0
@@ -74,17 +74,27 @@ IsChainRefused files statuses reals others above path format (next ∷ down) e =
     × ((file : ℕ × ℕ) × HasIdentity statuses next file
     × IsChainRefused files statuses reals others (above ++ file ∷ []) next lower down e))
 
--- The image of the file of a path isn't opened, whose format is said or isn't: the file isn't
--- looked at, its format isn't told, or the chain that begins with it isn't opened.
+-- The file of a path, which has that format, isn't opened for writing where it is to be; or else
+-- the chain isn't that begins with it, the last one of those that are given.
+abbrev pub IsOpeningRefused :
+    Bool → (List ℕ → List ℕ) → Option (List ℕ → FileStatus) → Option (List ℕ → List ℕ) → OtherFiles
+    → List (ℕ × ℕ) → List ℕ → ImageFormat → OpenError → Type 0
+IsOpeningRefused true files statuses reals others above path format e =
+    IsRefused path (IsUnwritten statuses path format) e
+IsOpeningRefused false files statuses reals others above path format e =
+    (down : List (List ℕ)) × IsChainRefused files statuses reals others above path format down e
+
+-- The image of the file of a path isn't opened, for writing or not, whose format is said or isn't:
+-- the file isn't looked at, its format isn't told, or it isn't opened with what is below it.
 abbrev pub IsImageRefused :
-    (List ℕ → List ℕ) → Option (List ℕ → FileStatus) → Option (List ℕ → List ℕ) → OtherFiles
+    Bool → (List ℕ → List ℕ) → Option (List ℕ → FileStatus) → Option (List ℕ → List ℕ) → OtherFiles
     → Option ImageFormat → List ℕ → OpenError → Type 0
-IsImageRefused files statuses reals others said path e =
+IsImageRefused writable files statuses reals others said path e =
     IsRefused path (IsUnseen statuses path) e
     ⊎ IsRefused path (IsUnknown (files path) said) e
     ⊎ ((format : ImageFormat) × IsFormatBy said (files path) format
-    × ((file : ℕ × ℕ) × HasIdentity statuses path file × ((down : List (List ℕ))
-    × IsChainRefused files statuses reals others (file ∷ []) path format down e)))
+    × ((file : ℕ × ℕ) × HasIdentity statuses path file
+    × IsOpeningRefused writable files statuses reals others (file ∷ []) path format e))
 
 -- The files below that of a path, which has that format, down to the last one, which leads to none:
 -- none of them is one of those that are given, nor of those above it.

@@ -6,21 +6,21 @@ use Rattle.imago_images.specs.declared.opening.OtherFiles.{OtherFiles}
 use Rattle.imago_images.specs.FolderParts.{bounds_in}
 
 -- the host whose files it looks at
-abbrev pub gate_host : {H : Type 0} → FolderGate H → H
+abbrev pub gate_host : {H File : Type 0} → FolderGate H File → H
 gate_host gate = gate.host.now
 
 -- the path of the image that names the files
-abbrev pub gate_image : {H : Type 0} → FolderGate H → List ℕ
+abbrev pub gate_image : {H File : Type 0} → FolderGate H File → List ℕ
 gate_image gate = gate.image.now
 
 -- which files it lets through
-abbrev pub gate_files : {H : Type 0} → FolderGate H → OtherFiles
+abbrev pub gate_files : {H File : Type 0} → FolderGate H File → OtherFiles
 gate_files gate = gate.other_files
 
 -- what the image names its files as
-abbrev pub gate_named : {H : Type 0} → FolderGate H → Named
+abbrev pub gate_named : {H File : Type 0} → FolderGate H File → Named
 gate_named gate = gate.named
 
 -- the path without links of the folder that its files stand in, where only such are let through
-abbrev pub gate_bounds : {H : Type 0} → FolderGate H → Option (List ℕ)
+abbrev pub gate_bounds : {H File : Type 0} → FolderGate H File → Option (List ℕ)
 gate_bounds gate = bounds_in gate.folder

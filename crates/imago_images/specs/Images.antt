@@ -1,10 +1,11 @@
 -- What the image of a file is, layer by layer, by the bytes of the files.
-use Rattle.std.specs.Prelude.{◌≡◌, ℕ, Bool, not, List, [], ◌∷◌, map, Option, Some, None, length, Ok}
+use Rattle.std.specs.Prelude.{◌≡◌, ℕ, Bool, true, not, List, [], ◌∷◌, map, Option, Some, None, length, Ok}
 use Rattle.std.specs.Prelude.{slice_index_or}
 use Rattle.imago_drivers.specs.Place.{Place}
 use Rattle.imago_drivers.specs.Raw.{raw_place}
 use Rattle.imago_drivers.specs.View.{View}
 use Rattle.imago_access.specs.declared.access.FormatAccess.{FormatAccess}
+use Rattle.imago_access.specs.Chain.{driver}
 use Rattle.imago_vmdk.specs.declared.line.Extent.{Extent}
 use Rattle.imago_vmdk.specs.Reading.{reading_of}
 use Rattle.imago_vmdk.specs.Disk.{described_place}
@@ -82,3 +83,8 @@ abbrev pub IsImageIn :
 IsImageIn view strict others files path format x =
     (layers : List (ℕ → Place)) × AreLayers strict others files path format layers
     × ShowsLayers view x (size_by strict format (files path)) layers
+
+-- an image can be written to: its driver writes, and its first storage is open for that
+abbrev pub IsToWrite : {D St : Type 0} → (D → View St) → FormatAccess D → Type 0
+IsToWrite view x = ((view (driver x)).abilities.is_writable ≡ true)
+    × (((view (driver x)).stores.features 0).offers_resize ≡ true)

@@ -4,6 +4,10 @@ use Rattle.std.specs.Prelude.{length, IsTrue}
 use Rattle.imago_drivers.specs.Place.{Place, Value, Byte, shown}
 use Rattle.imago_drivers.specs.View.{View}
 use Rattle.imago_access.specs.declared.access.FormatAccess.{FormatAccess}
+use Rattle.imago_any_driver.specs.declared.any.AnyDriver.{AnyDriver}
+use Rattle.imago_any_driver.specs.declared.any.AnyDriver.TheVariants as Driver
+use Rattle.imago_qcow2.specs.Limit.{loaded_length}
+use Rattle.imago_qcow2.specs.Qcow2Image.{loaded_in}
 use Rattle.imago_access.specs.Chain.{driver, disk_value, tells_bytes}
 use Rattle.imago_vmdk.specs.Reading.{reading_of}
 use Rattle.imago_qcow2.specs.Numbers.{be32, be64}
@@ -44,3 +48,8 @@ abbrev pub ShowsLayers :
 ShowsLayers view x size layers =
     IsTrue (tells_bytes view x) × ((view (driver x)).size ≡ size)
     × ((p : ℕ) → disk_value view x p ≡ layers_value layers p)
+
+-- how many bytes the tables have that a driver keeps in memory, of a qcow2 image
+abbrev pub tables_in : {S : Type 0} {g : _} {h : _} → AnyDriver S g h → ℕ
+tables_in (Driver.Qcow2 d) = loaded_length (loaded_in d)
+tables_in _ = 0

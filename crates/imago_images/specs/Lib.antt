@@ -3,6 +3,7 @@ pub mod Opening
 pub mod Extents
 pub mod HostBytes
 pub mod PathFile
+pub mod PathCalls
 pub mod Gate
 pub mod FolderParts
 pub mod GateParts

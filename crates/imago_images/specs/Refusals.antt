@@ -1,20 +1,23 @@
 -- Why files aren't opened for an image: whose fault it is, and what holds there.
-use Rattle.std.specs.Prelude.{◌≡◌, ℕ, ◌⊎◌, true, false, List, [], ◌∷◌, Option, Some, None, Ok, Err}
-use Rattle.std.specs.Prelude.{IfSome, codes, length}
+use Rattle.std.specs.Prelude.{◌≡◌, ◌≢◌, ℕ, ◌⊎◌, true, false, List, [], ◌∷◌, Option, Some, None, Ok, Err}
+use Rattle.std.specs.Prelude.{IfSome, IsTrue, codes, length}
 use Rattle.std.specs.Path.{PathStartsWith}
 use Rattle.std.specs.String.{string_bytes}
 use Rattle.std.specs.declared.io.Error.{Error as IoError}
 use Rattle.imago_storage.specs.declared.error.Error.{Error}
+use Rattle.imago_storage.specs.Features.{Features}
 use Rattle.imago_file.specs.Names.{lies_below}
 use Rattle.imago_qcow2.specs.Backing.{format_of}
 use Rattle.imago_qcow2.specs.Fault.{error_of}
 use Rattle.imago_qcow2.specs.Header.{header_of}
+use Rattle.imago_qcow2.specs.Limit.{TablesNeedMore}
 use Rattle.imago_plan.specs.PieceBytes.{bytes_at}
 use Rattle.imago_images.specs.declared.failure.OpenError.{OpenError}
 use Rattle.imago_images.specs.declared.failure.Reason.{Reason}
 use Rattle.imago_images.specs.declared.files.FileKind.TheVariants as Kind
 use Rattle.imago_images.specs.declared.files.FileStatus.{FileStatus}
 use Rattle.imago_images.specs.declared.format.ImageFormat.{ImageFormat}
+use Rattle.imago_images.specs.declared.format.ImageFormat.TheVariants as Format
 use Rattle.imago_images.specs.declared.gate.Named.{Named}
 use Rattle.imago_images.specs.declared.opening.OtherFiles.{OtherFiles}
 use Rattle.imago_images.specs.declared.opening.OtherFiles.TheVariants as Others
@@ -47,6 +50,14 @@ IsUnseen statuses path (Reason.System answer) = Unit {0}
 IsUnseen statuses path Reason.NotAFile =
     IfSome statuses (λ status_of. (status_of path).kind ≡ Kind.Other)
 IsUnseen statuses path reason = ⊥
+
+-- The file of a path, which has that format, isn't opened for writing: only raw images are, or it
+-- isn't looked at or opened, or the driver refuses it.
+abbrev pub IsUnwritten :
+    Option (List ℕ → FileStatus) → List ℕ → ImageFormat → Reason → Type 0
+IsUnwritten statuses path format Reason.OnlyRead = format ≢ Format.Raw
+IsUnwritten statuses path format (Reason.Image error) = Unit {0}
+IsUnwritten statuses path format reason = IsUnseen statuses path reason
 
 -- a file with these bytes begins as a sparse VMDK image does
 abbrev pub IsSparse : List ℕ → Reason → Type 0
@@ -118,11 +129,17 @@ abbrev pub SaysOtherFormat : List ℕ → List ℕ → Type 0
 SaysOtherFormat bytes name = (at : ℕ) × (count : ℕ) × (format_of bytes ≡ Ok (Some (at, count)))
     × (bytes_at bytes at count ≡ name) × (format_named name ≡ None)
 
--- A qcow2 file with these bytes isn't opened: its header has that fault, it says another format of
--- the file below, or the driver refuses it.
+-- the tables of a qcow2 file, read from a storage that tells these bytes, have more bytes than that
+abbrev pub HasLargerTables : List ℕ → ℕ → Type 0
+HasLargerTables bytes most =
+    (f : Features) × IsTrue f.tells_bytes × TablesNeedMore f bytes (Some most)
+
+-- A qcow2 file with these bytes isn't opened: its header has that fault, its tables are larger than
+-- the limit, it says another format of the file below, or the driver refuses it.
 abbrev pub IsUnopened : List ℕ → Reason → Type 0
 IsUnopened bytes (Reason.Header fault) =
     header_of (bytes_at bytes 0 112) (length bytes) ≡ Err (error_of fault)
+IsUnopened bytes (Reason.TablesTooLarge most) = HasLargerTables bytes most
 IsUnopened bytes (Reason.BackingFormat name) = SaysOtherFormat bytes (string_bytes name)
 IsUnopened bytes (Reason.Image error) = Unit {0}
 IsUnopened bytes (Reason.System answer) = Unit {0}

@@ -37,6 +37,9 @@ pub enum Reason {
     /// A qcow2 image whose header has this fault.
     #[error("{0}")]
     Header(HeaderFault),
+    /// A qcow2 image whose tables have more than so many bytes, which is the limit.
+    #[error("its tables have more than {0} bytes, which is the limit")]
+    TablesTooLarge(u64),
     /// A VMDK image of another kind than a text descriptor with extents.
     #[error("a sparse VMDK image, which isn't supported")]
     Sparse,
@@ -61,6 +64,9 @@ pub enum Reason {
     /// A descriptor with an extent in the file of that path, where no other files are opened.
     #[error("its extent {0:?} isn't opened: other files aren't permitted")]
     NotPermitted(String),
+    /// An image that is opened for writing, and isn't a raw one.
+    #[error("only raw images can be opened for writing")]
+    OnlyRead,
     /// What has no bytes at offsets: a folder, a pipe, a socket, a terminal.
     #[error("neither a regular file nor a block device")]
     NotAFile,

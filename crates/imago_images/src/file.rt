@@ -1,9 +1,9 @@
 //! A file by its path, as a file that is open.
-ghost use Rattle.std.specs.Prelude.{◌≡◌, ◌<◌, ◌≤◌, ◌+◌, ℕ, List, Some, Ok};
-ghost use Rattle.std.specs.Prelude.{IsErr, IfOk, IfErr, IfSome};
+ghost use Rattle.std.specs.Prelude.{◌≡◌, ◌<◌, ◌≤◌, ◌+◌, ℕ, List, Some, true};
+ghost use Rattle.std.specs.Prelude.{IfOk, IfErr, IfSome};
 ghost use Rattle.std.specs.Prelude.{length, slice_index};
-ghost use Rattle.imago_file.specs.FileCalls.{any_calls};
-ghost use Rattle.imago_images.specs.HostBytes.{HasBytes, shown_bytes};
+ghost use Rattle.imago_images.specs.HostBytes.{HasBytes};
+ghost use Rattle.imago_images.specs.PathFile.{is_to_write};
 ghost use Rattle.imago_images.specs.Refusals.{IsRefused, IsBySystem, IsUnseen};
 
 use crate::failure::{OpenError, Reason};
@@ -13,22 +13,33 @@ use imago_file::host::HostFile;
 use imago_storage::storage::Storage;
 use std::io::{self, ErrorKind};
 
-/// The file of a path, to be read. It was looked at once, and isn't open: its host reads by paths,
-/// and keeps open what it likes to. So there may be as many of these as an image has files.
+/// The file of a path.
 ///
-/// It shows as many bytes as the file had when it was looked at. Where the file has grown since
-/// then, the rest isn't shown; where it was cut, the missing part reads as zeroes.
+/// One that is only read was looked at once, and isn't open: its host reads by paths, and keeps
+/// open what it likes to. So there may be as many of these as an image has files. It shows as many
+/// bytes as the file had when it was looked at. Where the file has grown since then, the rest isn't
+/// shown; where it was cut, the missing part reads as zeroes.
+///
+/// One that is written is an open file of its host.
 #[derive(Drop)]
 pub struct PathFile<'a, H: Files> {
     host: &'a H,
     path: String,
     /// What the file was when it was looked at.
     status: FileStatus,
-    /// How many of its bytes are shown.
-    shown: u64,
+    access: Access<H::File>,
 }
 
-/// The file of a path as a storage that is only read.
+/// How a file is read and written.
+#[derive(Drop)]
+enum Access<F: HostFile> {
+    /// It is read by its path, through the host, and never written. So many of its bytes are shown.
+    ByPath(u64),
+    /// It is open.
+    Open(F),
+}
+
+/// The file of a path as a storage.
 pub type PathStorage<'a, H> = FileStorage<PathFile<'a, H>>;
 
 /// The refusal of a change.
@@ -37,7 +48,7 @@ fn never_changed() -> io::Error {
 }
 
 impl<'a, H: Files> PathFile<'a, H> {
-    ghost use Rattle.imago_images.specs.PathFile.{file_path, file_status};
+    ghost use Rattle.imago_images.specs.PathFile.{file_path, file_status, is_to_write};
 
     /// Looks at the file of that path, and doesn't open it. What is neither a regular file nor a
     /// block device is [`Reason::NotAFile`], and what the host answers else is
@@ -60,8 +71,33 @@ impl<'a, H: Files> PathFile<'a, H> {
             host,
             path: String::from_str(alloc, path)?,
             status,
-            shown: status.length,
+            access: Access::ByPath(status.length),
         })
+    }
+
+    /// Looks at the file of that path, and opens it for writing too. It is refused as by
+    /// [`look_at`](Self::look_at), and nothing is written by that.
+    pub fn open_to_write(host: &'a H, path: &str) -> Result<Self, OpenError>
+        ensures told { IfOk result (λ f. IfSome (H.contents host.now)
+            (λ files. ⟦<PathFile<'a, H> as HostFile>⟧.contents f ≡ Some (files path.now))) }
+        ensures path { IfOk result (λ f. file_path f ≡ path.now) }
+        ensures status { IfOk result (λ f. IfSome (H.statuses host.now)
+            (λ status_of. file_status f ≡ status_of path.now)) }
+        ensures writable { IfOk result (λ f. is_to_write f ≡ true) }
+        ensures refused { IfErr result (IsRefused path.now
+            (IsUnseen (H.statuses host.now) path.now)) }
+    {
+        let mut file = PathFile::look_at(host, path)?;
+        let open = OpenError::or_system(host.alloc(), path, host.open_to_write(path))?;
+        file.access = Access::Open(open);
+        Ok(file)
+    }
+
+    /// Whether it is open for writing too.
+    pub fn is_writable(&self) -> bool
+        ensures { result ≡ is_to_write self.now }
+    {
+        matches!(self.access, Access::Open(_))
     }
 
     /// Its path.
@@ -79,7 +115,8 @@ impl<'a, H: Files> PathFile<'a, H> {
     }
 }
 
-/// The file of that path, which was looked at, as a storage that has the path as its name.
+/// The file of that path, which was looked at, as a storage that has the path as its name. It is
+/// writable if the file is.
 pub fn storage_of<'a, H: Files>(
     file: PathFile<'a, H>,
     path: &str,
@@ -89,11 +126,15 @@ pub fn storage_of<'a, H: Files>(
         ⟦<PathStorage<'a, H> as Storage>⟧.bytes held) }
     ensures path { IfOk result
         (λ s. (⟦<PathStorage<'a, H> as Storage>⟧.features s).filename ≡ Some path.now) }
+    ensures writable { IfOk result
+        (λ s. (⟦<PathStorage<'a, H> as Storage>⟧.features s).offers_resize
+        ≡ is_to_write file.entry) }
     ensures refused { IfErr result (IsRefused path.now IsBySystem) }
 {
     let alloc = file.host.alloc();
     let name = String::from_str(alloc, path)?;
-    OpenError::or_system(alloc, path, FileStorage::new(file, Some(name), false))
+    let writable = file.is_writable();
+    OpenError::or_system(alloc, path, FileStorage::new(file, Some(name), writable))
 }
 
 /// Looks at the file of that path, and doesn't open it: the file as a storage. It is refused as by
@@ -121,43 +162,61 @@ fn hide(buf: &mut [u8], offset: u64, shown: u64)
     buf[count..].fill(0);
 }
 
-/// The host answers each read. No write reaches the file: all are refused as
-/// [`ErrorKind::PermissionDenied`]. A cut lets fewer bytes be shown, as this trait demands where
-/// bytes are told, and leaves the file itself alone; [`PathStorage`] never asks for one.
+/// By its path, the host answers each read, and no write reaches the file: all are refused as
+/// [`ErrorKind::PermissionDenied`]. A cut lets fewer bytes be shown then, as this trait demands
+/// where bytes are told, and leaves the file itself alone; [`PathStorage`] never asks for one. Where
+/// the file is open, each call is passed on to it.
 impl<'a, H: Files> HostFile for PathFile<'a, H> {
-    ghost use Rattle.imago_images.specs.PathFile.{file_path, shown_length};
+    ghost use Rattle.imago_images.specs.PathFile.{file_path, reached_bytes};
+    ghost use Rattle.imago_images.specs.PathCalls.{path_calls};
 
-    ghost contents = { λ f. shown_bytes (H.contents f.host.now) (file_path f) (shown_length f) };
+    ghost contents = { λ f. reached_bytes H.File.contents (H.contents f.host.now) (file_path f)
+        f.access };
 
-    ghost calls = { record any_calls {
-      measured = λ f answer. answer ≡ Ok (shown_length f);
-      written = λ at source a b answer. (b ≡ a) × IsErr answer;
-      synced = λ a b answer. (b ≡ a) × (answer ≡ Ok tt);
-    } };
+    ghost calls = { path_calls H.File.calls };
 
     fn length(&self) -> io::Result<u64> {
-        Ok(self.shown)
+        match &self.access {
+            Access::ByPath(shown) => Ok(*shown),
+            Access::Open(file) => file.length(),
+        }
     }
 
     fn read_at(&self, buf: &mut [u8], offset: u64) -> io::Result<()> {
-        self.host.read_at(&self.path, buf, offset)?;
-        hide(buf, offset, self.shown);
-        Ok(())
+        match &self.access {
+            Access::ByPath(shown) => {
+                self.host.read_at(&self.path, buf, offset)?;
+                hide(buf, offset, *shown);
+                Ok(())
+            }
+            Access::Open(file) => file.read_at(buf, offset),
+        }
     }
 
-    fn write_at(&mut self, _source: &[u8], _offset: u64) -> io::Result<()> {
-        Err(never_changed())
+    fn write_at(&mut self, source: &[u8], offset: u64) -> io::Result<()> {
+        match &mut self.access {
+            Access::ByPath(_) => Err(never_changed()),
+            Access::Open(file) => file.write_at(source, offset),
+        }
     }
 
     fn set_len(&mut self, size: u64) -> io::Result<()> {
-        if size > self.shown {
-            return Err(never_changed());
+        match &mut self.access {
+            Access::ByPath(shown) => {
+                if size > *shown {
+                    return Err(never_changed());
+                }
+                *shown = size;
+                Ok(())
+            }
+            Access::Open(file) => file.set_len(size),
         }
-        self.shown = size;
-        Ok(())
     }
 
     fn sync_data(&mut self) -> io::Result<()> {
-        Ok(())
+        match &mut self.access {
+            Access::ByPath(_) => Ok(()),
+            Access::Open(file) => file.sync_data(),
+        }
     }
 }

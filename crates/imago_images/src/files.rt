@@ -1,8 +1,10 @@
 //! Files that are found and read by their paths.
-ghost use Rattle.std.specs.Prelude.{◌≡◌, ℕ, List, Option, None, OnOk, IfOk, IfSome, length};
+ghost use Rattle.std.specs.Prelude.{◌≡◌, ℕ, List, Option, None, Some, true};
+ghost use Rattle.std.specs.Prelude.{OnOk, IfOk, IfSome, length};
 ghost use Rattle.std.specs.String.{string_bytes};
 ghost use Rattle.imago_plan.specs.PieceBytes.{bytes_at};
 
+use imago_file::host::HostFile;
 use std::alloc::Global;
 use std::io;
 
@@ -35,6 +37,9 @@ pub struct FileStatus {
 pub trait Files {
     ghost use Rattle.imago_images.specs.declared.files.FileStatus.{FileStatus};
 
+    /// A file that is open for reading and for writing.
+    type File: HostFile;
+
     /// The bytes of each file, by its path, where an implementation says them. No contract says
     /// what the system's files hold.
     ghost contents: { Self → Option (List ℕ → List ℕ) };
@@ -62,6 +67,18 @@ pub trait Files {
         ensures { OnOk result
             (IfSome (contents self.now)
             (λ files. buf.new ≡ bytes_at (files path.now) «offset» (length buf.new))) };
+
+    /// Whether two paths lead to one file: they are the same, or one leads there by a link, or is
+    /// another name of it.
+    fn is_same_file(&self, one: &str, other: &str) -> io::Result<bool>
+        ensures { IfOk result (λ same. same ≡ true
+            → IfSome (contents self.now) (λ files. files one.now ≡ files other.now)) };
+
+    /// Opens the file of a path for reading and for writing. It has the bytes that are told of it
+    /// here; what is written to it later, the open file alone tells.
+    fn open_to_write(&self, path: &str) -> io::Result<Self::File>
+        ensures { IfOk result (λ f. IfSome (contents self.now)
+            (λ files. Self.File.contents f ≡ Some (files path.now))) };
 
     /// The path that it is without links and relative parts.
     fn real_path(&self, path: &str) -> io::Result<String>

@@ -23,7 +23,7 @@ use std::alloc::Global;
 use std::path::Path;
 
 /// The path of the folder that a file of that path is in, by its text.
-fn folder_of(path: &str) -> &str
+pub fn folder_of(path: &str) -> &str
     ensures { result.now ≡ folder_path path.now }
 {
     match Path::new(path).parent() {

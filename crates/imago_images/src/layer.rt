@@ -1,16 +1,17 @@
 //! A layer by itself: a file in a format, and the name of the file below it.
-ghost use Rattle.std.specs.Prelude.{◌≡◌, ℕ, ◌⊎◌, List, None, Some, IfOk, IfErr, IfSome, IsErr};
+ghost use Rattle.std.specs.Prelude.{◌≡◌, ◌≤◌, ℕ, ◌⊎◌, List, None, Some, IfOk, IfErr, IfSome, IsErr};
 ghost use Rattle.std.specs.Prelude.{IsTrue, MatchResult, length, option_map};
 ghost use Rattle.std.specs.String.{string_bytes};
 ghost use Rattle.imago_drivers.specs.Raw.{raw_place};
 ghost use Rattle.imago_qcow2.specs.Entry.{disk_size, qcow2_place};
 ghost use Rattle.imago_images.specs.HostBytes.{HasBytes};
-ghost use Rattle.imago_images.specs.Layers.{IsDriverOf};
+ghost use Rattle.imago_images.specs.Layers.{IsDriverOf, tables_in};
 ghost use Rattle.imago_images.specs.Images.{IsLayerOf, LeadsTo};
 ghost use Rattle.imago_images.specs.Layers.{SaysBacking};
 ghost use Rattle.imago_file.specs.Names.{path_beside as path_beside_file};
 ghost use Rattle.imago_qcow2.specs.Opening.{IsOpened};
-ghost use Rattle.imago_qcow2.specs.Qcow2Image.{storage_in, header_in};
+ghost use Rattle.imago_qcow2.specs.Limit.{IsWithin, loaded_length};
+ghost use Rattle.imago_qcow2.specs.Qcow2Image.{storage_in, header_in, loaded_in};
 ghost use Rattle.imago_images.specs.declared.format.ImageFormat.TheVariants as Of;
 ghost use Rattle.imago_images.specs.Formats.{SaysFormat, IsFormatBy, is_said_raw};
 ghost use Rattle.imago_images.specs.Formats.{guessed as guessed_by};
@@ -32,6 +33,7 @@ use imago_drivers::raw::Raw;
 use imago_file::file::FileStorage;
 use imago_file::host::HostFile;
 use imago_file::name::path_beside;
+use imago_qcow2::fault::OpenFault;
 use imago_qcow2::header::{self, HEAD_LENGTH};
 use imago_qcow2::laws::image_of_bytes;
 use imago_qcow2::qcow2::Qcow2;
@@ -80,26 +82,39 @@ pub fn open_layer<'a, H: Files>(
         (option_map (λ b. string_bytes b.path) l.below))) }
     ensures format { IfOk result (λ l. IfSome (H.contents host.now)
         (λ files. IfSome l.below (λ b. SaysFormat (files path.now) b.format))) }
+    ensures tables { format ≡ Of.Qcow2
+        → IfOk result (λ l. IsWithin how.tables (tables_in l.driver)) }
     ensures refused { IfErr result (λ e. IfSome (H.contents host.now)
         (λ files. IsLayerRefused files (H.statuses host.now) (H.real_paths host.now)
         how.other_files path.now format e)) }
 {
     match format {
-        ImageFormat::Raw => raw_layer(host.alloc(), path, file),
-        ImageFormat::Qcow2 => qcow2_layer(host, path, file),
+        ImageFormat::Raw => raw_layer(host.alloc(), path, file, false),
+        ImageFormat::Qcow2 => qcow2_layer(host, path, file, how.tables),
         ImageFormat::Vmdk => vmdk_layer(host, path, file, how),
     }
 }
 
 /// The layer of a raw file.
-fn raw_layer<S: Storage>(alloc: Global, path: &str, file: S) -> Result<Layer<S>, OpenError>
+pub(crate) fn raw_layer<S: Storage>(
+    alloc: Global,
+    path: &str,
+    file: S,
+    writable: bool,
+) -> Result<Layer<S>, OpenError>
     ensures alone { IfOk result (λ l. l.below ≡ None) }
+    ensures writable { IfOk result (λ l.
+        (⟦<AnyDriver<S> as FormatDriverInstance>⟧.view l.driver).abilities.is_writable
+        ≡ writable) }
+    ensures storage { IfOk result (λ l.
+        (⟦<AnyDriver<S> as FormatDriverInstance>⟧.view l.driver).stores.features 0
+        ≡ S.features file) }
     ensures driver { (bytes : List ℕ) → HasBytes S.features S.bytes bytes file → IfOk result (λ l.
         IsDriverOf ⟦<AnyDriver<S> as FormatDriverInstance>⟧.view (length bytes)
         (raw_place (length bytes) bytes) l.driver) }
     ensures refused { IfErr result (IsRefused path.now IsByDriver) }
 {
-    let raw = OpenError::or_image(alloc, path, Raw::open_image(file, false))?;
+    let raw = OpenError::or_image(alloc, path, Raw::open_image(file, writable))?;
     Ok(Layer {
         driver: AnyDriver::Raw(raw),
         below: None,
@@ -120,6 +135,7 @@ fn layer_in_qcow2<S: Storage>(
         (option_map (λ b. string_bytes b.path) l.below)) }
     ensures format { (bytes : List ℕ) → HasBytes S.features S.bytes bytes (storage_in qcow2)
         → IfOk result (λ l. IfSome l.below (λ b. SaysFormat bytes b.format)) }
+    ensures tables { IfOk result (λ l. tables_in l.driver ≡ loaded_length (loaded_in qcow2)) }
     ensures refused { (bytes : List ℕ) → HasBytes S.features S.bytes bytes (storage_in qcow2)
         → IfErr result (IsRefused path.now (IsUnopened bytes)) }
 {
@@ -131,8 +147,13 @@ fn layer_in_qcow2<S: Storage>(
     })
 }
 
-/// The layer of a qcow2 file.
-fn qcow2_layer<H: Files, S: Storage>(host: &H, path: &str, file: S) -> Result<Layer<S>, OpenError>
+/// The layer of a qcow2 file, whose tables have at most so many bytes, if that is limited.
+fn qcow2_layer<H: Files, S: Storage>(
+    host: &H,
+    path: &str,
+    file: S,
+    most_tables: Option<u64>,
+) -> Result<Layer<S>, OpenError>
     ensures driver { (bytes : List ℕ) → HasBytes S.features S.bytes bytes file
         → IfOk result (λ l. IsDriverOf ⟦<AnyDriver<S> as FormatDriverInstance>⟧.view
         (disk_size bytes) (qcow2_place bytes) l.driver) }
@@ -141,12 +162,34 @@ fn qcow2_layer<H: Files, S: Storage>(host: &H, path: &str, file: S) -> Result<La
         (option_map (λ b. string_bytes b.path) l.below)) }
     ensures format { (bytes : List ℕ) → HasBytes S.features S.bytes bytes file
         → IfOk result (λ l. IfSome l.below (λ b. SaysFormat bytes b.format)) }
+    ensures tables { IfOk result (λ l. IsWithin most_tables (tables_in l.driver)) }
     ensures refused { IfErr result (λ e. IfSome (H.contents host.now)
         (λ files. HasBytes S.features S.bytes (files path.now) file
         → IsRefused path.now (IsUnopened (files path.now)) e)) }
 {
-    let qcow2 = open_qcow2(host, path, file)?;
+    let qcow2 = open_limited(host, path, file, most_tables)?;
     layer_in_qcow2(host.alloc(), path, qcow2)
+}
+
+/// Opens a qcow2 file of that path by itself, whose tables have at most so many bytes, if that is
+/// limited.
+fn open_limited<H: Files, S: Storage>(
+    host: &H,
+    path: &str,
+    file: S,
+    most_tables: Option<u64>,
+) -> Result<Qcow2<S>, OpenError>
+    ensures opened { IfOk result (λ d. (storage_in d ≡ «file»)
+        × IsOpened (S.features file) (S.bytes file) (header_in d)) }
+    ensures within { IfOk result (λ d. IsWithin most_tables (loaded_length (loaded_in d))) }
+    ensures refused { IfErr result (λ e. IfSome (H.contents host.now)
+        (λ files. HasBytes S.features S.bytes (files path.now) file
+        → IsRefused path.now (IsUnopened (files path.now)) e)) }
+{
+    match most_tables {
+        None => open_qcow2(host, path, file),
+        Some(most) => open_qcow2_within(host, path, file, most),
+    }
 }
 
 /// Opens a qcow2 file of that path by itself: the file below it isn't looked at. A refusal is told
@@ -164,6 +207,31 @@ pub fn open_qcow2<H: Files, S: Storage>(
     match Qcow2::open_image(host.alloc(), file, false) {
         Ok(qcow2) => Ok(qcow2),
         Err(cause) => Err(not_opened(host, path, cause)),
+    }
+}
+
+/// Opens a qcow2 file of that path by itself, as [`open_qcow2`] does, if its tables have at most so
+/// many bytes. Otherwise it is [`Reason::TablesTooLarge`], and no memory was taken for more.
+pub fn open_qcow2_within<H: Files, S: Storage>(
+    host: &H,
+    path: &str,
+    file: S,
+    most_tables: u64,
+) -> Result<Qcow2<S>, OpenError>
+    ensures opened { IfOk result (λ d. (storage_in d ≡ «file»)
+        × IsOpened (S.features file) (S.bytes file) (header_in d)) }
+    ensures within { IfOk result (λ d. loaded_length (loaded_in d) ≤ most_tables) }
+    ensures refused { IfErr result (λ e. IfSome (H.contents host.now)
+        (λ files. HasBytes S.features S.bytes (files path.now) file
+        → IsRefused path.now (IsUnopened (files path.now)) e)) }
+{
+    match Qcow2::open_within(host.alloc(), file, most_tables) {
+        Ok(qcow2) => Ok(qcow2),
+        Err(OpenFault::Driver(cause)) => Err(not_opened(host, path, cause)),
+        Err(OpenFault::TablesTooLarge) => {
+            let reason = Reason::TablesTooLarge(most_tables);
+            Err(OpenError::of_file(host.alloc(), path, reason))
+        }
     }
 }
 

@@ -5,7 +5,13 @@
 //! and gives an image that is read like any other:
 //!
 //! ```ignore
-//! let how = Opening { format: None, strict: false, other_files: OtherFiles::InFolder };
+//! let how = Opening {
+//!     format: None,
+//!     strict: false,
+//!     other_files: OtherFiles::InFolder,
+//!     tables: None,
+//!     writable: false,
+//! };
 //! let (format, image) = open_image(&host, "disk.qcow2", how)?;
 //! let mut first = [0u8; 512];
 //! image.read(alloc, &mut first, 0)?; // the first 512 bytes of the disk
@@ -13,7 +19,7 @@
 //!
 //! The host implements [`Files`](files::Files): it finds files by their paths, and reads them.
 //! Where it states what its files hold, the contract of `open_image` says what each byte of the
-//! disk is. Images are only read. Which of the files that an image names are looked at is said by
+//! disk is. Images are only read, unless a raw one is opened for writing. Which of the files that an image names are looked at is said by
 //! [`OtherFiles`](opening::OtherFiles): none, those in its folder and below, or any.
 #![tactic(auto)]
 

@@ -1,21 +1,25 @@
 //! An image, opened by its path.
-ghost use Rattle.std.specs.Prelude.{◌≡◌, ◌+◌, ◌++◌, ◌∷◌, [], ℕ, List, Some, false, length};
+ghost use Rattle.std.specs.Prelude.{◌≡◌, ◌+◌, ◌++◌, ◌∷◌, [], ℕ, List, Bool, Some, true, false};
+ghost use Rattle.std.specs.Prelude.{length};
 ghost use Rattle.std.specs.Prelude.{IfOk, IfErr, IfSome};
 ghost use Rattle.std.specs.String.{string_bytes};
+ghost use Rattle.imago_images.specs.declared.format.ImageFormat.TheVariants as Of;
+ghost use Rattle.imago_images.specs.declared.opening.OtherFiles.{OtherFiles};
 ghost use Rattle.imago_images.specs.Formats.{IsFormatBy, SaysFormat};
 ghost use Rattle.imago_images.specs.Gate.{IsLetThrough};
-ghost use Rattle.imago_images.specs.Images.{IsImageIn};
+ghost use Rattle.imago_images.specs.Images.{IsImageIn, IsToWrite};
 ghost use Rattle.imago_images.specs.HostBytes.{HasBytes};
 ghost use Rattle.imago_images.specs.Way.{entered, is_among};
 ghost use Rattle.imago_images.specs.Chains.{HasIdentity, IsNextRefused, IsChainRefused};
-ghost use Rattle.imago_images.specs.Chains.{IsImageRefused, IsEndingWay, HasEnd};
+ghost use Rattle.imago_images.specs.Chains.{IsOpeningRefused, IsImageRefused, IsEndingWay, HasEnd};
+ghost use Rattle.imago_images.specs.Refusals.{IsRefused, IsUnwritten};
 
-use crate::failure::OpenError;
+use crate::failure::{OpenError, Reason};
 use crate::file::{PathFile, PathStorage, storage_of};
 use crate::files::Files;
 use crate::format::ImageFormat;
 use crate::gate::{FolderGate, Named};
-use crate::layer::{Below, Layer, format_of, open_layer};
+use crate::layer::{Below, Layer, format_of, open_layer, raw_layer};
 use crate::opening::Opening;
 use crate::over::{alone, over};
 use crate::way::Way;
@@ -35,14 +39,18 @@ pub type FileImage<'a, H> = FormatAccess<AnyDriver<PathStorage<'a, H>>>;
 ///
 /// Each file is looked at before it is read. The image holds none open; its host may. What is read
 /// is the first 21 bytes of a file whose format isn't said to be raw, and headers, tables and
-/// descriptors; data is read when the image is. No file is written to, now or later.
+/// descriptors; data is read when the image is.
+///
+/// Unless the opening says `writable`, no file is written to, now or later. Otherwise the image has
+/// to be a raw one. Its file is opened for writing then, and the image is written like any other;
+/// nothing is written by this call.
 ///
 /// # Errors
 ///
 /// [`OpenError::OfFile`] names the file that can't be used, and its
 /// [`Reason`](crate::failure::Reason) says why: so a chain of more than 200 files is
-/// `TooManyBelow`, and one that leads back to a file above is `Loop`. [`OpenError::Memory`] means
-/// that an allocation failed.
+/// `TooManyBelow`, one that leads back to a file above is `Loop`, and an image that is to be written
+/// and isn't raw is `OnlyRead`. [`OpenError::Memory`] means that an allocation failed.
 pub fn open_image<'a, H: Files>(
     host: &'a H,
     path: &str,
@@ -55,8 +63,10 @@ pub fn open_image<'a, H: Files>(
         how.strict how.other_files files path.now r.0 r.1)) }
     ensures end { IfOk result (λ r. IfSome (H.contents host.now)
         (λ files. HasEnd files (H.statuses host.now) path.now r.0)) }
+    ensures writable { IfOk result (λ r. how.writable ≡ true
+        → IsToWrite ⟦<AnyDriver<PathStorage<'a, H>> as FormatDriverInstance>⟧.view r.1) }
     ensures refused { IfErr result (λ e. IfSome (H.contents host.now)
-        (λ files. IsImageRefused files (H.statuses host.now) (H.real_paths host.now)
+        (λ files. IsImageRefused how.writable files (H.statuses host.now) (H.real_paths host.now)
         how.other_files how.format path.now e)) }
 {
     let mut way = Way::new(host.alloc());
@@ -64,8 +74,79 @@ pub fn open_image<'a, H: Files>(
     way.enter(host.alloc(), &file)?;
     let file = storage_of(file, path)?;
     let format = format_of(host.alloc(), path, &file, how.format)?;
-    let image = open_chain(host, path, file, format, how, &mut way, MOST)?;
+    let image = open_format(host, path, file, format, how, &mut way)?;
     Ok((format, image))
+}
+
+/// Opens the image whose file has that format, and is the only one that the way has entered: for
+/// writing, or else with all files below it.
+fn open_format<'a, H: Files>(
+    host: &'a H,
+    path: &str,
+    file: PathStorage<'a, H>,
+    format: ImageFormat,
+    how: Opening,
+    way: &mut Way,
+) -> Result<FileImage<'a, H>, OpenError>
+    requires told { IfSome (H.contents host.now)
+        (λ files. HasBytes ⟦<PathStorage<'a, H> as Storage>⟧.features
+        ⟦<PathStorage<'a, H> as Storage>⟧.bytes (files path.now) file) }
+    requires path { (⟦<PathStorage<'a, H> as Storage>⟧.features file).filename ≡ Some path.now }
+    requires first { length (entered way.old) ≡ 1 }
+    ensures image { IfOk result (λ x. IfSome (H.contents host.now)
+        (λ files. IsImageIn ⟦<AnyDriver<PathStorage<'a, H>> as FormatDriverInstance>⟧.view
+        how.strict how.other_files files path.now format x)) }
+    ensures end { IfOk result (λ _. IfSome (H.contents host.now)
+        (λ files. IsEndingWay files (H.statuses host.now) (entered way.old) path.now format
+        199)) }
+    ensures writable { IfOk result (λ x. how.writable ≡ true
+        → IsToWrite ⟦<AnyDriver<PathStorage<'a, H>> as FormatDriverInstance>⟧.view x) }
+    ensures refused { IfErr result (λ e. IfSome (H.contents host.now)
+        (λ files. IsOpeningRefused how.writable files (H.statuses host.now)
+        (H.real_paths host.now) how.other_files (entered way.old) path.now format e)) }
+{
+    if how.writable {
+        return open_to_write(host, path, format);
+    }
+    open_chain(host, path, file, format, how, way, MOST)
+}
+
+/// Opens a raw image for writing. No other can be.
+fn open_to_write<'a, H: Files>(
+    host: &'a H,
+    path: &str,
+    format: ImageFormat,
+) -> Result<FileImage<'a, H>, OpenError>
+    ensures image { (strict : Bool) (others : OtherFiles) → IfOk result
+        (λ x. IfSome (H.contents host.now)
+        (λ files. IsImageIn ⟦<AnyDriver<PathStorage<'a, H>> as FormatDriverInstance>⟧.view
+        strict others files path.now format x)) }
+    ensures raw { IfOk result (λ _. format ≡ Of.Raw) }
+    ensures writable { IfOk result
+        (IsToWrite ⟦<AnyDriver<PathStorage<'a, H>> as FormatDriverInstance>⟧.view) }
+    ensures refused { IfErr result (IsRefused path.now
+        (IsUnwritten (H.statuses host.now) path.now format)) }
+{
+    match format {
+        ImageFormat::Raw => raw_to_write(host, path),
+        _ => Err(OpenError::of_file(host.alloc(), path, Reason::OnlyRead)),
+    }
+}
+
+/// Opens the raw image of a path for writing.
+fn raw_to_write<'a, H: Files>(host: &'a H, path: &str) -> Result<FileImage<'a, H>, OpenError>
+    ensures image { (strict : Bool) (others : OtherFiles) → IfOk result
+        (λ x. IfSome (H.contents host.now)
+        (λ files. IsImageIn ⟦<AnyDriver<PathStorage<'a, H>> as FormatDriverInstance>⟧.view
+        strict others files path.now Of.Raw x)) }
+    ensures writable { IfOk result
+        (IsToWrite ⟦<AnyDriver<PathStorage<'a, H>> as FormatDriverInstance>⟧.view) }
+    ensures refused { IfErr result (IsRefused path.now
+        (IsUnwritten (H.statuses host.now) path.now Of.Raw)) }
+{
+    let file = storage_of(PathFile::open_to_write(host, path)?, path)?;
+    let layer = raw_layer(host.alloc(), path, file, true)?;
+    Ok(alone(layer.driver))
 }
 
 /// Opens the chain that begins with that file, which the way has entered, and goes on with at most

@@ -24,6 +24,17 @@ pub struct Opening {
     pub strict: bool,
     /// Which other files are opened.
     pub other_files: OtherFiles,
+    /// The most bytes that the tables of each qcow2 file of the image may have, if that is limited:
+    /// 8 for each L1 entry that its disk needs, and a cluster for each L2 table. They stay in
+    /// memory while the image is open. An image that needs more is refused.
+    pub tables: Option<u64>,
+    /// Whether the image is opened for writing. Only raw images can be, and an image of another
+    /// format is refused then.
+    ///
+    /// Say the format of an image that a guest writes to. Else the guest chooses it: it can write
+    /// the header of another format to the beginning of its disk, and the next opening takes the
+    /// image for one that may name other files.
+    pub writable: bool,
 }
 
 impl Opening {

@@ -1,17 +1,15 @@
 -- The disks of opened images, and what is made of them.
-use Rattle.std.proofs.Common.{◌≡◌, ℕ, ◌+◌, ◌-◌, Bool, true, false, List, [], Option, Some, None, Result, Ok, Err, length, OnOk, IsOk, IfSome, IsTrue, refl, sym, ap, subst, ◌∙◌, arith}
+use Rattle.std.proofs.Common.{◌≡◌, ℕ, ◌+◌, ◌-◌, inl, inr, Bool, true, false, List, [], Option, Some, None, Result, Ok, Err, length, OnOk, IsOk, IfSome, IsTrue, refl, sym, ap, subst, ◌∙◌, arith}
 use Rattle.std.specs.Prelude.{option_map}
 use Rattle.std.proofs.lemmas.Bool.{false≢true}
 use Rattle.std.proofs.lemmas.Option.{same_Some}
-use Rattle.std.proofs.lemmas.Slice.Eq.{bytes_eq-Decides}
-use Rattle.std.specs.Str.{bytes_eq}
 use Rattle.std.proofs.lemmas.List.{length-map}
 use Rattle.std.proofs.lemmas.List.FromFn.{length-map-range_with_len}
-use Rattle.imago_drivers.specs.Place.{Value, Byte}
+use Rattle.imago_drivers.specs.Place.{Place, Value, Byte}
 use Rattle.imago_drivers.specs.View.{View}
 use Rattle.imago_access.specs.declared.access.FormatAccess.{FormatAccess}
 use Rattle.imago_access.specs.Chain.{driver, disk_value, tells_bytes}
-use Rattle.imago_access.specs.Disk.{disk}
+use Rattle.imago_access.specs.Disk.{disk, values_from}
 use Rattle.imago_access.proofs.DiskLists.{same_listed}
 use Rattle.imago_copy.specs.Copies.{IsDiskPut}
 use Rattle.imago_copy.specs.Differences.{IsFirstDifferentValue}
@@ -19,9 +17,11 @@ use Rattle.imago_images.specs.declared.format.ImageFormat.{ImageFormat}
 use Rattle.imago_images.specs.declared.opening.OtherFiles.{OtherFiles}
 use Rattle.imago_images.specs.Formats.{IsFormatBy}
 use Rattle.imago_images.specs.Layers.{layers_value, size_by}
-use Rattle.imago_images.specs.Images.{IsImageIn}
+use Rattle.imago_images.specs.declared.format.ImageFormat.TheVariants.{Raw, Vmdk, Qcow2}
+use Rattle.imago_images.specs.Images.{AreLayers, IsImageIn}
+use Rattle.imago_images.proofs.NameAlike.{raw_alike, image_alike}
 use Rattle.imago_img_parts.specs.Files.{Around, begun, ended, with_file, IsMade, IsWhole}
-use Rattle.imago_img_parts.specs.Disks.{ShowsDisk, HasSize, IsDiskAppended, IsConverted, AreCompared}
+use Rattle.imago_img_parts.specs.Disks.{ShowsDisk, HasSize, IsDiskAppended, IsConverted, NamesStandAlike, ArePathsOfOne, AreCompared}
 
 -- a file has one format by what is said
 one_format :
@@ -98,20 +98,44 @@ module _ {D St : Type 0} (view : D → View St) (strict : Bool) (others : OtherF
     h b.2.0 d.2.0,
   )
 
+  -- an image shows the same under another path of it
+  under_both :
+      (files : List ℕ → List ℕ) (first second : List ℕ) (f : ImageFormat) (d : List Value)
+      (layers : List (ℕ → Place)) → ArePathsOfOne files first second f
+      → IsFormatBy said (files first) f → AreLayers strict others files first f layers
+      → d ≡ values_from (layers_value layers) 0 (size_by strict f (files first))
+      → ShowsDisk strict others said files second d
+  under_both files first second f d layers (inl is) by are shows =
+      subst (λ (p : List ℕ). ShowsDisk strict others said files p d) is (f, layers, by, are, shows)
+  under_both files first second f d layers (inr (same, alike)) by are shows = (
+    f,
+    layers,
+    subst (λ (b : List ℕ). IsFormatBy said b f) same by,
+    layers_alike f alike are,
+    shows ∙ ap (λ (b : List ℕ). values_from (layers_value layers) 0 (size_by strict f b)) same,
+  )
+    where
+      layers_alike : (g : ImageFormat) → NamesStandAlike first second g
+          → AreLayers strict others files first g layers → AreLayers strict others files second g layers
+      layers_alike Raw alike are = raw_alike files first second same strict others layers are
+      layers_alike Vmdk alike are = image_alike files first second same alike strict others Vmdk layers are
+      layers_alike Qcow2 alike are = image_alike files first second same alike strict others Qcow2 layers are
+
   -- an image and itself are the same
   pub compared_same :
       (known : Option (List ℕ → List ℕ)) (first second : List ℕ) (f : ImageFormat)
-      (x : FormatAccess D) → bytes_eq first second ≡ true
+      (x : FormatAccess D) → IfSome known (λ files. ArePathsOfOne files first second f)
       → IfSome known (λ files. IsFormatBy said (files first) f)
       → IfSome known (λ files. IsImageIn view strict others files first f x)
       → IfSome known (λ files. AreCompared strict others said files first second None)
-  compared_same None first second f x e a b = tt
-  compared_same (Some files) first second f x e a b =
-      let shown : ShowsDisk strict others said files first (disk view x) = shows_disk files first f x a b in (
+  compared_same None first second f x one a b = tt
+  compared_same (Some files) first second f x one a (layers, are, shown) =
+      let shows : disk view x ≡ values_from (layers_value layers) 0 (size_by strict f (files first)) =
+      same_listed (layers_value layers) (disk_value view x) _ _ shown.1 shown.2 in (
         disk view x,
         disk view x,
-        shown,
-        subst (λ (p : List ℕ). ShowsDisk strict others said files p (disk view x)) ((bytes_eq-Decides first second).0 e) shown,
+        (f, layers, a, are, shows),
+        under_both files first second f (disk view x) layers one a are shows,
         λ k. refl,
       )
 

@@ -1,12 +1,14 @@
 -- The disks of images in files, and what the commands on whole disks do with them.
-use Rattle.std.specs.Prelude.{◌≡◌, ℕ, Bool, false, List, ◌++◌, map, Option, Some, None, option_map}
+use Rattle.std.specs.Prelude.{◌≡◌, ℕ, ◌⊎◌, Bool, false, List, ◌++◌, map, Option, Some, None, option_map}
 use Rattle.std.specs.Prelude.{IfSome}
 use Rattle.imago_drivers.specs.Place.{Place, Value, Byte}
 use Rattle.imago_access.specs.Disk.{values_from}
 use Rattle.imago_copy.specs.Differences.{IsFirstDifferentValue}
 use Rattle.imago_images.specs.declared.format.ImageFormat.{ImageFormat}
 use Rattle.imago_images.specs.declared.opening.OtherFiles.{OtherFiles}
+use Rattle.imago_images.specs.declared.format.ImageFormat.TheVariants.{Raw, Vmdk, Qcow2}
 use Rattle.imago_images.specs.Formats.{IsFormatBy}
+use Rattle.imago_images.specs.Gate.{folder_path}
 use Rattle.imago_images.specs.Layers.{layers_value, size_by}
 use Rattle.imago_images.specs.Images.{AreLayers}
 use Rattle.imago_img_parts.specs.Files.{Around, with_file, IsMade}
@@ -53,6 +55,20 @@ IsConverted strict others said replace (Some files) new before after from to =
     (disk : List ℕ) × HasDisk strict others said files from disk
     × IsMade (Some files) new to (Some disk) × (after ≡ option_map (with_file to) before)
     × (replace ≡ false → IfSome before (λ a. a.there to ≡ false))
+
+-- The names of other files that an image of that format has stand for the same files under both of
+-- its paths: a raw image has no such names, and others stand beside the image, in the folder that
+-- its path names.
+abbrev pub NamesStandAlike : List ℕ → List ℕ → ImageFormat → Type 0
+NamesStandAlike first second Raw = Unit {0}
+NamesStandAlike first second Vmdk = folder_path first ≡ folder_path second
+NamesStandAlike first second Qcow2 = folder_path first ≡ folder_path second
+
+-- Two paths are those of one image, which has that format: they are the same, or the file of both
+-- has the same bytes, and so have those that it names.
+abbrev pub ArePathsOfOne : (List ℕ → List ℕ) → List ℕ → List ℕ → ImageFormat → Type 0
+ArePathsOfOne files first second format = (first ≡ second)
+    ⊎ ((files first ≡ files second) × NamesStandAlike first second format)
 
 -- the disks of the images of two paths are the same, or differ first there
 abbrev pub AreCompared :

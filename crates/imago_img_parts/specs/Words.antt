@@ -75,6 +75,7 @@ pub record AreMeant (s : Said) (how : Opening) : Type 0 where
   pub format : how.format ≡ last_format None s.formats
   pub strict : how.strict ≡ is_given (codes "--strict") false s.options
   pub other_files : how.other_files ≡ other_files Others.InFolder s.options
+  pub writable : how.writable ≡ false
 
 -- a command by its name, the files, and whether one may be replaced
 abbrev pub IsNamed : List ℕ → List (List ℕ) → Bool → Command → Type 0

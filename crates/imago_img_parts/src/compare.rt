@@ -1,9 +1,10 @@
 //! Whether two images show the same.
-ghost use Rattle.std.specs.Prelude.{IsTrue, IfOk, IfSome};
+ghost use Rattle.std.specs.Prelude.{◌≡◌, true, IsTrue, IfOk, IfSome};
 ghost use Rattle.imago_access.specs.Chain.{tells_bytes};
 ghost use Rattle.imago_access.specs.Disk.{disk};
 ghost use Rattle.imago_copy.specs.Differences.{IsFirstDifferentValue};
-ghost use Rattle.imago_img_parts.specs.Disks.{AreCompared};
+ghost use Rattle.imago_images.specs.Gate.{folder_path};
+ghost use Rattle.imago_img_parts.specs.Disks.{AreCompared, ArePathsOfOne, NamesStandAlike};
 
 use crate::failure::Failure;
 use crate::host::Host;
@@ -11,6 +12,9 @@ use crate::image::{CHUNK, not_read, readable_size, refusal_in};
 use imago_access::access::FormatAccess;
 use imago_copy::compare::first_difference;
 use imago_drivers::drivers::FormatDriverInstance;
+use imago_images::files::Files;
+use imago_images::format::ImageFormat;
+use imago_images::gate::folder_of;
 use imago_images::opener::open_image;
 use imago_images::opening::Opening;
 use imago_storage::error::Error;
@@ -27,7 +31,7 @@ pub struct Comparison {
 }
 
 /// Where the disks of two images differ first, if they do. What the images' files have says what
-/// the disks are.
+/// the disks are. Two paths of one image are the same, and no data is read then.
 pub fn compare_images<H: Host>(
     host: &H,
     first: &str,
@@ -39,9 +43,9 @@ pub fn compare_images<H: Host>(
         found.difference)) }
 {
     let alloc = host.alloc();
-    let (_, left) = open_image(host, first, how)?;
+    let (format, left) = open_image(host, first, how)?;
     let size = readable_size(alloc, first, &left)?;
-    if first == second {
+    if are_paths_of_one(host, first, second, format) {
         return Ok(Comparison {
             sizes: (size, size),
             difference: None,
@@ -58,6 +62,28 @@ pub fn compare_images<H: Host>(
             let refusal = refusal_in(&left).or(refusal_in(&right));
             Err(not_read(alloc, first, refusal, cause))
         }
+    }
+}
+
+/// Whether two paths are those of one image, which has that format.
+fn are_paths_of_one<H: Files>(host: &H, first: &str, second: &str, format: ImageFormat) -> bool
+    ensures { result ≡ true → IfSome (H.contents host.now)
+        (λ files. ArePathsOfOne files first.now second.now format) }
+{
+    if first == second {
+        return true;
+    }
+    stand_alike(first, second, format) && host.is_same_file(first, second).unwrap_or(false)
+}
+
+/// Whether the names of other files that an image of that format has stand for the same files under
+/// both of its paths.
+fn stand_alike(first: &str, second: &str, format: ImageFormat) -> bool
+    ensures { result ≡ true → NamesStandAlike first.now second.now format }
+{
+    match format {
+        ImageFormat::Raw => true,
+        _ => folder_of(first) == folder_of(second),
     }
 }
 

@@ -13,7 +13,7 @@ use std::alloc::Global;
 use std::io;
 
 /// How much of a disk is read at a time, in bytes.
-pub const CHUNK: usize = 1048576;
+pub const CHUNK: usize = 1 << 20;
 
 /// Whether a run can be read as it is stored.
 fn is_readable(run: Run) -> bool {

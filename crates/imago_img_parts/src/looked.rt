@@ -12,7 +12,7 @@ use imago_storage::storage::Storage;
 use std::alloc::Global;
 
 /// The most bytes that a descriptor has.
-const LONGEST_TEXT: u64 = 2097152;
+const LONGEST_TEXT: u64 = 1 << 21;
 
 /// Tries whether a file can be read, by its first byte.
 pub fn try_file<F: HostFile>(

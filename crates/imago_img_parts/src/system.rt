@@ -254,6 +254,8 @@ fn is_zero(bytes: &[u8]) -> bool {
 }
 
 impl<'a> Files for System<'a> {
+    type File = File;
+
     ghost contents = { λ _. None };
 
     fn alloc(&self) -> Global {
@@ -280,6 +282,19 @@ impl<'a> Files for System<'a> {
         open.read(buf, offset)?;
         self.keep(open);
         Ok(())
+    }
+
+    fn is_same_file(&self, one: &str, other: &str) -> io::Result<bool> {
+        let one = fs::metadata(self.runtime, one)?;
+        let other = fs::metadata(self.runtime, other)?;
+        Ok(one.dev() == other.dev() && one.ino() == other.ino())
+    }
+
+    fn open_to_write(&self, path: &str) -> io::Result<File> {
+        OpenOptions::new()
+            .read(true)
+            .write(true)
+            .open(self.runtime, path)
     }
 
     fn real_path(&self, path: &str) -> io::Result<String> {

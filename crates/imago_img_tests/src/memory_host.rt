@@ -5,6 +5,7 @@ ghost use Rattle.std.specs.String.{string_bytes};
 ghost use Rattle.imago_plan.specs.PieceBytes.{bytes_at};
 
 use imago_copy::target::Target;
+use imago_file::host::MemoryFile as OpenFile;
 use imago_img_parts::host::{FileKind, FileStatus, Files, Host};
 use std::alloc::{AllocError, Global};
 use std::cell::Cell;
@@ -103,6 +104,22 @@ impl MemoryHost {
         self.files.push(MemoryFile {
             path,
             bytes: kept,
+            nature,
+            inode,
+        })?;
+        Ok(())
+    }
+
+    /// Gives the first file of a path that other name too.
+    pub fn link(&mut self, path: &str, name: &str) -> io::Result<()> {
+        let mut bytes = Vec::new(self.alloc);
+        let file = self.file(path)?;
+        bytes.extend_from_slice(&file.bytes)?;
+        let (nature, inode) = (file.nature, file.inode);
+        let path = String::from_str(self.alloc, name)?;
+        self.files.push(MemoryFile {
+            path,
+            bytes,
             nature,
             inode,
         })?;
@@ -225,6 +242,8 @@ impl Files for MemoryHost {
     ghost use Rattle.imago_img_tests.specs.MemoryFiles.{file_bytes, file_status};
     ghost use Rattle.imago_img_tests.specs.MemoryFiles.{path_without_links};
 
+    type File = OpenFile;
+
     ghost contents = { λ h. Some (file_bytes h.files.items) };
 
     ghost statuses = { λ h. Some (file_status h.files.items) };
@@ -252,6 +271,20 @@ impl Files for MemoryHost {
         }
         read_padded(&file.bytes, buf, offset);
         Ok(())
+    }
+
+    // The files of two paths are one where they have the same number, and the same bytes.
+    fn is_same_file(&self, one: &str, other: &str) -> io::Result<bool> {
+        let one = self.file(one)?;
+        let other = self.file(other)?;
+        Ok(one.inode == other.inode && one.bytes == other.bytes)
+    }
+
+    fn open_to_write(&self, path: &str) -> io::Result<OpenFile> {
+        let file = self.file(path)?;
+        let mut bytes = Vec::new(self.alloc);
+        bytes.extend_from_slice(&file.bytes)?;
+        Ok(OpenFile::new(bytes))
     }
 
     fn real_path(&self, path: &str) -> io::Result<String> {

@@ -178,6 +178,8 @@ fn check_row<H: Files>(rt: &impl Abort, host: &H, row: &Row) {
         format: None,
         strict: false,
         other_files: *other_files,
+        tables: None,
+        writable: false,
     };
     match (open_image(host, path, how), opened) {
         (Ok((format, image)), Opened::Shows(expected, size, parts)) => {
@@ -208,4 +210,129 @@ fn images_are_opened_by_their_paths(rt: HostRuntime) {
     assert!(&rt; host.is_ok());
     let Ok(host) = &host else { return };
     check_rows(&rt, host);
+}
+
+/// How many bytes the tables of each file may have, the path of the image, and why it isn't opened,
+/// if it isn't.
+type LimitRow = (u64, &'static str, Option<&'static str>);
+
+static LIMITED: [LimitRow; 5] = [
+    (520, "top.qcow2", None),
+    (
+        519,
+        "top.qcow2",
+        Some("\"top.qcow2\": its tables have more than 519 bytes, which is the limit"),
+    ),
+    (520, "bare.qcow2", None),
+    (
+        519,
+        "bare.qcow2",
+        Some("\"one.qcow2\": its tables have more than 519 bytes, which is the limit"),
+    ),
+    (
+        7,
+        "bare.qcow2",
+        Some("\"bare.qcow2\": its tables have more than 7 bytes, which is the limit"),
+    ),
+];
+
+/// Opens the images of all rows with a limit on their tables.
+fn check_limited<H: Files>(rt: &impl Abort, host: &H) {
+    let alloc = host.alloc();
+    for &(most, path, refused) in &LIMITED {
+        let how = Opening {
+            format: None,
+            strict: false,
+            other_files: OtherFiles::InFolder,
+            tables: Some(most),
+            writable: false,
+        };
+        match (open_image(host, path, how), refused) {
+            (Ok(_), None) => {}
+            (Err(cause), Some(told)) => {
+                let text = format!(in alloc; "{cause}");
+                assert!(rt;
+                    matches!(&text, Ok(text) if text.as_str() == told),
+                    "{cause}"
+                );
+            }
+            _ => assert!(rt; false, "{path} with {most} bytes of tables"),
+        }
+    }
+}
+
+#[test]
+fn tables_have_at_most_so_many_bytes(rt: HostRuntime) {
+    let host = files(rt.alloc());
+    assert!(&rt; host.is_ok());
+    let Ok(host) = &host else { return };
+    check_limited(&rt, host);
+}
+
+/// An image that can't be opened for writing, and why.
+type ReadOnlyRow = (&'static str, &'static str);
+
+static READ_ONLY: [ReadOnlyRow; 4] = [
+    (
+        "top.qcow2",
+        "\"top.qcow2\": only raw images can be opened for writing",
+    ),
+    (
+        "disk.vmdk",
+        "\"disk.vmdk\": only raw images can be opened for writing",
+    ),
+    (
+        "parts",
+        "\"parts\": neither a regular file nor a block device",
+    ),
+    ("nothing.raw", "\"nothing.raw\": entity not found"),
+];
+
+/// How an image is opened for writing.
+const TO_WRITE: Opening = Opening {
+    format: None,
+    strict: false,
+    other_files: OtherFiles::None,
+    tables: None,
+    writable: true,
+};
+
+/// Writes to a raw image, and reads it back.
+fn write_raw<H: Files>(rt: &impl Abort, host: &H) {
+    let alloc = host.alloc();
+    let opened = open_image(host, "plain.raw", TO_WRITE);
+    assert!(rt; opened.is_ok());
+    let Ok((format, mut image)) = opened else {
+        return
+    };
+    assert!(rt; format == ImageFormat::Raw);
+    assert!(rt; image.write(alloc, b"p!", 5).is_ok());
+    assert!(rt; image.sync().is_ok());
+    shows(rt, alloc, &image, 7, &[(2, *b"help"), (6, *b"!\0\0\0")]);
+    assert!(rt; image.write(alloc, b"!", 7).is_err());
+}
+
+/// Tries to open the images of all rows for writing.
+fn check_read_only<H: Files>(rt: &impl Abort, host: &H) {
+    let alloc = host.alloc();
+    for &(path, told) in &READ_ONLY {
+        let Err(cause) = open_image(host, path, TO_WRITE) else {
+            assert!(rt; false, "{path} was opened for writing");
+            return;
+        };
+        let text = format!(in alloc; "{cause}");
+        assert!(rt;
+            matches!(&text, Ok(text) if text.as_str() == told),
+            "{cause}"
+        );
+    }
+}
+
+#[test]
+fn only_raw_images_are_opened_for_writing(rt: HostRuntime) {
+    let host = files(rt.alloc());
+    assert!(&rt; host.is_ok());
+    let Ok(host) = &host else { return };
+    write_raw(&rt, host);
+    check_read_only(&rt, host);
 }

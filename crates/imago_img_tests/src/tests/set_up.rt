@@ -119,7 +119,7 @@ pub const VERSION_2: &[u8] = b"QFI\xfb\0\0\0\x02";
 pub const VERSION_3: &[u8] = b"QFI\xfb\0\0\0\x03";
 
 /// qcow2 images, and what they stand above or show. A name of a backing file stands at 200.
-static PARTS: [PartsRow; 14] = [
+static PARTS: [PartsRow; 15] = [
     (
         "one.qcow2",
         2560,
@@ -270,6 +270,20 @@ static PARTS: [PartsRow; 14] = [
             (39, b"\x01"),
             (46, b"\x02"),
             (200, b"disk.vmdk"),
+        ],
+    ),
+    // No L2 table.
+    (
+        "bare.qcow2",
+        1024,
+        &[
+            (0, VERSION_2),
+            (15, b"\xc8\0\0\0\x09"),
+            (23, b"\x09"),
+            (30, b"\x08"),
+            (39, b"\x01"),
+            (46, b"\x02"),
+            (200, b"one.qcow2"),
         ],
     ),
     // The first entry has a bit that version 2 doesn't, two name 1536, and one passes the end.

@@ -1,9 +1,11 @@
 //! Whole disks, converted and compared.
 
 use crate::memory_host::{MemoryHost, Nature};
+use imago_images::format::ImageFormat;
 use imago_images::opening::OtherFiles;
 use imago_img_parts::commands::{Opening, compare_images, convert_image};
 use std::alloc::{AllocError, Global};
+use std::io;
 
 /// A descriptor: a byte `x` behind 512 zeroes, as the end of a disk.
 const TEXT: &[u8] = b"# Disk DescriptorFile\nversion=1\nRW 1 ZERO\nRW 1 FLAT \"a.bin\" 0\n";
@@ -13,6 +15,8 @@ const PLAIN: Opening = Opening {
     format: None,
     strict: false,
     other_files: OtherFiles::InFolder,
+    tables: None,
+    writable: false,
 };
 
 /// A host with a disk.
@@ -34,4 +38,45 @@ fn a_converted_disk_is_the_same(rt: HostRuntime) {
     assert!(&rt; matches!(&found, Ok(found) if found.difference.is_none()));
     let other = compare_images(&host, "out.raw", "a.bin", PLAIN);
     assert!(&rt; matches!(&other, Ok(found) if found.difference == Some(0)));
+}
+
+/// A host with two images whose data can't be read, each under two names.
+fn unreadable(alloc: Global) -> io::Result<MemoryHost> {
+    let mut host = MemoryHost::new(alloc, 9, true);
+    host.add("one.raw", b"x", Nature::Torn(0))?;
+    host.add("other.raw", b"x", Nature::Torn(0))?;
+    host.link("one.raw", "parts/linked.raw")?;
+    host.add("disk.vmdk", TEXT, Nature::Plain)?;
+    host.add("a.bin", b"x", Nature::Torn(0))?;
+    host.link("disk.vmdk", "second.vmdk")?;
+    Ok(host)
+}
+
+/// What comes of a comparison of two paths: whether the data was the same, where it was told.
+type Pair = (&'static str, &'static str, Option<bool>);
+
+/// Two names of one image are the same, and its data isn't read.
+static PAIRS: [Pair; 5] = [
+    ("one.raw", "one.raw", Some(true)),
+    ("one.raw", "parts/linked.raw", Some(true)),
+    ("disk.vmdk", "second.vmdk", Some(true)),
+    ("one.raw", "other.raw", None),
+    ("one.raw", "nothing.raw", None),
+];
+
+#[test]
+fn names_of_one_image_are_the_same(rt: HostRuntime) {
+    let made = unreadable(rt.alloc());
+    assert!(&rt; made.is_ok());
+    let Ok(host) = made else { return };
+    let raw = Opening {
+        format: Some(ImageFormat::Raw),
+        ..PLAIN
+    };
+    for &(first, second, same) in &PAIRS {
+        let how = if first == "one.raw" { raw } else { PLAIN };
+        let found = compare_images(&host, first, second, how);
+        let told = found.ok().map(|found| found.difference.is_none());
+        assert!(&rt; told == same, "{first} and {second}");
+    }
 }

@@ -8,8 +8,9 @@ use Rattle.imago_images.proofs.layer.open_layer.Goals as goal
 pub returns-in-Raw-clause-layer : goal.returns-in-Raw-clause-layer
 returns-in-Raw-clause-layer g c =
     let contents = g.H.Files.contents in
+    let opened = g.H.File.HostFile.contents in
     let file = c.args.file in
-    raw_told (view_over (features_of contents) faults_of (bytes_of contents)) (features_of contents) (bytes_of contents)
+    raw_told (view_over (features_of contents opened) faults_of (bytes_of contents opened)) (features_of contents opened) (bytes_of contents opened)
     c.args.how.strict c.args.how.other_files (contents c.args.host.now) c.args.path.now file c.raw_layer.result
     driver_in below_in path_in format_in
     c.requires.told
@@ -18,8 +19,9 @@ returns-in-Raw-clause-layer g c =
 pub returns-in-Qcow2-clause-layer : goal.returns-in-Qcow2-clause-layer
 returns-in-Qcow2-clause-layer g c =
     let contents = g.H.Files.contents in
+    let opened = g.H.File.HostFile.contents in
     let file = c.args.file in
-    qcow2_told (view_over (features_of contents) faults_of (bytes_of contents)) (features_of contents) (bytes_of contents)
+    qcow2_told (view_over (features_of contents opened) faults_of (bytes_of contents opened)) (features_of contents opened) (bytes_of contents opened)
     c.args.how.strict c.args.how.other_files (contents c.args.host.now) c.args.path.now file c.qcow2_layer.result
     driver_in below_in path_in format_in
     c.requires.told
@@ -28,8 +30,9 @@ returns-in-Qcow2-clause-layer g c =
 pub returns-in-Vmdk-clause-layer : goal.returns-in-Vmdk-clause-layer
 returns-in-Vmdk-clause-layer g c =
     let contents = g.H.Files.contents in
+    let opened = g.H.File.HostFile.contents in
     let file = c.args.file in
-    vmdk_told (view_over (features_of contents) faults_of (bytes_of contents)) (features_of contents) (bytes_of contents)
+    vmdk_told (view_over (features_of contents opened) faults_of (bytes_of contents opened)) (features_of contents opened) (bytes_of contents opened)
     c.args.how.strict c.args.how.other_files (contents c.args.host.now) c.args.path.now file c.vmdk_layer.result
     driver_in below_in path_in format_in
     c.requires.told
@@ -38,8 +41,9 @@ returns-in-Vmdk-clause-layer g c =
 pub returns-in-Raw-clause-format : goal.returns-in-Raw-clause-format
 returns-in-Raw-clause-format g c =
     let contents = g.H.Files.contents in
+    let opened = g.H.File.HostFile.contents in
     let file = c.args.file in
-    alone_said (view_over (features_of contents) faults_of (bytes_of contents)) (features_of contents) (bytes_of contents)
+    alone_said (view_over (features_of contents opened) faults_of (bytes_of contents opened)) (features_of contents opened) (bytes_of contents opened)
     c.args.how.strict c.args.how.other_files (contents c.args.host.now) c.args.path.now file c.raw_layer.result
     driver_in below_in path_in format_in
     c.requires.told
@@ -48,8 +52,9 @@ returns-in-Raw-clause-format g c =
 pub returns-in-Vmdk-clause-format : goal.returns-in-Vmdk-clause-format
 returns-in-Vmdk-clause-format g c =
     let contents = g.H.Files.contents in
+    let opened = g.H.File.HostFile.contents in
     let file = c.args.file in
-    alone_said (view_over (features_of contents) faults_of (bytes_of contents)) (features_of contents) (bytes_of contents)
+    alone_said (view_over (features_of contents opened) faults_of (bytes_of contents opened)) (features_of contents opened) (bytes_of contents opened)
     c.args.how.strict c.args.how.other_files (contents c.args.host.now) c.args.path.now file c.vmdk_layer.result
     driver_in below_in path_in format_in
     c.requires.told
@@ -58,8 +63,9 @@ returns-in-Vmdk-clause-format g c =
 pub returns-in-Qcow2-clause-format : goal.returns-in-Qcow2-clause-format
 returns-in-Qcow2-clause-format g c =
     let contents = g.H.Files.contents in
+    let opened = g.H.File.HostFile.contents in
     let file = c.args.file in
-    qcow2_said (view_over (features_of contents) faults_of (bytes_of contents)) (features_of contents) (bytes_of contents)
+    qcow2_said (view_over (features_of contents opened) faults_of (bytes_of contents opened)) (features_of contents opened) (bytes_of contents opened)
     c.args.how.strict c.args.how.other_files (contents c.args.host.now) c.args.path.now file c.qcow2_layer.result
     driver_in below_in path_in format_in
     c.requires.told

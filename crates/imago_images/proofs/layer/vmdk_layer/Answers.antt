@@ -10,7 +10,8 @@ use Rattle.imago_images.proofs.layer.vmdk_layer.Goals as goal
 pub returns-in-Ok-clause-layer : goal.returns-in-Ok-clause-layer
 returns-in-Ok-clause-layer g c =
     let contents = g.H.Files.contents in
-    vmdk_opened contents (features_of contents) faults_of (bytes_of contents)
+    let opened = g.H.File.HostFile.contents in
+    vmdk_opened contents (features_of contents opened) faults_of (bytes_of contents opened)
     (λ s relative name. IfSome s.name (λ file. name ≡ path_beside (string_bytes file) relative))
     c.args.host.now c.args.path.now c.args.how.strict c.args.how.other_files
     c.args.file _ _ _ c.in-Ok.vmdk c.requires.told

@@ -9,7 +9,7 @@ use Rattle.imago_images.proofs.PathSteps.{features_of, bytes_of}
 use Rattle.imago_file.specs.StorageParts.{faults_of}
 use Rattle.imago_images.proofs.PartSteps.{path_in, format_in}
 use Rattle.imago_images.proofs.ChainSteps.{alone_image, over_image, too_deep_out, next_out, below_out, last_ends, next_ends}
-use Rattle.imago_images.proofs.ImageSteps.{refused_with}
+use Rattle.imago_images.proofs.ImageSteps.{refused_with, chain_memory}
 use Rattle.imago_images.specs.Way.{entered}
 use Rattle.imago_images.specs.Chains.{IsChainRefused, IsEndingWay}
 use Rattle.imago_images.proofs.opener.+open_chain.Goals as goal
@@ -17,30 +17,32 @@ use Rattle.imago_images.proofs.opener.+open_chain.Goals as goal
 pub returns-in_default-clause-image : goal.returns-in_default-clause-image
 returns-in_default-clause-image g t c =
     let contents = g.H.Files.contents in
+    let opened = g.H.File.HostFile.contents in
     let known = contents c.args.host.now in
     let layer = c.in_ok-driver.field-0 in
     let says : Option Below → Type 0 = λ b. IfSome known (λ files. IsLayerOf
-    (view_over (features_of contents) faults_of (bytes_of contents))
+    (view_over (features_of contents opened) faults_of (bytes_of contents opened))
     c.args.how.strict c.args.how.other_files files c.args.path.now c.args.format layer.driver
     (option_map path_in b)) in
-    alone_image (view_over (features_of contents) faults_of (bytes_of contents))
+    alone_image (view_over (features_of contents opened) faults_of (bytes_of contents opened))
     c.args.how.strict c.args.how.other_files known c.args.path.now c.args.format layer.driver
-    c.alone.result c.alone.ensures (subst says c.in_default.is c.in_ok-driver.ensures.layer)
+    c.alone.result c.alone.ensures.shows (subst says c.in_default.is c.in_ok-driver.ensures.layer)
 
 pub returns-clause-image : goal.returns-clause-image
 returns-clause-image g t c =
     let contents = g.H.Files.contents in
+    let opened = g.H.File.HostFile.contents in
     let known = contents c.args.host.now in
     let layer = c.in_ok-driver.field-0 in
     let next = c.in-Some.next in
     let says : Option Below → Type 0 = λ b. IfSome known (λ files. IsLayerOf
-    (view_over (features_of contents) faults_of (bytes_of contents))
+    (view_over (features_of contents opened) faults_of (bytes_of contents opened))
     c.args.how.strict c.args.how.other_files files c.args.path.now c.args.format layer.driver
     (option_map path_in b)) in
     let shows : List ℕ → Type 0 = λ p. IfSome known (λ files. IsImageIn
-    (view_over (features_of contents) faults_of (bytes_of contents))
+    (view_over (features_of contents opened) faults_of (bytes_of contents opened))
     c.args.how.strict c.args.how.other_files files p c.in_ok-file.format c.in_ok-below.below) in
-    over_image (view_over (features_of contents) faults_of (bytes_of contents))
+    over_image (view_over (features_of contents opened) faults_of (bytes_of contents opened))
     c.args.how.strict c.args.how.other_files known c.args.path.now (string_bytes next.path)
     c.args.format c.in_ok-file.format layer.driver c.in_ok-over.field-0 c.in_ok-below.below next.format
     c.in_ok-over.ensures
@@ -53,16 +55,17 @@ returns-clause-image g t c =
 pub returns-then-most-eq0-clause-refused : goal.returns-then-most-eq0-clause-refused
 returns-then-most-eq0-clause-refused g t c =
     let contents = g.H.Files.contents in
+    let opened = g.H.File.HostFile.contents in
     let host = c.args.host.now in
     let known = contents host in
     let layer = c.in_ok-driver.field-0 in
     let next = c.in-Some.next in
     let says : Option Below → Type 0 = λ b. IfSome known (λ files. IsLayerOf
-    (view_over (features_of contents) faults_of (bytes_of contents))
+    (view_over (features_of contents opened) faults_of (bytes_of contents opened))
     c.args.how.strict c.args.how.other_files files c.args.path.now c.args.format layer.driver
     (option_map path_in b)) in
     let deep : length (entered c.args.way.now) ≡ 200 = omega arith in
-    too_deep_out (view_over (features_of contents) faults_of (bytes_of contents))
+    too_deep_out (view_over (features_of contents opened) faults_of (bytes_of contents opened))
     c.args.how.strict c.args.how.other_files (g.H.Files.statuses host) (g.H.Files.real_paths host)
     (entered c.args.way.now) c.args.path.now c.args.format c.too_many_below.result known (string_bytes next.path)
     layer.driver (subst says c.in-Some.is c.in_ok-driver.ensures.layer) deep c.too_many_below.ensures
@@ -70,18 +73,19 @@ returns-then-most-eq0-clause-refused g t c =
 pub returns-in_err-file-clause-refused : goal.returns-in_err-file-clause-refused
 returns-in_err-file-clause-refused g t c =
     let contents = g.H.Files.contents in
+    let opened = g.H.File.HostFile.contents in
     let host = c.args.host.now in
     let known = contents host in
     let layer = c.in_ok-driver.field-0 in
     let next = c.in-Some.next in
     let says : Option Below → Type 0 = λ b. IfSome known (λ files. IsLayerOf
-    (view_over (features_of contents) faults_of (bytes_of contents))
+    (view_over (features_of contents opened) faults_of (bytes_of contents opened))
     c.args.how.strict c.args.how.other_files files c.args.path.now c.args.format layer.driver
     (option_map path_in b)) in
     let e = c.in_err-file.field-0.0 in
     let p = err_from_is_err_and c.from_residual-in_err-file.result c.from_residual-in_err-file.ensures.1 in
     refused_with c.from_residual-in_err-file.result e _ (p.1 ∙ ap (λ x. Err x) p.2)
-    (next_out (view_over (features_of contents) faults_of (bytes_of contents))
+    (next_out (view_over (features_of contents opened) faults_of (bytes_of contents opened))
     c.args.how.strict c.args.how.other_files (g.H.Files.statuses host) (g.H.Files.real_paths host)
     (entered c.args.way.now) c.args.path.now c.args.format e known (string_bytes next.path) next.format
     layer.driver (subst says c.in-Some.is c.in_ok-driver.ensures.layer)
@@ -91,12 +95,13 @@ returns-in_err-file-clause-refused g t c =
 pub returns-in_err-below-clause-refused : goal.returns-in_err-below-clause-refused
 returns-in_err-below-clause-refused g t c =
     let contents = g.H.Files.contents in
+    let opened = g.H.File.HostFile.contents in
     let host = c.args.host.now in
     let known = contents host in
     let layer = c.in_ok-driver.field-0 in
     let next = c.in-Some.next in
     let says : Option Below → Type 0 = λ b. IfSome known (λ files. IsLayerOf
-    (view_over (features_of contents) faults_of (bytes_of contents))
+    (view_over (features_of contents opened) faults_of (bytes_of contents opened))
     c.args.how.strict c.args.how.other_files files c.args.path.now c.args.format layer.driver
     (option_map path_in b)) in
     let e = c.in_err-below.field-0.0 in
@@ -107,7 +112,7 @@ returns-in_err-below-clause-refused g t c =
     × IsChainRefused files (g.H.Files.statuses host) (g.H.Files.real_paths host) c.args.how.other_files now q
     c.in_ok-file.format down e) in
     refused_with c.from_residual-in_err-below.result e _ (p.1 ∙ ap (λ x. Err x) p.2)
-    (below_out (view_over (features_of contents) faults_of (bytes_of contents))
+    (below_out (view_over (features_of contents opened) faults_of (bytes_of contents opened))
     c.args.how.strict c.args.how.other_files (g.H.Files.statuses host) (g.H.Files.real_paths host)
     (entered c.args.way.now) c.args.path.now c.args.format e known (string_bytes next.path) next.format
     c.in_ok-file.format layer.driver anew.0 now (subst says c.in-Some.is c.in_ok-driver.ensures.layer)
@@ -118,14 +123,15 @@ returns-in_err-below-clause-refused g t c =
 pub returns-in_default-clause-end : goal.returns-in_default-clause-end
 returns-in_default-clause-end g t c =
     let contents = g.H.Files.contents in
+    let opened = g.H.File.HostFile.contents in
     let host = c.args.host.now in
     let known = contents host in
     let layer = c.in_ok-driver.field-0 in
     let says : Option Below → Type 0 = λ b. IfSome known (λ files. IsLayerOf
-    (view_over (features_of contents) faults_of (bytes_of contents))
+    (view_over (features_of contents opened) faults_of (bytes_of contents opened))
     c.args.how.strict c.args.how.other_files files c.args.path.now c.args.format layer.driver
     (option_map path_in b)) in
-    last_ends (view_over (features_of contents) faults_of (bytes_of contents))
+    last_ends (view_over (features_of contents opened) faults_of (bytes_of contents opened))
     c.args.how.strict c.args.how.other_files (g.H.Files.statuses host) (entered c.args.way.now)
     c.args.path.now c.args.format known layer.driver c.args.most
     (subst says c.in_default.is c.in_ok-driver.ensures.layer)
@@ -133,12 +139,13 @@ returns-in_default-clause-end g t c =
 pub returns-clause-end : goal.returns-clause-end
 returns-clause-end g t c =
     let contents = g.H.Files.contents in
+    let opened = g.H.File.HostFile.contents in
     let host = c.args.host.now in
     let known = contents host in
     let layer = c.in_ok-driver.field-0 in
     let next = c.in-Some.next in
     let says : Option Below → Type 0 = λ b. IfSome known (λ files. IsLayerOf
-    (view_over (features_of contents) faults_of (bytes_of contents))
+    (view_over (features_of contents opened) faults_of (bytes_of contents opened))
     c.args.how.strict c.args.how.other_files files c.args.path.now c.args.format layer.driver
     (option_map path_in b)) in
     let anew = c.in_ok-file.ensures.anew in
@@ -147,10 +154,18 @@ returns-clause-end g t c =
     let least : c.args.most - 1 + 1 ≤ c.args.most = omega arith in
     let ends : List ℕ → Type 0 = λ q. IfSome known (λ files. IsEndingWay files (g.H.Files.statuses host) now q
     c.in_ok-file.format less) in
-    next_ends (view_over (features_of contents) faults_of (bytes_of contents))
+    next_ends (view_over (features_of contents opened) faults_of (bytes_of contents opened))
     c.args.how.strict c.args.how.other_files (g.H.Files.statuses host) (entered c.args.way.now)
     c.args.path.now c.args.format known (string_bytes next.path) next.format c.in_ok-file.format layer.driver
     anew.0 now less c.args.most (subst says c.in-Some.is c.in_ok-driver.ensures.layer)
     (told_format known c.args.path.now Below format_in layer.below next c.in-Some.is c.in_ok-driver.ensures.format)
     c.in_ok-file.ensures.format anew.1 anew.2 anew.3 least
     (subst ends c.deref.ensures c.in_ok-below.ensures.end)
+
+pub returns-in_err-over-clause-refused : goal.returns-in_err-over-clause-refused
+returns-in_err-over-clause-refused g t c =
+    let host = c.args.host.now in
+    let p = err_from_is_err_and c.from_residual-in_err-over.result c.from_residual-in_err-over.ensures.1 in
+    refused_with c.from_residual-in_err-over.result p.0 _ p.1
+    (chain_memory (g.H.Files.contents host) (g.H.Files.statuses host) (g.H.Files.real_paths host)
+    c.args.how.other_files (entered c.args.way.now) c.args.path.now c.args.format p.0 p.2)

@@ -10,13 +10,14 @@ use Rattle.imago_images.proofs.opener.next_file.Goals as goal
 pub returns-in_err-format-clause-refused : goal.returns-in_err-format-clause-refused
 returns-in_err-format-clause-refused g c =
     let contents = g.H.Files.contents in
+    let opened = g.H.File.HostFile.contents in
     let host = c.args.host.now in
     let e = c.in_err-format.field-0.0 in
     let p = err_from_is_err_and c.from_residual-in_err-format.result c.from_residual-in_err-format.ensures.1 in
     refused_with c.from_residual-in_err-format.result e _ (p.1 ∙ ap (λ x. Err x) p.2)
-    (next_unknown (features_of contents) (bytes_of contents) (contents host) (g.H.Files.statuses host)
+    (next_unknown (features_of contents opened) (bytes_of contents opened) (contents host) (g.H.Files.statuses host)
     (g.H.Files.real_paths host) c.args.how.other_files c.args.path.now c.args.next.now.format
-    c.in_ok-file-2.file (held_by contents c.in_ok-file.file) e c.in_ok-file-2.ensures.told
+    c.in_ok-file-2.file (held_by contents opened c.in_ok-file.file) e c.in_ok-file-2.ensures.told
     (contents (gate_host c.in_ok-gate.gate)) (entered c.args.way.now) (string_bytes c.args.next.now.path)
     c.deref.result.now c.deref-3.result.now (ap contents c.in_ok-gate.ensures.host)
     c.deref.ensures c.deref-3.ensures c.in_ok-file.ensures.told c.in_err-format.ensures.refused)

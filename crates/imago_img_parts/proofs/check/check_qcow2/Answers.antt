@@ -15,15 +15,16 @@ use Rattle.imago_img_parts.proofs.check.check_qcow2.Goals as goal
 pub returns-in-Ok : goal.returns-in-Ok
 returns-in-Ok g c =
     let contents = g.H.Files.contents in
+    let opened = g.H.File.HostFile.contents in
     let known = contents c.args.host.now in
     let length_is = passed_on c.size.result c.or_image.result c.in_ok-length.length
-    (λ n. n ≡ length (bytes_of contents c.args.file)) c.size.ensures.value c.or_image.ensures
+    (λ n. n ≡ length (bytes_of contents opened c.args.file)) c.size.ensures.value c.or_image.ensures
     c.in_ok-length.was in
     IfOk-weaker c.tell_faults.result
     (λ n. n ≡ 0 → AreFaultless c.in_ok-length.length c.deref.result.now)
     (λ n. n ≡ 0 → IfSome known (λ files. IsFaultlessAs c.args.how.strict c.args.how.other_files
     files c.args.path.now Of.Qcow2))
-    (λ n found zero. qcow2_faultless (features_of contents) (bytes_of contents) known
+    (λ n found zero. qcow2_faultless (features_of contents opened) (bytes_of contents opened) known
     c.args.path.now c.args.file c.in_ok-length.length c.in-Ok.runs.items length_is
     (λ bytes has. passed_on c.runs_of-found.result c.told_by_host.result c.in-Ok.runs
     (λ runs. (header : Header) × (header_of bytes (length bytes) ≡ Ok header))

@@ -12,10 +12,11 @@ use Rattle.imago_img_parts.proofs.check.check_vmdk.Goals as goal
 pub returns-in-Ok : goal.returns-in-Ok
 returns-in-Ok g c =
     let contents = g.H.Files.contents in
+    let opened = g.H.File.HostFile.contents in
     let known = contents c.args.host.now in
     let extents = map (extent_with string_bytes) c.in-Ok.described.extents.items in
     let same : IfSome known (λ files. c.in_ok-text.text.items ≡ files c.args.path.now) =
-    of_file (features_of contents) (bytes_of contents) known c.args.path.now c.args.file.now
+    of_file (features_of contents opened) (bytes_of contents opened) known c.args.path.now c.args.file.now
     (λ bytes. c.in_ok-text.text.items ≡ bytes) c.in_ok-text.ensures c.requires in
     let says : reading_of (not c.args.how.strict) c.in_ok-text.text.items
     ≡ Ok (extents, c.in-Ok.described.size) =

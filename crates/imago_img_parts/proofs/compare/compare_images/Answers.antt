@@ -1,4 +1,3 @@
-use Rattle.std.proofs.Common.{sym}
 use Rattle.imago_any_driver.specs.AnyDriver.{view_over}
 use Rattle.imago_file.specs.StorageParts.{faults_of}
 use Rattle.imago_images.proofs.PathSteps.{features_of, bytes_of}
@@ -8,16 +7,19 @@ use Rattle.imago_img_parts.proofs.compare.compare_images.Goals as goal
 pub returns-in-Ok : goal.returns-in-Ok
 returns-in-Ok g c =
     let contents = g.H.Files.contents in
-    compared_disks (view_over (features_of contents) faults_of (bytes_of contents)) c.args.how.strict
+    let opened = g.H.File.HostFile.contents in
+    compared_disks (view_over (features_of contents opened) faults_of (bytes_of contents opened)) c.args.how.strict
     c.args.how.other_files c.args.how.format (contents c.args.host.now) c.args.first.now
-    c.args.second.now c.in_ok-left.field-0-0 c.in_ok-right.field-0-0 c.in_ok-left.left c.in_ok-right.right
-    c.in-Ok.difference c.in_ok-left.ensures.format c.in_ok-left.ensures.image
+    c.args.second.now c.in_ok-format.format c.in_ok-right.field-0-0 c.in_ok-format.left c.in_ok-right.right
+    c.in-Ok.difference c.in_ok-format.ensures.format c.in_ok-format.ensures.image
     c.in_ok-right.ensures.format c.in_ok-right.ensures.image c.in-Ok.ensures
 
-pub returns-then-eq : goal.returns-then-eq
-returns-then-eq g c =
+pub returns-then-are_paths_of_one : goal.returns-then-are_paths_of_one
+returns-then-are_paths_of_one g c =
     let contents = g.H.Files.contents in
-    compared_same (view_over (features_of contents) faults_of (bytes_of contents)) c.args.how.strict
+    let opened = g.H.File.HostFile.contents in
+    compared_same (view_over (features_of contents opened) faults_of (bytes_of contents opened)) c.args.how.strict
     c.args.how.other_files c.args.how.format (contents c.args.host.now) c.args.first.now
-    c.args.second.now c.in_ok-left.field-0-0 c.in_ok-left.left (sym c.if-eq.ensures)
-    c.in_ok-left.ensures.format c.in_ok-left.ensures.image
+    c.args.second.now c.in_ok-format.format c.in_ok-format.left
+    (c.are_paths_of_one.ensures c.if-are_paths_of_one.true)
+    c.in_ok-format.ensures.format c.in_ok-format.ensures.image

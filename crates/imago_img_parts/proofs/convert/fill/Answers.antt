@@ -7,7 +7,8 @@ use Rattle.imago_img_parts.proofs.convert.fill.Goals as goal
 pub returns-in-Ok-clause-filled : goal.returns-in-Ok-clause-filled
 returns-in-Ok-clause-filled g c =
     let contents = g.H.Files.contents in
-    appended_disk (view_over (features_of contents) faults_of (bytes_of contents)) c.args.how.strict
+    let opened = g.H.File.HostFile.contents in
+    appended_disk (view_over (features_of contents opened) faults_of (bytes_of contents opened)) c.args.how.strict
     c.args.how.other_files c.args.how.format (contents c.args.host.now) c.args.from.now
     c.in_ok-image.field-0-0 c.in_ok-image.image _ _ c.in_ok-image.ensures.format
     c.in_ok-image.ensures.image c.in-Ok.ensures.put
