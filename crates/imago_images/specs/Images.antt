@@ -1,6 +1,6 @@
 -- What the image of a file is, layer by layer, by the bytes of the files.
-use Rattle.std.specs.Prelude.{◌≡◌, ℕ, Bool, true, not, List, [], ◌∷◌, map, Option, Some, None, length, Ok}
-use Rattle.std.specs.Prelude.{slice_index_or}
+use Rattle.std.specs.Prelude.{◌≡◌, ℕ, Bool, true, not, List, [], ◌∷◌, map, Option, Some, None}
+use Rattle.std.specs.Prelude.{length, slice_index_or, Ok}
 use Rattle.imago_drivers.specs.Place.{Place}
 use Rattle.imago_drivers.specs.Raw.{raw_place}
 use Rattle.imago_drivers.specs.View.{View}
@@ -17,6 +17,7 @@ use Rattle.imago_images.specs.declared.format.ImageFormat.TheVariants.{Raw, Vmdk
 use Rattle.imago_images.specs.Formats.{IsFormatBelow}
 use Rattle.imago_images.specs.Extents.{flat_names}
 use Rattle.imago_images.specs.Layers.{SaysBacking, size_by, IsDriverOf, ShowsLayers}
+use Rattle.imago_images.specs.Layers.{NeverWrites}
 use Rattle.imago_images.specs.Gate.{IsLetThrough, AreLetThrough}
 
 -- The path of the file below a qcow2 file that has that path and these bytes, if there is one: the
@@ -88,3 +89,7 @@ IsImageIn view strict others files path format x =
 abbrev pub IsToWrite : {D St : Type 0} → (D → View St) → FormatAccess D → Type 0
 IsToWrite view x = ((view (driver x)).abilities.is_writable ≡ true)
     × (((view (driver x)).stores.features 0).offers_resize ≡ true)
+
+-- an image can't be written to
+abbrev pub IsReadOnly : {D St : Type 0} → (D → View St) → FormatAccess D → Type 0
+IsReadOnly view x = NeverWrites view (driver x)

@@ -1,5 +1,5 @@
 -- What a layer's file says of its disk's size and of the file below it, and what layers show.
-use Rattle.std.specs.Prelude.{◌≡◌, ℕ, ◌<◌, ◌⊎◌, Bool, not, List, [], ◌∷◌, Option, Some, None}
+use Rattle.std.specs.Prelude.{◌≡◌, ℕ, ◌<◌, ◌⊎◌, Bool, false, not, List, [], ◌∷◌, Option, Some, None}
 use Rattle.std.specs.Prelude.{length, IsTrue}
 use Rattle.imago_drivers.specs.Place.{Place, Value, Byte, shown}
 use Rattle.imago_drivers.specs.View.{View}
@@ -48,6 +48,10 @@ abbrev pub ShowsLayers :
 ShowsLayers view x size layers =
     IsTrue (tells_bytes view x) × ((view (driver x)).size ≡ size)
     × ((p : ℕ) → disk_value view x p ≡ layers_value layers p)
+
+-- a driver doesn't write
+abbrev pub NeverWrites : {D St : Type 0} → (D → View St) → D → Type 0
+NeverWrites view inner = (view inner).abilities.is_writable ≡ false
 
 -- how many bytes the tables have that a driver keeps in memory, of a qcow2 image
 abbrev pub tables_in : {S : Type 0} {g : _} {h : _} → AnyDriver S g h → ℕ

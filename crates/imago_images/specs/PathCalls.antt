@@ -1,5 +1,5 @@
 -- What the calls of the file of a path are.
-use Rattle.std.specs.Prelude.{◌≡◌, ℕ, List, Ok, IsErr, Result}
+use Rattle.std.specs.Prelude.{◌≡◌, ℕ, ◌≤◌, List, Ok, IsErr, OnOk, OnErr, Result}
 use Rattle.std.specs.declared.io.Error.{Error as IoError}
 use Rattle.imago_file.specs.FileCalls.{FileCalls, Answer}
 use Rattle.imago_images.specs.declared.file.Access.{Access}
@@ -12,7 +12,7 @@ abbrev pub IsMeasured :
 IsMeasured calls (ByPath shown) answer = answer ≡ Ok shown
 IsMeasured calls (Open file) answer = calls.measured file answer
 
--- a read by its path is the host's
+-- of a read by its path nothing is said here
 abbrev pub IsRead :
     {File : Type 0} → FileCalls File → ℕ → List ℕ → Access File → Answer → Type 0
 IsRead calls at buffer (ByPath shown) answer = Unit {0}
@@ -30,10 +30,11 @@ IsWritten calls at source (ByPath shown) new answer = (new ≡ ByPath shown) × 
 IsWritten calls at source (Open file) new answer =
     IsPassedOn (calls.written at source) file new answer
 
--- by its path no more of it is shown than before, and it is still not open
+-- by its path fewer of its bytes are shown, or as many as before where that is refused
 abbrev pub IsResized :
     {File : Type 0} → FileCalls File → ℕ → Access File → Access File → Answer → Type 0
-IsResized calls n (ByPath shown) new answer = (fewer : ℕ) × (new ≡ ByPath fewer)
+IsResized calls n (ByPath shown) new answer =
+    OnOk answer ((n ≤ shown) × (new ≡ ByPath n)) × OnErr answer (new ≡ ByPath shown)
 IsResized calls n (Open file) new answer = IsPassedOn (calls.resized n) file new answer
 
 -- by its path there is nothing to sync

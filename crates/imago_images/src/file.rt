@@ -1,5 +1,5 @@
 //! A file by its path, as a file that is open.
-ghost use Rattle.std.specs.Prelude.{◌≡◌, ◌<◌, ◌≤◌, ◌+◌, ℕ, List, Some, true};
+ghost use Rattle.std.specs.Prelude.{◌≡◌, ◌<◌, ◌≤◌, ◌+◌, ℕ, List, Some, true, false};
 ghost use Rattle.std.specs.Prelude.{IfOk, IfErr, IfSome};
 ghost use Rattle.std.specs.Prelude.{length, slice_index};
 ghost use Rattle.imago_images.specs.HostBytes.{HasBytes};
@@ -59,6 +59,7 @@ impl<'a, H: Files> PathFile<'a, H> {
         ensures path { IfOk result (λ f. file_path f ≡ path.now) }
         ensures status { IfOk result (λ f. IfSome (H.statuses host.now)
             (λ status_of. file_status f ≡ status_of path.now)) }
+        ensures read_only { IfOk result (λ f. is_to_write f ≡ false) }
         ensures refused { IfErr result (IsRefused path.now
             (IsUnseen (H.statuses host.now) path.now)) }
     {
@@ -145,6 +146,8 @@ pub fn look_at<'a, H: Files>(host: &'a H, path: &str) -> Result<PathStorage<'a, 
         ⟦<PathStorage<'a, H> as Storage>⟧.bytes (files path.now) s)) }
     ensures path { IfOk result
         (λ s. (⟦<PathStorage<'a, H> as Storage>⟧.features s).filename ≡ Some path.now) }
+    ensures read_only { IfOk result
+        (λ s. (⟦<PathStorage<'a, H> as Storage>⟧.features s).offers_resize ≡ false) }
 {
     storage_of(PathFile::look_at(host, path)?, path)
 }
@@ -164,8 +167,8 @@ fn hide(buf: &mut [u8], offset: u64, shown: u64)
 
 /// By its path, the host answers each read, and no write reaches the file: all are refused as
 /// [`ErrorKind::PermissionDenied`]. A cut lets fewer bytes be shown then, as this trait demands
-/// where bytes are told, and leaves the file itself alone; [`PathStorage`] never asks for one. Where
-/// the file is open, each call is passed on to it.
+/// where bytes are told, and leaves the file itself alone; [`PathStorage`] never asks for one.
+/// Where the file is open, each call is passed on to it.
 impl<'a, H: Files> HostFile for PathFile<'a, H> {
     ghost use Rattle.imago_images.specs.PathFile.{file_path, reached_bytes};
     ghost use Rattle.imago_images.specs.PathCalls.{path_calls};

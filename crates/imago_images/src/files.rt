@@ -68,14 +68,14 @@ pub trait Files {
             (IfSome (contents self.now)
             (λ files. buf.new ≡ bytes_at (files path.now) «offset» (length buf.new))) };
 
-    /// Whether two paths lead to one file: they are the same, or one leads there by a link, or is
-    /// another name of it.
+    /// Whether two paths lead to one file: by the same name, by another name of it, or by a link.
     fn is_same_file(&self, one: &str, other: &str) -> io::Result<bool>
         ensures { IfOk result (λ same. same ≡ true
             → IfSome (contents self.now) (λ files. files one.now ≡ files other.now)) };
 
-    /// Opens the file of a path for reading and for writing. It has the bytes that are told of it
-    /// here; what is written to it later, the open file alone tells.
+    /// Opens the file of a path for reading and for writing. None is made, cut or changed by that.
+    /// The file has the bytes that are told of it here; what is written to it later, the open file
+    /// alone tells.
     fn open_to_write(&self, path: &str) -> io::Result<Self::File>
         ensures { IfOk result (λ f. IfSome (contents self.now)
             (λ files. Self.File.contents f ≡ Some (files path.now))) };

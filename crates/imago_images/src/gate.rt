@@ -4,7 +4,7 @@ ghost use Rattle.std.specs.String.{string_bytes};
 ghost use Rattle.imago_images.specs.Gate.{folder_path, IsLetThrough, IsLooked};
 ghost use Rattle.imago_images.specs.HostBytes.{HasBytes};
 ghost use Rattle.imago_images.specs.FolderParts.{IsBounded};
-ghost use Rattle.imago_images.specs.PathFile.{file_path, file_status};
+ghost use Rattle.imago_images.specs.PathFile.{file_path, file_status, is_to_write};
 ghost use Rattle.imago_images.specs.Refusals.{IsRefused, IsBySystem, IsOutside, IsOut, IsKeptOut};
 ghost use Rattle.imago_images.specs.Refusals.{IsNotHandedOut, folder_asked};
 ghost use Rattle.imago_file.specs.Names.{lies_below as lies_below_folder};
@@ -147,6 +147,7 @@ impl<'a, 'b, H: Files> FolderGate<'a, 'b, H> {
         ensures path { IfOk result (λ f. file_path f ≡ path.now) }
         ensures status { IfOk result (λ f. IfSome (H.statuses (gate_host self.now))
             (λ status_of. file_status f ≡ status_of path.now)) }
+        ensures read_only { IfOk result (λ f. is_to_write f ≡ false) }
         ensures through { IfOk result
             (λ _. IsLetThrough (gate_files self.now) (gate_image self.now) path.now) }
         ensures refused { IsBounded (H.real_paths (gate_host self.now)) (gate_image self.now)
@@ -185,6 +186,8 @@ impl<'a, 'b, H: Files> FolderGate<'a, 'b, H> {
             ⟦<PathStorage<'a, H> as Storage>⟧.bytes (files path.now) s)) }
         ensures through { IfOk result
             (λ _. IsLetThrough (gate_files self.now) (gate_image self.now) path.now) }
+        ensures read_only { IfOk result
+            (λ s. (⟦<PathStorage<'a, H> as Storage>⟧.features s).offers_resize ≡ false) }
     {
         let file = self.look(path)?;
         storage_of(file, path)

@@ -5,7 +5,7 @@ ghost use Rattle.std.specs.String.{string_bytes};
 ghost use Rattle.imago_drivers.specs.Raw.{raw_place};
 ghost use Rattle.imago_qcow2.specs.Entry.{disk_size, qcow2_place};
 ghost use Rattle.imago_images.specs.HostBytes.{HasBytes};
-ghost use Rattle.imago_images.specs.Layers.{IsDriverOf, tables_in};
+ghost use Rattle.imago_images.specs.Layers.{IsDriverOf, NeverWrites, tables_in};
 ghost use Rattle.imago_images.specs.Images.{IsLayerOf, LeadsTo};
 ghost use Rattle.imago_images.specs.Layers.{SaysBacking};
 ghost use Rattle.imago_file.specs.Names.{path_beside as path_beside_file};
@@ -82,8 +82,9 @@ pub fn open_layer<'a, H: Files>(
         (option_map (λ b. string_bytes b.path) l.below))) }
     ensures format { IfOk result (λ l. IfSome (H.contents host.now)
         (λ files. IfSome l.below (λ b. SaysFormat (files path.now) b.format))) }
-    ensures tables { format ≡ Of.Qcow2
-        → IfOk result (λ l. IsWithin how.tables (tables_in l.driver)) }
+    ensures read_only { IfOk result (λ l. NeverWrites
+        ⟦<AnyDriver<PathStorage<'a, H>> as FormatDriverInstance>⟧.view l.driver) }
+    ensures tables { IfOk result (λ l. IsWithin how.tables (tables_in l.driver)) }
     ensures refused { IfErr result (λ e. IfSome (H.contents host.now)
         (λ files. IsLayerRefused files (H.statuses host.now) (H.real_paths host.now)
         how.other_files path.now format e)) }
@@ -109,6 +110,7 @@ pub(crate) fn raw_layer<S: Storage>(
     ensures storage { IfOk result (λ l.
         (⟦<AnyDriver<S> as FormatDriverInstance>⟧.view l.driver).stores.features 0
         ≡ S.features file) }
+    ensures tables { IfOk result (λ l. tables_in l.driver ≡ 0) }
     ensures driver { (bytes : List ℕ) → HasBytes S.features S.bytes bytes file → IfOk result (λ l.
         IsDriverOf ⟦<AnyDriver<S> as FormatDriverInstance>⟧.view (length bytes)
         (raw_place (length bytes) bytes) l.driver) }
@@ -136,6 +138,8 @@ fn layer_in_qcow2<S: Storage>(
     ensures format { (bytes : List ℕ) → HasBytes S.features S.bytes bytes (storage_in qcow2)
         → IfOk result (λ l. IfSome l.below (λ b. SaysFormat bytes b.format)) }
     ensures tables { IfOk result (λ l. tables_in l.driver ≡ loaded_length (loaded_in qcow2)) }
+    ensures read_only { IfOk result (λ l. NeverWrites
+        ⟦<AnyDriver<S> as FormatDriverInstance>⟧.view l.driver) }
     ensures refused { (bytes : List ℕ) → HasBytes S.features S.bytes bytes (storage_in qcow2)
         → IfErr result (IsRefused path.now (IsUnopened bytes)) }
 {
@@ -163,6 +167,8 @@ fn qcow2_layer<H: Files, S: Storage>(
     ensures format { (bytes : List ℕ) → HasBytes S.features S.bytes bytes file
         → IfOk result (λ l. IfSome l.below (λ b. SaysFormat bytes b.format)) }
     ensures tables { IfOk result (λ l. IsWithin most_tables (tables_in l.driver)) }
+    ensures read_only { IfOk result (λ l. NeverWrites
+        ⟦<AnyDriver<S> as FormatDriverInstance>⟧.view l.driver) }
     ensures refused { IfErr result (λ e. IfSome (H.contents host.now)
         (λ files. HasBytes S.features S.bytes (files path.now) file
         → IsRefused path.now (IsUnopened (files path.now)) e)) }
@@ -206,7 +212,7 @@ pub fn open_qcow2<H: Files, S: Storage>(
 {
     match Qcow2::open_image(host.alloc(), file, false) {
         Ok(qcow2) => Ok(qcow2),
-        Err(cause) => Err(not_opened(host, path, cause)),
+        Err(cause) => Err(not_opened(host, path, cause, u64::MAX)),
     }
 }
 
@@ -227,7 +233,7 @@ pub fn open_qcow2_within<H: Files, S: Storage>(
 {
     match Qcow2::open_within(host.alloc(), file, most_tables) {
         Ok(qcow2) => Ok(qcow2),
-        Err(OpenFault::Driver(cause)) => Err(not_opened(host, path, cause)),
+        Err(OpenFault::Driver(cause)) => Err(not_opened(host, path, cause, most_tables)),
         Err(OpenFault::TablesTooLarge) => {
             let reason = Reason::TablesTooLarge(most_tables);
             Err(OpenError::of_file(host.alloc(), path, reason))
@@ -235,8 +241,9 @@ pub fn open_qcow2_within<H: Files, S: Storage>(
     }
 }
 
-/// Why a qcow2 file isn't opened: its header's fault, where that is why.
-fn not_opened<H: Files>(host: &H, path: &str, cause: Error) -> OpenError
+/// Why a qcow2 file isn't opened, whose tables may have so many bytes: its header's fault, where
+/// that is why.
+fn not_opened<H: Files>(host: &H, path: &str, cause: Error, most_tables: u64) -> OpenError
     ensures { IfSome (H.contents host.now)
         (λ files. IsRefused path.now (IsUnopened (files path.now)) result) }
 {
@@ -248,18 +255,19 @@ fn not_opened<H: Files>(host: &H, path: &str, cause: Error) -> OpenError
             }
         }
     }
-    read_again(host, path, cause)
+    read_again(host, path, cause, most_tables)
 }
 
 /// Why the driver didn't open the file of a path, which no fault of its header tells. Where a read
-/// was refused, the storage is gone, with what the host answered: so the file is opened once more.
-fn read_again<H: Files>(host: &H, path: &str, cause: Error) -> OpenError
+/// was refused, the storage is gone, with what the host answered: so the file is opened once more,
+/// within the same limit on its tables.
+fn read_again<H: Files>(host: &H, path: &str, cause: Error, most_tables: u64) -> OpenError
     ensures { IsRefused path.now IsByEither result }
 {
     let alloc = host.alloc();
     if cause == Error::Device {
         if let Ok(mut file) = look_at(host, path) {
-            let _is_opened = Qcow2::open_image(alloc, &mut file, false).is_ok();
+            let _is_opened = Qcow2::open_within(alloc, &mut file, most_tables).is_ok();
             return unread(alloc, path, &file, cause);
         }
     }
@@ -380,6 +388,9 @@ fn vmdk_layer<'a, H: Files>(
     ensures layer { IfOk result (λ l. IfSome (H.contents host.now)
         (λ files. IsLayerOf ⟦<AnyDriver<PathStorage<'a, H>> as FormatDriverInstance>⟧.view
         how.strict how.other_files files path.now Of.Vmdk l.driver None)) }
+    ensures read_only { IfOk result (λ l. NeverWrites
+        ⟦<AnyDriver<PathStorage<'a, H>> as FormatDriverInstance>⟧.view l.driver) }
+    ensures tables { IfOk result (λ l. tables_in l.driver ≡ 0) }
     ensures refused { IfErr result (λ e. IsRefused path.now IsByEither e
         ⊎ ((extent : List ℕ) × IsNamedRefused NamedAs.Extents (H.statuses host.now)
         (H.real_paths host.now) how.other_files path.now extent e)) }

@@ -7,7 +7,10 @@ ghost use Rattle.imago_images.specs.declared.format.ImageFormat.TheVariants as O
 ghost use Rattle.imago_images.specs.declared.opening.OtherFiles.{OtherFiles};
 ghost use Rattle.imago_images.specs.Formats.{IsFormatBy, SaysFormat};
 ghost use Rattle.imago_images.specs.Gate.{IsLetThrough};
-ghost use Rattle.imago_images.specs.Images.{IsImageIn, IsToWrite};
+ghost use Rattle.imago_images.specs.Images.{IsImageIn, IsToWrite, IsReadOnly};
+ghost use Rattle.imago_access.specs.Chain.{driver as driver_of};
+ghost use Rattle.imago_qcow2.specs.Limit.{IsWithin};
+ghost use Rattle.imago_images.specs.Layers.{tables_in};
 ghost use Rattle.imago_images.specs.HostBytes.{HasBytes};
 ghost use Rattle.imago_images.specs.Way.{entered, is_among};
 ghost use Rattle.imago_images.specs.Chains.{HasIdentity, IsNextRefused, IsChainRefused};
@@ -49,8 +52,9 @@ pub type FileImage<'a, H> = FormatAccess<AnyDriver<PathStorage<'a, H>>>;
 ///
 /// [`OpenError::OfFile`] names the file that can't be used, and its
 /// [`Reason`](crate::failure::Reason) says why: so a chain of more than 200 files is
-/// `TooManyBelow`, one that leads back to a file above is `Loop`, and an image that is to be written
-/// and isn't raw is `OnlyRead`. [`OpenError::Memory`] means that an allocation failed.
+/// `TooManyBelow`, one that leads back to a file above is `Loop`, a file whose tables are larger
+/// than the opening allows is `TablesTooLarge`, and an image that is to be written and isn't raw is
+/// `OnlyRead`. [`OpenError::Memory`] means that an allocation failed.
 pub fn open_image<'a, H: Files>(
     host: &'a H,
     path: &str,
@@ -65,6 +69,9 @@ pub fn open_image<'a, H: Files>(
         (λ files. HasEnd files (H.statuses host.now) path.now r.0)) }
     ensures writable { IfOk result (λ r. how.writable ≡ true
         → IsToWrite ⟦<AnyDriver<PathStorage<'a, H>> as FormatDriverInstance>⟧.view r.1) }
+    ensures read_only { IfOk result (λ r. how.writable ≡ false
+        → IsReadOnly ⟦<AnyDriver<PathStorage<'a, H>> as FormatDriverInstance>⟧.view r.1) }
+    ensures tables { IfOk result (λ r. IsWithin how.tables (tables_in (driver_of r.1))) }
     ensures refused { IfErr result (λ e. IfSome (H.contents host.now)
         (λ files. IsImageRefused how.writable files (H.statuses host.now) (H.real_paths host.now)
         how.other_files how.format path.now e)) }
@@ -101,6 +108,9 @@ fn open_format<'a, H: Files>(
         199)) }
     ensures writable { IfOk result (λ x. how.writable ≡ true
         → IsToWrite ⟦<AnyDriver<PathStorage<'a, H>> as FormatDriverInstance>⟧.view x) }
+    ensures read_only { IfOk result (λ x. how.writable ≡ false
+        → IsReadOnly ⟦<AnyDriver<PathStorage<'a, H>> as FormatDriverInstance>⟧.view x) }
+    ensures tables { IfOk result (λ x. IsWithin how.tables (tables_in (driver_of x))) }
     ensures refused { IfErr result (λ e. IfSome (H.contents host.now)
         (λ files. IsOpeningRefused how.writable files (H.statuses host.now)
         (H.real_paths host.now) how.other_files (entered way.old) path.now format e)) }
@@ -124,6 +134,7 @@ fn open_to_write<'a, H: Files>(
     ensures raw { IfOk result (λ _. format ≡ Of.Raw) }
     ensures writable { IfOk result
         (IsToWrite ⟦<AnyDriver<PathStorage<'a, H>> as FormatDriverInstance>⟧.view) }
+    ensures tables { IfOk result (λ x. tables_in (driver_of x) ≡ 0) }
     ensures refused { IfErr result (IsRefused path.now
         (IsUnwritten (H.statuses host.now) path.now format)) }
 {
@@ -141,6 +152,7 @@ fn raw_to_write<'a, H: Files>(host: &'a H, path: &str) -> Result<FileImage<'a, H
         strict others files path.now Of.Raw x)) }
     ensures writable { IfOk result
         (IsToWrite ⟦<AnyDriver<PathStorage<'a, H>> as FormatDriverInstance>⟧.view) }
+    ensures tables { IfOk result (λ x. tables_in (driver_of x) ≡ 0) }
     ensures refused { IfErr result (IsRefused path.now
         (IsUnwritten (H.statuses host.now) path.now Of.Raw)) }
 {
@@ -168,6 +180,9 @@ fn open_chain<'a, H: Files>(
     ensures image { IfOk result (λ x. IfSome (H.contents host.now)
         (λ files. IsImageIn ⟦<AnyDriver<PathStorage<'a, H>> as FormatDriverInstance>⟧.view
         how.strict how.other_files files path.now format x)) }
+    ensures read_only { IfOk result
+        (IsReadOnly ⟦<AnyDriver<PathStorage<'a, H>> as FormatDriverInstance>⟧.view) }
+    ensures tables { IfOk result (λ x. IsWithin how.tables (tables_in (driver_of x))) }
     ensures end { IfOk result (λ _. IfSome (H.contents host.now)
         (λ files. IsEndingWay files (H.statuses host.now) (entered way.old) path.now format
         most)) }

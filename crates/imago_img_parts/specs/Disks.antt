@@ -1,6 +1,6 @@
 -- The disks of images in files, and what the commands on whole disks do with them.
-use Rattle.std.specs.Prelude.{◌≡◌, ℕ, ◌⊎◌, Bool, false, List, ◌++◌, map, Option, Some, None, option_map}
-use Rattle.std.specs.Prelude.{IfSome}
+use Rattle.std.specs.Prelude.{◌≡◌, ℕ, ◌⊎◌, Bool, false, List, ◌++◌, map, Option, Some, None}
+use Rattle.std.specs.Prelude.{option_map, IfSome}
 use Rattle.imago_drivers.specs.Place.{Place, Value, Byte}
 use Rattle.imago_access.specs.Disk.{values_from}
 use Rattle.imago_copy.specs.Differences.{IsFirstDifferentValue}
@@ -65,7 +65,7 @@ NamesStandAlike first second Vmdk = folder_path first ≡ folder_path second
 NamesStandAlike first second Qcow2 = folder_path first ≡ folder_path second
 
 -- Two paths are those of one image, which has that format: they are the same, or the file of both
--- has the same bytes, and so have those that it names.
+-- has the same bytes, and the names in it stand for the same files beside both.
 abbrev pub ArePathsOfOne : (List ℕ → List ℕ) → List ℕ → List ℕ → ImageFormat → Type 0
 ArePathsOfOne files first second format = (first ≡ second)
     ⊎ ((files first ≡ files second) × NamesStandAlike first second format)

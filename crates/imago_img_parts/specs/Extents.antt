@@ -12,7 +12,7 @@ HasNoLength ExtentFile.Outside = Unit {0}
 HasNoLength ExtentFile.NotAFile = Unit {0}
 HasNoLength (ExtentFile.Refused answer) = Unit {0}
 
--- Under a name that the image of a path has, a file of some length is found alone where it is let
+-- Under a name that the image of a path has, a file of some length is found only where it is let
 -- through, and it has that length.
 abbrev pub IsFound :
     OtherFiles → (List ℕ → List ℕ) → List ℕ → List ℕ → ExtentFile → Type 0

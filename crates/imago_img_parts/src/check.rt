@@ -277,7 +277,7 @@ fn check_extents<H: Host, W: Write>(
     Ok(faults)
 }
 
-/// Tells an extent of a descriptor that its file doesn't hold, and whether it is one.
+/// Tells if the file of an extent doesn't hold it, and answers whether that is so.
 fn tell_extent<H: Host, W: Write>(
     alloc: Global,
     gate: &FolderGate<'_, '_, H>,

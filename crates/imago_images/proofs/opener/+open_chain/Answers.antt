@@ -45,7 +45,7 @@ returns-clause-image g t c =
     over_image (view_over (features_of contents opened) faults_of (bytes_of contents opened))
     c.args.how.strict c.args.how.other_files known c.args.path.now (string_bytes next.path)
     c.args.format c.in_ok-file.format layer.driver c.in_ok-over.field-0 c.in_ok-below.below next.format
-    c.in_ok-over.ensures
+    c.in_ok-over.ensures.shows
     (subst says c.in-Some.is c.in_ok-driver.ensures.layer)
     (told_format known c.args.path.now Below format_in layer.below next c.in-Some.is c.in_ok-driver.ensures.format)
     c.in_ok-file.ensures.format
