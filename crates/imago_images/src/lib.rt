@@ -19,8 +19,8 @@
 //!
 //! The host implements [`Files`](files::Files): it finds files by their paths, and reads them.
 //! Where it states what its files hold, the contract of `open_image` says what each byte of the
-//! disk is. Images are only read, unless a raw one is opened for writing. Which of the files that an
-//! image names are looked at is said by [`OtherFiles`](opening::OtherFiles): none, those in its
+//! disk is. Images are only read, unless a raw one is opened for writing. Which of the files that
+//! an image names are looked at is said by [`OtherFiles`](opening::OtherFiles): none, those in its
 //! folder and below, or any.
 #![tactic(auto)]
 
