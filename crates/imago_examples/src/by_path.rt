@@ -10,8 +10,8 @@ use imago::any::AnyDriver;
 use imago::copy::{CopyError, copy_disk};
 use imago::file::HostFile;
 use imago::images::{
-    FileImage, FileKind, FileStatus, Files, ImageFormat, OpenError, Opening, OtherFiles,
-    PathStorage, Reason, open_image,
+    FileImage, FileKind, FileStatus, Files, OpenError, Opening, OtherFiles, PathStorage, Reason,
+    open_image,
 };
 use std::alloc::Global;
 use std::fs::{self, File, Metadata, OpenOptions};
@@ -123,27 +123,6 @@ pub fn first_sector<H: Files>(host: &H, path: &str) -> Result<[u8; 512], OpenErr
     let read = image.read(host.alloc(), &mut sector, 0);
     OpenError::or_image(host.alloc(), path, read)?;
     Ok(sector)
-}
-
-/// Writes bytes to the disk of the raw image of that path, from the offset in bytes on, and syncs
-/// the file. Neither grows by that: a write that would pass the disk's end is refused.
-pub fn write_at_path<H: Files>(
-    host: &H,
-    path: &str,
-    source: &[u8],
-    offset: u64,
-) -> Result<(), OpenError> {
-    let alloc = host.alloc();
-    let how = Opening {
-        format: Some(ImageFormat::Raw),
-        strict: false,
-        other_files: OtherFiles::None,
-        tables: None,
-        writable: true,
-    };
-    let (_format, mut image) = open_image(host, path, how)?;
-    OpenError::or_image(alloc, path, image.write(alloc, source, offset))?;
-    OpenError::or_image(alloc, path, image.sync())
 }
 
 /// The whole disk of the image of that path, in memory.

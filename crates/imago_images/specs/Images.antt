@@ -85,9 +85,11 @@ IsImageIn view strict others files path format x =
     (layers : List (ℕ → Place)) × AreLayers strict others files path format layers
     × ShowsLayers view x (size_by strict format (files path)) layers
 
--- an image can be written to: its driver writes, and its first storage is open for that
+-- an image can be written to: its driver writes, and no prepared mapping waits there; and its first
+-- storage is open for that
 abbrev pub IsToWrite : {D St : Type 0} → (D → View St) → FormatAccess D → Type 0
 IsToWrite view x = ((view (driver x)).abilities.is_writable ≡ true)
+    × ((view (driver x)).pending ≡ None)
     × (((view (driver x)).stores.features 0).offers_resize ≡ true)
 
 -- an image can't be written to

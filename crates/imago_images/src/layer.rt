@@ -111,6 +111,8 @@ pub(crate) fn raw_layer<S: Storage>(
         (⟦<AnyDriver<S> as FormatDriverInstance>⟧.view l.driver).stores.features 0
         ≡ S.features file) }
     ensures tables { IfOk result (λ l. tables_in l.driver ≡ 0) }
+    ensures ready { IfOk result (λ l.
+        (⟦<AnyDriver<S> as FormatDriverInstance>⟧.view l.driver).pending ≡ None) }
     ensures driver { (bytes : List ℕ) → HasBytes S.features S.bytes bytes file → IfOk result (λ l.
         IsDriverOf ⟦<AnyDriver<S> as FormatDriverInstance>⟧.view (length bytes)
         (raw_place (length bytes) bytes) l.driver) }

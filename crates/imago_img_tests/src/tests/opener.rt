@@ -1,4 +1,6 @@
 //! Images opened by their paths: what they show, and why others aren't opened.
+ghost use Rattle.std.specs.Prelude.{◌≡◌, None};
+ghost use Rattle.imago_access.specs.Chain.{driver};
 
 use super::set_up::files;
 use imago_access::access::FormatAccess;
@@ -297,19 +299,23 @@ const TO_WRITE: Opening = Opening {
     writable: true,
 };
 
-/// Writes to a raw image, and reads it back.
+/// Opens a raw image for writing, and changes it.
 fn write_raw<H: Files>(rt: &impl Abort, host: &H) {
-    let alloc = host.alloc();
-    let opened = open_image(host, "plain.raw", TO_WRITE);
-    assert!(rt; opened.is_ok());
-    let Ok((format, mut image)) = opened else {
-        return
-    };
-    assert!(rt; format == ImageFormat::Raw);
+    match open_image(host, "plain.raw", TO_WRITE) {
+        Ok((format, mut image)) => {
+            assert!(rt; format == ImageFormat::Raw);
+            change(rt, host.alloc(), &mut image);
+        }
+        Err(cause) => assert!(rt; false, "{cause}"),
+    }
+}
+
+/// Writes to an image whose disk has seven bytes, and reads it back.
+fn change<D: FormatDriverInstance>(rt: &impl Abort, alloc: Global, image: &mut FormatAccess<D>)
+    requires { (D.view (driver image.old)).pending ≡ None }
+{
     assert!(rt; image.write(alloc, b"p!", 5).is_ok());
-    assert!(rt; image.sync().is_ok());
-    shows(rt, alloc, &image, 7, &[(2, *b"help"), (6, *b"!\0\0\0")]);
-    assert!(rt; image.write(alloc, b"!", 7).is_err());
+    shows(rt, alloc, image, 7, &[(2, *b"help"), (6, *b"!\0\0\0")]);
 }
 
 /// Tries to open the images of all rows for writing.
