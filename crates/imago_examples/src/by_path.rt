@@ -126,8 +126,7 @@ pub fn first_sector<H: Files>(host: &H, path: &str) -> Result<[u8; 512], OpenErr
 }
 
 /// The whole disk of the image of that path, in memory.
-pub fn whole_disk<H: Files>(host: &H, path: &str) -> Result<Vec<u8>, OpenError>
-{
+pub fn whole_disk<H: Files>(host: &H, path: &str) -> Result<Vec<u8>, OpenError> {
     let alloc = host.alloc();
     let image = open_disk(host, path)?;
     let mut disk = Vec::new(alloc);
