@@ -3,7 +3,7 @@
 //! A host that states what its files hold, as one in memory, has the images' bytes said by
 //! `open_image`. No contract says what the system's files hold.
 ghost use Rattle.std.specs.Prelude.{None, IfOk, IfSome};
-ghost use Rattle.imago_examples.specs.ByPath.{IsImageAt, BeginsWith};
+ghost use Rattle.imago_examples.specs.ByPath.{IsImageAt, BeginsWith, IsDiskAt};
 
 use imago::FormatDriverInstance;
 use imago::any::AnyDriver;
@@ -126,7 +126,10 @@ pub fn first_sector<H: Files>(host: &H, path: &str) -> Result<[u8; 512], OpenErr
 }
 
 /// The whole disk of the image of that path, in memory.
-pub fn whole_disk<H: Files>(host: &H, path: &str) -> Result<Vec<u8>, OpenError> {
+pub fn whole_disk<H: Files>(host: &H, path: &str) -> Result<Vec<u8>, OpenError>
+    ensures { IfOk result (λ disk. IfSome (H.contents host.now)
+        (λ files. IsDiskAt files path.now disk.items)) }
+{
     let alloc = host.alloc();
     let image = open_disk(host, path)?;
     let mut disk = Vec::new(alloc);
