@@ -1,0 +1,67 @@
+//! The rows of the table: an option of a command each.
+ghost use Rattle.std.specs.Prelude.{◌≡◌};
+ghost use Rattle.imago_words.specs.Reading.{row_named, row_of_letter, same_name, takes_value};
+
+/// An option of a command.
+#[derive(Clone, Copy)]
+pub struct Row {
+    /// What the program's code calls it. It isn't typed, and nothing prints it.
+    pub key: &'static str,
+    /// Its letter, which is typed behind a dash; empty if it has none.
+    pub letter: &'static str,
+    /// Its name, which is typed behind two dashes; empty if it has none.
+    pub name: &'static str,
+    /// What help calls its value; empty if it takes none.
+    pub value: &'static str,
+    /// The values that it takes, as `raw or qcow2`; empty if its help says all.
+    pub takes: &'static str,
+    /// What help says of it.
+    pub help: &'static str,
+}
+
+impl Row {
+    /// Whether the option takes a value.
+    pub fn takes_value(&self) -> bool
+        ensures { result ≡ takes_value self.now }
+    {
+        !self.value.is_empty()
+    }
+}
+
+/// The first option of that name. An empty name is no option's.
+pub(crate) fn find_name(rows: &[Row], name: &str) -> Option<Row>
+    ensures { result ≡ row_named rows.now name.now }
+{
+    if name.is_empty() {
+        return None;
+    }
+    first_named(rows, name)
+}
+
+/// The first option whose name is the same text.
+fn first_named(rows: &[Row], name: &str) -> Option<Row>
+    ensures { result ≡ same_name rows.now name.now }
+{
+    let mut rest = rows;
+    while let Some((row, behind)) = rest.split_first() {
+        if row.name == name {
+            return Some(*row);
+        }
+        rest = behind;
+    }
+    None
+}
+
+/// The first option of that letter.
+pub(crate) fn find_letter(rows: &[Row], letter: &str) -> Option<Row>
+    ensures { result ≡ row_of_letter rows.now letter.now }
+{
+    let mut rest = rows;
+    while let Some((row, behind)) = rest.split_first() {
+        if row.letter == letter {
+            return Some(*row);
+        }
+        rest = behind;
+    }
+    None
+}
