@@ -4,34 +4,33 @@ use Rattle.std.specs.List.{list_any}
 use Rattle.std.specs.Prelude.{map, ◌++◌, ◌||◌, Option, Some, None, IfSome, IsSome, nat_lt, option_map, if◌then◌else◌}
 use Rattle.std.specs.Str.{IsCharBoundary, IsUtf8, bytes_eq}
 use Rattle.std.proofs.lemmas.Str.{IsCharBoundary-after_ascii}
-use Rattle.imago_words.specs.declared.row.Row.{Row}
 use Rattle.imago_words.specs.declared.words.Given.{Given}
-use Rattle.imago_words.specs.Reading.{State, Text, first_letter, is_key, last_of, shown, lettered, letters, row_of_letter}
+use Rattle.imago_words.specs.Reading.{Known, State, Text, first_letter, is_key, last_of, shown, lettered, letters, option_of_letter}
 
 -- what letters come to, by the first of them
-abbrev pub letters_by : List Row → Option (Text × Text) → State → Option State
-letters_by rows None s = None
-letters_by rows (Some p) s = lettered (row_of_letter rows p.0) p.1 (letters rows p.1) s
+abbrev pub letters_by : List Known → Option (Text × Text) → State → Option State
+letters_by options None s = None
+letters_by options (Some p) s = lettered (option_of_letter options p.0) p.1 (letters options p.1) s
 
-either : (t : Bool) (rows : List Row) (p : Text × Text) (s : State)
-    → (if t then lettered (row_of_letter rows p.0) p.1 (letters rows p.1) s else None)
-    ≡ letters_by rows (if t then Some p else None) s
-either true rows p s = refl
-either false rows p s = refl
+either : (t : Bool) (options : List Known) (p : Text × Text) (s : State)
+    → (if t then lettered (option_of_letter options p.0) p.1 (letters options p.1) s else None)
+    ≡ letters_by options (if t then Some p else None) s
+either true options p s = refl
+either false options p s = refl
 
 -- the first letter, and then those behind it
-pub letters_step : (rows : List Row) (rest : Text) (s : State) → 0 < length rest
-    → letters rows rest s ≡ letters_by rows (first_letter rest) s
+pub letters_step : (options : List Known) (rest : Text) (s : State) → 0 < length rest
+    → letters options rest s ≡ letters_by options (first_letter rest) s
 unfolding letters first_letter
-letters_step rows [] s l = absurd (omega arith)
-letters_step rows (b ∷ rest) s l = either (nat_lt b 128) rows (b ∷ [], rest) s
+letters_step options [] s l = absurd (omega arith)
+letters_step options (b ∷ rest) s l = either (nat_lt b 128) options (b ∷ [], rest) s
 
 -- no letter is left
-pub letters_end : (rows : List Row) (rest : Text) (s : State) → length rest ≡ 0
-    → letters rows rest s ≡ Some s
+pub letters_end : (options : List Known) (rest : Text) (s : State) → length rest ≡ 0
+    → letters options rest s ≡ Some s
 unfolding letters
-letters_end rows [] s h = refl
-letters_end rows (b ∷ rest) s h = absurd (omega arith)
+letters_end options [] s h = refl
+letters_end options (b ∷ rest) s h = absurd (omega arith)
 
 abbrev parts : Option (Bor Text × Bor Text) → Option (Text × Text)
 parts r = option_map {U = Text × Text} (λ x. (x.0.now, x.1.now)) r

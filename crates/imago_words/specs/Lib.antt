@@ -1,2 +1,5 @@
 pub mod Reading
 pub mod Sizes
+pub mod Options
+pub mod Commands
+pub mod Line

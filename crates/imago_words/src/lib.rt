@@ -1,13 +1,16 @@
 //! The command line of `imago-img`: its options as a table, and the command that its words ask for.
 #![tactic(auto)]
 
+pub mod asked;
+pub mod command;
 mod cut;
-mod fault;
-mod row;
-mod size;
-mod words;
-
-pub use fault::Fault;
-pub use row::Row;
-pub use size::size_named;
-pub use words::{Given, Words};
+pub mod fault;
+pub mod format;
+pub mod kind;
+pub mod line;
+pub mod page;
+pub mod refusal;
+pub mod row;
+pub mod size;
+pub mod table;
+pub mod words;

@@ -1,6 +1,6 @@
 //! The rows of the table: an option of a command each.
-ghost use Rattle.std.specs.Prelude.{◌≡◌};
-ghost use Rattle.imago_words.specs.Reading.{row_named, row_of_letter, same_name, takes_value};
+ghost use Rattle.std.specs.Prelude.{◌≡◌, map, option_map};
+ghost use Rattle.imago_words.specs.Reading.{known, option_named, option_of_letter, same_name};
 
 /// An option of a command.
 #[derive(Clone, Copy)]
@@ -22,7 +22,7 @@ pub struct Row {
 impl Row {
     /// Whether the option takes a value.
     pub fn takes_value(&self) -> bool
-        ensures { result ≡ takes_value self.now }
+        ensures { result ≡ (known self.now).takes_value }
     {
         !self.value.is_empty()
     }
@@ -30,7 +30,7 @@ impl Row {
 
 /// The first option of that name. An empty name is no option's.
 pub(crate) fn find_name(rows: &[Row], name: &str) -> Option<Row>
-    ensures { result ≡ row_named rows.now name.now }
+    ensures { option_map known result ≡ option_named (map known rows.now) name.now }
 {
     if name.is_empty() {
         return None;
@@ -40,7 +40,7 @@ pub(crate) fn find_name(rows: &[Row], name: &str) -> Option<Row>
 
 /// The first option whose name is the same text.
 fn first_named(rows: &[Row], name: &str) -> Option<Row>
-    ensures { result ≡ same_name rows.now name.now }
+    ensures { option_map known result ≡ same_name (map known rows.now) name.now }
 {
     let mut rest = rows;
     while let Some((row, behind)) = rest.split_first() {
@@ -54,7 +54,7 @@ fn first_named(rows: &[Row], name: &str) -> Option<Row>
 
 /// The first option of that letter.
 pub(crate) fn find_letter(rows: &[Row], letter: &str) -> Option<Row>
-    ensures { result ≡ row_of_letter rows.now letter.now }
+    ensures { option_map known result ≡ option_of_letter (map known rows.now) letter.now }
 {
     let mut rest = rows;
     while let Some((row, behind)) = rest.split_first() {

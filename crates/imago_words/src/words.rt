@@ -4,7 +4,7 @@ ghost use Rattle.std.specs.Prelude.{map, option_map, string_bytes, length, nat_e
 ghost use Rattle.std.specs.List.{list_any};
 ghost use Rattle.std.specs.Str.{bytes_eq};
 ghost use Rattle.imago_words.specs.declared.fault.Fault.TheVariants.{Memory};
-ghost use Rattle.imago_words.specs.Reading.{letters, named, read_of, state_of, step};
+ghost use Rattle.imago_words.specs.Reading.{known, letters, named, read_of, state_of, step};
 ghost use Rattle.imago_words.specs.Reading.{valued_letter, with_file, with_given};
 ghost use Rattle.imago_words.specs.Reading.{is_key, last_given, last_of, shown, was_given};
 
@@ -37,9 +37,9 @@ impl<'a> Words<'a> {
     #[tactic(auto, unfolding(crate::specs::Reading::steps))]
     pub fn read(alloc: Global, rows: &[Row], words: &'a [String]) -> Result<Words<'a>, Fault<'a>>
         ensures ok { IfOk result
-            (λ read. read_of rows.now (map string_bytes words.entry.now) ≡ Some (state_of read)) }
+            (λ read. read_of (map known rows.now) (map string_bytes words.entry.now) ≡ Some (state_of read)) }
         ensures err { IfErr result (λ e. (e ≡ Memory)
-            ⊎ (read_of rows.now (map string_bytes words.entry.now) ≡ None)) }
+            ⊎ (read_of (map known rows.now) (map string_bytes words.entry.now) ≡ None)) }
     {
         let mut read = Words {
             waiting: None,
@@ -61,9 +61,9 @@ impl<'a> Words<'a> {
     /// Takes a word.
     fn take(&mut self, rows: &[Row], word: &'a str) -> Result<(), Fault<'a>>
         ensures ok { OnOk result
-            (step rows.now word.entry.now (state_of self.old) ≡ Some (state_of self.new)) }
+            (step (map known rows.now) word.entry.now (state_of self.old) ≡ Some (state_of self.new)) }
         ensures err { IfErr result (λ e. (e ≡ Memory)
-            ⊎ (step rows.now word.entry.now (state_of self.old) ≡ None)) }
+            ⊎ (step (map known rows.now) word.entry.now (state_of self.old) ≡ None)) }
     {
         if let Some(row) = self.waiting {
             self.waiting = None;
@@ -100,7 +100,7 @@ impl<'a> Words<'a> {
     /// Takes an option with its value.
     fn give(&mut self, row: Row, value: &'a str) -> Result<(), Fault<'a>>
         ensures ok { OnOk result
-            (state_of self.new ≡ with_given row value.entry.now (state_of self.old)) }
+            (state_of self.new ≡ with_given (known row) value.entry.now (state_of self.old)) }
         ensures err { IfErr result (λ e. e ≡ Memory) }
     {
         self.given.push(Given { row, value })?;
@@ -110,9 +110,9 @@ impl<'a> Words<'a> {
     /// Takes an option by its name, which may have its value behind `=`.
     fn take_name(&mut self, rows: &[Row], text: &'a str, word: &'a str) -> Result<(), Fault<'a>>
         ensures ok { OnOk result
-            (named rows.now text.entry.now (state_of self.old) ≡ Some (state_of self.new)) }
+            (named (map known rows.now) text.entry.now (state_of self.old) ≡ Some (state_of self.new)) }
         ensures err { IfErr result (λ e. (e ≡ Memory)
-            ⊎ (named rows.now text.entry.now (state_of self.old) ≡ None)) }
+            ⊎ (named (map known rows.now) text.entry.now (state_of self.old) ≡ None)) }
     {
         let Some((name, value)) = cut_at_equals(text) else {
             let Some(row) = find_name(rows, text) else {
@@ -140,9 +140,9 @@ impl<'a> Words<'a> {
     )]
     fn take_letters(&mut self, rows: &[Row], text: &'a str, word: &'a str) -> Result<(), Fault<'a>>
         ensures ok { OnOk result
-            (letters rows.now text.entry.now (state_of self.old) ≡ Some (state_of self.new)) }
+            (letters (map known rows.now) text.entry.now (state_of self.old) ≡ Some (state_of self.new)) }
         ensures err { IfErr result (λ e. (e ≡ Memory)
-            ⊎ (letters rows.now text.entry.now (state_of self.old) ≡ None)) }
+            ⊎ (letters (map known rows.now) text.entry.now (state_of self.old) ≡ None)) }
     {
         let mut rest = text;
         while !rest.is_empty() {
@@ -165,7 +165,7 @@ impl<'a> Words<'a> {
     /// value.
     fn take_value(&mut self, row: Row, behind: &'a str) -> Result<(), Fault<'a>>
         ensures ok { OnOk result
-            (state_of self.new ≡ valued_letter row behind.entry.now (state_of self.old)) }
+            (state_of self.new ≡ valued_letter (known row) behind.entry.now (state_of self.old)) }
         ensures err { IfErr result (λ e. e ≡ Memory) }
     {
         if behind.is_empty() {
