@@ -6,6 +6,8 @@ pub mod command;
 mod cut;
 pub mod fault;
 pub mod format;
+pub mod help;
+pub mod hint;
 pub mod kind;
 pub mod line;
 pub mod page;

@@ -2,6 +2,8 @@
 ghost use Rattle.std.specs.Prelude.{◌≡◌, map, option_map};
 ghost use Rattle.imago_words.specs.Reading.{known, option_named, option_of_letter, same_name};
 
+use std::fmt::{self, Display};
+
 /// An option of a command.
 #[derive(Clone, Copy)]
 pub struct Row {
@@ -25,6 +27,25 @@ impl Row {
         ensures { result ≡ (known self.now).takes_value }
     {
         !self.value.is_empty()
+    }
+
+    /// What it takes, in words.
+    pub(crate) fn taken(&self) -> &'static str {
+        if self.takes.is_empty() { self.value } else { self.takes }
+    }
+}
+
+/// An option as it is typed: by its letter, if it has one.
+#[derive(Clone, Copy)]
+pub(crate) struct Name(pub Row);
+
+impl Display for Name {
+    fn fmt<W: fmt::Write>(&self, f: &mut fmt::Formatter<W>) -> fmt::Result {
+        if self.0.letter.is_empty() {
+            write!(f, "--{}", self.0.name)
+        } else {
+            write!(f, "-{}", self.0.letter)
+        }
     }
 }
 
