@@ -1,1 +1,2 @@
 pub mod ReadingSteps
+pub mod LineLaws

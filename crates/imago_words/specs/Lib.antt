@@ -3,3 +3,4 @@ pub mod Sizes
 pub mod Options
 pub mod Commands
 pub mod Line
+pub mod Laws

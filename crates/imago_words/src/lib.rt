@@ -9,6 +9,7 @@ pub mod format;
 pub mod help;
 pub mod hint;
 pub mod kind;
+pub mod laws;
 pub mod line;
 pub mod page;
 pub mod refusal;

@@ -76,7 +76,7 @@ fn fmt_unnamed<W: fmt::Write>(
     }
     match hint {
         Hint::Instead(absent) => write!(f, ": {}", absent.instead)?,
-        Hint::Near(name) => write!(f, "; did you mean {name}?")?,
+        Hint::Near(name) => write!(f, " (did you mean {name}?)")?,
         Hint::Nothing => {}
     }
     f.write_str("; see imago-img --help")
@@ -94,7 +94,7 @@ fn fmt_option<W: fmt::Write>(
             write!(f, "{} has no {}: {}", page.name, absent.name, absent.instead)
         }
         Hint::Near(name) => {
-            write!(f, "{} has no option {word:?}; did you mean --{name}?", page.name)
+            write!(f, "{} has no option {word:?} (did you mean --{name}?)", page.name)
         }
         Hint::Nothing => write!(f, "{} has no option {word:?}", page.name),
     }

@@ -164,7 +164,7 @@ pub static TABLE: Table = Table {
             row!("into-existing", "n", "", "", "", "Write into OUT, which is there"),
             row!(
                 "sparse-size", "S", "", "SIZE", "a size such as 64k",
-                "0 writes every byte, so that OUT has no holes"
+                "0 writes every byte; else ignored"
             ),
             row!("force", "", "force", "", "", "Replace OUT, but no file of the image"),
             PROGRESS,
