@@ -8,7 +8,8 @@ use Rattle.imago_words.specs.declared.command.Command.{Command}
 use Rattle.imago_words.specs.declared.command.Command.TheVariants as Asked
 use Rattle.imago_words.specs.Laws.{IsWorked, IsWorkedConvert, refused_line, worked_line}
 use Rattle.imago_words.specs.Commands.{format_named}
-use Rattle.imago_words.specs.Line.{Asks, answer_of, kind_named, kind_typed, line_is_meant, status_for}
+use Rattle.imago_words.specs.Line.{Asks, answer_of, kind_named, kind_typed, line_is_meant}
+use Rattle.imago_words.specs.Line.{status_for}
 
 -- the first line is meant, the second isn't
 pub worked_is_meant : line_is_meant worked_line ≡ true
@@ -50,7 +51,8 @@ asks_of words e c a = worked_asks c (subst (λ w. Asks w c) e a)
 pub memory_of : (words : List Text) → words ≡ worked_line → (P : Type 0)
     → P ⊎ (line_is_meant words ≡ false) → P
 memory_of words e P =
-    ⊎_elim (λ p. p) (λ f. absurd (true≢false (sym worked_is_meant ∙ (sym (ap line_is_meant e) ∙ f))))
+    let meant = sym worked_is_meant ∙ sym (ap line_is_meant e) in
+    ⊎_elim (λ p. p) (λ f. absurd (true≢false (meant ∙ f)))
 
 -- words that are the other line aren't meant
 pub refused_of : (words : List Text) → words ≡ refused_line → line_is_meant words ≡ true → ⊥

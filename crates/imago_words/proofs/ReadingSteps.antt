@@ -1,11 +1,14 @@
-use Rattle.std.proofs.Common.{◌≡◌, ◌<◌, ◌↔◌, Bool, true, false, List, [], ◌∷◌, length, take, drop, get_or, ap, refl, arith, lt-ltb, Bor, ◌≤◌}
+use Rattle.std.proofs.Common.{◌≡◌, ◌<◌, ◌≤◌, ◌↔◌, ◌∷◌, Bool, true, false, List, [], length, take}
+use Rattle.std.proofs.Common.{drop, get_or, ap, refl, arith, lt-ltb, Bor}
 use Rattle.std.proofs.lemmas.Bool.{le-ltb}
 use Rattle.std.specs.List.{list_any}
-use Rattle.std.specs.Prelude.{map, ◌++◌, ◌||◌, Option, Some, None, IfSome, IsSome, nat_lt, option_map, if◌then◌else◌}
+use Rattle.std.specs.Prelude.{map, ◌||◌, Option, Some, None, IfSome, IsSome, nat_lt, option_map}
+use Rattle.std.specs.Prelude.{if◌then◌else◌}
 use Rattle.std.specs.Str.{IsCharBoundary, IsUtf8, bytes_eq}
 use Rattle.std.proofs.lemmas.Str.{IsCharBoundary-after_ascii}
 use Rattle.imago_words.specs.declared.words.Given.{Given}
-use Rattle.imago_words.specs.Reading.{Known, State, Text, first_letter, is_key, last_of, shown, lettered, letters, option_of_letter}
+use Rattle.imago_words.specs.Reading.{Known, State, Text, first_letter, is_key, lettered, letters}
+use Rattle.imago_words.specs.Reading.{option_of_letter, shown}
 
 -- what letters come to, by the first of them
 abbrev pub letters_by : List Known → Option (Text × Text) → State → Option State
@@ -43,7 +46,8 @@ pub cut_is : (text : Text) (r : Option (Bor Text × Bor Text)) → IsUtf8 text �
 unfolding first_letter
 cut_is [] r u l h v f k = absurd (omega arith)
 cut_is (b ∷ bs) None u l h v f k =
-    let bad : IsSome {T = Bor Text × Bor Text} None = v.1 (IsCharBoundary-after_ascii (b ∷ bs) 0 u l h) in (cc)
+    let boundary = IsCharBoundary-after_ascii (b ∷ bs) 0 u l h in
+    let bad : IsSome {T = Bor Text × Bor Text} None = v.1 boundary in (cc)
 cut_is (b ∷ bs) (Some x) u l h v f k = rw (f, k, lt-ltb b 128 h) refl
 
 pub none_is : (text : Text) → length text ≡ 0 → first_letter text ≡ None

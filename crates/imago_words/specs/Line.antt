@@ -8,7 +8,8 @@ use Rattle.imago_words.specs.declared.kind.Kind.{Kind}
 use Rattle.imago_words.specs.declared.kind.Kind.TheVariants.{Info, Map, Check, Compare, Convert}
 use Rattle.imago_words.specs.declared.refusal.Refusal.{Refusal}
 use Rattle.imago_words.specs.Commands.{IsCheck, IsCompare, IsConvert, IsInfo, IsMap}
-use Rattle.imago_words.specs.Commands.{info_is_meant, check_is_meant, compare_is_meant, convert_is_meant}
+use Rattle.imago_words.specs.Commands.{info_is_meant, check_is_meant, compare_is_meant}
+use Rattle.imago_words.specs.Commands.{convert_is_meant}
 use Rattle.imago_words.specs.Options.{options_of}
 use Rattle.imago_words.specs.Reading.{State, Text, read_of, was_given}
 
@@ -73,7 +74,8 @@ is_meant_by meant (Some s) = meant s
 -- those words are meant
 abbrev pub named_is_meant : Option Kind → List Text → Bool
 named_is_meant None words = false
-named_is_meant (Some kind) words = is_meant_by (behind_is_meant kind) (read_of (options_of kind) words)
+named_is_meant (Some kind) words =
+    is_meant_by (behind_is_meant kind) (read_of (options_of kind) words)
 
 abbrev pub line_is_meant : List Text → Bool
 line_is_meant [] = false

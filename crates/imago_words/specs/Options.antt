@@ -82,6 +82,7 @@ convert_options =
     ∷ valued (codes "source-cache") (codes "T") []
     ∷ valued (codes "requests") (codes "m") []
     ∷ flag (codes "out-of-order") (codes "W") []
+    ∷ flag (codes "copy-range") (codes "C") []
     ∷ valued (codes "rate") (codes "r") []
     ∷ valued (codes "tables") [] (codes "tables")
     ∷ flag (codes "strict") [] (codes "strict")

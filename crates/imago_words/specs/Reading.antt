@@ -130,7 +130,8 @@ begins_number (b ∷ rest) = nat_lt 47 b && nat_lt b 58
 
 abbrev pub twice_dashed : List Known → Option Text → Text → State → Option State
 twice_dashed options None rest s = letters options rest s
-twice_dashed options (Some name) rest s = if is_empty name then Some (record s { only_files = true })
+twice_dashed options (Some name) rest s =
+    if is_empty name then Some (record s { only_files = true })
     else named options name s
 
 -- a word, by what stands behind its dash: without one it is a file, and so are a dash alone and

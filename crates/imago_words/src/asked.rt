@@ -2,7 +2,8 @@
 ghost use Rattle.std.specs.Prelude.{◌≡◌, IfOk, codes, is_ok};
 ghost use Rattle.imago_words.specs.declared.format.Format.TheVariants.{Raw};
 ghost use Rattle.imago_words.specs.Reading.{state_of};
-ghost use Rattle.imago_words.specs.Commands.{IsCheck, IsCompare, IsConvert, IsInfo, IsMap, IsOpening};
+ghost use Rattle.imago_words.specs.Commands.{IsCheck, IsCompare, IsConvert, IsInfo, IsMap};
+ghost use Rattle.imago_words.specs.Commands.{IsOpening};
 ghost use Rattle.imago_words.specs.Commands.{format_given, output_given, size_given};
 ghost use Rattle.imago_words.specs.Commands.{writes_every_byte, format_is_meant, size_is_meant};
 ghost use Rattle.imago_words.specs.Commands.{output_is_meant, human_is_meant, target_is_meant};
@@ -143,7 +144,11 @@ fn output<'a>(words: &Words<'a>) -> Result<Output, Fault<'a>>
             None => return Err(Fault::Value(given.row, given.value)),
         },
     };
-    if words.has("json") { Ok(Output::Json) } else { Ok(given) }
+    if words.has("json") {
+        Ok(Output::Json)
+    } else {
+        Ok(given)
+    }
 }
 
 /// Refuses to print for programs.

@@ -61,36 +61,46 @@ impl Output {
 /// What `info` is asked.
 #[derive(Clone, Copy)]
 pub struct Info<'a> {
+    /// The path of the image.
     pub file: &'a str,
     /// The format of the image, if it was said.
     pub format: Option<Format>,
+    /// How it is printed.
     pub output: Output,
+    /// What holds of each image.
     pub opening: Opening,
 }
 
 /// What `map` is asked.
 #[derive(Clone, Copy)]
 pub struct Map<'a> {
+    /// The path of the image.
     pub file: &'a str,
     /// The format of the image, if it was said.
     pub format: Option<Format>,
+    /// How it is printed.
     pub output: Output,
+    /// What holds of each image.
     pub opening: Opening,
 }
 
 /// What `check` is asked.
 #[derive(Clone, Copy)]
 pub struct Check<'a> {
+    /// The path of the image.
     pub file: &'a str,
     /// The format of the image, if it was said.
     pub format: Option<Format>,
+    /// What holds of each image.
     pub opening: Opening,
 }
 
 /// What `compare` is asked.
 #[derive(Clone, Copy)]
 pub struct Compare<'a> {
+    /// The path of the first image.
     pub first: &'a str,
+    /// The path of the second image.
     pub second: &'a str,
     /// The format of the first image, if it was said.
     pub first_format: Option<Format>,
@@ -102,13 +112,16 @@ pub struct Compare<'a> {
     pub progress: bool,
     /// Whether only errors are printed.
     pub quiet: bool,
+    /// What holds of each image.
     pub opening: Opening,
 }
 
 /// What `convert` is asked.
 #[derive(Clone, Copy)]
 pub struct Convert<'a> {
+    /// The path of the image that is read.
     pub source: &'a str,
+    /// The path of the image that is written.
     pub target: &'a str,
     /// The format of the source, if it was said.
     pub source_format: Option<Format>,
@@ -124,5 +137,6 @@ pub struct Convert<'a> {
     pub progress: bool,
     /// Whether only errors are printed.
     pub quiet: bool,
+    /// What holds of each image.
     pub opening: Opening,
 }

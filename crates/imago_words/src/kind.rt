@@ -10,10 +10,15 @@ use crate::table::TABLE;
 /// Which command it is.
 #[derive(Clone, Copy, PartialEq, Eq)]
 pub enum Kind {
+    /// `info`, which tells what an image is.
     Info,
+    /// `map`, which tells where the bytes of an image's disk stand.
     Map,
+    /// `check`, which looks for the faults of an image.
     Check,
+    /// `compare`, which tells whether two images have the same disk.
     Compare,
+    /// `convert`, which writes an image's disk to another image.
     Convert,
 }
 

@@ -1,9 +1,10 @@
 //! A whole command line.
-ghost use Rattle.std.specs.Prelude.{◌≡◌, ◌⊎◌, Some, None, IfErr, IfOk, IfSome, is_ok, map, true, false};
-ghost use Rattle.std.specs.Prelude.{string_bytes};
+ghost use Rattle.std.specs.Prelude.{◌≡◌, ◌⊎◌, Some, IfErr, IfOk, is_ok, map, string_bytes};
+ghost use Rattle.std.specs.Prelude.{true, false};
 ghost use Rattle.imago_words.specs.declared.fault.Fault.TheVariants.{Memory};
-ghost use Rattle.imago_words.specs.Line.{Asks, IsBehind, IsNamed, IsOf, answer_given, answer_of};
-ghost use Rattle.imago_words.specs.Line.{behind_is_meant, line_is_meant, named_is_meant, of_is_meant};
+ghost use Rattle.imago_words.specs.Line.{Asks, IsBehind, IsNamed, IsOf, answer_of};
+ghost use Rattle.imago_words.specs.Line.{behind_is_meant, line_is_meant, named_is_meant};
+ghost use Rattle.imago_words.specs.Line.{of_is_meant};
 ghost use Rattle.imago_words.specs.Line.{kind_typed, status_for, status_of};
 ghost use Rattle.imago_words.specs.Reading.{state_of};
 
@@ -25,7 +26,8 @@ impl<'a> Command<'a> {
         ensures err { IfErr result (λ refusal. (refusal.fault ≡ Memory)
             ⊎ (line_is_meant (map string_bytes words.entry.now) ≡ false)) }
         ensures status { IfErr result
-            (λ refusal. status_of refusal ≡ status_for (kind_typed (map string_bytes words.entry.now))) }
+            (λ refusal. status_of refusal
+            ≡ status_for (kind_typed (map string_bytes words.entry.now))) }
     {
         let Some((first, behind)) = words.split_first() else {
             return Err(Refusal::new(alloc, Fault::NoCommand, None));

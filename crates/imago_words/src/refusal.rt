@@ -91,10 +91,18 @@ fn fmt_option<W: fmt::Write>(
 ) -> fmt::Result {
     match hint {
         Hint::Instead(absent) => {
-            write!(f, "{} has no {}: {}", page.name, absent.name, absent.instead)
+            write!(
+                f,
+                "{} has no {}: {}",
+                page.name, absent.name, absent.instead
+            )
         }
         Hint::Near(name) => {
-            write!(f, "{} has no option {word:?} (did you mean --{name}?)", page.name)
+            write!(
+                f,
+                "{} has no option {word:?} (did you mean --{name}?)",
+                page.name
+            )
         }
         Hint::Nothing => write!(f, "{} has no option {word:?}", page.name),
     }

@@ -31,7 +31,11 @@ impl Row {
 
     /// What it takes, in words.
     pub(crate) fn taken(&self) -> &'static str {
-        if self.takes.is_empty() { self.value } else { self.takes }
+        if self.takes.is_empty() {
+            self.value
+        } else {
+            self.takes
+        }
     }
 }
 

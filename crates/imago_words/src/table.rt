@@ -1,11 +1,28 @@
-//! The commands and their options. A row has what the code calls the option, its letter, its name,
-//! what help calls its value, the values that it takes, and what help says of it.
+//! The table: the commands and their options, as they are typed and as help tells them.
 use crate::page::{Absent, Page, Table};
 use crate::row::Row;
 
-/// An option.
-macro_rules! row {
-    ($key:literal, $letter:literal, $name:literal, $value:literal, $takes:literal, $help:literal) => {
+/// An option without a value: its key, letter and name, and what help says of it.
+macro_rules! flag {
+    ($key:literal, $letter:literal, $name:literal, $help:literal) => {
+        Row {
+            key: $key,
+            letter: $letter,
+            name: $name,
+            value: "",
+            takes: "",
+            help: $help,
+        }
+    };
+}
+
+/// An option with a value: its key, letter and name, what help calls the value, the values that it
+/// takes, and what help says of it.
+macro_rules! valued {
+    (
+        $key:literal, $letter:literal, $name:literal,
+        $value:literal, $takes:literal, $help:literal
+    ) => {
         Row {
             key: $key,
             letter: $letter,
@@ -27,47 +44,83 @@ macro_rules! absent {
     };
 }
 
-const FORMAT: Row = row!(
-    "format", "f", "format", "FMT", "raw, vmdk or qcow2", "The image's format"
+const FORMAT: Row = valued!(
+    "format",
+    "f",
+    "format",
+    "FMT",
+    "raw, vmdk or qcow2",
+    "The image's format"
 );
 
-const EITHER_FORMAT: Row = row!(
-    "format", "f", "", "FMT", "raw, vmdk or qcow2", "The format of the first image"
+const EITHER_FORMAT: Row = valued!(
+    "format",
+    "f",
+    "",
+    "FMT",
+    "raw, vmdk or qcow2",
+    "The format of the first image"
 );
 
-const SOURCE_FORMAT: Row = row!(
-    "format", "f", "", "FMT", "raw, vmdk or qcow2", "The format of FILE"
+const SOURCE_FORMAT: Row = valued!(
+    "format",
+    "f",
+    "",
+    "FMT",
+    "raw, vmdk or qcow2",
+    "The format of FILE"
 );
 
-const OUTPUT: Row = row!("output", "", "output", "OFMT", "human or json", "What is printed");
-
-const JSON: Row = row!("json", "", "json", "", "", "The same as --output=json");
-
-const PROGRESS: Row = row!("progress", "p", "", "", "", "Show the progress");
-
-const QUIET: Row = row!("quiet", "q", "quiet", "", "", "Print errors alone");
-
-const STRICT: Row = row!(
-    "strict", "", "strict", "", "", "Refuse unknown keys of VMDK descriptors"
+const OUTPUT: Row = valued!(
+    "output",
+    "",
+    "output",
+    "OFMT",
+    "human or json",
+    "What is printed"
 );
 
-const OUTSIDE: Row = row!(
-    "allow-outside", "", "allow-outside", "", "", "Permit files outside the image's folder"
+const JSON: Row = flag!("json", "", "json", "The same as --output=json");
+
+const PROGRESS: Row = flag!("progress", "p", "", "Show the progress");
+
+const QUIET: Row = flag!("quiet", "q", "quiet", "Print errors alone");
+
+const STRICT: Row = flag!(
+    "strict",
+    "",
+    "strict",
+    "Refuse unknown keys of VMDK descriptors"
 );
 
-const TABLES: Row = row!(
-    "tables", "", "tables", "SIZE", "a size such as 64M", "The most memory for tables"
+const OUTSIDE: Row = flag!(
+    "allow-outside",
+    "",
+    "allow-outside",
+    "Permit files outside the image's folder"
 );
 
-const SHARE: Row = row!(
-    "force-share", "U", "force-share", "", "", "Accepted and ignored: no file is locked"
+const TABLES: Row = valued!(
+    "tables",
+    "",
+    "tables",
+    "SIZE",
+    "a size such as 64M",
+    "The most memory for tables"
 );
 
-const SOURCE_CACHE: Row = row!("source-cache", "T", "", "CACHE", "", "Accepted and ignored");
+const SHARE: Row = flag!(
+    "force-share",
+    "U",
+    "force-share",
+    "Accepted and ignored: no file is locked"
+);
 
-const HELP: Row = row!("help", "h", "help", "", "", "Print this help");
+const SOURCE_CACHE: Row = valued!("source-cache", "T", "", "CACHE", "", "Accepted and ignored");
 
-const VERSION: Row = row!("version", "V", "version", "", "", "Print the version");
+const HELP: Row = flag!("help", "h", "help", "Print this help");
+
+const VERSION: Row = flag!("version", "V", "version", "Print the version");
 
 const OBJECT: Absent = absent!("--object", "encrypted images aren't read");
 
@@ -83,7 +136,10 @@ pub static TABLE: Table = Table {
             FORMAT, OUTPUT, JSON, SHARE, TABLES, STRICT, OUTSIDE, HELP, VERSION,
         ],
         absent: &[
-            absent!("--backing-chain", "not yet; info tells of one image at a time"),
+            absent!(
+                "--backing-chain",
+                "not yet; info tells of one image at a time"
+            ),
             OBJECT,
             IMAGE_OPTS,
         ],
@@ -110,7 +166,7 @@ pub static TABLE: Table = Table {
         files: "FILE",
         rows: &[
             FORMAT,
-            row!("output", "", "output", "OFMT", "human", "What is printed"),
+            valued!("output", "", "output", "OFMT", "human", "What is printed"),
             SHARE,
             SOURCE_CACHE,
             TABLES,
@@ -133,11 +189,15 @@ pub static TABLE: Table = Table {
         files: "A B",
         rows: &[
             EITHER_FORMAT,
-            row!(
-                "second-format", "F", "", "FMT", "raw, vmdk or qcow2",
+            valued!(
+                "second-format",
+                "F",
+                "",
+                "FMT",
+                "raw, vmdk or qcow2",
                 "The format of the second image"
             ),
-            row!("same-size", "s", "", "", "", "Tell disks of two sizes apart"),
+            flag!("same-size", "s", "", "Tell disks of two sizes apart"),
             PROGRESS,
             QUIET,
             SHARE,
@@ -160,21 +220,31 @@ pub static TABLE: Table = Table {
         files: "FILE OUT",
         rows: &[
             SOURCE_FORMAT,
-            row!("target-format", "O", "", "FMT", "raw", "The format of OUT"),
-            row!("into-existing", "n", "", "", "", "Write into OUT, which is there"),
-            row!(
-                "sparse-size", "S", "", "SIZE", "a size such as 64k",
+            valued!("target-format", "O", "", "FMT", "raw", "The format of OUT"),
+            flag!("into-existing", "n", "", "Write into OUT, which is there"),
+            valued!(
+                "sparse-size",
+                "S",
+                "",
+                "SIZE",
+                "a size such as 64k",
                 "0 writes every byte; else ignored"
             ),
-            row!("force", "", "force", "", "", "Replace OUT, but no file of the image"),
+            flag!(
+                "force",
+                "",
+                "force",
+                "Replace OUT, but no file of the image"
+            ),
             PROGRESS,
             QUIET,
             SHARE,
-            row!("cache", "t", "", "CACHE", "", "Accepted and ignored"),
+            valued!("cache", "t", "", "CACHE", "", "Accepted and ignored"),
             SOURCE_CACHE,
-            row!("requests", "m", "", "N", "", "Accepted and ignored"),
-            row!("out-of-order", "W", "", "", "", "Accepted and ignored"),
-            row!("rate", "r", "", "RATE", "", "Accepted and ignored"),
+            valued!("requests", "m", "", "N", "", "Accepted and ignored"),
+            flag!("out-of-order", "W", "", "Accepted and ignored"),
+            flag!("copy-range", "C", "", "Accepted and ignored"),
+            valued!("rate", "r", "", "RATE", "", "Accepted and ignored"),
             TABLES,
             STRICT,
             OUTSIDE,
@@ -188,7 +258,10 @@ pub static TABLE: Table = Table {
             absent!("-B", "OUT is raw, and has the whole disk"),
             absent!("-b", "OUT is raw, and has the whole disk"),
             absent!("-F", "OUT is raw, and has the whole disk"),
-            absent!("--format", "-f takes the format of FILE, and -O that of OUT"),
+            absent!(
+                "--format",
+                "-f takes the format of FILE, and -O that of OUT"
+            ),
             absent!("--target-image-opts", "OUT is named by its path, and by -O"),
             absent!("--target-is-zero", "every byte of OUT gets its value"),
             absent!("--salvage", "a byte that can't be read ends the command"),
@@ -204,11 +277,26 @@ pub static TABLE: Table = Table {
 pub(crate) static ABSENT: [Absent; 10] = [
     absent!("create", "truncate -s SIZE FILE makes a raw image"),
     absent!("resize", "truncate -s SIZE FILE resizes a raw image"),
-    absent!("snapshot", "snapshots aren't read; each disk is read as it is now"),
-    absent!("rebase", "no image is changed; convert writes the whole disk to a new one"),
-    absent!("commit", "no image is changed; convert writes the whole disk to a new one"),
-    absent!("amend", "no image is changed; convert writes the whole disk to a new one"),
-    absent!("measure", "info tells the size of the disk, which a raw image has"),
+    absent!(
+        "snapshot",
+        "snapshots aren't read; each disk is read as it is now"
+    ),
+    absent!(
+        "rebase",
+        "no image is changed; convert writes the whole disk to a new one"
+    ),
+    absent!(
+        "commit",
+        "no image is changed; convert writes the whole disk to a new one"
+    ),
+    absent!(
+        "amend",
+        "no image is changed; convert writes the whole disk to a new one"
+    ),
+    absent!(
+        "measure",
+        "info tells the size of the disk, which a raw image has"
+    ),
     absent!("dd", "convert writes the whole disk"),
     absent!("bench", "compare reads two disks whole, and can be timed"),
     absent!("bitmap", "bitmaps aren't read"),

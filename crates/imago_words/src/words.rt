@@ -1,5 +1,6 @@
 //! The words behind a command's name, read by the table of its options.
-ghost use Rattle.std.specs.Prelude.{◌≡◌, ◌∷◌, ◌⊎◌, [], if◌then◌else◌, Some, None, IfErr, IfOk, OnOk, is_ok};
+ghost use Rattle.std.specs.Prelude.{◌≡◌, ◌∷◌, ◌⊎◌, [], if◌then◌else◌, Some, None, IfErr, IfOk};
+ghost use Rattle.std.specs.Prelude.{OnOk, is_ok};
 ghost use Rattle.std.specs.Prelude.{map, option_map, string_bytes, length, nat_eq};
 ghost use Rattle.std.specs.List.{list_any};
 ghost use Rattle.std.specs.Str.{bytes_eq};
@@ -37,7 +38,8 @@ impl<'a> Words<'a> {
     #[tactic(auto, unfolding(crate::specs::Reading::steps))]
     pub fn read(alloc: Global, rows: &[Row], words: &'a [String]) -> Result<Words<'a>, Fault<'a>>
         ensures ok { IfOk result
-            (λ read. read_of (map known rows.now) (map string_bytes words.entry.now) ≡ Some (state_of read)) }
+            (λ read. read_of (map known rows.now) (map string_bytes words.entry.now)
+            ≡ Some (state_of read)) }
         ensures err { IfErr result (λ e. (e ≡ Memory)
             ⊎ (read_of (map known rows.now) (map string_bytes words.entry.now) ≡ None)) }
     {
@@ -61,7 +63,8 @@ impl<'a> Words<'a> {
     /// Takes a word.
     fn take(&mut self, rows: &[Row], word: &'a str) -> Result<(), Fault<'a>>
         ensures ok { OnOk result
-            (step (map known rows.now) word.entry.now (state_of self.old) ≡ Some (state_of self.new)) }
+            (step (map known rows.now) word.entry.now (state_of self.old)
+            ≡ Some (state_of self.new)) }
         ensures err { IfErr result (λ e. (e ≡ Memory)
             ⊎ (step (map known rows.now) word.entry.now (state_of self.old) ≡ None)) }
     {
@@ -90,7 +93,8 @@ impl<'a> Words<'a> {
 
     /// Takes a file.
     fn take_file(&mut self, word: &'a str) -> Result<(), Fault<'a>>
-        ensures ok { OnOk result (state_of self.new ≡ with_file word.entry.now (state_of self.old)) }
+        ensures ok { OnOk result
+            (state_of self.new ≡ with_file word.entry.now (state_of self.old)) }
         ensures err { IfErr result (λ e. e ≡ Memory) }
     {
         self.files.push(word)?;
@@ -110,7 +114,8 @@ impl<'a> Words<'a> {
     /// Takes an option by its name, which may have its value behind `=`.
     fn take_name(&mut self, rows: &[Row], text: &'a str, word: &'a str) -> Result<(), Fault<'a>>
         ensures ok { OnOk result
-            (named (map known rows.now) text.entry.now (state_of self.old) ≡ Some (state_of self.new)) }
+            (named (map known rows.now) text.entry.now (state_of self.old)
+            ≡ Some (state_of self.new)) }
         ensures err { IfErr result (λ e. (e ≡ Memory)
             ⊎ (named (map known rows.now) text.entry.now (state_of self.old) ≡ None)) }
     {
@@ -134,13 +139,14 @@ impl<'a> Words<'a> {
     }
 
     /// Takes options by their letters.
-    #[tactic(
-        auto,
-        using(crate::proofs::ReadingSteps::letters_step, crate::proofs::ReadingSteps::letters_end)
-    )]
+    #[tactic(auto, using(
+        crate::proofs::ReadingSteps::letters_step,
+        crate::proofs::ReadingSteps::letters_end
+    ))]
     fn take_letters(&mut self, rows: &[Row], text: &'a str, word: &'a str) -> Result<(), Fault<'a>>
         ensures ok { OnOk result
-            (letters (map known rows.now) text.entry.now (state_of self.old) ≡ Some (state_of self.new)) }
+            (letters (map known rows.now) text.entry.now (state_of self.old)
+            ≡ Some (state_of self.new)) }
         ensures err { IfErr result (λ e. (e ≡ Memory)
             ⊎ (letters (map known rows.now) text.entry.now (state_of self.old) ≡ None)) }
     {
@@ -238,5 +244,9 @@ fn later<'a>(found: Option<Given<'a>>, given: Given<'a>, key: &str) -> Option<Gi
         ≡ (if is_key key.now (shown given.entry) then Some (shown given.entry)
         else option_map shown found.entry) }
 {
-    if given.row.key == key { Some(given) } else { found }
+    if given.row.key == key {
+        Some(given)
+    } else {
+        found
+    }
 }

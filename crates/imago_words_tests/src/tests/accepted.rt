@@ -20,7 +20,15 @@ static CASES: [Case; 20] = [
     },
     // The last of several values counts.
     Case {
-        words: &["info", "-fraw", "--format=vmdk", "--output", "json", "--output=human", "disk"],
+        words: &[
+            "info",
+            "-fraw",
+            "--format=vmdk",
+            "--output",
+            "json",
+            "--output=human",
+            "disk",
+        ],
         status: 0,
         text: "info \"disk\" vmdk human",
     },
@@ -50,7 +58,9 @@ static CASES: [Case; 20] = [
         text: "compare \"a\" any \"b\" any",
     },
     Case {
-        words: &["compare", "-pqsf", "raw", "-Fqcow2", "-Uqp", "a", "-T", "none", "b", "--strict"],
+        words: &[
+            "compare", "-pqsf", "raw", "-Fqcow2", "-Uqp", "a", "-T", "none", "b", "--strict",
+        ],
         status: 0,
         text: "compare \"a\" raw \"b\" qcow2 same-size progress quiet strict",
     },
@@ -65,13 +75,18 @@ static CASES: [Case; 20] = [
         text: "convert \"disk.qcow2\" any \"disk.raw\" raw",
     },
     Case {
-        words: &["convert", "-pf", "vmdk", "-O", "raw", "-n", "-S", "0", "--force", "a", "b"],
+        words: &[
+            "convert", "-pf", "vmdk", "-O", "raw", "-n", "-S", "0", "--force", "a", "b",
+        ],
         status: 0,
         text: "convert \"a\" vmdk \"b\" raw existing every force progress",
     },
     // What only tunes is accepted, also a length of holes that isn't 0.
     Case {
-        words: &["convert", "-S", "64k", "-t", "none", "-Tnone", "-m8", "-W", "-r", "1M", "-U", "a", "b"],
+        words: &[
+            "convert", "-S", "64k", "-t", "none", "-Tnone", "-m8", "-WC", "-r", "1M", "-U", "a",
+            "b",
+        ],
         status: 0,
         text: "convert \"a\" any \"b\" raw",
     },

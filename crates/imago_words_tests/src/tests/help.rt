@@ -129,7 +129,7 @@ Options:
 const CONVERT: &str = "Write an image's disk to another image
 
 usage: imago-img convert [-f FMT] [-O FMT] [-n] [-S SIZE] [--force] [-p] [-q]
-                         [-U] [-t CACHE] [-T CACHE] [-m N] [-W] [-r RATE]
+                         [-U] [-t CACHE] [-T CACHE] [-m N] [-W] [-C] [-r RATE]
                          [--tables SIZE] [--strict] [--allow-outside] [-h] [-V]
                          FILE OUT
 
@@ -146,6 +146,7 @@ Options:
   -T CACHE              Accepted and ignored
   -m N                  Accepted and ignored
   -W                    Accepted and ignored
+  -C                    Accepted and ignored
   -r RATE               Accepted and ignored
       --tables SIZE     The most memory for tables: a size such as 64M
       --strict          Refuse unknown keys of VMDK descriptors

@@ -65,18 +65,29 @@ fn shown(alloc: Global, command: Command<'_>) -> Result<String, AllocError> {
             let told = told(compare.progress, compare.quiet);
             let same = if compare.same_size { " same-size" } else { "" };
             let (first, second) = (format(compare.first_format), format(compare.second_format));
-            format!(in alloc; "compare {:?} {first} {:?} {second}{same}{told}{rules}",
-                compare.first, compare.second)
+            format!(in alloc;
+                "compare {:?} {first} {:?} {second}{same}{told}{rules}",
+                compare.first, compare.second
+            )
         }
         Command::Convert(convert) => {
             let rules = opening(alloc, convert.opening)?;
             let told = told(convert.progress, convert.quiet);
             let force = if convert.force { " force" } else { "" };
-            let existing = if convert.into_existing { " existing" } else { "" };
+            let existing = if convert.into_existing {
+                " existing"
+            } else {
+                ""
+            };
             let every = if convert.every_byte { " every" } else { "" };
-            let (source, target) = (format(convert.source_format), format(Some(convert.target_format)));
-            format!(in alloc; "convert {:?} {source} {:?} {target}{existing}{every}{force}{told}{rules}",
-                convert.source, convert.target)
+            let (source, target) = (
+                format(convert.source_format),
+                format(Some(convert.target_format)),
+            );
+            format!(in alloc;
+                "convert {:?} {source} {:?} {target}{existing}{every}{force}{told}{rules}",
+                convert.source, convert.target
+            )
         }
     }
 }
@@ -108,7 +119,11 @@ fn told(progress: bool, quiet: bool) -> &'static str {
 
 fn opening(alloc: Global, opening: Opening) -> Result<String, AllocError> {
     let strict = if opening.strict { " strict" } else { "" };
-    let outside = if opening.allow_outside { " outside" } else { "" };
+    let outside = if opening.allow_outside {
+        " outside"
+    } else {
+        ""
+    };
     match opening.tables {
         None => format!(in alloc; "{strict}{outside}"),
         Some(size) => format!(in alloc; "{strict}{outside} tables {size}"),

@@ -5,8 +5,10 @@ use Rattle.imago_words.proofs.laws.convert_is_read.Goals as goal
 
 pub returns-clause-ok : goal.returns-clause-ok
 returns-clause-ok c =
-    IfOk-weaker c.read.result _ _ (asks_of (map string_bytes c.args.words.now) c.requires) c.read.ensures.ok
+    let asks = asks_of (map string_bytes c.args.words.now) c.requires in
+    IfOk-weaker c.read.result _ _ asks c.read.ensures.ok
 
 pub returns-clause-err : goal.returns-clause-err
 returns-clause-err c =
-    IfErr-weaker c.read.result _ _ (λ r. memory_of (map string_bytes c.args.words.now) c.requires _) c.read.ensures.err
+    let memory = memory_of (map string_bytes c.args.words.now) c.requires in
+    IfErr-weaker c.read.result _ _ (λ r. memory _) c.read.ensures.err

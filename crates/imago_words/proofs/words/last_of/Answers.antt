@@ -8,6 +8,7 @@ loop-first-preserved c =
     let key = c.args.key.now in
     let given = c.args.given.now in
     let before = option_map shown c.loop-first.found in
-    let next = at_drop_more (λ xs. last_of key before (map shown xs)) given c.loop-first.first-index _ c.loop-first-test.true in
-    ap (λ found. last_of key found (map shown (drop (c.loop-first.first-index + 1) given))) c.later-found.ensures
-    ∙ (sym next ∙ c.loop-first.invariant)
+    let place = c.loop-first.first-index in
+    let next = at_drop_more (λ xs. last_of key before (map shown xs)) given place _ c.loop-first-test.true in
+    let later = map shown (drop (place + 1) given) in
+    ap (λ found. last_of key found later) c.later-found.ensures ∙ (sym next ∙ c.loop-first.invariant)
