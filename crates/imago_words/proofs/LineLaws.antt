@@ -6,7 +6,7 @@ use Rattle.imago_words.specs.Reading.{Text, first_letter, letters, steps}
 use Rattle.imago_words.specs.Sizes.{size_from, unit_of}
 use Rattle.imago_words.specs.declared.command.Command.{Command}
 use Rattle.imago_words.specs.declared.command.Command.TheVariants as Asked
-use Rattle.imago_words.specs.Laws.{IsWorked, IsWorkedConvert, refused_line, worked_line}
+use Rattle.imago_words.specs.Laws.{IsWorked, refused_line, worked_line}
 use Rattle.imago_words.specs.Commands.{format_named}
 use Rattle.imago_words.specs.Line.{Asks, answer_of, kind_named, kind_typed, line_is_meant}
 use Rattle.imago_words.specs.Line.{status_for}

@@ -1,5 +1,5 @@
 -- What the words behind a command's name ask of it.
-use Rattle.std.specs.Prelude.{◌≡◌, ◌∷◌, ◌&&◌, ◌==◌, ℕ, Bool, true, false, List, [], Option, Some, None}
+use Rattle.std.specs.Prelude.{◌≡◌, ◌∷◌, ◌&&◌, ◌==◌, ℕ, Bool, true, false, [], Option, Some, None}
 use Rattle.std.specs.Prelude.{if◌then◌else◌, codes, is_some, length, option_and_then, unwrap_or}
 use Rattle.std.specs.Str.{bytes_eq}
 use Rattle.imago_words.specs.declared.command.Check.{Check}

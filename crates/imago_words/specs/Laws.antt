@@ -1,5 +1,5 @@
 -- Two command lines, and what one of them asks for.
-use Rattle.std.specs.Prelude.{◌≡◌, ◌∷◌, ◌^◌, true, false, List, [], Some, None, codes}
+use Rattle.std.specs.Prelude.{◌≡◌, ◌∷◌, ◌^◌, true, false, List, [], Some, codes}
 use Rattle.imago_words.specs.declared.command.Command.{Command}
 use Rattle.imago_words.specs.declared.command.Command.TheVariants as Asked
 use Rattle.imago_words.specs.declared.command.Convert.{Convert}

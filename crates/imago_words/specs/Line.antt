@@ -1,5 +1,5 @@
 -- What a whole command line asks for, behind the program's name.
-use Rattle.std.specs.Prelude.{◌≡◌, ◌∷◌, ◌||◌, ℕ, Bool, true, false, List, [], Option, Some, None}
+use Rattle.std.specs.Prelude.{◌≡◌, ◌∷◌, ◌||◌, ℕ, Bool, false, List, [], Option, Some, None}
 use Rattle.std.specs.Prelude.{if◌then◌else◌, MatchOption, codes, is_some}
 use Rattle.std.specs.Str.{bytes_eq}
 use Rattle.imago_words.specs.declared.command.Command.{Command}

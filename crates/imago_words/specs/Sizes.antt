@@ -1,6 +1,6 @@
 -- What texts of sizes are.
-use Rattle.std.specs.Prelude.{◌∷◌, ◌+◌, ◌-◌, ◌*◌, ◌^◌, ◌==◌, ◌||◌, ℕ, List, []}
-use Rattle.std.specs.Prelude.{Option, Some, None, if◌then◌else◌, nat_lt, length, option_and_then}
+use Rattle.std.specs.Prelude.{◌∷◌, ◌+◌, ◌-◌, ◌*◌, ◌^◌, ◌==◌, ◌||◌, ℕ, []}
+use Rattle.std.specs.Prelude.{Option, Some, None, if◌then◌else◌, nat_lt, option_and_then}
 use Rattle.imago_words.specs.Reading.{Text, begins_number}
 
 -- the number, if it is below 2 ^ 63

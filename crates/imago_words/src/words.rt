@@ -139,10 +139,7 @@ impl<'a> Words<'a> {
     }
 
     /// Takes options by their letters.
-    #[tactic(auto, using(
-        crate::proofs::ReadingSteps::letters_step,
-        crate::proofs::ReadingSteps::letters_end
-    ))]
+    #[tactic(auto, using(crate::proofs::ReadingSteps::letters_step, crate::proofs::ReadingSteps::letters_end))]
     fn take_letters(&mut self, rows: &[Row], text: &'a str, word: &'a str) -> Result<(), Fault<'a>>
         ensures ok { OnOk result
             (letters (map known rows.now) text.entry.now (state_of self.old)

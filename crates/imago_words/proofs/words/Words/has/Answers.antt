@@ -1,4 +1,4 @@
-use Rattle.std.proofs.Common.{◌≡◌, ◌∙◌, ap, map}
+use Rattle.std.proofs.Common.{◌∙◌, ap, map}
 use Rattle.std.specs.List.{list_any}
 use Rattle.imago_words.specs.Reading.{is_key, shown}
 use Rattle.imago_words.proofs.ReadingSteps.{any_given}
