@@ -454,7 +454,8 @@ impl<S: Storage> Qcow2<S> {
             (S.bytes self.now.storage) self.now.cluster.length
             (loaded_cluster (loaded_in self.now) (offset / self.now.cluster.length)) result }
     {
-        let (GuestCluster::Compressed { at, length: count }, _) = self.cluster_at(offset) else {
+        let (cluster, _) = self.cluster_at(offset);
+        let Some((at, count)) = cluster.stream() else {
             return Err(Error::Unsupported);
         };
         let stream = read_bytes(&self.storage, alloc, at, count)?;
