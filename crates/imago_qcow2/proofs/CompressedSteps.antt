@@ -1,5 +1,5 @@
 -- Reads of compressed clusters: what they give, and why they are refused.
-use Rattle.std.proofs.Common.{◌≡◌, ℕ, ◌+◌, ◌-◌, ◌*◌, ◌/◌, ◌%◌, ◌<◌, ◌≤◌, ◌⊎◌, ⊎_elim, inl, inr, Bool, true, false, List, ◌++◌, length, take, get_or, Result, Ok, Err, refl, sym, ap, ◌∙◌, subst, arith, length-append, length-take}
+use Rattle.std.proofs.Common.{◌≡◌, ℕ, ◌+◌, ◌-◌, ◌*◌, ◌/◌, ◌%◌, ◌<◌, ◌≤◌, ◌⊎◌, ⊎_elim, inl, inr, Bool, true, false, List, ◌++◌, length, take, get_or, Option, None, Result, Ok, Err, refl, sym, ap, ◌∙◌, subst, arith, length-append, length-take}
 use Rattle.std.specs.Prelude.{slice_index, IfErr, IfOk, OnOk, IsTrue, IsOk, IsErr}
 use Rattle.std.proofs.Math.ListN.{get_or-append}
 use Rattle.std.proofs.Math.Seq.{take-append-add}
@@ -22,12 +22,12 @@ use Rattle.imago_qcow2.specs.declared.header.Compression.{Compression}
 use Rattle.imago_qcow2.specs.declared.header.Compression.TheVariants as By
 use Rattle.imago_qcow2.specs.declared.entry.GuestCluster.{GuestCluster}
 use Rattle.imago_qcow2.specs.declared.entry.GuestCluster.TheVariants as C
-use Rattle.imago_qcow2.specs.Compressed.{bytes_at, value_in, packed_value, IsUnpacked}
+use Rattle.imago_qcow2.specs.Compressed.{bytes_at, value_in, packed_value, IsUnpacked, fault_in}
 use Rattle.imago_qcow2.specs.Entry.{GuestDisk, place_by, disk_place}
 use Rattle.imago_qcow2.specs.Opening.{read_reasons}
 use Rattle.imago_qcow2.specs.Tables.{LoadedImage, loaded_cluster, loaded_disk, loaded_place}
 use Rattle.imago_qcow2.specs.Qcow2.{IsCompressedIn, file_view}
-use Rattle.imago_qcow2.specs.Qcow2Calls.{IsStreamRead, IsClusterRead, MayUnpack, IsReadOf, IsFirstRead, IsSpecialRead}
+use Rattle.imago_qcow2.specs.Qcow2Calls.{IsStreamRead, IsClusterRead, MayUnpack, IsReadOf, IsFirstRead, IsSpecialRead, IsClusterFault, IsFaultUnknown}
 use Rattle.imago_qcow2.specs.Qcow2Laws.{packed_of, in_disk, special_place}
 use Rattle.imago_qcow2.proofs.MapSteps.{same_block, same_rest}
 use Rattle.imago_qcow2.proofs.StreamSteps.{read_bytes}
@@ -47,7 +47,30 @@ other_cluster f bytes size C.Absent other = refl
 other_cluster f bytes size (C.Compressed at n) other = absurd (other at n refl)
 other_cluster f bytes size C.Invalid other = refl
 
+-- and has no fault
+pub other_fault : (f : Features) (bytes : List ℕ) (size : ℕ) (k : GuestCluster) → ((at n : ℕ) → k ≡ GuestCluster.Compressed at n → ⊥) → IsClusterFault f bytes size k None
+other_fault f bytes size (C.Stored at) other = refl
+other_fault f bytes size C.Zero other = refl
+other_fault f bytes size C.Absent other = refl
+other_fault f bytes size (C.Compressed at n) other = absurd (other at n refl)
+other_fault f bytes size C.Invalid other = refl
+
 module _ (f : Features) (bytes : List ℕ) (at n : ℕ) where
+  fault_known : (size : ℕ) (k : GuestCluster) (stream : List ℕ) (fault : Option InflateError) → k ≡ GuestCluster.Compressed at n → IsStreamRead f bytes at n stream → fault ≡ fault_in (inflated stream size) → IsClusterFault f bytes size k fault
+  fault_known size k stream fault is x e = subst (λ c. IsClusterFault f bytes size c fault) (sym is) (stream, x, e)
+
+  pub fault_unknown : (by : Compression) (k : GuestCluster) (e : Error) → k ≡ GuestCluster.Compressed at n → ((e ≡ Error.Unsupported) × (by ≡ Compression.Zstd)) ⊎ allowed (read_reasons f at n) e → IsFaultUnknown f by k e
+  fault_unknown by k e is why = subst (λ c. IsFaultUnknown f by c e) (sym is) why
+
+  pub all_known : (size : ℕ) (k : GuestCluster) (stream : List ℕ) (r : Result (Option InflateError) Error) → k ≡ GuestCluster.Compressed at n → IsStreamRead f bytes at n stream → IfOk r (λ fault. fault ≡ fault_in (inflated stream size))
+      → IfOk r (IsClusterFault f bytes size k)
+  all_known size k stream (Ok fault) is x e = fault_known size k stream fault is x e
+  all_known size k stream (Err e) is x h = tt
+
+  pub no_room : (by : Compression) (k : GuestCluster) (r : Result (Option InflateError) Error) → k ≡ GuestCluster.Compressed at n → IfErr r (λ e. e ≡ Error.Memory) → IfErr r (IsFaultUnknown f by k)
+  no_room by k (Ok fault) is h = tt
+  no_room by k (Err e) is h = fault_unknown by k e is (inr (rw h tt))
+
   -- one whose stream was read
   unpacked : (size rest : ℕ) (stream out : List ℕ) (r : Result (Unit {0}) Error) → IsStreamRead f bytes at n stream → IsUnpacked (inflated stream size) rest out r → IsClusterRead f bytes size (GuestCluster.Compressed at n) r
   unpacked size rest stream out (Ok done) x u = (stream, x, u.0)
