@@ -1,6 +1,6 @@
 -- Reads of compressed clusters: what they give, and why they are refused.
-use Rattle.std.proofs.Common.{◌≡◌, ℕ, ◌+◌, ◌-◌, ◌*◌, ◌/◌, ◌%◌, ◌<◌, ◌≤◌, ◌⊎◌, ⊎_elim, inl, inr, Bool, true, false, List, ◌++◌, length, take, get_or, Option, None, Result, Ok, Err, refl, sym, ap, ◌∙◌, subst, arith, length-append, length-take}
-use Rattle.std.specs.Prelude.{slice_index, IfErr, IfOk, OnOk, IsTrue, IsOk, IsErr}
+use Rattle.std.proofs.Common.{◌≡◌, ℕ, ◌+◌, ◌-◌, ◌/◌, ◌%◌, ◌<◌, ◌≤◌, ◌⊎◌, ⊎_elim, inl, inr, Bool, true, false, List, ◌++◌, length, take, Option, None, Result, Ok, Err, refl, sym, ap, ◌∙◌, subst, arith, length-append, length-take}
+use Rattle.std.specs.Prelude.{IfErr, IfOk, OnOk, IsTrue, IsErr}
 use Rattle.std.proofs.Math.ListN.{get_or-append}
 use Rattle.std.proofs.Math.Seq.{take-append-add}
 use Rattle.std.proofs.lemmas.List.{get_or-append_right, take-append-le}
@@ -10,10 +10,7 @@ use Rattle.imago_storage.specs.declared.error.Error.{Error}
 use Rattle.imago_storage.specs.declared.error.Error.TheVariants as E
 use Rattle.imago_storage.specs.Bytes.{IsReadAt}
 use Rattle.imago_storage.specs.Features.{Features}
-use Rattle.imago_storage.specs.Padding.{Wraps}
-use Rattle.imago_drivers.specs.Operation.{Read}
 use Rattle.imago_drivers.specs.Place.{Value, Byte, Unreadable, Place, Special, IsIn, PlacesAreSpecialAt, HasValues, shown, own_values}
-use Rattle.imago_drivers.specs.LayerBelow.{IsUnreadableIn}
 use Rattle.imago_drivers.specs.Reasons.{allowed}
 use Rattle.imago_drivers.specs.Done.{special_read_reasons}
 use Rattle.imago_inflate.specs.declared.fault.InflateError.{InflateError}
@@ -22,7 +19,7 @@ use Rattle.imago_qcow2.specs.declared.header.Compression.{Compression}
 use Rattle.imago_qcow2.specs.declared.header.Compression.TheVariants as By
 use Rattle.imago_qcow2.specs.declared.entry.GuestCluster.{GuestCluster}
 use Rattle.imago_qcow2.specs.declared.entry.GuestCluster.TheVariants as C
-use Rattle.imago_qcow2.specs.Compressed.{bytes_at, value_in, packed_value, IsUnpacked, fault_in}
+use Rattle.imago_qcow2.specs.Compressed.{value_in, packed_value, IsUnpacked, fault_in}
 use Rattle.imago_qcow2.specs.Entry.{GuestDisk, place_by, disk_place}
 use Rattle.imago_qcow2.specs.Opening.{read_reasons}
 use Rattle.imago_qcow2.specs.Tables.{LoadedImage, loaded_cluster, loaded_disk, loaded_place}
@@ -133,9 +130,10 @@ pub part_read : (f : Features) (bytes : List ℕ) (loaded : LoadedImage) (o m i 
     → IsClusterRead f bytes loaded.cluster (loaded_cluster loaded (o / loaded.cluster)) (Ok tt) → i < m → IsReadOf f bytes (loaded_disk loaded) (o + i) (Ok tt)
 part_read f bytes loaded o m i positive by inside within read lt =
     let near : i < loaded.cluster - o % loaded.cluster = omega (arith, lt, within) in
-    let under : o + i < loaded.size = omega (arith, lt, inside) in
-    (record { deflated = by; inside = under },
-    subst (λ q. IsClusterRead f bytes loaded.cluster (loaded_cluster loaded q) (Ok tt)) (sym (same_block loaded.cluster positive o i near)) read)
+    let under : o + i < loaded.size = omega (arith, lt, inside) in (
+      record { deflated = by; inside = under },
+      subst (λ q. IsClusterRead f bytes loaded.cluster (loaded_cluster loaded q) (Ok tt)) (sym (same_block loaded.cluster positive o i near)) read,
+    )
 
 -- parts that were read, one behind the other
 module _ (f : Features) (bytes : List ℕ) (disk : GuestDisk) (o : ℕ) where

@@ -113,10 +113,12 @@ impl<S: Storage> Qcow2<S> {
     /// header is looked at. The first of these is the answer: [`Error::InvalidData`], the file is
     /// no qcow2 image; [`Error::Unsupported`], it has another version than 2 and 3, is encrypted,
     /// or needs what isn't offered, such as an external data file, extended L2 entries, or a
-    /// repair; [`Error::InvalidData`], a number of the header is out of the format's bounds, or the
-    /// L1 table is too small for the disk, off a cluster's bounds, or not wholly in the file.
-    /// [`Error::Device`], [`Error::Memory`] and [`Error::WrapAround`] are passed on from the
-    /// storage. [`Error::Memory`] is also no room for the tables.
+    /// repair; [`Error::InvalidData`], a number of the header is out of the format's bounds;
+    /// [`Error::Unsupported`], its clusters are compressed by neither deflate nor Zstandard;
+    /// [`Error::InvalidData`], the feature for the latter doesn't fit that, or the L1 table is too
+    /// small for the disk, off a cluster's bounds, or not wholly in the file. [`Error::Device`],
+    /// [`Error::Memory`] and [`Error::WrapAround`] are passed on from the storage.
+    /// [`Error::Memory`] is also no room for the tables.
     pub fn open_image(alloc: Global, storage: S, writable: bool) -> Result<Self, Error>
         ensures read_only { writable ≡ true → result ≡ Err Error.Unsupported }
         ensures opened { IfOk result

@@ -1,6 +1,5 @@
-use Rattle.std.proofs.Common.{◌≡◌, ◌/◌, sym, ◌∙◌, inl, inr}
+use Rattle.std.proofs.Common.{◌/◌, sym, ◌∙◌, inr}
 use Rattle.std.proofs.lemmas.Result.{err_from_is_err_and}
-use Rattle.imago_qcow2.specs.declared.entry.GuestCluster.{GuestCluster}
 use Rattle.imago_qcow2.specs.Tables.{loaded_of, loaded_cluster}
 use Rattle.imago_qcow2.proofs.CompressedSteps.{first_cluster, other_fault, all_known, fault_unknown, no_room}
 use Rattle.imago_qcow2.proofs.qcow2.Qcow2.stream_fault.Goals as goal

@@ -1,4 +1,4 @@
-use Rattle.std.proofs.Common.{◌≡◌, ◌+◌, ◌-◌, ◌/◌, ◌%◌, ◌<◌, ◌≤◌, length, arith}
+use Rattle.std.proofs.Common.{◌<◌, arith}
 use Rattle.imago_qcow2.specs.Tables.{loaded_of}
 use Rattle.imago_qcow2.proofs.CompressedSteps.{part_read}
 use Rattle.imago_qcow2.proofs.qcow2.Qcow2.unpack_next.Goals as goal

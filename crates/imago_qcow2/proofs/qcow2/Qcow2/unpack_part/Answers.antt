@@ -1,6 +1,5 @@
-use Rattle.std.proofs.Common.{◌≡◌, ◌+◌, ◌-◌, ◌/◌, ◌%◌, ◌<◌, ◌≤◌, length, sym, ap, ◌∙◌, arith}
+use Rattle.std.proofs.Common.{◌≡◌, ◌/◌, ◌%◌, ◌<◌, length, sym, ◌∙◌, arith}
 use Rattle.std.proofs.lemmas.Result.{err_from_is_err_and}
-use Rattle.imago_qcow2.specs.declared.entry.GuestCluster.{GuestCluster}
 use Rattle.imago_qcow2.specs.Tables.{loaded_of, loaded_cluster}
 use Rattle.imago_qcow2.proofs.CompressedSteps.{first_cluster, other_cluster, cluster_unpacked, cluster_unread, part_values}
 use Rattle.imago_qcow2.proofs.qcow2.Qcow2.unpack_part.Goals as goal

@@ -1,9 +1,8 @@
-use Rattle.std.proofs.Common.{◌≡◌, ◌+◌, ◌-◌, ◌<◌, ◌≤◌, length, refl, arith}
+use Rattle.std.proofs.Common.{◌≡◌, ◌-◌, length, refl, arith}
 use Rattle.std.proofs.lemmas.Grind.{common_steps}
-use Rattle.std.proofs.lemmas.Result.{err_from_is_err_and}
 use Rattle.imago_drivers.specs.Place.{own_values}
 use Rattle.imago_qcow2.specs.Tables.{loaded_of, loaded_disk, loaded_place}
-use Rattle.imago_qcow2.proofs.CompressedSteps.{has_more, read_more, read_refused}
+use Rattle.imago_qcow2.proofs.CompressedSteps.{has_more, read_more}
 use Rattle.imago_qcow2.proofs.qcow2.Qcow2.unpack_range.Goals as goal
 
 pub loop-done-init : goal.loop-done-init

@@ -1,4 +1,4 @@
-use Rattle.std.proofs.Common.{rules, ◌<◌, length, Err, arith}
+use Rattle.std.proofs.Common.{rules, ◌<◌, length, Err}
 use Rattle.imago_storage.specs.declared.error.Error.{Error}
 use Rattle.imago_qcow2.specs.Tables.{loaded_of, loaded_disk}
 use Rattle.imago_qcow2.proofs.CompressedSteps.{none_read, special_refused}
