@@ -148,7 +148,10 @@ fn check_told(rt: &impl Abort, alloc: Global) -> Result<(), Error> {
     assert_eq!(rt; image.guest_cluster(2559), Some(last));
     assert_eq!(rt; image.guest_cluster(2560), None);
     assert_eq!(rt; image.stream_fault(alloc, 600)?, None);
-    assert_eq!(rt; image.stream_fault(alloc, 1536)?, Some(InflateError::BlockKind));
+    assert_eq!(rt;
+        image.stream_fault(alloc, 1536)?,
+        Some(InflateError::BlockKind)
+    );
     Ok(())
 }
 
