@@ -64,8 +64,8 @@ compressed_in_entry bits entry = GuestCluster.Compressed
     (entry % 2 ^ offset_bits bits)
     ((entry % 2 ^ 62 / 2 ^ offset_bits bits + 1) * 512 - entry % 2 ^ offset_bits bits % 512)
 
--- What an L2 entry says of its guest cluster: bit 62 is set for a compressed one; else bits 1 to 8 and
--- 56 to 61 are reserved, and bit 63 says nothing here; bit 0 says in version 3 that the guest
+-- What an L2 entry says of its guest cluster: bit 62 is set for a compressed one. Else bits 1 to 8
+-- and 56 to 61 are reserved, and bit 63 says nothing here; bit 0 says in version 3 that the guest
 -- cluster is zero, and is reserved in version 2; the other bits are the offset of the cluster in
 -- the file, on a cluster's bounds.
 unfoldable pub cluster_in_entry : ℕ → ℕ → ℕ → GuestCluster

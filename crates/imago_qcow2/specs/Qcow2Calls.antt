@@ -31,8 +31,8 @@ pub record IsStreamRead (f : Features) (bytes : List ℕ) (at n : ℕ) (stream :
   pub read : IsTrue f.tells_bytes → IsReadAt bytes at stream
 
 -- A read of a guest cluster of that length, if it is compressed: its stream was read, and what was
--- read is sound. Or it is refused: as what can't be read so, for another cluster; as the file's read
--- is, or memory for it; or as invalid data, since the stream was read and is faulty.
+-- read is sound. Or it is refused: as unsupported, if it isn't compressed; as the file's read is, or
+-- for memory; or as invalid data, since the stream was read and is faulty.
 abbrev pub IsClusterRead : Features → List ℕ → ℕ → GuestCluster → Result (Unit {0}) Error → Type 0
 IsClusterRead f bytes length (C.Compressed at n) (Ok done) = (stream : List ℕ)
     × IsStreamRead f bytes at n stream × IsOk (inflated stream length)
@@ -89,13 +89,14 @@ ensured_by_parts below o n overwrite old new (Err e) p = ⊎_elim
     (λ q. let no = q.2.1 in let z : ⊥ = cc in absurd z)
     p
 
--- What the calls of an image are, by the features and the bytes of its file, and its disk. It can't be written
--- to: a call that would change something is refused, and no call changes the driver.
+-- What the calls of an image are, by the features and the bytes of its file, and its disk. It can't
+-- be written to: a call that would change something is refused, and no call changes the driver.
 abbrev pub qcow2_calls : {Self : Type 0} → (Self → Features) → (Self → List ℕ)
     → (Self → GuestDisk) → Calls Self (Unit {0})
 qcow2_calls features bytes disk = record any_calls {
   read = λ index o n self result. IsFileRead (features self) (bytes self) o n result;
-  read_special = λ o n self result. IsSpecialRead (features self) (bytes self) (disk self) o n result;
+  read_special = λ o n self result. IsSpecialRead (features self) (bytes self) (disk self) o n
+      result;
   put = λ index source o. IsNotOffered;
   zeroed = λ o n. IsNotOffered;
   discarded_to_zero = λ o n. IsNotOffered;

@@ -56,10 +56,10 @@ use std::fmt::{self, Display, Formatter, Write};
 /// no data. The header and the tables are read once, when the image is opened; each L2 table is
 /// kept once, also where several L1 entries name it.
 ///
-/// Compressed clusters are mapped as special. Those that are deflated are decoded whenever a byte of
-/// them is read, into memory of one cluster unless it is read whole, and memory for the compressed
-/// bytes, which are two clusters at most. A read is [`Error::InvalidData`] where a stream of its
-/// range is faulty, and [`Error::Unsupported`] where clusters are compressed otherwise.
+/// Compressed clusters are mapped as special. One that is deflated is decoded whenever a byte of it
+/// is read: with memory for its stream, of two clusters at most, and for a cluster unless all of it
+/// is read. A read is [`Error::InvalidData`] where a stream of its range is faulty, and
+/// [`Error::Unsupported`] where clusters are compressed otherwise.
 #[derive(Drop)]
 pub struct Qcow2<S: Storage> {
     storage: S,
@@ -425,12 +425,14 @@ impl<S: Storage> Qcow2<S> {
         ensures names { IfOk result
             (λ r. (i : ℕ) → i < r.1
             → Names r.0 i
-            (loaded_place (S.features self.now.storage) (loaded_in self.now) (S.bytes self.now.storage) (offset + i))) }
+            (loaded_place (S.features self.now.storage) (loaded_in self.now)
+            (S.bytes self.now.storage) (offset + i))) }
         ensures some { IfOk result (λ r. 0 < r.1) }
         ensures inside { IfOk result (λ r. offset + r.1 ≤ self.now.header.size) }
         ensures only { IfErr result (λ e. e ≡ Error.InvalidData) }
         ensures refused { IfErr result
-            (λ e. loaded_place (S.features self.now.storage) (loaded_in self.now) (S.bytes self.now.storage) offset ≡ Refused e) }
+            (λ e. loaded_place (S.features self.now.storage) (loaded_in self.now)
+            (S.bytes self.now.storage) offset ≡ Refused e) }
     {
         let (cluster, same) = self.run_at(offset);
         let mapping = mapping_of(cluster, self.cluster.rest(offset), offset)?;
@@ -443,17 +445,20 @@ impl<S: Storage> Qcow2<S> {
         requires names { (i : ℕ)
             → i < known
             → Names mapping i
-            (loaded_place (S.features self.now.storage) (loaded_in self.now) (S.bytes self.now.storage) (offset + i)) }
+            (loaded_place (S.features self.now.storage) (loaded_in self.now)
+            (S.bytes self.now.storage) (offset + i)) }
         requires known { offset + known ≤ self.now.header.size }
         requires most { offset + most ≤ self.now.header.size }
         ensures names { (i : ℕ)
             → i < result
             → Names mapping i
-            (loaded_place (S.features self.now.storage) (loaded_in self.now) (S.bytes self.now.storage) (offset + i)) }
+            (loaded_place (S.features self.now.storage) (loaded_in self.now)
+            (S.bytes self.now.storage) (offset + i)) }
         ensures most { result ≤ most }
         ensures ends { (result ≡ most)
             ⊎ (Names mapping result
-            (loaded_place (S.features self.now.storage) (loaded_in self.now) (S.bytes self.now.storage) (offset + result))
+            (loaded_place (S.features self.now.storage) (loaded_in self.now)
+            (S.bytes self.now.storage) (offset + result))
             → ⊥) }
     {
         let mut count = known;
