@@ -126,12 +126,7 @@ fn each_block_is_made_up_once(rt: HostRuntime) {
 type Row = (u64, usize, Result<u64, Error>);
 
 /// Makes the reads of a table, one after another, and answers whether each did what its row says.
-fn are_read(
-    rt: &impl Abort,
-    alloc: Global,
-    disk: Disk,
-    rows: &[Row],
-) -> Result<bool, Error> {
+fn are_read(rt: &impl Abort, alloc: Global, disk: Disk, rows: &[Row]) -> Result<bool, Error> {
     let image = image_of(alloc, disk)?;
     let mut reader = Reader::new(alloc, &image);
     let mut same = true;
