@@ -1,4 +1,4 @@
-use Rattle.std.proofs.Common.{arith, ◌≤◌, ◌≡◌, ◌+◌, ◌-◌, ◌∙◌, length, Option, None, ℕ}
+use Rattle.std.proofs.Common.{arith, ◌≤◌, ◌≡◌, ◌-◌, ◌∙◌, None, ℕ}
 use Rattle.imago_access.specs.Chain.{driver}
 use Rattle.std.proofs.lemmas.Grind.{common_steps}
 use Rattle.imago_access.specs.Disk.{disk}

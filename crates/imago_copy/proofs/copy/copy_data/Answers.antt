@@ -1,7 +1,5 @@
-use Rattle.std.proofs.Common.{arith, ◌∙◌, ◌+◌, subst}
-use Rattle.std.specs.Prelude.{IsTrue}
-use Rattle.imago_access.specs.declared.access.FormatAccess.{FormatAccess}
-use Rattle.imago_access.specs.Chain.{disk_value, tells_bytes}
+use Rattle.std.proofs.Common.{arith, ◌∙◌, ◌+◌}
+use Rattle.imago_access.specs.Chain.{disk_value}
 use Rattle.imago_access.specs.ReaderOf.{image_of}
 use Rattle.imago_copy.proofs.Copies.{put_more, put_as}
 use Rattle.imago_copy.proofs.copy.copy_data.Goals as goal

@@ -12,27 +12,29 @@ use imago_test_drivers::making::Making;
 use std::alloc::Global;
 use std::process::Abort;
 
-/// A disk of special bytes, maybe below one that leaves all of it to that one.
+/// A disk of special bytes, by its size and how many bytes a block has.
 #[derive(Clone, Copy)]
-struct Disk {
-    size: u64,
-    /// How many bytes a block has.
-    block: u64,
-    /// Which block can't be made up.
-    faulty: Option<u64>,
-    /// How long the pieces are that the disk above is mapped in, if there is one.
-    piece: Option<u64>,
+enum Disk {
+    /// All of its blocks can be made up.
+    Whole(u64, u64),
+    /// That one of its blocks can't be.
+    Faulty(u64, u64, u64),
+    /// Above it is a disk that leaves all to it, in pieces of that many bytes.
+    Cut(u64, u64, u64),
 }
 
 /// The image of a disk.
 fn image_of(alloc: Global, disk: Disk) -> Result<FormatAccess<Making>, Error> {
-    let blocks = FormatAccess::new(Making::blocks(disk.size, disk.block, disk.faulty));
-    match disk.piece {
-        Some(piece) => {
-            let above = Making::above(disk.size, piece);
+    match disk {
+        Disk::Whole(size, block) => Ok(FormatAccess::new(Making::blocks(size, block, None))),
+        Disk::Faulty(size, block, faulty) => {
+            Ok(FormatAccess::new(Making::blocks(size, block, Some(faulty))))
+        }
+        Disk::Cut(size, block, piece) => {
+            let blocks = FormatAccess::new(Making::blocks(size, block, None));
+            let above = Making::above(size, piece);
             Ok(FormatAccess::with_backing(above, Box::new(alloc, blocks)?))
         }
-        None => Ok(blocks),
     }
 }
 
@@ -58,10 +60,10 @@ fn in_order(rt: &impl Abort, alloc: Global, disk: Disk, step: usize) -> Result<u
     let image = image_of(alloc, disk)?;
     let mut reader = Reader::new(alloc, &image);
     let mut buf = vec![in alloc; 0u8; step]?;
-    for i in 0..disk.size / 1.max(step as u64) {
+    for i in 0..image.size() / 1.max(step as u64) {
         let offset = i.saturating_mul(step as u64);
         reader.read(alloc, &mut buf, offset)?;
-        is_read(rt, disk.size, offset, &buf);
+        is_read(rt, image.size(), offset, &buf);
     }
     Ok(made(&image))
 }
@@ -71,53 +73,35 @@ fn backward(rt: &impl Abort, alloc: Global, disk: Disk, step: usize) -> Result<u
     let image = image_of(alloc, disk)?;
     let mut reader = Reader::new(alloc, &image);
     let mut buf = vec![in alloc; 0u8; step]?;
-    let count = disk.size / 1.max(step as u64);
+    let count = image.size() / 1.max(step as u64);
     for i in 0..count {
         let offset = (count - 1 - i).saturating_mul(step as u64);
         reader.read(alloc, &mut buf, offset)?;
-        is_read(rt, disk.size, offset, &buf);
+        is_read(rt, image.size(), offset, &buf);
     }
     Ok(made(&image))
 }
 
-const fn whole(size: u64, block: u64) -> Disk {
-    Disk {
-        size,
-        block,
-        faulty: None,
-        piece: None,
-    }
-}
-
-const fn cut(size: u64, block: u64, piece: u64) -> Disk {
-    Disk {
-        size,
-        block,
-        faulty: None,
-        piece: Some(piece),
-    }
-}
-
 /// Disks, how many bytes are read at a time, and how many blocks there are: each is made up once.
 static ONCE: [(Disk, usize, u64); 8] = [
-    (whole(0x40000, 0x10000), 0x1000, 4),
-    (whole(0x20000, 0x1000), 0x10000, 32),
-    (whole(0x40000, 0x20000), 0x10000, 2),
+    (Disk::Whole(0x40000, 0x10000), 0x1000, 4),
+    (Disk::Whole(0x20000, 0x1000), 0x10000, 32),
+    (Disk::Whole(0x40000, 0x20000), 0x10000, 2),
     // The steps cut blocks, and the disk's end cuts one.
-    (whole(10_000, 512), 1000, 20),
+    (Disk::Whole(10_000, 512), 1000, 20),
     // The disk above cuts each block into four, and blocks unevenly.
-    (cut(0x8000, 0x1000, 0x400), 0x100, 8),
-    (cut(0x8000, 0x1000, 0x400), 0x8000, 8),
-    (cut(0x9000, 0x1000, 0x600), 0x900, 9),
+    (Disk::Cut(0x8000, 0x1000, 0x400), 0x100, 8),
+    (Disk::Cut(0x8000, 0x1000, 0x400), 0x8000, 8),
+    (Disk::Cut(0x9000, 0x1000, 0x600), 0x900, 9),
     // Single bytes are no blocks: each is made up once where it is read once.
-    (whole(0x1000, 1), 0x100, 0x1000),
+    (Disk::Whole(0x1000, 1), 0x100, 0x1000),
 ];
 
 /// The same for reads backward, whose steps cut no two blocks at once.
 static BACKWARD: [(Disk, usize, u64); 3] = [
-    (whole(0x40000, 0x10000), 0x1000, 4),
-    (whole(0x8000, 0x1000), 0x2000, 8),
-    (cut(0x8000, 0x1000, 0x400), 0x100, 8),
+    (Disk::Whole(0x40000, 0x10000), 0x1000, 4),
+    (Disk::Whole(0x8000, 0x1000), 0x2000, 8),
+    (Disk::Cut(0x8000, 0x1000, 0x400), 0x100, 8),
 ];
 
 fn check_each_block_is_made_up_once(rt: &impl Abort, alloc: Global) {
@@ -142,12 +126,7 @@ fn each_block_is_made_up_once(rt: HostRuntime) {
 type Row = (u64, usize, Result<u64, Error>);
 
 /// Makes the reads of a table, one after another, and answers whether each did what its row says.
-fn are_read(
-    rt: &impl Abort,
-    alloc: Global,
-    disk: Disk,
-    rows: &[Row],
-) -> Result<bool, Error> {
+fn are_read(rt: &impl Abort, alloc: Global, disk: Disk, rows: &[Row]) -> Result<bool, Error> {
     let image = image_of(alloc, disk)?;
     let mut reader = Reader::new(alloc, &image);
     let mut same = true;
@@ -156,7 +135,7 @@ fn are_read(
         let mut buf = vec![in alloc; 0u8; count]?;
         let result = reader.read(alloc, &mut buf, offset);
         if result.is_ok() {
-            is_read(rt, disk.size, offset, &buf);
+            is_read(rt, image.size(), offset, &buf);
         }
         let answer = result.map(|()| made(&image) - before);
         same = same && answer == expected;
@@ -198,11 +177,8 @@ static FAULTY: [Row; 6] = [
 ];
 
 fn check_parts_of_blocks_are_kept(rt: &impl Abort, alloc: Global) {
-    let parts = whole(64, 16);
-    let faulty = Disk {
-        faulty: Some(1),
-        ..parts
-    };
+    let parts = Disk::Whole(64, 16);
+    let faulty = Disk::Faulty(64, 16, 1);
     let done = are_read(rt, alloc, parts, &PARTS) == Ok(true)
         || are_read(rt, alloc, parts, &PARTS) == Ok(true);
     assert!(rt; done, "parts of blocks");
@@ -222,8 +198,8 @@ fn copied(rt: &impl Abort, alloc: Global, disk: Disk, step: usize) -> Result<u64
     let mut target = Vec::new(alloc);
     let mut buf = vec![in alloc; 0u8; step].map_err(Error::from)?;
     copy_disk(alloc, &image, &mut target, &mut buf)?;
-    assert_eq!(rt; target.len() as u64, disk.size);
-    is_read(rt, disk.size, 0, &target);
+    assert_eq!(rt; target.len() as u64, image.size());
+    is_read(rt, image.size(), 0, &target);
     Ok(made(&image))
 }
 
