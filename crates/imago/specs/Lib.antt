@@ -98,6 +98,9 @@ pub use Rattle.imago_any_driver.specs.Restated as RestatedViews
 pub use Rattle.imago_any_driver.specs.AnyCalls
 pub use Rattle.imago_any_driver.specs.AnyDriver
 pub use Rattle.imago_access.specs.Chain
+pub use Rattle.imago_access.specs.Kept as KeptBlocks
+pub use Rattle.imago_access.specs.ReaderOf
+pub use Rattle.imago_access.specs.Specials
 pub use Rattle.imago_access.specs.Text
 pub use Rattle.imago_access.specs.Target
 pub use Rattle.imago_access.specs.Resolved
