@@ -188,6 +188,7 @@ pub use Rattle.imago_cow.specs.declared.cow.Waiting as WaitingWrite
 pub use Rattle.imago_any_driver.specs.declared.any.AnyDriver as DeclaredAnyDriver
 pub use Rattle.imago_access.specs.declared.access.FormatAccess
 pub use Rattle.imago_access.specs.declared.mapping.Mapping as DeclaredMapping
+pub use Rattle.imago_access.specs.declared.reader.Reader
 pub use Rattle.imago_access.specs.declared.run.Call
 pub use Rattle.imago_access.specs.declared.run.Reply
 pub use Rattle.imago_file.specs.declared.file.FileStorage
