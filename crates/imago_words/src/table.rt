@@ -124,7 +124,10 @@ const VERSION: Row = flag!("version", "V", "version", "Print the version");
 
 const OBJECT: Absent = absent!("--object", "encrypted images aren't read");
 
-const IMAGE_OPTS: Absent = absent!("--image-opts", "name the file by its path, and its format by -f");
+const IMAGE_OPTS: Absent = absent!(
+    "--image-opts",
+    "name the file by its path, and its format by -f"
+);
 
 /// The commands that work.
 pub static TABLE: Table = Table {
@@ -197,7 +200,12 @@ pub static TABLE: Table = Table {
                 "raw, vmdk or qcow2",
                 "The format of the second image"
             ),
-            flag!("same-size", "s", "", "Disks of different sizes are different"),
+            flag!(
+                "same-size",
+                "s",
+                "",
+                "Disks of different sizes are different"
+            ),
             PROGRESS,
             QUIET,
             SHARE,
@@ -230,12 +238,7 @@ pub static TABLE: Table = Table {
                 "a size such as 64k",
                 "0 writes every byte; else ignored"
             ),
-            flag!(
-                "force",
-                "",
-                "force",
-                "Replace OUT if it exists"
-            ),
+            flag!("force", "", "force", "Replace OUT if it exists"),
             PROGRESS,
             QUIET,
             SHARE,
@@ -262,7 +265,10 @@ pub static TABLE: Table = Table {
                 "--format",
                 "-f takes the format of FILE, and -O that of OUT"
             ),
-            absent!("--target-image-opts", "name OUT by its path, and its format by -O"),
+            absent!(
+                "--target-image-opts",
+                "name OUT by its path, and its format by -O"
+            ),
             absent!("--target-is-zero", "every byte of OUT gets its value"),
             absent!("--salvage", "a byte that can't be read ends convert"),
             absent!("--bitmaps", "OUT is raw, which has no bitmaps"),
