@@ -7,6 +7,7 @@ use crate::failure::ClusterFault;
 use crate::host::Host;
 use imago_any_driver::any::AnyDriver;
 use imago_copy::runs::{Kind, Run, Runs};
+use imago_drivers::drivers::FormatDriverInstance;
 use imago_images::file::PathStorage;
 use imago_images::opener::FileImage;
 use imago_inflate::inflate::inflate;

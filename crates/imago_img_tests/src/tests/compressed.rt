@@ -259,7 +259,7 @@ static FAULTY: [Row; 6] = [
          compressed stream has a block of an unknown kind; use an intact copy of the file\n",
     ),
     (
-        "compare packed.qcow2 over_torn.qcow2",
+        "compare packed.qcow2 torn.qcow2",
         2,
         "",
         "imago-img: \"torn.qcow2\": the cluster at 512 of the disk can't be decoded: the \
