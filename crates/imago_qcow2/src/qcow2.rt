@@ -10,6 +10,7 @@ ghost use Rattle.imago_drivers.specs.Mapping.{Names};
 ghost use Rattle.imago_drivers.specs.Place.{Refused, HasValues, own_values};
 ghost use Rattle.imago_drivers.specs.Reasons.{allowed};
 ghost use Rattle.imago_qcow2.specs.Absent.{IsAbsentIndex};
+ghost use Rattle.imago_qcow2.specs.Entry.{cluster_length, cluster_of, disk_size};
 ghost use Rattle.imago_qcow2.specs.Fault.{by_fault};
 ghost use Rattle.imago_qcow2.specs.Header.{header_of, NamesBacking};
 ghost use Rattle.imago_qcow2.specs.Limit.{IsWithin, loaded_length, TablesNeedMore};
@@ -324,6 +325,20 @@ impl<S: Storage> Qcow2<S> {
             }
             HeldTable::Invalid => (GuestCluster::Invalid, cluster.left_of_table(offset)),
         }
+    }
+
+    /// What the guest cluster at that offset of the disk is, by the tables alone. Behind the disk's
+    /// end it is absent.
+    pub fn guest_cluster(&self, offset: u64) -> GuestCluster
+        ensures { let bytes = S.bytes (storage_in self.now) in
+            IsTrue (S.features (storage_in self.now)).tells_bytes → offset < disk_size bytes
+            → result ≡ cluster_of bytes (offset / cluster_length bytes) }
+    {
+        if offset >= self.header.size {
+            return GuestCluster::Absent;
+        }
+        let (cluster, _) = self.cluster_at(offset);
+        cluster
     }
 
     /// How many bytes from that offset of the disk on are known to stand in absent guest clusters.
