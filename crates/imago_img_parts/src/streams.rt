@@ -25,11 +25,13 @@ fn layer_at<'b, 'a, H: Host>(
     depth: usize,
 ) -> Option<&'b FileImage<'a, H>> {
     let mut layer = image;
-    for _ in 0..depth {
+    let mut done: usize = 0;
+    while done < depth {
         match layer.backing() {
             Some(below) => layer = below,
             None => return None,
         }
+        done += 1;
     }
     Some(layer)
 }
