@@ -116,7 +116,7 @@ place_by packed bytes rest p (C.Compressed at n) = Special (packed at n rest) p
 place_by packed bytes rest p C.Invalid = Refused Error.InvalidData
 
 -- the place of an offset of a disk whose file has these bytes, and tells them or not
-abbrev pub disk_place : Bool → List ℕ → GuestDisk → ℕ → Place
+unfoldable pub disk_place : Bool → List ℕ → GuestDisk → ℕ → Place
 disk_place tells bytes disk p =
     if nat_lt p disk.size
     then place_by (packed_value tells disk.compression bytes disk.cluster) bytes
