@@ -1,7 +1,7 @@
 //! The clusters of a qcow2 file, as its disk has them.
 ghost use Rattle.std.specs.Prelude.{◌≡◌, ◌+◌, ◌/◌, ◌<◌, ◌≤◌, ◌⊎◌, true, IsTrue};
 ghost use Rattle.std.specs.Prelude.{IfOk, IfSome, IfNone, OnOk};
-ghost use Rattle.imago_qcow2.specs.Entry.{cluster_length, cluster_of};
+ghost use Rattle.imago_qcow2.specs.Entry.{cluster_length, cluster_of, disk_size};
 ghost use Rattle.imago_qcow2.specs.Qcow2Image.{storage_in};
 ghost use Rattle.imago_access.specs.Chain.{driver};
 ghost use Rattle.imago_img_parts.specs.declared.clusters.ClusterKind.TheVariants as Kind;
@@ -142,23 +142,36 @@ fn holds_stream(file: u64, cluster: u64, at: u64, count: u64) -> bool
     at < file && count.saturating_sub(file - at) < cluster
 }
 
+/// Whether a file of that length, whose clusters have that length, holds the stream of a guest
+/// cluster, if it is compressed.
+fn is_held(cluster: GuestCluster, file: u64, length: u64) -> bool
+    ensures { result ≡ true → IsStreamIn file length cluster }
+{
+    match cluster {
+        GuestCluster::Compressed { at, length: count } => holds_stream(file, length, at, count),
+        GuestCluster::Absent => true,
+        GuestCluster::Zero => true,
+        GuestCluster::Stored(_) => true,
+        GuestCluster::Invalid => true,
+    }
+}
+
 /// What the compressed cluster at that offset of the disk is, in a file of that length.
 fn stream_kind<S: Storage>(qcow2: &Qcow2<S>, file: u64, at: u64) -> ClusterKind
-    requires { at < (⟦<Qcow2<S> as FormatDriverInstance>⟧.view qcow2.now).size }
     ensures either { (result ≡ Kind.Compressed) ⊎ (result ≡ Kind.Cut) }
     ensures held { let bytes = S.bytes (storage_in qcow2.now) in
-        IsTrue (S.features (storage_in qcow2.now)).tells_bytes → result ≡ Kind.Compressed
-        → IsStreamIn file (cluster_length bytes)
+        IsTrue (S.features (storage_in qcow2.now)).tells_bytes → at < disk_size bytes
+        → result ≡ Kind.Compressed → IsStreamIn file (cluster_length bytes)
         (cluster_of bytes (at / cluster_length bytes)) }
 {
     image_of_bytes(qcow2);
-    let cluster = qcow2.header().cluster_size();
-    match qcow2.guest_cluster(at) {
-        GuestCluster::Compressed { at, length } if !holds_stream(file, cluster, at, length) => {
-            ClusterKind::Cut
-        }
-        _ => ClusterKind::Compressed,
+    let Some(found) = qcow2.guest_cluster(at) else {
+        return ClusterKind::Cut;
+    };
+    if !is_held(found, file, qcow2.header().cluster_size()) {
+        return ClusterKind::Cut;
     }
+    ClusterKind::Compressed
 }
 
 /// The same as [`run_at`] of the clusters of a qcow2 image, whose file has that length. Compressed
@@ -184,6 +197,7 @@ fn checked_run<S: Storage>(
         run.kind) }
 {
     let qcow2 = image.inner();
+    image_of_bytes(qcow2);
     let cluster = qcow2.header().cluster_size();
     let run = run_at(image, cluster, at, most)?;
     match run.kind {

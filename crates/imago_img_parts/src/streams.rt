@@ -5,25 +5,23 @@
 
 use crate::failure::ClusterFault;
 use crate::host::Host;
+use imago_access::access::FormatAccess;
 use imago_any_driver::any::AnyDriver;
 use imago_copy::runs::{Kind, Run, Runs};
 use imago_drivers::drivers::FormatDriverInstance;
 use imago_images::file::PathStorage;
 use imago_images::opener::FileImage;
-use imago_inflate::inflate::inflate;
-use imago_qcow2::entry::GuestCluster;
 use imago_qcow2::header::Compression;
 use imago_qcow2::qcow2::Qcow2;
 use imago_storage::error::Error;
-use imago_storage::ext::StorageExt;
 use imago_storage::storage::Storage;
 use std::alloc::Global;
 
 /// The layer of that depth, if the chain goes as far: 0 is the top one.
-fn layer_at<'b, 'a, H: Host>(
-    image: &'b FileImage<'a, H>,
+fn layer_at<D: FormatDriverInstance>(
+    image: &FormatAccess<D>,
     depth: usize,
-) -> Option<&'b FileImage<'a, H>> {
+) -> Option<&FormatAccess<D>> {
     let mut layer = image;
     let mut done: usize = 0;
     while done < depth {
@@ -92,7 +90,9 @@ pub fn stream_fault_in<'b, H: Host>(
     alloc: Global,
     image: &'b FileImage<'_, H>,
 ) -> Option<(&'b str, u64, ClusterFault)> {
-    let mut runs = Runs::new(image).ok()?;
+    let Ok(mut runs) = Runs::new(image) else {
+        return None;
+    };
     while let Ok(Some(run)) = runs.next_run() {
         if let Some((path, qcow2)) = qcow2_of(image, run) {
             if let Some((start, fault)) = fault_in(alloc, qcow2, run) {
@@ -124,12 +124,8 @@ fn fault_in<S: Storage>(
 /// The fault of the stream of the cluster at that offset of the disk, if it is compressed and has
 /// one.
 fn fault_at<S: Storage>(alloc: Global, qcow2: &Qcow2<S>, at: u64) -> Option<ClusterFault> {
-    let GuestCluster::Compressed { at, length } = qcow2.guest_cluster(at) else {
-        return None;
-    };
-    let mut stream = vec![in alloc; 0u8; length as usize].ok()?;
-    let mut bytes = vec![in alloc; 0u8; qcow2.header().cluster_size() as usize].ok()?;
-    qcow2.storage(0)?.read(alloc, &mut stream, at).ok()?;
-    let fault = inflate(&stream, &mut bytes).err()?;
-    Some(ClusterFault::Stream(fault))
+    match qcow2.stream_fault(alloc, at) {
+        Ok(Some(fault)) => Some(ClusterFault::Stream(fault)),
+        _ => None,
+    }
 }
