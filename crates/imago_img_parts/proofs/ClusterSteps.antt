@@ -1,7 +1,8 @@
 -- Runs of clusters, one after the other.
-use Rattle.std.proofs.Common.{◌≡◌, ℕ, zero, suc, ◌+◌, ◌^◌, ◌<◌, ◌≤◌, ◌⊎◌, inl, inr, List, [], ◌∷◌, ◌++◌, length, max, refl, sym, ap, subst, ◌∙◌, arith, ◌-◌, ◌/◌, ◌%◌, ⊎_elim}
+use Rattle.std.proofs.Common.{◌≡◌, ℕ, zero, suc, ◌+◌, ◌^◌, ◌<◌, ◌≤◌, ◌⊎◌, inl, inr, Some, List, [], ◌∷◌, ◌++◌, length, max, refl, sym, ap, subst, ◌∙◌, arith, ◌-◌, ◌/◌, ◌%◌, ⊎_elim}
 use Rattle.std.specs.Prelude.{slice_index_or}
 use Rattle.std.specs.List.{Contains}
+use Rattle.std.proofs.lemmas.Option.{same_Some}
 use Rattle.std.specs.List.Sorted.{IsPermutation}
 use Rattle.std.proofs.lemmas.List.Sorted.{Contains-permutation}
 use Rattle.std.proofs.lemmas.Bool.{cases_lt}
@@ -325,6 +326,22 @@ module _ (bytes : List ℕ) (file at count : ℕ) where
   streams_of Kind.Invalid are ends other inside i below = absurd inside
   streams_of Kind.Absent are ends other inside i below =
       no_streams i (omega arith) (not_special _ (are i below))
+
+-- fewer places of compressed clusters are compressed, whether their stream is held or not
+pub packed_kind : (place : ℕ → Place) (at count n : ℕ) (kind : ClusterKind) → n ≤ count
+    → AreOfKind place at count Kind.Compressed → (kind ≡ Kind.Compressed) ⊎ (kind ≡ Kind.Cut)
+    → AreOfKind place at n kind
+packed_kind place at count n kind less are (inl e) =
+    subst (AreOfKind place at n) (sym e) (λ i below. are i (omega (arith, below, less)))
+packed_kind place at count n kind less are (inr e) =
+    subst (AreOfKind place at n) (sym e) (λ i below. are i (omega (arith, below, less)))
+
+-- a stream that is held is so by other names of the cluster and its length
+pub held_by : (file length cluster : ℕ) (found k : GuestCluster) → Some found ≡ Some k
+    → length ≡ cluster → IsStreamIn file length found → IsStreamIn file cluster k
+held_by file length cluster found k same is held =
+    subst (λ (n : ℕ). IsStreamIn file n k) is
+    (subst (IsStreamIn file length) (same_Some found k same) held)
 
 -- one compressed cluster, or the rest of one, has the stream of its first byte, where that is held
 pub one_stream : (clusters : ℕ → GuestCluster) (cluster file at count : ℕ) (kind : ClusterKind)

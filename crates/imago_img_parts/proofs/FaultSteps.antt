@@ -1,5 +1,5 @@
 -- What a check that found no fault says of the files of an image.
-use Rattle.std.proofs.Common.{◌≡◌, ℕ, Bool, not, List, ◌∷◌, map, length, Option, Some, None, Result, Ok, Err, IfOk, IfSome, String, Global, string_bytes, refl, sym, ap, subst, ◌∙◌}
+use Rattle.std.proofs.Common.{◌≡◌, ℕ, Bool, not, List, ◌∷◌, map, length, Option, Some, None, Result, Ok, Err, IfOk, IfSome, String, Global, IsTrue, string_bytes, refl, sym, ap, subst, ◌∙◌}
 use Rattle.imago_storage.specs.Features.{Features}
 use Rattle.std.specs.Prelude.{MatchResult, is_ok, IsErr}
 use Rattle.std.specs.declared.vec.Vec.{Vec}
@@ -58,6 +58,28 @@ runs_of_bytes {S} {E} {g} {h} features stored d e bytes r is size place told =
     let sized = subst (λ (n : ℕ). IfOk r (λ runs.
     AreTold (view_by features stored e).place n runs.items)) size now in
     subst (λ (at : ℕ → Place). IfOk r (λ runs. AreTold at (disk_size bytes) runs.items)) place sized
+
+-- and so are the streams that they hold
+pub streams_of_bytes : {S E : Type 0} {g : _} {h : _} (features : S → Features)
+    (stored : S → List ℕ) (d e : Qcow2 S g h) (bytes : List ℕ) (file : ℕ)
+    (r : Result (Vec ClusterRun Global) E) → d ≡ e → stored (storage_in e) ≡ bytes
+    → (view_by features stored e).size ≡ disk_size bytes
+    → (IsTrue (features (storage_in d)).tells_bytes → IfOk r (λ runs.
+    HoldStreams (cluster_of (stored (storage_in d))) (cluster_length (stored (storage_in d))) file
+    (view_by features stored d).size runs.items))
+    → IsTrue (features (storage_in e)).tells_bytes
+    → IfOk r (λ runs. HoldStreams (cluster_of bytes) (cluster_length bytes) file (disk_size bytes)
+    runs.items)
+streams_of_bytes {S} {E} {g} {h} features stored d e bytes file r is same size held tells =
+    let now = subst (λ (x : Qcow2 S g h). IsTrue (features (storage_in x)).tells_bytes
+    → IfOk r (λ runs. HoldStreams (cluster_of (stored (storage_in x)))
+    (cluster_length (stored (storage_in x))) file (view_by features stored x).size runs.items))
+    is held tells in
+    let sized = subst (λ (n : ℕ). IfOk r (λ runs.
+    HoldStreams (cluster_of (stored (storage_in e))) (cluster_length (stored (storage_in e))) file
+    n runs.items)) size now in
+    subst (λ (b : List ℕ). IfOk r (λ runs.
+    HoldStreams (cluster_of b) (cluster_length b) file (disk_size bytes) runs.items)) same sized
 
 -- a place that runs tell which a file holds can be read there
 readable_told : (file : ℕ) (runs : List ClusterRun) (p : ℕ) (place : Place) → AreInFile file runs
