@@ -1,8 +1,7 @@
 -- Runs of clusters, one after the other.
-use Rattle.std.proofs.Common.{◌≡◌, ℕ, zero, suc, ◌+◌, ◌^◌, ◌<◌, ◌≤◌, ◌⊎◌, inl, inr, Some, List, [], ◌∷◌, ◌++◌, length, max, refl, sym, ap, subst, ◌∙◌, arith, ◌-◌, ◌/◌, ◌%◌, ⊎_elim}
+use Rattle.std.proofs.Common.{◌≡◌, true, ℕ, zero, suc, ◌+◌, ◌^◌, ◌<◌, ◌≤◌, ◌⊎◌, inl, inr, List, [], ◌∷◌, ◌++◌, length, max, refl, sym, ap, subst, ◌∙◌, arith, ◌-◌, ◌/◌, ◌%◌, ⊎_elim}
 use Rattle.std.specs.Prelude.{slice_index_or}
 use Rattle.std.specs.List.{Contains}
-use Rattle.std.proofs.lemmas.Option.{same_Some}
 use Rattle.std.specs.List.Sorted.{IsPermutation}
 use Rattle.std.proofs.lemmas.List.Sorted.{Contains-permutation}
 use Rattle.std.proofs.lemmas.Bool.{cases_lt}
@@ -12,8 +11,9 @@ use Rattle.imago_drivers.specs.Mapping.{IsRight}
 use Rattle.imago_drivers.specs.Place.{Value, Place, Stored, Zeroed, Special, Lower, Refused, End}
 use Rattle.imago_qcow2.specs.declared.entry.GuestCluster.{GuestCluster}
 use Rattle.imago_qcow2.specs.declared.entry.GuestCluster.TheVariants as C
-use Rattle.imago_qcow2.specs.Entry.{cluster_length, cluster_of, disk_size, place_by, qcow2_place}
-use Rattle.imago_qcow2.specs.Qcow2Laws.{place_in}
+use Rattle.imago_qcow2.specs.Entry.{cluster_length, cluster_of, disk_of, disk_size, place_by, qcow2_place}
+use Rattle.imago_qcow2.specs.Qcow2Laws.{packed_of, place_in}
+use Rattle.imago_qcow2.proofs.MapSteps.{same_block}
 use Rattle.imago_img_parts.specs.declared.clusters.ClusterKind.{ClusterKind}
 use Rattle.imago_img_parts.specs.declared.clusters.ClusterKind.TheVariants as Kind
 use Rattle.imago_img_parts.specs.declared.clusters.ClusterRun.{ClusterRun}
@@ -312,7 +312,7 @@ module _ (bytes : List ℕ) (file at count : ℕ) where
       → IsStreamIn file (cluster_length bytes)
       (cluster_of bytes ((at + i) / cluster_length bytes))
   no_streams i within other =
-      stream_by file (cluster_length bytes) _ bytes _ _ _
+      stream_by file (cluster_length bytes) (packed_of true bytes (disk_of bytes)) bytes _ _ _
       (λ v o e. other v o (place_in bytes (at + i) within ∙ e))
 
   pub streams_of : (kind : ClusterKind) → AreOfKind (qcow2_place bytes) at count kind
@@ -326,22 +326,6 @@ module _ (bytes : List ℕ) (file at count : ℕ) where
   streams_of Kind.Invalid are ends other inside i below = absurd inside
   streams_of Kind.Absent are ends other inside i below =
       no_streams i (omega arith) (not_special _ (are i below))
-
--- fewer places of compressed clusters are compressed, whether their stream is held or not
-pub packed_kind : (place : ℕ → Place) (at count n : ℕ) (kind : ClusterKind) → n ≤ count
-    → AreOfKind place at count Kind.Compressed → (kind ≡ Kind.Compressed) ⊎ (kind ≡ Kind.Cut)
-    → AreOfKind place at n kind
-packed_kind place at count n kind less are (inl e) =
-    subst (AreOfKind place at n) (sym e) (λ i below. are i (omega (arith, below, less)))
-packed_kind place at count n kind less are (inr e) =
-    subst (AreOfKind place at n) (sym e) (λ i below. are i (omega (arith, below, less)))
-
--- a stream that is held is so by other names of the cluster and its length
-pub held_by : (file length cluster : ℕ) (found k : GuestCluster) → Some found ≡ Some k
-    → length ≡ cluster → IsStreamIn file length found → IsStreamIn file cluster k
-held_by file length cluster found k same is held =
-    subst (λ (n : ℕ). IsStreamIn file n k) is
-    (subst (IsStreamIn file length) (same_Some found k same) held)
 
 -- one compressed cluster, or the rest of one, has the stream of its first byte, where that is held
 pub one_stream : (clusters : ℕ → GuestCluster) (cluster file at count : ℕ) (kind : ClusterKind)
