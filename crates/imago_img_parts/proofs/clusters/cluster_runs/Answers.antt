@@ -10,14 +10,14 @@ pub loop-at-preserved : goal.loop-at-preserved
 loop-at-preserved g c =
     let d = driver c.args.image.now in
     let bytes = g.S.Storage.bytes (storage_in d) in record {
-  inside = omega (arith, c.in_ok-run.ensures.within);
-  told = told_further (view_by g.S.Storage.features g.S.Storage.bytes d).place c.loop-at.at
-      c.loop-at.runs.items c.put.new.runs.items c.in_ok-run.run' c.in_ok-put.ensures
-      c.in_ok-run.ensures.start c.in_ok-run.ensures.kind c.loop-at.invariant.told;
-  streams = λ tells. streams_further (cluster_of bytes) (cluster_length bytes) c.args.file
-      c.loop-at.at c.loop-at.runs.items c.put.new.runs.items c.in_ok-run.run' c.in_ok-put.ensures
-      (c.in_ok-run.ensures.streams tells) (c.loop-at.invariant.streams tells);
-}
+      inside = omega (arith, c.in_ok-run.ensures.within);
+      told = told_further (view_by g.S.Storage.features g.S.Storage.bytes d).place c.loop-at.at
+          c.loop-at.runs.items c.put.new.runs.items c.in_ok-run.run' c.in_ok-put.ensures
+          c.in_ok-run.ensures.start c.in_ok-run.ensures.kind c.loop-at.invariant.told;
+      streams = λ tells. streams_further (cluster_of bytes) (cluster_length bytes) c.args.file
+          c.loop-at.at c.loop-at.runs.items c.put.new.runs.items c.in_ok-run.run' c.in_ok-put.ensures
+          (c.in_ok-run.ensures.streams tells) (c.loop-at.invariant.streams tells);
+    }
 
 pub returns-clause-told : goal.returns-clause-told
 returns-clause-told g c = λ file inside p below.
