@@ -194,17 +194,30 @@ module _ (f : Features) (bytes : List ℕ) (told : IsTrue f.tells_bytes) where
       clusters_told : 8 ≤ cluster_length bytes → (k : ℕ) → k / per_table bytes < length tables.l1.items → loaded_cluster by_bytes k ≡ cluster_of bytes k
       clusters_told eight k within = let p : IsProp (loaded_cluster by_bytes k ≡ cluster_of bytes k) = Prim.hlevel props in ∥∥₁_elim known p (λ x. told_of x eight k within)
 
-      place_in_told : 8 ≤ cluster_length bytes → disk_size bytes ≤ length tables.l1.items * (per_table bytes * cluster_length bytes) → (p : ℕ) → p < disk_size bytes → disk_place true bytes (loaded_disk by_bytes) p ≡ qcow2_place bytes p
-      place_in_told eight covers p h =
+      cluster_in_told : 8 ≤ cluster_length bytes → disk_size bytes ≤ length tables.l1.items * (per_table bytes * cluster_length bytes) → (p : ℕ) → p < disk_size bytes → loaded_cluster by_bytes (p / cluster_length bytes) ≡ cluster_of bytes (p / cluster_length bytes)
+      cluster_in_told eight covers p h =
           let c = cluster_length bytes in
           let span : 0 < per_table bytes * c = mul-pos (let x : 0 < per_table bytes = omega (arith, eight) in x) (omega (arith, eight)) in
           let below : p / (per_table bytes * c) < length tables.l1.items = div_below p (per_table bytes * c) (length tables.l1.items) span (omega (arith, h, covers)) in
           let e : p / c / per_table bytes ≡ p / (c * per_table bytes) = div-div-eq-div-mul p c (per_table bytes) in
           let f : c * per_table bytes ≡ per_table bytes * c = omega arith in
           let inside : p / c / per_table bytes < length tables.l1.items = rw (e, f) below in
+          clusters_told eight (p / c) inside
+
+      place_in_told : 8 ≤ cluster_length bytes → disk_size bytes ≤ length tables.l1.items * (per_table bytes * cluster_length bytes) → (p : ℕ) → p < disk_size bytes → disk_place true bytes (loaded_disk by_bytes) p ≡ qcow2_place bytes p
+      place_in_told eight covers p h =
+          let c = cluster_length bytes in
           in_disk true bytes (loaded_disk by_bytes) p h
-          ∙ ap (place_by (packed_of true bytes (disk_of bytes)) bytes (p % c) p) (clusters_told eight (p / c) inside)
+          ∙ ap (place_by (packed_of true bytes (disk_of bytes)) bytes (p % c) p) (cluster_in_told eight covers p h)
           ∙ sym (place_in bytes p h)
+
+      -- what each guest cluster is, is what the bytes of the file give
+      pub guest_cluster_told : 512 ≤ cluster → h.size ≤ length tables.l1.items * (cluster / 8 * cluster) → (p : ℕ) → p < disk_size bytes → loaded_cluster (loaded_of h cluster tables) (p / cluster) ≡ cluster_of bytes (p / cluster_length bytes)
+      guest_cluster_told least covers p below =
+          let eight : 8 ≤ cluster_length bytes = omega (arith, least, cluster_told) in
+          let here : disk_size bytes ≤ length tables.l1.items * (cluster / 8 * cluster) = omega (arith, covers, size_told) in
+          let covers_bytes : disk_size bytes ≤ length tables.l1.items * (per_table bytes * cluster_length bytes) = rw cluster_told at here in
+          ap (λ l. loaded_cluster l (p / l.cluster)) image_told ∙ cluster_in_told eight covers_bytes p below
 
       -- the places of the disk are those that the bytes of the file give
       pub places_told : 512 ≤ cluster → h.size ≤ length tables.l1.items * (cluster / 8 * cluster) → (p : ℕ) → loaded_place f (loaded_of h cluster tables) bytes p ≡ qcow2_place bytes p

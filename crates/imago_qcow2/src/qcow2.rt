@@ -10,6 +10,7 @@ ghost use Rattle.imago_drivers.specs.Mapping.{Names};
 ghost use Rattle.imago_drivers.specs.Place.{Refused, HasValues, own_values};
 ghost use Rattle.imago_drivers.specs.Reasons.{allowed};
 ghost use Rattle.imago_qcow2.specs.Absent.{IsAbsentIndex};
+ghost use Rattle.imago_qcow2.specs.Entry.{cluster_length, cluster_of, disk_size};
 ghost use Rattle.imago_qcow2.specs.Fault.{by_fault};
 ghost use Rattle.imago_qcow2.specs.Header.{header_of, NamesBacking};
 ghost use Rattle.imago_qcow2.specs.Limit.{IsWithin, loaded_length, TablesNeedMore};
@@ -242,6 +243,9 @@ impl<S: Storage> Qcow2<S> {
             → result
             ≡ Some (loaded_cluster (loaded_in self.now) (offset / (loaded_in self.now).cluster)) }
         ensures past { (header_in self.now).size ≤ offset → result ≡ None }
+        ensures told { let bytes = S.bytes (storage_in self.now) in
+            IsTrue (S.features (storage_in self.now)).tells_bytes → offset < disk_size bytes
+            → result ≡ Some (cluster_of bytes (offset / cluster_length bytes)) }
     {
         if offset >= self.header.size {
             return None;
