@@ -174,6 +174,20 @@ fn stream_kind<S: Storage>(qcow2: &Qcow2<S>, file: u64, at: u64) -> ClusterKind
     ClusterKind::Compressed
 }
 
+/// How many bytes, at most so many, are asked for at that offset of a disk: of compressed clusters
+/// one at a time, since each is looked at by itself.
+fn asked_at<S: Storage>(qcow2: &Qcow2<S>, cluster: u64, at: u64, most: u64) -> u64
+    requires cluster { 0 < cluster }
+    requires some { 0 < most }
+    ensures some { 0 < result }
+    ensures within { result ≤ most }
+{
+    match qcow2.guest_cluster(at) {
+        Some(GuestCluster::Compressed { .. }) => most.min(cluster - at % cluster),
+        _ => most,
+    }
+}
+
 /// The same as [`run_at`] of the clusters of a qcow2 image, whose file has that length. Compressed
 /// clusters come one at a time, each by whether the file holds its stream.
 fn checked_run<S: Storage>(
@@ -199,7 +213,8 @@ fn checked_run<S: Storage>(
     let qcow2 = image.inner();
     image_of_bytes(qcow2);
     let cluster = qcow2.header().cluster_size();
-    let run = run_at(image, cluster, at, most)?;
+    let asked = asked_at(qcow2, cluster, at, most);
+    let run = run_at(image, cluster, at, asked)?;
     match run.kind {
         ClusterKind::Compressed => Ok(ClusterRun {
             start: at,
