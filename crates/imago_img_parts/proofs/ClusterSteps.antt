@@ -1,5 +1,5 @@
 -- Runs of clusters, one after the other.
-use Rattle.std.proofs.Common.{◌≡◌, ℕ, zero, suc, ◌+◌, ◌^◌, ◌<◌, ◌≤◌, ◌⊎◌, inl, inr, List, [], ◌∷◌, ◌++◌, length, max, refl, sym, ap, subst, ◌∙◌, arith, ◌-◌, ⊎_elim}
+use Rattle.std.proofs.Common.{◌≡◌, ℕ, zero, suc, ◌+◌, ◌^◌, ◌<◌, ◌≤◌, ◌⊎◌, inl, inr, List, [], ◌∷◌, ◌++◌, length, max, refl, sym, ap, subst, ◌∙◌, arith, ◌-◌, ◌/◌, ◌%◌, ⊎_elim}
 use Rattle.std.specs.Prelude.{slice_index_or}
 use Rattle.std.specs.List.{Contains}
 use Rattle.std.specs.List.Sorted.{IsPermutation}
@@ -8,12 +8,17 @@ use Rattle.std.proofs.lemmas.Bool.{cases_lt}
 use Rattle.imago_drivers.specs.declared.mapping.ShallowMapping.{ShallowMapping}
 use Rattle.imago_drivers.specs.declared.mapping.ShallowMapping.TheVariants as M
 use Rattle.imago_drivers.specs.Mapping.{IsRight}
-use Rattle.imago_drivers.specs.Place.{Place, Stored, Zeroed, Special, Lower, Refused, End}
+use Rattle.imago_drivers.specs.Place.{Value, Place, Stored, Zeroed, Special, Lower, Refused, End}
+use Rattle.imago_qcow2.specs.declared.entry.GuestCluster.{GuestCluster}
+use Rattle.imago_qcow2.specs.declared.entry.GuestCluster.TheVariants as C
+use Rattle.imago_qcow2.specs.Entry.{cluster_length, cluster_of, disk_size, place_by, qcow2_place}
+use Rattle.imago_qcow2.specs.Qcow2Laws.{place_in}
 use Rattle.imago_img_parts.specs.declared.clusters.ClusterKind.{ClusterKind}
 use Rattle.imago_img_parts.specs.declared.clusters.ClusterKind.TheVariants as Kind
 use Rattle.imago_img_parts.specs.declared.clusters.ClusterRun.{ClusterRun}
 use Rattle.imago_img_parts.specs.declared.clusters.Held.{Held}
-use Rattle.imago_img_parts.specs.ClusterRuns.{kind_by, HasNoData, AreOfKind, IsAmong, IsPut, IsInFile, AreInFile, StandsIn, IsTold, AreTold, held_of, AreHeldBy, end_of, AreBehind, AreApart}
+use Rattle.imago_img_parts.specs.ClusterRuns.{kind_by, HasNoData, AreOfKind, IsAmong, IsPut, IsInFile, AreInFile, StandsIn, IsTold, AreTold, held_of, AreHeldBy, end_of, AreBehind, AreApart, AreStreamsIn, HoldStreams}
+use Rattle.imago_img_parts.specs.Faultless.{IsStreamIn}
 
 module _ {R : Type 0} where
   -- one that was put behind others is among all of them, and so are those
@@ -162,7 +167,7 @@ pub told_more : (runs : List ClusterRun) (next : ClusterRun) (p : ℕ) (place : 
 told_more runs next p (Stored b s o w) (run, offset, among, is, above, below, at) =
     (run, offset, among_more runs run next among, is, above, below, at)
 told_more runs next p (Zeroed e) h = tt
-told_more runs next p (Special v o) h = h
+told_more runs next p (Special v o) h = tt
 told_more runs next p (Lower o w) h = tt
 told_more runs next p (Refused e) h = h
 told_more runs next p End h = tt
@@ -177,6 +182,15 @@ no_data_told runs p (Refused e) h = absurd h
 no_data_told runs p End h = tt
 
 module _ (place : ℕ → Place) (old : List ClusterRun) (next : ClusterRun) (p : ℕ) where
+  -- places of compressed clusters need no run that tells them
+  told_special : (runs : List ClusterRun) → AreOfKind place next.start next.length Kind.Compressed
+      → next.start ≤ p → p < next.start + next.length → IsTold runs p (place p)
+  told_special runs are above below =
+      let (v, o, special) = are (p - next.start) (omega arith) in
+      let at : next.start + (p - next.start) ≡ p = omega arith in
+      let here : place p ≡ Special v o = ap place (sym at) ∙ special in
+      subst (λ (x : Place). IsTold runs p x) (sym here) tt
+
   -- the places that a run tells which can be read in a file
   told_last : (file : ℕ) (kind : ClusterKind) → next.kind ≡ kind → IsInFile file next.length kind
       → AreOfKind place next.start next.length kind → next.start ≤ p
@@ -188,7 +202,9 @@ module _ (place : ℕ → Place) (old : List ClusterRun) (next : ClusterRun) (p 
       let tells : IsTold (old ++ next ∷ []) p (Stored b s (offset + (p - next.start)) w) =
       (next, offset, among_last old next, is, above, below, omega arith) in
       subst (λ (x : Place). IsTold (old ++ next ∷ []) p x) (sym here) tells
-  told_last file Kind.Compressed is inside are above below = absurd inside
+  told_last file Kind.Compressed is inside are above below =
+      told_special (old ++ next ∷ []) are above below
+  told_last file Kind.Cut is inside are above below = absurd inside
   told_last file Kind.Invalid is inside are above below = absurd inside
   told_last file Kind.Absent is inside are above below =
       let at : next.start + (p - next.start) ≡ p = omega arith in
@@ -202,6 +218,13 @@ module _ (place : ℕ → Place) (old : List ClusterRun) (next : ClusterRun) (p 
       let none = subst (λ (k : ClusterKind). AreOfKind place next.start next.length k) is are in
       no_data_told old p (place p)
       (subst (λ (q : ℕ). HasNoData (place q)) at (none (p - next.start) (omega arith)))
+
+  told_compressed : next.kind ≡ Kind.Compressed
+      → AreOfKind place next.start next.length next.kind → next.start ≤ p
+      → p < next.start + next.length → IsTold old p (place p)
+  told_compressed is are above below =
+      told_special old (subst (λ (k : ClusterKind). AreOfKind place next.start next.length k) is are)
+      above below
 
 -- where one run more was put, the places are told up to its end
 pub told_further : (place : ℕ → Place) (at : ℕ) (old new : List ClusterRun) (next : ClusterRun)
@@ -220,15 +243,100 @@ told_further place at old new next put starts are told file inside p below = eac
         (⊎_elim (λ under. told file before p under)
         (λ over. told_absent place old next p absent kinds (omega arith) (omega arith))
         (cases_lt p at))
-    each (inr (inl same)) =
+    each (inr (inl (packed, same))) =
+        let before : AreInFile file old = subst (AreInFile file) same inside in
+        subst (λ (runs : List ClusterRun). IsTold runs p (place p)) (sym same)
+        (⊎_elim (λ under. told file before p under)
+        (λ over. told_compressed place old next p packed kinds (omega arith) (omega arith))
+        (cases_lt p at))
+    each (inr (inr (inl same))) =
         let (before, last) = before_last file old next (subst (AreInFile file) same inside) in
         subst (λ (runs : List ClusterRun). IsTold runs p (place p)) (sym same)
         (⊎_elim (λ under. told_more old next p (place p) (told file before p under))
         (λ over. told_last place old next p file next.kind refl last kinds (omega arith) (omega arith))
         (cases_lt p at))
-    each (inr (inr (front, last, invalid, same))) =
+    each (inr (inr (inr (front, last, invalid, same)))) =
         let (before, bad) = before_last file front last (subst (AreInFile file) same inside) in
         absurd (subst (λ (k : ClusterKind). IsInFile file last.length k) invalid bad)
+
+-- where one run more was put, a file that holds all of them holds those before and the new one
+put_inside : (file : ℕ) (old new : List ClusterRun) (next : ClusterRun) → IsPut old next new
+    → AreInFile file new → AreInFile file old × IsInFile file next.length next.kind
+put_inside file old new next (inl (absent, same)) inside = (
+  subst (AreInFile file) same inside,
+  subst (IsInFile file next.length) (sym absent) tt,
+)
+put_inside file old new next (inr (inl (packed, same))) inside = (
+  subst (AreInFile file) same inside,
+  subst (IsInFile file next.length) (sym packed) tt,
+)
+put_inside file old new next (inr (inr (inl same))) inside =
+    before_last file old next (subst (AreInFile file) same inside)
+put_inside file old new next (inr (inr (inr (front, last, invalid, same)))) inside =
+    let (before, bad) = before_last file front last (subst (AreInFile file) same inside) in
+    absurd (subst (λ (k : ClusterKind). IsInFile file last.length k) invalid bad)
+
+-- and the streams are held up to its end
+pub streams_further : (clusters : ℕ → GuestCluster) (cluster file at : ℕ)
+    (old new : List ClusterRun) (next : ClusterRun) → IsPut old next new
+    → AreStreamsIn clusters cluster file at next.length next.kind
+    → HoldStreams clusters cluster file at old
+    → HoldStreams clusters cluster file (at + next.length) new
+streams_further clusters cluster file at old new next put streams held inside p below =
+    let (before, here) = put_inside file old new next put inside in
+    ⊎_elim (λ under. held before p under)
+    (λ over. let last : at + (p - at) ≡ p = omega arith in
+    subst (λ (q : ℕ). IsStreamIn file cluster (clusters (q / cluster))) last
+    (streams here (p - at) (omega arith)))
+    (cases_lt p at)
+
+-- a guest cluster whose places aren't made up has no stream
+stream_by : (file cluster : ℕ) (packed : ℕ → ℕ → ℕ → Value) (bytes : List ℕ) (rest p : ℕ)
+    (k : GuestCluster) → ((v : Value) (o : ℕ) → place_by packed bytes rest p k ≡ Special v o → ⊥)
+    → IsStreamIn file cluster k
+stream_by file cluster packed bytes rest p C.Absent other = tt
+stream_by file cluster packed bytes rest p C.Zero other = tt
+stream_by file cluster packed bytes rest p (C.Stored at) other = tt
+stream_by file cluster packed bytes rest p (C.Compressed at n) other =
+    absurd (other (packed at n rest) p refl)
+stream_by file cluster packed bytes rest p C.Invalid other = tt
+
+not_special : (place : Place) → HasNoData place → (v : Value) (o : ℕ) → place ≡ Special v o → ⊥
+not_special place none v o e = subst HasNoData e none
+
+-- runs of another kind than compressed clusters have no streams, or aren't in the file
+module _ (bytes : List ℕ) (file at count : ℕ) where
+  no_streams : (i : ℕ) → at + i < disk_size bytes
+      → ((v : Value) (o : ℕ) → qcow2_place bytes (at + i) ≡ Special v o → ⊥)
+      → IsStreamIn file (cluster_length bytes)
+      (cluster_of bytes ((at + i) / cluster_length bytes))
+  no_streams i within other =
+      stream_by file (cluster_length bytes) _ bytes _ _ _
+      (λ v o e. other v o (place_in bytes (at + i) within ∙ e))
+
+  pub streams_of : (kind : ClusterKind) → AreOfKind (qcow2_place bytes) at count kind
+      → at + count ≤ disk_size bytes → (kind ≡ Kind.Compressed → ⊥)
+      → AreStreamsIn (cluster_of bytes) (cluster_length bytes) file at count kind
+  streams_of (Kind.Stored offset) are ends other inside i below =
+      let (b, s, w, stands) = are i below in
+      no_streams i (omega arith) (λ v o e. let z : ⊥ = cc in z)
+  streams_of Kind.Compressed are ends other inside i below = absurd (other refl)
+  streams_of Kind.Cut are ends other inside i below = absurd inside
+  streams_of Kind.Invalid are ends other inside i below = absurd inside
+  streams_of Kind.Absent are ends other inside i below =
+      no_streams i (omega arith) (not_special _ (are i below))
+
+-- one compressed cluster, or the rest of one, has the stream of its first byte, where that is held
+pub one_stream : (clusters : ℕ → GuestCluster) (cluster file at count : ℕ) (kind : ClusterKind)
+    → 0 < cluster → count ≤ cluster - at % cluster
+    → (kind ≡ Kind.Compressed) ⊎ (kind ≡ Kind.Cut)
+    → (kind ≡ Kind.Compressed → IsStreamIn file cluster (clusters (at / cluster)))
+    → AreStreamsIn clusters cluster file at count kind
+one_stream clusters cluster file at count kind some short (inl packed) held inside i below =
+    subst (λ (k : ℕ). IsStreamIn file cluster (clusters k))
+    (sym (same_block cluster some at i (omega (arith, below, short)))) (held packed)
+one_stream clusters cluster file at count kind some short (inr cut) held inside i below =
+    absurd (subst (IsInFile file count) cut inside)
 
 -- an offset that stands in a file that holds all runs lies in it
 pub stands_inside : (file : ℕ) (runs : List ClusterRun) (p at : ℕ) → AreInFile file runs

@@ -15,13 +15,13 @@ use Rattle.imago_vmdk.specs.Line.{extent_with}
 use Rattle.imago_vmdk.specs.Reading.{reading_of}
 use Rattle.imago_qcow2.specs.declared.header.Header.{Header}
 use Rattle.imago_qcow2.specs.Header.{header_of}
-use Rattle.imago_qcow2.specs.Entry.{disk_size, qcow2_place}
+use Rattle.imago_qcow2.specs.Entry.{cluster_length, cluster_of, disk_size, qcow2_place}
 use Rattle.imago_images.specs.declared.format.ImageFormat.{ImageFormat}
 use Rattle.imago_images.specs.declared.opening.OtherFiles.{OtherFiles}
 use Rattle.imago_images.specs.Formats.{IsFormatBy}
 use Rattle.imago_images.specs.HostBytes.{HasBytes}
 use Rattle.imago_img_parts.specs.declared.clusters.ClusterRun.{ClusterRun}
-use Rattle.imago_img_parts.specs.ClusterRuns.{AreInFile, StandsIn, IsTold, AreTold, AreFaultless}
+use Rattle.imago_img_parts.specs.ClusterRuns.{AreInFile, StandsIn, IsTold, AreTold, AreFaultless, HoldStreams}
 use Rattle.imago_img_parts.specs.Faultless.{IsHeld, AreHeld, IsReadable, StandsAt, HasSoundTables, IsFaultlessAs, IsFaultless}
 use Rattle.imago_img_parts.proofs.ClusterSteps.{stands_inside, stands_once}
 
@@ -64,7 +64,7 @@ readable_told : (file : ℕ) (runs : List ClusterRun) (p : ℕ) (place : Place) 
     → IsTold runs p place → IsReadable file place
 readable_told file runs p (Stored b s o w) inside h = stands_inside file runs p o inside h
 readable_told file runs p (Zeroed e) inside h = tt
-readable_told file runs p (Special v o) inside h = h
+readable_told file runs p (Special v o) inside h = tt
 readable_told file runs p (Lower o w) inside h = tt
 readable_told file runs p (Refused e) inside h = h
 readable_told file runs p End inside h = tt
@@ -80,14 +80,16 @@ told_stands runs p at End h k = absurd k
 
 -- runs without a fault tell that the tables have none
 sound_tables : (bytes : List ℕ) (runs : List ClusterRun)
-    → AreTold (qcow2_place bytes) (disk_size bytes) runs → AreFaultless (length bytes) runs
-    → HasSoundTables bytes
-sound_tables bytes runs told (inside, apart) = record {
+    → AreTold (qcow2_place bytes) (disk_size bytes) runs
+    → HoldStreams (cluster_of bytes) (cluster_length bytes) (length bytes) (disk_size bytes) runs
+    → AreFaultless (length bytes) runs → HasSoundTables bytes
+sound_tables bytes runs told held (inside, apart) = record {
   readable = λ p h. readable_told (length bytes) runs p (qcow2_place bytes p) inside
       (told (length bytes) inside p h);
   once = λ p q at h k x y. stands_once runs p q at apart
       (told_stands runs p at (qcow2_place bytes p) (told (length bytes) inside p h) x)
       (told_stands runs q at (qcow2_place bytes q) (told (length bytes) inside q k) y);
+  streams = λ p h. held inside p h;
 }
 
 module _ {S : Type 0} (features : S → Features) (stored : S → List ℕ)
@@ -109,17 +111,21 @@ module _ {S : Type 0} (features : S → Features) (stored : S → List ℕ)
       → (header : Header) × (header_of bytes (length bytes) ≡ Ok header))
       → ((bytes : List ℕ) → HasBytes features stored bytes file
       → AreTold (qcow2_place bytes) (disk_size bytes) runs)
+      → ((bytes : List ℕ) → HasBytes features stored bytes file
+      → HoldStreams (cluster_of bytes) (cluster_length bytes) count (disk_size bytes) runs)
       → AreFaultless count runs
       → IfSome known (λ files. HasBytes features stored (files path) file)
       → IfSome known (λ files. (header : Header)
       × (header_of (files path) (length (files path)) ≡ Ok header) × HasSoundTables (files path))
-  qcow2_faultless count runs is accepted told none =
+  qcow2_faultless count runs is accepted told held none =
       of_file (λ bytes. (header : Header) × (header_of bytes (length bytes) ≡ Ok header)
       × HasSoundTables bytes)
       (λ bytes has. let (header, says) = accepted bytes has in (
         header,
         says,
         sound_tables bytes runs (told bytes has)
+            (subst (λ (n : ℕ). HoldStreams (cluster_of bytes) (cluster_length bytes) n
+            (disk_size bytes) runs) (is ∙ ap length has.1) (held bytes has))
             (subst (λ (n : ℕ). AreFaultless n runs) (is ∙ ap length has.1) none),
       ))
 

@@ -1,13 +1,15 @@
 -- What runs of clusters tell of the places of a disk, and of the bytes of its file.
-use Rattle.std.specs.Prelude.{◌≡◌, ℕ, ◌+◌, ◌<◌, ◌≤◌, ◌⊎◌, List, [], ◌∷◌, ◌++◌, max, min}
+use Rattle.std.specs.Prelude.{◌≡◌, ℕ, ◌+◌, ◌/◌, ◌<◌, ◌≤◌, ◌⊎◌, List, [], ◌∷◌, ◌++◌, max, min}
 use Rattle.imago_storage.specs.declared.error.Error.{Error}
 use Rattle.imago_drivers.specs.declared.mapping.ShallowMapping.{ShallowMapping}
 use Rattle.imago_drivers.specs.declared.mapping.ShallowMapping.TheVariants as M
 use Rattle.imago_drivers.specs.Place.{Value, Place, Stored, Zeroed, Special, Lower, Refused, End}
+use Rattle.imago_qcow2.specs.declared.entry.GuestCluster.{GuestCluster}
 use Rattle.imago_img_parts.specs.declared.clusters.ClusterKind.{ClusterKind}
 use Rattle.imago_img_parts.specs.declared.clusters.ClusterKind.TheVariants as Kind
 use Rattle.imago_img_parts.specs.declared.clusters.ClusterRun.{ClusterRun}
 use Rattle.imago_img_parts.specs.declared.clusters.Held.{Held}
+use Rattle.imago_img_parts.specs.Faultless.{IsStreamIn}
 
 -- what clusters are whose mapping is that
 abbrev pub kind_by : ShallowMapping → ClusterKind
@@ -34,6 +36,8 @@ AreOfKind place at count (Kind.Stored offset) = (i : ℕ) → i < count → (byt
     × (w : _) × (place (at + i) ≡ Stored byte storage (offset + i) w)
 AreOfKind place at count Kind.Compressed = (i : ℕ) → i < count → (value : Value) × (offset : ℕ)
     × (place (at + i) ≡ Special value offset)
+AreOfKind place at count Kind.Cut = (i : ℕ) → i < count → (value : Value) × (offset : ℕ)
+    × (place (at + i) ≡ Special value offset)
 AreOfKind place at count Kind.Invalid = place at ≡ Refused Error.InvalidData
 AreOfKind place at count Kind.Absent = (i : ℕ) → i < count → HasNoData (place (at + i))
 
@@ -42,17 +46,19 @@ abbrev pub IsAmong : {R : Type 0} → List R → R → Type 0
 IsAmong [] run = ⊥
 IsAmong (first ∷ runs) run = (first ≡ run) ⊎ IsAmong runs run
 
--- A run was put behind others: clusters that are absent aren't kept, and those whose entries can't
--- be meant may be one run with the last of the others.
+-- A run was put behind others: clusters that are absent, or are compressed and in order, aren't
+-- kept, and those whose entries can't be meant may be one run with the last of the others.
 abbrev pub IsPut : List ClusterRun → ClusterRun → List ClusterRun → Type 0
-IsPut old next new = ((next.kind ≡ Kind.Absent) × (new ≡ old)) ⊎ (new ≡ old ++ next ∷ [])
+IsPut old next new = ((next.kind ≡ Kind.Absent) × (new ≡ old))
+    ⊎ ((next.kind ≡ Kind.Compressed) × (new ≡ old)) ⊎ (new ≡ old ++ next ∷ [])
     ⊎ ((before : List ClusterRun) × (last : ClusterRun) × (last.kind ≡ Kind.Invalid)
     × (new ≡ before ++ last ∷ []))
 
--- clusters of a kind, so many bytes, can be read in a file of that length
+-- the data of clusters of a kind, so many bytes of a disk, is in a file of that length
 abbrev pub IsInFile : ℕ → ℕ → ClusterKind → Type 0
 IsInFile file count (Kind.Stored offset) = offset + count ≤ file
-IsInFile file count Kind.Compressed = ⊥
+IsInFile file count Kind.Compressed = Unit {0}
+IsInFile file count Kind.Cut = ⊥
 IsInFile file count Kind.Invalid = ⊥
 IsInFile file count Kind.Absent = Unit {0}
 
@@ -67,11 +73,12 @@ StandsIn runs p at = (run : ClusterRun) × (offset : ℕ) × IsAmong runs run
     × (run.kind ≡ Kind.Stored offset) × (run.start ≤ p) × (p < run.start + run.length)
     × (at + run.start ≡ offset + p)
 
--- the place of an offset can be read, by these runs: where it stands in the file, they tell it
+-- The place of an offset can be meant, by these runs: where it stands in the file as it is, they
+-- tell it.
 abbrev pub IsTold : List ClusterRun → ℕ → Place → Type 0
 IsTold runs p (Stored byte storage offset writable) = StandsIn runs p offset
 IsTold runs p (Zeroed explicit) = Unit {0}
-IsTold runs p (Special value offset) = ⊥
+IsTold runs p (Special value offset) = Unit {0}
 IsTold runs p (Lower offset writable) = Unit {0}
 IsTold runs p (Refused e) = ⊥
 IsTold runs p End = Unit {0}
@@ -80,6 +87,17 @@ IsTold runs p End = Unit {0}
 abbrev pub AreTold : (ℕ → Place) → ℕ → List ClusterRun → Type 0
 AreTold place end runs = (file : ℕ) → AreInFile file runs
     → (p : ℕ) → p < end → IsTold runs p (place p)
+
+-- where clusters of a kind, so many bytes of a disk from an offset on, are in a file of that
+-- length, the streams of those among them that are compressed are too
+abbrev pub AreStreamsIn : (ℕ → GuestCluster) → ℕ → ℕ → ℕ → ℕ → ClusterKind → Type 0
+AreStreamsIn clusters cluster file at count kind = IsInFile file count kind
+    → (i : ℕ) → i < count → IsStreamIn file cluster (clusters ((at + i) / cluster))
+
+-- the same before an end, where all of these runs are in the file
+abbrev pub HoldStreams : (ℕ → GuestCluster) → ℕ → ℕ → ℕ → List ClusterRun → Type 0
+HoldStreams clusters cluster file end runs = AreInFile file runs
+    → (p : ℕ) → p < end → IsStreamIn file cluster (clusters (p / cluster))
 
 -- the data of a run that stands in the file from an offset on
 abbrev pub held_of : ℕ → ClusterRun → Held

@@ -1,15 +1,15 @@
 //! Whether an image is in order.
-ghost use Rattle.std.specs.Prelude.{◌≡◌, ℕ, ◌<◌, List, map, length, true, false, Ok};
+ghost use Rattle.std.specs.Prelude.{◌≡◌, ℕ, ◌<◌, List, map, length as count_of, true, false, Ok};
 ghost use Rattle.std.specs.Prelude.{IfOk, IfSome};
 ghost use Rattle.std.specs.String.{string_bytes};
 ghost use Rattle.imago_vmdk.specs.Line.{extent_with};
 ghost use Rattle.imago_qcow2.specs.Header.{header_of};
-ghost use Rattle.imago_qcow2.specs.Entry.{disk_size, qcow2_place};
+ghost use Rattle.imago_qcow2.specs.Entry.{cluster_length, cluster_of, disk_size, qcow2_place};
 ghost use Rattle.imago_qcow2.specs.declared.header.Header.{Header};
 ghost use Rattle.imago_images.specs.declared.format.ImageFormat.TheVariants as Of;
 ghost use Rattle.imago_images.specs.GateParts.{gate_host, gate_image, gate_files};
 ghost use Rattle.imago_images.specs.HostBytes.{HasBytes};
-ghost use Rattle.imago_img_parts.specs.ClusterRuns.{AreTold};
+ghost use Rattle.imago_img_parts.specs.ClusterRuns.{AreTold, HoldStreams};
 ghost use Rattle.imago_img_parts.specs.Faultless.{IsHeld, AreHeld, IsFaultless, IsFaultlessAs};
 
 use crate::clusters::{ClusterRun, cluster_runs, tell_faults};
@@ -97,7 +97,7 @@ fn check_qcow2<'a, H: Host, W: Write>(
         (λ files. IsFaultlessAs how.strict how.other_files files path.now Of.Qcow2)) }
 {
     let length = Failure::or_image(host.alloc(), path, file.size())?;
-    let found = runs_of(host, path, &mut file);
+    let found = runs_of(host, path, &mut file, length);
     match told_by_host(host.alloc(), path, &file, found) {
         Ok(runs) => tell_faults(host.alloc(), path, &runs, length, output),
         Err(
@@ -110,22 +110,26 @@ fn check_qcow2<'a, H: Host, W: Write>(
     }
 }
 
-/// The clusters of a qcow2 file that was looked at.
+/// The clusters of a qcow2 file that was looked at, and has that length, as [`cluster_runs`] tells
+/// them.
 fn runs_of<H: Files, S: Storage>(
     host: &H,
     path: &str,
     file: S,
+    length: u64,
 ) -> Result<Vec<ClusterRun>, OpenError>
     ensures header { (bytes : List ℕ) → HasBytes S.features S.bytes bytes file → IfOk result
-        (λ _. (header : Header) × (header_of bytes (length bytes) ≡ Ok header)) }
+        (λ _. (header : Header) × (header_of bytes (count_of bytes) ≡ Ok header)) }
     ensures told { (bytes : List ℕ) → HasBytes S.features S.bytes bytes file → IfOk result
         (λ runs. AreTold (qcow2_place bytes) (disk_size bytes) runs.items) }
+    ensures streams { (bytes : List ℕ) → HasBytes S.features S.bytes bytes file → IfOk result
+        (λ runs. HoldStreams (cluster_of bytes) (cluster_length bytes) length (disk_size bytes)
+        runs.items) }
 {
     let qcow2 = open_qcow2(host, path, file)?;
     image_of_bytes(&qcow2);
     let image = FormatAccess::new(qcow2);
-    let cluster = image.inner().header().cluster_size();
-    let runs = cluster_runs(host.alloc(), &image, cluster);
+    let runs = cluster_runs(host.alloc(), &image, length);
     OpenError::or_image(host.alloc(), path, runs)
 }
 

@@ -1,16 +1,25 @@
 //! The clusters of a qcow2 file, as its disk has them.
-ghost use Rattle.std.specs.Prelude.{◌≡◌, ◌+◌, ◌<◌, ◌≤◌, IfOk, IfSome, IfNone, OnOk};
+ghost use Rattle.std.specs.Prelude.{◌≡◌, ◌+◌, ◌/◌, ◌<◌, ◌≤◌, ◌⊎◌, true, IsTrue};
+ghost use Rattle.std.specs.Prelude.{IfOk, IfSome, IfNone, OnOk};
+ghost use Rattle.imago_qcow2.specs.Entry.{cluster_length, cluster_of, disk_size};
+ghost use Rattle.imago_qcow2.specs.Qcow2Image.{storage_in};
 ghost use Rattle.imago_access.specs.Chain.{driver};
 ghost use Rattle.imago_img_parts.specs.declared.clusters.ClusterKind.TheVariants as Kind;
 ghost use Rattle.imago_img_parts.specs.ClusterRuns.{kind_by, AreOfKind, IsPut, AreTold, IsInFile};
 ghost use Rattle.imago_img_parts.specs.ClusterRuns.{AreInFile, AreHeldBy, AreBehind};
 ghost use Rattle.imago_img_parts.specs.ClusterRuns.{AreFaultless, end_of as end_in_file};
+ghost use Rattle.imago_img_parts.specs.ClusterRuns.{AreStreamsIn, HoldStreams};
+ghost use Rattle.imago_img_parts.specs.Faultless.{IsStreamIn};
 
 use crate::failure::Failure;
 use imago_access::access::FormatAccess;
 use imago_drivers::drivers::FormatDriverInstance;
 use imago_drivers::mapping::ShallowMapping;
+use imago_qcow2::entry::GuestCluster;
+use imago_qcow2::laws::image_of_bytes;
+use imago_qcow2::qcow2::Qcow2;
 use imago_storage::error::Error;
+use imago_storage::storage::Storage;
 use std::alloc::Global;
 use std::io::{self, Write};
 
@@ -21,6 +30,8 @@ pub enum ClusterKind {
     Stored(u64),
     /// Compressed data.
     Compressed,
+    /// Compressed data whose stream the file doesn't hold.
+    Cut,
     /// Entries that can't be meant.
     Invalid,
     /// Nothing in the file.
@@ -102,11 +113,12 @@ fn joined(first: ClusterRun, second: ClusterRun) -> Option<ClusterRun>
     }
 }
 
-/// Puts a run to the others. Invalid clusters behind others are one run with them.
+/// Puts a run to the others, unless nothing is told of it: clusters that are absent, or are
+/// compressed and in order. Invalid clusters behind others are one run with them.
 fn put(runs: &mut Vec<ClusterRun>, next: ClusterRun) -> Result<(), Error>
     ensures { OnOk result (IsPut runs.old.items next runs.new.items) }
 {
-    if let ClusterKind::Absent = next.kind {
+    if let ClusterKind::Absent | ClusterKind::Compressed = next.kind {
         return Ok(());
     }
     if let Some(last) = runs.pop() {
@@ -120,22 +132,104 @@ fn put(runs: &mut Vec<ClusterRun>, next: ClusterRun) -> Result<(), Error>
     Ok(())
 }
 
-/// The clusters of that length that an image has for its disk, by the disk's offsets and by its own
-/// file alone.
-pub fn cluster_runs<D: FormatDriverInstance>(
+/// Whether a compressed stream of so many bytes from that offset on is in a file of that length,
+/// whose clusters have that length: it begins there, and passes the end by less than a cluster. Its
+/// last sector may be cut, and isn't all in use.
+fn holds_stream(file: u64, cluster: u64, at: u64, count: u64) -> bool
+    ensures begins { result ≡ true → at < «file» }
+    ensures ends { result ≡ true → at + count < file + cluster }
+{
+    at < file && count.saturating_sub(file - at) < cluster
+}
+
+/// Whether a file of that length, whose clusters have that length, holds the stream of a guest
+/// cluster, if it is compressed.
+fn is_held(cluster: GuestCluster, file: u64, length: u64) -> bool
+    ensures { result ≡ true → IsStreamIn file length cluster }
+{
+    match cluster {
+        GuestCluster::Compressed { at, length: count } => holds_stream(file, length, at, count),
+        GuestCluster::Absent => true,
+        GuestCluster::Zero => true,
+        GuestCluster::Stored(_) => true,
+        GuestCluster::Invalid => true,
+    }
+}
+
+/// What the compressed cluster at that offset of the disk is, in a file of that length.
+fn stream_kind<S: Storage>(qcow2: &Qcow2<S>, file: u64, at: u64) -> ClusterKind
+    ensures either { (result ≡ Kind.Compressed) ⊎ (result ≡ Kind.Cut) }
+    ensures held { let bytes = S.bytes (storage_in qcow2.now) in
+        IsTrue (S.features (storage_in qcow2.now)).tells_bytes → at < disk_size bytes
+        → result ≡ Kind.Compressed → IsStreamIn file (cluster_length bytes)
+        (cluster_of bytes (at / cluster_length bytes)) }
+{
+    image_of_bytes(qcow2);
+    let Some(found) = qcow2.guest_cluster(at) else {
+        return ClusterKind::Cut;
+    };
+    if !is_held(found, file, qcow2.header().cluster_size()) {
+        return ClusterKind::Cut;
+    }
+    ClusterKind::Compressed
+}
+
+/// The same as [`run_at`] of the clusters of a qcow2 image, whose file has that length. Compressed
+/// clusters come one at a time, each by whether the file holds its stream.
+fn checked_run<S: Storage>(
+    image: &FormatAccess<Qcow2<S>>,
+    file: u64,
+    at: u64,
+    most: u64,
+) -> Result<ClusterRun, Error>
+    requires some { 0 < most }
+    requires inside { at + most
+        ≤ (⟦<Qcow2<S> as FormatDriverInstance>⟧.view (driver image.now)).size }
+    ensures start { IfOk result (λ run. run.start ≡ «at») }
+    ensures some { IfOk result (λ run. 0 < run.length) }
+    ensures within { IfOk result (λ run. run.length ≤ most) }
+    ensures kind { IfOk result
+        (λ run. AreOfKind (⟦<Qcow2<S> as FormatDriverInstance>⟧.view (driver image.now)).place at
+        run.length run.kind) }
+    ensures streams { let bytes = S.bytes (storage_in (driver image.now)) in
+        IsTrue (S.features (storage_in (driver image.now))).tells_bytes → IfOk result
+        (λ run. AreStreamsIn (cluster_of bytes) (cluster_length bytes) file at run.length
+        run.kind) }
+{
+    let qcow2 = image.inner();
+    image_of_bytes(qcow2);
+    let cluster = qcow2.header().cluster_size();
+    let run = run_at(image, cluster, at, most)?;
+    match run.kind {
+        ClusterKind::Compressed => Ok(ClusterRun {
+            start: at,
+            length: run.length.min(cluster - at % cluster),
+            kind: stream_kind(qcow2, file, at),
+        }),
+        _ => Ok(run),
+    }
+}
+
+/// The clusters that a qcow2 image has for its disk, by the disk's offsets and by its own file
+/// alone, which has that length. Those that are absent, or compressed and held by the file, aren't
+/// among them.
+pub fn cluster_runs<S: Storage>(
     alloc: Global,
-    image: &FormatAccess<D>,
-    cluster: u64,
+    image: &FormatAccess<Qcow2<S>>,
+    file: u64,
 ) -> Result<Vec<ClusterRun>, Error>
-    requires { 0 < cluster }
-    ensures { let view = D.view (driver image.now) in
+    ensures told { let view = ⟦<Qcow2<S> as FormatDriverInstance>⟧.view (driver image.now) in
         IfOk result (λ runs. AreTold view.place view.size runs.items) }
+    ensures streams { let bytes = S.bytes (storage_in (driver image.now)) in
+        IsTrue (S.features (storage_in (driver image.now))).tells_bytes → IfOk result
+        (λ runs. HoldStreams (cluster_of bytes) (cluster_length bytes) file
+        (⟦<Qcow2<S> as FormatDriverInstance>⟧.view (driver image.now)).size runs.items) }
 {
     let size = image.size();
     let mut runs = Vec::new(alloc);
     let mut at = 0;
     while at < size {
-        let run = run_at(image, cluster, at, size - at)?;
+        let run = checked_run(image, file, at, size - at)?;
         put(&mut runs, run)?;
         at += run.length;
     }
@@ -164,7 +258,7 @@ impl ClusterCounts {
                 stored: self.stored.saturating_add(count),
                 ..self
             },
-            ClusterKind::Compressed => ClusterCounts {
+            ClusterKind::Compressed | ClusterKind::Cut => ClusterCounts {
                 compressed: self.compressed.saturating_add(count),
                 ..self
             },
@@ -203,21 +297,19 @@ fn run_fault(run: &ClusterRun, length: u64) -> Option<(&'static str, &'static st
 {
     match run.kind {
         ClusterKind::Invalid => Some(("the entries of ", "can't be meant")),
-        ClusterKind::Compressed => Some((
-            "the clusters at ",
-            "are compressed, which isn't supported",
-        )),
+        ClusterKind::Cut => Some(("the compressed data of ", "passes the file's end")),
         ClusterKind::Stored(offset) if length < offset || length - offset < run.length => Some((
             "",
             "passes the file's end: what lacks reads as 0",
         )),
         ClusterKind::Stored(_) => None,
+        ClusterKind::Compressed => None,
         ClusterKind::Absent => None,
     }
 }
 
-/// Tells entries that can't be meant, clusters that can't be read since they are compressed, and
-/// those that a file of that length doesn't hold, and how many runs of them there are.
+/// Tells entries that can't be meant, and data that a file of that length doesn't hold, and how
+/// many runs of them there are.
 fn tell_unreadable<W: Write>(
     path: &str,
     runs: &[ClusterRun],

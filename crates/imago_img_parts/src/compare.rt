@@ -8,14 +8,14 @@ ghost use Rattle.imago_img_parts.specs.Disks.{AreCompared, ArePathsOfOne, NamesS
 
 use crate::failure::Failure;
 use crate::host::Host;
-use crate::image::{CHUNK, not_read, readable_size, refusal_in};
+use crate::image::{CHUNK, known_cause, not_read, readable_size};
 use imago_access::access::FormatAccess;
 use imago_copy::compare::first_difference;
 use imago_drivers::drivers::FormatDriverInstance;
 use imago_images::files::Files;
 use imago_images::format::ImageFormat;
 use imago_images::gate::folder_of;
-use imago_images::opener::open_image;
+use imago_images::opener::{FileImage, open_image};
 use imago_images::opening::Opening;
 use imago_storage::error::Error;
 use std::alloc::Global;
@@ -58,11 +58,23 @@ pub fn compare_images<H: Host>(
             sizes: (size, other),
             difference,
         }),
-        Err(cause) => {
-            let refusal = refusal_in(&left).or(refusal_in(&right));
-            Err(not_read(alloc, first, refusal, cause))
-        }
+        Err(cause) => Err(not_compared(alloc, first, &left, &right, cause)),
     }
+}
+
+/// Why two images weren't compared, of which the first one has that path: where it is known of a
+/// file of either, that is named.
+fn not_compared<H: Host>(
+    alloc: Global,
+    first: &str,
+    left: &FileImage<'_, H>,
+    right: &FileImage<'_, H>,
+    cause: Error,
+) -> Failure {
+    if let Some(why) = known_cause(alloc, left, cause) {
+        return why;
+    }
+    not_read(alloc, first, right, cause)
 }
 
 /// Whether two paths are those of one image, which has that format.

@@ -5,7 +5,7 @@ ghost use Rattle.imago_img_parts.specs.Files.{ended, with_file, IsMade, IsWhole}
 
 use crate::failure::{Failure, Reason, Refusal};
 use crate::host::{FileKind, FileStatus, Host};
-use crate::image::{CHUNK, has_file, not_read, readable_size, refusal_in};
+use crate::image::{CHUNK, has_file, not_read, readable_size};
 use crate::progress::Progress;
 use imago_copy::copy::{CopyError, copy_disk};
 use imago_copy::target::Target;
@@ -98,7 +98,7 @@ fn fill<H: Host, T: Target>(
     let mut buf = vec![in alloc; 0u8; CHUNK]?;
     match copy_disk(alloc, &image, target, &mut buf) {
         Ok(()) => Ok(()),
-        Err(CopyError::Image(cause)) => { Err(not_read(alloc, from, refusal_in(&image), cause)) }
+        Err(CopyError::Image(cause)) => Err(not_read(alloc, from, &image, cause)),
         Err(CopyError::Target(cause)) => Err(Failure::of_file(alloc, to, Reason::System(cause))),
     }
 }

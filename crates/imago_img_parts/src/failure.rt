@@ -2,6 +2,7 @@
 ghost use Rattle.std.specs.Prelude.{◌≡◌, MatchResult, IsErr};
 
 pub use imago_images::failure::{OpenError, Reason};
+use imago_inflate::fault::InflateError;
 use imago_storage::error;
 use std::alloc::{AllocError, AllocFailed, Global};
 use std::io;
@@ -24,6 +25,16 @@ pub enum Failure {
         path: String,
         /// Why.
         refusal: Refusal,
+    },
+    /// A compressed cluster of an image can't be read.
+    #[error("{path:?}: the cluster at {offset} of the disk {fault}")]
+    Compressed {
+        /// The file that has it, which may be one below the image's own.
+        path: String,
+        /// Where it begins on the disk, in bytes.
+        offset: u64,
+        /// Why.
+        fault: ClusterFault,
     },
     /// The standard output can't be written.
     #[error("the output can't be written: {0}")]
@@ -68,6 +79,17 @@ pub enum Refusal {
     /// What is to be replaced is a file of the image that is read.
     #[error("a file of the image that is read is never replaced")]
     IsSource,
+}
+
+/// Why a compressed cluster can't be read, and what can be done about it.
+#[derive(Clone, Copy, Debug, Error)]
+pub enum ClusterFault {
+    /// It is compressed with zstd.
+    #[error("is compressed with zstd, which isn't offered; qemu-img convert writes it uncompressed")]
+    Zstd,
+    /// Its stream has that fault.
+    #[error("can't be decoded: {0}; use an intact copy of the file")]
+    Stream(InflateError),
 }
 
 /// What to do about a file that can't be used, as the end of its line.
@@ -118,6 +140,18 @@ impl Failure {
     /// That file can't be used, for that reason.
     pub fn of_file(alloc: Global, path: &str, reason: Reason) -> Failure {
         Failure::from(OpenError::of_file(alloc, path, reason))
+    }
+
+    /// The compressed cluster of that file at that offset of the disk can't be read.
+    pub fn of_cluster(alloc: Global, path: &str, offset: u64, fault: ClusterFault) -> Failure {
+        match String::from_str(alloc, path) {
+            Ok(path) => Failure::Compressed {
+                path,
+                offset,
+                fault,
+            },
+            Err(_) => Failure::Memory,
+        }
     }
 
     /// That file isn't made, for that reason.

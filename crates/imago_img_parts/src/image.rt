@@ -2,11 +2,14 @@
 ghost use Rattle.std.specs.Prelude.{◌≡◌, IfOk};
 ghost use Rattle.imago_access.specs.Chain.{driver};
 
-use crate::failure::{Failure, Reason};
+use crate::failure::{ClusterFault, Failure, Reason};
 use crate::host::{FileStatus, Host};
+use crate::streams::{stream_fault_in, unoffered_in};
 use imago_access::access::FormatAccess;
-use imago_copy::runs::{Kind, Run, Runs};
+use imago_any_driver::any::AnyDriver;
+use imago_copy::runs::{Run, Runs};
 use imago_drivers::drivers::FormatDriverInstance;
+use imago_images::file::PathStorage;
 use imago_images::opener::FileImage;
 use imago_storage::error::Error;
 use std::alloc::Global;
@@ -15,48 +18,35 @@ use std::io;
 /// How much of a disk is read at a time, in bytes.
 pub const CHUNK: usize = 1 << 20;
 
-/// Whether a run can be read as it is stored.
-fn is_readable(run: Run) -> bool {
-    !matches!(run.kind, Kind::Special { .. })
-}
-
-/// The runs of a disk. One that can't be read as it is stored is [`Error::Unsupported`].
-pub fn readable_runs<D: FormatDriverInstance>(
+/// The runs of a disk.
+pub fn runs_of<D: FormatDriverInstance>(
     alloc: Global,
     image: &FormatAccess<D>,
 ) -> Result<Vec<Run>, Error> {
     let mut all = Vec::new(alloc);
     let mut runs = Runs::new(image)?;
     while let Some(run) = runs.next_run()? {
-        if !is_readable(run) {
-            return Err(Error::Unsupported);
-        }
         all.push(run)?;
     }
     Ok(all)
 }
 
-/// Refuses a disk of which a run can't be read as it is stored, as [`Error::Unsupported`].
-fn test_runs<D: FormatDriverInstance>(image: &FormatAccess<D>) -> Result<(), Error> {
-    let mut runs = Runs::new(image)?;
-    while let Some(run) = runs.next_run()? {
-        if !is_readable(run) {
-            return Err(Error::Unsupported);
-        }
-    }
-    Ok(())
-}
-
-/// The size in bytes of the disk of an image, which has that path, if all of its runs can be read
-/// as they are stored.
-pub fn readable_size<D: FormatDriverInstance>(
+/// The size in bytes of the disk of an image, which has that path, if each place of it is mapped
+/// and no cluster that shows there is compressed in a way that isn't offered. No cluster is
+/// decoded.
+pub fn readable_size<'a, H: Host>(
     alloc: Global,
     path: &str,
-    image: &FormatAccess<D>,
+    image: &FileImage<'a, H>,
 ) -> Result<u64, Failure>
-    ensures { IfOk result (λ size. size ≡ (D.view (driver image.now)).size) }
+    ensures { IfOk result (λ size. size
+        ≡ (⟦<AnyDriver<PathStorage<'a, H>> as FormatDriverInstance>⟧.view
+        (driver image.now)).size) }
 {
-    Failure::or_image(alloc, path, test_runs(image))?;
+    let unoffered = Failure::or_image(alloc, path, unoffered_in(image))?;
+    if let Some((file, offset)) = unoffered {
+        return Err(Failure::of_cluster(alloc, file, offset, ClusterFault::Zstd));
+    }
     Ok(image.size())
 }
 
@@ -102,7 +92,7 @@ fn refusal_of<'b, H: Host>(image: &'b FileImage<'_, H>) -> Option<(&'b str, io::
 }
 
 /// The first file of an image that wasn't read, and what the host answered.
-pub fn refusal_in<'b, H: Host>(image: &'b FileImage<'_, H>) -> Option<(&'b str, io::Error)> {
+fn refusal_in<'b, H: Host>(image: &'b FileImage<'_, H>) -> Option<(&'b str, io::Error)> {
     let mut layer = Some(image);
     while let Some(here) = layer {
         if let Some(found) = refusal_of(here) {
@@ -114,17 +104,34 @@ pub fn refusal_in<'b, H: Host>(image: &'b FileImage<'_, H>) -> Option<(&'b str, 
 }
 
 /// Why the image of a path wasn't read: by what the host answered for one of its files, where it
-/// refused to read that.
-pub fn not_read(
+/// refused to read that, or by its first compressed cluster that can't be decoded.
+pub fn not_read<H: Host>(
     alloc: Global,
     path: &str,
-    refusal: Option<(&str, io::Error)>,
+    image: &FileImage<'_, H>,
     cause: Error,
 ) -> Failure {
-    match refusal {
-        Some((file, answer)) if cause == Error::Device => {
-            Failure::of_file(alloc, file, Reason::System(answer))
+    if let Some(why) = known_cause(alloc, image, cause) {
+        return why;
+    }
+    Failure::of_file(alloc, path, Reason::Image(cause))
+}
+
+/// Why an image wasn't read, where that is known of one of its files.
+pub fn known_cause<H: Host>(
+    alloc: Global,
+    image: &FileImage<'_, H>,
+    cause: Error,
+) -> Option<Failure> {
+    match cause {
+        Error::Device => {
+            let (file, answer) = refusal_in(image)?;
+            Some(Failure::of_file(alloc, file, Reason::System(answer)))
         }
-        _ => Failure::of_file(alloc, path, Reason::Image(cause)),
+        Error::InvalidData => {
+            let (file, offset, fault) = stream_fault_in(alloc, image)?;
+            Some(Failure::of_cluster(alloc, file, offset, fault))
+        }
+        _ => None,
     }
 }

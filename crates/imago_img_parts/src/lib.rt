@@ -23,4 +23,5 @@ mod map;
 mod progress;
 mod qcow2_info;
 pub mod run;
+mod streams;
 pub mod system;

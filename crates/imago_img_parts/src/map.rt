@@ -3,13 +3,14 @@ ghost use Rattle.std.specs.Prelude.{◌≡◌, ◌<◌, ◌≤◌, ◌++◌, OnO
 ghost use Rattle.std.specs.Fmt.{decimal};
 ghost use Rattle.std.specs.Io.KnownBytes.{Appends};
 ghost use Rattle.imago_img_parts.specs.Lines.{column, line as line_text, place as place_text};
-ghost use Rattle.imago_img_parts.specs.Lines.{object, kind_members as kind_text};
+ghost use Rattle.imago_img_parts.specs.Lines.{kind_word as kind_text, object};
+ghost use Rattle.imago_img_parts.specs.Lines.{kind_members as kind_members_text};
 ghost use Rattle.imago_img_parts.specs.Lines.{members_in, place_members};
 
 use crate::digits::digits_of;
 use crate::failure::Failure;
 use crate::host::Host;
-use crate::image::readable_runs;
+use crate::image::runs_of;
 use crate::json::quoted;
 use imago_access::access::FormatAccess;
 use imago_copy::runs::{Kind, Run};
@@ -20,14 +21,25 @@ use imago_storage::storage::Storage;
 use std::alloc::{AllocError, Global};
 use std::io::{self, Write};
 
-/// Bytes of a disk that all are data, or all are known to be 0.
+/// What bytes of a disk are.
+#[derive(Clone, Copy)]
+enum LineKind {
+    /// Data, as it stands in a file.
+    Data,
+    /// Known to be 0.
+    Zero,
+    /// Data that is compressed in a file, so that it stands at no offset there.
+    Compressed,
+}
+
+/// Bytes of a disk that all are of one kind.
 #[derive(Clone, Copy)]
 struct Line<'a> {
     /// The first byte's offset on the disk.
     start: u64,
     /// How many bytes there are.
     length: u64,
-    is_data: bool,
+    kind: LineKind,
     /// The depth of the layer that has them.
     depth: usize,
     /// The file that they stand in, as it is printed, and from which offset on; or none.
@@ -50,8 +62,9 @@ struct NamedFile<'a> {
     printed: String,
 }
 
-/// Tells where the bytes of the disk of the image of that path stand, and which are zero. Holes of
-/// the files are told as zero.
+/// Tells where the bytes of the disk of the image of that path stand, and which are zero or
+/// compressed. Holes of the files are told as zero. No byte is read, so zeroes that are compressed
+/// are told as compressed.
 pub fn map_image<H: Host, W: Write>(
     host: &H,
     path: &str,
@@ -72,7 +85,7 @@ fn map<H: Host, D: FormatDriverInstance, W: Write>(
     output: &mut W,
 ) -> Result<(), Failure> {
     let alloc = host.alloc();
-    let runs = Failure::or_image(alloc, path, readable_runs(alloc, image))?;
+    let runs = Failure::or_image(alloc, path, runs_of(alloc, image))?;
     let files = files_of(alloc, image, json)?;
     let mut printer = Printer {
         output,
@@ -143,16 +156,32 @@ fn print_runs<H: Host, W: Write>(
                     print_stored(host, file, run, layer, offset, printer)?;
                 }
             }
-            _ => printer.print(Line {
+            Kind::Special { layer, .. } => printer.print(Line {
                 start: run.at,
                 length: run.count,
-                is_data: false,
+                kind: LineKind::Compressed,
+                depth: layer,
+                place: None,
+            })?,
+            Kind::Zero => printer.print(Line {
+                start: run.at,
+                length: run.count,
+                kind: LineKind::Zero,
                 depth: 0,
                 place: None,
             })?,
         }
     }
     printer.end()
+}
+
+/// What bytes of a file are, which stand between its holes or in one.
+fn stored_kind(is_data: bool) -> LineKind {
+    if is_data {
+        LineKind::Data
+    } else {
+        LineKind::Zero
+    }
 }
 
 /// Prints a run of a file: its holes, and what lies between them.
@@ -171,7 +200,7 @@ fn print_stored<H: Host, W: Write>(
         printer.print(Line {
             start: run.at.saturating_add(done),
             length,
-            is_data,
+            kind: stored_kind(is_data),
             depth,
             place: Some((&file.printed, offset)),
         })?;
@@ -239,15 +268,27 @@ fn print_place<W: Write>(output: &mut W, place: Option<(&str, u64)>) -> io::Resu
     output.write_all(file.as_bytes())
 }
 
+/// What a line of columns calls bytes.
+#[tactic(auto, unfolding(crate::specs::Lines::kind_word))]
+fn kind_word(kind: LineKind) -> &'static [u8]
+    ensures { result.now ≡ kind_text kind }
+{
+    match kind {
+        LineKind::Data => b"data",
+        LineKind::Zero => b"zero",
+        LineKind::Compressed => b"compressed",
+    }
+}
+
 /// Prints a run as a line of columns.
 fn print_line<W: Write>(output: &mut W, line: Line<'_>) -> io::Result<()>
     ensures { OnOk result (Appends (W.contents output.old) (W.contents output.new)
-        (line_text line.entry.start line.entry.length line.entry.is_data
+        (line_text line.entry.start line.entry.length line.entry.kind
         (option_map (λ at. (at.0.now, at.1)) line.entry.place))) }
 {
     print_column(output, line.start)?;
     print_column(output, line.length)?;
-    output.write_all(if line.is_data { b"data" } else { b"zero" })?;
+    output.write_all(kind_word(line.kind))?;
     print_place(output, line.place)?;
     output.write_all(b"\n")
 }
@@ -261,15 +302,16 @@ fn print_number<W: Write>(output: &mut W, name: &[u8], number: u64) -> io::Resul
     output.write_all(digits_of(number, &mut [0; 20]))
 }
 
-/// What JSON says of data, or of bytes that are known to be 0.
+/// What JSON says of bytes. Only those that are compressed have the member `compressed`.
 #[tactic(auto, unfolding(crate::specs::Lines::kind_members))]
-fn kind_members(is_data: bool) -> &'static [u8]
-    ensures { result.now ≡ kind_text is_data }
+fn kind_members(kind: LineKind) -> &'static [u8]
+    ensures { result.now ≡ kind_members_text kind }
 {
-    if is_data {
-        b", \"present\": true, \"zero\": false, \"data\": true"
-    } else {
-        b", \"present\": true, \"zero\": true, \"data\": false"
+    match kind {
+        LineKind::Data => b", \"present\": true, \"zero\": false, \"data\": true",
+        LineKind::Zero => b", \"present\": true, \"zero\": true, \"data\": false",
+        LineKind::Compressed =>
+            b", \"present\": true, \"zero\": false, \"data\": true, \"compressed\": true",
     }
 }
 
@@ -298,13 +340,13 @@ fn print_place_members<W: Write>(output: &mut W, place: Option<(&str, u64)>) -> 
 /// Prints a run as a JSON object, with the names that `qemu-img map` has.
 fn print_object<W: Write>(output: &mut W, line: Line<'_>) -> io::Result<()>
     ensures { OnOk result (Appends (W.contents output.old) (W.contents output.new)
-        (object line.entry.start line.entry.length line.entry.depth line.entry.is_data
+        (object line.entry.start line.entry.length line.entry.depth line.entry.kind
         (option_map (λ at. (at.0.now, at.1)) line.entry.place))) }
 {
     print_number(output, b"{ \"start\": ", line.start)?;
     print_number(output, b", \"length\": ", line.length)?;
     print_number(output, b", \"depth\": ", line.depth as u64)?;
-    output.write_all(kind_members(line.is_data))?;
+    output.write_all(kind_members(line.kind))?;
     print_place_members(output, line.place)?;
     output.write_all(b"}")
 }

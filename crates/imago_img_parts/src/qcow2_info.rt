@@ -7,7 +7,7 @@ use crate::json::quoted;
 use imago_access::access::FormatAccess;
 use imago_images::file::PathStorage;
 use imago_images::layer::{open_qcow2, text_of, told_by_host};
-use imago_qcow2::header::Header;
+use imago_qcow2::header::{Compression, Header};
 use imago_qcow2::qcow2::Qcow2;
 use imago_storage::storage::Storage;
 use std::alloc::Global;
@@ -113,6 +113,9 @@ fn report_of<H: Files, S: Storage>(
 pub fn print_qcow2<W: Write>(report: &Qcow2Report, output: &mut W) -> io::Result<()> {
     let (version, cluster) = (report.header.version(), report.header.cluster_size());
     writeln!(output, "version: {version}\ncluster: {cluster} bytes")?;
+    if report.header.compression() == Compression::Zstd {
+        writeln!(output, "compression: zstd")?;
+    }
     print_below(&report.below, output)?;
     for (is_told, name) in &features_of(report.header) {
         if *is_told {
@@ -154,6 +157,9 @@ pub fn print_qcow2_json<W: Write>(
         output,
         ", \"version\": {version}, \"cluster-size\": {cluster}"
     )?;
+    if report.header.compression() == Compression::Zstd {
+        write!(output, ", \"compression-type\": \"zstd\"")?;
+    }
     print_below_json(alloc, &report.below, output)?;
     print_counts_json(report.counts, output)?;
     print_features_json(report.header, output)

@@ -3,6 +3,7 @@
 mod below;
 mod chains;
 mod commands;
+mod compressed;
 mod headers;
 mod opener;
 mod qcow2;

@@ -132,17 +132,10 @@ static ROWS: [Row; 18] = [
     ),
 ];
 
-/// Files that `info` tells of, and what `check` says of them: left open, and with compressed
-/// clusters.
+/// Files that are in order, and what `check` says of them: left open, and with compressed clusters.
 static OPENED: [(Parts, u8, &str); 2] = [
     (&[(79, b"\x01")], 0, "No faults were found.\n"),
-    (
-        COMPRESSED,
-        1,
-        "\"a\": the clusters at 0 to 1024 of the disk are compressed, which isn't supported\n\
-        \"a\": the clusters at 1536 to 2048 of the disk are compressed, which isn't supported\n\
-        2 faults were found.\n",
-    ),
+    (COMPRESSED, 0, "No faults were found.\n"),
 ];
 
 /// What is changed in a header, the version, the lengths of the disk and of a cluster that it then
@@ -309,7 +302,7 @@ fn refused_reads_are_told_by_the_host(rt: HostRuntime) {
 }
 
 #[test]
-fn compressed_clusters_are_faults(rt: HostRuntime) {
+fn dirty_and_compressed_images_are_in_order(rt: HostRuntime) {
     for (parts, status, output) in &OPENED {
         check_changed(&rt, rt.alloc(), parts, "check a", (*status, output, ""));
     }

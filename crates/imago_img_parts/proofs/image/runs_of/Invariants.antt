@@ -1,7 +1,7 @@
 use Rattle.std.proofs.Common.{◌≡◌, ◌-◌}
 use Rattle.imago_access.specs.Chain.{driver}
 use Rattle.imago_copy.specs.RunsOf.{image_of, at_of, IsReady}
-use Rattle.imago_img_parts.proofs.image.readable_runs.Given as goal
+use Rattle.imago_img_parts.proofs.image.runs_of.Given as goal
 
 abbrev pub invariant-loop-all : goal.invariant-loop-all
 invariant-loop-all g l = record {

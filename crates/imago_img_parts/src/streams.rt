@@ -1,0 +1,131 @@
+//! Compressed clusters of an image that can't be read: in which of its files, where, and why.
+//!
+//! An image is looked at again for this once a read of it was refused. So only then does it cost
+//! time.
+
+use crate::failure::ClusterFault;
+use crate::host::Host;
+use imago_access::access::FormatAccess;
+use imago_any_driver::any::AnyDriver;
+use imago_copy::runs::{Kind, Run, Runs};
+use imago_drivers::drivers::FormatDriverInstance;
+use imago_images::file::PathStorage;
+use imago_images::opener::FileImage;
+use imago_qcow2::header::Compression;
+use imago_qcow2::qcow2::Qcow2;
+use imago_storage::error::Error;
+use imago_storage::storage::Storage;
+use std::alloc::Global;
+
+/// The layer of that depth, if the chain goes as far: 0 is the top one.
+fn layer_at<D: FormatDriverInstance>(
+    image: &FormatAccess<D>,
+    depth: usize,
+) -> Option<&FormatAccess<D>> {
+    let mut layer = image;
+    let mut done: usize = 0;
+    while done < depth {
+        match layer.backing() {
+            Some(below) => layer = below,
+            None => return None,
+        }
+        done += 1;
+    }
+    Some(layer)
+}
+
+/// The path of the file that a layer stands in, and its driver, if it is a qcow2 image.
+fn qcow2_in<'b, 'a, H: Host>(
+    layer: &'b FileImage<'a, H>,
+) -> Option<(&'b str, &'b Qcow2<PathStorage<'a, H>>)> {
+    match layer.inner() {
+        AnyDriver::Qcow2(qcow2) => match layer.inner().storage(0) {
+            Some(storage) => Some((storage.file().path(), qcow2)),
+            None => None,
+        },
+        _ => None,
+    }
+}
+
+/// The same of the layer that makes up the bytes of a run.
+fn qcow2_of<'b, 'a, H: Host>(
+    image: &'b FileImage<'a, H>,
+    run: Run,
+) -> Option<(&'b str, &'b Qcow2<PathStorage<'a, H>>)> {
+    match run.kind {
+        Kind::Special { layer, .. } => match layer_at(image, layer) {
+            Some(layer) => qcow2_in(layer),
+            None => None,
+        },
+        _ => None,
+    }
+}
+
+/// Where the cluster of an image begins that has an offset of the disk.
+fn cluster_start<S: Storage>(qcow2: &Qcow2<S>, at: u64) -> u64 {
+    let cluster = qcow2.header().cluster_size();
+    at.checked_rem(cluster).map_or(at, |rest| at - rest)
+}
+
+/// The file that has the first cluster of a disk that is compressed in a way that isn't offered,
+/// and where that cluster begins on the disk, if there is one.
+pub fn unoffered_in<'b, H: Host>(
+    image: &'b FileImage<'_, H>,
+) -> Result<Option<(&'b str, u64)>, Error> {
+    let mut runs = Runs::new(image)?;
+    while let Some(run) = runs.next_run()? {
+        if let Some((path, qcow2)) = qcow2_of(image, run) {
+            if qcow2.header().compression() == Compression::Zstd {
+                return Ok(Some((path, cluster_start(qcow2, run.at))));
+            }
+        }
+    }
+    Ok(None)
+}
+
+/// The first compressed cluster of a disk that can't be decoded: the file that has it, where it
+/// begins on the disk, and its fault. There is none where the disk can't be read for another
+/// reason.
+pub fn stream_fault_in<'b, H: Host>(
+    alloc: Global,
+    image: &'b FileImage<'_, H>,
+) -> Option<(&'b str, u64, ClusterFault)> {
+    let Ok(mut runs) = Runs::new(image) else {
+        return None;
+    };
+    while let Ok(Some(run)) = runs.next_run() {
+        if let Some((path, qcow2)) = qcow2_of(image, run) {
+            if let Some((start, fault)) = fault_in(alloc, qcow2, run) {
+                return Some((path, start, fault));
+            }
+        }
+    }
+    None
+}
+
+/// The first cluster of a run that can't be decoded, and its fault, if there is one.
+fn fault_in<S: Storage>(
+    alloc: Global,
+    qcow2: &Qcow2<S>,
+    run: Run,
+) -> Option<(u64, ClusterFault)> {
+    let cluster = qcow2.header().cluster_size();
+    let end = run.at.saturating_add(run.count);
+    let mut at = cluster_start(qcow2, run.at);
+    while at < end {
+        if let Some(fault) = fault_at(alloc, qcow2, at) {
+            return Some((at, fault));
+        }
+        at = at.saturating_add(cluster.max(1));
+    }
+    None
+}
+
+/// The fault of the stream of the cluster at that offset of the disk, if it is compressed and has
+/// one.
+fn fault_at<S: Storage>(alloc: Global, qcow2: &Qcow2<S>, at: u64) -> Option<ClusterFault> {
+    match qcow2.stream_fault(alloc, at) {
+        Ok(Some(fault)) => Some(ClusterFault::Stream(fault)),
+        _ => None,
+    }
+}
