@@ -642,6 +642,10 @@ impl<S: Storage> FormatDriverInstance for Qcow2<S> {
         }
     }
 
+    fn special_block(&self) -> u64 {
+        self.cluster.length
+    }
+
     fn get_mapping(&self, offset: u64, max_length: u64) -> Result<(ShallowMapping, u64), Error> {
         if offset >= self.header.size {
             return Ok((ShallowMapping::Eof, 0));
