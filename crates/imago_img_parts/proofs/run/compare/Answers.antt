@@ -1,8 +1,13 @@
-use Rattle.imago_img_parts.proofs.Told.{told_apart}
+use Rattle.imago_img_parts.proofs.Told.{told_apart, told_by}
 use Rattle.imago_img_parts.proofs.run.compare.Goals as goal
 
 pub returns : goal.returns
 returns g c =
-    told_apart c.args.how (g.H.Files.contents c.args.host.now) c.args.paths.0.now c.args.paths.1.now
-    c.in_ok-found.found.difference c.is_none.result c.outcome_of.result
-    c.is_none.ensures c.outcome_of.ensures c.in_ok-found.ensures
+    let contents = g.H.Files.contents c.args.host.now in
+    let asked = c.args.asked in
+    told_by c.how_to_open.result _ c.said_format.result _ c.how_to_open.ensures c.said_format.ensures
+    asked.same_size contents asked.first.now asked.second.now c.outcome_of.result
+    (told_apart c.how_to_open.result c.said_format.result asked.same_size contents asked.first.now
+    asked.second.now c.in_ok-found.found.sizes.0 c.in_ok-found.found.sizes.1
+    c.in_ok-found.found.difference c.are_alike.result c.outcome_of.result
+    c.are_alike.ensures c.outcome_of.ensures c.in_ok-found.ensures)
