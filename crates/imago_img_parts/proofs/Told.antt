@@ -1,13 +1,11 @@
 -- The answers to questions, from what the functions that find them say.
-use Rattle.std.proofs.Common.{◌≡◌, ◌≢◌, ◌&&◌, ◌==◌, ◌⊎◌, inl, inr, ℕ, Bool, true, false, not, is_some, List, length, Option, Some, None, Result, IfSome, IfOk, refl, sym, ap, subst, ◌∙◌}
+use Rattle.std.proofs.Common.{◌≡◌, ◌≢◌, ◌&&◌, ◌==◌, inl, inr, ℕ, Bool, true, false, not, is_some, List, Option, Some, None, IfSome, refl, sym, ap, subst, ◌∙◌}
 use Rattle.std.proofs.lemmas.Bool.{eqb-true, eqb-false, false≢true, not-false, not-true}
 use Rattle.std.proofs.lemmas.Option.{IfSome_then}
-use Rattle.imago_drivers.specs.Place.{Value}
-use Rattle.imago_copy.specs.Differences.{IsFirstDifferentValue}
 use Rattle.imago_images.specs.declared.format.ImageFormat.{ImageFormat}
 use Rattle.imago_images.specs.declared.opening.Opening.{Opening}
 use Rattle.imago_img_parts.specs.declared.run.Outcome.{Outcome}
-use Rattle.imago_img_parts.specs.Disks.{AreCompared, ShowsDisk, is_left_out}
+use Rattle.imago_img_parts.specs.Disks.{AreCompared, is_left_out}
 use Rattle.imago_img_parts.specs.Faultless.{IsFaultless}
 use Rattle.imago_img_parts.specs.Commands.{AreToldApart, IsChecked, outcome_when}
 

@@ -58,7 +58,12 @@ pub fn compare_images<H: Host>(
     }
     let (_, right) = open_image(host, second, said_of_second(how, other))?;
     let other_size = readable_size(alloc, second, &right)?;
-    match compared(alloc, &left, &right, leaves_out(same_size, size, other_size)) {
+    match compared(
+        alloc,
+        &left,
+        &right,
+        leaves_out(same_size, size, other_size),
+    ) {
         Ok(difference) => Ok(Comparison {
             sizes: (size, other_size),
             difference,

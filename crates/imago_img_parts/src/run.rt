@@ -121,7 +121,14 @@ fn convert<H: Host, E: Write>(host: &mut H, asked: Convert<'_>, errors: &mut E) 
         (H.around host.new) result }
 {
     let how = how_to_open(asked.source_format, asked.opening);
-    match convert_image(host, asked.source, asked.target, how, asked.force, !asked.quiet) {
+    match convert_image(
+        host,
+        asked.source,
+        asked.target,
+        how,
+        asked.force,
+        !asked.quiet,
+    ) {
         Ok(()) => 0,
         Err(refused) => tell(refused, errors, 1),
     }
@@ -214,16 +221,19 @@ fn describe<H: Host, W: Write, E: Write>(
     ensures { IfOk result (λ outcome. outcome ≡ Fine) }
 {
     let how = how_to_open(asked.format, asked.opening);
-    info(host, asked.file, how, asked.output == Output::Json, output, errors)?;
+    info(
+        host,
+        asked.file,
+        how,
+        asked.output == Output::Json,
+        output,
+        errors,
+    )?;
     Ok(Outcome::Fine)
 }
 
 /// Tells where the bytes of an image's disk stand.
-fn list<H: Host, W: Write>(
-    host: &H,
-    asked: Map<'_>,
-    output: &mut W,
-) -> Result<Outcome, Failure>
+fn list<H: Host, W: Write>(host: &H, asked: Map<'_>, output: &mut W) -> Result<Outcome, Failure>
     ensures { IfOk result (λ outcome. outcome ≡ Fine) }
 {
     let how = how_to_open(asked.format, asked.opening);
@@ -287,11 +297,7 @@ fn are_alike(found: Comparison, same_size: bool) -> bool
 }
 
 /// Tells the first offset at which two images differ, or that they don't.
-fn tell_difference<W: Write>(
-    found: Comparison,
-    same_size: bool,
-    output: &mut W,
-) -> io::Result<()> {
+fn tell_difference<W: Write>(found: Comparison, same_size: bool, output: &mut W) -> io::Result<()> {
     let (one, other) = found.sizes;
     if leaves_out(same_size, one, other) {
         return writeln!(output, "The sizes differ: {one} and {other} bytes.");

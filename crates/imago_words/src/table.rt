@@ -124,7 +124,10 @@ const VERSION: Row = flag!("version", "V", "version", "Print the version");
 
 const OBJECT: Absent = absent!("--object", "encrypted images aren't read");
 
-const IMAGE_OPTS: Absent = absent!("--image-opts", "name the file by its path, and its format by -f");
+const IMAGE_OPTS: Absent = absent!(
+    "--image-opts",
+    "name the file by its path, and its format by -f"
+);
 
 /// The commands that work.
 pub static TABLE: Table = Table {
@@ -197,7 +200,12 @@ pub static TABLE: Table = Table {
                 "raw, vmdk or qcow2",
                 "The format of the second image"
             ),
-            flag!("same-size", "s", "", "Disks of different sizes are different"),
+            flag!(
+                "same-size",
+                "s",
+                "",
+                "Disks of different sizes are different"
+            ),
             PROGRESS,
             QUIET,
             SHARE,
@@ -221,12 +229,7 @@ pub static TABLE: Table = Table {
         rows: &[
             SOURCE_FORMAT,
             valued!("target-format", "O", "", "FMT", "raw", "The format of OUT"),
-            flag!(
-                "force",
-                "",
-                "force",
-                "Replace OUT if it exists"
-            ),
+            flag!("force", "", "force", "Replace OUT if it exists"),
             PROGRESS,
             QUIET,
             SHARE,
@@ -244,7 +247,10 @@ pub static TABLE: Table = Table {
         ],
         absent: &[
             absent!("-n", "not yet; OUT is made anew, or replaced with --force"),
-            absent!("-S", "not yet; what is zero in blocks of 4096 bytes is a hole of OUT"),
+            absent!(
+                "-S",
+                "not yet; what is zero in blocks of 4096 bytes is a hole of OUT"
+            ),
             absent!("-c", "OUT is raw, which isn't compressed"),
             absent!("-o", "OUT is raw, which has no options"),
             absent!("-l", "snapshots aren't read; the disk is read as it is now"),
@@ -255,7 +261,10 @@ pub static TABLE: Table = Table {
                 "--format",
                 "-f takes the format of FILE, and -O that of OUT"
             ),
-            absent!("--target-image-opts", "name OUT by its path, and its format by -O"),
+            absent!(
+                "--target-image-opts",
+                "name OUT by its path, and its format by -O"
+            ),
             absent!("--target-is-zero", "every byte of OUT gets its value"),
             absent!("--salvage", "a byte that can't be read ends convert"),
             absent!("--bitmaps", "OUT is raw, which has no bitmaps"),

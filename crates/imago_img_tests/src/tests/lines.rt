@@ -314,7 +314,9 @@ impl Write for Broken {
 fn check_unwritten(rt: &impl Abort, alloc: Global, line: &str, wanted: u8) {
     let (made, list) = (files(alloc), words_of(alloc, line));
     assert!(rt; made.is_ok() && list.is_ok(), "{line}");
-    let (Ok(mut host), Ok(list)) = (made, list) else { return };
+    let (Ok(mut host), Ok(list)) = (made, list) else {
+        return
+    };
     let mut errors = Vec::new(alloc);
     let status = run(&mut host, &list, &mut Broken, &mut errors);
     assert_eq!(rt; status, wanted, "{line}");
