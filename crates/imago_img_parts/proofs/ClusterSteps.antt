@@ -1,5 +1,5 @@
 -- Runs of clusters, one after the other.
-use Rattle.std.proofs.Common.{◌≡◌, ℕ, zero, suc, ◌+◌, ◌^◌, ◌<◌, ◌≤◌, ◌⊎◌, inl, inr, List, [], ◌∷◌, ◌++◌, length, max, refl, sym, ap, subst, ◌∙◌, arith, ◌-◌, ◌/◌, ◌%◌, ⊎_elim}
+use Rattle.std.proofs.Common.{◌≡◌, true, ℕ, zero, suc, ◌+◌, ◌^◌, ◌<◌, ◌≤◌, ◌⊎◌, inl, inr, List, [], ◌∷◌, ◌++◌, length, max, refl, sym, ap, subst, ◌∙◌, arith, ◌-◌, ◌/◌, ◌%◌, ⊎_elim}
 use Rattle.std.specs.Prelude.{slice_index_or}
 use Rattle.std.specs.List.{Contains}
 use Rattle.std.specs.List.Sorted.{IsPermutation}
@@ -11,8 +11,9 @@ use Rattle.imago_drivers.specs.Mapping.{IsRight}
 use Rattle.imago_drivers.specs.Place.{Value, Place, Stored, Zeroed, Special, Lower, Refused, End}
 use Rattle.imago_qcow2.specs.declared.entry.GuestCluster.{GuestCluster}
 use Rattle.imago_qcow2.specs.declared.entry.GuestCluster.TheVariants as C
-use Rattle.imago_qcow2.specs.Entry.{cluster_length, cluster_of, disk_size, place_by, qcow2_place}
-use Rattle.imago_qcow2.specs.Qcow2Laws.{place_in}
+use Rattle.imago_qcow2.specs.Entry.{cluster_length, cluster_of, disk_of, disk_size, place_by, qcow2_place}
+use Rattle.imago_qcow2.specs.Qcow2Laws.{packed_of, place_in}
+use Rattle.imago_qcow2.proofs.MapSteps.{same_block}
 use Rattle.imago_img_parts.specs.declared.clusters.ClusterKind.{ClusterKind}
 use Rattle.imago_img_parts.specs.declared.clusters.ClusterKind.TheVariants as Kind
 use Rattle.imago_img_parts.specs.declared.clusters.ClusterRun.{ClusterRun}
@@ -311,7 +312,7 @@ module _ (bytes : List ℕ) (file at count : ℕ) where
       → IsStreamIn file (cluster_length bytes)
       (cluster_of bytes ((at + i) / cluster_length bytes))
   no_streams i within other =
-      stream_by file (cluster_length bytes) _ bytes _ _ _
+      stream_by file (cluster_length bytes) (packed_of true bytes (disk_of bytes)) bytes _ _ _
       (λ v o e. other v o (place_in bytes (at + i) within ∙ e))
 
   pub streams_of : (kind : ClusterKind) → AreOfKind (qcow2_place bytes) at count kind

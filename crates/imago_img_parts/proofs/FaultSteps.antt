@@ -1,12 +1,13 @@
 -- What a check that found no fault says of the files of an image.
-use Rattle.std.proofs.Common.{◌≡◌, ℕ, Bool, not, List, ◌∷◌, map, length, Option, Some, None, Result, Ok, Err, IfOk, IfSome, String, Global, string_bytes, refl, sym, ap, subst, ◌∙◌}
+use Rattle.std.proofs.Common.{◌≡◌, ℕ, ◌+◌, ◌-◌, ◌/◌, ◌%◌, ◌<◌, ◌≤◌, ◌⊎◌, arith, Bool, not, List, ◌∷◌, map, length, Option, Some, None, Result, Ok, Err, IfOk, IfSome, String, Global, IsTrue, string_bytes, refl, sym, ap, subst, ◌∙◌}
 use Rattle.imago_storage.specs.Features.{Features}
 use Rattle.std.specs.Prelude.{MatchResult, is_ok, IsErr}
 use Rattle.std.specs.declared.vec.Vec.{Vec}
 use Rattle.std.proofs.lemmas.Bool.{false≢true}
 use Rattle.imago_images.proofs.NameSteps.{passed_on}
 use Rattle.imago_qcow2.specs.declared.qcow2.Qcow2.{Qcow2}
-use Rattle.imago_qcow2.specs.Qcow2Image.{storage_in, loaded_in}
+use Rattle.imago_qcow2.specs.Qcow2Image.{storage_in, header_in, loaded_in}
+use Rattle.imago_qcow2.specs.Tables.{header_cluster}
 use Rattle.imago_qcow2.specs.Qcow2.{loaded_view}
 use Rattle.imago_drivers.specs.View.{View}
 use Rattle.imago_drivers.specs.Place.{Place, Stored, Zeroed, Special, Lower, Refused, End}
@@ -20,10 +21,12 @@ use Rattle.imago_images.specs.declared.format.ImageFormat.{ImageFormat}
 use Rattle.imago_images.specs.declared.opening.OtherFiles.{OtherFiles}
 use Rattle.imago_images.specs.Formats.{IsFormatBy}
 use Rattle.imago_images.specs.HostBytes.{HasBytes}
+use Rattle.imago_img_parts.specs.declared.clusters.ClusterKind.{ClusterKind}
+use Rattle.imago_img_parts.specs.declared.clusters.ClusterKind.TheVariants as Kind
 use Rattle.imago_img_parts.specs.declared.clusters.ClusterRun.{ClusterRun}
-use Rattle.imago_img_parts.specs.ClusterRuns.{AreInFile, StandsIn, IsTold, AreTold, AreFaultless, HoldStreams}
-use Rattle.imago_img_parts.specs.Faultless.{IsHeld, AreHeld, IsReadable, StandsAt, HasSoundTables, IsFaultlessAs, IsFaultless}
-use Rattle.imago_img_parts.proofs.ClusterSteps.{stands_inside, stands_once}
+use Rattle.imago_img_parts.specs.ClusterRuns.{AreOfKind, AreInFile, StandsIn, IsTold, AreTold, AreFaultless, AreStreamsIn, HoldStreams}
+use Rattle.imago_img_parts.specs.Faultless.{IsHeld, AreHeld, IsReadable, IsStreamIn, StandsAt, HasSoundTables, IsFaultlessAs, IsFaultless}
+use Rattle.imago_img_parts.proofs.ClusterSteps.{stands_inside, stands_once, streams_of, one_stream}
 
 -- what was given is passed on, where the error alone is another
 pub mapped : {X E F : Type 0} (answer : Result X E) (r : Result X F) (x : X) (P : X → Type 0)
@@ -58,6 +61,88 @@ runs_of_bytes {S} {E} {g} {h} features stored d e bytes r is size place told =
     let sized = subst (λ (n : ℕ). IfOk r (λ runs.
     AreTold (view_by features stored e).place n runs.items)) size now in
     subst (λ (at : ℕ → Place). IfOk r (λ runs. AreTold at (disk_size bytes) runs.items)) place sized
+
+-- and so are the streams that they hold
+pub streams_of_bytes : {S E : Type 0} {g : _} {h : _} (features : S → Features)
+    (stored : S → List ℕ) (d e : Qcow2 S g h) (bytes : List ℕ) (file : ℕ)
+    (r : Result (Vec ClusterRun Global) E) → d ≡ e → stored (storage_in e) ≡ bytes
+    → (view_by features stored e).size ≡ disk_size bytes
+    → (IsTrue (features (storage_in d)).tells_bytes → IfOk r (λ runs.
+    HoldStreams (cluster_of (stored (storage_in d))) (cluster_length (stored (storage_in d))) file
+    (view_by features stored d).size runs.items))
+    → IsTrue (features (storage_in e)).tells_bytes
+    → IfOk r (λ runs. HoldStreams (cluster_of bytes) (cluster_length bytes) file (disk_size bytes)
+    runs.items)
+streams_of_bytes {S} {E} {g} {h} features stored d e bytes file r is same size held tells =
+    let now = subst (λ (x : Qcow2 S g h). IsTrue (features (storage_in x)).tells_bytes
+    → IfOk r (λ runs. HoldStreams (cluster_of (stored (storage_in x)))
+    (cluster_length (stored (storage_in x))) file (view_by features stored x).size runs.items))
+    is held tells in
+    let sized = subst (λ (n : ℕ). IfOk r (λ runs.
+    HoldStreams (cluster_of (stored (storage_in e))) (cluster_length (stored (storage_in e))) file
+    n runs.items)) size now in
+    subst (λ (b : List ℕ). IfOk r (λ runs.
+    HoldStreams (cluster_of b) (cluster_length b) file (disk_size bytes) runs.items)) same sized
+
+-- the streams of clusters from an offset on, by two names of their driver
+module _ {S : Type 0} {g : _} {h : _} (features : S → Features) (stored : S → List ℕ)
+    (d e : Qcow2 S g h) (is : d ≡ e) (file at : ℕ) where
+  -- other clusters than compressed ones have none
+  pub other_streams : (count most : ℕ) (kind : ClusterKind)
+      → AreOfKind (view_by features stored e).place at count kind → count ≤ most
+      → at + most ≤ (view_by features stored e).size
+      → (IsTrue (features (storage_in d)).tells_bytes
+      → (view_by features stored d).size ≡ disk_size (stored (storage_in d)))
+      → (IsTrue (features (storage_in d)).tells_bytes
+      → (view_by features stored d).place ≡ qcow2_place (stored (storage_in d)))
+      → (kind ≡ Kind.Compressed → ⊥) → IsTrue (features (storage_in e)).tells_bytes
+      → AreStreamsIn (cluster_of (stored (storage_in e))) (cluster_length (stored (storage_in e)))
+      file at count kind
+  other_streams count most kind are within inside size place other tells =
+      let known : IsTrue (features (storage_in d)).tells_bytes =
+      subst (λ (x : Qcow2 S g h). IsTrue (features (storage_in x)).tells_bytes) (sym is) tells in
+      let sized : (view_by features stored e).size ≡ disk_size (stored (storage_in e)) =
+      subst (λ (x : Qcow2 S g h). (view_by features stored x).size
+      ≡ disk_size (stored (storage_in x))) is (size known) in
+      let placed : (view_by features stored e).place ≡ qcow2_place (stored (storage_in e)) =
+      subst (λ (x : Qcow2 S g h). (view_by features stored x).place
+      ≡ qcow2_place (stored (storage_in x))) is (place known) in
+      streams_of (stored (storage_in e)) file at count kind
+      (subst (λ (p : ℕ → Place). AreOfKind p at count kind) placed are)
+      (omega (arith, within, inside, sized)) other
+
+  -- a compressed one has that of its first byte
+  pub packed_streams : (count cluster : ℕ) (kind : ClusterKind)
+      → cluster ≡ header_cluster (header_in d) → 0 < cluster → count ≤ cluster - at % cluster
+      → at < (view_by features stored e).size
+      → (IsTrue (features (storage_in d)).tells_bytes
+      → (view_by features stored d).size ≡ disk_size (stored (storage_in d)))
+      → (IsTrue (features (storage_in d)).tells_bytes
+      → header_cluster (header_in d) ≡ cluster_length (stored (storage_in d)))
+      → (kind ≡ Kind.Compressed) ⊎ (kind ≡ Kind.Cut)
+      → (IsTrue (features (storage_in d)).tells_bytes → at < disk_size (stored (storage_in d))
+      → kind ≡ Kind.Compressed → IsStreamIn file (cluster_length (stored (storage_in d)))
+      (cluster_of (stored (storage_in d)) (at / cluster_length (stored (storage_in d)))))
+      → IsTrue (features (storage_in e)).tells_bytes
+      → AreStreamsIn (cluster_of (stored (storage_in e))) (cluster_length (stored (storage_in e)))
+      file at count kind
+  packed_streams count cluster kind by some short below size told either held tells =
+      let known : IsTrue (features (storage_in d)).tells_bytes =
+      subst (λ (x : Qcow2 S g h). IsTrue (features (storage_in x)).tells_bytes) (sym is) tells in
+      let before : at < (view_by features stored d).size =
+      subst (λ (x : Qcow2 S g h). at < (view_by features stored x).size) (sym is) below in
+      let sized : (view_by features stored d).size ≡ disk_size (stored (storage_in d)) =
+      size known in
+      let within : at < disk_size (stored (storage_in d)) = omega (arith, before, sized) in
+      let length_is : cluster ≡ cluster_length (stored (storage_in d)) = by ∙ told known in
+      let positive : 0 < cluster_length (stored (storage_in d)) = omega (arith, some, length_is) in
+      let near : count ≤ cluster_length (stored (storage_in d))
+      - at % cluster_length (stored (storage_in d)) =
+      subst (λ (n : ℕ). count ≤ n - at % n) length_is short in
+      subst (λ (x : Qcow2 S g h). AreStreamsIn (cluster_of (stored (storage_in x)))
+      (cluster_length (stored (storage_in x))) file at count kind) is
+      (one_stream (cluster_of (stored (storage_in d))) (cluster_length (stored (storage_in d)))
+      file at count kind positive near either (held known within))
 
 -- a place that runs tell which a file holds can be read there
 readable_told : (file : ℕ) (runs : List ClusterRun) (p : ℕ) (place : Place) → AreInFile file runs

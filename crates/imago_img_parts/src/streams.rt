@@ -104,11 +104,7 @@ pub fn stream_fault_in<'b, H: Host>(
 }
 
 /// The first cluster of a run that can't be decoded, and its fault, if there is one.
-fn fault_in<S: Storage>(
-    alloc: Global,
-    qcow2: &Qcow2<S>,
-    run: Run,
-) -> Option<(u64, ClusterFault)> {
+fn fault_in<S: Storage>(alloc: Global, qcow2: &Qcow2<S>, run: Run) -> Option<(u64, ClusterFault)> {
     let cluster = qcow2.header().cluster_size();
     let end = run.at.saturating_add(run.count);
     let mut at = cluster_start(qcow2, run.at);

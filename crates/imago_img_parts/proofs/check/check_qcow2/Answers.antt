@@ -2,12 +2,12 @@ use Rattle.std.proofs.Common.{◌≡◌, List, Ok, IfSome, length, subst}
 use Rattle.std.proofs.lemmas.Result.{IfOk-weaker}
 use Rattle.imago_qcow2.specs.declared.header.Header.{Header}
 use Rattle.imago_qcow2.specs.Header.{header_of}
-use Rattle.imago_qcow2.specs.Entry.{disk_size, qcow2_place}
+use Rattle.imago_qcow2.specs.Entry.{cluster_length, cluster_of, disk_size, qcow2_place}
 use Rattle.imago_images.specs.declared.format.ImageFormat.TheVariants as Of
 use Rattle.imago_images.proofs.NameSteps.{passed_on}
 use Rattle.imago_images.proofs.PathSteps.{features_of, bytes_of}
 use Rattle.imago_img_parts.specs.declared.clusters.ClusterRun.{ClusterRun}
-use Rattle.imago_img_parts.specs.ClusterRuns.{AreTold, AreFaultless}
+use Rattle.imago_img_parts.specs.ClusterRuns.{AreTold, AreFaultless, HoldStreams}
 use Rattle.imago_img_parts.specs.Faultless.{IsFaultlessAs}
 use Rattle.imago_img_parts.proofs.FaultSteps.{qcow2_faultless}
 use Rattle.imago_img_parts.proofs.check.check_qcow2.Goals as goal
@@ -32,6 +32,10 @@ returns-in-Ok g c =
     (λ bytes has. passed_on c.runs_of-found.result c.told_by_host.result c.in-Ok.runs
     (λ runs. AreTold (qcow2_place bytes) (disk_size bytes) runs.items)
     (c.runs_of-found.ensures.told bytes has) c.told_by_host.ensures c.in-Ok.is)
+    (λ bytes has. passed_on c.runs_of-found.result c.told_by_host.result c.in-Ok.runs
+    (λ runs. HoldStreams (cluster_of bytes) (cluster_length bytes) c.in_ok-length.length
+    (disk_size bytes) runs.items)
+    (c.runs_of-found.ensures.streams bytes has) c.told_by_host.ensures c.in-Ok.is)
     (subst (λ (runs : List ClusterRun). AreFaultless c.in_ok-length.length runs)
     c.deref.ensures.value (found zero))
     c.requires)

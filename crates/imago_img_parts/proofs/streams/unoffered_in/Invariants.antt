@@ -10,9 +10,9 @@ abbrev pub invariant-loop-run : goal.invariant-loop-run
 invariant-loop-run g l =
     let view = view_over (features_of g.H.Files.contents g.H.File.HostFile.contents) faults_of
     (bytes_of g.H.Files.contents g.H.File.HostFile.contents) in record {
-  image : image_of l.runs ≡ l.image;
-  ready : IsReady view l.runs;
-}
+      image : image_of l.runs ≡ l.image;
+      ready : IsReady view l.runs;
+    }
 
 abbrev pub decreases-loop-run : goal.decreases-loop-run
 decreases-loop-run g l =
