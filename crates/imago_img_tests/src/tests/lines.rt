@@ -130,7 +130,8 @@ static REFUSED: [Row; 22] = [
         "copy a.bin",
         1,
         "",
-        "imago-img: \"copy\" isn't a command of imago-img; see imago-img --help\n",
+        "imago-img: \"copy\" isn't a command of imago-img (did you mean compare?); see imago-img \
+         --help\n",
     ),
     (
         "convrt plain.raw out.raw",
@@ -176,8 +177,8 @@ static REFUSED: [Row; 22] = [
         "info --force a.bin",
         1,
         "",
-        "imago-img: info has no option \"--force\" (did you mean --format?); see imago-img info \
-         --help\n",
+        "imago-img: info has no option \"--force\" (did you mean --force-share?); see imago-img \
+         info --help\n",
     ),
     (
         "check --json a.bin",
@@ -298,6 +299,7 @@ fn check_row(rt: &impl Abort, alloc: Global, row: &Row) {
 }
 
 /// An output that can't be written.
+#[derive(Drop)]
 struct Broken;
 
 impl Write for Broken {
