@@ -1,6 +1,7 @@
 //! Command lines, computed from their words on. Nothing calls these functions: their contracts are
 //! what is proved.
-ghost use Rattle.std.specs.Prelude.{◌≡◌, ◌∷◌, [], IfErr, IfOk, IsErr, codes, map, string_bytes, true};
+ghost use Rattle.std.specs.Prelude.{◌≡◌, ◌∷◌, [], IfErr, IfOk, IsErr, codes, map, string_bytes};
+ghost use Rattle.std.specs.Prelude.{true};
 ghost use Rattle.imago_words.specs.declared.fault.Fault.TheVariants.{Memory};
 ghost use Rattle.imago_words.specs.Laws.{IsWorked, options_differ, refused_line, worked_line};
 ghost use Rattle.imago_words.specs.Line.{status_of};
