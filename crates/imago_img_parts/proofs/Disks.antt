@@ -1,5 +1,5 @@
 -- The disks of opened images, and what is made of them.
-use Rattle.std.proofs.Common.{◌≡◌, ℕ, ◌+◌, ◌-◌, inl, inr, Bool, true, false, List, [], Option, Some, None, Result, Ok, Err, length, OnOk, IsOk, IfSome, IsTrue, refl, sym, ap, subst, ◌∙◌, arith}
+use Rattle.std.proofs.Common.{◌≡◌, ℕ, ◌+◌, ◌-◌, inl, inr, Bool, false, List, [], Option, Some, None, Result, Ok, Err, length, OnOk, IsOk, IfSome, IsTrue, refl, sym, ap, subst, ◌∙◌, arith}
 use Rattle.std.specs.Prelude.{option_map}
 use Rattle.std.proofs.lemmas.Bool.{false≢true}
 use Rattle.std.proofs.lemmas.Option.{same_Some}
@@ -21,7 +21,7 @@ use Rattle.imago_images.specs.declared.format.ImageFormat.TheVariants.{Raw, Vmdk
 use Rattle.imago_images.specs.Images.{AreLayers, IsImageIn}
 use Rattle.imago_images.proofs.NameAlike.{raw_alike, image_alike}
 use Rattle.imago_img_parts.specs.Files.{Around, begun, ended, with_file, IsMade, IsWhole}
-use Rattle.imago_img_parts.specs.Disks.{ShowsDisk, HasSize, IsDiskAppended, IsConverted, NamesStandAlike, ArePathsOfOne, AreCompared}
+use Rattle.imago_img_parts.specs.Disks.{ShowsDisk, HasSize, IsDiskAppended, IsConverted, NamesStandAlike, ArePathsOfOne, AreCompared, is_left_out}
 
 -- a file has one format by what is said
 one_format :
@@ -78,26 +78,6 @@ module _ {D St : Type 0} (view : D → View St) (strict : Bool) (others : OtherF
       let shown : ShowsDisk strict others said files path (disk view x) = shows_disk files path format x by image in
       (bytes, subst (λ (d : List Value). ShowsDisk strict others said files path d) is shown, then)
 
-  -- the disks of two opened images were compared
-  pub compared_disks :
-      (known : Option (List ℕ → List ℕ)) (first second : List ℕ) (f g : ImageFormat)
-      (x y : FormatAccess D) (found : Option ℕ)
-      → IfSome known (λ files. IsFormatBy said (files first) f)
-      → IfSome known (λ files. IsImageIn view strict others files first f x)
-      → IfSome known (λ files. IsFormatBy said (files second) g)
-      → IfSome known (λ files. IsImageIn view strict others files second g y)
-      → (IsTrue (tells_bytes view x) → IsTrue (tells_bytes view y)
-      → IsFirstDifferentValue (disk view x) (disk view y) found)
-      → IfSome known (λ files. AreCompared strict others said files first second found)
-  compared_disks None first second f g x y found a b c d h = tt
-  compared_disks (Some files) first second f g x y found a b c d h = (
-    disk view x,
-    disk view y,
-    shows_disk files first f x a b,
-    shows_disk files second g y c d,
-    h b.2.0 d.2.0,
-  )
-
   -- an image shows the same under another path of it
   under_both :
       (files : List ℕ → List ℕ) (first second : List ℕ) (f : ImageFormat) (d : List Value)
@@ -121,22 +101,68 @@ module _ {D St : Type 0} (view : D → View St) (strict : Bool) (others : OtherF
       layers_alike Vmdk alike are = image_alike files first second same alike strict others Vmdk layers are
       layers_alike Qcow2 alike are = image_alike files first second same alike strict others Qcow2 layers are
 
+-- the length of a disk
+disk_length : {D St : Type 0} (view : D → View St) (x : FormatAccess D) (size : ℕ)
+    → size ≡ (view (driver x)).size → size ≡ length (disk view x)
+disk_length view x size e =
+    e ∙ sym (length-map-range_with_len (disk_value view x) 0 (view (driver x)).size)
+
+module _ {D St : Type 0} (view : D → View St) (strict : Bool) (others : OtherFiles)
+    (said other : Option ImageFormat) (same_size : Bool) where
+  -- the disks of two opened images were compared
+  pub compared_disks :
+      (strict2 : Bool) (others2 : OtherFiles) (said2 : Option ImageFormat)
+      → strict2 ≡ strict → others2 ≡ others → said2 ≡ other
+      → (known : Option (List ℕ → List ℕ)) (first second : List ℕ) (f g : ImageFormat)
+      (x y : FormatAccess D) (size other_size : ℕ) (skips : Bool) (found : Option ℕ)
+      → size ≡ (view (driver x)).size → other_size ≡ (view (driver y)).size
+      → skips ≡ is_left_out same_size size other_size
+      → IfSome known (λ files. IsFormatBy said (files first) f)
+      → IfSome known (λ files. IsImageIn view strict others files first f x)
+      → IfSome known (λ files. IsFormatBy said2 (files second) g)
+      → IfSome known (λ files. IsImageIn view strict2 others2 files second g y)
+      → (skips ≡ false → IsTrue (tells_bytes view x) → IsTrue (tells_bytes view y)
+      → IsFirstDifferentValue (disk view x) (disk view y) found)
+      → IfSome known (λ files. AreCompared strict others said other same_size files first second
+      size other_size found)
+  compared_disks strict2 others2 said2 u v w None first second f g x y size other_size skips found p q r a b c d h = tt
+  compared_disks strict2 others2 said2 u v w (Some files) first second f g x y size other_size skips found p q r a b c d h =
+      let shown : ShowsDisk strict2 others2 said2 files second (disk view y) = shows_disk view strict2 others2 said2 files second g y c d in
+      let one : ShowsDisk strict others2 said2 files second (disk view y) =
+      subst (λ (s : Bool). ShowsDisk s others2 said2 files second (disk view y)) u shown in
+      let two : ShowsDisk strict others said2 files second (disk view y) =
+      subst (λ (o : OtherFiles). ShowsDisk strict o said2 files second (disk view y)) v one in (
+        disk view x,
+        disk view y,
+        shows_disk view strict others said files first f x a b,
+        subst (λ (i : Option ImageFormat). ShowsDisk strict others i files second (disk view y)) w two,
+        disk_length view x size p,
+        disk_length view y other_size q,
+        λ e. h (r ∙ e) b.2.0 d.2.0,
+      )
+
   -- an image and itself are the same
   pub compared_same :
       (known : Option (List ℕ → List ℕ)) (first second : List ℕ) (f : ImageFormat)
-      (x : FormatAccess D) → IfSome known (λ files. ArePathsOfOne files first second f)
+      (x : FormatAccess D) (size : ℕ) → size ≡ (view (driver x)).size → said ≡ other
+      → IfSome known (λ files. ArePathsOfOne files first second f)
       → IfSome known (λ files. IsFormatBy said (files first) f)
       → IfSome known (λ files. IsImageIn view strict others files first f x)
-      → IfSome known (λ files. AreCompared strict others said files first second None)
-  compared_same None first second f x one a b = tt
-  compared_same (Some files) first second f x one a (layers, are, shown) =
+      → IfSome known (λ files. AreCompared strict others said other same_size files first second
+      size size None)
+  compared_same None first second f x size e w one a b = tt
+  compared_same (Some files) first second f x size e w one a (layers, are, shown) =
       let shows : disk view x ≡ values_from (layers_value layers) 0 (size_by strict f (files first)) =
-      same_listed (layers_value layers) (disk_value view x) _ _ shown.1 shown.2 in (
+      same_listed (layers_value layers) (disk_value view x) _ _ shown.1 shown.2 in
+      let under : ShowsDisk strict others said files second (disk view x) =
+      under_both view strict others said files first second f (disk view x) layers one a are shows in (
         disk view x,
         disk view x,
         (f, layers, a, are, shows),
-        under_both files first second f (disk view x) layers one a are shows,
-        λ k. refl,
+        subst (λ (i : Option ImageFormat). ShowsDisk strict others i files second (disk view x)) w under,
+        disk_length view x size e,
+        disk_length view x size e,
+        λ _ k. refl,
       )
 
 -- what is so where a call succeeded that did

@@ -1,68 +1,86 @@
 -- The answers to questions, from what the functions that find them say.
-use Rattle.std.proofs.Common.{◌≡◌, ℕ, Bool, true, false, not, is_some, List, Option, Some, None, Result, IfSome, IfOk, Bor, refl, sym, ap, subst, ◌∙◌}
+use Rattle.std.proofs.Common.{◌≡◌, ◌≢◌, ◌&&◌, ◌==◌, inl, inr, ℕ, Bool, true, false, not, is_some, List, Option, Some, None, IfSome, refl, sym, ap, subst, ◌∙◌}
+use Rattle.std.proofs.lemmas.Bool.{eqb-true, eqb-false, false≢true, not-false, not-true}
 use Rattle.std.proofs.lemmas.Option.{IfSome_then}
+use Rattle.imago_images.specs.declared.format.ImageFormat.{ImageFormat}
 use Rattle.imago_images.specs.declared.opening.Opening.{Opening}
-use Rattle.imago_img_parts.specs.declared.command.Question.{Question}
-use Rattle.imago_img_parts.specs.declared.command.Question.TheVariants as Q
 use Rattle.imago_img_parts.specs.declared.run.Outcome.{Outcome}
-use Rattle.imago_img_parts.specs.Disks.{AreCompared}
+use Rattle.imago_img_parts.specs.Disks.{AreCompared, is_left_out}
 use Rattle.imago_img_parts.specs.Faultless.{IsFaultless}
-use Rattle.imago_img_parts.specs.Commands.{AreToldApart, IsChecked, IsAnswered, outcome_when}
+use Rattle.imago_img_parts.specs.Commands.{AreToldApart, IsChecked, outcome_when}
 
-twice : (b : Bool) → not (not b) ≡ b
-twice true = refl
-twice false = refl
+-- two disks have to have the same size, and haven't
+must_differ : (same_size : Bool) (m n : ℕ) → is_left_out same_size m n ≡ true
+    → (same_size ≡ true) × (m ≢ n)
+must_differ true m n e = (refl, eqb-false m n (not-true (m == n) e))
+must_differ false m n e = absurd (false≢true e)
 
-told : (how : Opening) (files : List ℕ → List ℕ) (first second : List ℕ) (found : Option ℕ)
-    → AreCompared how.strict how.other_files how.format files first second found
-    → AreToldApart how files first second (outcome_when (not (is_some found)))
-told how files first second None h = h
-told how files first second (Some at) h = (at, h)
+-- or they have the same size, if they have to
+must_be_same : (same_size : Bool) (m n : ℕ) → is_left_out same_size m n ≡ false
+    → same_size ≡ true → m ≡ n
+must_be_same true m n e is = eqb-true m n (not-false (m == n) e)
+must_be_same false m n e is = absurd (false≢true is)
 
--- what a comparison found tells whether two images show the same
-pub told_apart : (how : Opening) (contents : Option (List ℕ → List ℕ)) (first second : List ℕ)
-    (found : Option ℕ) (none : Bool) (outcome : Outcome)
-    → is_some found ≡ not none → outcome ≡ outcome_when none
-    → IfSome contents (λ files. AreCompared how.strict how.other_files how.format files first second found)
-    → IfSome contents (λ files. AreToldApart how files first second outcome)
-told_apart how contents first second found none outcome is of_none h =
-    let fine : outcome ≡ outcome_when (not (is_some found)) =
-    of_none ∙ ap outcome_when (sym (ap not is ∙ twice none)) in
-    subst (λ (o : Outcome). IfSome contents (λ files. AreToldApart how files first second o))
-    (sym fine) (IfSome_then contents h (λ files. told how files first second found))
+-- what a comparison found tells whether two disks are alike
+told : (how : Opening) (other : Option ImageFormat) (same_size : Bool) (files : List ℕ → List ℕ)
+    (first second : List ℕ) (size other_size : ℕ) (found : Option ℕ) (skips : Bool)
+    → is_left_out same_size size other_size ≡ skips
+    → AreCompared how.strict how.other_files how.format other same_size files first second size
+    other_size found
+    → AreToldApart how other same_size files first second
+    (outcome_when (not skips && not (is_some found)))
+told how other same_size files first second size other_size found true e (x, y, a, b, l, m, h) =
+    let (is, differ) = must_differ same_size size other_size e in
+    (x, y, a, b, inr (is, λ s. differ (l ∙ s ∙ sym m)))
+told how other same_size files first second size other_size None false e (x, y, a, b, l, m, h) =
+    (x, y, a, b, λ is. sym l ∙ must_be_same same_size size other_size e is ∙ m, h e)
+told how other same_size files first second size other_size (Some at) false e (x, y, a, b, l, m, h) =
+    (x, y, a, b, inl (at, h e))
 
--- and so answers a question for that
-pub answered : {E : Type 0} (how : Opening) (contents : Option (List ℕ → List ℕ))
-    (first second : Bor (List ℕ)) (quiet : Bool) (question : Question) (result : Result Outcome E)
-    → question ≡ Q.Compare first second quiet
-    → IfOk result (λ o. IfSome contents (λ files. AreToldApart how files first.now second.now o))
-    → IfOk result (λ o. IfSome contents (λ files. IsAnswered question how files o))
-answered how contents first second quiet question result is =
-    subst (λ (q : Question). IfOk result (λ o. IfSome contents (λ files. IsAnswered q how files o)))
-    (sym is)
+pub told_apart : (how : Opening) (other : Option ImageFormat) (same_size : Bool)
+    (contents : Option (List ℕ → List ℕ)) (first second : List ℕ) (size other_size : ℕ)
+    (found : Option ℕ) (alike : Bool) (outcome : Outcome)
+    → alike ≡ (not (is_left_out same_size size other_size) && not (is_some found))
+    → outcome ≡ outcome_when alike
+    → IfSome contents (λ files. AreCompared how.strict how.other_files how.format other same_size
+    files first second size other_size found)
+    → IfSome contents (λ files. AreToldApart how other same_size files first second outcome)
+told_apart how other same_size contents first second size other_size found alike outcome is of_alike h =
+    subst (λ (o : Outcome).
+    IfSome contents (λ files. AreToldApart how other same_size files first second o))
+    (sym (of_alike ∙ ap outcome_when is)) (IfSome_then contents h
+    (λ files. told how other same_size files first second size other_size found _ refl))
+
+-- the same by how the first image is opened
+pub told_by : (how said : Opening) (other named : Option ImageFormat) → how ≡ said → other ≡ named
+    → (same_size : Bool) (contents : Option (List ℕ → List ℕ)) (first second : List ℕ)
+    (outcome : Outcome)
+    → IfSome contents (λ files. AreToldApart how other same_size files first second outcome)
+    → IfSome contents (λ files. AreToldApart said named same_size files first second outcome)
+told_by how said other named e n same_size contents first second outcome h =
+    let one : IfSome contents (λ files. AreToldApart said other same_size files first second outcome) =
+    subst (λ (w : Opening). IfSome contents (λ files. AreToldApart w other same_size files first second outcome)) e h in
+    subst (λ (o : Option ImageFormat). IfSome contents (λ files. AreToldApart said o same_size files first second outcome)) n one
 
 nothing : {F : Type 0} (contents : Option F) → IfSome contents (λ files. Unit {0})
 nothing None = tt
 nothing (Some files) = tt
 
 -- whether faults were found tells whether an image is in order
-pub found_faults : (how : Opening) (contents : Option (List ℕ → List ℕ)) (path : List ℕ)
-    (fine : Bool) (outcome : Outcome) → outcome ≡ outcome_when fine
+found : (how : Opening) (contents : Option (List ℕ → List ℕ)) (path : List ℕ)
+    (fine : Bool) → (fine ≡ true → IfSome contents
+    (λ files. IsFaultless how.strict how.other_files how.format files path))
+    → IfSome contents (λ files. IsChecked how files path (outcome_when fine))
+found how contents path true h = h refl
+found how contents path false h = nothing contents
+
+pub found_faults : (how said : Opening) → how ≡ said → (contents : Option (List ℕ → List ℕ))
+    (path : List ℕ) (fine : Bool) (outcome : Outcome) → outcome ≡ outcome_when fine
     → (fine ≡ true → IfSome contents
     (λ files. IsFaultless how.strict how.other_files how.format files path))
-    → IfSome contents (λ files. IsChecked how files path outcome)
-found_faults how contents path true outcome is h =
-    subst (λ (o : Outcome). IfSome contents (λ files. IsChecked how files path o)) (sym is) (h refl)
-found_faults how contents path false outcome is h =
+    → IfSome contents (λ files. IsChecked said files path outcome)
+found_faults how said e contents path fine outcome is h =
+    let one : IfSome contents (λ files. IsChecked how files path outcome) =
     subst (λ (o : Outcome). IfSome contents (λ files. IsChecked how files path o)) (sym is)
-    (nothing contents)
-
--- and so answers a question for that
-pub answered_check : {E : Type 0} (how : Opening) (contents : Option (List ℕ → List ℕ))
-    (path : Bor (List ℕ)) (question : Question) (result : Result Outcome E)
-    → question ≡ Q.Check path
-    → IfOk result (λ o. IfSome contents (λ files. IsChecked how files path.now o))
-    → IfOk result (λ o. IfSome contents (λ files. IsAnswered question how files o))
-answered_check how contents path question result is =
-    subst (λ (q : Question). IfOk result (λ o. IfSome contents (λ files. IsAnswered q how files o)))
-    (sym is)
+    (found how contents path fine h) in
+    subst (λ (w : Opening). IfSome contents (λ files. IsChecked w files path outcome)) e one

@@ -1,29 +1,34 @@
 -- What the commands of `imago-img` do, by the status that each gives.
-use Rattle.std.specs.Prelude.{◌≡◌, ◌≢◌, ◌⊎◌, ℕ, Bool, true, false, List, Option, Some, None, IfSome}
+use Rattle.std.specs.Prelude.{◌≡◌, ◌⊎◌, ℕ, Bool, true, false, List, Option, IfSome}
+use Rattle.std.specs.Prelude.{option_map}
+use Rattle.imago_words.specs.declared.command.Command.{Command}
+use Rattle.imago_words.specs.declared.command.Command.TheVariants as Asked
+use Rattle.imago_words.specs.declared.command.Convert.{Convert}
+use Rattle.imago_words.specs.Line.{Asks, kind_typed, line_is_meant, status_for}
+use Rattle.imago_images.specs.declared.format.ImageFormat.{ImageFormat}
 use Rattle.imago_images.specs.declared.opening.Opening.{Opening}
-use Rattle.imago_img_parts.specs.declared.command.Command.{Command}
-use Rattle.imago_img_parts.specs.declared.command.Command.TheVariants.{Convert, Ask}
-use Rattle.imago_img_parts.specs.declared.command.Question.{Question}
-use Rattle.imago_img_parts.specs.declared.command.Question.TheVariants as Q
+use Rattle.imago_img_parts.specs.declared.question.Question.{Question}
+use Rattle.imago_img_parts.specs.declared.question.Question.TheVariants as Q
 use Rattle.imago_img_parts.specs.declared.run.Outcome.{Outcome}
 use Rattle.imago_img_parts.specs.declared.run.Outcome.TheVariants.{Fine, Unlike}
 use Rattle.imago_img_parts.specs.Files.{Around}
-use Rattle.imago_img_parts.specs.Disks.{IsConverted, AreCompared}
+use Rattle.imago_img_parts.specs.Disks.{IsConverted, AreAlike, AreUnlike}
 use Rattle.imago_img_parts.specs.Faultless.{IsFaultless}
-use Rattle.imago_img_parts.specs.Words.{Asks}
+use Rattle.imago_img_parts.specs.Openings.{how_by, image_format}
 
 -- fine or not
 abbrev pub outcome_when : Bool → Outcome
 outcome_when true = Fine
 outcome_when false = Unlike
 
--- the disks of two images are the same, or there is an offset at which they differ first
+-- the disks of two images are alike or not, by how the first is opened, the format that was said of
+-- the second, and whether they have to have the same size
 abbrev pub AreToldApart :
-    Opening → (List ℕ → List ℕ) → List ℕ → List ℕ → Outcome → Type 0
-AreToldApart how files first second Fine =
-    AreCompared how.strict how.other_files how.format files first second None
-AreToldApart how files first second Unlike =
-    (at : ℕ) × AreCompared how.strict how.other_files how.format files first second (Some at)
+    Opening → Option ImageFormat → Bool → (List ℕ → List ℕ) → List ℕ → List ℕ → Outcome → Type 0
+AreToldApart how other same_size files first second Fine =
+    AreAlike how.strict how.other_files how.format other same_size files first second
+AreToldApart how other same_size files first second Unlike =
+    AreUnlike how.strict how.other_files how.format other same_size files first second
 
 -- The file of an image has no fault that a check looks for. What it says where it finds one isn't
 -- told here.
@@ -32,43 +37,81 @@ IsChecked how files path Fine =
     IsFaultless how.strict how.other_files how.format files path
 IsChecked how files path Unlike = Unit {0}
 
--- what the answer to a question says of files
-abbrev pub IsAnswered : Question → Opening → (List ℕ → List ℕ) → Outcome → Type 0
-IsAnswered Q.Help how files outcome = Unit {0}
-IsAnswered (Q.Info path json) how files outcome = Unit {0}
-IsAnswered (Q.Map path json) how files outcome = Unit {0}
-IsAnswered (Q.Compare first second quiet) how files outcome =
-    AreToldApart how files first.now second.now outcome
-IsAnswered (Q.Check path) how files outcome = IsChecked how files path.now outcome
+-- what the answer to a question says of files, where it is told what they have
+abbrev pub IsAnswered : Question → Option (List ℕ → List ℕ) → Outcome → Type 0
+IsAnswered (Q.Help kind) contents outcome = outcome ≡ Fine
+IsAnswered Q.Version contents outcome = outcome ≡ Fine
+IsAnswered (Q.Info c) contents outcome = outcome ≡ Fine
+IsAnswered (Q.Map c) contents outcome = outcome ≡ Fine
+IsAnswered (Q.Check c) contents outcome = IfSome contents
+    (λ files. IsChecked (how_by c.format c.opening) files c.file.now outcome)
+IsAnswered (Q.Compare c) contents outcome = IfSome contents
+    (λ files. AreToldApart (how_by c.first_format c.opening)
+    (option_map image_format c.second_format) c.same_size files c.first.now c.second.now outcome)
 
--- a status other than 0, and for a question that has two answers neither of theirs
-abbrev pub TellsNothing : Question → ℕ → Type 0
-TellsNothing Q.Help status = status ≡ 1
-TellsNothing (Q.Info path json) status = status ≡ 1
-TellsNothing (Q.Map path json) status = status ≡ 1
-TellsNothing (Q.Compare first second quiet) status = status ≡ 2
-TellsNothing (Q.Check path) status = status ≡ 2
+-- The status where a question isn't answered: for help and the version that of a refused line, for
+-- a question that has two answers neither of theirs.
+abbrev pub untold : ℕ → Question → ℕ
+untold refused (Q.Help kind) = refused
+untold refused Q.Version = refused
+untold refused (Q.Info c) = 1
+untold refused (Q.Map c) = 1
+untold refused (Q.Check c) = 2
+untold refused (Q.Compare c) = 2
 
--- What a command did to the files of a host, and what its status says of them, where that is told:
--- with status 0 an image was converted, and everything else leaves the files as they were.
-abbrev pub IsPerformed :
-    Command → Opening → Option (List ℕ → List ℕ) → Option (List ℕ → List ℕ)
+-- The status says what was answered: 0 that it is fine, and 1 that it isn't; or nothing was.
+abbrev pub IsConcluded : ℕ → Question → Option (List ℕ → List ℕ) → ℕ → Type 0
+IsConcluded refused question contents status =
+    ((status ≡ 0) × IsAnswered question contents Fine)
+    ⊎ (((status ≡ 1) × IsAnswered question contents Unlike) ⊎ (status ≡ untold refused question))
+
+-- the same, and the files of a host are as they were
+abbrev pub IsAsked :
+    ℕ → Question → Option (List ℕ → List ℕ) → Option (List ℕ → List ℕ)
     → Option Around → Option Around → ℕ → Type 0
-IsPerformed (Convert from to force quiet) how old new before after status =
-    (status ≡ 0 → IsConverted how.strict how.other_files how.format force old new before after
-    from.now to.now)
-    × (status ≢ 0 → (new ≡ old) × (after ≡ before))
-IsPerformed (Ask question) how old new before after status =
-    (new ≡ old) × (after ≡ before)
-    × (status ≡ 0 → IfSome old (λ files. IsAnswered question how files Fine))
-    × (status ≡ 1 → IfSome old (λ files. IsAnswered question how files Unlike))
+IsAsked refused question old new before after status =
+    (new ≡ old) × (after ≡ before) × IsConcluded refused question old status
 
--- What a command line did to the files of a host: what its words ask for, or nothing, with status
--- 2, where they can't be meant.
+-- With status 0 an image was converted, by how it is opened; else the status is 1, and the files
+-- are as they were.
+abbrev pub IsConvertedBy :
+    Opening → Convert → Option (List ℕ → List ℕ) → Option (List ℕ → List ℕ)
+    → Option Around → Option Around → ℕ → Type 0
+IsConvertedBy how c old new before after status =
+    ((status ≡ 0) × IsConverted how.strict how.other_files how.format c.force old new before after
+    c.source.now c.target.now)
+    ⊎ ((status ≡ 1) × (new ≡ old) × (after ≡ before))
+
+-- What a command did to the files of a host, and what its status says of them, where that is told.
+-- The first number is the status of a refused line.
+abbrev pub IsPerformed :
+    ℕ → Command → Option (List ℕ → List ℕ) → Option (List ℕ → List ℕ)
+    → Option Around → Option Around → ℕ → Type 0
+IsPerformed refused (Asked.Convert c) old new before after status =
+    IsConvertedBy (how_by c.source_format c.opening) c old new before after status
+IsPerformed refused (Asked.Help kind) old new before after status =
+    IsAsked refused (Q.Help kind) old new before after status
+IsPerformed refused Asked.Version old new before after status =
+    IsAsked refused Q.Version old new before after status
+IsPerformed refused (Asked.Info c) old new before after status =
+    IsAsked refused (Q.Info c) old new before after status
+IsPerformed refused (Asked.Map c) old new before after status =
+    IsAsked refused (Q.Map c) old new before after status
+IsPerformed refused (Asked.Check c) old new before after status =
+    IsAsked refused (Q.Check c) old new before after status
+IsPerformed refused (Asked.Compare c) old new before after status =
+    IsAsked refused (Q.Compare c) old new before after status
+
+-- the status of a refused line: 2 for `compare`, and else 1
+abbrev pub refused_status : List (List ℕ) → ℕ
+refused_status words = status_for (kind_typed words)
+
+-- What a command line did to the files of a host: it is meant, and what its words ask for was done;
+-- or it was refused, which changes nothing.
 abbrev pub IsRun :
     List (List ℕ) → Option (List ℕ → List ℕ) → Option (List ℕ → List ℕ)
     → Option Around → Option Around → ℕ → Type 0
 IsRun words old new before after status =
-    ((command : Command) × (how : Opening) × Asks words command how
-    × IsPerformed command how old new before after status)
-    ⊎ ((status ≡ 2) × (new ≡ old) × (after ≡ before))
+    ((command : Command) × (line_is_meant words ≡ true) × Asks words command
+    × IsPerformed (refused_status words) command old new before after status)
+    ⊎ ((status ≡ refused_status words) × (new ≡ old) × (after ≡ before))

@@ -1,6 +1,6 @@
 -- The disks of images in files, and what the commands on whole disks do with them.
-use Rattle.std.specs.Prelude.{◌≡◌, ℕ, ◌⊎◌, Bool, false, List, ◌++◌, map, Option, Some, None}
-use Rattle.std.specs.Prelude.{option_map, IfSome}
+use Rattle.std.specs.Prelude.{◌≡◌, ◌≢◌, ℕ, ◌⊎◌, ◌&&◌, ◌==◌, Bool, true, false, not, List, ◌++◌}
+use Rattle.std.specs.Prelude.{length, map, Option, Some, None, option_map, IfSome}
 use Rattle.imago_drivers.specs.Place.{Place, Value, Byte}
 use Rattle.imago_access.specs.Disk.{values_from}
 use Rattle.imago_copy.specs.Differences.{IsFirstDifferentValue}
@@ -70,9 +70,37 @@ abbrev pub ArePathsOfOne : (List ℕ → List ℕ) → List ℕ → List ℕ →
 ArePathsOfOne files first second format = (first ≡ second)
     ⊎ ((files first ≡ files second) × NamesStandAlike first second format)
 
--- the disks of the images of two paths are the same, or differ first there
+-- two disks have to have the same size, and haven't
+abbrev pub is_left_out : Bool → ℕ → ℕ → Bool
+is_left_out same_size size other_size = same_size && not (size == other_size)
+
+-- What is found of the disks of the images of two paths: their sizes, and where they differ first,
+-- which is left out where they have to have the same size, and haven't.
 abbrev pub AreCompared :
-    Bool → OtherFiles → Option ImageFormat → (List ℕ → List ℕ) → List ℕ → List ℕ → Option ℕ → Type 0
-AreCompared strict others said files first second found =
+    Bool → OtherFiles → Option ImageFormat → Option ImageFormat → Bool → (List ℕ → List ℕ)
+    → List ℕ → List ℕ → ℕ → ℕ → Option ℕ → Type 0
+AreCompared strict others said other same_size files first second size other_size found =
     (x : List Value) × (y : List Value) × ShowsDisk strict others said files first x
-    × ShowsDisk strict others said files second y × IsFirstDifferentValue x y found
+    × ShowsDisk strict others other files second y
+    × (size ≡ length x) × (other_size ≡ length y)
+    × (is_left_out same_size size other_size ≡ false → IsFirstDifferentValue x y found)
+
+-- The disks of the images of two paths are the same, where all behind the end of the shorter one is
+-- taken as 0; and they have the same size, if they have to.
+abbrev pub AreAlike :
+    Bool → OtherFiles → Option ImageFormat → Option ImageFormat → Bool → (List ℕ → List ℕ)
+    → List ℕ → List ℕ → Type 0
+AreAlike strict others said other same_size files first second =
+    (x : List Value) × (y : List Value) × ShowsDisk strict others said files first x
+    × ShowsDisk strict others other files second y
+    × (same_size ≡ true → length x ≡ length y) × IsFirstDifferentValue x y None
+
+-- There is an offset at which they differ first; or they have to have the same size, and haven't.
+abbrev pub AreUnlike :
+    Bool → OtherFiles → Option ImageFormat → Option ImageFormat → Bool → (List ℕ → List ℕ)
+    → List ℕ → List ℕ → Type 0
+AreUnlike strict others said other same_size files first second =
+    (x : List Value) × (y : List Value) × ShowsDisk strict others said files first x
+    × ShowsDisk strict others other files second y
+    × (((at : ℕ) × IsFirstDifferentValue x y (Some at))
+    ⊎ ((same_size ≡ true) × (length x ≢ length y)))

@@ -1,9 +1,8 @@
 pub mod Files
 pub mod Disks
 pub mod Lines
-pub mod Words
-pub mod WordSteps
 pub mod Faultless
 pub mod Extents
 pub mod ClusterRuns
+pub mod Openings
 pub mod Commands

@@ -1,10 +1,11 @@
 //! Whether two images show the same.
-ghost use Rattle.std.specs.Prelude.{◌≡◌, true, IsTrue, IfOk, IfSome};
+ghost use Rattle.std.specs.Prelude.{◌≡◌, true, false, IsTrue, IfOk, IfSome};
 ghost use Rattle.imago_access.specs.Chain.{tells_bytes};
 ghost use Rattle.imago_access.specs.Disk.{disk};
 ghost use Rattle.imago_copy.specs.Differences.{IsFirstDifferentValue};
 ghost use Rattle.imago_images.specs.Gate.{folder_path};
 ghost use Rattle.imago_img_parts.specs.Disks.{AreCompared, ArePathsOfOne, NamesStandAlike};
+ghost use Rattle.imago_img_parts.specs.Disks.{is_left_out};
 
 use crate::failure::Failure;
 use crate::host::Host;
@@ -26,36 +27,45 @@ pub struct Comparison {
     /// The sizes of their disks, in bytes.
     pub sizes: (u64, u64),
     /// The first offset at which the disks differ, if they do. Behind the end of the shorter one
-    /// all is 0.
+    /// all is 0. It isn't looked for where the sizes have to be the same, and aren't.
     pub difference: Option<u64>,
 }
 
 /// Where the disks of two images differ first, if they do. What the images' files have says what
-/// the disks are. Two paths of one image are the same, and no data is read then.
+/// the disks are. The second image is opened as the first one, but for its format, which may be
+/// said too. Two paths of one image are the same, and no data is read then; nor is it where the
+/// disks have to have the same size, and haven't.
 pub fn compare_images<H: Host>(
     host: &H,
     first: &str,
     second: &str,
     how: Opening,
+    other: Option<ImageFormat>,
+    same_size: bool,
 ) -> Result<Comparison, Failure>
     ensures { IfOk result (λ found. IfSome (H.contents host.now)
-        (λ files. AreCompared how.strict how.other_files how.format files first.now second.now
-        found.difference)) }
+        (λ files. AreCompared how.strict how.other_files how.format other same_size files first.now
+        second.now found.sizes.0 found.sizes.1 found.difference)) }
 {
     let alloc = host.alloc();
     let (format, left) = open_image(host, first, how)?;
     let size = readable_size(alloc, first, &left)?;
-    if are_paths_of_one(host, first, second, format) {
+    if is_said_alike(how.format, other) && are_paths_of_one(host, first, second, format) {
         return Ok(Comparison {
             sizes: (size, size),
             difference: None,
         });
     }
-    let (_, right) = open_image(host, second, how)?;
-    let other = readable_size(alloc, second, &right)?;
-    match compared(alloc, &left, &right) {
+    let (_, right) = open_image(host, second, said_of_second(how, other))?;
+    let other_size = readable_size(alloc, second, &right)?;
+    match compared(
+        alloc,
+        &left,
+        &right,
+        leaves_out(same_size, size, other_size),
+    ) {
         Ok(difference) => Ok(Comparison {
-            sizes: (size, other),
+            sizes: (size, other_size),
             difference,
         }),
         Err(cause) => Err(not_compared(alloc, first, &left, &right, cause)),
@@ -75,6 +85,39 @@ fn not_compared<H: Host>(
         return why;
     }
     not_read(alloc, first, right, cause)
+}
+
+/// How the second image is opened, by how the first one is, and its own format.
+fn said_of_second(how: Opening, other: Option<ImageFormat>) -> Opening
+    ensures strict { result.strict ≡ how.strict }
+    ensures others { result.other_files ≡ how.other_files }
+    ensures format { result.format ≡ other }
+{
+    Opening {
+        format: other,
+        ..how
+    }
+}
+
+/// Whether the same is said of the formats of two images.
+fn is_said_alike(one: Option<ImageFormat>, other: Option<ImageFormat>) -> bool
+    ensures { result ≡ true → one ≡ other }
+{
+    match (one, other) {
+        (None, None)
+        | (Some(ImageFormat::Raw), Some(ImageFormat::Raw))
+        | (Some(ImageFormat::Vmdk), Some(ImageFormat::Vmdk))
+        | (Some(ImageFormat::Qcow2), Some(ImageFormat::Qcow2)) => true,
+        _ => false,
+    }
+}
+
+/// Whether two disks have to have the same size, and haven't. Where they differ isn't looked for
+/// then.
+pub fn leaves_out(same_size: bool, size: u64, other_size: u64) -> bool
+    ensures { result ≡ is_left_out same_size size other_size }
+{
+    same_size && size != other_size
 }
 
 /// Whether two paths are those of one image, which has that format.
@@ -99,16 +142,20 @@ fn stand_alike(first: &str, second: &str, format: ImageFormat) -> bool
     }
 }
 
-/// The first offset at which two disks differ, if they do.
+/// The first offset at which two disks differ, if they do and it isn't left out.
 fn compared<D: FormatDriverInstance>(
     alloc: Global,
     left: &FormatAccess<D>,
     right: &FormatAccess<D>,
+    skips: bool,
 ) -> Result<Option<u64>, Error>
-    ensures { IsTrue (tells_bytes D.view left.now) → IsTrue (tells_bytes D.view right.now)
-        → IfOk result (λ found.
+    ensures { skips ≡ false → IsTrue (tells_bytes D.view left.now)
+        → IsTrue (tells_bytes D.view right.now) → IfOk result (λ found.
         IsFirstDifferentValue (disk D.view left.now) (disk D.view right.now) found) }
 {
+    if skips {
+        return Ok(None);
+    }
     let mut left_buf = vec![in alloc; 0u8; CHUNK]?;
     let mut right_buf = vec![in alloc; 0u8; CHUNK]?;
     first_difference(alloc, left, right, &mut left_buf, &mut right_buf)

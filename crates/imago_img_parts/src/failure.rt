@@ -11,9 +11,6 @@ use thiserror::Error;
 /// Why a command isn't done. What it prints is one line.
 #[derive(Debug, Drop, Error)]
 pub enum Failure {
-    /// The words of the command line are no command.
-    #[error("{0}; imago-img --help tells the commands")]
-    Misuse(Misuse),
     /// A file can't be opened, read or written. What can be done about it, if anything, ends the
     /// line.
     #[error("{0}{advice}", advice = advice_on(.0))]
@@ -42,29 +39,6 @@ pub enum Failure {
     /// Memory was refused.
     #[error("out of memory")]
     Memory,
-}
-
-/// Why the words of a command line are no command.
-#[derive(Debug, Drop, Error)]
-pub enum Misuse {
-    /// There is no word.
-    #[error("no command")]
-    NoCommand,
-    /// The first word is no command's name.
-    #[error("a command that isn't known")]
-    UnknownCommand,
-    /// A word begins with a dash and is no option.
-    #[error("an option that isn't known")]
-    UnknownOption,
-    /// `-f` without one of the formats behind it.
-    #[error("-f takes raw, vmdk or qcow2")]
-    UnknownFormat,
-    /// No command takes so many files.
-    #[error("too many files")]
-    TooManyFiles,
-    /// This command takes other files or options.
-    #[error("not the files or options of this command")]
-    OtherFiles,
 }
 
 /// Why a file isn't made.

@@ -7,7 +7,6 @@
 
 mod check;
 mod clusters;
-mod command;
 pub mod commands;
 mod compare;
 mod convert;
@@ -20,8 +19,10 @@ mod info;
 mod json;
 mod looked;
 mod map;
+mod opening;
 mod progress;
 mod qcow2_info;
+mod question;
 pub mod run;
 mod streams;
 pub mod system;

@@ -1,19 +1,30 @@
 //! The program, over any host.
-ghost use Rattle.std.specs.Prelude.{◌≡◌, ◌≤◌, IfOk, IfSome, map, string_bytes};
-ghost use Rattle.imago_img_parts.specs.Commands.{AreToldApart, IsAnswered, IsPerformed, IsRun};
-ghost use Rattle.imago_img_parts.specs.Commands.{IsChecked, TellsNothing, outcome_when};
+ghost use Rattle.std.specs.Prelude.{◌≡◌, ◌≤◌, ◌&&◌, IfOk, IfSome, is_some, map, not, option_map};
+ghost use Rattle.std.specs.Prelude.{string_bytes};
+ghost use Rattle.imago_words.specs.Line.{status_for, status_of};
+ghost use Rattle.imago_img_parts.specs.declared.run.Outcome.TheVariants.{Fine};
+ghost use Rattle.imago_img_parts.specs.Commands.{AreToldApart, IsAnswered, IsChecked};
+ghost use Rattle.imago_img_parts.specs.Commands.{IsConcluded, IsConvertedBy, IsPerformed, IsRun};
+ghost use Rattle.imago_img_parts.specs.Commands.{outcome_when, refused_status, untold};
+ghost use Rattle.imago_img_parts.specs.Disks.{is_left_out};
+ghost use Rattle.imago_img_parts.specs.Openings.{how_by, image_format};
 
 use crate::check::check;
-use crate::command::{Command, HELP, Question, command_of};
 use crate::commands::{Comparison, compare_images, convert_image};
+use crate::compare::leaves_out;
 use crate::failure::Failure;
 use crate::host::Host;
 use crate::info::info;
 use crate::map::map_image;
-use imago_images::opening::Opening;
+use crate::opening::{how_to_open, said_format};
+use crate::question::Question;
+use imago_words::command::{Check, Command, Compare, Convert, Info, Map, Output};
+use imago_words::help::{Help, VERSION};
+use imago_words::kind::Kind;
+use imago_words::refusal::Refusal;
 use std::io::{self, BufWriter, Write};
 
-/// What a command comes to.
+/// What a question comes to.
 #[derive(Clone, Copy)]
 enum Outcome {
     /// Done, the same, in order.
@@ -34,40 +45,63 @@ pub fn run<H: Host, W: Write, E: Write>(
     ensures done { IsRun (map string_bytes words.now) (H.contents host.old) (H.contents host.new)
         (H.around host.old) (H.around host.new) result }
 {
-    match command_of(words) {
-        Ok((command, how)) => perform(host, command, how, output, errors),
-        Err(misuse) => tell(Failure::Misuse(misuse), errors, 2),
+    match Command::read(host.alloc(), words) {
+        Ok(command) => perform(host, command, refused_status(words), output, errors),
+        Err(refusal) => refuse(refusal, errors),
     }
 }
 
+/// The status of a command line that is refused, by its first word.
+fn refused_status(words: &[String]) -> u8
+    ensures most { result ≤ 2 }
+    ensures status { result ≡ refused_status (map string_bytes words.now) }
+{
+    let Some((first, _)) = words.split_first() else {
+        return 1;
+    };
+    status_for(Kind::named(first.as_str()))
+}
+
+/// The same, by the command that the first word names.
+fn status_for(kind: Option<Kind>) -> u8
+    ensures most { result ≤ 2 }
+    ensures status { result ≡ status_for kind }
+{
+    match kind {
+        Some(Kind::Compare) => 2,
+        _ => 1,
+    }
+}
+
+/// Tells why a command line is refused, and gives the status for that.
+fn refuse<E: Write>(refusal: Refusal<'_>, errors: &mut E) -> u8
+    ensures { result ≡ status_of refusal.entry }
+{
+    let _ = writeln!(errors, "imago-img: {refusal}");
+    refusal.status()
+}
+
 /// Does a command, and gives the exit status. Only a command that makes a file has the host to
-/// change.
+/// change. That status is the one of a refused command line.
 pub fn perform<H: Host, W: Write, E: Write>(
     host: &mut H,
     command: Command<'_>,
-    how: Opening,
+    refused: u8,
     output: &mut W,
     errors: &mut E,
 ) -> u8
-    ensures most { result ≤ 2 }
-    ensures performed { IsPerformed command.entry how (H.contents host.old) (H.contents host.new)
-        (H.around host.old) (H.around host.new) result }
+    ensures most { refused ≤ 2 → result ≤ 2 }
+    ensures performed { IsPerformed refused command.entry (H.contents host.old)
+        (H.contents host.new) (H.around host.old) (H.around host.new) result }
 {
     match command {
-        Command::Convert {
-            from,
-            to,
-            force,
-            quiet,
-        } => match convert_image(host, from, to, how, force, !quiet) {
-            Ok(()) => 0,
-            Err(refused) => tell(refused, errors, 1),
-        },
-        Command::Ask(question) => match buffered(&*host, question, how, output, errors) {
-            Ok(Outcome::Fine) => 0,
-            Ok(Outcome::Unlike) => 1,
-            Err(refused) => tell(refused, errors, trouble(question)),
-        },
+        Command::Convert(asked) => convert(host, asked, errors),
+        Command::Help(kind) => ask(&*host, Question::Help(kind), refused, output, errors),
+        Command::Version => ask(&*host, Question::Version, refused, output, errors),
+        Command::Info(asked) => ask(&*host, Question::Info(asked), refused, output, errors),
+        Command::Map(asked) => ask(&*host, Question::Map(asked), refused, output, errors),
+        Command::Check(asked) => ask(&*host, Question::Check(asked), refused, output, errors),
+        Command::Compare(asked) => ask(&*host, Question::Compare(asked), refused, output, errors),
     }
 }
 
@@ -79,14 +113,54 @@ fn tell<E: Write>(refused: Failure, errors: &mut E, status: u8) -> u8
     status
 }
 
+/// Converts an image, and gives the status.
+fn convert<H: Host, E: Write>(host: &mut H, asked: Convert<'_>, errors: &mut E) -> u8
+    ensures most { result ≤ 1 }
+    ensures converted { IsConvertedBy (how_by asked.entry.source_format asked.entry.opening)
+        asked.entry (H.contents host.old) (H.contents host.new) (H.around host.old)
+        (H.around host.new) result }
+{
+    let how = how_to_open(asked.source_format, asked.opening);
+    match convert_image(
+        host,
+        asked.source,
+        asked.target,
+        how,
+        asked.force,
+        !asked.quiet,
+    ) {
+        Ok(()) => 0,
+        Err(refused) => tell(refused, errors, 1),
+    }
+}
+
+/// Answers a question, and gives the status.
+fn ask<H: Host, W: Write, E: Write>(
+    host: &H,
+    question: Question<'_>,
+    refused: u8,
+    output: &mut W,
+    errors: &mut E,
+) -> u8
+    ensures most { refused ≤ 2 → result ≤ 2 }
+    ensures concluded { IsConcluded refused question.entry (H.contents host.now) result }
+{
+    match buffered(host, question, output, errors) {
+        Ok(Outcome::Fine) => 0,
+        Ok(Outcome::Unlike) => 1,
+        Err(failure) => tell(failure, errors, untold(refused, question)),
+    }
+}
+
 /// The status where a question isn't answered.
-fn trouble(question: Question<'_>) -> u8
-    ensures most { result ≤ 2 }
-    ensures untold { TellsNothing question.entry result }
+fn untold(refused: u8, question: Question<'_>) -> u8
+    ensures most { refused ≤ 2 → result ≤ 2 }
+    ensures untold { result ≡ untold refused question.entry }
 {
     match question {
-        Question::Compare { .. } | Question::Check { .. } => 2,
-        _ => 1,
+        Question::Help(_) | Question::Version => refused,
+        Question::Info(_) | Question::Map(_) => 1,
+        Question::Check(_) | Question::Compare(_) => 2,
     }
 }
 
@@ -95,15 +169,14 @@ fn trouble(question: Question<'_>) -> u8
 fn buffered<H: Host, W: Write, E: Write>(
     host: &H,
     question: Question<'_>,
-    how: Opening,
     output: &mut W,
     errors: &mut E,
 ) -> Result<Outcome, Failure>
-    ensures { IfOk result (λ outcome. IfSome (H.contents host.now)
-        (λ files. IsAnswered question.entry how files outcome)) }
+    ensures { IfOk result
+        (λ outcome. IsAnswered question.entry (H.contents host.now) outcome) }
 {
     let mut output = BufWriter::new(host.alloc(), &mut *output).map_err(Failure::Output)?;
-    let outcome = answer(host, question, how, &mut output, errors);
+    let outcome = answer(host, question, &mut output, errors);
     output.flush().map_err(Failure::Output)?;
     outcome
 }
@@ -112,31 +185,63 @@ fn buffered<H: Host, W: Write, E: Write>(
 fn answer<H: Host, W: Write, E: Write>(
     host: &H,
     question: Question<'_>,
-    how: Opening,
     output: &mut W,
     errors: &mut E,
 ) -> Result<Outcome, Failure>
-    ensures { IfOk result (λ outcome. IfSome (H.contents host.now)
-        (λ files. IsAnswered question.entry how files outcome)) }
+    ensures { IfOk result
+        (λ outcome. IsAnswered question.entry (H.contents host.now) outcome) }
 {
     match question {
-        Question::Help => {
-            let printed = output.write_all(HELP.as_bytes());
-            printed.map_err(Failure::Output)?;
-        }
-        Question::Info { path, json } => info(host, path, how, json, output, errors)?,
-        Question::Map { path, json } => map_image(host, path, how, json, output)?,
-        Question::Compare {
-            first,
-            second,
-            quiet,
-        } => return compare(host, (first, second), how, quiet, output),
-        Question::Check { path } => return look_for_faults(host, path, how, output),
+        Question::Help(kind) => printed(write!(output, "{}", Help(kind))),
+        Question::Version => printed(writeln!(output, "imago-img {VERSION}")),
+        Question::Info(asked) => describe(host, asked, output, errors),
+        Question::Map(asked) => list(host, asked, output),
+        Question::Check(asked) => look_for_faults(host, asked, output),
+        Question::Compare(asked) => compare(host, asked, output),
     }
+}
+
+/// What comes of a question whose answer is a text.
+fn printed(answer: io::Result<()>) -> Result<Outcome, Failure>
+    ensures { IfOk result (λ outcome. outcome ≡ Fine) }
+{
+    match answer {
+        Ok(()) => Ok(Outcome::Fine),
+        Err(cause) => Err(Failure::Output(cause)),
+    }
+}
+
+/// Tells what an image is.
+fn describe<H: Host, W: Write, E: Write>(
+    host: &H,
+    asked: Info<'_>,
+    output: &mut W,
+    errors: &mut E,
+) -> Result<Outcome, Failure>
+    ensures { IfOk result (λ outcome. outcome ≡ Fine) }
+{
+    let how = how_to_open(asked.format, asked.opening);
+    info(
+        host,
+        asked.file,
+        how,
+        asked.output == Output::Json,
+        output,
+        errors,
+    )?;
     Ok(Outcome::Fine)
 }
 
-/// The outcome of a question.
+/// Tells where the bytes of an image's disk stand.
+fn list<H: Host, W: Write>(host: &H, asked: Map<'_>, output: &mut W) -> Result<Outcome, Failure>
+    ensures { IfOk result (λ outcome. outcome ≡ Fine) }
+{
+    let how = how_to_open(asked.format, asked.opening);
+    map_image(host, asked.file, how, asked.output == Output::Json, output)?;
+    Ok(Outcome::Fine)
+}
+
+/// The outcome of a question that has two answers.
 fn outcome_of(is_fine: bool) -> Outcome
     ensures { result ≡ outcome_when is_fine }
 {
@@ -150,38 +255,53 @@ fn outcome_of(is_fine: bool) -> Outcome
 /// Tells whether an image is in order.
 fn look_for_faults<H: Host, W: Write>(
     host: &H,
-    path: &str,
-    how: Opening,
+    asked: Check<'_>,
     output: &mut W,
 ) -> Result<Outcome, Failure>
-    ensures { IfOk result (λ outcome. IfSome (H.contents host.now)
-        (λ files. IsChecked how files path.now outcome)) }
+    ensures { IfOk result (λ outcome. IfSome (H.contents host.now) (λ files.
+        IsChecked (how_by asked.entry.format asked.entry.opening) files asked.entry.file.now
+        outcome)) }
 {
-    let is_fine = check(host, path, how, output)?;
+    let how = how_to_open(asked.format, asked.opening);
+    let is_fine = check(host, asked.file, how, output)?;
     Ok(outcome_of(is_fine))
 }
 
 /// Tells whether two images show the same.
 fn compare<H: Host, W: Write>(
     host: &H,
-    paths: (&str, &str),
-    how: Opening,
-    quiet: bool,
+    asked: Compare<'_>,
     output: &mut W,
 ) -> Result<Outcome, Failure>
     ensures { IfOk result (λ outcome. IfSome (H.contents host.now) (λ files.
-        AreToldApart how files paths.entry.0.now paths.entry.1.now outcome)) }
+        AreToldApart (how_by asked.entry.first_format asked.entry.opening)
+        (option_map image_format asked.entry.second_format) asked.entry.same_size files
+        asked.entry.first.now asked.entry.second.now outcome)) }
 {
-    let found = compare_images(host, paths.0, paths.1, how)?;
-    if !quiet {
-        tell_difference(found, output).map_err(Failure::Output)?;
+    let how = how_to_open(asked.first_format, asked.opening);
+    let other = said_format(asked.second_format);
+    let same_size = asked.same_size;
+    let found = compare_images(host, asked.first, asked.second, how, other, same_size)?;
+    if !asked.quiet {
+        tell_difference(found, same_size, output).map_err(Failure::Output)?;
     }
-    Ok(outcome_of(found.difference.is_none()))
+    Ok(outcome_of(are_alike(found, same_size)))
+}
+
+/// Whether two disks are the same, and have the same size if they have to.
+fn are_alike(found: Comparison, same_size: bool) -> bool
+    ensures { result ≡ (not (is_left_out same_size found.sizes.0 found.sizes.1)
+        && not (is_some found.difference)) }
+{
+    !leaves_out(same_size, found.sizes.0, found.sizes.1) && found.difference.is_none()
 }
 
 /// Tells the first offset at which two images differ, or that they don't.
-fn tell_difference<W: Write>(found: Comparison, output: &mut W) -> io::Result<()> {
+fn tell_difference<W: Write>(found: Comparison, same_size: bool, output: &mut W) -> io::Result<()> {
     let (one, other) = found.sizes;
+    if leaves_out(same_size, one, other) {
+        return writeln!(output, "The sizes differ: {one} and {other} bytes.");
+    }
     if one != other {
         writeln!(
             output,

@@ -61,14 +61,6 @@ abbrev pub target_is_meant : State → Bool
 target_is_meant s =
     passes (λ value. bytes_eq value (codes "raw")) (value_given (codes "target-format") s)
 
--- of all sizes of holes, 0 alone changes something: there are none
-abbrev is_zero : Option ℕ → Bool
-is_zero None = false
-is_zero (Some n) = n == 0
-
-abbrev pub writes_every_byte : State → Bool
-writes_every_byte s = is_zero (size_given (codes "sparse-size") s)
-
 -- What each field of a command is.
 pub record IsOpening (s : State) (o : Opening) : Type 0 where
   pub strict : o.strict ≡ was_given (codes "strict") s
@@ -105,8 +97,6 @@ pub record IsConvert (s : State) (c : Convert) : Type 0 where
   pub files : s.files ≡ c.source.now ∷ c.target.now ∷ []
   pub source_format : c.source_format ≡ format_given (codes "format") s
   pub target_format : c.target_format ≡ Raw
-  pub into_existing : c.into_existing ≡ was_given (codes "into-existing") s
-  pub every_byte : c.every_byte ≡ writes_every_byte s
   pub force : c.force ≡ was_given (codes "force") s
   pub progress : c.progress ≡ was_given (codes "progress") s
   pub quiet : c.quiet ≡ was_given (codes "quiet") s
@@ -130,5 +120,5 @@ compare_is_meant s = are_files 2 s && (format_is_meant (codes "format") s
     && (format_is_meant (codes "second-format") s && size_is_meant (codes "tables") s))
 
 abbrev pub convert_is_meant : State → Bool
-convert_is_meant s = are_files 2 s && (format_is_meant (codes "format") s && (target_is_meant s
-    && (size_is_meant (codes "sparse-size") s && size_is_meant (codes "tables") s)))
+convert_is_meant s = are_files 2 s && (format_is_meant (codes "format") s
+    && (target_is_meant s && size_is_meant (codes "tables") s))

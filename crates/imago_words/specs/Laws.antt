@@ -11,16 +11,14 @@ use Rattle.imago_words.specs.Reading.{Known, Text, is_empty}
 
 abbrev pub worked_line : List Text
 worked_line = codes "convert" ∷ codes "-pfqcow2" ∷ codes "a" ∷ codes "--tables=1G"
-    ∷ codes "--force" ∷ codes "-S" ∷ codes "0" ∷ codes "-1" ∷ []
+    ∷ codes "--force" ∷ codes "-1" ∷ []
 
--- `a`, a qcow2 image, is converted to the raw image `-1`, which may be there and has no holes;
--- tables take 1 GiB at most, and the progress is shown
+-- `a`, a qcow2 image, is converted to the raw image `-1`, which may be there; tables take 1 GiB at
+-- most, and the progress is shown
 pub record IsWorkedConvert (c : Convert) : Type 0 where
   pub files : c.source.now ∷ c.target.now ∷ [] ≡ codes "a" ∷ codes "-1" ∷ []
   pub source_format : c.source_format ≡ Some Qcow2
   pub target_format : c.target_format ≡ Raw
-  pub into_existing : c.into_existing ≡ false
-  pub every_byte : c.every_byte ≡ true
   pub force : c.force ≡ true
   pub progress : c.progress ≡ true
   pub quiet : c.quiet ≡ false

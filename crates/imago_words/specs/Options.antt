@@ -72,8 +72,6 @@ abbrev pub convert_options : List Known
 convert_options =
     valued (codes "format") (codes "f") []
     ∷ valued (codes "target-format") (codes "O") []
-    ∷ flag (codes "into-existing") (codes "n") []
-    ∷ valued (codes "sparse-size") (codes "S") []
     ∷ flag (codes "force") [] (codes "force")
     ∷ flag (codes "progress") (codes "p") []
     ∷ flag (codes "quiet") (codes "q") (codes "quiet")

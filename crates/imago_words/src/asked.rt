@@ -5,7 +5,7 @@ ghost use Rattle.imago_words.specs.Reading.{state_of};
 ghost use Rattle.imago_words.specs.Commands.{IsCheck, IsCompare, IsConvert, IsInfo, IsMap};
 ghost use Rattle.imago_words.specs.Commands.{IsOpening};
 ghost use Rattle.imago_words.specs.Commands.{format_given, output_given, size_given};
-ghost use Rattle.imago_words.specs.Commands.{writes_every_byte, format_is_meant, size_is_meant};
+ghost use Rattle.imago_words.specs.Commands.{format_is_meant, size_is_meant};
 ghost use Rattle.imago_words.specs.Commands.{output_is_meant, human_is_meant, target_is_meant};
 ghost use Rattle.imago_words.specs.Commands.{info_is_meant, check_is_meant, compare_is_meant};
 ghost use Rattle.imago_words.specs.Commands.{convert_is_meant};
@@ -86,8 +86,6 @@ pub fn convert_of<'a>(words: &Words<'a>) -> Result<Convert<'a>, Fault<'a>>
         target,
         source_format: format(words, "format")?,
         target_format: target_format(words)?,
-        into_existing: words.has("into-existing"),
-        every_byte: every_byte(words)?,
         force: words.has("force"),
         progress: words.has("progress"),
         quiet: words.has("quiet"),
@@ -173,12 +171,4 @@ fn size<'a>(words: &Words<'a>, key: &str) -> Result<Option<u64>, Fault<'a>>
         Some(size) => Ok(Some(size)),
         None => Err(Fault::Value(given.row, given.value)),
     }
-}
-
-/// Whether each byte is written.
-fn every_byte<'a>(words: &Words<'a>) -> Result<bool, Fault<'a>>
-    ensures ok { IfOk result (λ every. every ≡ writes_every_byte (state_of words.now)) }
-    ensures exact { is_ok result ≡ size_is_meant (codes "sparse-size") (state_of words.now) }
-{
-    Ok(size(words, "sparse-size")? == Some(0))
 }

@@ -127,10 +127,6 @@ pub struct Convert<'a> {
     pub source_format: Option<Format>,
     /// The format of the target: raw, if it wasn't said.
     pub target_format: Format,
-    /// Whether the target is there, and is written into.
-    pub into_existing: bool,
-    /// Whether each byte is written, so that the target has no holes.
-    pub every_byte: bool,
     /// Whether a target that is there is replaced.
     pub force: bool,
     /// Whether the progress is shown.

@@ -12,7 +12,7 @@ use crate::kind::Kind;
 use crate::refusal::Refusal;
 use std::alloc::Global;
 
-/// `convert -pfqcow2 a --tables=1G --force -S 0 -1` converts `a`, a qcow2 image, to `-1`. It is
+/// `convert -pfqcow2 a --tables=1G --force -1` converts `a`, a qcow2 image, to `-1`. It is
 /// refused only if memory is.
 pub fn convert_is_read<'a>(alloc: Global, words: &'a [String]) -> Result<Command<'a>, Refusal<'a>>
     requires { map string_bytes words.now ≡ worked_line }

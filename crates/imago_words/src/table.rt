@@ -229,15 +229,6 @@ pub static TABLE: Table = Table {
         rows: &[
             SOURCE_FORMAT,
             valued!("target-format", "O", "", "FMT", "raw", "The format of OUT"),
-            flag!("into-existing", "n", "", "Write into OUT, which exists"),
-            valued!(
-                "sparse-size",
-                "S",
-                "",
-                "SIZE",
-                "a size such as 64k",
-                "0 writes every byte; else ignored"
-            ),
             flag!("force", "", "force", "Replace OUT if it exists"),
             PROGRESS,
             QUIET,
@@ -255,6 +246,11 @@ pub static TABLE: Table = Table {
             VERSION,
         ],
         absent: &[
+            absent!("-n", "not yet; OUT is made anew, or replaced with --force"),
+            absent!(
+                "-S",
+                "not yet; what is zero in blocks of 4096 bytes is a hole of OUT"
+            ),
             absent!("-c", "OUT is raw, which isn't compressed"),
             absent!("-o", "OUT is raw, which has no options"),
             absent!("-l", "snapshots aren't read; the disk is read as it is now"),

@@ -3,7 +3,7 @@
 use super::set_up::{Case, check_cases};
 
 /// Command lines that are done.
-static CASES: [Case; 7] = [
+static CASES: [Case; 8] = [
     Case {
         words: "info disk.vmdk",
         appends: 0,
@@ -62,6 +62,15 @@ static CASES: [Case; 7] = [
                 RW 2 ZERO\nRW 1 FLAT \"parts/b.bin\" 1\n",
             )],
         )),
+    },
+    Case {
+        words: "convert plain.raw -pqO raw -tnone -m 8 -W out.raw -f raw",
+        appends: 99,
+        finishes: true,
+        status: 0,
+        output: "",
+        errors: "",
+        written: Some((7, &[(2, b"hello")])),
     },
     Case {
         words: "convert --allow-outside outside.vmdk out.raw",

@@ -5,60 +5,8 @@ use super::set_up::{Case, check_cases};
 /// A command line that makes no file, its status, its output, and what it tells as an error.
 type Row = (&'static str, u8, &'static str, &'static str);
 
-/// Command lines that can't be meant, images that are refused, and faults that are found.
-static ROWS: [Row; 36] = [
-    // The command line.
-    (
-        "info",
-        2,
-        "",
-        "imago-img: not the files or options of this command; imago-img --help tells the \
-         commands\n",
-    ),
-    (
-        "copy a.bin",
-        2,
-        "",
-        "imago-img: a command that isn't known; imago-img --help tells the commands\n",
-    ),
-    (
-        "convert a.bin b.raw c.raw",
-        2,
-        "",
-        "imago-img: too many files; imago-img --help tells the commands\n",
-    ),
-    (
-        "info --force a.bin",
-        2,
-        "",
-        "imago-img: not the files or options of this command; imago-img --help tells the \
-         commands\n",
-    ),
-    (
-        "check --json a.bin",
-        2,
-        "",
-        "imago-img: not the files or options of this command; imago-img --help tells the \
-         commands\n",
-    ),
-    (
-        "map --verbose a.bin",
-        2,
-        "",
-        "imago-img: an option that isn't known; imago-img --help tells the commands\n",
-    ),
-    (
-        "info -f qed a.bin",
-        2,
-        "",
-        "imago-img: -f takes raw, vmdk or qcow2; imago-img --help tells the commands\n",
-    ),
-    (
-        "info -f",
-        2,
-        "",
-        "imago-img: -f takes raw, vmdk or qcow2; imago-img --help tells the commands\n",
-    ),
+/// Images and files that are refused, and faults that are found.
+static ROWS: [Row; 28] = [
     // The file, and its format.
     (
         "info nothing.raw",

@@ -34,9 +34,9 @@ fn a_converted_disk_is_the_same(rt: HostRuntime) {
     let Ok(mut host) = made else { return };
     let done = convert_image(&mut host, "disk.vmdk", "out.raw", PLAIN, false, false);
     assert!(&rt; done.is_ok());
-    let found = compare_images(&host, "disk.vmdk", "out.raw", PLAIN);
+    let found = compare_images(&host, "disk.vmdk", "out.raw", PLAIN, None, false);
     assert!(&rt; matches!(&found, Ok(found) if found.difference.is_none()));
-    let other = compare_images(&host, "out.raw", "a.bin", PLAIN);
+    let other = compare_images(&host, "out.raw", "a.bin", PLAIN, None, false);
     assert!(&rt; matches!(&other, Ok(found) if found.difference == Some(0)));
 }
 
@@ -75,7 +75,7 @@ fn names_of_one_image_are_the_same(rt: HostRuntime) {
     };
     for &(first, second, same) in &PAIRS {
         let how = if first == "one.raw" { raw } else { PLAIN };
-        let found = compare_images(&host, first, second, how);
+        let found = compare_images(&host, first, second, how, how.format, false);
         let told = found.ok().map(|found| found.difference.is_none());
         assert!(&rt; told == same, "{first} and {second}");
     }

@@ -75,17 +75,14 @@ static CASES: [Case; 20] = [
         text: "convert \"disk.qcow2\" any \"disk.raw\" raw",
     },
     Case {
-        words: &[
-            "convert", "-pf", "vmdk", "-O", "raw", "-n", "-S", "0", "--force", "a", "b",
-        ],
+        words: &["convert", "-pf", "vmdk", "-O", "raw", "--force", "a", "b"],
         status: 0,
-        text: "convert \"a\" vmdk \"b\" raw existing every force progress",
+        text: "convert \"a\" vmdk \"b\" raw force progress",
     },
-    // What only tunes is accepted, also a length of holes that isn't 0.
+    // What only tunes is accepted.
     Case {
         words: &[
-            "convert", "-S", "64k", "-t", "none", "-Tnone", "-m8", "-WC", "-r", "1M", "-U", "a",
-            "b",
+            "convert", "-t", "none", "-Tnone", "-m8", "-WC", "-r", "1M", "-U", "a", "b",
         ],
         status: 0,
         text: "convert \"a\" any \"b\" raw",

@@ -128,16 +128,13 @@ Options:
 
 const CONVERT: &str = "Write an image's disk to another image
 
-usage: imago-img convert [-f FMT] [-O FMT] [-n] [-S SIZE] [--force] [-p] [-q]
-                         [-U] [-t CACHE] [-T CACHE] [-m N] [-W] [-C] [-r RATE]
-                         [--tables SIZE] [--strict] [--allow-outside] [-h] [-V]
-                         FILE OUT
+usage: imago-img convert [-f FMT] [-O FMT] [--force] [-p] [-q] [-U] [-t CACHE]
+                         [-T CACHE] [-m N] [-W] [-C] [-r RATE] [--tables SIZE]
+                         [--strict] [--allow-outside] [-h] [-V] FILE OUT
 
 Options:
   -f FMT                The format of FILE: raw, vmdk or qcow2
   -O FMT                The format of OUT: raw
-  -n                    Write into OUT, which exists
-  -S SIZE               0 writes every byte; else ignored: a size such as 64k
       --force           Replace OUT if it exists
   -p                    Show the progress
   -q, --quiet           Print nothing but errors

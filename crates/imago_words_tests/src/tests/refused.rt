@@ -2,7 +2,7 @@
 
 use super::set_up::{Case, check_cases};
 
-static CASES: [Case; 36] = [
+static CASES: [Case; 37] = [
     Case {
         words: &[],
         status: 1,
@@ -129,9 +129,16 @@ static CASES: [Case; 36] = [
         text: "-f takes raw, vmdk or qcow2, not \"vdi\"; see imago-img convert --help",
     },
     Case {
-        words: &["convert", "-S", "many", "a", "b"],
+        words: &["convert", "-S", "0", "a", "b"],
         status: 1,
-        text: "-S takes a size such as 64k, not \"many\"; see imago-img convert --help",
+        text: "convert has no -S: not yet; what is zero in blocks of 4096 bytes is a hole of OUT; \
+            see imago-img convert --help",
+    },
+    Case {
+        words: &["convert", "-pn", "a", "b"],
+        status: 1,
+        text: "convert has no -n: not yet; OUT is made anew, or replaced with --force; \
+            see imago-img convert --help",
     },
     Case {
         words: &["map", "--tables=8E", "x"],

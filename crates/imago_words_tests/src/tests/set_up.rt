@@ -89,18 +89,12 @@ fn shown(alloc: Global, command: Command<'_>) -> Result<String, AllocError> {
             let rules = opening(alloc, convert.opening)?;
             let told = told(convert.progress, convert.quiet);
             let force = if convert.force { " force" } else { "" };
-            let existing = if convert.into_existing {
-                " existing"
-            } else {
-                ""
-            };
-            let every = if convert.every_byte { " every" } else { "" };
             let (source, target) = (
                 format(convert.source_format),
                 format(Some(convert.target_format)),
             );
             format!(in alloc;
-                "convert {:?} {source} {:?} {target}{existing}{every}{force}{told}{rules}",
+                "convert {:?} {source} {:?} {target}{force}{told}{rules}",
                 convert.source, convert.target
             )
         }

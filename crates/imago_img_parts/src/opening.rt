@@ -1,0 +1,46 @@
+//! How the images that a command line names are opened.
+ghost use Rattle.std.specs.Prelude.{◌≡◌, option_map};
+ghost use Rattle.imago_img_parts.specs.Openings.{how_by, image_format, others_by};
+
+use imago_images::format::ImageFormat;
+use imago_images::opening::{Opening, OtherFiles};
+use imago_words::command::Opening as Said;
+use imago_words::format::Format;
+
+/// How an image is opened, by its format, if it was said, and by what is said of all images of the
+/// command.
+pub fn how_to_open(format: Option<Format>, said: Said) -> Opening
+    ensures { result ≡ how_by format said }
+{
+    Opening {
+        format: said_format(format),
+        strict: said.strict,
+        other_files: other_files(said.allow_outside),
+        tables: said.tables,
+        // No command writes to an image.
+        writable: false,
+    }
+}
+
+/// The format of an image, if it was said.
+pub fn said_format(format: Option<Format>) -> Option<ImageFormat>
+    ensures { result ≡ option_map image_format format }
+{
+    match format {
+        None => None,
+        Some(Format::Raw) => Some(ImageFormat::Raw),
+        Some(Format::Vmdk) => Some(ImageFormat::Vmdk),
+        Some(Format::Qcow2) => Some(ImageFormat::Qcow2),
+    }
+}
+
+/// Which other files are opened.
+fn other_files(allow_outside: bool) -> OtherFiles
+    ensures { result ≡ others_by allow_outside }
+{
+    if allow_outside {
+        OtherFiles::Any
+    } else {
+        OtherFiles::InFolder
+    }
+}

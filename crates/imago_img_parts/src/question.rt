@@ -1,0 +1,21 @@
+//! The questions that commands answer.
+
+use imago_words::command::{Check, Compare, Info, Map};
+use imago_words::kind::Kind;
+
+/// A question. Its answer changes no file.
+#[derive(Clone, Copy)]
+pub enum Question<'a> {
+    /// What the options of a command are, or the commands.
+    Help(Option<Kind>),
+    /// Which version of the program this is.
+    Version,
+    /// What an image is.
+    Info(Info<'a>),
+    /// Where the bytes of an image's disk stand.
+    Map(Map<'a>),
+    /// Which faults an image has.
+    Check(Check<'a>),
+    /// Whether two images show the same.
+    Compare(Compare<'a>),
+}
