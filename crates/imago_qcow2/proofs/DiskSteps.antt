@@ -1,5 +1,5 @@
 -- Two files with the same header and tables.
-use Rattle.std.proofs.Common.{◌≡◌, ℕ, ◌+◌, ◌*◌, ◌/◌, ◌%◌, ◌^◌, ◌<◌, ◌≤◌, ⊎_elim, List, length, refl, sym, ap, ◌∙◌, arith}
+use Rattle.std.proofs.Common.{◌≡◌, ℕ, ◌+◌, ◌*◌, ◌/◌, ◌%◌, ◌^◌, ◌<◌, ◌≤◌, ⊎_elim, true, List, length, refl, sym, ap, ◌∙◌, arith}
 use Rattle.std.specs.Prelude.{slice_index}
 use Rattle.std.proofs.lemmas.Bool.{cases_lt}
 use Rattle.std.proofs.lemmas.Grind.{div_ceil_times}
@@ -10,13 +10,16 @@ use Rattle.imago_qcow2.specs.declared.entry.L2Table.TheVariants as T
 use Rattle.imago_qcow2.specs.declared.entry.GuestCluster.{GuestCluster}
 use Rattle.imago_qcow2.specs.declared.entry.GuestCluster.TheVariants as C
 use Rattle.imago_qcow2.specs.Numbers.{be64}
-use Rattle.imago_qcow2.specs.Entry.{version_of, disk_size, l1_start, cluster_length, per_table, table_in_entry, cluster_in_entry, l1_entry, table_of, cluster_by, cluster_of, place_by, qcow2_place}
-use Rattle.imago_qcow2.specs.Header.{header_of}
+use Rattle.imago_qcow2.specs.Entry.{version_of, disk_size, l1_start, cluster_length, per_table, table_in_entry, cluster_in_entry, l1_entry, table_of, cluster_by, cluster_of, place_by, disk_of, qcow2_place}
+use Rattle.imago_drivers.specs.Place.{Value, Special}
+use Rattle.imago_qcow2.specs.Header.{header_of, compression_of}
+use Rattle.imago_qcow2.specs.Compressed.{packed_value}
 use Rattle.imago_qcow2.specs.Opening.{table_count}
-use Rattle.imago_qcow2.specs.Qcow2Laws.{place_in, place_out}
-use Rattle.imago_qcow2.specs.Disk.{HaveSameTables, StandsAlike}
+use Rattle.imago_qcow2.specs.Qcow2Laws.{packed_of, place_at, place_in, place_out}
+use Rattle.imago_qcow2.specs.Disk.{AreSameBytes, HaveSameTables, StandsAlike}
 use Rattle.imago_qcow2.proofs.NumberSteps.{range32, range64}
-use Rattle.imago_qcow2.proofs.HeaderSteps.{header_same}
+use Rattle.imago_qcow2.proofs.HeaderSteps.{header_same, compression_same}
+use Rattle.imago_qcow2.proofs.StreamSteps.{same_bytes, packed_same}
 
 module _ (a b : List ℕ) (same : HaveSameTables a b) where
   same_version : version_of a ≡ version_of b
@@ -61,15 +64,27 @@ module _ (a b : List ℕ) (same : HaveSameTables a b) where
   pub same_header : header_of b (length b) ≡ header_of a (length a)
   same_header = header_same a b same_head (length b) ∙ ap (header_of a) (sym same.len)
 
-  alike_by : (rest p : ℕ) (k : GuestCluster) → StandsAlike (place_by a rest p k) (place_by b rest p k)
-  alike_by rest p C.Absent = refl
-  alike_by rest p C.Zero = refl
-  alike_by rest p (C.Stored at) = (slice_index b (at + rest), refl)
-  alike_by rest p C.Compressed = refl
-  alike_by rest p C.Invalid = refl
+  alike_by : (f g : ℕ → ℕ → ℕ → Value) (rest p : ℕ) (k : GuestCluster) → StandsAlike (place_by f a rest p k) (place_by g b rest p k)
+  alike_by f g rest p C.Absent = refl
+  alike_by f g rest p C.Zero = refl
+  alike_by f g rest p (C.Stored at) = (slice_index b (at + rest), refl)
+  alike_by f g rest p (C.Compressed at n) = (g at n rest, refl)
+  alike_by f g rest p C.Invalid = refl
 
-  alike_in : (p : ℕ) → 8 ≤ cluster_length a → p < disk_size a → StandsAlike (qcow2_place a p) (qcow2_place b p)
-  alike_in p eight h =
+  same_compression : compression_of a ≡ compression_of b
+  same_compression = sym (compression_same a b same_head)
+
+  -- where the bytes of a stream are the same, so is what it puts out
+  same_stream : (at n i : ℕ) → AreSameBytes a b at n → packed_of true a (disk_of a) at n i ≡ packed_of true b (disk_of b) at n i
+  same_stream at n i h =
+      ap (λ k. packed_value true k a (cluster_length a) at n i) same_compression
+      ∙ ap (λ c. packed_value true (compression_of b) a c at n i) same_cluster
+      ∙ packed_same (compression_of b) a b (cluster_length b) at n i (same_bytes a b at n h)
+
+  -- the guest cluster of an offset, by the tables of either
+  both_by : (p : ℕ) → 8 ≤ cluster_length a → p < disk_size a
+      → place_by (packed_of true b (disk_of b)) b (p % cluster_length a) p (cluster_of a (p / cluster_length a)) ≡ place_at b p
+  both_by p eight h =
       let c = cluster_length a in
       let span : 0 < per_table a * c = mul-pos (let x : 0 < per_table a = omega (arith, eight) in x) (omega (arith, eight)) in
       let covers : disk_size a ≤ table_count a * (per_table a * c) = (div_ceil_times (disk_size a) (per_table a * c) span).0 in
@@ -77,14 +92,38 @@ module _ (a b : List ℕ) (same : HaveSameTables a b) where
       let e : p / c / per_table a ≡ p / (c * per_table a) = div-div-eq-div-mul p c (per_table a) in
       let f : c * per_table a ≡ per_table a * c = omega arith in
       let inside : p / c / per_table a < table_count a = rw (e, f) below in
-      let here : qcow2_place a p ≡ place_by a (p % c) p (cluster_of a (p / c)) = place_in a p h in
-      let there : qcow2_place b p ≡ place_by b (p % cluster_length b) p (cluster_of b (p / cluster_length b)) = place_in b p (omega (arith, h, same_size)) in
-      let both : place_by b (p % c) p (cluster_of a (p / c)) ≡ place_by b (p % cluster_length b) p (cluster_of b (p / cluster_length b)) =
-      ap (place_by b (p % c) p) (same_cluster_of (p / c) inside eight) ∙ ap (λ x. place_by b (p % x) p (cluster_of b (p / x))) same_cluster in
-      rw (here, there, ← both) (alike_by (p % c) p (cluster_of a (p / c)))
+      let g = packed_of true b (disk_of b) in
+      ap (place_by g b (p % c) p) (same_cluster_of (p / c) inside eight) ∙ ap (λ x. place_by g b (p % x) p (cluster_of b (p / x))) same_cluster
+
+  alike_in : (p : ℕ) → 8 ≤ cluster_length a → p < disk_size a → StandsAlike (qcow2_place a p) (qcow2_place b p)
+  alike_in p eight h =
+      let c = cluster_length a in
+      let f = packed_of true a (disk_of a) in
+      let g = packed_of true b (disk_of b) in
+      let here : qcow2_place a p ≡ place_by f a (p % c) p (cluster_of a (p / c)) = place_in a p h in
+      let there : qcow2_place b p ≡ place_by g b (p % cluster_length b) p (cluster_of b (p / cluster_length b)) = place_in b p (omega (arith, h, same_size)) in
+      rw (here, there, ← both_by p eight h) (alike_by f g (p % c) p (cluster_of a (p / c)))
+
+  -- a compressed cluster is the same, where its stream's bytes are
+  packed_alike : (p at n : ℕ) → 8 ≤ cluster_length a → p < disk_size a → cluster_of a (p / cluster_length a) ≡ GuestCluster.Compressed at n → AreSameBytes a b at n → qcow2_place a p ≡ qcow2_place b p
+  packed_alike p at n eight h is same_bytes_there =
+      let c = cluster_length a in
+      let f = packed_of true a (disk_of a) in
+      let g = packed_of true b (disk_of b) in
+      place_in a p h ∙ ap (place_by f a (p % c) p) is
+      ∙ ap (λ v. Special v p) (same_stream at n (p % c) same_bytes_there)
+      ∙ ap (place_by g b (p % c) p) (sym is)
+      ∙ both_by p eight h ∙ sym (place_in b p (omega (arith, h, same_size)))
 
   alike_out : (p : ℕ) → disk_size a ≤ p → StandsAlike (qcow2_place a p) (qcow2_place b p)
   alike_out p h = rw (place_out a p h) (place_out b p (omega (arith, h, same_size)))
+
+  -- a compressed place past the disk's end is an end in both
+  pub streams_alike : 8 ≤ cluster_length a → (p at n : ℕ) → cluster_of a (p / cluster_length a) ≡ GuestCluster.Compressed at n → AreSameBytes a b at n → qcow2_place a p ≡ qcow2_place b p
+  streams_alike eight p at n is h = ⊎_elim
+      (λ under. packed_alike p at n eight under is h)
+      (λ over. place_out a p over ∙ sym (place_out b p (omega (arith, over, same_size))))
+      (cases_lt p (disk_size a))
 
   pub stand_alike : 8 ≤ cluster_length a → (p : ℕ) → StandsAlike (qcow2_place a p) (qcow2_place b p)
   stand_alike eight p = ⊎_elim (λ under. alike_in p eight under) (λ over. alike_out p over) (cases_lt p (disk_size a))

@@ -4,7 +4,7 @@ use Rattle.std.specs.Prelude.{slice_index}
 use Rattle.imago_storage.specs.Bytes.{IsReadAt}
 use Rattle.imago_qcow2.specs.declared.header.Header.{Header}
 use Rattle.imago_qcow2.specs.Numbers.{be32, be64}
-use Rattle.imago_qcow2.specs.Header.{magic_fault, features_at, support_fault, bounds_fault, added_fault, name_fault, size_fault, table_fault, own_length, header_of, IsSound}
+use Rattle.imago_qcow2.specs.Header.{magic_fault, features_at, support_fault, bounds_fault, added_fault, name_fault, size_fault, table_fault, own_length, compression_of, header_of, IsSound}
 use Rattle.imago_qcow2.proofs.NumberSteps.{range32, range64}
 
 module _ (bytes head : List ℕ) (same : (i : ℕ) → i < 112 → slice_index head i ≡ slice_index bytes i) where
@@ -21,7 +21,7 @@ module _ (bytes head : List ℕ) (same : (i : ℕ) → i < 112 → slice_index h
   same8 = same 104 (omega arith)
 
   pub header_same : (file : ℕ) → header_of head file ≡ header_of bytes file
-  unfolding header_of own_length magic_fault features_at support_fault bounds_fault added_fault name_fault size_fault table_fault
+  unfolding header_of compression_of own_length magic_fault features_at support_fault bounds_fault added_fault name_fault size_fault table_fault
   header_same file =
       let a = same32 0 (omega arith) in
       let b = same32 4 (omega arith) in
@@ -43,6 +43,10 @@ module _ (bytes head : List ℕ) (same : (i : ℕ) → i < 112 → slice_index h
   unfolding own_length
   own_same = let a = same32 4 (omega arith) in let b = same32 100 (omega arith) in rw (a, b) refl
 
+  pub compression_same : compression_of head ≡ compression_of bytes
+  unfolding compression_of
+  compression_same = let a = same32 4 (omega arith) in let b = same32 100 (omega arith) in rw (a, b, same8) refl
+
   pub sound_same : (file : ℕ) (h : Header) → IsSound head file h → IsSound bytes file h
   sound_same file h s = record {
     version = s.version ∙ same32 4 (omega arith);
@@ -52,6 +56,7 @@ module _ (bytes head : List ℕ) (same : (i : ℕ) → i < 112 → slice_index h
     start = s.start ∙ same64 40 (omega arith);
     name_start = s.name_start ∙ same64 8 (omega arith);
     name_length = s.name_length ∙ same32 16 (omega arith);
+    compression = s.compression ∙ compression_same;
     is_size = s.is_size;
     least = s.least;
     most = s.most;

@@ -8,6 +8,7 @@ pub mod MapSteps
 pub mod HeldSteps
 pub mod ReadSteps
 pub mod BackingSteps
+pub mod StreamSteps
 pub mod DiskSteps
 pub mod ToldSteps
 pub mod OpenSteps

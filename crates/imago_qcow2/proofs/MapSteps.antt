@@ -6,14 +6,15 @@ use Rattle.std.proofs.Math.Nat.{mod-lt}
 use Rattle.imago_storage.specs.declared.error.Error.{Error}
 use Rattle.imago_drivers.specs.declared.mapping.ShallowMapping.{ShallowMapping}
 use Rattle.imago_drivers.specs.declared.mapping.ShallowMapping.TheVariants as M
-use Rattle.imago_drivers.specs.Place.{Place, Stored, Zeroed, Special, Lower, Refused, End}
+use Rattle.imago_storage.specs.Features.{Features}
+use Rattle.imago_drivers.specs.Place.{Value, Place, Stored, Zeroed, Special, Lower, Refused, End}
 use Rattle.imago_drivers.specs.Mapping.{IsRight, Names, IsEof}
 use Rattle.imago_qcow2.specs.declared.entry.GuestCluster.{GuestCluster}
 use Rattle.imago_qcow2.specs.declared.entry.GuestCluster.TheVariants as C
 use Rattle.imago_qcow2.specs.Entry.{place_by}
-use Rattle.imago_qcow2.specs.Tables.{LoadedImage, loaded_cluster, loaded_place}
+use Rattle.imago_qcow2.specs.Tables.{LoadedImage, loaded_cluster, loaded_disk, loaded_place}
 use Rattle.imago_qcow2.specs.Qcow2.{IsLongest, IsOneMapping}
-use Rattle.imago_qcow2.specs.Qcow2Laws.{in_disk, past_disk}
+use Rattle.imago_qcow2.specs.Qcow2Laws.{packed_of, in_disk, past_disk}
 
 module _ (block : ℕ) (positive : 0 < block) where
   pub rest_small : (p : ℕ) → p % block < block
@@ -93,27 +94,33 @@ names_same (M.Special o) (M.Indirect x v) p q n h k g = let first = h.1 in let z
 names_same (M.Special o) (M.Zero v) p q n h k g = let first = h.1 in let z : ⊥ = cc in absurd z
 names_same (M.Special o) M.Eof p q n h k g = absurd k
 
--- where in its guest cluster a place stands matters only where that is stored
-rest_free : (bytes : List ℕ) (a b p : ℕ) (k : GuestCluster) → ((at : ℕ) → k ≡ GuestCluster.Stored at → a ≡ b) → place_by bytes a p k ≡ place_by bytes b p k
-rest_free bytes a b p C.Absent h = refl
-rest_free bytes a b p C.Zero h = refl
-rest_free bytes a b p (C.Stored at) h = ap (λ x. place_by bytes x p (GuestCluster.Stored at)) (h at refl)
-rest_free bytes a b p C.Compressed h = refl
-rest_free bytes a b p C.Invalid h = refl
+-- where in its guest cluster a place stands matters only where that is stored or compressed
+rest_free : (packed : ℕ → ℕ → ℕ → Value) (bytes : List ℕ) (a b p : ℕ) (k : GuestCluster) → ((at : ℕ) → k ≡ GuestCluster.Stored at → a ≡ b) → ((at n : ℕ) → k ≡ GuestCluster.Compressed at n → a ≡ b)
+    → place_by packed bytes a p k ≡ place_by packed bytes b p k
+rest_free packed bytes a b p C.Absent h g = refl
+rest_free packed bytes a b p C.Zero h g = refl
+rest_free packed bytes a b p (C.Stored at) h g = ap (λ x. place_by packed bytes x p (GuestCluster.Stored at)) (h at refl)
+rest_free packed bytes a b p (C.Compressed at n) h g = ap (λ x. place_by packed bytes x p (GuestCluster.Compressed at n)) (g at n refl)
+rest_free packed bytes a b p C.Invalid h g = refl
 
-module _ (bytes : List ℕ) (loaded : LoadedImage) (o : ℕ) where
+module _ (f : Features) (bytes : List ℕ) (loaded : LoadedImage) (o : ℕ) where
+  -- what the bytes of compressed clusters are
+  abbrev pub packed_bytes : ℕ → ℕ → ℕ → Value
+  packed_bytes = packed_of f.tells_bytes bytes (loaded_disk loaded)
+
   -- a place by what its guest cluster is, from what that of an earlier place is
-  pub place_of : 0 < loaded.cluster → (k : GuestCluster) (i : ℕ) → loaded_cluster loaded ((o + i) / loaded.cluster) ≡ k → ((at : ℕ) → k ≡ GuestCluster.Stored at → i < loaded.cluster - o % loaded.cluster) → o + i < loaded.size
-      → loaded_place loaded bytes (o + i) ≡ place_by bytes (o % loaded.cluster + i) (o + i) k
-  place_of positive k i is near under =
-      in_disk bytes loaded.size loaded.cluster (loaded_cluster loaded) (o + i) under
-      ∙ ap (place_by bytes ((o + i) % loaded.cluster) (o + i)) is
-      ∙ rest_free bytes ((o + i) % loaded.cluster) (o % loaded.cluster + i) (o + i) k (λ at e. same_rest loaded.cluster positive o i (near at e))
+  pub place_of : 0 < loaded.cluster → (k : GuestCluster) (i : ℕ) → loaded_cluster loaded ((o + i) / loaded.cluster) ≡ k → ((at : ℕ) → k ≡ GuestCluster.Stored at → i < loaded.cluster - o % loaded.cluster)
+      → ((at n : ℕ) → k ≡ GuestCluster.Compressed at n → i < loaded.cluster - o % loaded.cluster) → o + i < loaded.size
+      → loaded_place f loaded bytes (o + i) ≡ place_by packed_bytes bytes (o % loaded.cluster + i) (o + i) k
+  place_of positive k i is near packed under =
+      in_disk f.tells_bytes bytes (loaded_disk loaded) (o + i) under
+      ∙ ap (place_by packed_bytes bytes ((o + i) % loaded.cluster) (o + i)) is
+      ∙ rest_free packed_bytes bytes ((o + i) % loaded.cluster) (o % loaded.cluster + i) (o + i) k (λ at e. same_rest loaded.cluster positive o i (near at e)) (λ at n e. same_rest loaded.cluster positive o i (packed at n e))
 
   -- past the end
-  pub right_end : (most : ℕ) → loaded.size ≤ o → IsRight (loaded_place loaded bytes) o most ShallowMapping.Eof 0
+  pub right_end : (most : ℕ) → loaded.size ≤ o → IsRight (loaded_place f loaded bytes) o most ShallowMapping.Eof 0
   right_end most h =
-      let e : loaded_place loaded bytes o ≡ End = past_disk bytes loaded.size loaded.cluster (loaded_cluster loaded) o h in
+      let e : loaded_place f loaded bytes o ≡ End = past_disk f.tells_bytes bytes (loaded_disk loaded) o h in
       record {
         names = λ i l. absurd (omega arith);
         first = λ no. absurd (no e);

@@ -1,5 +1,5 @@
 -- What was loaded of a file that tells its bytes is what these say.
-use Rattle.std.proofs.Common.{◌≡◌, ℕ, ◌+◌, ◌*◌, ◌/◌, ◌%◌, ◌<◌, ◌≤◌, ◌⊎◌, ⊎_elim, inl, inr, List, length, Option, Some, None, Ok, Err, refl, sym, ap, ◌∙◌, arith}
+use Rattle.std.proofs.Common.{◌≡◌, true, ℕ, ◌+◌, ◌*◌, ◌/◌, ◌%◌, ◌<◌, ◌≤◌, ◌⊎◌, ⊎_elim, inl, inr, List, length, Option, Some, None, Ok, Err, refl, sym, ap, ◌∙◌, arith}
 use Rattle.std.specs.Prelude.{slice_index, slice_get, IfSome, IsTrue, IsOk}
 use Rattle.std.specs.Int.{div_ceil}
 use Rattle.std.specs.declared.vec.Vec.{Vec}
@@ -21,11 +21,11 @@ use Rattle.imago_qcow2.specs.declared.table.HeldTable.{HeldTable}
 use Rattle.imago_qcow2.specs.declared.table.HeldTable.TheVariants as H
 use Rattle.imago_qcow2.specs.declared.table.Tables.{Tables}
 use Rattle.imago_qcow2.specs.Numbers.{be32, be64}
-use Rattle.imago_qcow2.specs.Header.{header_of, own_length, IsSound}
-use Rattle.imago_qcow2.specs.Entry.{version_of, disk_size, l1_start, cluster_length, per_table, table_in_entry, cluster_in_entry, l1_entry, table_of, cluster_by, cluster_of, place_by, qcow2_place}
-use Rattle.imago_qcow2.specs.Tables.{AreTables, LoadedImage, loaded_of, entry_cluster, held_cluster, loaded_cluster, loaded_place, header_cluster, header_tables, says_entry, IsHeadRead, IsAccepted, AreEntriesRead, IsHeld, IsLoadedImage}
+use Rattle.imago_qcow2.specs.Header.{header_of, own_length, compression_of, IsSound}
+use Rattle.imago_qcow2.specs.Entry.{version_of, disk_size, l1_start, cluster_length, per_table, table_in_entry, cluster_in_entry, l1_entry, table_of, cluster_by, cluster_of, place_by, disk_place, disk_of, qcow2_place}
+use Rattle.imago_qcow2.specs.Tables.{AreTables, LoadedImage, loaded_of, entry_cluster, held_cluster, loaded_cluster, loaded_disk, loaded_place, header_cluster, header_tables, says_entry, IsHeadRead, IsAccepted, AreEntriesRead, IsHeld, IsLoadedImage}
 use Rattle.imago_qcow2.specs.Opening.{table_count, TablesWrap, EntryWraps, start_reasons, header_reasons, tables_reasons, open_reasons, IsRefusedAsRead, IsRefusedOpening}
-use Rattle.imago_qcow2.specs.Qcow2Laws.{in_disk, past_disk, place_in, place_out}
+use Rattle.imago_qcow2.specs.Qcow2Laws.{packed_of, in_disk, past_disk, place_in, place_out}
 use Rattle.imago_qcow2.proofs.NumberSteps.{read64}
 use Rattle.imago_qcow2.proofs.HeaderSteps.{header_same, sound_same, head_same}
 
@@ -116,7 +116,7 @@ module _ (f : Features) (bytes : List ℕ) (told : IsTrue f.tells_bytes) where
   module _ (h : Header) (tables : Tables) where
     -- what was loaded, by the bytes of the file
     abbrev by_bytes : LoadedImage
-    by_bytes = record { version = version_of bytes; cluster = cluster_length bytes; size = disk_size bytes; l1 = tables.l1.items; l2 = tables.l2.items }
+    by_bytes = record { version = version_of bytes; compression = compression_of bytes; cluster = cluster_length bytes; size = disk_size bytes; l1 = tables.l1.items; l2 = tables.l2.items }
 
     module _ (x : IsLoadedImage f bytes h tables) where
       told_held : (i : ℕ) (t : HeldTable) → slice_get tables.l1.items i ≡ Some t → IsHeld f bytes (cluster_length bytes) tables.l2.items (table_of bytes i) t
@@ -177,16 +177,24 @@ module _ (f : Features) (bytes : List ℕ) (told : IsTrue f.tells_bytes) where
       pub name_length_told : h.name_length ≡ be32 bytes 16
       name_length_told = same_number h.name_length (be32 bytes 16) (λ x. (told_sound h (x.0)).name_length)
 
+      compression_told : h.compression ≡ compression_of bytes
+      compression_told = let p : IsProp (h.compression ≡ compression_of bytes) = Prim.hlevel props in ∥∥₁_elim known p (λ x. (told_sound h (x.0)).compression)
+
       image_told : loaded_of h cluster tables ≡ by_bytes
       image_told =
-          ap (λ v. record { version = v; cluster = cluster; size = h.size; l1 = tables.l1.items; l2 = tables.l2.items }) version_told
-          ∙ ap (λ c. record { version = version_of bytes; cluster = c; size = h.size; l1 = tables.l1.items; l2 = tables.l2.items }) cluster_told
-          ∙ ap (λ s. record { version = version_of bytes; cluster = cluster_length bytes; size = s; l1 = tables.l1.items; l2 = tables.l2.items }) size_told
+          ap (λ v. record { version = v; compression = h.compression; cluster = cluster; size = h.size; l1 = tables.l1.items; l2 = tables.l2.items }) version_told
+          ∙ ap (λ k. record { version = version_of bytes; compression = k; cluster = cluster; size = h.size; l1 = tables.l1.items; l2 = tables.l2.items }) compression_told
+          ∙ ap (λ c. record { version = version_of bytes; compression = compression_of bytes; cluster = c; size = h.size; l1 = tables.l1.items; l2 = tables.l2.items }) cluster_told
+          ∙ ap (λ s. record { version = version_of bytes; compression = compression_of bytes; cluster = cluster_length bytes; size = s; l1 = tables.l1.items; l2 = tables.l2.items }) size_told
+
+      -- the storage tells its bytes, and so the streams of compressed clusters
+      tells : f.tells_bytes ≡ true
+      tells = told
 
       clusters_told : 8 ≤ cluster_length bytes → (k : ℕ) → k / per_table bytes < length tables.l1.items → loaded_cluster by_bytes k ≡ cluster_of bytes k
       clusters_told eight k within = let p : IsProp (loaded_cluster by_bytes k ≡ cluster_of bytes k) = Prim.hlevel props in ∥∥₁_elim known p (λ x. told_of x eight k within)
 
-      place_in_told : 8 ≤ cluster_length bytes → disk_size bytes ≤ length tables.l1.items * (per_table bytes * cluster_length bytes) → (p : ℕ) → p < disk_size bytes → loaded_place by_bytes bytes p ≡ qcow2_place bytes p
+      place_in_told : 8 ≤ cluster_length bytes → disk_size bytes ≤ length tables.l1.items * (per_table bytes * cluster_length bytes) → (p : ℕ) → p < disk_size bytes → disk_place true bytes (loaded_disk by_bytes) p ≡ qcow2_place bytes p
       place_in_told eight covers p h =
           let c = cluster_length bytes in
           let span : 0 < per_table bytes * c = mul-pos (let x : 0 < per_table bytes = omega (arith, eight) in x) (omega (arith, eight)) in
@@ -194,19 +202,19 @@ module _ (f : Features) (bytes : List ℕ) (told : IsTrue f.tells_bytes) where
           let e : p / c / per_table bytes ≡ p / (c * per_table bytes) = div-div-eq-div-mul p c (per_table bytes) in
           let f : c * per_table bytes ≡ per_table bytes * c = omega arith in
           let inside : p / c / per_table bytes < length tables.l1.items = rw (e, f) below in
-          in_disk bytes (disk_size bytes) c (loaded_cluster by_bytes) p h
-          ∙ ap (place_by bytes (p % c) p) (clusters_told eight (p / c) inside)
+          in_disk true bytes (loaded_disk by_bytes) p h
+          ∙ ap (place_by (packed_of true bytes (disk_of bytes)) bytes (p % c) p) (clusters_told eight (p / c) inside)
           ∙ sym (place_in bytes p h)
 
       -- the places of the disk are those that the bytes of the file give
-      pub places_told : 512 ≤ cluster → h.size ≤ length tables.l1.items * (cluster / 8 * cluster) → (p : ℕ) → loaded_place (loaded_of h cluster tables) bytes p ≡ qcow2_place bytes p
+      pub places_told : 512 ≤ cluster → h.size ≤ length tables.l1.items * (cluster / 8 * cluster) → (p : ℕ) → loaded_place f (loaded_of h cluster tables) bytes p ≡ qcow2_place bytes p
       places_told least covers p =
           let eight : 8 ≤ cluster_length bytes = omega (arith, least, cluster_told) in
           let here : disk_size bytes ≤ length tables.l1.items * (cluster / 8 * cluster) = omega (arith, covers, size_told) in
           let covers_bytes : disk_size bytes ≤ length tables.l1.items * (per_table bytes * cluster_length bytes) = rw cluster_told at here in
-          ap (λ l. loaded_place l bytes p) image_told ∙ ⊎_elim
+          ap (λ l. loaded_place f l bytes p) image_told ∙ ap (λ t. disk_place t bytes (loaded_disk by_bytes) p) tells ∙ ⊎_elim
           (λ under. place_in_told eight covers_bytes p under)
-          (λ over. past_disk bytes (disk_size bytes) (cluster_length bytes) (loaded_cluster by_bytes) p over ∙ sym (place_out bytes p over))
+          (λ over. past_disk true bytes (loaded_disk by_bytes) p over ∙ sym (place_out bytes p over))
           (cases_lt p (disk_size bytes))
 
 -- why the header can't be read is why nothing is known of it

@@ -1,5 +1,5 @@
 use Rattle.std.specs.Prelude.{◌≡◌, ℕ, ◌+◌, ◌*◌, ◌<◌, List, length, slice_index}
-use Rattle.imago_drivers.specs.Place.{Place, Stored, Zeroed, Special, Lower, Refused, End}
+use Rattle.imago_drivers.specs.Place.{Value, Place, Stored, Zeroed, Special, Lower, Refused, End}
 use Rattle.imago_qcow2.specs.declared.entry.L2Table.{L2Table}
 use Rattle.imago_qcow2.specs.Entry.{cluster_length, l1_start, table_of}
 use Rattle.imago_qcow2.specs.Opening.{table_count}
@@ -17,13 +17,13 @@ pub record HaveSameTables (a b : List ℕ) : Type 0 where
   pub l2 : (i at : ℕ) → i < table_count a → table_of a i ≡ L2Table.Stored at
       → AreSameBytes a b at (cluster_length a)
 
--- the place stands where the other one does, though its byte may be another; any other place is the
--- same
+-- the place stands where the other one does, or is made up at the same offset, though its byte may
+-- be another; any other place is the same
 abbrev pub StandsAlike : Place → Place → Type 0
 StandsAlike (Stored byte storage offset writable) place = (other : ℕ)
     × (place ≡ Stored other storage offset writable)
 StandsAlike (Zeroed explicit) place = place ≡ Zeroed explicit
-StandsAlike (Special byte offset) place = place ≡ Special byte offset
+StandsAlike (Special value offset) place = (other : Value) × (place ≡ Special other offset)
 StandsAlike (Lower offset writable) place = place ≡ Lower offset writable
 StandsAlike (Refused e) place = place ≡ Refused e
 StandsAlike End place = place ≡ End

@@ -1,13 +1,17 @@
 -- What the bytes of a file say of its disk: the entries of its tables, and each offset's place.
-use Rattle.std.specs.Prelude.{ℕ, ◌+◌, ◌-◌, ◌*◌, ◌%◌, ◌/◌, ◌^◌, true, false, ◌||◌, not}
+use Rattle.std.specs.Prelude.{ℕ, ◌+◌, ◌-◌, ◌*◌, ◌%◌, ◌/◌, ◌^◌, Bool, true, false, ◌||◌, not}
 use Rattle.std.specs.Prelude.{List, length, slice_index, if◌then◌else◌, nat_lt, nat_eq}
+use Rattle.std.specs.Int.{w64, trailing_zeros}
 use Rattle.imago_storage.specs.declared.error.Error.{Error}
-use Rattle.imago_drivers.specs.Place.{Byte, Place, Stored, Zeroed, Special, Lower, Refused, End}
+use Rattle.imago_drivers.specs.Place.{Value, Place, Stored, Zeroed, Special, Lower, Refused, End}
+use Rattle.imago_qcow2.specs.declared.header.Compression.{Compression}
 use Rattle.imago_qcow2.specs.declared.entry.L2Table.{L2Table}
 use Rattle.imago_qcow2.specs.declared.entry.L2Table.TheVariants as T
 use Rattle.imago_qcow2.specs.declared.entry.GuestCluster.{GuestCluster}
 use Rattle.imago_qcow2.specs.declared.entry.GuestCluster.TheVariants as C
 use Rattle.imago_qcow2.specs.Numbers.{be32, be64}
+use Rattle.imago_qcow2.specs.Header.{compression_of}
+use Rattle.imago_qcow2.specs.Compressed.{packed_value}
 
 -- fields of the header, by their offsets in the file
 abbrev pub version_of : List ℕ → ℕ
@@ -43,13 +47,30 @@ table_in_entry file cluster entry =
     (if nat_eq (low entry) 0 then L2Table.Absent else
     (if nat_lt file (low entry + cluster) then L2Table.Invalid else L2Table.Stored (low entry)))
 
--- What an L2 entry says of its guest cluster: bit 62 is set for a compressed one; bits 1 to 8 and
+-- how many bits an offset in a cluster has, by the cluster's length in bytes
+abbrev pub cluster_bits : ℕ → ℕ
+cluster_bits cluster = trailing_zeros w64 cluster
+
+-- how many bits of a compressed cluster's entry are the offset of its stream
+abbrev pub offset_bits : ℕ → ℕ
+offset_bits bits = 62 - (bits - 8)
+
+-- What an L2 entry says of a compressed cluster, in clusters of so many bits. Its lowest bits are
+-- the offset in the file at which the stream begins, on any byte. The next, up to bit 61, are how
+-- many sectors of 512 bytes follow the one in which that byte lies. The stream has no more bytes
+-- than are left of these sectors, and others may follow it there. Bit 63 says nothing here.
+unfoldable pub compressed_in_entry : ℕ → ℕ → GuestCluster
+compressed_in_entry bits entry = GuestCluster.Compressed
+    (entry % 2 ^ offset_bits bits)
+    ((entry % 2 ^ 62 / 2 ^ offset_bits bits + 1) * 512 - entry % 2 ^ offset_bits bits % 512)
+
+-- What an L2 entry says of its guest cluster: bit 62 is set for a compressed one; else bits 1 to 8 and
 -- 56 to 61 are reserved, and bit 63 says nothing here; bit 0 says in version 3 that the guest
 -- cluster is zero, and is reserved in version 2; the other bits are the offset of the cluster in
 -- the file, on a cluster's bounds.
 unfoldable pub cluster_in_entry : ℕ → ℕ → ℕ → GuestCluster
 cluster_in_entry version cluster entry =
-    if nat_eq (high entry / 64 % 2) 1 then GuestCluster.Compressed else
+    if nat_eq (high entry / 64 % 2) 1 then compressed_in_entry (cluster_bits cluster) entry else
     (if not (nat_eq (high entry % 64) 0)
     || not (nat_eq ((low entry - low entry % 2) % cluster) 0) then GuestCluster.Invalid else
     (if nat_eq (low entry % 2) 1 then
@@ -76,24 +97,41 @@ cluster_by bytes k T.Invalid = GuestCluster.Invalid
 unfoldable pub cluster_of : List ℕ → ℕ → GuestCluster
 cluster_of bytes k = cluster_by bytes k (table_of bytes (k / per_table bytes))
 
--- a place by what its guest cluster is, at that offset in it
-abbrev pub place_by : List ℕ → ℕ → ℕ → GuestCluster → Place
-place_by bytes rest p C.Absent = Lower p false
-place_by bytes rest p C.Zero = Zeroed true
-place_by bytes rest p (C.Stored start) =
-    Stored (slice_index bytes (start + rest)) 0 (start + rest) false
-place_by bytes rest p C.Compressed = Special (Byte 0) p
-place_by bytes rest p C.Invalid = Refused Error.InvalidData
+-- A disk: its size and the length of a guest cluster in bytes, how compressed ones are made, and
+-- what each guest cluster is.
+pub record GuestDisk : Type 0 where
+  pub size : ℕ
+  pub cluster : ℕ
+  pub compression : Compression
+  pub clusters : ℕ → GuestCluster
 
--- the place of an offset of a disk of that size, whose guest clusters are these and have that
--- length
-abbrev pub disk_place : List ℕ → ℕ → ℕ → (ℕ → GuestCluster) → ℕ → Place
-disk_place bytes size cluster clusters p =
-    if nat_lt p size
-    then place_by bytes (p % cluster) p (clusters (p / cluster))
+-- A place by what its guest cluster is, at that offset in it. A byte of a compressed one is made
+-- up, at the disk's own offset, and so given by where its stream stands.
+abbrev pub place_by : (ℕ → ℕ → ℕ → Value) → List ℕ → ℕ → ℕ → GuestCluster → Place
+place_by packed bytes rest p C.Absent = Lower p false
+place_by packed bytes rest p C.Zero = Zeroed true
+place_by packed bytes rest p (C.Stored start) =
+    Stored (slice_index bytes (start + rest)) 0 (start + rest) false
+place_by packed bytes rest p (C.Compressed at n) = Special (packed at n rest) p
+place_by packed bytes rest p C.Invalid = Refused Error.InvalidData
+
+-- the place of an offset of a disk whose file has these bytes, and tells them or not
+abbrev pub disk_place : Bool → List ℕ → GuestDisk → ℕ → Place
+disk_place tells bytes disk p =
+    if nat_lt p disk.size
+    then place_by (packed_value tells disk.compression bytes disk.cluster) bytes
+    (p % disk.cluster) p (disk.clusters (p / disk.cluster))
     else End
 
--- the place of an offset of the disk, by the bytes of the file alone
+-- the disk by the bytes of the file alone
+abbrev pub disk_of : List ℕ → GuestDisk
+disk_of bytes = record {
+  size = disk_size bytes;
+  cluster = cluster_length bytes;
+  compression = compression_of bytes;
+  clusters = cluster_of bytes;
+}
+
+-- the place of an offset of the disk, by the same
 abbrev pub qcow2_place : List ℕ → ℕ → Place
-qcow2_place bytes p =
-    disk_place bytes (disk_size bytes) (cluster_length bytes) (cluster_of bytes) p
+qcow2_place bytes p = disk_place true bytes (disk_of bytes) p

@@ -14,6 +14,7 @@ error_of (F.Features f) = Error.Unsupported
 error_of (F.ClusterBits b) = Error.InvalidData
 error_of F.OwnLength = Error.InvalidData
 error_of F.RefcountWidth = Error.InvalidData
+error_of (F.CompressionType t) = Error.Unsupported
 error_of F.Compression = Error.InvalidData
 error_of F.BackingName = Error.InvalidData
 error_of F.ShortTable = Error.InvalidData

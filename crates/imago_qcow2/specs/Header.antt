@@ -4,6 +4,7 @@ use Rattle.std.specs.Prelude.{Bool, List, slice_index, if◌then◌else◌, nat_
 use Rattle.std.specs.Prelude.{Err}
 use Rattle.imago_storage.specs.declared.error.Error.{Error}
 use Rattle.imago_qcow2.specs.declared.header.Header.{Header}
+use Rattle.imago_qcow2.specs.declared.header.Compression.{Compression}
 use Rattle.imago_qcow2.specs.Numbers.{be32, be64}
 
 -- the next test, where this one found no fault
@@ -44,21 +45,29 @@ unfoldable pub bounds_fault : List ℕ → Result (Unit {0}) Error
 bounds_fault head = if nat_lt (be32 head 20) 9
     || nat_lt 21 (be32 head 20) then Err Error.InvalidData else Ok tt
 
--- the kind of compression, where the header is long enough to name one: 0 is deflate
-abbrev pub compression_of : List ℕ → ℕ
-compression_of head = if nat_lt 104 (be32 head 100) then slice_index head 104 else 0
+-- the number of the kind of compression, where the header is long enough to have one: 0 is deflate,
+-- and 1 is Zstandard
+abbrev pub compression_type : List ℕ → ℕ
+compression_type head = if nat_lt 104 (be32 head 100) then slice_index head 104 else 0
 
 -- The numbers that version 3 adds: the header's own length, the width of a reference count, and the
--- kind of compression, which is another than 0 exactly where bit 3 of the incompatible features
--- says so.
+-- kind of compression, which is one of the two that there are, and another than 0 exactly where bit
+-- 3 of the incompatible features says so.
 unfoldable pub added_fault : List ℕ → ℕ → Result (Unit {0}) Error
 added_fault head cluster =
     if nat_lt (be32 head 4) 3 then Ok tt else
     (if nat_lt (be32 head 100) 104 || not (nat_eq (be32 head 100 % 8) 0)
     || nat_lt cluster (be32 head 100) || nat_lt 6 (be32 head 96) then Err Error.InvalidData else
-    (if not (nat_eq (compression_of head) 0) then
+    (if nat_lt 1 (compression_type head) then Err Error.Unsupported else
+    (if not (nat_eq (compression_type head) 0) then
     (if nat_lt (be64 head 72) 8 then Err Error.InvalidData else Ok tt)
-    else (if nat_lt (be64 head 72) 8 then Ok tt else Err Error.InvalidData)))
+    else (if nat_lt (be64 head 72) 8 then Ok tt else Err Error.InvalidData))))
+
+-- how compressed clusters are made; in version 2 all are deflated
+unfoldable pub compression_of : List ℕ → Compression
+compression_of head =
+    if nat_lt (be32 head 4) 3 || nat_eq (compression_type head) 0
+    then Compression.Deflate else Compression.Zstd
 
 -- the backing file's name, if there is one, stands in the first cluster, in 1023 bytes at most
 unfoldable pub name_fault : List ℕ → ℕ → Result (Unit {0}) Error
@@ -105,6 +114,7 @@ header_of head file =
       l1_count = be32 head 36;
       name_start = be64 head 8;
       name_length = be32 head 16;
+      compression = compression_of head;
     }))))))))
 
 -- a cluster's length in bytes is a power of two, from 512 bytes to 2 MiB
@@ -120,6 +130,7 @@ pub record IsSound (head : List ℕ) (file : ℕ) (h : Header) : Type 0 where
   pub start : h.l1_start ≡ be64 head 40
   pub name_start : h.name_start ≡ be64 head 8
   pub name_length : h.name_length ≡ be32 head 16
+  pub compression : h.compression ≡ compression_of head
   pub is_size : IsClusterSize h.cluster_size
   pub least : 512 ≤ h.cluster_size
   pub most : h.cluster_size ≤ 2 ^ 21

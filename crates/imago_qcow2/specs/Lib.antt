@@ -1,7 +1,8 @@
 pub mod Numbers
+pub mod Header
+pub mod Compressed
 pub mod Entry
 pub mod Fault
-pub mod Header
 pub mod Tables
 pub mod Limit
 pub mod Absent

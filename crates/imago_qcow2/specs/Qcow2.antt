@@ -1,5 +1,5 @@
 -- The view of an image: its places, and what its calls may be refused for and answer.
-use Rattle.std.specs.Prelude.{◌≡◌, ℕ, ◌+◌, ◌-◌, ◌<◌, ◌≤◌, ◌⊎◌, Bool, true, false, List, length}
+use Rattle.std.specs.Prelude.{◌≡◌, ℕ, ◌+◌, ◌-◌, ◌/◌, ◌<◌, ◌≤◌, ◌⊎◌, Bool, true, false, List, length}
 use Rattle.std.specs.Prelude.{None}
 use Rattle.imago_storage.specs.declared.error.Error.{Error}
 use Rattle.imago_storage.specs.declared.error.Error.TheVariants as E
@@ -9,14 +9,18 @@ use Rattle.imago_drivers.specs.declared.format.Format.TheVariants as Format
 use Rattle.imago_drivers.specs.declared.mapping.ShallowMapping.{ShallowMapping}
 use Rattle.imago_drivers.specs.Operation.{Operation, Map, Read, Write, Zero, DiscardToZero}
 use Rattle.imago_drivers.specs.Operation.{DiscardToAny, DiscardToBacking, Grow, Shrink, Flush}
-use Rattle.imago_drivers.specs.Place.{Value, Byte, Place, Special, IsIn, PlacesStandAt}
+use Rattle.imago_drivers.specs.Place.{Value, Place, Special, IsIn, PlacesStandAt, own_values}
+use Rattle.imago_drivers.specs.LayerBelow.{IsUnreadableIn}
 use Rattle.imago_drivers.specs.Mapping.{Names}
 use Rattle.imago_drivers.specs.Laws.{IsRefusedIn}
 use Rattle.imago_drivers.specs.Ranges.{HasWrappingPart}
 use Rattle.imago_drivers.specs.Causes.{Causes}
 use Rattle.imago_drivers.specs.View.{View}
-use Rattle.imago_qcow2.specs.Entry.{disk_size, qcow2_place}
-use Rattle.imago_qcow2.specs.Tables.{LoadedImage, loaded_place}
+use Rattle.imago_qcow2.specs.declared.entry.GuestCluster.{GuestCluster}
+use Rattle.imago_qcow2.specs.declared.header.Compression.{Compression}
+use Rattle.imago_qcow2.specs.declared.header.Compression.TheVariants as By
+use Rattle.imago_qcow2.specs.Entry.{GuestDisk, disk_place, disk_of}
+use Rattle.imago_qcow2.specs.Tables.{LoadedImage, loaded_disk}
 
 -- A mapping of m bytes is the longest one at o where n are asked for: it goes as far as is asked
 -- for, or as the disk does, or it is one byte too short for no mapping, since none names the place
@@ -33,26 +37,35 @@ abbrev pub IsCompressedIn : (ℕ → Place) → ℕ → ℕ → Type 0
 IsCompressedIn place o n = (p : ℕ) × IsIn o n p × ((b : Value) × (x : ℕ)
     × (place p ≡ Special b x))
 
+-- a request for the stream of a compressed cluster that the range touches wraps around
+abbrev pub StreamWraps : Features → GuestDisk → ℕ → ℕ → Type 0
+StreamWraps f disk o n = (p : ℕ) × IsIn o n p × ((at : ℕ) × (count : ℕ)
+    × (disk.clusters (p / disk.cluster) ≡ GuestCluster.Compressed at count) × Wraps f at count)
+
 -- a range of places that stand in the file one after the other, where a request for them wraps
 -- around
 abbrev pub ReadWraps : Features → (ℕ → Place) → ℕ → ℕ → Type 0
 ReadWraps f place from count = (start : ℕ) × PlacesStandAt place 0 start count from
     × Wraps f start count
 
--- A mapping or a read is refused for an invalid entry, and a read for a compressed cluster and for
--- a wrap-around at the file.
-abbrev pub qcow2_cause : Features → (ℕ → Place) → Causes
-qcow2_cause f place Map o n E.InvalidData = IsRefusedIn place o n Error.InvalidData
-qcow2_cause f place Read o n E.InvalidData = IsRefusedIn place o n Error.InvalidData
-qcow2_cause f place Read o n E.Unsupported = IsCompressedIn place o n
-qcow2_cause f place Read o n E.WrapAround = HasWrappingPart (ReadWraps f place) o n
-qcow2_cause f place _ o n _ = ⊥
+-- A mapping is refused for an invalid entry. So is a read, and for a compressed cluster that is
+-- faulty, for one where such aren't deflated, and for a wrap-around at the file.
+abbrev pub qcow2_cause : Features → GuestDisk → (ℕ → Place) → Causes
+qcow2_cause f disk place Map o n E.InvalidData = IsRefusedIn place o n Error.InvalidData
+qcow2_cause f disk place Read o n E.InvalidData =
+    IsUnreadableIn (own_values place) o n Error.InvalidData
+qcow2_cause f disk place Read o n E.Unsupported = (disk.compression ≡ Compression.Zstd)
+    × IsCompressedIn place o n
+qcow2_cause f disk place Read o n E.WrapAround =
+    HasWrappingPart (ReadWraps f place) o n ⊎ StreamWraps f disk o n
+qcow2_cause f disk place _ o n _ = ⊥
 
--- a read takes none where the places stand in the file in one piece, the request there is aligned,
--- and the storage takes none for it
+-- a read takes none where no place is compressed, and, if the places stand in the file in one piece,
+-- the request there is aligned, and the storage takes none for it
 abbrev pub ReadTakesNone : Features → ℕ → (ℕ → Place) → ℕ → ℕ → Type 0
-ReadTakesNone f file place o n = (start : ℕ) → PlacesStandAt place 0 start n o
-    → IsAlignedRequest f start n × (MayRunOut f.read_memory file (start + n) → ⊥)
+ReadTakesNone f file place o n = (IsCompressedIn place o n → ⊥)
+    × ((start : ℕ) → PlacesStandAt place 0 start n o
+    → IsAlignedRequest f start n × (MayRunOut f.read_memory file (start + n) → ⊥))
 
 abbrev pub qcow2_no_memory : Features → ℕ → (ℕ → Place) → Operation → ℕ → ℕ → Type 0
 qcow2_no_memory f file place Read o n = ReadTakesNone f file place o n
@@ -72,23 +85,28 @@ abbrev pub qcow2_whole : (ℕ → Place) → ℕ → Operation → ℕ → ℕ �
 qcow2_whole place size Read o n = IsOneMapping place size o n
 qcow2_whole place size _ o n = ⊥
 
--- what is offered: mappings, and the reads that follow them, but no read of compressed bytes
-abbrev pub qcow2_offers : Operation → Bool
-qcow2_offers Map = true
-qcow2_offers Flush = true
-qcow2_offers Write = false
-qcow2_offers Read = false
-qcow2_offers Zero = false
-qcow2_offers DiscardToZero = false
-qcow2_offers DiscardToAny = false
-qcow2_offers DiscardToBacking = false
-qcow2_offers (Grow mode) = false
-qcow2_offers Shrink = false
+-- whether compressed clusters are read
+abbrev pub is_read : Compression → Bool
+is_read By.Deflate = true
+is_read By.Zstd = false
 
--- the disk of that size with these places, whose file has these bytes, in a storage of these
--- features
-abbrev pub file_view : Features → List ℕ → ℕ → (ℕ → Place) → View Unit
-file_view f bytes size place = record {
+-- what is offered: mappings, and the reads that follow them, but no read of bytes that are
+-- compressed otherwise than by deflate
+abbrev pub qcow2_offers : Compression → Operation → Bool
+qcow2_offers by Map = true
+qcow2_offers by Flush = true
+qcow2_offers by Write = false
+qcow2_offers by Read = is_read by
+qcow2_offers by Zero = false
+qcow2_offers by DiscardToZero = false
+qcow2_offers by DiscardToAny = false
+qcow2_offers by DiscardToBacking = false
+qcow2_offers by (Grow mode) = false
+qcow2_offers by Shrink = false
+
+-- the disk with these places, whose file has these bytes, in a storage of these features
+abbrev pub view_with : Features → List ℕ → GuestDisk → (ℕ → Place) → View Unit
+view_with f bytes disk place = record {
   abilities = record {
     format = Format.Qcow2;
     is_writable = false;
@@ -97,30 +115,34 @@ file_view f bytes size place = record {
     keeps_data = f.tells_bytes;
     tells_bytes = f.tells_bytes;
     zero_granularity = None;
-    offers = qcow2_offers;
+    offers = qcow2_offers disk.compression;
     block = 1;
   };
-  size = size;
+  size = disk.size;
   place = place;
   fault_count = 0;
   stores = record { count = 1; bytes = λ index. bytes; features = λ index. f };
-  special = λ offset. Byte 0;
+  special = own_values place;
   limits = record {
-    cause = qcow2_cause f place;
+    cause = qcow2_cause f disk place;
     copies = λ op o n p. ⊥;
     no_memory = qcow2_no_memory f (length bytes) place;
     commit_memory = ⊥;
-    whole = qcow2_whole place size;
-    answers = qcow2_answers place size;
+    whole = qcow2_whole place disk.size;
+    answers = qcow2_answers place disk.size;
     longest = λ op o n index. 0;
   };
   pending = None;
 }
 
+-- the disk, whose file has these bytes, in a storage of these features
+abbrev pub file_view : Features → List ℕ → GuestDisk → View Unit
+file_view f bytes disk = view_with f bytes disk (disk_place f.tells_bytes bytes disk)
+
 -- the disk by the bytes of its file alone
 abbrev pub qcow2_view : Features → List ℕ → View Unit
-qcow2_view f bytes = file_view f bytes (disk_size bytes) (qcow2_place bytes)
+qcow2_view f bytes = file_view f bytes (disk_of bytes)
 
 -- The disk by what was loaded of the file. It is the one above where the storage tells its bytes.
 abbrev pub loaded_view : Features → List ℕ → LoadedImage → View Unit
-loaded_view f bytes loaded = file_view f bytes loaded.size (loaded_place loaded bytes)
+loaded_view f bytes loaded = file_view f bytes (loaded_disk loaded)

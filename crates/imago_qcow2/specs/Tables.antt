@@ -11,6 +11,7 @@ use Rattle.imago_storage.specs.Bytes.{IsReadAt}
 use Rattle.imago_storage.specs.Features.{Features}
 use Rattle.imago_drivers.specs.Place.{Place}
 use Rattle.imago_qcow2.specs.declared.header.Header.{Header}
+use Rattle.imago_qcow2.specs.declared.header.Compression.{Compression}
 use Rattle.imago_qcow2.specs.declared.entry.L2Table.{L2Table}
 use Rattle.imago_qcow2.specs.declared.entry.GuestCluster.{GuestCluster}
 use Rattle.imago_qcow2.specs.declared.table.HeldTable.{HeldTable}
@@ -19,12 +20,13 @@ use Rattle.imago_qcow2.specs.declared.table.Tables.{Tables}
 use Rattle.imago_qcow2.specs.declared.table.HeldTable.TheVariants as H
 use Rattle.imago_qcow2.specs.Numbers.{be64}
 use Rattle.imago_qcow2.specs.Header.{header_of, IsSound}
-use Rattle.imago_qcow2.specs.Entry.{table_in_entry, cluster_in_entry, disk_place}
+use Rattle.imago_qcow2.specs.Entry.{table_in_entry, cluster_in_entry, GuestDisk, disk_place}
 
--- What was loaded of an image: its version, the lengths of a cluster and of the disk in bytes, what
--- is held of each L1 entry, and the L2 tables.
+-- What was loaded of an image: its version, how compressed clusters are made, the lengths of a
+-- cluster and of the disk in bytes, what is held of each L1 entry, and the L2 tables.
 pub record LoadedImage : Type 0 where
   pub version : ℕ
+  pub compression : Compression
   pub cluster : ℕ
   pub size : ℕ
   pub l1 : List HeldTable
@@ -34,6 +36,7 @@ pub record LoadedImage : Type 0 where
 abbrev pub loaded_of : Header → ℕ → Tables → LoadedImage
 loaded_of h cluster tables = record {
   version = h.version;
+  compression = h.compression;
   cluster = cluster;
   size = h.size;
   l1 = tables.l1.items;
@@ -58,11 +61,19 @@ held_cluster loaded k (Some H.Invalid) = GuestCluster.Invalid
 unfoldable pub loaded_cluster : LoadedImage → ℕ → GuestCluster
 loaded_cluster loaded k = held_cluster loaded k (slice_get loaded.l1 (k / (loaded.cluster / 8)))
 
+-- the disk, by what was loaded
+abbrev pub loaded_disk : LoadedImage → GuestDisk
+loaded_disk loaded = record {
+  size = loaded.size;
+  cluster = loaded.cluster;
+  compression = loaded.compression;
+  clusters = loaded_cluster loaded;
+}
+
 -- The place of an offset of the disk, by what was loaded. The bytes of the file give those that
--- stand there alone.
-abbrev pub loaded_place : LoadedImage → List ℕ → ℕ → Place
-loaded_place loaded bytes p =
-    disk_place bytes loaded.size loaded.cluster (loaded_cluster loaded) p
+-- stand there, and what the streams there put out.
+abbrev pub loaded_place : Features → LoadedImage → List ℕ → ℕ → Place
+loaded_place f loaded bytes p = disk_place f.tells_bytes bytes (loaded_disk loaded) p
 
 -- a cluster's length, and how many L2 tables the disk has, as the header says
 abbrev pub header_cluster : Header → ℕ

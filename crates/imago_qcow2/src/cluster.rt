@@ -1,6 +1,7 @@
 //! The length of clusters, by which guest clusters are found.
 ghost use Rattle.std.specs.Prelude.{◌≡◌, ℕ, ◌-◌, ◌*◌, ◌/◌, ◌%◌, ◌^◌, ◌<◌, ◌≤◌};
 ghost use Rattle.imago_qcow2.specs.Header.{IsClusterSize};
+ghost use Rattle.imago_qcow2.specs.Entry.{cluster_bits, offset_bits};
 
 /// The length of a cluster in bytes, which is a power of two. So is the number of entries in an L2
 /// table, and how many bytes of the disk one is for. All that is asked of an offset is told without
@@ -15,6 +16,7 @@ pub(crate) struct ClusterSize {
     ghost most: { bits ≤ 21 },
     ghost shortest: { 512 ≤ length },
     ghost longest: { length ≤ 2 ^ 21 },
+    ghost is_bits: { bits ≡ cluster_bits length },
 }
 
 impl ClusterSize {
@@ -44,6 +46,15 @@ impl ClusterSize {
         ensures below { result < self.length }
     {
         offset & (self.length - 1)
+    }
+
+    /// How many offsets the bits of an L2 entry tell apart that say where a compressed cluster's
+    /// stream begins.
+    pub(crate) fn stream_offsets(self) -> u64
+        ensures value { result ≡ 2 ^ offset_bits (cluster_bits self.length) }
+        ensures least { 2 ^ 49 ≤ result }
+    {
+        2u64.pow(62 - (self.bits - 8))
     }
 
     /// The index of an offset's entry in its L2 table.

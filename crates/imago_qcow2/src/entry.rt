@@ -1,11 +1,15 @@
 //! What the entries of an image's tables say.
 ghost use Rattle.std.specs.Prelude.{◌≡◌, ℕ, ◌^◌, ◌<◌};
 ghost use Rattle.imago_qcow2.specs.Entry.{table_in_entry, cluster_in_entry};
+ghost use Rattle.imago_qcow2.specs.Entry.{cluster_bits, compressed_in_entry};
 
 use crate::cluster::ClusterSize;
 
 /// An entry's lower 56 bits are an offset of the file; its upper 8 say other things.
 const OFFSETS: u64 = 1 << 56;
+
+/// The bit of an L2 entry that is set for a compressed cluster. The bits below say where it stands.
+const COMPRESSED: u64 = 1 << 62;
 
 /// What an entry of the L1 table says of its L2 table.
 #[derive(Clone, Copy, Debug, PartialEq, Eq)]
@@ -27,8 +31,14 @@ pub enum GuestCluster {
     Zero,
     /// It stands at that offset of the file, in bytes.
     Stored(u64),
-    /// It is compressed.
-    Compressed,
+    /// It is compressed, to a stream of at most so many bytes at that offset of the file.
+    Compressed {
+        /// Where the stream begins in the file, in bytes.
+        at: u64,
+        /// How many bytes of the file the stream may have. Others may follow it among these, and
+        /// the file may end before they do.
+        length: u64,
+    },
     /// The entry is invalid.
     Invalid,
 }
@@ -55,6 +65,21 @@ pub(crate) fn table_in(file: u64, cluster: u64, entry: u64) -> L2Table
     L2Table::Stored(low)
 }
 
+/// What an L2 entry says of a compressed cluster, in an image whose clusters have that length.
+#[tactic(auto, unfolding(crate::specs::Entry::compressed_in_entry))]
+fn compressed_in(cluster: ClusterSize, entry: u64) -> GuestCluster
+    ensures says { result ≡ compressed_in_entry (cluster_bits cluster.length) entry }
+    ensures other { (at : ℕ) → result ≡ GuestCluster.Stored at → ⊥ }
+{
+    let offsets = cluster.stream_offsets();
+    let at = entry % offsets;
+    let sectors = entry % COMPRESSED / offsets;
+    GuestCluster::Compressed {
+        at,
+        length: (sectors + 1) * 512 - at % 512,
+    }
+}
+
 /// What an L2 entry says, in an image of that version whose clusters have that length.
 #[tactic(auto, unfolding(crate::specs::Entry::cluster_in_entry))]
 pub(crate) fn cluster_in(version: u32, cluster: ClusterSize, entry: u64) -> GuestCluster
@@ -64,7 +89,7 @@ pub(crate) fn cluster_in(version: u32, cluster: ClusterSize, entry: u64) -> Gues
     let low = entry % OFFSETS;
     let high = entry / OFFSETS;
     if high / 64 % 2 == 1 {
-        return GuestCluster::Compressed;
+        return compressed_in(cluster, entry);
     }
     if high % 64 != 0 || cluster.rest(low - low % 2) != 0 {
         return GuestCluster::Invalid;

@@ -32,7 +32,10 @@ pub enum HeaderFault {
     /// How many bits a reference count has.
     #[error("the header's width of reference counts can't be meant")]
     RefcountWidth,
-    /// How clusters are compressed.
+    /// Clusters that are compressed by neither deflate nor Zstandard, by the number that says how.
+    #[error("the header says compression type {0}, which isn't supported")]
+    CompressionType(u8),
+    /// How clusters are compressed: the number for it, and the feature that one is given, don't fit.
     #[error("the header's kind of compression can't be meant")]
     Compression,
     /// A name that is too long, or behind the first cluster.
@@ -82,9 +85,10 @@ impl HeaderFault {
         ensures { result ≡ error_of self }
     {
         match self {
-            HeaderFault::Version(_) | HeaderFault::Encryption | HeaderFault::Features(_) => {
-                error::Error::Unsupported
-            }
+            HeaderFault::Version(_)
+            | HeaderFault::Encryption
+            | HeaderFault::Features(_)
+            | HeaderFault::CompressionType(_) => error::Error::Unsupported,
             HeaderFault::NoImage
             | HeaderFault::ClusterBits(_)
             | HeaderFault::OwnLength

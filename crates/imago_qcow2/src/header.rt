@@ -6,6 +6,7 @@ ghost use Rattle.imago_qcow2.specs.Fault.{answer_of};
 ghost use Rattle.imago_qcow2.specs.Header.{features_at, own_length, magic_fault, support_fault};
 ghost use Rattle.imago_qcow2.specs.Header.{added_fault, bounds_fault, table_fault, size_fault};
 ghost use Rattle.imago_qcow2.specs.Header.{name_fault, header_of, IsSound, NamesBacking};
+ghost use Rattle.imago_qcow2.specs.Header.{compression_of};
 ghost use Rattle.imago_qcow2.specs.Header.{has_bit as is_bit_set};
 
 use crate::fault::HeaderFault;
@@ -16,6 +17,15 @@ pub const HEAD_LENGTH: usize = 112;
 
 /// What a file begins with: `QFI\xfb`.
 pub(crate) const MAGIC: u32 = 0x5146_49fb;
+
+/// How compressed guest clusters are made.
+#[derive(Clone, Copy, Debug, PartialEq, Eq)]
+pub enum Compression {
+    /// Each is a stream of deflate, without a frame around it.
+    Deflate,
+    /// Each is a frame of Zstandard. A read of them isn't offered.
+    Zstd,
+}
 
 /// What the header says of the disk.
 #[derive(Clone, Copy, Debug, PartialEq, Eq)]
@@ -41,6 +51,8 @@ pub struct Header {
     pub(crate) name_start: u64,
     /// The name's length in bytes.
     pub(crate) name_length: u32,
+    /// How compressed guest clusters are made.
+    pub(crate) compression: Compression,
 }
 
 impl Header {
@@ -77,6 +89,13 @@ impl Header {
         ensures { result ≡ is_bit_set self.incompatible_features 3 }
     {
         has_bit(self.incompatible_features, 3)
+    }
+
+    /// How compressed guest clusters are made, if there are any.
+    pub fn compression(self) -> Compression
+        ensures { result ≡ self.compression }
+    {
+        self.compression
     }
 
     /// Whether a writer may leave reference counts behind while the image is open.
@@ -194,10 +213,25 @@ fn check_added(head: &[u8], cluster: u64) -> Result<(), HeaderFault>
         return Err(HeaderFault::RefcountWidth);
     }
     let compression = if own > 104 { head[104] } else { 0 };
+    if compression > 1 {
+        return Err(HeaderFault::CompressionType(compression));
+    }
     if (compression == 0) != (number64(head, 72) < 8) {
         return Err(HeaderFault::Compression);
     }
     Ok(())
+}
+
+/// How compressed clusters are made, as a header without a fault says it.
+#[tactic(auto, unfolding(crate::specs::Header::compression_of))]
+fn kind_of_compression(head: &[u8]) -> Compression
+    requires { 112 ≤ length head.now }
+    ensures { result ≡ compression_of head.now }
+{
+    if number32(head, 4) < 3 || number32(head, 100) <= 104 || head[104] == 0 {
+        return Compression::Deflate;
+    }
+    Compression::Zstd
 }
 
 /// Whether a cluster's length is out of bounds.
@@ -310,5 +344,6 @@ pub fn read(head: &[u8], file: u64) -> Result<Header, HeaderFault>
         l1_count: number32(head, 36),
         name_start: number64(head, 8),
         name_length: number32(head, 16),
+        compression: kind_of_compression(head),
     })
 }

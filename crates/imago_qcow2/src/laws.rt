@@ -1,16 +1,16 @@
 //! Laws of disks, and what the definitions give for entries that are written out. The functions do
 //! nothing; their contracts are proved.
-ghost use Rattle.std.specs.Prelude.{◌≡◌, ℕ, ◌≤◌, List, length, IsTrue, Ok};
+ghost use Rattle.std.specs.Prelude.{◌≡◌, ℕ, ◌/◌, ◌≤◌, List, length, IsTrue, Ok};
 ghost use Rattle.imago_drivers.specs.Place.{Value, shown};
 ghost use Rattle.imago_qcow2.specs.Numbers.{be32, be64};
 ghost use Rattle.imago_qcow2.specs.Header.{header_of};
 ghost use Rattle.imago_qcow2.specs.declared.entry.L2Table.{L2Table};
 ghost use Rattle.imago_qcow2.specs.declared.entry.GuestCluster.{GuestCluster};
 ghost use Rattle.imago_qcow2.specs.Entry.{cluster_length, cluster_in_entry, table_in_entry};
-ghost use Rattle.imago_qcow2.specs.Entry.{disk_size, qcow2_place};
+ghost use Rattle.imago_qcow2.specs.Entry.{disk_size, cluster_of, qcow2_place};
 ghost use Rattle.imago_qcow2.specs.Tables.{header_cluster};
 ghost use Rattle.imago_qcow2.specs.Qcow2Image.{storage_in, header_in};
-ghost use Rattle.imago_qcow2.specs.Disk.{HaveSameTables, StandsAlike};
+ghost use Rattle.imago_qcow2.specs.Disk.{AreSameBytes, HaveSameTables, StandsAlike};
 
 use crate::qcow2::Qcow2;
 use imago_drivers::drivers::FormatDriverInstance;
@@ -51,12 +51,15 @@ pub fn image_of_bytes<S: Storage>(image: &Qcow2<S>)
 
 /// Where the bytes of a disk stand follows from the header and the tables of its file alone:
 /// another file that has the same ones says the same, whatever its clusters hold, and is an image
-/// too.
+/// too. What a compressed cluster shows follows from these and from the bytes of its stream.
 pub fn same_tables_stand_alike()
     ensures header { (a b : List ℕ) → HaveSameTables a b → header_of b (length b)
         ≡ header_of a (length a) }
     ensures places { (a b : List ℕ) → HaveSameTables a b → 8 ≤ cluster_length a → (p : ℕ)
         → StandsAlike (qcow2_place a p) (qcow2_place b p) }
+    ensures streams { (a b : List ℕ) → HaveSameTables a b → 8 ≤ cluster_length a → (p at n : ℕ)
+        → cluster_of a (p / cluster_length a) ≡ GuestCluster.Compressed at n
+        → AreSameBytes a b at n → qcow2_place a p ≡ qcow2_place b p }
 {}
 
 /// What entries of L2 tables say: in version 3 and in clusters of 64 KiB, unless the name says
@@ -68,10 +71,24 @@ pub fn worked_l2_entries()
     ensures zero { cluster_in_entry 3 65536 1 ≡ GuestCluster.Zero }
     ensures zero_with_a_cluster { cluster_in_entry 3 65536 0x50001 ≡ GuestCluster.Zero }
     ensures zero_in_version_2 { cluster_in_entry 2 65536 1 ≡ GuestCluster.Invalid }
-    ensures compressed { cluster_in_entry 3 65536 0x4000000000050123 ≡ GuestCluster.Compressed }
+    ensures compressed { cluster_in_entry 3 65536 0x4000000000050123
+        ≡ GuestCluster.Compressed 0x50123 221 }
     ensures unaligned { cluster_in_entry 3 65536 0x50200 ≡ GuestCluster.Invalid }
     ensures in_clusters_of_512 { cluster_in_entry 3 512 0x50200 ≡ GuestCluster.Stored 0x50200 }
     ensures reserved_bit { cluster_in_entry 3 65536 0x100000000050000 ≡ GuestCluster.Invalid }
+{}
+
+/// Where L2 entries say that the streams of compressed clusters stand, in clusters of 512 bytes, 4
+/// KiB, 64 KiB and 2 MiB: from the sector of their first byte on 1, 1, 255 and 4095 more.
+pub fn worked_compressed_entries()
+    ensures bits_9 { cluster_in_entry 3 512 0x6000000000000a01
+        ≡ GuestCluster.Compressed 0xa01 1023 }
+    ensures bits_12 { cluster_in_entry 3 4096 0x4400000000012345
+        ≡ GuestCluster.Compressed 0x12345 699 }
+    ensures bits_16 { cluster_in_entry 3 65536 0xffc0000000050123
+        ≡ GuestCluster.Compressed 0x50123 130781 }
+    ensures bits_21 { cluster_in_entry 3 2097152 0x5ffe0000003ffe00
+        ≡ GuestCluster.Compressed 0x3ffe00 2097152 }
 {}
 
 /// What entries of an L1 table say, in clusters of 64 KiB: in a file of 1 MiB, and of the table's

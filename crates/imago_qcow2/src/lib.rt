@@ -7,6 +7,7 @@
 mod absent;
 mod backing;
 mod cluster;
+mod compressed;
 pub mod entry;
 pub mod fault;
 pub mod header;

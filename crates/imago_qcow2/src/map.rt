@@ -17,8 +17,8 @@ pub(crate) fn mapping_of(
     offset: u64,
 ) -> Result<ShallowMapping, Error>
     requires small { (at : ℕ) → cluster ≡ GuestCluster.Stored at → at + rest < 2 ^ 64 }
-    ensures names { (bytes : _) (i : ℕ)
-        → IfOk result (λ m. Names m i (place_by bytes (rest + i) (offset + i) cluster)) }
+    ensures names { (packed : _) (bytes : _) (i : ℕ)
+        → IfOk result (λ m. Names m i (place_by packed bytes (rest + i) (offset + i) cluster)) }
     ensures refused { IfErr result
         (λ e. (e ≡ Error.InvalidData) × (cluster ≡ GuestCluster.Invalid)) }
 {
@@ -33,7 +33,7 @@ pub(crate) fn mapping_of(
             offset: at + rest,
             writable: false,
         }),
-        GuestCluster::Compressed => Ok(ShallowMapping::Special { offset }),
+        GuestCluster::Compressed { .. } => Ok(ShallowMapping::Special { offset }),
         GuestCluster::Invalid => Err(Error::InvalidData),
     }
 }

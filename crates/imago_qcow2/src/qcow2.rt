@@ -1,13 +1,13 @@
 //! The driver of qcow2 images.
 ghost use Rattle.std.specs.Prelude.{◌≡◌, ℕ, ◌+◌, ◌-◌, ◌*◌, ◌/◌, ◌%◌, ◌^◌, ◌<◌, ◌≤◌, ◌⊎◌, length};
 ghost use Rattle.std.specs.Prelude.{List, Some, true, false, IsErrOf, IfErr, IfOk, OnOk, IsTrue};
-ghost use Rattle.std.specs.Prelude.{Err};
+ghost use Rattle.std.specs.Prelude.{Err, take};
 ghost use Rattle.std.proofs.Props.{props};
 ghost use Rattle.imago_storage.specs.declared.error.Error.{Error};
 ghost use Rattle.imago_storage.specs.Error.{IsExtRefusal};
 ghost use Rattle.imago_drivers.specs.Commit.{IsCommit, IsCancel};
 ghost use Rattle.imago_drivers.specs.Mapping.{Names};
-ghost use Rattle.imago_drivers.specs.Place.{Refused};
+ghost use Rattle.imago_drivers.specs.Place.{Refused, HasValues, own_values};
 ghost use Rattle.imago_drivers.specs.Reasons.{allowed};
 ghost use Rattle.imago_qcow2.specs.Absent.{IsAbsentIndex};
 ghost use Rattle.imago_qcow2.specs.Fault.{by_fault};
@@ -15,6 +15,7 @@ ghost use Rattle.imago_qcow2.specs.Header.{header_of, NamesBacking};
 ghost use Rattle.imago_qcow2.specs.Limit.{IsWithin, loaded_length, TablesNeedMore};
 ghost use Rattle.imago_qcow2.specs.Tables.{IsHeadRead, IsAccepted, IsLoadedImage};
 ghost use Rattle.imago_qcow2.specs.Tables.{header_cluster, loaded_cluster, loaded_of, loaded_place};
+ghost use Rattle.imago_qcow2.specs.Tables.{loaded_disk};
 ghost use Rattle.imago_qcow2.specs.Backing.{IsBackingName, IsBackingNameRead, IsFormatName};
 ghost use Rattle.imago_qcow2.specs.Backing.{IsFormatRefusal, extensions_end, format_of};
 ghost use Rattle.imago_qcow2.specs.Opening.{read_reasons, header_reasons, probe_of};
@@ -22,15 +23,17 @@ ghost use Rattle.imago_qcow2.specs.Opening.{IsOpened, IsRefusedOpening, IsRefuse
 ghost use Rattle.imago_qcow2.specs.Opening.{IsRefusedAlone};
 ghost use Rattle.imago_qcow2.specs.Opening.{probe_reasons_of};
 ghost use Rattle.imago_qcow2.specs.Qcow2.{loaded_view};
-ghost use Rattle.imago_qcow2.specs.Qcow2Calls.{qcow2_calls};
+ghost use Rattle.imago_qcow2.specs.Qcow2Calls.{qcow2_calls, IsClusterRead, IsFirstRead};
+ghost use Rattle.imago_qcow2.specs.Qcow2Calls.{IsSpecialRead};
 ghost use Rattle.imago_qcow2.specs.Qcow2Laws.{qcow2_lawful, qcow2_causes};
 
 use crate::absent::AbsentRuns;
 use crate::backing::find_format;
 use crate::cluster::ClusterSize;
+use crate::compressed::unpack;
 use crate::entry::{GuestCluster, cluster_in};
 pub use crate::fault::OpenFault;
-use crate::header::{self, HEAD_LENGTH, Header, MAGIC};
+use crate::header::{self, Compression, HEAD_LENGTH, Header, MAGIC};
 use crate::map::{goes_on, mapping_of};
 use crate::number::number32;
 pub use crate::qcow2_builder::Qcow2OpenBuilder;
@@ -49,8 +52,12 @@ use std::fmt::{self, Display, Formatter, Write};
 ///
 /// It follows from the bytes of the file alone, and from the layer below where a guest cluster has
 /// no data. The header and the tables are read once, when the image is opened; each L2 table is
-/// kept once, also where several L1 entries name it. Compressed clusters are mapped as special, and
-/// a read of them is [`Error::Unsupported`].
+/// kept once, also where several L1 entries name it.
+///
+/// Compressed clusters are mapped as special. Those that are deflated are decoded whenever a byte of
+/// them is read, into memory of one cluster unless it is read whole, and memory for the compressed
+/// bytes, which are two clusters at most. A read is [`Error::InvalidData`] where a stream of its
+/// range is faulty, and [`Error::Unsupported`] where clusters are compressed otherwise.
 #[derive(Drop)]
 pub struct Qcow2<S: Storage> {
     storage: S,
@@ -301,6 +308,9 @@ impl<S: Storage> Qcow2<S> {
             → result.0 ≡ GuestCluster.Stored at
             → (at < 2 ^ 56)
             × (result.1 ≡ self.now.cluster.length - offset % self.now.cluster.length) }
+        ensures packed { (at n : ℕ)
+            → result.0 ≡ GuestCluster.Compressed at n
+            → result.1 ≡ self.now.cluster.length - offset % self.now.cluster.length }
     {
         let cluster = self.cluster;
         match self.tables.l1[self.l1_index(offset)] {
@@ -348,6 +358,9 @@ impl<S: Storage> Qcow2<S> {
             → result.0 ≡ GuestCluster.Stored at
             → (at < 2 ^ 56)
             × (result.1 ≡ self.now.cluster.length - offset % self.now.cluster.length) }
+        ensures packed { (at n : ℕ)
+            → result.0 ≡ GuestCluster.Compressed at n
+            → result.1 ≡ self.now.cluster.length - offset % self.now.cluster.length }
     {
         let (cluster, same) = self.cluster_at(offset);
         match cluster {
@@ -363,12 +376,12 @@ impl<S: Storage> Qcow2<S> {
         ensures names { IfOk result
             (λ r. (i : ℕ) → i < r.1
             → Names r.0 i
-            (loaded_place (loaded_in self.now) (S.bytes self.now.storage) (offset + i))) }
+            (loaded_place (S.features self.now.storage) (loaded_in self.now) (S.bytes self.now.storage) (offset + i))) }
         ensures some { IfOk result (λ r. 0 < r.1) }
         ensures inside { IfOk result (λ r. offset + r.1 ≤ self.now.header.size) }
         ensures only { IfErr result (λ e. e ≡ Error.InvalidData) }
         ensures refused { IfErr result
-            (λ e. loaded_place (loaded_in self.now) (S.bytes self.now.storage) offset ≡ Refused e) }
+            (λ e. loaded_place (S.features self.now.storage) (loaded_in self.now) (S.bytes self.now.storage) offset ≡ Refused e) }
     {
         let (cluster, same) = self.run_at(offset);
         let mapping = mapping_of(cluster, self.cluster.rest(offset), offset)?;
@@ -381,17 +394,17 @@ impl<S: Storage> Qcow2<S> {
         requires names { (i : ℕ)
             → i < known
             → Names mapping i
-            (loaded_place (loaded_in self.now) (S.bytes self.now.storage) (offset + i)) }
+            (loaded_place (S.features self.now.storage) (loaded_in self.now) (S.bytes self.now.storage) (offset + i)) }
         requires known { offset + known ≤ self.now.header.size }
         requires most { offset + most ≤ self.now.header.size }
         ensures names { (i : ℕ)
             → i < result
             → Names mapping i
-            (loaded_place (loaded_in self.now) (S.bytes self.now.storage) (offset + i)) }
+            (loaded_place (S.features self.now.storage) (loaded_in self.now) (S.bytes self.now.storage) (offset + i)) }
         ensures most { result ≤ most }
         ensures ends { (result ≡ most)
             ⊎ (Names mapping result
-            (loaded_place (loaded_in self.now) (S.bytes self.now.storage) (offset + result))
+            (loaded_place (S.features self.now.storage) (loaded_in self.now) (S.bytes self.now.storage) (offset + result))
             → ⊥) }
     {
         let mut count = known;
@@ -405,6 +418,98 @@ impl<S: Storage> Qcow2<S> {
             count += more;
         }
         most
+    }
+
+    /// Whether compressed clusters are deflated, and a range that isn't empty lies in the disk.
+    fn may_unpack(&self, offset: u64, count: u64) -> bool
+        requires { 0 < count }
+        ensures yes { result ≡ true
+            → (self.now.header.compression ≡ Compression.Deflate)
+            × (offset + count ≤ self.now.header.size) }
+        ensures no { result ≡ false
+            → (self.now.header.compression ≡ Compression.Zstd)
+            ⊎ (self.now.header.size < offset + count) }
+    {
+        if self.header.compression == Compression::Zstd || offset > self.header.size {
+            return false;
+        }
+        count <= self.header.size - offset
+    }
+
+    /// Fills the output with bytes of one guest cluster, which has to be compressed.
+    fn unpack_part(&self, alloc: Global, out: &mut [u8], offset: u64) -> Result<(), Error>
+        requires deflated { self.now.header.compression ≡ Compression.Deflate }
+        requires some { 0 < length out.old }
+        requires inside { offset + length out.old ≤ self.now.header.size }
+        requires within { length out.old
+            ≤ self.now.cluster.length - offset % self.now.cluster.length }
+        ensures bytes { IsTrue (S.features self.now.storage).tells_bytes
+            → OnOk result
+            (HasValues
+            (own_values
+            (loaded_place (S.features self.now.storage) (loaded_in self.now)
+            (S.bytes self.now.storage)))
+            offset out.new) }
+        ensures answered { IsClusterRead (S.features self.now.storage)
+            (S.bytes self.now.storage) self.now.cluster.length
+            (loaded_cluster (loaded_in self.now) (offset / self.now.cluster.length)) result }
+    {
+        let (GuestCluster::Compressed { at, length: count }, _) = self.cluster_at(offset) else {
+            return Err(Error::Unsupported);
+        };
+        let stream = read_bytes(&self.storage, alloc, at, count)?;
+        unpack(
+            alloc,
+            &stream,
+            self.cluster.length,
+            self.cluster.rest(offset),
+            out,
+        )
+    }
+
+    /// Fills the first bytes of the output with those of the guest cluster at that offset of the
+    /// disk, and answers how many these are.
+    fn unpack_next(&self, alloc: Global, out: &mut [u8], offset: u64) -> Result<usize, Error>
+        requires deflated { self.now.header.compression ≡ Compression.Deflate }
+        requires some { 0 < length out.old }
+        requires inside { offset + length out.old ≤ self.now.header.size }
+        ensures some { IfOk result (λ n. (0 < n) × (n ≤ length out.new)) }
+        ensures bytes { IsTrue (S.features self.now.storage).tells_bytes
+            → IfOk result
+            (λ n. HasValues
+            (own_values
+            (loaded_place (S.features self.now.storage) (loaded_in self.now)
+            (S.bytes self.now.storage)))
+            offset (take n out.new)) }
+        ensures answered { IsFirstRead (S.features self.now.storage)
+            (S.bytes self.now.storage) (loaded_disk (loaded_in self.now)) offset result }
+    {
+        let left = (self.cluster.length - self.cluster.rest(offset)) as usize;
+        let count = left.min(out.len());
+        self.unpack_part(alloc, &mut out[..count], offset)?;
+        Ok(count)
+    }
+
+    /// Fills the output with bytes of compressed guest clusters, from that offset of the disk on.
+    fn unpack_range(&self, alloc: Global, out: &mut [u8], offset: u64) -> Result<(), Error>
+        requires deflated { self.now.header.compression ≡ Compression.Deflate }
+        requires inside { offset + length out.old ≤ self.now.header.size }
+        ensures bytes { IsTrue (S.features self.now.storage).tells_bytes
+            → OnOk result
+            (HasValues
+            (own_values
+            (loaded_place (S.features self.now.storage) (loaded_in self.now)
+            (S.bytes self.now.storage)))
+            offset out.new) }
+        ensures answered { IsSpecialRead (S.features self.now.storage)
+            (S.bytes self.now.storage) (loaded_disk (loaded_in self.now)) offset (length out.old)
+            result }
+    {
+        let mut done: usize = 0;
+        while done < out.len() {
+            done += self.unpack_next(alloc, &mut out[done..], offset + done as u64)?;
+        }
+        Ok(())
     }
 }
 
@@ -427,7 +532,8 @@ impl<S: Storage> FormatDriverInstance for Qcow2<S> {
 
     ghost probe_reasons = { λ s. probe_reasons_of (S.features s) (S.bytes s) };
 
-    ghost calls = { qcow2_calls (λ d. S.features d.storage) (λ d. S.bytes d.storage) };
+    ghost calls = { qcow2_calls (λ d. S.features d.storage) (λ d. S.bytes d.storage)
+        (λ d. loaded_disk (loaded_in d)) };
 
     ghost lawful = { λ d. qcow2_lawful (S.features d.storage) (S.bytes d.storage) (loaded_in d) };
 
@@ -501,11 +607,14 @@ impl<S: Storage> FormatDriverInstance for Qcow2<S> {
         self.storage.read(alloc, buf, offset)
     }
 
-    fn readv_special(&self, _alloc: Global, buf: &mut [u8], _offset: u64) -> Result<(), Error> {
+    fn readv_special(&self, alloc: Global, buf: &mut [u8], offset: u64) -> Result<(), Error> {
         if buf.is_empty() {
             return Ok(());
         }
-        Err(Error::Unsupported)
+        if !self.may_unpack(offset, buf.len() as u64) {
+            return Err(Error::Unsupported);
+        }
+        self.unpack_range(alloc, buf, offset)
     }
 
     fn write_mapped(

@@ -1,9 +1,9 @@
 use Rattle.std.proofs.Common.{refl}
-use Rattle.imago_qcow2.specs.Entry.{cluster_in_entry}
+use Rattle.imago_qcow2.specs.Entry.{cluster_in_entry, compressed_in_entry}
 use Rattle.imago_qcow2.proofs.laws.worked_l2_entries.Goals as goal
 
 pub returns : goal.returns
-unfolding cluster_in_entry
+unfolding cluster_in_entry compressed_in_entry
 returns c = record {
   stored = refl;
   not_allocated = refl;

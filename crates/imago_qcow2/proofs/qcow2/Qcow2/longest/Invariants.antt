@@ -5,7 +5,7 @@ use Rattle.imago_qcow2.proofs.qcow2.Qcow2.longest.Given as goal
 
 abbrev pub invariant-loop-count : goal.invariant-loop-count
 invariant-loop-count g l = record {
-  names : (i : ℕ) → i < l.count → Names l.mapping i (loaded_place (loaded_of l.self.header l.self.cluster.length l.self.tables) (g.S.Storage.bytes l.self.storage) (l.offset + i));
+  names : (i : ℕ) → i < l.count → Names l.mapping i (loaded_place (g.S.Storage.features l.self.storage) (loaded_of l.self.header l.self.cluster.length l.self.tables) (g.S.Storage.bytes l.self.storage) (l.offset + i));
   fits : l.offset + l.count ≤ l.self.header.size;
 }
 

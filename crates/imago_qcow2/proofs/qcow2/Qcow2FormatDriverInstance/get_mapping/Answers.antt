@@ -6,7 +6,7 @@ use Rattle.imago_qcow2.proofs.qcow2.Qcow2FormatDriverInstance.get_mapping.Goals 
 pub returns-clause-right : goal.returns-clause-right
 returns-clause-right g c =
     let s = c.args.self.now in
-    let place = loaded_place (loaded_of s.header s.cluster.length s.tables) (g.S.Storage.bytes s.storage) in
+    let place = loaded_place (g.S.Storage.features s.storage) (loaded_of s.header s.cluster.length s.tables) (g.S.Storage.bytes s.storage) in
     let m = c.in_ok-mapping in
     let inside : c.args.offset < s.header.size = omega (arith, c.if-offset-self.false) in
     right_inside place c.args.offset c.args.max_length m.known c.longest.result m.mapping m.ensures.some m.ensures.names c.longest.ensures.names
@@ -15,12 +15,12 @@ returns-clause-right g c =
 pub returns-clause-part : goal.returns-clause-part
 returns-clause-part g c =
     let s = c.args.self.now in
-    let place = loaded_place (loaded_of s.header s.cluster.length s.tables) (g.S.Storage.bytes s.storage) in
+    let place = loaded_place (g.S.Storage.features s.storage) (loaded_of s.header s.cluster.length s.tables) (g.S.Storage.bytes s.storage) in
     let m = c.in_ok-mapping in
     longest_of place s.header.size c.args.offset c.args.max_length c.min-most.result m.known c.longest.result m.mapping c.min-most.ensures m.ensures.some m.ensures.names c.longest.ensures.most c.longest.ensures.ends
 
 pub returns-clause-whole : goal.returns-clause-whole
 returns-clause-whole g c = λ one.
     let s = c.args.self.now in
-    let place = loaded_place (loaded_of s.header s.cluster.length s.tables) (g.S.Storage.bytes s.storage) in
+    let place = loaded_place (g.S.Storage.features s.storage) (loaded_of s.header s.cluster.length s.tables) (g.S.Storage.bytes s.storage) in
     whole_longest place s.header.size c.args.offset c.args.max_length c.longest.result one (returns-clause-part g c)

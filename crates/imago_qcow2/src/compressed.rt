@@ -1,0 +1,44 @@
+//! The bytes of compressed guest clusters.
+ghost use Rattle.std.specs.Prelude.{◌≡◌, ◌+◌, ◌≤◌, ◌^◌, length};
+ghost use Rattle.imago_inflate.specs.Inflate.{inflated};
+ghost use Rattle.imago_qcow2.specs.Compressed.{IsPutOut, IsUnpacked};
+
+use imago_inflate::inflate::inflate;
+use imago_storage::error::Error;
+use std::alloc::Global;
+
+/// Fills the output with the first bytes that a stream puts out. [`Error::InvalidData`] is a faulty
+/// stream.
+fn put_out(stream: &[u8], out: &mut [u8]) -> Result<(), Error>
+    ensures { IsPutOut (inflated stream.now (length out.old)) out.new result }
+{
+    match inflate(stream, out) {
+        Ok(()) => Ok(()),
+        Err(_) => Err(Error::InvalidData),
+    }
+}
+
+/// Fills the output with bytes of a guest cluster of that length, from an index in it on, by its
+/// stream. All of the cluster is decoded: a part into memory that is taken for it.
+///
+/// [`Error::InvalidData`] is a faulty stream, and [`Error::Memory`] no room for the cluster.
+pub(crate) fn unpack(
+    alloc: Global,
+    stream: &[u8],
+    cluster: u64,
+    rest: u64,
+    out: &mut [u8],
+) -> Result<(), Error>
+    requires within { rest + length out.old ≤ cluster }
+    requires longest { cluster ≤ 2 ^ 21 }
+    ensures { IsUnpacked (inflated stream.now cluster) rest out.new result }
+{
+    if out.len() as u64 == cluster {
+        return put_out(stream, out);
+    }
+    let mut whole = vec![in alloc; 0u8; cluster as usize]?;
+    put_out(stream, &mut whole)?;
+    let start = rest as usize;
+    out.copy_from_slice(&whole[start..start + out.len()]);
+    Ok(())
+}
