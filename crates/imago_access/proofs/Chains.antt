@@ -1,11 +1,13 @@
-use Rattle.std.proofs.Common.{◌+◌, arith, ◌<◌, ◌≤◌, ◌≡◌, ℕ, inl, inr, ⊎_elim, Bool, true, false, ◌&&◌, Option, Some, None, refl, sym, ap, ◌∙◌, subst, Box, Global}
+use Rattle.std.proofs.Common.{◌+◌, ◌-◌, nat_eq, arith, ◌<◌, ◌≤◌, ◌≡◌, ℕ, inl, inr, ⊎_elim, Bool, true, false, ◌&&◌, Option, Some, None, refl, sym, ap, ◌∙◌, subst, Box, Global}
+use Rattle.std.proofs.lemmas.Bool.{ne_eqb}
 use Rattle.imago_storage.specs.declared.error.Error.{Error}
 use Rattle.imago_drivers.specs.Operation.{Operation, Read}
 use Rattle.imago_drivers.specs.Place.{Value, Place, Lower, End, shown, values}
 use Rattle.imago_drivers.specs.View.{View}
-use Rattle.imago_access.specs.declared.access.FormatAccess.{FormatAccess, FormatAccess', out-FormatAccess, is-FormatAccess', back-FormatAccess-backing}
+use Rattle.imago_access.specs.declared.access.FormatAccess.{FormatAccess, FormatAccess', Held-FormatAccess-backing, out-FormatAccess, is-FormatAccess', back-FormatAccess-backing}
 use Rattle.imago_access.specs.Chain.{driver, backing, unboxed, disk_value, is_reliable, tells_bytes, IsReached, chain_cause, cause_below, chain_no_memory, no_memory_below, may_take_memory, may_take_memory_below, lent_image}
 use Rattle.imago_access.specs.ChainLaws.{reached_wider}
+use Rattle.imago_access.specs.Specials.{special_at, special_below}
 use Rattle.imago_access.specs.Target.{Target, target, followed, deeper, target_here}
 
 module _ {D St : Type 0} (view : D → View St) where
@@ -22,6 +24,32 @@ module _ {D St : Type 0} (view : D → View St) where
 
   pub value_lower : (x y : FormatAccess D) (p q : ℕ) (w : Bool) → backing x ≡ Some y → (view (driver x)).place p ≡ Lower q w → disk_value view x p ≡ disk_value view y q
   value_lower x y p q w h k = value_at x p (Lower q w) k ∙ ap (λ (b : Option (FormatAccess D)). (lent_image view b).at q) h
+
+  special_back : (inner : D) (b : Option (Box (FormatAccess D) Global)) → special_at view (FormatAccess' inner (back-FormatAccess-backing D b)) 0 ≡ (view inner).special
+  special_back inner b = refl
+
+  -- the top makes up what its driver does
+  pub special_here : (x : FormatAccess D) → special_at view x 0 ≡ (view (driver x)).special
+  special_here x = ap (λ (y : FormatAccess D). special_at view y 0) (is-FormatAccess' x) ∙ special_back (driver x) (out-FormatAccess D x).backing
+
+  one_deeper : (inner : D) (held : Held-FormatAccess-backing D) (k : ℕ) → special_at view (FormatAccess' inner held) (1 + k) ≡ special_below view held k
+  one_deeper inner held k =
+      let e : nat_eq (1 + k) 0 ≡ false = ne_eqb (1 + k) 0 (λ h. absurd (omega arith)) in
+      let m : 1 + k - 1 ≡ k = omega arith in
+      rw (e, m) refl
+
+  special_unboxed : (b : Option (Box (FormatAccess D) Global)) (y : FormatAccess D) (k p : ℕ) → unboxed b ≡ Some y → special_below view (back-FormatAccess-backing D b) k p ≡ special_at view y k p
+  special_unboxed None y k p h = let z : ⊥ = cc in absurd z
+  special_unboxed (Some b) y k p h =
+      let e : b.value ≡ y = cc in
+      ap (λ (z : FormatAccess D). special_at view z k p) e
+
+  -- what is one deeper is the layer below's
+  pub special_lower : (x y : FormatAccess D) (k p : ℕ) → backing x ≡ Some y → special_at view x (1 + k) p ≡ special_at view y k p
+  special_lower x y k p h =
+      ap (λ (z : FormatAccess D). special_at view z (1 + k) p) (is-FormatAccess' x)
+      ∙ ap (λ (f : ℕ → Value). f p) (one_deeper (driver x) (back-FormatAccess-backing D (out-FormatAccess D x).backing) k)
+      ∙ special_unboxed (out-FormatAccess D x).backing y k p h
 
   reliable_back : (inner : D) (b : Option (Box (FormatAccess D) Global)) → is_reliable view (FormatAccess' inner (back-FormatAccess-backing D b)) ≡ ((view inner).abilities.is_reliable && (lent_image view (unboxed b)).is_reliable)
   reliable_back inner None = refl

@@ -8,9 +8,10 @@ use Rattle.imago_drivers.specs.declared.mapping.ShallowMapping.{ShallowMapping}
 use Rattle.imago_drivers.specs.declared.mapping.ShallowMapping.TheVariants as S
 use Rattle.imago_access.specs.declared.access.FormatAccess.{FormatAccess}
 use Rattle.imago_access.specs.Chain.{driver, backing, chain_no_memory}
+use Rattle.imago_access.specs.Specials.{special_at}
 use Rattle.imago_access.specs.Target.{Target, target, deeper, target_here}
 use Rattle.imago_access.specs.Ways.{NamesOrEnds, IsPart, part_length, LeadsDown}
-use Rattle.imago_access.proofs.Chains.{value_lower, reliable_lower, told_lower, target_lower, cause_lower, memory_lower, no_memory_lower}
+use Rattle.imago_access.proofs.Chains.{value_lower, special_lower, reliable_lower, told_lower, target_lower, cause_lower, memory_lower, no_memory_lower}
 
 and_true : (g : Bool) → (g && true) ≡ g
 and_true true = refl
@@ -37,6 +38,7 @@ module _ {D St : Type 0} (view : D → View St) (x : FormatAccess D) (o most : �
   at_the_top = record {
     targets = λ i h. sym (deeper_none (target view x (o + i)));
     shows = λ i h. refl;
+    specials = λ k p. ap (λ (d : ℕ). special_at view x d p) (omega arith);
     causes = λ op i m e p h c. c;
     memory = λ i m p h c. c;
     reliable = λ h. h;
@@ -54,6 +56,7 @@ module _ {D St : Type 0} (view : D → View St) (x : FormatAccess D) (o most : �
     cut_short all = record {
       targets = λ i h. down.targets i (omega (arith, part.within));
       shows = λ i h. down.shows i (omega (arith, part.within));
+      specials = down.specials;
       causes = λ op i k e p h c. down.causes op i k e p (omega (arith, part.within)) c;
       memory = λ i k p h c. down.memory i k p (omega (arith, part.within)) c;
       reliable = down.reliable;
@@ -71,6 +74,7 @@ module _ {D St : Type 0} (view : D → View St) (x : FormatAccess D) (o most : �
     step_down y q v b s all = record {
       targets = λ i h. down.targets i (omega (arith, part.within)) ∙ ap (deeper hops w) (target_lower view layer y (at + i) (q + i) v b (named i h)) ∙ deeper_deeper hops w v (target view y (q + i));
       shows = λ i h. down.shows i (omega (arith, part.within)) ∙ value_lower view layer y (at + i) (q + i) v b (named i h);
+      specials = λ k p. ap (λ (d : ℕ). special_at view x d p) (omega arith) ∙ down.specials (1 + k) p ∙ special_lower view layer y k p b;
       causes = λ op i k e p h c. down.causes op i k e p (omega (arith, part.within)) (cause_lower view layer y op (at + i) k (q + i) k e b p (λ j lt.
           let a : at + (i + j) ≡ at + i + j = omega arith in
           let d : q + (i + j) ≡ q + i + j = omega arith in

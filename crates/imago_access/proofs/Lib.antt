@@ -6,6 +6,7 @@ pub mod Weaker
 pub mod AnswerSteps
 pub mod ReadSteps
 pub mod Values
+pub mod Kept
 pub mod Moved
 pub mod Written
 pub mod Writes

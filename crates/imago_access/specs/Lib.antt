@@ -1,5 +1,6 @@
 pub mod Moves
 pub mod Chain
+pub mod Specials
 pub mod Text
 pub mod Target
 pub mod Resolved
@@ -14,6 +15,8 @@ pub mod Sizes
 pub mod Performed
 pub mod ZeroCalls
 pub mod Answered
+pub mod Kept
+pub mod ReaderOf
 pub mod Runs
 pub mod Disk
 pub mod Alignments

@@ -12,6 +12,7 @@ use Rattle.imago_access.specs.declared.chain.Way.{Way}
 use Rattle.imago_access.specs.declared.mapping.Mapping.{Mapping}
 use Rattle.imago_access.specs.Chain.{driver, backing, disk_value, is_reliable, tells_bytes, chain_cause}
 use Rattle.imago_access.specs.Chain.{chain_no_memory, may_take_memory}
+use Rattle.imago_access.specs.Specials.{special_at}
 use Rattle.imago_access.specs.Target.{target, deeper, told_depth}
 
 -- the mapping names that place as its i-th one, or it is the end
@@ -43,6 +44,7 @@ pub record LeadsDown {D St : Type 0} (view : D → View St) (x : FormatAccess D)
   pub targets : (i : ℕ) → i < left
       → target view x (o + i) ≡ deeper hops w (target view layer (at + i))
   pub shows : (i : ℕ) → i < left → disk_value view x (o + i) ≡ disk_value view layer (at + i)
+  pub specials : (k p : ℕ) → special_at view x (hops + k) p ≡ special_at view layer k p
   pub causes : (op : Operation) (i m : ℕ) (e : Error) → 0 < m → i + m ≤ left
       → chain_cause view layer op (at + i) m e → chain_cause view x op (o + i) m e
   pub memory : (i m : ℕ) → 0 < m → i + m ≤ left → may_take_memory view layer (at + i) m

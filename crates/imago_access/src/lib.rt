@@ -14,6 +14,7 @@ pub mod laws;
 pub mod mapping;
 mod prepare;
 mod read;
+pub mod reader;
 mod resize;
 pub mod run;
 pub mod text;

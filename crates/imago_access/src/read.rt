@@ -20,7 +20,7 @@ use std::alloc::Global;
 
 /// Fills the buffer with the bytes that a driver's mapping names: zeroes for what stands in no
 /// storage.
-fn read_named<D: FormatDriverInstance>(
+pub(crate) fn read_named<D: FormatDriverInstance>(
     inner: &D,
     alloc: Global,
     mapping: ShallowMapping,
@@ -50,14 +50,14 @@ fn read_named<D: FormatDriverInstance>(
 }
 
 /// Fills the buffer with zeroes.
-fn clear(buf: &mut [u8])
+pub(crate) fn clear(buf: &mut [u8])
     ensures { EachIndex buf.new (λ k. slice_index buf.new k ≡ 0) }
 {
     buf.fill(0);
 }
 
 /// How many bytes of a range lie inside a disk.
-fn part_inside(size: u64, offset: u64, count: usize) -> usize
+pub(crate) fn part_inside(size: u64, offset: u64, count: usize) -> usize
     ensures { result ≡ inside_part size offset count }
 {
     if offset < size {

@@ -171,6 +171,15 @@ pub trait FormatDriverInstance: Display + Drop {
             (allowed (special_read_reasons (view self.now) offset (length buf.old))) }
         ensures answered { calls.read_special offset (length buf.old) self.now result };
 
+    /// How many bytes the blocks have in which special bytes are made up, from offset 0 of these
+    /// on: a read of a part of a block costs as much as one of all of it. It is never 0; by default
+    /// it is 1, as no block costs more than its bytes.
+    fn special_block(&self) -> u64
+        ensures { 0 < result }
+    {
+        1
+    }
+
     /// Writes bytes of a storage that a mapping names as writable. Refused, each place of the range
     /// is old or new.
     fn write_mapped(

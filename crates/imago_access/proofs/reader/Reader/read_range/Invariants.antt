@@ -1,0 +1,25 @@
+use Rattle.std.proofs.Common.{◌≡◌, ◌-◌, ◌≤◌, ◌⊎◌, length, take}
+use Rattle.std.specs.Prelude.{IsTrue}
+use Rattle.imago_drivers.specs.Place.{HasValues}
+use Rattle.imago_access.specs.Chain.{disk_value, tells_bytes, chain_no_memory}
+use Rattle.imago_access.specs.Kept.{rest_kept}
+use Rattle.imago_access.specs.ReaderOf.{image_of, IsKeeping}
+use Rattle.imago_access.proofs.MadeSteps.{GoesOn}
+use Rattle.imago_access.proofs.reader.Reader.read_range.Given as goal
+
+abbrev pub invariant-loop-done : goal.invariant-loop-done
+invariant-loop-done g l =
+    let view = g.D.FormatDriverInstance.view in
+    let x = image_of l.initial.self in
+    record {
+      image : image_of l.self ≡ x;
+      keeping : IsKeeping view l.self;
+      within : l.done ≤ l.inside;
+      bounded : l.inside ≤ length l.buf;
+      values : IsTrue (tells_bytes view x) → HasValues (disk_value view x) l.offset (take l.done l.buf);
+      asked : GoesOn (rest_kept g.D.FormatDriverInstance.calls x l.offset l.inside) l.inside tt l.done tt;
+      once : chain_no_memory view x l.offset l.inside → (l.done ≡ 0) ⊎ (l.done ≡ l.inside);
+    }
+
+abbrev pub decreases-loop-done : goal.decreases-loop-done
+decreases-loop-done g l = l.inside - l.done
