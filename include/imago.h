@@ -1,13 +1,18 @@
 /* The layer for C: scripts on disk images in memory, and what the descriptors of VMDK images say.
  *
- * tools/c-and-rust/run builds the static library libimago_c.a from crates/imago_c, and links it.
+ * To link it: `rt lib` in the folder crates/imago_c makes out/libimago_c.a, once it is proved. That archive calls two
+ * of the toolchain's, which are in the folder c/ beside the page that `rt doc` names:
+ *
+ *     cc program.c libimago_c.a KIT/c/libos_c.a KIT/c/liblibc_c.a -lm -lpthread
+ *
+ * tools/c-and-rust/run does all of this, and runs programs that call it.
  *
  * What holds of every call:
  *  - A pointer isn't null, also where its length is 0. It stays the caller's, and is kept nowhere.
  *  - Buffers don't overlap one another, or what the call writes besides.
  *  - Memory is taken by malloc, and freed before the call returns.
- *  - Any bytes may be handed in: what can't be meant is refused. Nothing is printed, and no call stops
- *    the program.
+ *  - Any bytes may be handed in: invalid input is refused. Nothing is printed, and no call stops the
+ *    program.
  *  - Nothing is shared between calls, so several threads may call at once.
  *
  * A text is bytes; it has no end mark, and needs no encoding.
@@ -22,6 +27,9 @@
 #ifdef __cplusplus
 extern "C" {
 #endif
+
+/* The version of the library and of this header. */
+#define IMAGO_VERSION "0.2.0"
 
 /* What a call was refused for: the refusals of the library, by name. */
 enum imago_kind {
@@ -39,6 +47,27 @@ enum imago_kind {
     IMAGO_DENIED = 11,
     IMAGO_NOT_FOUND = 12,
 };
+
+/* What a kind means, as a sentence without its full stop, for messages. The library itself prints none. */
+static inline const char *imago_kind_text(uint32_t kind)
+{
+    static const char *const texts[] = {
+        "done",
+        "the image is read-only",
+        "the range passes the end of the disk",
+        "the end of the range passes the greatest possible offset",
+        "the request wraps around at the end of the storage's address space",
+        "the image's data is invalid",
+        "the driver or storage does not support this operation",
+        "this part of the disk may not be accessed",
+        "the storage failed",
+        "out of memory",
+        "the prepared mapping does not belong to this image",
+        "opening further storages is denied",
+        "there is no storage of that name",
+    };
+    return kind < sizeof texts / sizeof *texts ? texts[kind] : "an unknown kind";
+}
 
 /* Runs a script, whose commands docs/SCRIPTS.md has. It reaches nothing but storages in memory, which
  * are made anew and let go.

@@ -3,8 +3,10 @@
 fn main() {
     println!("cargo:rerun-if-env-changed=IMAGO_LIB");
     let Ok(folder) = std::env::var("IMAGO_LIB") else {
-        println!("cargo:warning=IMAGO_LIB isn't set: tools/c-and-rust/run sets it");
-        return;
+        panic!(
+            "IMAGO_LIB isn't set: it names the folder with libimago_c.a, which `rt lib` makes in crates/imago_c, and \
+             with libos_c.a and liblibc_c.a of the toolchain. tools/c-and-rust/run makes such a folder"
+        );
     };
     println!("cargo:rustc-link-search=native={folder}");
     for library in ["imago_c", "os_c", "libc_c"] {

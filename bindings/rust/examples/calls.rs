@@ -20,7 +20,15 @@ const REFUSED: [(&[u8], Refusal); 6] = [
     (b"KDMV and more", Refusal::Unsupported),
 ];
 
+/// The size of a disk, by a function that passes any error on.
+fn size_of(text: &[u8]) -> Result<u64, Box<dyn std::error::Error>> {
+    Ok(vmdk_size(text, true)?)
+}
+
 fn main() {
+    assert_eq!(size_of(TWO).ok(), Some(5 * 512));
+    let refused = size_of(b"version=4\n").map_err(|error| error.to_string());
+    assert_eq!(refused, Err("the driver or storage does not support this operation".to_string()));
     let (status, printed) = script(b"mem a 16 00 1 1\nopen raw a rw\nwrite 3 0102\nread 0 6\n");
     assert_eq!((status, printed.as_slice()), (Status::Done, &b"ok\nok\nok\nok 000000010200\n"[..]));
     let (status, printed) = script(b"read 0 x\n\0");

@@ -6,6 +6,8 @@
 mod calls;
 
 use calls::{Counts, Record};
+use std::error::Error;
+use std::fmt::{self, Display, Formatter};
 
 /// What a call was refused for.
 #[derive(Clone, Copy, Debug, PartialEq, Eq)]
@@ -23,6 +25,27 @@ pub enum Refusal {
     Denied,
     NotFound,
 }
+
+impl Display for Refusal {
+    fn fmt(&self, f: &mut Formatter<'_>) -> fmt::Result {
+        f.write_str(match self {
+            Refusal::ReadOnly => "the image is read-only",
+            Refusal::BeyondDisk => "the range passes the end of the disk",
+            Refusal::RangeOverflow => "the end of the range passes the greatest possible offset",
+            Refusal::WrapAround => "the request wraps around at the end of the storage's address space",
+            Refusal::InvalidData => "the image's data is invalid",
+            Refusal::Unsupported => "the driver or storage does not support this operation",
+            Refusal::NoAccess => "this part of the disk may not be accessed",
+            Refusal::Device => "the storage failed",
+            Refusal::Memory => "out of memory",
+            Refusal::ForeignMapping => "the prepared mapping does not belong to this image",
+            Refusal::Denied => "opening further storages is denied",
+            Refusal::NotFound => "there is no storage of that name",
+        })
+    }
+}
+
+impl Error for Refusal {}
 
 /// The refusals by their numbers, from 1 on.
 const REFUSALS: [Refusal; 12] = [

@@ -140,8 +140,8 @@ impl<'a, D: FormatDriverInstance> Reader<'a, D> {
     fn kept_from(&self, depth: usize, offset: u64) -> Option<&[u8]>
         requires { IsKeeping D.view self.now }
         ensures { IfSome result (λ bytes. depth < 2 ^ 64 - 1
-        × (IsTrue (tells_bytes D.view (image_of self.now))
-        → HasValues (special_at D.view (image_of self.now) depth) offset bytes.now)) }
+            × (IsTrue (tells_bytes D.view (image_of self.now))
+            → HasValues (special_at D.view (image_of self.now) depth) offset bytes.now)) }
     {
         let Some(block) = self.kept else {
             return None;

@@ -1,12 +1,14 @@
 -- Parts of two disks, compared.
-use Rattle.std.proofs.Common.{◌≡◌, ℕ, ◌+◌, ◌-◌, ◌<◌, ◌≤◌, ◌⊎◌, ⊎_elim, List, length, slice_index, Some, None, sym, ap, ◌∙◌, arith}
+use Rattle.std.proofs.Common.{◌≡◌, ℕ, ◌+◌, ◌-◌, ◌<◌, ◌≤◌, ◌⊎◌, ⊎_elim, List, length, slice_index, Option, Some, None, sym, ap, ◌∙◌, subst, arith, Result, Ok}
+use Rattle.std.specs.Prelude.{IsTrue, IfOk}
+use Rattle.imago_storage.specs.declared.error.Error.{Error}
 use Rattle.std.proofs.lemmas.Bool.{cases_lt}
 use Rattle.std.proofs.lemmas.List.{get_or_past}
 use Rattle.std.proofs.lemmas.List.FromFn.{length-map-range_with_len, get_or-map-range_with_len}
 use Rattle.imago_drivers.specs.Place.{Value, Byte, Unreadable}
 use Rattle.imago_drivers.specs.View.{View}
 use Rattle.imago_access.specs.declared.access.FormatAccess.{FormatAccess}
-use Rattle.imago_access.specs.Chain.{driver, disk_value}
+use Rattle.imago_access.specs.Chain.{driver, disk_value, tells_bytes}
 use Rattle.imago_access.specs.Disk.{value_at, disk, IsPartOf}
 use Rattle.imago_copy.specs.Differences.{IsFirstDifference, IsFirstDifferentValue}
 use Rattle.imago_copy.specs.Compared.{AreSameIn, IsZeroIn, IsDifferenceIn}
@@ -64,6 +66,13 @@ module _ {D St : Type 0} (view : D → View St) (x : FormatAccess D) where
   pub zero_end : (p q : ℕ) → size ≤ p → IsZeroIn (disk view x) p q
   zero_end p q le k from to = zero_behind k (omega (arith, le, from))
 
+-- what is the same up to an offset, and in a part from there on, is the same up to its end
+pub same_further : (xs ys : List Value) (p n q : ℕ) → AreSameIn xs ys 0 p → AreSameIn xs ys p (p + n) → q ≤ p + n → AreSameIn xs ys 0 q
+same_further xs ys p n q before here to k from lt = ⊎_elim
+    (λ (below : k < p). before k from below)
+    (λ (above : p ≤ k). here k above (omega (arith, lt, to)))
+    (cases_lt k p)
+
 -- what is at hand ended where the next run begins
 pub ends_at : (p end at : ℕ) → (end ≡ at) ⊎ (end ≡ 18446744073709551615) → p ≤ end → end ≤ p → p < 18446744073709551615 → at ≡ p
 ends_at p end at h le ge lt = ⊎_elim (λ (e : end ≡ at). omega (arith, e, le, ge)) (λ (e : end ≡ 18446744073709551615). absurd (omega (arith, e, ge, lt))) h
@@ -75,3 +84,14 @@ module _ {D E St Tt : Type 0} (view : D → View St) (other : E → View Tt) (x 
       (λ (lt : k < p). same k (omega arith) lt)
       (λ (le : p ≤ k). zero_behind view x k (omega (arith, one, le)) ∙ sym (zero_behind other y k (omega (arith, two, le))))
       (cases_lt k p)
+
+  -- no difference of two readers' images is one of none
+  pub found_none : (a : FormatAccess D) (b : FormatAccess E) (p n m : ℕ) (result : Result (Option ℕ) Error) (found : Option ℕ) → a ≡ x → b ≡ y → result ≡ Ok found → found ≡ None
+      → (IsTrue (tells_bytes view a) → IsTrue (tells_bytes other b) → IfOk result (λ f. IsDifferenceIn (disk view a) (disk other b) p m f)) → m ≡ n
+      → IsTrue (tells_bytes view x) → IsTrue (tells_bytes other y) → AreSameIn (disk view x) (disk other y) p (p + n)
+  found_none a b p n m result found left right ok none h long =
+      let all : result ≡ Ok None = ok ∙ ap (λ (f : Option ℕ). Ok f) none in
+      let one = subst (λ (r : Result (Option ℕ) Error). IsTrue (tells_bytes view a) → IsTrue (tells_bytes other b) → IfOk r (λ f. IsDifferenceIn (disk view a) (disk other b) p m f)) all h in
+      let two = subst (λ (z : FormatAccess D). IsTrue (tells_bytes view z) → IsTrue (tells_bytes other b) → AreSameIn (disk view z) (disk other b) p (p + m)) left one in
+      let three = subst (λ (z : FormatAccess E). IsTrue (tells_bytes view x) → IsTrue (tells_bytes other z) → AreSameIn (disk view x) (disk other z) p (p + m)) right two in
+      subst (λ (k : ℕ). IsTrue (tells_bytes view x) → IsTrue (tells_bytes other y) → AreSameIn (disk view x) (disk other y) p (p + k)) long three

@@ -1,12 +1,13 @@
 -- Values put behind one another.
 use Rattle.std.proofs.Common.{◌≡◌, ℕ, ◌+◌, ◌-◌, ◌<◌, ◌≤◌, ⊎_elim, Bool, List, [], ◌++◌, length, map, replicate, Option, Some, None, refl, sym, ap, ◌∙◌, subst, arith}
+use Rattle.std.specs.Prelude.{IsTrue}
 use Rattle.std.proofs.lemmas.Bool.{cases_lt}
 use Rattle.std.proofs.lemmas.List.{same_lists, get_or_append_left, get_or-append_right, get_or-map, get_or-replicate, length-replicate, length-append, length-map, append_assoc, append-nil}
 use Rattle.std.proofs.lemmas.List.FromFn.{length-map-range_with_len, get_or-map-range_with_len}
 use Rattle.imago_drivers.specs.Place.{Value, Byte, shown, HasValues}
 use Rattle.imago_drivers.specs.View.{View}
 use Rattle.imago_access.specs.declared.access.FormatAccess.{FormatAccess}
-use Rattle.imago_access.specs.Chain.{driver, disk_value}
+use Rattle.imago_access.specs.Chain.{driver, disk_value, tells_bytes}
 use Rattle.imago_access.specs.Disk.{values_from, disk}
 use Rattle.imago_access.specs.Resolved.{LeadsToZero}
 use Rattle.imago_access.specs.Target.{Target, target}
@@ -98,6 +99,15 @@ module _ {D St : Type 0} (view : D → View St) (x : FormatAccess D) where
             get_or-map-range_with_len f 0 size k (0 + k) d here refl ∙ values k there ∙ sym (get_or-map Byte bytes k 0 d there)),
         is,
       )
+
+-- what is zero on one image's disk is zero on the same image's
+pub zero_as : {D St : Type 0} (view : D → View St) (y x : FormatAccess D) (o m n : ℕ) → y ≡ x → AreZeroBehind (disk_value view y) o m n → AreZeroBehind (disk_value view x) o m n
+zero_as view y x o m n same h = subst (λ (z : FormatAccess _). AreZeroBehind (disk_value view z) o m n) same h
+
+-- what was put of one image's disk was put of the same image's
+pub put_as : {D St : Type 0} (view : D → View St) (y x : FormatAccess D) (o n : ℕ) (s t : Option (List ℕ)) → y ≡ x → (IsTrue (tells_bytes view y) → IsPut (disk_value view y) o n s t)
+    → IsTrue (tells_bytes view x) → IsPut (disk_value view x) o n s t
+put_as view y x o n s t same h = subst (λ (z : FormatAccess _). IsTrue (tells_bytes view z) → IsPut (disk_value view z) o n s t) same h
 
 -- what was put up to a run, and the run, is what was put up to its end
 pub put_run : (at : ℕ → Value) (p q : ℕ) (run : Run) (s mid t : Option (List ℕ)) → run.at ≡ p → q ≡ p + run.count → IsPut at 0 p s mid → IsPut at run.at run.count mid t → IsPut at 0 q s t

@@ -3,12 +3,14 @@ ghost use Rattle.std.specs.Prelude.{◌≡◌, ◌+◌, ◌<◌, ◌≤◌, ◌^
 ghost use Rattle.std.specs.Prelude.{length};
 ghost use Rattle.imago_access.specs.Chain.{tells_bytes};
 ghost use Rattle.imago_access.specs.Disk.{disk};
+ghost use Rattle.imago_access.specs.ReaderOf.{image_of, IsKeeping};
 ghost use Rattle.imago_copy.specs.Differences.{IsFirstDifference, IsFirstDifferentValue};
 ghost use Rattle.imago_copy.specs.Compared.{IsZeroIn, IsDifferenceIn};
 
 use crate::ends::data_count;
 use crate::runs::Runs;
 use imago_access::access::FormatAccess;
+use imago_access::reader::Reader;
 use imago_drivers::drivers::FormatDriverInstance;
 use imago_storage::error::Error;
 use std::alloc::Global;
@@ -117,16 +119,23 @@ fn first_unlike(left: &[u8], right: &[u8]) -> Option<usize>
 /// The first offset at which two disks differ, of as many from that one on as each buffer has.
 fn unequal<D: FormatDriverInstance, E: FormatDriverInstance>(
     alloc: Global,
-    left: &FormatAccess<D>,
-    right: &FormatAccess<E>,
+    left: &mut Reader<'_, D>,
+    right: &mut Reader<'_, E>,
     at: u64,
     left_buf: &mut [u8],
     right_buf: &mut [u8],
 ) -> Result<Option<u64>, Error>
+    requires left { IsKeeping D.view left.old }
+    requires right { IsKeeping E.view right.old }
     requires lengths { length left_buf.old ≡ length right_buf.old }
     requires fits { at + length left_buf.old < 2 ^ 64 }
-    ensures { IsTrue (tells_bytes D.view left.now) → IsTrue (tells_bytes E.view right.now)
-        → IfOk result (λ found. IsDifferenceIn (disk D.view left.now) (disk E.view right.now)
+    ensures left { image_of left.new ≡ image_of left.old }
+    ensures right { image_of right.new ≡ image_of right.old }
+    ensures left_keeping { IsKeeping D.view left.new }
+    ensures right_keeping { IsKeeping E.view right.new }
+    ensures found { IsTrue (tells_bytes D.view (image_of left.old))
+        → IsTrue (tells_bytes E.view (image_of right.old)) → IfOk result (λ found.
+        IsDifferenceIn (disk D.view (image_of left.old)) (disk E.view (image_of right.old))
         at (length left_buf.old) found) }
 {
     left.read(alloc, left_buf, at)?;
@@ -144,6 +153,8 @@ fn unequal<D: FormatDriverInstance, E: FormatDriverInstance>(
 /// no storage, and what lies behind the end of a storage. A storage is asked for its length when a
 /// run of it begins; where it refuses to tell it, all of the run is read. All else is read into the
 /// buffers and compared, a part at a time: at most as many bytes as either buffer has room for.
+/// Each image is read through a [`Reader`], so each block of special bytes is made up once; where a
+/// part cuts a block, memory is taken for that block.
 ///
 /// # Errors
 ///
@@ -168,6 +179,8 @@ pub fn first_difference<D: FormatDriverInstance, E: FormatDriverInstance>(
     let most = left_buf.len().min(right_buf.len()) as u64;
     let mut one = Rest::new(left)?;
     let mut other = Rest::new(right)?;
+    let mut left_reader = Reader::new(alloc, left);
+    let mut right_reader = Reader::new(alloc, right);
     let mut at: u64 = 0;
     while at < size {
         let here = one.part(at)?;
@@ -178,8 +191,8 @@ pub fn first_difference<D: FormatDriverInstance, E: FormatDriverInstance>(
             let count = (end - at) as usize;
             let found = unequal(
                 alloc,
-                left,
-                right,
+                &mut left_reader,
+                &mut right_reader,
                 at,
                 &mut left_buf[..count],
                 &mut right_buf[..count],

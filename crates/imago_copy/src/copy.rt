@@ -2,6 +2,7 @@
 ghost use Rattle.std.specs.Prelude.{◌≡◌, ◌+◌, ◌<◌, ◌≤◌, ◌^◌, IsTrue, OnOk, IfOk};
 ghost use Rattle.imago_access.specs.Chain.{disk_value, tells_bytes};
 ghost use Rattle.imago_access.specs.Disk.{disk};
+ghost use Rattle.imago_access.specs.ReaderOf.{image_of, IsKeeping};
 ghost use Rattle.imago_access.specs.Target.{target as leads_to};
 ghost use Rattle.imago_copy.specs.Copies.{IsPut, IsDiskPut};
 ghost use Rattle.imago_copy.specs.Runs.{IsRunAt};
@@ -10,6 +11,7 @@ use crate::ends::data_count;
 use crate::runs::{Run, Runs};
 use crate::target::Target;
 use imago_access::access::FormatAccess;
+use imago_access::reader::Reader;
 use imago_drivers::drivers::FormatDriverInstance;
 use imago_storage::error::Error;
 use std::alloc::Global;
@@ -50,23 +52,27 @@ impl From<io::Error> for CopyError {
 /// buffer has room for, and at most `most`. It answers how many.
 fn copy_first<D: FormatDriverInstance, T: Target>(
     alloc: Global,
-    image: &FormatAccess<D>,
+    reader: &mut Reader<'_, D>,
     target: &mut T,
     at: u64,
     most: u64,
     buf: &mut [u8],
 ) -> Result<u64, CopyError>
+    requires { IsKeeping D.view reader.old }
+    ensures image { image_of reader.new ≡ image_of reader.old }
+    ensures keeping { IsKeeping D.view reader.new }
     ensures some { IfOk result (λ n. (0 < n) × (n ≤ most)) }
     ensures same { T.made_for target.new ≡ T.made_for target.old }
-    ensures put { IsTrue (tells_bytes D.view image.now) → IfOk result (λ n.
-        IsPut (disk_value D.view image.now) at n (T.contents target.old) (T.contents target.new)) }
+    ensures put { IsTrue (tells_bytes D.view (image_of reader.old)) → IfOk result (λ n.
+        IsPut (disk_value D.view (image_of reader.old)) at n (T.contents target.old)
+        (T.contents target.new)) }
 {
     let count = most.min(buf.len() as u64);
     if count == 0 {
         return Err(CopyError::Target(io::Error::from(ErrorKind::InvalidInput)));
     }
     let chunk = &mut buf[..count as usize];
-    image.read(alloc, chunk, at)?;
+    reader.read(alloc, chunk, at)?;
     target.append(chunk)?;
     Ok(count)
 }
@@ -75,24 +81,27 @@ fn copy_first<D: FormatDriverInstance, T: Target>(
 /// answers how many were put. No chunk begins behind these, but the last one may go on there.
 fn copy_data<D: FormatDriverInstance, T: Target>(
     alloc: Global,
-    image: &FormatAccess<D>,
+    reader: &mut Reader<'_, D>,
     target: &mut T,
     run: Run,
     least: u64,
     buf: &mut [u8],
 ) -> Result<u64, CopyError>
+    requires keeping { IsKeeping D.view reader.old }
     requires inside { run.at + run.count < 2 ^ 64 }
     requires within { least ≤ run.count }
+    ensures image { image_of reader.new ≡ image_of reader.old }
+    ensures keeping { IsKeeping D.view reader.new }
     ensures least { IfOk result (λ n. least ≤ n) }
     ensures within { IfOk result (λ n. n ≤ run.count) }
     ensures same { T.made_for target.new ≡ T.made_for target.old }
-    ensures put { IsTrue (tells_bytes D.view image.now) → IfOk result (λ n.
-        IsPut (disk_value D.view image.now) run.at n (T.contents target.old)
+    ensures put { IsTrue (tells_bytes D.view (image_of reader.old)) → IfOk result (λ n.
+        IsPut (disk_value D.view (image_of reader.old)) run.at n (T.contents target.old)
         (T.contents target.new)) }
 {
     let mut done: u64 = 0;
     while done < least {
-        done += copy_first(alloc, image, target, run.at + done, run.count - done, buf)?;
+        done += copy_first(alloc, reader, target, run.at + done, run.count - done, buf)?;
     }
     Ok(done)
 }
@@ -101,20 +110,23 @@ fn copy_data<D: FormatDriverInstance, T: Target>(
 /// be zero.
 fn copy_run<D: FormatDriverInstance, T: Target>(
     alloc: Global,
-    image: &FormatAccess<D>,
+    reader: &mut Reader<'_, D>,
     target: &mut T,
     run: Run,
     buf: &mut [u8],
 ) -> Result<(), CopyError>
-    requires run { IsRunAt (leads_to D.view image.now) run.at run }
+    requires keeping { IsKeeping D.view reader.old }
+    requires run { IsRunAt (leads_to D.view (image_of reader.old)) run.at run }
     requires inside { run.at + run.count < 2 ^ 64 }
+    ensures image { image_of reader.new ≡ image_of reader.old }
+    ensures keeping { IsKeeping D.view reader.new }
     ensures same { T.made_for target.new ≡ T.made_for target.old }
-    ensures put { IsTrue (tells_bytes D.view image.now) → OnOk result
-        (IsPut (disk_value D.view image.now) run.at run.count (T.contents target.old)
+    ensures put { IsTrue (tells_bytes D.view (image_of reader.old)) → OnOk result
+        (IsPut (disk_value D.view (image_of reader.old)) run.at run.count (T.contents target.old)
         (T.contents target.new)) }
 {
-    let data = data_count(image, run);
-    let done = copy_data(alloc, image, target, run, data, buf)?;
+    let data = data_count(reader.image(), run);
+    let done = copy_data(alloc, reader, target, run, data, buf)?;
     if done < run.count {
         target.append_zeroes(run.count - done)?;
     }
@@ -131,6 +143,9 @@ fn copy_run<D: FormatDriverInstance, T: Target>(
 /// run is zero then, and is put in as zeroes by one call. A storage is asked for its length when a
 /// run of it begins; where it refuses to tell it, all of the run is read. Bytes that were read
 /// aren't tested for being zero.
+///
+/// The image is read through a [`Reader`], so each block of special bytes is made up once, however
+/// large the buffer is; where a part cuts a block, memory is taken for that block.
 ///
 /// # Errors
 ///
@@ -151,8 +166,9 @@ pub fn copy_disk<D: FormatDriverInstance, T: Target>(
         (IsDiskPut (disk D.view image.now) (T.contents target.old) (T.contents target.new)) }
 {
     let mut runs = Runs::new(image)?;
+    let mut reader = Reader::new(alloc, image);
     while let Some(run) = runs.next_run()? {
-        copy_run(alloc, image, target, run, buf)?;
+        copy_run(alloc, &mut reader, target, run, buf)?;
     }
     Ok(())
 }

@@ -59,15 +59,15 @@ module _ {D St : Type 0} (view : D → View St) (strict : Bool) (others : OtherF
   goes_down files path next Qcow2 inner h = (refl, h.1.1)
   goes_down files path next Vmdk inner h = let none : ⊥ = cc h.1.5 in absurd none
 
-  module _ (statuses : Option (List ℕ → FileStatus)) (reals : Option (List ℕ → List ℕ)) (above : List (ℕ × ℕ))
+  module _ (limit : Option ℕ) (statuses : Option (List ℕ → FileStatus)) (reals : Option (List ℕ → List ℕ)) (above : List (ℕ × ℕ))
       (path : List ℕ) (format : ImageFormat) (e : OpenError) where
     -- what is shown of a chain that isn't opened from here on
     abbrev pub IsChainOut : (List ℕ → List ℕ) → Type 0
-    IsChainOut files = (down : List (List ℕ)) × IsChainRefused files statuses reals others above path format down e
+    IsChainOut files = (down : List (List ℕ)) × IsChainRefused files statuses reals others limit above path format down e
 
     pub layer_out :
         (known : Option (List ℕ → List ℕ))
-        → IfSome known (λ files. IsLayerRefused files statuses reals others path format e)
+        → IfSome known (λ files. IsLayerRefused files statuses reals others limit path format e)
         → IfSome known IsChainOut
     layer_out None h = tt
     layer_out (Some files) h = ([], inl h)
@@ -99,7 +99,7 @@ module _ {D St : Type 0} (view : D → View St) (strict : Bool) (others : OtherF
         → IfSome known (λ files. IsFormatBy said (files next) lower)
         → IsLetThrough others path next → HasIdentity statuses next file → now ≡ above ++ file ∷ []
         → IfSome known (λ files. (down : List (List ℕ))
-        × IsChainRefused files statuses reals others now next lower down e)
+        × IsChainRefused files statuses reals others limit now next lower down e)
         → IfSome known IsChainOut
     below_out None next said lower inner file now h s f t i is r = tt
     below_out (Some files) next said lower inner file now h s f t i is r = (
@@ -113,7 +113,7 @@ module _ {D St : Type 0} (view : D → View St) (strict : Bool) (others : OtherF
           (
             file,
             i,
-            subst (λ (xs : List (ℕ × ℕ)). IsChainRefused files statuses reals others xs next lower r.0 e) is r.1,
+            subst (λ (xs : List (ℕ × ℕ)). IsChainRefused files statuses reals others limit xs next lower r.0 e) is r.1,
           ),
         ),
       ),

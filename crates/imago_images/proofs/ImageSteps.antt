@@ -62,55 +62,55 @@ module _ {S : Type 0} (features : S → Features) (bytes : S → List ℕ)
 
   -- the format of the image's own file isn't told
   pub image_unknown :
-      (writable : Bool) → IfSome known (λ files. shown ≡ Some (files path))
+      (writable : Bool) (limit : Option ℕ) → IfSome known (λ files. shown ≡ Some (files path))
       → ((held : List ℕ) → HasBytes features bytes held s → IsRefused path (IsUnknown held said) e)
-      → IfSome known (λ files. IsImageRefused writable files statuses reals others said path e)
-  image_unknown writable held refused =
+      → IfSome known (λ files. IsImageRefused writable files statuses reals others limit said path e)
+  image_unknown writable limit held refused =
       where_held known (λ files. shown ≡ Some (files path))
-      (λ files. IsImageRefused writable files statuses reals others said path e) held
+      (λ files. IsImageRefused writable files statuses reals others limit said path e) held
       (λ files h. inr (inl (refused (files path) (told (files path) h))))
 
   -- the file isn't opened, for writing or with those below it
   pub image_out :
-      (writable : Bool) (format : ImageFormat) (file : ℕ × ℕ) (now : List (ℕ × ℕ))
+      (writable : Bool) (limit : Option ℕ) (format : ImageFormat) (file : ℕ × ℕ) (now : List (ℕ × ℕ))
       → IfSome known (λ files. shown ≡ Some (files path))
       → ((held : List ℕ) → HasBytes features bytes held s → IsFormatBy said held format)
       → HasIdentity statuses path file → now ≡ file ∷ []
-      → IfSome known (λ files. IsOpeningRefused writable files statuses reals others now path format e)
-      → IfSome known (λ files. IsImageRefused writable files statuses reals others said path e)
-  image_out writable format file now held by has is out =
+      → IfSome known (λ files. IsOpeningRefused writable files statuses reals others limit now path format e)
+      → IfSome known (λ files. IsImageRefused writable files statuses reals others limit said path e)
+  image_out writable limit format file now held by has is out =
       both_held known (λ files. shown ≡ Some (files path))
-      (λ files. IsOpeningRefused writable files statuses reals others now path format e)
-      (λ files. IsImageRefused writable files statuses reals others said path e) held out
+      (λ files. IsOpeningRefused writable files statuses reals others limit now path format e)
+      (λ files. IsImageRefused writable files statuses reals others limit said path e) held out
       (λ files h o. inr (inr (
         format,
         by (files path) (told (files path) h),
         (
           file,
           has,
-          subst (λ (xs : List (ℕ × ℕ)). IsOpeningRefused writable files statuses reals others xs path format e) is o,
+          subst (λ (xs : List (ℕ × ℕ)). IsOpeningRefused writable files statuses reals others limit xs path format e) is o,
         ),
       )))
 
 -- a layer isn't opened where memory is refused
 layer_memory :
     (files : List ℕ → List ℕ) (statuses : Option (List ℕ → FileStatus)) (reals : Option (List ℕ → List ℕ))
-    (others : OtherFiles) (path : List ℕ) (format : ImageFormat)
-    → IsLayerRefused files statuses reals others path format OpenError.Memory
-layer_memory files statuses reals others path Format.Raw = tt
-layer_memory files statuses reals others path Format.Qcow2 = tt
-layer_memory files statuses reals others path Format.Vmdk = inl tt
+    (others : OtherFiles) (limit : Option ℕ) (path : List ℕ) (format : ImageFormat)
+    → IsLayerRefused files statuses reals others limit path format OpenError.Memory
+layer_memory files statuses reals others limit path Format.Raw = tt
+layer_memory files statuses reals others limit path Format.Qcow2 = tt
+layer_memory files statuses reals others limit path Format.Vmdk = inl tt
 
 -- nor is a chain that begins with it
 pub chain_memory :
     (known : Option (List ℕ → List ℕ)) (statuses : Option (List ℕ → FileStatus))
-    (reals : Option (List ℕ → List ℕ)) (others : OtherFiles) (above : List (ℕ × ℕ)) (path : List ℕ)
+    (reals : Option (List ℕ → List ℕ)) (others : OtherFiles) (limit : Option ℕ) (above : List (ℕ × ℕ)) (path : List ℕ)
     (format : ImageFormat) (e : OpenError) → e ≡ OpenError.Memory
     → IfSome known (λ files. (down : List (List ℕ))
-    × IsChainRefused files statuses reals others above path format down e)
-chain_memory None statuses reals others above path format e is = tt
-chain_memory (Some files) statuses reals others above path format e is = (
+    × IsChainRefused files statuses reals others limit above path format down e)
+chain_memory None statuses reals others limit above path format e is = tt
+chain_memory (Some files) statuses reals others limit above path format e is = (
   [],
-  subst (λ (x : OpenError). IsChainRefused files statuses reals others above path format [] x) (sym is)
-      (inl (layer_memory files statuses reals others path format)),
+  subst (λ (x : OpenError). IsChainRefused files statuses reals others limit above path format [] x) (sym is)
+      (inl (layer_memory files statuses reals others limit path format)),
 )

@@ -67,12 +67,12 @@ pub header_out :
     (known : Option (List ℕ → List ℕ)) (path head : List ℕ) (count : ℕ) (fault : _) (e : OpenError)
     → IfSome known (λ files. head ≡ bytes_at (files path) 0 (length head)) → length head ≡ 112
     → IfSome known (λ files. count ≡ length (files path)) → header_of head count ≡ Err (error_of fault)
-    → IsRefused path (λ told. told ≡ Reason.Header fault) e
-    → IfSome known (λ files. IsRefused path (IsUnopened (files path)) e)
-header_out None path head count fault e read long size at h = tt
-header_out (Some files) path head count fault e read long size at h =
+    → IsRefused path (λ told. told ≡ Reason.Header fault) e → (limit : Option ℕ)
+    → IfSome known (λ files. IsRefused path (IsUnopened limit (files path)) e)
+header_out None path head count fault e read long size at h limit = tt
+header_out (Some files) path head count fault e read long size at h limit =
     let is : head ≡ bytes_at (files path) 0 112 = read ∙ ap (bytes_at (files path) 0) long in
-    refused_for path (IsUnopened (files path)) (Reason.Header fault)
+    refused_for path (IsUnopened limit (files path)) (Reason.Header fault)
     (ap (λ (xs : List ℕ). header_of xs (length (files path))) (sym is)
     ∙ ap (header_of head) (sym size) ∙ at) e h
 
@@ -120,22 +120,23 @@ pub too_large :
     → by_fault driver (TablesNeedMore (features s) (bytes s) (Some most)) fault
     → IsRefused path (λ told. told ≡ Reason.TablesTooLarge most) e
     → IfSome known (λ files. HasBytes features bytes (files path) s
-    → IsRefused path (IsUnopened (files path)) e)
+    → IsRefused path (IsUnopened (Some most) (files path)) e)
 too_large features bytes None path s most e driver fault is need h = tt
 too_large features bytes (Some files) path s most e driver fault is need h = λ told.
     let needs : TablesNeedMore (features s) (bytes s) (Some most) =
     subst (λ (f : OpenFault). by_fault driver (TablesNeedMore (features s) (bytes s) (Some most)) f) is need in
-    refused_for path (IsUnopened (files path)) (Reason.TablesTooLarge most)
-    (features s, told.0, subst (λ (b : List ℕ). TablesNeedMore (features s) b (Some most)) told.1 needs) e h
+    refused_for path (IsUnopened (Some most) (files path)) (Reason.TablesTooLarge most)
+    (refl, (features s, told.0, subst (λ (b : List ℕ). TablesNeedMore (features s) b (Some most)) told.1 needs)) e h
 
 -- a layer that isn't opened, over the bytes of the host's own file
 pub layer_refused :
     {T S : Type 0} (features : S → Features) (bytes : S → List ℕ) (known : Option (List ℕ → List ℕ))
-    (path : List ℕ) (s file : S) (r : Result T OpenError) → s ≡ file
-    → ((held : List ℕ) → HasBytes features bytes held s → IfErr r (IsRefused path (IsUnopened held)))
+    (path : List ℕ) (limit : Option ℕ) (s file : S) (r : Result T OpenError) → s ≡ file
+    → ((most : Option ℕ) (held : List ℕ) → HasBytes features bytes held s
+    → IfErr r (IsRefused path (IsUnopened most held)))
     → IfErr r (λ e. IfSome known (λ files. HasBytes features bytes (files path) file
-    → IsRefused path (IsUnopened (files path)) e))
-layer_refused features bytes known path s file (Ok x) is h = tt
-layer_refused features bytes None path s file (Err e) is h = tt
-layer_refused features bytes (Some files) path s file (Err e) is h =
-    λ told. h (files path) (told_same features bytes (files path) s file is told)
+    → IsRefused path (IsUnopened limit (files path)) e))
+layer_refused features bytes known path limit s file (Ok x) is h = tt
+layer_refused features bytes None path limit s file (Err e) is h = tt
+layer_refused features bytes (Some files) path limit s file (Err e) is h =
+    λ told. h limit (files path) (told_same features bytes (files path) s file is told)

@@ -33,15 +33,15 @@ IsNamedRefused named statuses reals others image path e =
     IsRefused (folder_asked image) IsBySystem e
     ⊎ IsNotHandedOut named statuses reals others image path e
 
--- the file of a path isn't opened as a layer of that format: the fault is its own, or that of an
--- extent's file
+-- the file of a path isn't opened as a layer of that format, within that limit on tables: the fault
+-- is its own, or that of an extent's file
 abbrev pub IsLayerRefused :
-    (List ℕ → List ℕ) → Option (List ℕ → FileStatus) → Option (List ℕ → List ℕ) → OtherFiles
+    (List ℕ → List ℕ) → Option (List ℕ → FileStatus) → Option (List ℕ → List ℕ) → OtherFiles → Option ℕ
     → List ℕ → ImageFormat → OpenError → Type 0
-IsLayerRefused files statuses reals others path Raw e = IsRefused path IsByDriver e
-IsLayerRefused files statuses reals others path Qcow2 e =
-    IsRefused path (IsUnopened (files path)) e
-IsLayerRefused files statuses reals others path Vmdk e = IsRefused path IsByEither e
+IsLayerRefused files statuses reals others limit path Raw e = IsRefused path IsByDriver e
+IsLayerRefused files statuses reals others limit path Qcow2 e =
+    IsRefused path (IsUnopened limit (files path)) e
+IsLayerRefused files statuses reals others limit path Vmdk e = IsRefused path IsByEither e
     ⊎ ((extent : List ℕ) × IsNamedRefused Extents statuses reals others path extent e)
 
 -- The file of the next path, which is below that of a path, isn't opened: it isn't handed out, it
@@ -61,40 +61,40 @@ IsNextRefused files statuses reals others above path next e =
 -- isn't opened as a layer, or what is below it isn't opened: it would be one more than 200 files,
 -- or that file is refused.
 abbrev pub IsChainRefused :
-    (List ℕ → List ℕ) → Option (List ℕ → FileStatus) → Option (List ℕ → List ℕ) → OtherFiles
+    (List ℕ → List ℕ) → Option (List ℕ → FileStatus) → Option (List ℕ → List ℕ) → OtherFiles → Option ℕ
     → List (ℕ × ℕ) → List ℕ → ImageFormat → List (List ℕ) → OpenError → Type 0
-IsChainRefused files statuses reals others above path format [] e =
-    IsLayerRefused files statuses reals others path format e
+IsChainRefused files statuses reals others limit above path format [] e =
+    IsLayerRefused files statuses reals others limit path format e
     ⊎ ((next : List ℕ) × GoesDown files path format next
     × (((length above ≡ 200) × IsRefused path IsTooDeep e)
     ⊎ IsNextRefused files statuses reals others above path next e))
-IsChainRefused files statuses reals others above path format (next ∷ down) e =
+IsChainRefused files statuses reals others limit above path format (next ∷ down) e =
     GoesDown files path format next × IsLetThrough others path next
     × ((lower : ImageFormat) × IsFormatBelow (files path) (files next) lower
     × ((file : ℕ × ℕ) × HasIdentity statuses next file
-    × IsChainRefused files statuses reals others (above ++ file ∷ []) next lower down e))
+    × IsChainRefused files statuses reals others limit (above ++ file ∷ []) next lower down e))
 
 -- The file of a path, which has that format, isn't opened for writing where it is to be; or else
 -- the chain isn't that begins with it, the last one of those that are given.
 abbrev pub IsOpeningRefused :
-    Bool → (List ℕ → List ℕ) → Option (List ℕ → FileStatus) → Option (List ℕ → List ℕ) → OtherFiles
+    Bool → (List ℕ → List ℕ) → Option (List ℕ → FileStatus) → Option (List ℕ → List ℕ) → OtherFiles → Option ℕ
     → List (ℕ × ℕ) → List ℕ → ImageFormat → OpenError → Type 0
-IsOpeningRefused true files statuses reals others above path format e =
+IsOpeningRefused true files statuses reals others limit above path format e =
     IsRefused path (IsUnwritten statuses path format) e
-IsOpeningRefused false files statuses reals others above path format e =
-    (down : List (List ℕ)) × IsChainRefused files statuses reals others above path format down e
+IsOpeningRefused false files statuses reals others limit above path format e =
+    (down : List (List ℕ)) × IsChainRefused files statuses reals others limit above path format down e
 
 -- The image of the file of a path isn't opened, for writing or not, whose format is said or isn't:
 -- the file isn't looked at, its format isn't told, or it isn't opened with what is below it.
 abbrev pub IsImageRefused :
-    Bool → (List ℕ → List ℕ) → Option (List ℕ → FileStatus) → Option (List ℕ → List ℕ) → OtherFiles
+    Bool → (List ℕ → List ℕ) → Option (List ℕ → FileStatus) → Option (List ℕ → List ℕ) → OtherFiles → Option ℕ
     → Option ImageFormat → List ℕ → OpenError → Type 0
-IsImageRefused writable files statuses reals others said path e =
+IsImageRefused writable files statuses reals others limit said path e =
     IsRefused path (IsUnseen statuses path) e
     ⊎ IsRefused path (IsUnknown (files path) said) e
     ⊎ ((format : ImageFormat) × IsFormatBy said (files path) format
     × ((file : ℕ × ℕ) × HasIdentity statuses path file
-    × IsOpeningRefused writable files statuses reals others (file ∷ []) path format e))
+    × IsOpeningRefused writable files statuses reals others limit (file ∷ []) path format e))
 
 -- The files below that of a path, which has that format, down to the last one, which leads to none:
 -- none of them is one of those that are given, nor of those above it.

@@ -134,13 +134,15 @@ abbrev pub HasLargerTables : List ℕ → ℕ → Type 0
 HasLargerTables bytes most =
     (f : Features) × IsTrue f.tells_bytes × TablesNeedMore f bytes (Some most)
 
--- A qcow2 file with these bytes isn't opened: its header has that fault, its tables are larger than
--- the limit, it says another format of the file below, or the driver refuses it.
-abbrev pub IsUnopened : List ℕ → Reason → Type 0
-IsUnopened bytes (Reason.Header fault) =
+-- A qcow2 file with these bytes isn't opened within that limit on its tables, if there is one: its
+-- header has that fault, its tables are larger than the limit, which is told, it says another
+-- format of the file below, or the driver refuses it.
+abbrev pub IsUnopened : Option ℕ → List ℕ → Reason → Type 0
+IsUnopened limit bytes (Reason.Header fault) =
     header_of (bytes_at bytes 0 112) (length bytes) ≡ Err (error_of fault)
-IsUnopened bytes (Reason.TablesTooLarge most) = HasLargerTables bytes most
-IsUnopened bytes (Reason.BackingFormat name) = SaysOtherFormat bytes (string_bytes name)
-IsUnopened bytes (Reason.Image error) = Unit {0}
-IsUnopened bytes (Reason.System answer) = Unit {0}
-IsUnopened bytes reason = ⊥
+IsUnopened limit bytes (Reason.TablesTooLarge most) =
+    (limit ≡ Some most) × HasLargerTables bytes most
+IsUnopened limit bytes (Reason.BackingFormat name) = SaysOtherFormat bytes (string_bytes name)
+IsUnopened limit bytes (Reason.Image error) = Unit {0}
+IsUnopened limit bytes (Reason.System answer) = Unit {0}
+IsUnopened limit bytes reason = ⊥

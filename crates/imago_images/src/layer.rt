@@ -1,5 +1,5 @@
 //! A layer by itself: a file in a format, and the name of the file below it.
-ghost use Rattle.std.specs.Prelude.{◌≡◌, ◌≤◌, ℕ, ◌⊎◌, List, None, Some, IfOk, IfErr, IfSome, IsErr};
+ghost use Rattle.std.specs.Prelude.{◌≡◌, ◌≤◌, ℕ, ◌⊎◌, List, Option, None, Some, IfOk, IfErr, IfSome, IsErr};
 ghost use Rattle.std.specs.Prelude.{IsTrue, MatchResult, length, option_map};
 ghost use Rattle.std.specs.String.{string_bytes};
 ghost use Rattle.imago_drivers.specs.Raw.{raw_place};
@@ -87,7 +87,7 @@ pub fn open_layer<'a, H: Files>(
     ensures tables { IfOk result (λ l. IsWithin how.tables (tables_in l.driver)) }
     ensures refused { IfErr result (λ e. IfSome (H.contents host.now)
         (λ files. IsLayerRefused files (H.statuses host.now) (H.real_paths host.now)
-        how.other_files path.now format e)) }
+        how.other_files how.tables path.now format e)) }
 {
     match format {
         ImageFormat::Raw => raw_layer(host.alloc(), path, file, false),
@@ -142,8 +142,9 @@ fn layer_in_qcow2<S: Storage>(
     ensures tables { IfOk result (λ l. tables_in l.driver ≡ loaded_length (loaded_in qcow2)) }
     ensures read_only { IfOk result (λ l. NeverWrites
         ⟦<AnyDriver<S> as FormatDriverInstance>⟧.view l.driver) }
-    ensures refused { (bytes : List ℕ) → HasBytes S.features S.bytes bytes (storage_in qcow2)
-        → IfErr result (IsRefused path.now (IsUnopened bytes)) }
+    ensures refused { (limit : Option ℕ) (bytes : List ℕ)
+        → HasBytes S.features S.bytes bytes (storage_in qcow2)
+        → IfErr result (IsRefused path.now (IsUnopened limit bytes)) }
 {
     image_of_bytes(&qcow2);
     let below = below_qcow2(alloc, path, &qcow2)?;
@@ -173,7 +174,7 @@ fn qcow2_layer<H: Files, S: Storage>(
         ⟦<AnyDriver<S> as FormatDriverInstance>⟧.view l.driver) }
     ensures refused { IfErr result (λ e. IfSome (H.contents host.now)
         (λ files. HasBytes S.features S.bytes (files path.now) file
-        → IsRefused path.now (IsUnopened (files path.now)) e)) }
+        → IsRefused path.now (IsUnopened most_tables (files path.now)) e)) }
 {
     let qcow2 = open_limited(host, path, file, most_tables)?;
     layer_in_qcow2(host.alloc(), path, qcow2)
@@ -192,7 +193,7 @@ fn open_limited<H: Files, S: Storage>(
     ensures within { IfOk result (λ d. IsWithin most_tables (loaded_length (loaded_in d))) }
     ensures refused { IfErr result (λ e. IfSome (H.contents host.now)
         (λ files. HasBytes S.features S.bytes (files path.now) file
-        → IsRefused path.now (IsUnopened (files path.now)) e)) }
+        → IsRefused path.now (IsUnopened most_tables (files path.now)) e)) }
 {
     match most_tables {
         None => open_qcow2(host, path, file),
@@ -210,7 +211,7 @@ pub fn open_qcow2<H: Files, S: Storage>(
     ensures opened { IfOk result (λ d. (storage_in d ≡ «file»)
         × IsOpened (S.features file) (S.bytes file) (header_in d)) }
     ensures refused { IfErr result (λ e. IfSome (H.contents host.now)
-        (λ files. IsRefused path.now (IsUnopened (files path.now)) e)) }
+        (λ files. IsRefused path.now (IsUnopened None (files path.now)) e)) }
 {
     match Qcow2::open_image(host.alloc(), file, false) {
         Ok(qcow2) => Ok(qcow2),
@@ -231,7 +232,7 @@ pub fn open_qcow2_within<H: Files, S: Storage>(
     ensures within { IfOk result (λ d. loaded_length (loaded_in d) ≤ most_tables) }
     ensures refused { IfErr result (λ e. IfSome (H.contents host.now)
         (λ files. HasBytes S.features S.bytes (files path.now) file
-        → IsRefused path.now (IsUnopened (files path.now)) e)) }
+        → IsRefused path.now (IsUnopened (Some most_tables) (files path.now)) e)) }
 {
     match Qcow2::open_within(host.alloc(), file, most_tables) {
         Ok(qcow2) => Ok(qcow2),
@@ -246,8 +247,8 @@ pub fn open_qcow2_within<H: Files, S: Storage>(
 /// Why a qcow2 file isn't opened, whose tables may have so many bytes: its header's fault, where
 /// that is why.
 fn not_opened<H: Files>(host: &H, path: &str, cause: Error, most_tables: u64) -> OpenError
-    ensures { IfSome (H.contents host.now)
-        (λ files. IsRefused path.now (IsUnopened (files path.now)) result) }
+    ensures { (limit : Option ℕ) → IfSome (H.contents host.now)
+        (λ files. IsRefused path.now (IsUnopened limit (files path.now)) result) }
 {
     let mut head = [0u8; HEAD_LENGTH];
     if let Ok(status) = host.status(path) {
@@ -342,8 +343,8 @@ fn below_qcow2<S: Storage>(
     ensures format { IsTrue (S.features (storage_in qcow2.now)).tells_bytes
         → IfOk result (λ below. IfSome below
         (λ b. SaysFormat (S.bytes (storage_in qcow2.now)) b.format)) }
-    ensures refused { IsTrue (S.features (storage_in qcow2.now)).tells_bytes
-        → IfErr result (IsRefused path.now (IsUnopened (S.bytes (storage_in qcow2.now)))) }
+    ensures refused { (limit : Option ℕ) → IsTrue (S.features (storage_in qcow2.now)).tells_bytes
+        → IfErr result (IsRefused path.now (IsUnopened limit (S.bytes (storage_in qcow2.now)))) }
 {
     let Some(name) = name_below(alloc, path, qcow2)? else {
         return Ok(None);
@@ -362,8 +363,8 @@ fn format_below<S: Storage>(
 ) -> Result<Option<ImageFormat>, OpenError>
     ensures said { IsTrue (S.features (storage_in qcow2.now)).tells_bytes
         → IfOk result (SaysFormat (S.bytes (storage_in qcow2.now))) }
-    ensures refused { IsTrue (S.features (storage_in qcow2.now)).tells_bytes
-        → IfErr result (IsRefused path.now (IsUnopened (S.bytes (storage_in qcow2.now)))) }
+    ensures refused { (limit : Option ℕ) → IsTrue (S.features (storage_in qcow2.now)).tells_bytes
+        → IfErr result (IsRefused path.now (IsUnopened limit (S.bytes (storage_in qcow2.now)))) }
 {
     let Some(name) = OpenError::or_image(alloc, path, qcow2.backing_format(alloc))? else {
         return Ok(None);

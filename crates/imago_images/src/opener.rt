@@ -74,7 +74,7 @@ pub fn open_image<'a, H: Files>(
     ensures tables { IfOk result (λ r. IsWithin how.tables (tables_in (driver_of r.1))) }
     ensures refused { IfErr result (λ e. IfSome (H.contents host.now)
         (λ files. IsImageRefused how.writable files (H.statuses host.now) (H.real_paths host.now)
-        how.other_files how.format path.now e)) }
+        how.other_files how.tables how.format path.now e)) }
 {
     let mut way = Way::new(host.alloc());
     let file = PathFile::look_at(host, path)?;
@@ -113,7 +113,7 @@ fn open_format<'a, H: Files>(
     ensures tables { IfOk result (λ x. IsWithin how.tables (tables_in (driver_of x))) }
     ensures refused { IfErr result (λ e. IfSome (H.contents host.now)
         (λ files. IsOpeningRefused how.writable files (H.statuses host.now)
-        (H.real_paths host.now) how.other_files (entered way.old) path.now format e)) }
+        (H.real_paths host.now) how.other_files how.tables (entered way.old) path.now format e)) }
 {
     if how.writable {
         return open_to_write(host, path, format);
@@ -188,7 +188,8 @@ fn open_chain<'a, H: Files>(
         most)) }
     ensures refused { IfErr result (λ e. IfSome (H.contents host.now)
         (λ files. (down : List (List ℕ)) × IsChainRefused files (H.statuses host.now)
-        (H.real_paths host.now) how.other_files (entered way.old) path.now format down e)) }
+        (H.real_paths host.now) how.other_files how.tables (entered way.old) path.now format
+        down e)) }
 {
     let alloc = host.alloc();
     let Layer { driver, below } = open_layer(host, path, file, format, how)?;

@@ -7,6 +7,8 @@ pub mod AbsentSteps
 pub mod MapSteps
 pub mod HeldSteps
 pub mod ReadSteps
+pub mod CompressedSteps
+pub mod CommitSteps
 pub mod BackingSteps
 pub mod StreamSteps
 pub mod DiskSteps

@@ -1,6 +1,6 @@
 -- What compressed clusters hold. Each is a stream of its own.
 use Rattle.std.specs.Prelude.{◌≡◌, ◌⊎◌, ℕ, Bool, true, false, List, slice_index, map}
-use Rattle.std.specs.Prelude.{Result, Ok, Err, IsOk, IsErr}
+use Rattle.std.specs.Prelude.{Result, Ok, Err, IsOk, IsErr, Option, Some, None}
 use Rattle.std.specs.List.{range_with_len}
 use Rattle.imago_storage.specs.declared.error.Error.{Error}
 use Rattle.imago_drivers.specs.Place.{Value, Byte, Unreadable, HasValues}
@@ -28,6 +28,11 @@ packed_value tells By.Zstd bytes cluster at n i = Byte 0
 packed_value true By.Deflate bytes cluster at n i =
     value_in (inflated (bytes_at bytes at n) cluster) i
 packed_value false By.Deflate bytes cluster at n i = Unreadable Error.InvalidData
+
+-- the fault of a stream that puts this out
+abbrev pub fault_in : Result (List ℕ) InflateError → Option InflateError
+fault_in (Ok out) = None
+fault_in (Err fault) = Some fault
 
 -- A stream that puts this out filled the output; or it is faulty, and refused so.
 abbrev pub IsPutOut : Result (List ℕ) InflateError → List ℕ → Result (Unit {0}) Error → Type 0

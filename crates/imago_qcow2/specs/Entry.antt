@@ -64,8 +64,8 @@ compressed_in_entry bits entry = GuestCluster.Compressed
     (entry % 2 ^ offset_bits bits)
     ((entry % 2 ^ 62 / 2 ^ offset_bits bits + 1) * 512 - entry % 2 ^ offset_bits bits % 512)
 
--- What an L2 entry says of its guest cluster: bit 62 is set for a compressed one; else bits 1 to 8 and
--- 56 to 61 are reserved, and bit 63 says nothing here; bit 0 says in version 3 that the guest
+-- What an L2 entry says of its guest cluster: bit 62 is set for a compressed one. Else bits 1 to 8
+-- and 56 to 61 are reserved, and bit 63 says nothing here; bit 0 says in version 3 that the guest
 -- cluster is zero, and is reserved in version 2; the other bits are the offset of the cluster in
 -- the file, on a cluster's bounds.
 unfoldable pub cluster_in_entry : ℕ → ℕ → ℕ → GuestCluster
@@ -116,7 +116,7 @@ place_by packed bytes rest p (C.Compressed at n) = Special (packed at n rest) p
 place_by packed bytes rest p C.Invalid = Refused Error.InvalidData
 
 -- the place of an offset of a disk whose file has these bytes, and tells them or not
-abbrev pub disk_place : Bool → List ℕ → GuestDisk → ℕ → Place
+unfoldable pub disk_place : Bool → List ℕ → GuestDisk → ℕ → Place
 disk_place tells bytes disk p =
     if nat_lt p disk.size
     then place_by (packed_value tells disk.compression bytes disk.cluster) bytes

@@ -60,7 +60,7 @@ qcow2_cause f disk place Read o n E.WrapAround =
     HasWrappingPart (ReadWraps f place) o n ⊎ StreamWraps f disk o n
 qcow2_cause f disk place _ o n _ = ⊥
 
--- a read takes none where no place is compressed, and, if the places stand in the file in one piece,
+-- a read takes none where no place is compressed and, if the places stand in the file in one piece,
 -- the request there is aligned, and the storage takes none for it
 abbrev pub ReadTakesNone : Features → ℕ → (ℕ → Place) → ℕ → ℕ → Type 0
 ReadTakesNone f file place o n = (IsCompressedIn place o n → ⊥)

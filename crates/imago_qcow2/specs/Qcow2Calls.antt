@@ -1,5 +1,5 @@
 use Rattle.std.specs.Prelude.{◌≡◌, ℕ, ◌+◌, ◌/◌, ◌<◌, ◌⊎◌, Bool, List, length, IsTrue}
-use Rattle.std.specs.Prelude.{Result, Ok, Err, IsOk, IsErr, refl}
+use Rattle.std.specs.Prelude.{Result, Ok, Err, IsOk, IsErr, Option, None, refl}
 use Rattle.std.proofs.Common.{⊎_elim}
 use Rattle.imago_storage.specs.declared.error.Error.{Error}
 use Rattle.imago_storage.specs.declared.error.Error.TheVariants.{ForeignMapping, Unsupported}
@@ -11,10 +11,12 @@ use Rattle.imago_drivers.specs.LayerBelow.{LayerBelow}
 use Rattle.imago_drivers.specs.Place.{IsIn}
 use Rattle.imago_drivers.specs.Reasons.{allowed}
 use Rattle.imago_drivers.specs.CallRelations.{Calls, IsEnsuredInParts, any_calls, IsNotOffered}
+use Rattle.imago_inflate.specs.declared.fault.InflateError.{InflateError}
 use Rattle.imago_inflate.specs.Inflate.{inflated}
 use Rattle.imago_qcow2.specs.declared.entry.GuestCluster.{GuestCluster}
 use Rattle.imago_qcow2.specs.declared.entry.GuestCluster.TheVariants as C
 use Rattle.imago_qcow2.specs.declared.header.Compression.{Compression}
+use Rattle.imago_qcow2.specs.Compressed.{fault_in}
 use Rattle.imago_qcow2.specs.Entry.{GuestDisk}
 use Rattle.imago_qcow2.specs.Opening.{read_reasons}
 
@@ -29,8 +31,8 @@ pub record IsStreamRead (f : Features) (bytes : List ℕ) (at n : ℕ) (stream :
   pub read : IsTrue f.tells_bytes → IsReadAt bytes at stream
 
 -- A read of a guest cluster of that length, if it is compressed: its stream was read, and what was
--- read is sound. Or it is refused: as what can't be read so, for another cluster; as the file's read
--- is, or memory for it; or as invalid data, since the stream was read and is faulty.
+-- read is sound. Or it is refused: as unsupported, if it isn't compressed; as the file's read is, or
+-- for memory; or as invalid data, since the stream was read and is faulty.
 abbrev pub IsClusterRead : Features → List ℕ → ℕ → GuestCluster → Result (Unit {0}) Error → Type 0
 IsClusterRead f bytes length (C.Compressed at n) (Ok done) = (stream : List ℕ)
     × IsStreamRead f bytes at n stream × IsOk (inflated stream length)
@@ -38,6 +40,20 @@ IsClusterRead f bytes length (C.Compressed at n) (Err e) = allowed (read_reasons
     ⊎ ((e ≡ Error.InvalidData) × ((stream : List ℕ) × IsStreamRead f bytes at n stream
     × IsErr (inflated stream length)))
 IsClusterRead f bytes length _ result = result ≡ Err Unsupported
+
+-- The fault of a guest cluster of that length: of one that is compressed that of its stream, as it
+-- was read; another has none.
+abbrev pub IsClusterFault : Features → List ℕ → ℕ → GuestCluster → Option InflateError → Type 0
+IsClusterFault f bytes length (C.Compressed at n) fault = (stream : List ℕ)
+    × IsStreamRead f bytes at n stream × (fault ≡ fault_in (inflated stream length))
+IsClusterFault f bytes length _ fault = fault ≡ None
+
+-- Why that isn't known: the guest cluster is compressed otherwise than by deflate, or its stream
+-- can't be read.
+abbrev pub IsFaultUnknown : Features → Compression → GuestCluster → Error → Type 0
+IsFaultUnknown f by (C.Compressed at n) e = ((e ≡ Unsupported) × (by ≡ Compression.Zstd))
+    ⊎ allowed (read_reasons f at n) e
+IsFaultUnknown f by _ e = ⊥
 
 -- compressed clusters of the disk are deflated, and the offset lies in it
 pub record MayUnpack (disk : GuestDisk) (p : ℕ) : Type 0 where
@@ -73,13 +89,14 @@ ensured_by_parts below o n overwrite old new (Err e) p = ⊎_elim
     (λ q. let no = q.2.1 in let z : ⊥ = cc in absurd z)
     p
 
--- What the calls of an image are, by the features and the bytes of its file, and its disk. It can't be written
--- to: a call that would change something is refused, and no call changes the driver.
+-- What the calls of an image are, by the features and the bytes of its file, and its disk. It can't
+-- be written to: a call that would change something is refused, and no call changes the driver.
 abbrev pub qcow2_calls : {Self : Type 0} → (Self → Features) → (Self → List ℕ)
     → (Self → GuestDisk) → Calls Self (Unit {0})
 qcow2_calls features bytes disk = record any_calls {
   read = λ index o n self result. IsFileRead (features self) (bytes self) o n result;
-  read_special = λ o n self result. IsSpecialRead (features self) (bytes self) (disk self) o n result;
+  read_special = λ o n self result. IsSpecialRead (features self) (bytes self) (disk self) o n
+      result;
   put = λ index source o. IsNotOffered;
   zeroed = λ o n. IsNotOffered;
   discarded_to_zero = λ o n. IsNotOffered;

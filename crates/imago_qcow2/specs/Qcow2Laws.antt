@@ -36,9 +36,11 @@ module _ (tells : Bool) (bytes : List ℕ) (disk : GuestDisk) where
       place_by packed_of bytes (p % disk.cluster) p (disk.clusters (p / disk.cluster))
 
   pub in_disk : (p : ℕ) → p < disk.size → disk_place tells bytes disk p ≡ cluster_place p
+  unfolding disk_place
   in_disk p h = let t : nat_lt p disk.size ≡ true = grind (arith, nat_tests) in rw t refl
 
   pub past_disk : (p : ℕ) → disk.size ≤ p → disk_place tells bytes disk p ≡ End
+  unfolding disk_place
   past_disk p h = let t : nat_lt p disk.size ≡ false = grind (arith, nat_tests) in rw t refl
 
 -- a place of the disk by its guest cluster

@@ -1,8 +1,10 @@
 //! The bytes of compressed guest clusters.
-ghost use Rattle.std.specs.Prelude.{◌≡◌, ◌+◌, ◌≤◌, ◌^◌, length};
+ghost use Rattle.std.specs.Prelude.{◌≡◌, ◌+◌, ◌≤◌, ◌^◌, length, IfOk, IfErr};
+ghost use Rattle.imago_storage.specs.declared.error.Error.TheVariants.{Memory};
 ghost use Rattle.imago_inflate.specs.Inflate.{inflated};
-ghost use Rattle.imago_qcow2.specs.Compressed.{IsPutOut, IsUnpacked};
+ghost use Rattle.imago_qcow2.specs.Compressed.{fault_in, IsPutOut, IsUnpacked};
 
+use imago_inflate::fault::InflateError;
 use imago_inflate::inflate::inflate;
 use imago_storage::error::Error;
 use std::alloc::Global;
@@ -15,6 +17,24 @@ fn put_out(stream: &[u8], out: &mut [u8]) -> Result<(), Error>
     match inflate(stream, out) {
         Ok(()) => Ok(()),
         Err(_) => Err(Error::InvalidData),
+    }
+}
+
+/// The fault of a stream from which a cluster of that length is made, if it has one.
+/// [`Error::Memory`] is no room for the cluster.
+pub(crate) fn fault_of(
+    alloc: Global,
+    stream: &[u8],
+    cluster: u64,
+) -> Result<Option<InflateError>, Error>
+    requires longest { cluster ≤ 2 ^ 21 }
+    ensures fault { IfOk result (λ fault. fault ≡ fault_in (inflated stream.now cluster)) }
+    ensures refusals { IfErr result (λ e. e ≡ Memory) }
+{
+    let mut whole = vec![in alloc; 0u8; cluster as usize]?;
+    match inflate(stream, &mut whole) {
+        Ok(()) => Ok(None),
+        Err(fault) => Ok(Some(fault)),
     }
 }
 

@@ -1,5 +1,5 @@
 //! What the entries of an image's tables say.
-ghost use Rattle.std.specs.Prelude.{◌≡◌, ℕ, ◌^◌, ◌<◌};
+ghost use Rattle.std.specs.Prelude.{◌≡◌, ℕ, ◌^◌, ◌<◌, IfSome, None};
 ghost use Rattle.imago_qcow2.specs.Entry.{table_in_entry, cluster_in_entry};
 ghost use Rattle.imago_qcow2.specs.Entry.{cluster_bits, compressed_in_entry};
 
@@ -41,6 +41,23 @@ pub enum GuestCluster {
     },
     /// The entry is invalid.
     Invalid,
+}
+
+impl GuestCluster {
+    /// Where the stream of a compressed cluster begins in the file, and how many bytes of it the
+    /// stream may have.
+    pub(crate) fn stream(self) -> Option<(u64, u64)>
+        ensures yes { IfSome result (λ s. self ≡ GuestCluster.Compressed s.0 s.1) }
+        ensures no { result ≡ None → (at n : ℕ) → self ≡ GuestCluster.Compressed at n → ⊥ }
+    {
+        match self {
+            GuestCluster::Compressed { at, length: count } => Some((at, count)),
+            GuestCluster::Absent
+            | GuestCluster::Zero
+            | GuestCluster::Stored(_)
+            | GuestCluster::Invalid => None,
+        }
+    }
 }
 
 /// What an L1 entry says, in a file of that length whose clusters have that length.

@@ -35,7 +35,8 @@ pub enum HeaderFault {
     /// Clusters that are compressed by neither deflate nor Zstandard, by the number that says how.
     #[error("the header says compression type {0}, which isn't supported")]
     CompressionType(u8),
-    /// How clusters are compressed: the number for it, and the feature that one is given, don't fit.
+    /// How clusters are compressed: the number for it doesn't fit the feature that says whether it
+    /// is 0.
     #[error("the header's kind of compression can't be meant")]
     Compression,
     /// A name that is too long, or behind the first cluster.

@@ -1,7 +1,7 @@
 //! The driver of qcow2 images.
 ghost use Rattle.std.specs.Prelude.{◌≡◌, ℕ, ◌+◌, ◌-◌, ◌*◌, ◌/◌, ◌%◌, ◌^◌, ◌<◌, ◌≤◌, ◌⊎◌, length};
 ghost use Rattle.std.specs.Prelude.{List, Some, true, false, IsErrOf, IfErr, IfOk, OnOk, IsTrue};
-ghost use Rattle.std.specs.Prelude.{Err, take};
+ghost use Rattle.std.specs.Prelude.{Err, Ok, None, take};
 ghost use Rattle.std.proofs.Props.{props};
 ghost use Rattle.imago_storage.specs.declared.error.Error.{Error};
 ghost use Rattle.imago_storage.specs.Error.{IsExtRefusal};
@@ -24,13 +24,14 @@ ghost use Rattle.imago_qcow2.specs.Opening.{IsRefusedAlone};
 ghost use Rattle.imago_qcow2.specs.Opening.{probe_reasons_of};
 ghost use Rattle.imago_qcow2.specs.Qcow2.{loaded_view};
 ghost use Rattle.imago_qcow2.specs.Qcow2Calls.{qcow2_calls, IsClusterRead, IsFirstRead};
+ghost use Rattle.imago_qcow2.specs.Qcow2Calls.{IsClusterFault, IsFaultUnknown};
 ghost use Rattle.imago_qcow2.specs.Qcow2Calls.{IsSpecialRead};
 ghost use Rattle.imago_qcow2.specs.Qcow2Laws.{qcow2_lawful, qcow2_causes};
 
 use crate::absent::AbsentRuns;
 use crate::backing::find_format;
 use crate::cluster::ClusterSize;
-use crate::compressed::unpack;
+use crate::compressed::{fault_of, unpack};
 use crate::entry::{GuestCluster, cluster_in};
 pub use crate::fault::OpenFault;
 use crate::header::{self, Compression, HEAD_LENGTH, Header, MAGIC};
@@ -42,6 +43,7 @@ use imago_drivers::drivers::{
     Format, FormatDriverInstance, PreallocateMode, PreparedDataMapping, ShallowMapping,
 };
 use imago_drivers::layer::LowerLayer;
+use imago_inflate::fault::InflateError;
 use imago_storage::error::Error;
 use imago_storage::ext::StorageExt;
 use imago_storage::storage::Storage;
@@ -54,10 +56,10 @@ use std::fmt::{self, Display, Formatter, Write};
 /// no data. The header and the tables are read once, when the image is opened; each L2 table is
 /// kept once, also where several L1 entries name it.
 ///
-/// Compressed clusters are mapped as special. Those that are deflated are decoded whenever a byte of
-/// them is read, into memory of one cluster unless it is read whole, and memory for the compressed
-/// bytes, which are two clusters at most. A read is [`Error::InvalidData`] where a stream of its
-/// range is faulty, and [`Error::Unsupported`] where clusters are compressed otherwise.
+/// Compressed clusters are mapped as special. One that is deflated is decoded whenever a byte of it
+/// is read: with memory for its stream, of two clusters at most, and for a cluster unless all of it
+/// is read. A read is [`Error::InvalidData`] where a stream of its range is faulty, and
+/// [`Error::Unsupported`] where clusters are compressed otherwise.
 #[derive(Drop)]
 pub struct Qcow2<S: Storage> {
     storage: S,
@@ -111,10 +113,12 @@ impl<S: Storage> Qcow2<S> {
     /// header is looked at. The first of these is the answer: [`Error::InvalidData`], the file is
     /// no qcow2 image; [`Error::Unsupported`], it has another version than 2 and 3, is encrypted,
     /// or needs what isn't offered, such as an external data file, extended L2 entries, or a
-    /// repair; [`Error::InvalidData`], a number of the header is out of the format's bounds, or the
-    /// L1 table is too small for the disk, off a cluster's bounds, or not wholly in the file.
-    /// [`Error::Device`], [`Error::Memory`] and [`Error::WrapAround`] are passed on from the
-    /// storage. [`Error::Memory`] is also no room for the tables.
+    /// repair; [`Error::InvalidData`], a number of the header is out of the format's bounds;
+    /// [`Error::Unsupported`], its clusters are compressed by neither deflate nor Zstandard;
+    /// [`Error::InvalidData`], the feature for the latter doesn't fit that, or the L1 table is too
+    /// small for the disk, off a cluster's bounds, or not wholly in the file. [`Error::Device`],
+    /// [`Error::Memory`] and [`Error::WrapAround`] are passed on from the storage.
+    /// [`Error::Memory`] is also no room for the tables.
     pub fn open_image(alloc: Global, storage: S, writable: bool) -> Result<Self, Error>
         ensures read_only { writable ≡ true → result ≡ Err Error.Unsupported }
         ensures opened { IfOk result
@@ -229,6 +233,51 @@ impl<S: Storage> Qcow2<S> {
         ensures cluster { 512 ≤ result.cluster_size }
     {
         self.header
+    }
+
+    /// What the guest cluster at that offset of the disk is, in bytes, as its entry says. None is
+    /// an offset that isn't one of the disk.
+    pub fn guest_cluster(&self, offset: u64) -> Option<GuestCluster>
+        ensures inside { offset < (header_in self.now).size
+            → result
+            ≡ Some (loaded_cluster (loaded_in self.now) (offset / (loaded_in self.now).cluster)) }
+        ensures past { (header_in self.now).size ≤ offset → result ≡ None }
+    {
+        if offset >= self.header.size {
+            return None;
+        }
+        Some(self.cluster_at(offset).0)
+    }
+
+    /// Why the compressed cluster at that offset of the disk can't be decoded. None is one that
+    /// can, a guest cluster that isn't compressed, and an offset that isn't one of the disk. The
+    /// cluster is decoded, with memory for it and for its stream.
+    ///
+    /// [`Error::Unsupported`] is a cluster that is compressed otherwise than by deflate, and
+    /// [`Error::Memory`] also no room for these. What the storage is refused for is passed on.
+    pub fn stream_fault(&self, alloc: Global, offset: u64) -> Result<Option<InflateError>, Error>
+        ensures inside { offset < (header_in self.now).size
+            → IfOk result
+            (IsClusterFault (S.features (storage_in self.now)) (S.bytes (storage_in self.now))
+            (loaded_in self.now).cluster
+            (loaded_cluster (loaded_in self.now) (offset / (loaded_in self.now).cluster))) }
+        ensures past { (header_in self.now).size ≤ offset → result ≡ Ok None }
+        ensures refusals { IfErr result
+            (IsFaultUnknown (S.features (storage_in self.now)) (loaded_in self.now).compression
+            (loaded_cluster (loaded_in self.now) (offset / (loaded_in self.now).cluster))) }
+    {
+        if offset >= self.header.size {
+            return Ok(None);
+        }
+        let (cluster, _) = self.cluster_at(offset);
+        let Some((at, count)) = cluster.stream() else {
+            return Ok(None);
+        };
+        if self.header.compression == Compression::Zstd {
+            return Err(Error::Unsupported);
+        }
+        let stream = read_bytes(&self.storage, alloc, at, count)?;
+        fault_of(alloc, &stream, self.cluster.length)
     }
 
     /// The name of the backing file, as it stands in the file, where there is one. It is in the
@@ -376,12 +425,14 @@ impl<S: Storage> Qcow2<S> {
         ensures names { IfOk result
             (λ r. (i : ℕ) → i < r.1
             → Names r.0 i
-            (loaded_place (S.features self.now.storage) (loaded_in self.now) (S.bytes self.now.storage) (offset + i))) }
+            (loaded_place (S.features self.now.storage) (loaded_in self.now)
+            (S.bytes self.now.storage) (offset + i))) }
         ensures some { IfOk result (λ r. 0 < r.1) }
         ensures inside { IfOk result (λ r. offset + r.1 ≤ self.now.header.size) }
         ensures only { IfErr result (λ e. e ≡ Error.InvalidData) }
         ensures refused { IfErr result
-            (λ e. loaded_place (S.features self.now.storage) (loaded_in self.now) (S.bytes self.now.storage) offset ≡ Refused e) }
+            (λ e. loaded_place (S.features self.now.storage) (loaded_in self.now)
+            (S.bytes self.now.storage) offset ≡ Refused e) }
     {
         let (cluster, same) = self.run_at(offset);
         let mapping = mapping_of(cluster, self.cluster.rest(offset), offset)?;
@@ -394,17 +445,20 @@ impl<S: Storage> Qcow2<S> {
         requires names { (i : ℕ)
             → i < known
             → Names mapping i
-            (loaded_place (S.features self.now.storage) (loaded_in self.now) (S.bytes self.now.storage) (offset + i)) }
+            (loaded_place (S.features self.now.storage) (loaded_in self.now)
+            (S.bytes self.now.storage) (offset + i)) }
         requires known { offset + known ≤ self.now.header.size }
         requires most { offset + most ≤ self.now.header.size }
         ensures names { (i : ℕ)
             → i < result
             → Names mapping i
-            (loaded_place (S.features self.now.storage) (loaded_in self.now) (S.bytes self.now.storage) (offset + i)) }
+            (loaded_place (S.features self.now.storage) (loaded_in self.now)
+            (S.bytes self.now.storage) (offset + i)) }
         ensures most { result ≤ most }
         ensures ends { (result ≡ most)
             ⊎ (Names mapping result
-            (loaded_place (S.features self.now.storage) (loaded_in self.now) (S.bytes self.now.storage) (offset + result))
+            (loaded_place (S.features self.now.storage) (loaded_in self.now)
+            (S.bytes self.now.storage) (offset + result))
             → ⊥) }
     {
         let mut count = known;
@@ -454,7 +508,8 @@ impl<S: Storage> Qcow2<S> {
             (S.bytes self.now.storage) self.now.cluster.length
             (loaded_cluster (loaded_in self.now) (offset / self.now.cluster.length)) result }
     {
-        let (GuestCluster::Compressed { at, length: count }, _) = self.cluster_at(offset) else {
+        let (cluster, _) = self.cluster_at(offset);
+        let Some((at, count)) = cluster.stream() else {
             return Err(Error::Unsupported);
         };
         let stream = read_bytes(&self.storage, alloc, at, count)?;
@@ -586,6 +641,10 @@ impl<S: Storage> FormatDriverInstance for Qcow2<S> {
         } else {
             None
         }
+    }
+
+    fn special_block(&self) -> u64 {
+        self.cluster.length
     }
 
     fn get_mapping(&self, offset: u64, max_length: u64) -> Result<(ShallowMapping, u64), Error> {

@@ -1,5 +1,6 @@
 pub mod Pattern
 pub mod PatternLaws
+pub mod Making
 pub mod Choppy
 pub mod ChoppyLaws
 pub mod ChoppyImage

@@ -1,5 +1,5 @@
-//! Drivers for tests: patterns of places that no storage holds, a raw image in blocks, a copy on
-//! the first write, and an enum of drivers; and gates.
+//! Drivers for tests: patterns of places that no storage holds, special bytes in blocks, a raw
+//! image in blocks, a copy on the first write, and an enum of drivers; and gates.
 //!
 //! They keep the laws of the driver interface by proof, so that a test of what stands above them
 //! tests that alone.
@@ -8,5 +8,6 @@
 pub mod choppy;
 pub mod copy_once;
 pub mod gates;
+pub mod making;
 pub mod pattern;
 pub mod test_driver;

@@ -145,6 +145,10 @@ impl<S: Storage> FormatDriverInstance for TestDriver<S> {
         dispatch!(self, driver => driver.readv_special(alloc, buf, offset))
     }
 
+    fn special_block(&self) -> u64 {
+        dispatch!(self, driver => driver.special_block())
+    }
+
     fn write_mapped(
         &mut self,
         alloc: Global,

@@ -1,4 +1,5 @@
 //! The example that the README gives.
+mod compressed;
 mod copied;
 mod files;
 mod formats;

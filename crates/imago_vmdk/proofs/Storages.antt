@@ -58,7 +58,7 @@ module _ {N : Type 0} (features : List Features) (bytes : List (List ℕ)) (open
       (λ rest. ⊎_elim
       (λ w. rw w (unreliable_one features storage null_features known (rw is_f at (device w))))
       (λ w. rw w (λ o q none.
-      let t = none storage at some q in
+      let t = none.1 storage at some q in
       let aligned : IsAlignedRequest f at n = rw is_f t.0 in
       t.1 (rw (is_f, is_b) at (memory w aligned))))
       rest)

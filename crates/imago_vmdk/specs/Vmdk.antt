@@ -10,7 +10,8 @@ use Rattle.imago_storage.specs.Mem.{null_features}
 use Rattle.imago_drivers.specs.declared.format.Format.TheVariants as Format
 use Rattle.imago_drivers.specs.Operation.{Operation, Map, Read, Write, Zero, DiscardToZero}
 use Rattle.imago_drivers.specs.Operation.{DiscardToAny, DiscardToBacking, Grow, Shrink, Flush}
-use Rattle.imago_drivers.specs.Place.{Place, Byte, Stored, Zeroed, Refused, End, PlacesStandAt}
+use Rattle.imago_drivers.specs.Place.{Value, Place, Byte, Stored, Zeroed, Special, Refused, End}
+use Rattle.imago_drivers.specs.Place.{IsIn, PlacesStandAt}
 use Rattle.imago_drivers.specs.Causes.{Causes}
 use Rattle.imago_drivers.specs.Laws.{IsRefusedIn}
 use Rattle.imago_drivers.specs.Ranges.{HasWrappingPart}
@@ -108,12 +109,17 @@ vmdk_cause place features op o n E.NoAccess = (looks op ≡ true)
 vmdk_cause place features op o n E.Unsupported = vmdk_offers op ≡ false
 vmdk_cause place features op o n _ = ⊥
 
--- a read takes none where the places stand in a storage, the request there is aligned, and the
--- storage takes none for it
+-- a place of the range is made up by the driver
+abbrev pub IsSpecialIn : (ℕ → Place) → ℕ → ℕ → Type 0
+IsSpecialIn place o n = (p : ℕ) × IsIn o n p × ((v : Value) × (x : ℕ) × (place p ≡ Special v x))
+
+-- a read takes none where no place is made up, and, if the places stand in a storage, the request
+-- there is aligned, and the storage takes none for it
 abbrev pub ReadTakesNone : (ℕ → Place) → (ℕ → Features) → (ℕ → List ℕ) → ℕ → ℕ → Type 0
-ReadTakesNone place features bytes o n = (index offset : ℕ) → 0 < n
+ReadTakesNone place features bytes o n = (IsSpecialIn place o n → ⊥)
+    × ((index offset : ℕ) → 0 < n
     → PlacesStandAt place index offset n o → IsAlignedRequest (features index) offset n
-    × (MayRunOut (features index).read_memory (length (bytes index)) (offset + n) → ⊥)
+    × (MayRunOut (features index).read_memory (length (bytes index)) (offset + n) → ⊥))
 
 abbrev pub vmdk_no_memory : (ℕ → Place) → (ℕ → Features) → (ℕ → List ℕ) → Operation → ℕ → ℕ → Type 0
 vmdk_no_memory place features bytes Read o n = ReadTakesNone place features bytes o n

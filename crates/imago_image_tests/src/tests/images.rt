@@ -12,6 +12,7 @@ mod image;
 mod mem;
 mod raw;
 mod reached;
+mod reader;
 mod rule;
 mod runs;
 mod set_up;

@@ -17,13 +17,13 @@ returns-in-Some-named-clause-said g c = λ tells.
     (sym c.named.ensures ∙ c.in-Some-named.is)
 
 pub returns-in-None-clause-refused : goal.returns-in-None-clause-refused
-returns-in-None-clause-refused g c = λ tells.
+returns-in-None-clause-refused g c = λ limit tells.
     let bytes = g.S.Storage.bytes (storage_in c.args.qcow2.now) in
     let found : c.or_image.result ≡ Ok (Some c.in-Some.name) = search rules in
     let text = string_bytes c.in_ok-name-2.name in
     let none : format_named text ≡ None =
     ap format_named (sym c.deref.ensures) ∙ sym c.named.ensures ∙ c.in-None.is in
-    refused_for c.args.path.now (IsUnopened bytes) (Reason.BackingFormat c.in_ok-name-2.name)
+    refused_for c.args.path.now (IsUnopened limit bytes) (Reason.BackingFormat c.in_ok-name-2.name)
     (other_format bytes c.backing_format.result c.or_image.result c.in-Some.name text
     (c.backing_format.ensures.name tells) c.or_image.ensures.given found c.in_ok-name-2.ensures.text none)
     c.of_file.result c.of_file.ensures

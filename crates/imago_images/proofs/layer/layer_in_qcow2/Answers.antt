@@ -1,8 +1,11 @@
-use Rattle.std.proofs.Common.{ℕ, List, ap, ◌∙◌, subst, IfSome}
+use Rattle.std.proofs.Common.{ℕ, List, ap, ◌∙◌, subst, IfSome, Err}
+use Rattle.std.proofs.lemmas.Result.{err_from_is_err_and}
 use Rattle.std.specs.Prelude.{option_map}
 use Rattle.imago_qcow2.specs.Entry.{disk_size, qcow2_place}
 use Rattle.imago_images.specs.Formats.{SaysFormat}
 use Rattle.imago_images.specs.Images.{LeadsTo}
+use Rattle.imago_images.specs.Refusals.{IsRefused, IsUnopened}
+use Rattle.imago_images.proofs.ImageSteps.{refused_with}
 use Rattle.imago_images.proofs.PartSteps.{path_in, format_in}
 use Rattle.imago_images.proofs.layer.layer_in_qcow2.Goals as goal
 
@@ -23,3 +26,11 @@ pub returns-clause-format : goal.returns-clause-format
 returns-clause-format g c = λ bytes told.
     subst (λ (xs : List ℕ). IfSome c.in_ok-below.below (λ b. SaysFormat xs (format_in b)))
     told.1 (c.in_ok-below.ensures.format told.0)
+
+pub returns-in_err-below-clause-refused : goal.returns-in_err-below-clause-refused
+returns-in_err-below-clause-refused g c = λ limit bytes told.
+    let e = c.in_err-below.field-0.0 in
+    let p = err_from_is_err_and c.from_residual.result c.from_residual.ensures.1 in
+    refused_with c.from_residual.result e _ (p.1 ∙ ap (λ x. Err x) p.2)
+    (subst (λ (xs : List ℕ). IsRefused c.args.path.now (IsUnopened limit xs) e) told.1
+    (c.in_err-below.ensures.refused limit told.0))

@@ -20,4 +20,4 @@ returns-clause-format g c = λ bytes told.
 pub returns-clause-refused : goal.returns-clause-refused
 returns-clause-refused g c =
     layer_refused g.S.Storage.features g.S.Storage.bytes (g.H.Files.contents c.args.host.now) c.args.path.now
-    _ _ c.layer_in_qcow2.result c.in_ok-qcow2.ensures.opened.0 c.layer_in_qcow2.ensures.refused
+    c.args.most_tables _ _ c.layer_in_qcow2.result c.in_ok-qcow2.ensures.opened.0 c.layer_in_qcow2.ensures.refused

@@ -17,7 +17,7 @@ returns-in_err-format-clause-refused g c =
     (image_unknown (features_of contents opened) (bytes_of contents opened) (contents host) (g.H.Files.statuses host)
     (g.H.Files.real_paths host) c.args.how.other_files c.args.path.now c.args.how.format
     c.in_ok-file-2.file (held_by contents opened c.in_ok-file.file) e c.in_ok-file-2.ensures.told
-    c.args.how.writable c.in_ok-file.ensures.told c.in_err-format.ensures.refused)
+    c.args.how.writable c.args.how.tables c.in_ok-file.ensures.told c.in_err-format.ensures.refused)
 
 pub returns-in_err-image-clause-refused : goal.returns-in_err-image-clause-refused
 returns-in_err-image-clause-refused g c =
@@ -31,7 +31,7 @@ returns-in_err-image-clause-refused g c =
     (image_out (features_of contents opened) (bytes_of contents opened) (contents host) (g.H.Files.statuses host)
     (g.H.Files.real_paths host) c.args.how.other_files c.args.path.now c.args.how.format
     c.in_ok-file-2.file (held_by contents opened c.in_ok-file.file) e c.in_ok-file-2.ensures.told
-    c.args.how.writable c.in_ok-format.format (identity status) (entered c.enter.new.self) c.in_ok-file.ensures.told
+    c.args.how.writable c.args.how.tables c.in_ok-format.format (identity status) (entered c.enter.new.self) c.in_ok-file.ensures.told
     c.in_ok-format.ensures.told
     (identity_told (g.H.Files.statuses host) c.args.path.now status c.in_ok-file.ensures.status)
     (c.in_ok-enter.ensures.entered ∙ ap (λ (xs : List (ℕ × ℕ)). xs ++ identity status ∷ []) c.new-way.ensures)

@@ -24,3 +24,6 @@ returns-in-Some-into_state-clause-call g c = rw c.in-Vmdk.is (cancel_foreign _ (
 
 pub returns-in-Cow : goal.returns-in-Cow
 returns-in-Cow g c = rw c.in-Cow.is (record { call = cancel_of (λ d. T.Cow d) _ _ _ _ c.cancel_data_mapping-in-Cow.ensures.call; performed = c.cancel_data_mapping-in-Cow.ensures.performed })
+
+pub returns-in-Some-into_state-2-clause-call : goal.returns-in-Some-into_state-2-clause-call
+returns-in-Some-into_state-2-clause-call g c = rw c.in-Qcow2.is (cancel_foreign _ (T.Qcow2 c.in-Qcow2.driver) refl c.args.mapping _ (sym c.into_state-in-Qcow2.ensures ∙ c.in-Some-into_state-2.is))

@@ -30,3 +30,6 @@ returns-in-None-into_state-2-clause-call g c =
     let e = c.restated-own-in-Qcow2.ensures in
     let state = sym c.into_state-in-Qcow2.ensures ∙ c.in-None-into_state-2.is in
     rw c.in-Qcow2.is (commit_of (λ q. T.Qcow2 q) _ _ _ _ _ (commit_restated c.restated-own-in-Qcow2.result c.args.mapping (sym e.storage) (sym e.offset) (sym e.length) state e.state _ _ _ _ c.commit_data_mapping-in-None-into_state-2.ensures.call))
+
+pub returns-in-Some-into_state-2-clause-call : goal.returns-in-Some-into_state-2-clause-call
+returns-in-Some-into_state-2-clause-call g c = rw c.in-Qcow2.is (commit_foreign _ (T.Qcow2 c.in-Qcow2.driver) refl c.args.mapping _ (sym c.into_state-in-Qcow2.ensures ∙ c.in-Some-into_state-2.is))

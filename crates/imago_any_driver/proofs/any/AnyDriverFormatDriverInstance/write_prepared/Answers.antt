@@ -64,3 +64,12 @@ returns-else-not-is_nonblocking-3-clause-call g c =
     let state : n.state ≡ None = none_of n.state (sym c.if-not-is_nonblocking-3.ensures) in
     write_at v c.in-Qcow2.is n (v (T.Qcow2 c.write_prepared-result-in-Qcow2.new.self)) c.args.at c.args.source.now c.write_prepared-result-in-Qcow2.result
     (prepared_write_restated c.restated-own-in-Qcow2.result n (sym e.storage) (sym e.offset) (sym e.length) state e.state (qcow2_in s.features s.bytes c.in-Qcow2.driver) (qcow2_in s.features s.bytes c.write_prepared-result-in-Qcow2.new.self) c.args.at c.args.source.now c.write_prepared-result-in-Qcow2.result c.write_prepared-result-in-Qcow2.ensures.call)
+
+pub returns-then-not-is_nonblocking-3-clause-call : goal.returns-then-not-is_nonblocking-3-clause-call
+returns-then-not-is_nonblocking-3-clause-call g c =
+    let s = g.S.Storage in
+    let v = view_over s.features s.fault_count s.bytes in
+    let n = c.args.mapping.now in
+    let some = some_of n.state (sym c.if-not-is_nonblocking-3.ensures) in
+    write_at v c.in-Qcow2.is n (v (T.Qcow2 c.in-Qcow2.driver)) c.args.at c.args.source.now (Err Error.ForeignMapping)
+    (write_foreign v (T.Qcow2 c.in-Qcow2.driver) refl n some.0 some.1 c.args.at c.args.source.now)

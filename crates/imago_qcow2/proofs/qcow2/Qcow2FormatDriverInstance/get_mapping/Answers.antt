@@ -1,6 +1,6 @@
 use Rattle.std.proofs.Common.{◌<◌, arith}
 use Rattle.imago_qcow2.specs.Tables.{loaded_of, loaded_place}
-use Rattle.imago_qcow2.proofs.MapSteps.{right_inside, longest_of, whole_longest, asked_for}
+use Rattle.imago_qcow2.proofs.MapSteps.{right_inside, right_end, longest_of, whole_longest, asked_for}
 use Rattle.imago_qcow2.proofs.qcow2.Qcow2FormatDriverInstance.get_mapping.Goals as goal
 
 pub returns-clause-right : goal.returns-clause-right
@@ -24,3 +24,8 @@ returns-clause-whole g c = λ one.
     let s = c.args.self.now in
     let place = loaded_place (g.S.Storage.features s.storage) (loaded_of s.header s.cluster.length s.tables) (g.S.Storage.bytes s.storage) in
     whole_longest place s.header.size c.args.offset c.args.max_length c.longest.result one (returns-clause-part g c)
+
+pub returns-then-offset-self-clause-right : goal.returns-then-offset-self-clause-right
+returns-then-offset-self-clause-right g c =
+    let s = c.args.self.now in
+    right_end (g.S.Storage.features s.storage) (g.S.Storage.bytes s.storage) (loaded_of s.header s.cluster.length s.tables) c.args.offset c.args.max_length (omega (arith, c.if-offset-self.true))

@@ -1,0 +1,134 @@
+-- What the words behind a command's name ask of it.
+use Rattle.std.specs.Prelude.{◌≡◌, ◌∷◌, ◌&&◌, ◌==◌, ℕ, Bool, true, false, [], Option, Some, None}
+use Rattle.std.specs.Prelude.{if◌then◌else◌, codes, is_some, length, option_and_then, unwrap_or}
+use Rattle.std.specs.Str.{bytes_eq}
+use Rattle.imago_words.specs.declared.command.Check.{Check}
+use Rattle.imago_words.specs.declared.command.Compare.{Compare}
+use Rattle.imago_words.specs.declared.command.Convert.{Convert}
+use Rattle.imago_words.specs.declared.command.Info.{Info}
+use Rattle.imago_words.specs.declared.command.Map.{Map}
+use Rattle.imago_words.specs.declared.command.Opening.{Opening}
+use Rattle.imago_words.specs.declared.command.Output.{Output}
+use Rattle.imago_words.specs.declared.command.Output.TheVariants.{Human, Json}
+use Rattle.imago_words.specs.declared.format.Format.{Format}
+use Rattle.imago_words.specs.declared.format.Format.TheVariants.{Raw, Vmdk, Qcow2}
+use Rattle.imago_words.specs.Reading.{State, Text, value_given, was_given}
+use Rattle.imago_words.specs.Sizes.{size_of}
+
+-- an option's value passes a test, if the option was given
+abbrev passes : (Text → Bool) → Option Text → Bool
+passes test None = true
+passes test (Some value) = test value
+
+unfoldable pub format_named : Text → Option Format
+format_named name = if bytes_eq name (codes "raw") then Some Raw else
+    if bytes_eq name (codes "vmdk") then Some Vmdk else
+    if bytes_eq name (codes "qcow2") then Some Qcow2 else None
+
+-- the format that an option gives, and that its value is one
+abbrev pub format_given : Text → State → Option Format
+format_given key s = option_and_then format_named (value_given key s)
+
+abbrev pub format_is_meant : Text → State → Bool
+format_is_meant key s = passes (λ value. is_some (format_named value)) (value_given key s)
+
+-- the size that an option gives, and that its value is one
+abbrev pub size_given : Text → State → Option ℕ
+size_given key s = option_and_then size_of (value_given key s)
+
+abbrev pub size_is_meant : Text → State → Bool
+size_is_meant key s = passes (λ value. is_some (size_of value)) (value_given key s)
+
+unfoldable pub output_named : Text → Option Output
+output_named name = if bytes_eq name (codes "human") then Some Human else
+    if bytes_eq name (codes "json") then Some Json else None
+
+-- `--json` beats `--output`; without both it is for people
+abbrev pub output_given : State → Output
+output_given s = if was_given (codes "json") s then Json else
+    unwrap_or (option_and_then output_named (value_given (codes "output") s)) Human
+
+abbrev pub output_is_meant : State → Bool
+output_is_meant s =
+    passes (λ value. is_some (output_named value)) (value_given (codes "output") s)
+
+-- a command that prints nothing for programs yet
+abbrev pub human_is_meant : State → Bool
+human_is_meant s = passes (λ value. bytes_eq value (codes "human")) (value_given (codes "output") s)
+
+-- `convert` writes raw images
+abbrev pub target_is_meant : State → Bool
+target_is_meant s =
+    passes (λ value. bytes_eq value (codes "raw")) (value_given (codes "target-format") s)
+
+-- of all sizes of holes, 0 alone changes something: there are none
+abbrev is_zero : Option ℕ → Bool
+is_zero None = false
+is_zero (Some n) = n == 0
+
+abbrev pub writes_every_byte : State → Bool
+writes_every_byte s = is_zero (size_given (codes "sparse-size") s)
+
+-- What each field of a command is.
+pub record IsOpening (s : State) (o : Opening) : Type 0 where
+  pub strict : o.strict ≡ was_given (codes "strict") s
+  pub allow_outside : o.allow_outside ≡ was_given (codes "allow-outside") s
+  pub tables : o.tables ≡ size_given (codes "tables") s
+
+pub record IsInfo (s : State) (i : Info) : Type 0 where
+  pub files : s.files ≡ i.file.now ∷ []
+  pub format : i.format ≡ format_given (codes "format") s
+  pub output : i.output ≡ output_given s
+  pub opening : IsOpening s i.opening
+
+pub record IsMap (s : State) (m : Map) : Type 0 where
+  pub files : s.files ≡ m.file.now ∷ []
+  pub format : m.format ≡ format_given (codes "format") s
+  pub output : m.output ≡ output_given s
+  pub opening : IsOpening s m.opening
+
+pub record IsCheck (s : State) (c : Check) : Type 0 where
+  pub files : s.files ≡ c.file.now ∷ []
+  pub format : c.format ≡ format_given (codes "format") s
+  pub opening : IsOpening s c.opening
+
+pub record IsCompare (s : State) (c : Compare) : Type 0 where
+  pub files : s.files ≡ c.first.now ∷ c.second.now ∷ []
+  pub first_format : c.first_format ≡ format_given (codes "format") s
+  pub second_format : c.second_format ≡ format_given (codes "second-format") s
+  pub same_size : c.same_size ≡ was_given (codes "same-size") s
+  pub progress : c.progress ≡ was_given (codes "progress") s
+  pub quiet : c.quiet ≡ was_given (codes "quiet") s
+  pub opening : IsOpening s c.opening
+
+pub record IsConvert (s : State) (c : Convert) : Type 0 where
+  pub files : s.files ≡ c.source.now ∷ c.target.now ∷ []
+  pub source_format : c.source_format ≡ format_given (codes "format") s
+  pub target_format : c.target_format ≡ Raw
+  pub into_existing : c.into_existing ≡ was_given (codes "into-existing") s
+  pub every_byte : c.every_byte ≡ writes_every_byte s
+  pub force : c.force ≡ was_given (codes "force") s
+  pub progress : c.progress ≡ was_given (codes "progress") s
+  pub quiet : c.quiet ≡ was_given (codes "quiet") s
+  pub opening : IsOpening s c.opening
+
+-- The words are meant: there are as many files as the command takes, and each value is one that its
+-- option takes.
+abbrev are_files : ℕ → State → Bool
+are_files count s = length s.files == count
+
+abbrev pub info_is_meant : State → Bool
+info_is_meant s = are_files 1 s && (format_is_meant (codes "format") s
+    && (output_is_meant s && size_is_meant (codes "tables") s))
+
+abbrev pub check_is_meant : State → Bool
+check_is_meant s = are_files 1 s && (format_is_meant (codes "format") s
+    && (human_is_meant s && size_is_meant (codes "tables") s))
+
+abbrev pub compare_is_meant : State → Bool
+compare_is_meant s = are_files 2 s && (format_is_meant (codes "format") s
+    && (format_is_meant (codes "second-format") s && size_is_meant (codes "tables") s))
+
+abbrev pub convert_is_meant : State → Bool
+convert_is_meant s = are_files 2 s && (format_is_meant (codes "format") s && (target_is_meant s
+    && (size_is_meant (codes "sparse-size") s && size_is_meant (codes "tables") s)))

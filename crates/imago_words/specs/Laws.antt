@@ -1,0 +1,33 @@
+-- Two command lines, and what one of them asks for.
+use Rattle.std.specs.Prelude.{◌≡◌, ◌∷◌, ◌^◌, true, false, List, [], Some, codes}
+use Rattle.imago_words.specs.declared.command.Command.{Command}
+use Rattle.imago_words.specs.declared.command.Command.TheVariants as Asked
+use Rattle.imago_words.specs.declared.command.Convert.{Convert}
+use Rattle.imago_words.specs.declared.format.Format.TheVariants.{Raw, Qcow2}
+use Rattle.imago_words.specs.Reading.{Text}
+
+abbrev pub worked_line : List Text
+worked_line = codes "convert" ∷ codes "-pfqcow2" ∷ codes "a" ∷ codes "--tables=1G"
+    ∷ codes "--force" ∷ codes "-S" ∷ codes "0" ∷ codes "-1" ∷ []
+
+-- `a`, a qcow2 image, is converted to the raw image `-1`, which may be there and has no holes;
+-- tables take 1 GiB at most, and the progress is shown
+pub record IsWorkedConvert (c : Convert) : Type 0 where
+  pub files : c.source.now ∷ c.target.now ∷ [] ≡ codes "a" ∷ codes "-1" ∷ []
+  pub source_format : c.source_format ≡ Some Qcow2
+  pub target_format : c.target_format ≡ Raw
+  pub into_existing : c.into_existing ≡ false
+  pub every_byte : c.every_byte ≡ true
+  pub force : c.force ≡ true
+  pub progress : c.progress ≡ true
+  pub quiet : c.quiet ≡ false
+  pub strict : c.opening.strict ≡ false
+  pub allow_outside : c.opening.allow_outside ≡ false
+  pub tables : c.opening.tables ≡ Some (2 ^ 30)
+
+abbrev pub IsWorked : Command → Type 0
+IsWorked (Asked.Convert c) = IsWorkedConvert c
+IsWorked _ = ⊥
+
+abbrev pub refused_line : List Text
+refused_line = codes "compare" ∷ codes "-q" ∷ codes "a" ∷ codes "b" ∷ codes "--force" ∷ []

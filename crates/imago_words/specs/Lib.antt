@@ -1,0 +1,6 @@
+pub mod Reading
+pub mod Sizes
+pub mod Options
+pub mod Commands
+pub mod Line
+pub mod Laws

@@ -1,0 +1,142 @@
+//! What a command line asks for.
+use crate::format::Format;
+use crate::kind::Kind;
+
+/// What a command line asks for.
+#[derive(Clone, Copy)]
+pub enum Command<'a> {
+    /// The help of a command, or of the program.
+    Help(Option<Kind>),
+    /// The version of the program.
+    Version,
+    /// To tell what an image is.
+    Info(Info<'a>),
+    /// To tell where the bytes of an image's disk stand.
+    Map(Map<'a>),
+    /// To look for the faults of an image.
+    Check(Check<'a>),
+    /// To tell whether two images have the same disk.
+    Compare(Compare<'a>),
+    /// To write an image's disk to another image.
+    Convert(Convert<'a>),
+}
+
+/// What is said of each image that a command opens.
+#[derive(Clone, Copy)]
+pub struct Opening {
+    /// Whether unknown keys of VMDK descriptors are refused.
+    pub strict: bool,
+    /// Whether files outside the image's folder are permitted.
+    pub allow_outside: bool,
+    /// The most bytes of memory that tables may take, if it was said.
+    pub tables: Option<u64>,
+}
+
+/// How a command prints.
+#[derive(Clone, Copy, PartialEq, Eq)]
+pub enum Output {
+    /// For people.
+    Human,
+    /// As JSON.
+    Json,
+}
+
+impl Output {
+    ghost use Rattle.std.specs.Prelude.{◌≡◌};
+    ghost use Rattle.imago_words.specs.Commands.{output_named};
+
+    /// The way of that name.
+    #[tactic(auto, unfolding(crate::specs::Commands::output_named))]
+    pub fn named(name: &str) -> Option<Output>
+        ensures { result ≡ output_named name.now }
+    {
+        match name {
+            "human" => Some(Output::Human),
+            "json" => Some(Output::Json),
+            _ => None,
+        }
+    }
+}
+
+/// What `info` is asked.
+#[derive(Clone, Copy)]
+pub struct Info<'a> {
+    /// The path of the image.
+    pub file: &'a str,
+    /// The format of the image, if it was said.
+    pub format: Option<Format>,
+    /// How it is printed.
+    pub output: Output,
+    /// What holds of each image.
+    pub opening: Opening,
+}
+
+/// What `map` is asked.
+#[derive(Clone, Copy)]
+pub struct Map<'a> {
+    /// The path of the image.
+    pub file: &'a str,
+    /// The format of the image, if it was said.
+    pub format: Option<Format>,
+    /// How it is printed.
+    pub output: Output,
+    /// What holds of each image.
+    pub opening: Opening,
+}
+
+/// What `check` is asked.
+#[derive(Clone, Copy)]
+pub struct Check<'a> {
+    /// The path of the image.
+    pub file: &'a str,
+    /// The format of the image, if it was said.
+    pub format: Option<Format>,
+    /// What holds of each image.
+    pub opening: Opening,
+}
+
+/// What `compare` is asked.
+#[derive(Clone, Copy)]
+pub struct Compare<'a> {
+    /// The path of the first image.
+    pub first: &'a str,
+    /// The path of the second image.
+    pub second: &'a str,
+    /// The format of the first image, if it was said.
+    pub first_format: Option<Format>,
+    /// The format of the second image, if it was said.
+    pub second_format: Option<Format>,
+    /// Whether disks of two sizes are different.
+    pub same_size: bool,
+    /// Whether the progress is shown.
+    pub progress: bool,
+    /// Whether only errors are printed.
+    pub quiet: bool,
+    /// What holds of each image.
+    pub opening: Opening,
+}
+
+/// What `convert` is asked.
+#[derive(Clone, Copy)]
+pub struct Convert<'a> {
+    /// The path of the image that is read.
+    pub source: &'a str,
+    /// The path of the image that is written.
+    pub target: &'a str,
+    /// The format of the source, if it was said.
+    pub source_format: Option<Format>,
+    /// The format of the target: raw, if it wasn't said.
+    pub target_format: Format,
+    /// Whether the target is there, and is written into.
+    pub into_existing: bool,
+    /// Whether each byte is written, so that the target has no holes.
+    pub every_byte: bool,
+    /// Whether a target that is there is replaced.
+    pub force: bool,
+    /// Whether the progress is shown.
+    pub progress: bool,
+    /// Whether only errors are printed.
+    pub quiet: bool,
+    /// What holds of each image.
+    pub opening: Opening,
+}

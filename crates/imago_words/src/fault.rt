@@ -1,0 +1,58 @@
+//! Why the words of a command line are no command.
+ghost use Rattle.std.specs.Prelude.{◌≡◌};
+ghost use Rattle.imago_words.specs.declared.fault.Fault.TheVariants.{Memory};
+
+use crate::row::Row;
+use std::alloc::{AllocError, AllocFailed};
+
+/// Why the words of a command line are no command.
+#[derive(Clone, Copy)]
+pub enum Fault<'a> {
+    /// There is no word.
+    NoCommand,
+    /// The first word isn't the name of a command.
+    UnknownCommand(&'a str),
+    /// A word has a letter that is no option of the command.
+    UnknownLetter {
+        /// The word.
+        word: &'a str,
+        /// The letter; empty if it isn't ASCII.
+        letter: &'a str,
+    },
+    /// A word has a name that is no option of the command.
+    UnknownName {
+        /// The word.
+        word: &'a str,
+        /// The name, without its dashes.
+        name: &'a str,
+    },
+    /// The last word is an option, and its value is missing.
+    NoValue(Row),
+    /// An option that takes no value was given one.
+    NoneTaken(Row),
+    /// An option doesn't take the value that it was given.
+    Value(Row, &'a str),
+    /// A file is missing.
+    FewFiles,
+    /// A word is one file too many.
+    ManyFiles(&'a str),
+    /// Memory was refused.
+    Memory,
+}
+
+impl From<AllocError> for Fault<'_> {
+    ghost from_gives = { λ _ e. e ≡ Memory };
+
+    fn from(_refused: AllocError) -> Self {
+        Fault::Memory
+    }
+}
+
+impl<T: Drop> From<AllocFailed<T>> for Fault<'_> {
+    ghost from_gives = { λ _ e. e ≡ Memory };
+
+    fn from(refused: AllocFailed<T>) -> Self {
+        let _ = refused;
+        Fault::Memory
+    }
+}

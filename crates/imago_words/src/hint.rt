@@ -1,0 +1,113 @@
+//! What may help if a word isn't known.
+use crate::fault::Fault;
+use crate::kind::{KINDS, Kind};
+use crate::page::{Absent, Page};
+use crate::table::ABSENT;
+use std::alloc::{AllocError, Global};
+use strsim::jaro;
+
+/// What may help if a word isn't known.
+#[derive(Clone, Copy)]
+pub enum Hint {
+    /// Nothing is known that does.
+    Nothing,
+    /// What there is in place of what only qemu-img has.
+    Instead(Absent),
+    /// The name that may be meant, without dashes.
+    Near(&'static str),
+}
+
+/// What may help with a fault. Where memory is refused, no name is looked for.
+pub(crate) fn hint_of(alloc: Global, fault: &Fault<'_>, kind: Option<Kind>) -> Hint {
+    match (fault, kind) {
+        (Fault::UnknownCommand(word), _) => hint_of_command(alloc, word),
+        (Fault::UnknownLetter { word, letter }, Some(kind)) => {
+            let page = kind.page();
+            match absent_named(page.absent, "-", letter) {
+                Some(absent) => Hint::Instead(absent),
+                None => near_option(alloc, word.trim_start_matches('-'), &page),
+            }
+        }
+        (Fault::UnknownName { name, .. }, Some(kind)) => {
+            let page = kind.page();
+            match absent_named(page.absent, "--", name) {
+                Some(absent) => Hint::Instead(absent),
+                None => near_option(alloc, name, &page),
+            }
+        }
+        _ => Hint::Nothing,
+    }
+}
+
+/// What may help with a word that is no command's name.
+fn hint_of_command(alloc: Global, word: &str) -> Hint {
+    if let Some(absent) = absent_named(&ABSENT, "", word) {
+        return Hint::Instead(absent);
+    }
+    let mut best = Best::NONE;
+    for kind in &KINDS {
+        best = best.or(alloc, word, kind.page().name);
+    }
+    best.hint()
+}
+
+/// What only qemu-img has by that name, behind its dashes.
+fn absent_named(list: &[Absent], dashes: &str, name: &str) -> Option<Absent> {
+    for absent in list {
+        if absent.name.strip_prefix(dashes) == Some(name) {
+            return Some(*absent);
+        }
+    }
+    None
+}
+
+/// The option whose name is nearest to a text.
+fn near_option(alloc: Global, text: &str, page: &Page) -> Hint {
+    let mut best = Best::NONE;
+    for row in page.rows {
+        best = best.or(alloc, text, row.name);
+    }
+    best.hint()
+}
+
+/// The nearest name so far.
+#[derive(Clone, Copy)]
+struct Best {
+    score: f64,
+    name: Option<&'static str>,
+}
+
+impl Best {
+    /// None yet. A name that is less near than that isn't worth to be told.
+    const NONE: Best = Best {
+        score: 0.7,
+        name: None,
+    };
+
+    /// The nearer one of this and a name.
+    fn or(self, alloc: Global, text: &str, name: &'static str) -> Best {
+        match nearness(alloc, text, name) {
+            Ok(score) if score > self.score => Best {
+                score,
+                name: Some(name),
+            },
+            _ => self,
+        }
+    }
+
+    /// The name as a hint.
+    fn hint(self) -> Hint {
+        match self.name {
+            Some(name) => Hint::Near(name),
+            None => Hint::Nothing,
+        }
+    }
+}
+
+/// How near a name is to a text, from 0 to 1. Of two letters nothing is told.
+fn nearness(alloc: Global, text: &str, name: &str) -> Result<f64, AllocError> {
+    if text.len() < 3 {
+        return Ok(0.0);
+    }
+    jaro(alloc, text, name)
+}

@@ -1,0 +1,62 @@
+//! Which command it is.
+ghost use Rattle.std.specs.Prelude.{◌≡◌, map};
+ghost use Rattle.imago_words.specs.Line.{kind_named};
+ghost use Rattle.imago_words.specs.Options.{options_of};
+ghost use Rattle.imago_words.specs.Reading.{known};
+
+use crate::page::Page;
+use crate::table::TABLE;
+
+/// Which command it is.
+#[derive(Clone, Copy, PartialEq, Eq)]
+pub enum Kind {
+    /// `info`, which tells what an image is.
+    Info,
+    /// `map`, which tells where the bytes of an image's disk stand.
+    Map,
+    /// `check`, which looks for the faults of an image.
+    Check,
+    /// `compare`, which tells whether two images have the same disk.
+    Compare,
+    /// `convert`, which writes an image's disk to another image.
+    Convert,
+}
+
+/// The commands in the order in which help lists them.
+pub(crate) static KINDS: [Kind; 5] = [
+    Kind::Info,
+    Kind::Map,
+    Kind::Check,
+    Kind::Compare,
+    Kind::Convert,
+];
+
+impl Kind {
+    /// The command of that name.
+    #[tactic(auto, unfolding(crate::specs::Line::kind_named))]
+    pub fn named(name: &str) -> Option<Kind>
+        ensures { result ≡ kind_named name.now }
+    {
+        match name {
+            "info" => Some(Kind::Info),
+            "map" => Some(Kind::Map),
+            "check" => Some(Kind::Check),
+            "compare" => Some(Kind::Compare),
+            "convert" => Some(Kind::Convert),
+            _ => None,
+        }
+    }
+
+    /// Its page of the table.
+    pub fn page(self) -> Page
+        ensures { map known result.rows.now ≡ options_of self }
+    {
+        match self {
+            Kind::Info => TABLE.info,
+            Kind::Map => TABLE.map,
+            Kind::Check => TABLE.check,
+            Kind::Compare => TABLE.compare,
+            Kind::Convert => TABLE.convert,
+        }
+    }
+}

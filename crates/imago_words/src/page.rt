@@ -1,0 +1,41 @@
+//! The pages of the table: a command each.
+use crate::row::Row;
+
+/// A command, with its options.
+#[derive(Clone, Copy)]
+pub struct Page {
+    /// Its name.
+    pub name: &'static str,
+    /// What help says of it.
+    pub about: &'static str,
+    /// What help calls its files, in their order.
+    pub files: &'static str,
+    /// Its options.
+    pub rows: &'static [Row],
+    /// The options that qemu-img's command has, and this one hasn't.
+    pub absent: &'static [Absent],
+}
+
+/// An option, or a command, that only qemu-img has.
+#[derive(Clone, Copy)]
+pub struct Absent {
+    /// As it is typed.
+    pub name: &'static str,
+    /// What there is in its place.
+    pub instead: &'static str,
+}
+
+/// The commands, each with its page.
+#[derive(Clone, Copy)]
+pub struct Table {
+    /// That of `info`.
+    pub info: Page,
+    /// That of `map`.
+    pub map: Page,
+    /// That of `check`.
+    pub check: Page,
+    /// That of `compare`.
+    pub compare: Page,
+    /// That of `convert`.
+    pub convert: Page,
+}

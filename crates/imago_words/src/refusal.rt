@@ -1,0 +1,136 @@
+//! What is told if the words of a command line are no command.
+ghost use Rattle.std.specs.Prelude.{◌≡◌};
+ghost use Rattle.imago_words.specs.Line.{status_of};
+
+use crate::fault::Fault;
+use crate::hint::{Hint, hint_of};
+use crate::kind::Kind;
+use crate::page::Page;
+use crate::row::Name;
+use std::alloc::Global;
+use std::fmt::{self, Display};
+
+/// Why the words of a command line are no command. It prints one line, without a newline, which
+/// ends with the command's help; a word in it is quoted, and its control characters are escaped.
+#[derive(Clone, Copy)]
+pub struct Refusal<'a> {
+    /// What is wrong with them.
+    pub fault: Fault<'a>,
+    /// The command that the first word names.
+    pub kind: Option<Kind>,
+    /// What may help.
+    pub hint: Hint,
+}
+
+impl<'a> Refusal<'a> {
+    /// The refusal of a command line with that fault.
+    pub(crate) fn new(alloc: Global, fault: Fault<'a>, kind: Option<Kind>) -> Refusal<'a>
+        ensures fault { result.fault ≡ fault.entry }
+        ensures kind { result.kind ≡ kind }
+    {
+        Refusal {
+            fault,
+            kind,
+            hint: hint_of(alloc, &fault, kind),
+        }
+    }
+
+    /// The exit status.
+    pub fn status(&self) -> u8
+        ensures { result ≡ status_of self.now }
+    {
+        match self.kind {
+            Some(Kind::Compare) => 2,
+            _ => 1,
+        }
+    }
+}
+
+impl Display for Refusal<'_> {
+    fn fmt<W: fmt::Write>(&self, f: &mut fmt::Formatter<W>) -> fmt::Result {
+        let Some(kind) = self.kind else {
+            return fmt_unnamed(f, self.fault, self.hint);
+        };
+        let page = kind.page();
+        match self.fault {
+            Fault::Memory => return f.write_str("out of memory"),
+            Fault::FewFiles | Fault::ManyFiles(_) => fmt_files(f, self.fault, &page)?,
+            Fault::UnknownLetter { word, .. } | Fault::UnknownName { word, .. } => {
+                fmt_option(f, word, self.hint, &page)?;
+            }
+            _ => fmt_value(f, self.fault)?,
+        }
+        write!(f, "; see imago-img {} --help", page.name)
+    }
+}
+
+/// Tells why no command is named.
+fn fmt_unnamed<W: fmt::Write>(
+    f: &mut fmt::Formatter<W>,
+    fault: Fault<'_>,
+    hint: Hint,
+) -> fmt::Result {
+    match fault {
+        Fault::UnknownCommand(word) => write!(f, "{word:?} isn't a command of imago-img")?,
+        _ => f.write_str("no command is named")?,
+    }
+    match hint {
+        Hint::Instead(absent) => write!(f, ": {}", absent.instead)?,
+        Hint::Near(name) => write!(f, " (did you mean {name}?)")?,
+        Hint::Nothing => {}
+    }
+    f.write_str("; see imago-img --help")
+}
+
+/// Tells of an option that the command hasn't.
+fn fmt_option<W: fmt::Write>(
+    f: &mut fmt::Formatter<W>,
+    word: &str,
+    hint: Hint,
+    page: &Page,
+) -> fmt::Result {
+    match hint {
+        Hint::Instead(absent) => {
+            write!(
+                f,
+                "{} has no {}: {}",
+                page.name, absent.name, absent.instead
+            )
+        }
+        Hint::Near(name) => {
+            write!(
+                f,
+                "{} has no option {word:?} (did you mean --{name}?)",
+                page.name
+            )
+        }
+        Hint::Nothing => write!(f, "{} has no option {word:?}", page.name),
+    }
+}
+
+/// Tells of an option's value.
+fn fmt_value<W: fmt::Write>(f: &mut fmt::Formatter<W>, fault: Fault<'_>) -> fmt::Result {
+    match fault {
+        Fault::NoValue(row) => {
+            write!(f, "{} takes {}, which is missing", Name(row), row.taken())
+        }
+        Fault::Value(row, value) => {
+            write!(f, "{} takes {}, not {value:?}", Name(row), row.taken())
+        }
+        Fault::NoneTaken(row) => write!(f, "{} takes no value", Name(row)),
+        _ => Ok(()),
+    }
+}
+
+/// Tells that there are too few or too many files.
+fn fmt_files<W: fmt::Write>(
+    f: &mut fmt::Formatter<W>,
+    fault: Fault<'_>,
+    page: &Page,
+) -> fmt::Result {
+    write!(f, "{} takes {}; ", page.name, page.files)?;
+    match fault {
+        Fault::ManyFiles(word) => write!(f, "{word:?} is one file too many"),
+        _ => f.write_str("a file is missing"),
+    }
+}

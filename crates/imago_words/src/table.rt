@@ -1,0 +1,303 @@
+//! The table: the commands and their options, as they are typed and as help tells them.
+use crate::page::{Absent, Page, Table};
+use crate::row::Row;
+
+/// An option without a value: its key, letter and name, and what help says of it.
+macro_rules! flag {
+    ($key:literal, $letter:literal, $name:literal, $help:literal) => {
+        Row {
+            key: $key,
+            letter: $letter,
+            name: $name,
+            value: "",
+            takes: "",
+            help: $help,
+        }
+    };
+}
+
+/// An option with a value: its key, letter and name, what help calls the value, the values that it
+/// takes, and what help says of it.
+macro_rules! valued {
+    (
+        $key:literal, $letter:literal, $name:literal,
+        $value:literal, $takes:literal, $help:literal
+    ) => {
+        Row {
+            key: $key,
+            letter: $letter,
+            name: $name,
+            value: $value,
+            takes: $takes,
+            help: $help,
+        }
+    };
+}
+
+/// An option, or a command, that only qemu-img has.
+macro_rules! absent {
+    ($name:literal, $instead:literal) => {
+        Absent {
+            name: $name,
+            instead: $instead,
+        }
+    };
+}
+
+const FORMAT: Row = valued!(
+    "format",
+    "f",
+    "format",
+    "FMT",
+    "raw, vmdk or qcow2",
+    "The image's format"
+);
+
+const EITHER_FORMAT: Row = valued!(
+    "format",
+    "f",
+    "",
+    "FMT",
+    "raw, vmdk or qcow2",
+    "The format of the first image"
+);
+
+const SOURCE_FORMAT: Row = valued!(
+    "format",
+    "f",
+    "",
+    "FMT",
+    "raw, vmdk or qcow2",
+    "The format of FILE"
+);
+
+const OUTPUT: Row = valued!(
+    "output",
+    "",
+    "output",
+    "OFMT",
+    "human or json",
+    "What is printed"
+);
+
+const JSON: Row = flag!("json", "", "json", "The same as --output=json");
+
+const PROGRESS: Row = flag!("progress", "p", "", "Show the progress");
+
+const QUIET: Row = flag!("quiet", "q", "quiet", "Print errors alone");
+
+const STRICT: Row = flag!(
+    "strict",
+    "",
+    "strict",
+    "Refuse unknown keys of VMDK descriptors"
+);
+
+const OUTSIDE: Row = flag!(
+    "allow-outside",
+    "",
+    "allow-outside",
+    "Permit files outside the image's folder"
+);
+
+const TABLES: Row = valued!(
+    "tables",
+    "",
+    "tables",
+    "SIZE",
+    "a size such as 64M",
+    "The most memory for tables"
+);
+
+const SHARE: Row = flag!(
+    "force-share",
+    "U",
+    "force-share",
+    "Accepted and ignored: no file is locked"
+);
+
+const SOURCE_CACHE: Row = valued!("source-cache", "T", "", "CACHE", "", "Accepted and ignored");
+
+const HELP: Row = flag!("help", "h", "help", "Print this help");
+
+const VERSION: Row = flag!("version", "V", "version", "Print the version");
+
+const OBJECT: Absent = absent!("--object", "encrypted images aren't read");
+
+const IMAGE_OPTS: Absent = absent!("--image-opts", "images are named by their paths, and by -f");
+
+/// The commands that work.
+pub static TABLE: Table = Table {
+    info: Page {
+        name: "info",
+        about: "Tell what an image is",
+        files: "FILE",
+        rows: &[
+            FORMAT, OUTPUT, JSON, SHARE, TABLES, STRICT, OUTSIDE, HELP, VERSION,
+        ],
+        absent: &[
+            absent!(
+                "--backing-chain",
+                "not yet; info tells of one image at a time"
+            ),
+            OBJECT,
+            IMAGE_OPTS,
+        ],
+    },
+    map: Page {
+        name: "map",
+        about: "Tell where the bytes of an image's disk stand",
+        files: "FILE",
+        rows: &[
+            FORMAT, OUTPUT, JSON, SHARE, TABLES, STRICT, OUTSIDE, HELP, VERSION,
+        ],
+        absent: &[
+            absent!("-s", "the whole disk is listed"),
+            absent!("--start-offset", "the whole disk is listed"),
+            absent!("-l", "the whole disk is listed"),
+            absent!("--max-length", "the whole disk is listed"),
+            OBJECT,
+            IMAGE_OPTS,
+        ],
+    },
+    check: Page {
+        name: "check",
+        about: "Look for the faults of an image",
+        files: "FILE",
+        rows: &[
+            FORMAT,
+            valued!("output", "", "output", "OFMT", "human", "What is printed"),
+            SHARE,
+            SOURCE_CACHE,
+            TABLES,
+            STRICT,
+            OUTSIDE,
+            HELP,
+            VERSION,
+        ],
+        absent: &[
+            absent!("-r", "faults are told and not repaired"),
+            absent!("--repair", "faults are told and not repaired"),
+            absent!("-q", "its status alone says whether there is a fault"),
+            OBJECT,
+            IMAGE_OPTS,
+        ],
+    },
+    compare: Page {
+        name: "compare",
+        about: "Tell whether two images have the same disk",
+        files: "A B",
+        rows: &[
+            EITHER_FORMAT,
+            valued!(
+                "second-format",
+                "F",
+                "",
+                "FMT",
+                "raw, vmdk or qcow2",
+                "The format of the second image"
+            ),
+            flag!("same-size", "s", "", "Tell disks of two sizes apart"),
+            PROGRESS,
+            QUIET,
+            SHARE,
+            SOURCE_CACHE,
+            TABLES,
+            STRICT,
+            OUTSIDE,
+            HELP,
+            VERSION,
+        ],
+        absent: &[
+            absent!("--format", "-f takes the format of A, and -F that of B"),
+            OBJECT,
+            IMAGE_OPTS,
+        ],
+    },
+    convert: Page {
+        name: "convert",
+        about: "Write an image's disk to another image",
+        files: "FILE OUT",
+        rows: &[
+            SOURCE_FORMAT,
+            valued!("target-format", "O", "", "FMT", "raw", "The format of OUT"),
+            flag!("into-existing", "n", "", "Write into OUT, which is there"),
+            valued!(
+                "sparse-size",
+                "S",
+                "",
+                "SIZE",
+                "a size such as 64k",
+                "0 writes every byte; else ignored"
+            ),
+            flag!(
+                "force",
+                "",
+                "force",
+                "Replace OUT, but no file of the image"
+            ),
+            PROGRESS,
+            QUIET,
+            SHARE,
+            valued!("cache", "t", "", "CACHE", "", "Accepted and ignored"),
+            SOURCE_CACHE,
+            valued!("requests", "m", "", "N", "", "Accepted and ignored"),
+            flag!("out-of-order", "W", "", "Accepted and ignored"),
+            flag!("copy-range", "C", "", "Accepted and ignored"),
+            valued!("rate", "r", "", "RATE", "", "Accepted and ignored"),
+            TABLES,
+            STRICT,
+            OUTSIDE,
+            HELP,
+            VERSION,
+        ],
+        absent: &[
+            absent!("-c", "OUT is raw, which isn't compressed"),
+            absent!("-o", "OUT is raw, which has no options"),
+            absent!("-l", "snapshots aren't read; the disk is read as it is now"),
+            absent!("-B", "OUT is raw, and has the whole disk"),
+            absent!("-b", "OUT is raw, and has the whole disk"),
+            absent!("-F", "OUT is raw, and has the whole disk"),
+            absent!(
+                "--format",
+                "-f takes the format of FILE, and -O that of OUT"
+            ),
+            absent!("--target-image-opts", "OUT is named by its path, and by -O"),
+            absent!("--target-is-zero", "every byte of OUT gets its value"),
+            absent!("--salvage", "a byte that can't be read ends the command"),
+            absent!("--bitmaps", "OUT is raw, which has no bitmaps"),
+            absent!("--skip-broken-bitmaps", "OUT is raw, which has no bitmaps"),
+            OBJECT,
+            IMAGE_OPTS,
+        ],
+    },
+};
+
+/// The commands that only qemu-img has.
+pub(crate) static ABSENT: [Absent; 10] = [
+    absent!("create", "truncate -s SIZE FILE makes a raw image"),
+    absent!("resize", "truncate -s SIZE FILE resizes a raw image"),
+    absent!(
+        "snapshot",
+        "snapshots aren't read; each disk is read as it is now"
+    ),
+    absent!(
+        "rebase",
+        "no image is changed; convert writes the whole disk to a new one"
+    ),
+    absent!(
+        "commit",
+        "no image is changed; convert writes the whole disk to a new one"
+    ),
+    absent!(
+        "amend",
+        "no image is changed; convert writes the whole disk to a new one"
+    ),
+    absent!(
+        "measure",
+        "info tells the size of the disk, which a raw image has"
+    ),
+    absent!("dd", "convert writes the whole disk"),
+    absent!("bench", "compare reads two disks whole, and can be timed"),
+    absent!("bitmap", "bitmaps aren't read"),
+];

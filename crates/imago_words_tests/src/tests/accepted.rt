@@ -1,0 +1,130 @@
+//! Command lines that are commands.
+
+use super::set_up::{Case, check_cases};
+
+static CASES: [Case; 20] = [
+    Case {
+        words: &["info", "disk.vmdk"],
+        status: 0,
+        text: "info \"disk.vmdk\" any human",
+    },
+    Case {
+        words: &["info", "-f", "qcow2", "--output=json", "-U", "disk"],
+        status: 0,
+        text: "info \"disk\" qcow2 json",
+    },
+    Case {
+        words: &["info", "disk", "--json", "--strict", "--allow-outside"],
+        status: 0,
+        text: "info \"disk\" any json strict outside",
+    },
+    // The last of several values counts.
+    Case {
+        words: &[
+            "info",
+            "-fraw",
+            "--format=vmdk",
+            "--output",
+            "json",
+            "--output=human",
+            "disk",
+        ],
+        status: 0,
+        text: "info \"disk\" vmdk human",
+    },
+    Case {
+        words: &["map", "--tables=1M", "--tables", "64k", "disk"],
+        status: 0,
+        text: "map \"disk\" any human tables 65536",
+    },
+    Case {
+        words: &["map", "--tables=7E", "-f", "raw", "disk"],
+        status: 0,
+        text: "map \"disk\" raw human tables 8070450532247928832",
+    },
+    Case {
+        words: &["check", "--output=human", "-T", "none", "--", "-h"],
+        status: 0,
+        text: "check \"-h\" any",
+    },
+    Case {
+        words: &["check", "-", "--force-share"],
+        status: 0,
+        text: "check \"-\" any",
+    },
+    Case {
+        words: &["compare", "a", "b"],
+        status: 0,
+        text: "compare \"a\" any \"b\" any",
+    },
+    Case {
+        words: &[
+            "compare", "-pqsf", "raw", "-Fqcow2", "-Uqp", "a", "-T", "none", "b", "--strict",
+        ],
+        status: 0,
+        text: "compare \"a\" raw \"b\" qcow2 same-size progress quiet strict",
+    },
+    Case {
+        words: &["compare", "--quiet", "--", "-a", "--quiet"],
+        status: 0,
+        text: "compare \"-a\" any \"--quiet\" any quiet",
+    },
+    Case {
+        words: &["convert", "disk.qcow2", "disk.raw"],
+        status: 0,
+        text: "convert \"disk.qcow2\" any \"disk.raw\" raw",
+    },
+    Case {
+        words: &[
+            "convert", "-pf", "vmdk", "-O", "raw", "-n", "-S", "0", "--force", "a", "b",
+        ],
+        status: 0,
+        text: "convert \"a\" vmdk \"b\" raw existing every force progress",
+    },
+    // What only tunes is accepted, also a length of holes that isn't 0.
+    Case {
+        words: &[
+            "convert", "-S", "64k", "-t", "none", "-Tnone", "-m8", "-WC", "-r", "1M", "-U", "a",
+            "b",
+        ],
+        status: 0,
+        text: "convert \"a\" any \"b\" raw",
+    },
+    // A negative number is a file's name, since no option is a digit.
+    Case {
+        words: &["convert", "-q", "-1", "-9"],
+        status: 0,
+        text: "convert \"-1\" any \"-9\" raw quiet",
+    },
+    Case {
+        words: &["-V"],
+        status: 0,
+        text: "imago-img 0.2.0",
+    },
+    Case {
+        words: &["--version", "more"],
+        status: 0,
+        text: "imago-img 0.2.0",
+    },
+    Case {
+        words: &["convert", "-V"],
+        status: 0,
+        text: "imago-img 0.2.0",
+    },
+    Case {
+        words: &["check", "--version"],
+        status: 0,
+        text: "imago-img 0.2.0",
+    },
+    // An empty word is a file.
+    Case {
+        words: &["info", ""],
+        status: 0,
+        text: "info \"\" any human",
+    },
+];
+
+#[test]
+fn accepted(rt: HostRuntime) {
+    check_cases(&rt, rt.alloc(), &CASES);
+}

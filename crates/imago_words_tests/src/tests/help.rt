@@ -1,0 +1,161 @@
+//! What help prints.
+
+use super::set_up::{Case, check_cases};
+
+static CASES: [Case; 7] = [
+    Case {
+        words: &["--help"],
+        status: 0,
+        text: GENERAL,
+    },
+    Case {
+        words: &["-h"],
+        status: 0,
+        text: GENERAL,
+    },
+    Case {
+        words: &["info", "--help"],
+        status: 0,
+        text: INFO,
+    },
+    Case {
+        words: &["map", "-h"],
+        status: 0,
+        text: MAP,
+    },
+    Case {
+        words: &["check", "x", "-h"],
+        status: 0,
+        text: CHECK,
+    },
+    Case {
+        words: &["compare", "-Vh"],
+        status: 0,
+        text: COMPARE,
+    },
+    Case {
+        words: &["convert", "-h"],
+        status: 0,
+        text: CONVERT,
+    },
+];
+
+const GENERAL: &str = "Tell what disk images are, and write their disks to other images
+
+usage: imago-img COMMAND [OPTION..] FILE [FILE]
+
+Commands:
+  info     Tell what an image is
+  map      Tell where the bytes of an image's disk stand
+  check    Look for the faults of an image
+  compare  Tell whether two images have the same disk
+  convert  Write an image's disk to another image
+
+imago-img COMMAND --help tells of a command; --version prints the version.
+";
+
+const INFO: &str = "Tell what an image is
+
+usage: imago-img info [-f FMT] [--output OFMT] [--json] [-U] [--tables SIZE]
+                      [--strict] [--allow-outside] [-h] [-V] FILE
+
+Options:
+  -f, --format FMT      The image's format: raw, vmdk or qcow2
+      --output OFMT     What is printed: human or json
+      --json            The same as --output=json
+  -U, --force-share     Accepted and ignored: no file is locked
+      --tables SIZE     The most memory for tables: a size such as 64M
+      --strict          Refuse unknown keys of VMDK descriptors
+      --allow-outside   Permit files outside the image's folder
+  -h, --help            Print this help
+  -V, --version         Print the version
+";
+
+const MAP: &str = "Tell where the bytes of an image's disk stand
+
+usage: imago-img map [-f FMT] [--output OFMT] [--json] [-U] [--tables SIZE]
+                     [--strict] [--allow-outside] [-h] [-V] FILE
+
+Options:
+  -f, --format FMT      The image's format: raw, vmdk or qcow2
+      --output OFMT     What is printed: human or json
+      --json            The same as --output=json
+  -U, --force-share     Accepted and ignored: no file is locked
+      --tables SIZE     The most memory for tables: a size such as 64M
+      --strict          Refuse unknown keys of VMDK descriptors
+      --allow-outside   Permit files outside the image's folder
+  -h, --help            Print this help
+  -V, --version         Print the version
+";
+
+const CHECK: &str = "Look for the faults of an image
+
+usage: imago-img check [-f FMT] [--output OFMT] [-U] [-T CACHE] [--tables SIZE]
+                       [--strict] [--allow-outside] [-h] [-V] FILE
+
+Options:
+  -f, --format FMT      The image's format: raw, vmdk or qcow2
+      --output OFMT     What is printed: human
+  -U, --force-share     Accepted and ignored: no file is locked
+  -T CACHE              Accepted and ignored
+      --tables SIZE     The most memory for tables: a size such as 64M
+      --strict          Refuse unknown keys of VMDK descriptors
+      --allow-outside   Permit files outside the image's folder
+  -h, --help            Print this help
+  -V, --version         Print the version
+";
+
+const COMPARE: &str = "Tell whether two images have the same disk
+
+usage: imago-img compare [-f FMT] [-F FMT] [-s] [-p] [-q] [-U] [-T CACHE]
+                         [--tables SIZE] [--strict] [--allow-outside] [-h] [-V]
+                         A B
+
+Options:
+  -f FMT                The format of the first image: raw, vmdk or qcow2
+  -F FMT                The format of the second image: raw, vmdk or qcow2
+  -s                    Tell disks of two sizes apart
+  -p                    Show the progress
+  -q, --quiet           Print errors alone
+  -U, --force-share     Accepted and ignored: no file is locked
+  -T CACHE              Accepted and ignored
+      --tables SIZE     The most memory for tables: a size such as 64M
+      --strict          Refuse unknown keys of VMDK descriptors
+      --allow-outside   Permit files outside the image's folder
+  -h, --help            Print this help
+  -V, --version         Print the version
+";
+
+const CONVERT: &str = "Write an image's disk to another image
+
+usage: imago-img convert [-f FMT] [-O FMT] [-n] [-S SIZE] [--force] [-p] [-q]
+                         [-U] [-t CACHE] [-T CACHE] [-m N] [-W] [-C] [-r RATE]
+                         [--tables SIZE] [--strict] [--allow-outside] [-h] [-V]
+                         FILE OUT
+
+Options:
+  -f FMT                The format of FILE: raw, vmdk or qcow2
+  -O FMT                The format of OUT: raw
+  -n                    Write into OUT, which is there
+  -S SIZE               0 writes every byte; else ignored: a size such as 64k
+      --force           Replace OUT, but no file of the image
+  -p                    Show the progress
+  -q, --quiet           Print errors alone
+  -U, --force-share     Accepted and ignored: no file is locked
+  -t CACHE              Accepted and ignored
+  -T CACHE              Accepted and ignored
+  -m N                  Accepted and ignored
+  -W                    Accepted and ignored
+  -C                    Accepted and ignored
+  -r RATE               Accepted and ignored
+      --tables SIZE     The most memory for tables: a size such as 64M
+      --strict          Refuse unknown keys of VMDK descriptors
+      --allow-outside   Permit files outside the image's folder
+  -h, --help            Print this help
+  -V, --version         Print the version
+";
+
+#[test]
+fn help(rt: HostRuntime) {
+    check_cases(&rt, rt.alloc(), &CASES);
+}

@@ -1,0 +1,131 @@
+//! How a command line is tried.
+
+use imago_words::command::{Command, Opening, Output};
+use imago_words::format::Format;
+use imago_words::help::{Help, VERSION};
+use std::alloc::{AllocError, Global};
+use std::process::Abort;
+
+/// A command line, its status, and what is told of it.
+#[derive(Drop)]
+pub struct Case {
+    /// Its words.
+    pub words: &'static [&'static str],
+    /// The status of a refusal; 0 where it is none.
+    pub status: u8,
+    /// What a refusal or help prints; or the command and its fields.
+    pub text: &'static str,
+}
+
+/// Tries command lines.
+pub fn check_cases(rt: &impl Abort, alloc: Global, cases: &[Case]) {
+    for case in cases {
+        let answer = answer(alloc, case.words);
+        let wanted = case.text;
+        assert!(rt; answer.is_ok(), "{wanted}");
+        let Ok((status, text)) = answer else { continue };
+        assert!(rt; text.as_str() == wanted, "{text}");
+        assert_eq!(rt; status, case.status, "{wanted}");
+    }
+}
+
+/// The status and the text of a command line.
+fn answer(alloc: Global, list: &[&str]) -> Result<(u8, String), AllocError> {
+    let mut words = Vec::new(alloc);
+    for word in list {
+        words.push(String::from_str(alloc, word)?)?;
+    }
+    match Command::read(alloc, &words) {
+        Ok(command) => Ok((0, shown(alloc, command)?)),
+        Err(refusal) => Ok((refusal.status(), format!(in alloc; "{refusal}")?)),
+    }
+}
+
+/// What help prints, or a command with its fields.
+fn shown(alloc: Global, command: Command<'_>) -> Result<String, AllocError> {
+    match command {
+        Command::Help(kind) => format!(in alloc; "{}", Help(kind)),
+        Command::Version => format!(in alloc; "imago-img {VERSION}"),
+        Command::Info(info) => {
+            let rules = opening(alloc, info.opening)?;
+            let (format, output) = (format(info.format), output(info.output));
+            format!(in alloc; "info {:?} {format} {output}{rules}", info.file)
+        }
+        Command::Map(map) => {
+            let rules = opening(alloc, map.opening)?;
+            let (format, output) = (format(map.format), output(map.output));
+            format!(in alloc; "map {:?} {format} {output}{rules}", map.file)
+        }
+        Command::Check(check) => {
+            let rules = opening(alloc, check.opening)?;
+            format!(in alloc; "check {:?} {}{rules}", check.file, format(check.format))
+        }
+        Command::Compare(compare) => {
+            let rules = opening(alloc, compare.opening)?;
+            let told = told(compare.progress, compare.quiet);
+            let same = if compare.same_size { " same-size" } else { "" };
+            let (first, second) = (format(compare.first_format), format(compare.second_format));
+            format!(in alloc;
+                "compare {:?} {first} {:?} {second}{same}{told}{rules}",
+                compare.first, compare.second
+            )
+        }
+        Command::Convert(convert) => {
+            let rules = opening(alloc, convert.opening)?;
+            let told = told(convert.progress, convert.quiet);
+            let force = if convert.force { " force" } else { "" };
+            let existing = if convert.into_existing {
+                " existing"
+            } else {
+                ""
+            };
+            let every = if convert.every_byte { " every" } else { "" };
+            let (source, target) = (
+                format(convert.source_format),
+                format(Some(convert.target_format)),
+            );
+            format!(in alloc;
+                "convert {:?} {source} {:?} {target}{existing}{every}{force}{told}{rules}",
+                convert.source, convert.target
+            )
+        }
+    }
+}
+
+fn format(format: Option<Format>) -> &'static str {
+    match format {
+        None => "any",
+        Some(Format::Raw) => "raw",
+        Some(Format::Vmdk) => "vmdk",
+        Some(Format::Qcow2) => "qcow2",
+    }
+}
+
+fn output(output: Output) -> &'static str {
+    match output {
+        Output::Human => "human",
+        Output::Json => "json",
+    }
+}
+
+fn told(progress: bool, quiet: bool) -> &'static str {
+    match (progress, quiet) {
+        (false, false) => "",
+        (true, false) => " progress",
+        (false, true) => " quiet",
+        (true, true) => " progress quiet",
+    }
+}
+
+fn opening(alloc: Global, opening: Opening) -> Result<String, AllocError> {
+    let strict = if opening.strict { " strict" } else { "" };
+    let outside = if opening.allow_outside {
+        " outside"
+    } else {
+        ""
+    };
+    match opening.tables {
+        None => format!(in alloc; "{strict}{outside}"),
+        Some(size) => format!(in alloc; "{strict}{outside} tables {size}"),
+    }
+}
