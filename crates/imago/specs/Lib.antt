@@ -98,6 +98,9 @@ pub use Rattle.imago_any_driver.specs.Restated as RestatedViews
 pub use Rattle.imago_any_driver.specs.AnyCalls
 pub use Rattle.imago_any_driver.specs.AnyDriver
 pub use Rattle.imago_access.specs.Chain
+pub use Rattle.imago_access.specs.Kept as KeptBlocks
+pub use Rattle.imago_access.specs.ReaderOf
+pub use Rattle.imago_access.specs.Specials
 pub use Rattle.imago_access.specs.Text
 pub use Rattle.imago_access.specs.Target
 pub use Rattle.imago_access.specs.Resolved
@@ -185,6 +188,7 @@ pub use Rattle.imago_cow.specs.declared.cow.Waiting as WaitingWrite
 pub use Rattle.imago_any_driver.specs.declared.any.AnyDriver as DeclaredAnyDriver
 pub use Rattle.imago_access.specs.declared.access.FormatAccess
 pub use Rattle.imago_access.specs.declared.mapping.Mapping as DeclaredMapping
+pub use Rattle.imago_access.specs.declared.reader.Reader
 pub use Rattle.imago_access.specs.declared.run.Call
 pub use Rattle.imago_access.specs.declared.run.Reply
 pub use Rattle.imago_file.specs.declared.file.FileStorage

@@ -2,4 +2,5 @@
 
 pub use imago_access::access::FormatAccess;
 pub use imago_access::mapping::Mapping;
+pub use imago_access::reader::Reader;
 pub use imago_access::text::ChainText;

@@ -21,7 +21,7 @@ pub mod laws;
 pub mod plan;
 pub mod storage;
 
-pub use access::{FormatAccess, Mapping};
+pub use access::{FormatAccess, Mapping, Reader};
 pub use imago_access::run;
 pub use imago_any_driver::any;
 pub use imago_cow::cow;

@@ -1,6 +1,7 @@
 use Rattle.std.specs.Prelude.{ℕ, false}
 use Rattle.imago_drivers.specs.Laws.{IsLawful, AreCauses}
 use Rattle.imago_drivers.specs.View.{View}
+use Rattle.imago_test_drivers.specs.declared.making.Making.{Making}
 use Rattle.imago_test_drivers.specs.declared.pattern.Kind.{Kind}
 use Rattle.imago_test_drivers.specs.Pattern.{pattern_view}
 use Rattle.imago_test_drivers.specs.PatternLaws.{pattern_lawful, pattern_causes}
@@ -35,3 +36,7 @@ pub making_causes : (kind : Kind) (size : ℕ) → AreCauses (making_view kind s
 making_causes kind size =
     let c = pattern_causes kind size in
     record { part = c.part; part_copied = c.part_copied; bound = c.bound; lends = c.lends }
+
+-- a disk as its callers see it
+abbrev pub view_of : Making → View Unit
+view_of d = making_view d.kind d.size

@@ -2,11 +2,14 @@
 use Rattle.std.proofs.Common.{◌≡◌, ◌∙◌, ◌⊎◌, ⊎_elim, true, false, refl, sym, ap, subst, List}
 use Rattle.std.proofs.lemmas.Bool.{true≢false}
 use Rattle.std.specs.Prelude.{Result, Ok, Err, IfOk, IsErr}
+use Rattle.imago_words.specs.Options.{options_of}
 use Rattle.imago_words.specs.Reading.{Text, first_letter, letters, steps}
 use Rattle.imago_words.specs.Sizes.{size_from, unit_of}
 use Rattle.imago_words.specs.declared.command.Command.{Command}
 use Rattle.imago_words.specs.declared.command.Command.TheVariants as Asked
-use Rattle.imago_words.specs.Laws.{IsWorked, refused_line, worked_line}
+use Rattle.imago_words.specs.declared.kind.Kind.{Kind}
+use Rattle.imago_words.specs.declared.kind.Kind.TheVariants.{Info, Map, Check, Compare, Convert}
+use Rattle.imago_words.specs.Laws.{IsWorked, options_differ, refused_line, worked_line}
 use Rattle.imago_words.specs.Commands.{format_named}
 use Rattle.imago_words.specs.Line.{Asks, answer_of, kind_named, kind_typed, line_is_meant}
 use Rattle.imago_words.specs.Line.{status_for}
@@ -66,3 +69,11 @@ status_of_line = refl
 pub is_err : {T E : Type 0} (r : Result T E) → IfOk r (λ _. ⊥) → IsErr r
 is_err (Ok x) h = absurd h
 is_err (Err e) h = refl
+
+-- the options of each command, compared
+pub differ : (kind : Kind) → options_differ (options_of kind) ≡ true
+differ Info = refl
+differ Map = refl
+differ Check = refl
+differ Compare = refl
+differ Convert = refl

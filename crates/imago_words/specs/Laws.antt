@@ -1,10 +1,13 @@
--- Two command lines, and what one of them asks for.
-use Rattle.std.specs.Prelude.{◌≡◌, ◌∷◌, ◌^◌, true, false, List, [], Some, codes}
+-- Two command lines, what one of them asks for, and what holds of the options of each command.
+use Rattle.std.specs.Prelude.{◌≡◌, ◌∷◌, ◌^◌, ◌&&◌, ◌||◌, Bool, true, false, List, [], Some, codes}
+use Rattle.std.specs.Prelude.{map, not}
+use Rattle.std.specs.List.{list_any}
+use Rattle.std.specs.Str.{bytes_eq}
 use Rattle.imago_words.specs.declared.command.Command.{Command}
 use Rattle.imago_words.specs.declared.command.Command.TheVariants as Asked
 use Rattle.imago_words.specs.declared.command.Convert.{Convert}
 use Rattle.imago_words.specs.declared.format.Format.TheVariants.{Raw, Qcow2}
-use Rattle.imago_words.specs.Reading.{Text}
+use Rattle.imago_words.specs.Reading.{Known, Text, is_empty}
 
 abbrev pub worked_line : List Text
 worked_line = codes "convert" ∷ codes "-pfqcow2" ∷ codes "a" ∷ codes "--tables=1G"
@@ -31,3 +34,13 @@ IsWorked _ = ⊥
 
 abbrev pub refused_line : List Text
 refused_line = codes "compare" ∷ codes "-q" ∷ codes "a" ∷ codes "b" ∷ codes "--force" ∷ []
+
+-- of the texts that aren't empty, no two are the same
+abbrev pub all_differ : List Text → Bool
+all_differ [] = true
+all_differ (text ∷ rest) = (is_empty text || not (list_any (bytes_eq text) rest)) && all_differ rest
+
+-- no two options have the same letter, name or key
+abbrev pub options_differ : List Known → Bool
+options_differ options = all_differ (map (λ o. o.letter) options)
+    && (all_differ (map (λ o. o.name) options) && all_differ (map (λ o. o.key) options))

@@ -35,13 +35,13 @@ impl Display for Help {
 
 /// The help of the program.
 fn fmt_program<W: fmt::Write>(f: &mut fmt::Formatter<W>) -> fmt::Result {
-    f.write_str("Tell what disk images are, and write their disks to other images\n\n")?;
+    f.write_str("Describe, list, check, compare and convert disk images\n\n")?;
     f.write_str("usage: imago-img COMMAND [OPTION..] FILE [FILE]\n\nCommands:\n")?;
     for kind in &KINDS {
         let page = kind.page();
         writeln!(f, "  {:8} {}", page.name, page.about)?;
     }
-    f.write_str("\nimago-img COMMAND --help tells of a command; --version prints the version.\n")
+    f.write_str("\nimago-img COMMAND --help prints the options of a command.\n")
 }
 
 /// The usage of a command, without a newline.

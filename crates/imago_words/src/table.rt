@@ -84,7 +84,7 @@ const JSON: Row = flag!("json", "", "json", "The same as --output=json");
 
 const PROGRESS: Row = flag!("progress", "p", "", "Show the progress");
 
-const QUIET: Row = flag!("quiet", "q", "quiet", "Print errors alone");
+const QUIET: Row = flag!("quiet", "q", "quiet", "Print nothing but errors");
 
 const STRICT: Row = flag!(
     "strict",
@@ -124,13 +124,16 @@ const VERSION: Row = flag!("version", "V", "version", "Print the version");
 
 const OBJECT: Absent = absent!("--object", "encrypted images aren't read");
 
-const IMAGE_OPTS: Absent = absent!("--image-opts", "images are named by their paths, and by -f");
+const IMAGE_OPTS: Absent = absent!(
+    "--image-opts",
+    "name the file by its path, and its format by -f"
+);
 
 /// The commands that work.
 pub static TABLE: Table = Table {
     info: Page {
         name: "info",
-        about: "Tell what an image is",
+        about: "Describe an image",
         files: "FILE",
         rows: &[
             FORMAT, OUTPUT, JSON, SHARE, TABLES, STRICT, OUTSIDE, HELP, VERSION,
@@ -138,7 +141,7 @@ pub static TABLE: Table = Table {
         absent: &[
             absent!(
                 "--backing-chain",
-                "not yet; info tells of one image at a time"
+                "not yet; info describes one image at a time"
             ),
             OBJECT,
             IMAGE_OPTS,
@@ -146,7 +149,7 @@ pub static TABLE: Table = Table {
     },
     map: Page {
         name: "map",
-        about: "Tell where the bytes of an image's disk stand",
+        about: "List where the bytes of an image's disk are stored",
         files: "FILE",
         rows: &[
             FORMAT, OUTPUT, JSON, SHARE, TABLES, STRICT, OUTSIDE, HELP, VERSION,
@@ -162,7 +165,7 @@ pub static TABLE: Table = Table {
     },
     check: Page {
         name: "check",
-        about: "Look for the faults of an image",
+        about: "Look for errors in an image",
         files: "FILE",
         rows: &[
             FORMAT,
@@ -176,16 +179,16 @@ pub static TABLE: Table = Table {
             VERSION,
         ],
         absent: &[
-            absent!("-r", "faults are told and not repaired"),
-            absent!("--repair", "faults are told and not repaired"),
-            absent!("-q", "its status alone says whether there is a fault"),
+            absent!("-r", "errors are reported, not repaired"),
+            absent!("--repair", "errors are reported, not repaired"),
+            absent!("-q", "its exit status says whether there are errors"),
             OBJECT,
             IMAGE_OPTS,
         ],
     },
     compare: Page {
         name: "compare",
-        about: "Tell whether two images have the same disk",
+        about: "Compare the disks of two images",
         files: "A B",
         rows: &[
             EITHER_FORMAT,
@@ -197,7 +200,12 @@ pub static TABLE: Table = Table {
                 "raw, vmdk or qcow2",
                 "The format of the second image"
             ),
-            flag!("same-size", "s", "", "Tell disks of two sizes apart"),
+            flag!(
+                "same-size",
+                "s",
+                "",
+                "Disks of different sizes are different"
+            ),
             PROGRESS,
             QUIET,
             SHARE,
@@ -221,7 +229,7 @@ pub static TABLE: Table = Table {
         rows: &[
             SOURCE_FORMAT,
             valued!("target-format", "O", "", "FMT", "raw", "The format of OUT"),
-            flag!("into-existing", "n", "", "Write into OUT, which is there"),
+            flag!("into-existing", "n", "", "Write into OUT, which exists"),
             valued!(
                 "sparse-size",
                 "S",
@@ -230,12 +238,7 @@ pub static TABLE: Table = Table {
                 "a size such as 64k",
                 "0 writes every byte; else ignored"
             ),
-            flag!(
-                "force",
-                "",
-                "force",
-                "Replace OUT, but no file of the image"
-            ),
+            flag!("force", "", "force", "Replace OUT if it exists"),
             PROGRESS,
             QUIET,
             SHARE,
@@ -255,16 +258,19 @@ pub static TABLE: Table = Table {
             absent!("-c", "OUT is raw, which isn't compressed"),
             absent!("-o", "OUT is raw, which has no options"),
             absent!("-l", "snapshots aren't read; the disk is read as it is now"),
-            absent!("-B", "OUT is raw, and has the whole disk"),
-            absent!("-b", "OUT is raw, and has the whole disk"),
-            absent!("-F", "OUT is raw, and has the whole disk"),
+            absent!("-B", "OUT is raw, and holds the whole disk"),
+            absent!("-b", "OUT is raw, and holds the whole disk"),
+            absent!("-F", "OUT is raw, and holds the whole disk"),
             absent!(
                 "--format",
                 "-f takes the format of FILE, and -O that of OUT"
             ),
-            absent!("--target-image-opts", "OUT is named by its path, and by -O"),
+            absent!(
+                "--target-image-opts",
+                "name OUT by its path, and its format by -O"
+            ),
             absent!("--target-is-zero", "every byte of OUT gets its value"),
-            absent!("--salvage", "a byte that can't be read ends the command"),
+            absent!("--salvage", "a byte that can't be read ends convert"),
             absent!("--bitmaps", "OUT is raw, which has no bitmaps"),
             absent!("--skip-broken-bitmaps", "OUT is raw, which has no bitmaps"),
             OBJECT,
@@ -295,7 +301,7 @@ pub(crate) static ABSENT: [Absent; 10] = [
     ),
     absent!(
         "measure",
-        "info tells the size of the disk, which a raw image has"
+        "info tells the disk's size, which is that of a raw image"
     ),
     absent!("dd", "convert writes the whole disk"),
     absent!("bench", "compare reads two disks whole, and can be timed"),

@@ -31,7 +31,7 @@ const COMPRESSED: Parts = &[
 ];
 
 /// Headers that are refused.
-static ROWS: [Row; 18] = [
+static ROWS: [Row; 19] = [
     // What isn't supported.
     (
         &[(79, b"\x02")],
@@ -107,6 +107,11 @@ static ROWS: [Row; 18] = [
         &[(103, b"\x70\x01")],
         "\"a\": the header's kind of compression can't be meant\n1 fault was found.\n",
         "imago-img: \"a\": the header's kind of compression can't be meant\n",
+    ),
+    (
+        &[(79, b"\x08"), (103, b"\x70\x02")],
+        "\"a\": the header says compression type 2, which isn't supported\n1 fault was found.\n",
+        "imago-img: \"a\": the header says compression type 2, which isn't supported\n",
     ),
     // A name that begins behind the first cluster.
     (

@@ -40,21 +40,21 @@ static CASES: [Case; 7] = [
     },
 ];
 
-const GENERAL: &str = "Tell what disk images are, and write their disks to other images
+const GENERAL: &str = "Describe, list, check, compare and convert disk images
 
 usage: imago-img COMMAND [OPTION..] FILE [FILE]
 
 Commands:
-  info     Tell what an image is
-  map      Tell where the bytes of an image's disk stand
-  check    Look for the faults of an image
-  compare  Tell whether two images have the same disk
+  info     Describe an image
+  map      List where the bytes of an image's disk are stored
+  check    Look for errors in an image
+  compare  Compare the disks of two images
   convert  Write an image's disk to another image
 
-imago-img COMMAND --help tells of a command; --version prints the version.
+imago-img COMMAND --help prints the options of a command.
 ";
 
-const INFO: &str = "Tell what an image is
+const INFO: &str = "Describe an image
 
 usage: imago-img info [-f FMT] [--output OFMT] [--json] [-U] [--tables SIZE]
                       [--strict] [--allow-outside] [-h] [-V] FILE
@@ -71,7 +71,7 @@ Options:
   -V, --version         Print the version
 ";
 
-const MAP: &str = "Tell where the bytes of an image's disk stand
+const MAP: &str = "List where the bytes of an image's disk are stored
 
 usage: imago-img map [-f FMT] [--output OFMT] [--json] [-U] [--tables SIZE]
                      [--strict] [--allow-outside] [-h] [-V] FILE
@@ -88,7 +88,7 @@ Options:
   -V, --version         Print the version
 ";
 
-const CHECK: &str = "Look for the faults of an image
+const CHECK: &str = "Look for errors in an image
 
 usage: imago-img check [-f FMT] [--output OFMT] [-U] [-T CACHE] [--tables SIZE]
                        [--strict] [--allow-outside] [-h] [-V] FILE
@@ -105,7 +105,7 @@ Options:
   -V, --version         Print the version
 ";
 
-const COMPARE: &str = "Tell whether two images have the same disk
+const COMPARE: &str = "Compare the disks of two images
 
 usage: imago-img compare [-f FMT] [-F FMT] [-s] [-p] [-q] [-U] [-T CACHE]
                          [--tables SIZE] [--strict] [--allow-outside] [-h] [-V]
@@ -114,9 +114,9 @@ usage: imago-img compare [-f FMT] [-F FMT] [-s] [-p] [-q] [-U] [-T CACHE]
 Options:
   -f FMT                The format of the first image: raw, vmdk or qcow2
   -F FMT                The format of the second image: raw, vmdk or qcow2
-  -s                    Tell disks of two sizes apart
+  -s                    Disks of different sizes are different
   -p                    Show the progress
-  -q, --quiet           Print errors alone
+  -q, --quiet           Print nothing but errors
   -U, --force-share     Accepted and ignored: no file is locked
   -T CACHE              Accepted and ignored
       --tables SIZE     The most memory for tables: a size such as 64M
@@ -136,11 +136,11 @@ usage: imago-img convert [-f FMT] [-O FMT] [-n] [-S SIZE] [--force] [-p] [-q]
 Options:
   -f FMT                The format of FILE: raw, vmdk or qcow2
   -O FMT                The format of OUT: raw
-  -n                    Write into OUT, which is there
+  -n                    Write into OUT, which exists
   -S SIZE               0 writes every byte; else ignored: a size such as 64k
-      --force           Replace OUT, but no file of the image
+      --force           Replace OUT if it exists
   -p                    Show the progress
-  -q, --quiet           Print errors alone
+  -q, --quiet           Print nothing but errors
   -U, --force-share     Accepted and ignored: no file is locked
   -t CACHE              Accepted and ignored
   -T CACHE              Accepted and ignored

@@ -84,18 +84,18 @@ static CASES: [Case; 36] = [
     Case {
         words: &["info", "--backing-chain", "x"],
         status: 1,
-        text: "info has no --backing-chain: not yet; info tells of one image at a time; \
+        text: "info has no --backing-chain: not yet; info describes one image at a time; \
             see imago-img info --help",
     },
     Case {
         words: &["check", "-r", "all", "x"],
         status: 1,
-        text: "check has no -r: faults are told and not repaired; see imago-img check --help",
+        text: "check has no -r: errors are reported, not repaired; see imago-img check --help",
     },
     Case {
         words: &["check", "-Ur", "x"],
         status: 1,
-        text: "check has no -r: faults are told and not repaired; see imago-img check --help",
+        text: "check has no -r: errors are reported, not repaired; see imago-img check --help",
     },
     Case {
         words: &["check", "--output=json", "x"],
@@ -181,7 +181,7 @@ static CASES: [Case; 36] = [
     Case {
         words: &["compare", "--image-opts", "a", "b"],
         status: 2,
-        text: "compare has no --image-opts: images are named by their paths, and by -f; \
+        text: "compare has no --image-opts: name the file by its path, and its format by -f; \
             see imago-img compare --help",
     },
     Case {

@@ -137,7 +137,7 @@ fn are_read(rt: &impl Abort, alloc: Global, disk: Disk, rows: &[Row]) -> Result<
         if result.is_ok() {
             is_read(rt, image.size(), offset, &buf);
         }
-        let answer = result.map(|()| made(&image) - before);
+        let answer = result.map(|()| made(&image).saturating_sub(before));
         same = same && answer == expected;
     }
     Ok(same)
@@ -205,6 +205,9 @@ fn copied(rt: &impl Abort, alloc: Global, disk: Disk, step: usize) -> Result<u64
 
 /// Compares a disk with one of the same bytes, and answers how many blocks were made up for each.
 fn compared(rt: &impl Abort, alloc: Global, disk: Disk, step: usize) -> Result<u64, Error> {
+    if step == 0 {
+        return Err(Error::Unsupported);
+    }
     let left = image_of(alloc, disk)?;
     let right = image_of(alloc, disk)?;
     let mut left_buf = vec![in alloc; 0u8; step]?;

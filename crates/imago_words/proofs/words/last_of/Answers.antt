@@ -9,6 +9,8 @@ loop-first-preserved c =
     let given = c.args.given.now in
     let before = option_map shown c.loop-first.found in
     let place = c.loop-first.first-index in
-    let next = at_drop_more (λ xs. last_of key before (map shown xs)) given place _ c.loop-first-test.true in
+    let more = at_drop_more (λ xs. last_of key before (map shown xs)) in
+    let next = more given place _ c.loop-first-test.true in
     let later = map shown (drop (place + 1) given) in
-    ap (λ found. last_of key found later) c.later-found.ensures ∙ (sym next ∙ c.loop-first.invariant)
+    ap (λ found. last_of key found later) c.later-found.ensures
+    ∙ (sym next ∙ c.loop-first.invariant)
