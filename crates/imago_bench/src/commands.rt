@@ -15,7 +15,7 @@ const CLUSTER_BITS: u32 = 16;
 const FEW: u64 = 8;
 
 /// Does a command, and adds its status and what it printed.
-fn obey(alloc: Global, files: &mut Files, line: &str, digest: &mut Digest) -> Option<()> {
+pub fn obey(alloc: Global, files: &mut Files, line: &str, digest: &mut Digest) -> Option<()> {
     let mut words = Vec::new(alloc);
     for word in line.split(' ') {
         words.push(String::from_str(alloc, word).ok()?).ok()?;
@@ -39,6 +39,24 @@ fn add_qcow2(
 ) -> Option<()> {
     let Qcow2File { head, length } = qcow2_file(alloc, random, shape)?;
     files.add(path, head, length)
+}
+
+/// Adds a snapshot of that path above another one, of a disk of that many clusters.
+pub fn snapshot(
+    alloc: Global,
+    random: &mut Random,
+    files: &mut Files,
+    (path, backing): (&str, &str),
+    clusters: u64,
+    pattern: Pattern,
+) -> Option<()> {
+    let shape = Shape {
+        cluster_bits: CLUSTER_BITS,
+        clusters,
+        backing: Some(backing),
+        pattern,
+    };
+    add_qcow2(alloc, random, files, path, shape)
 }
 
 /// A base that was used for years, a snapshot with a sixteenth of its clusters, one with a few, and

@@ -9,10 +9,12 @@
 
 mod commands;
 mod descriptor;
+mod deflate;
 mod digest;
 mod files;
 mod guest;
 mod layers;
+mod packed;
 mod qcow2;
 mod random;
 mod scripts;
@@ -25,7 +27,9 @@ use std::env;
 use std::process::ExitCode;
 
 /// The jobs that there are.
-const JOBS: [&str; 6] = ["look", "copy", "serve", "layers", "extents", "script"];
+const JOBS: [&str; 7] = [
+    "look", "copy", "serve", "layers", "extents", "script", "packed",
+];
 
 /// Does a job on an input of that size.
 fn work(
@@ -45,6 +49,7 @@ fn work(
             serving::read_extents(alloc, random, size, digest)
         }
         "script" => scripts::replay(alloc, random, size, digest),
+        "packed" => packed::packed(alloc, random, size, digest),
         _ => None,
     }
 }

@@ -39,6 +39,9 @@ pub struct Qcow2File {
 /// The flag of an entry whose cluster is used once.
 const COPIED: u64 = 0x8000_0000_0000_0000;
 
+/// The flag of an entry whose cluster is compressed.
+const COMPRESSED: u64 = 0x4000_0000_0000_0000;
+
 /// Puts a number of four bytes, the highest first.
 fn put32(bytes: &mut [u8], at: usize, number: u32) {
     put(bytes, at, &number.to_be_bytes());
@@ -285,4 +288,73 @@ pub fn qcow2_file(alloc: Global, random: &mut Random, shape: Shape<'_>) -> Optio
         head,
         length: length.checked_mul(cluster)?,
     })
+}
+
+/// Puts a stream behind what the file has, and answers its entry: where it begins, and how many
+/// sectors of 512 bytes it goes on in.
+fn put_stream(file: &mut Vec<u8>, cluster_bits: u32, stream: &[u8]) -> Option<u64> {
+    let at = file.len() as u64;
+    file.extend_from_slice(stream).ok()?;
+    let last = (file.len() as u64).saturating_sub(1);
+    let sectors = (last / 512).wrapping_sub(at / 512);
+    let shift = 70u32.wrapping_sub(cluster_bits);
+    Some(COMPRESSED | sectors.wrapping_shl(shift) | at)
+}
+
+/// Counts the clusters of a stream once more.
+fn count_stream(bytes: &mut [u8], layout: &Layout, start: u64, end: u64) {
+    let cluster = layout.cluster.max(1);
+    for number in start / cluster..end.div_ceil(cluster) {
+        let at = layout
+            .offset(layout.first_block)
+            .wrapping_add(number.wrapping_mul(2)) as usize;
+        if at < bytes.len() && bytes.len() - at >= 2 {
+            let count = u16::from_be_bytes([bytes[at], bytes[at + 1]]);
+            put(bytes, at, &count.wrapping_add(1).to_be_bytes());
+        }
+    }
+}
+
+/// Makes a file whose clusters are compressed where they have data: each has one of these streams,
+/// and they stand one behind the other.
+pub fn packed_file(
+    alloc: Global,
+    random: &mut Random,
+    shape: Shape<'_>,
+    streams: &[Vec<u8>],
+) -> Option<Qcow2File> {
+    let cluster = 1u64 << (shape.cluster_bits % 22).max(9);
+    let table_length = (cluster / 8).max(1);
+    let tables = shape.clusters.div_ceil(table_length).min(4_194_304);
+    let used = used_clusters(alloc, random, shape)?;
+    // No stream is longer than its cluster.
+    let layout = Layout::new(cluster, tables, shape.clusters);
+    let mut file = Vec::new(alloc);
+    file.resize(layout.first_data.checked_mul(cluster)? as usize, 0u8)
+        .ok()?;
+    put_header(&mut file, shape, &layout);
+    put_counts(&mut file, &layout);
+    for table in 0..tables {
+        let at = layout.offset(layout.first_table.wrapping_add(table));
+        let entry = layout
+            .offset(layout.l1_table)
+            .wrapping_add(table.wrapping_mul(8));
+        put64(&mut file, entry as usize, at | COPIED);
+        count_cluster(&mut file, &layout, layout.first_table.wrapping_add(table));
+    }
+    for (number, is_used) in used.iter().enumerate() {
+        if *is_used {
+            let stream = streams.get(random.below(streams.len() as u64) as usize)?;
+            let start = file.len() as u64;
+            let entry = put_stream(&mut file, shape.cluster_bits, stream)?;
+            let at = layout
+                .offset(layout.first_table)
+                .wrapping_add((number as u64).wrapping_mul(8));
+            put64(&mut file, at as usize, entry);
+            let end = file.len() as u64;
+            count_stream(&mut file, &layout, start, end);
+        }
+    }
+    let length = file.len() as u64;
+    Some(Qcow2File { head: file, length })
 }

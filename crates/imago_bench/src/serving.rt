@@ -76,7 +76,7 @@ pub fn vmdk(alloc: Global, random: &mut Random, lines: u64) -> Option<Vmdk<MemSt
 
 /// The image above another one that is a copy-on-write disk, whose storage has requests of 512
 /// bytes.
-fn laid(alloc: Global, below: Image) -> Option<Guest> {
+pub fn laid(alloc: Global, below: Image) -> Option<Guest> {
     let size = below.size();
     let disk = overlay(alloc, zeroes(alloc, 0, 512)?, size, BLOCK)?;
     let below = Box::new(alloc, below).ok()?;
