@@ -8,8 +8,8 @@
 #![tactic(auto)]
 
 mod commands;
-mod descriptor;
 mod deflate;
+mod descriptor;
 mod digest;
 mod files;
 mod guest;

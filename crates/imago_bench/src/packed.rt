@@ -48,7 +48,14 @@ fn convert(alloc: Global, random: &mut Random, clusters: u64, digest: &mut Diges
     let Qcow2File { head, length } = compressed(alloc, random, clusters)?;
     files.add("base.qcow2", head, length)?;
     let pattern = Pattern::Scattered(clusters / 16);
-    snapshot(alloc, random, &mut files, ("top.qcow2", "base.qcow2"), clusters, pattern)?;
+    snapshot(
+        alloc,
+        random,
+        &mut files,
+        ("top.qcow2", "base.qcow2"),
+        clusters,
+        pattern,
+    )?;
     let lines = [
         "info top.qcow2",
         "map base.qcow2",

@@ -19,15 +19,15 @@ returns-in-Compressed-clause-streams g c =
 
 pub returns-in_default : goal.returns-in_default
 returns-in_default g c =
-  let within : c.in_ok-run.run'.length ≤ c.args.most =
-  omega (arith, c.in_ok-run.ensures.within, c.asked_at-asked.ensures.within) in record {
-  start = c.in_ok-run.ensures.start;
-  some = c.in_ok-run.ensures.some;
-  within = within;
-  kind = c.in_ok-run.ensures.kind;
-  streams = other_streams g.S.Storage.features g.S.Storage.bytes c.inner-qcow2.result.now
-      (driver c.args.image.now) c.inner-qcow2.ensures c.args.file c.args.at c.in_ok-run.run'.length
-      c.args.most c.in_ok-run.run'.kind c.in_ok-run.ensures.kind within
-      c.requires.inside c.image_of_bytes.ensures.size c.image_of_bytes.ensures.places
-      c.in_default.not-Compressed;
-}
+    let within : c.in_ok-run.run'.length ≤ c.args.most =
+    omega (arith, c.in_ok-run.ensures.within, c.asked_at-asked.ensures.within) in record {
+      start = c.in_ok-run.ensures.start;
+      some = c.in_ok-run.ensures.some;
+      within = within;
+      kind = c.in_ok-run.ensures.kind;
+      streams = other_streams g.S.Storage.features g.S.Storage.bytes c.inner-qcow2.result.now
+          (driver c.args.image.now) c.inner-qcow2.ensures c.args.file c.args.at c.in_ok-run.run'.length
+          c.args.most c.in_ok-run.run'.kind c.in_ok-run.ensures.kind within
+          c.requires.inside c.image_of_bytes.ensures.size c.image_of_bytes.ensures.places
+          c.in_default.not-Compressed;
+    }
