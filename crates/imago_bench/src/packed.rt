@@ -3,14 +3,14 @@
 use crate::commands::{obey, snapshot};
 use crate::deflate::streams;
 use crate::digest::Digest;
-use crate::files::Files;
+use crate::files::{Files, Written};
 use crate::guest::{Guest, Image, Mix};
 use crate::qcow2::{Pattern, Qcow2File, Shape, packed_file};
 use crate::random::Random;
 use crate::serving::laid;
 use imago_access::access::FormatAccess;
-use imago_access::reader::Reader;
 use imago_any_driver::any::AnyDriver;
+use imago_copy::copy::copy_disk;
 use imago_qcow2::qcow2::Qcow2;
 use imago_storage::mem::MemStorage;
 use std::alloc::Global;
@@ -72,12 +72,9 @@ fn convert(alloc: Global, random: &mut Random, clusters: u64, digest: &mut Diges
 /// Reads a disk in order, in parts of that length.
 fn read_in_order(alloc: Global, image: &Image, part: u64, digest: &mut Digest) -> Option<()> {
     let mut buf = vec![in alloc; 0u8; part as usize].ok()?;
-    let mut reader = Reader::new(alloc, image);
-    for number in 0..image.size() / part.max(1) {
-        let outcome = reader.read(alloc, &mut buf, number.wrapping_mul(part));
-        digest.add_outcome(alloc, outcome)?;
-        digest.add_bytes(&buf);
-    }
+    let mut target = Written::new(String::new(alloc), image.size());
+    copy_disk(alloc, image, &mut target, &mut buf).ok()?;
+    digest.add(target.value());
     Some(())
 }
 
