@@ -1,4 +1,6 @@
 pub mod Runs
+pub mod Allocations
+pub mod LayerRuns
 pub mod Ends
 pub mod RunsOf
 pub mod Appended
