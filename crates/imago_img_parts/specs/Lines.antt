@@ -8,10 +8,11 @@ use Rattle.imago_img_parts.specs.declared.map.LineKind.{LineKind}
 abbrev pub column : ℕ → List ℕ
 column n = decimal n ++ replicate (21 - length (decimal n)) 32
 
--- data, known to be 0, or compressed data
+-- data, zeroes that a layer has, zeroes since no layer has anything, or compressed data
 unfoldable pub kind_word : LineKind → List ℕ
 kind_word LineKind.Data = codes "data"
 kind_word LineKind.Zero = codes "zero"
+kind_word LineKind.Absent = codes "absent"
 kind_word LineKind.Compressed = codes "compressed"
 
 -- where so many bytes stand in a file, if in one: its name, and from which offset on
@@ -24,10 +25,11 @@ abbrev pub line : ℕ → ℕ → LineKind → Option (List ℕ × ℕ) → List
 line start count kind at =
     column start ++ (column count ++ (kind_word kind ++ (place at ++ (10 ∷ []))))
 
--- what JSON says of data, of bytes that are known to be 0, and of compressed data
+-- what JSON says of the same: whether a layer has it, whether it is 0, and whether it is data
 unfoldable pub kind_members : LineKind → List ℕ
 kind_members LineKind.Data = codes ", \"present\": true, \"zero\": false, \"data\": true"
 kind_members LineKind.Zero = codes ", \"present\": true, \"zero\": true, \"data\": false"
+kind_members LineKind.Absent = codes ", \"present\": false, \"zero\": true, \"data\": false"
 kind_members LineKind.Compressed =
     codes ", \"present\": true, \"zero\": false, \"data\": true, \"compressed\": true"
 

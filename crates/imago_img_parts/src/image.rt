@@ -1,13 +1,15 @@
 //! What the commands ask of an opened image: whether its disk can be read, and its files.
 ghost use Rattle.std.specs.Prelude.{◌≡◌, IfOk};
 ghost use Rattle.imago_access.specs.Chain.{driver};
+ghost use Rattle.imago_access.specs.Target.{target};
+ghost use Rattle.imago_copy.specs.LayerRuns.{AreLayerRuns};
 
 use crate::failure::{ClusterFault, Failure, Reason};
 use crate::host::{FileStatus, Host};
 use crate::streams::{stream_fault_in, unoffered_in};
 use imago_access::access::FormatAccess;
 use imago_any_driver::any::AnyDriver;
-use imago_copy::runs::{Run, Runs};
+use imago_copy::layers::{LayerRun, LayerRuns};
 use imago_drivers::drivers::FormatDriverInstance;
 use imago_images::file::PathStorage;
 use imago_images::opener::FileImage;
@@ -18,13 +20,16 @@ use std::io;
 /// How much of a disk is read at a time, in bytes.
 pub const CHUNK: usize = 1 << 20;
 
-/// The runs of a disk.
+/// All runs of a disk, each of one layer.
 pub fn runs_of<D: FormatDriverInstance>(
     alloc: Global,
     image: &FormatAccess<D>,
-) -> Result<Vec<Run>, Error> {
+) -> Result<Vec<LayerRun>, Error>
+    ensures { IfOk result (λ v. AreLayerRuns (target D.view image.now) 0 v.items
+        (D.view (driver image.now)).size) }
+{
     let mut all = Vec::new(alloc);
-    let mut runs = Runs::new(image)?;
+    let mut runs = LayerRuns::new(image)?;
     while let Some(run) = runs.next_run()? {
         all.push(run)?;
     }

@@ -1,11 +1,12 @@
 //! Where the bytes of an image's disk stand.
-ghost use Rattle.std.specs.Prelude.{◌≡◌, ◌<◌, ◌≤◌, ◌++◌, OnOk, option_map};
+ghost use Rattle.std.specs.Prelude.{◌≡◌, ◌<◌, ◌≤◌, ◌++◌, if◌then◌else◌, OnOk, option_map};
 ghost use Rattle.std.specs.Fmt.{decimal};
 ghost use Rattle.std.specs.Io.KnownBytes.{Appends};
 ghost use Rattle.imago_img_parts.specs.Lines.{column, line as line_text, place as place_text};
 ghost use Rattle.imago_img_parts.specs.Lines.{kind_word as kind_text, object};
 ghost use Rattle.imago_img_parts.specs.Lines.{kind_members as kind_members_text};
 ghost use Rattle.imago_img_parts.specs.Lines.{members_in, place_members};
+ghost use Rattle.imago_img_parts.specs.declared.map.LineKind.TheVariants as Kinds;
 
 use crate::digits::digits_of;
 use crate::failure::Failure;
@@ -13,6 +14,7 @@ use crate::host::Host;
 use crate::image::runs_of;
 use crate::json::quoted;
 use imago_access::access::FormatAccess;
+use imago_copy::layers::LayerRun;
 use imago_copy::runs::{Kind, Run};
 use imago_drivers::drivers::FormatDriverInstance;
 use imago_images::opener::open_image;
@@ -26,8 +28,10 @@ use std::io::{self, Write};
 enum LineKind {
     /// Data, as it stands in a file.
     Data,
-    /// Known to be 0.
+    /// Known to be 0, and one layer says so.
     Zero,
+    /// In no layer, and so 0.
+    Absent,
     /// Data that is compressed in a file, so that it stands at no offset there.
     Compressed,
 }
@@ -40,7 +44,7 @@ struct Line<'a> {
     /// How many bytes there are.
     length: u64,
     kind: LineKind,
-    /// The depth of the layer that has them.
+    /// The depth of the layer that has them; of absent ones, of the last layer that they lie in.
     depth: usize,
     /// The file that they stand in, as it is printed, and from which offset on; or none.
     place: Option<(&'a str, u64)>,
@@ -62,9 +66,9 @@ struct NamedFile<'a> {
     printed: String,
 }
 
-/// Tells where the bytes of the disk of the image of that path stand, and which are zero or
-/// compressed. Holes of the files are told as zero. No byte is read, so zeroes that are compressed
-/// are told as compressed.
+/// Tells where the bytes of the disk of the image of that path stand, and which are zero,
+/// compressed, or in no layer. Holes of the files are told as zero. No byte is read, so zeroes that
+/// are compressed are told as compressed.
 pub fn map_image<H: Host, W: Write>(
     host: &H,
     path: &str,
@@ -132,7 +136,7 @@ fn named(alloc: Global, path: &str, json: bool) -> Result<NamedFile<'_>, AllocEr
     let printed = if json {
         quoted(alloc, path)?
     } else {
-        String::from_str(alloc, path)?
+        format!(in alloc; "{path:?}")?
     };
     Ok(NamedFile { path, printed })
 }
@@ -140,12 +144,13 @@ fn named(alloc: Global, path: &str, json: bool) -> Result<NamedFile<'_>, AllocEr
 /// Prints the runs of a disk whose layers have those files.
 fn print_runs<H: Host, W: Write>(
     host: &H,
-    runs: &[Run],
+    runs: &[LayerRun],
     files: &[Vec<NamedFile<'_>>],
     printer: &mut Printer<'_, W>,
 ) -> io::Result<()> {
     printer.begin()?;
-    for run in runs {
+    for LayerRun { run, allocation } in runs {
+        let depth = allocation.depth;
         match run.kind {
             Kind::Stored {
                 layer,
@@ -153,26 +158,39 @@ fn print_runs<H: Host, W: Write>(
                 offset,
             } => {
                 if let Some(file) = files.get(layer).and_then(|files| files.get(storage)) {
-                    print_stored(host, file, run, layer, offset, printer)?;
+                    print_stored(host, file, run, depth, offset, printer)?;
                 }
             }
-            Kind::Special { layer, .. } => printer.print(Line {
-                start: run.at,
-                length: run.count,
-                kind: LineKind::Compressed,
-                depth: layer,
-                place: None,
-            })?,
-            Kind::Zero => printer.print(Line {
-                start: run.at,
-                length: run.count,
-                kind: LineKind::Zero,
-                depth: 0,
-                place: None,
-            })?,
+            Kind::Special { .. } => printer.print(placeless(run, LineKind::Compressed, depth))?,
+            Kind::Zero => {
+                let kind = zero_kind(allocation.is_present);
+                printer.print(placeless(run, kind, depth))?;
+            }
         }
     }
     printer.end()
+}
+
+/// A run that stands at no offset of a file.
+fn placeless(run: &Run, kind: LineKind, depth: usize) -> Line<'static> {
+    Line {
+        start: run.at,
+        length: run.count,
+        kind,
+        depth,
+        place: None,
+    }
+}
+
+/// What zeroes are that stand in no file: those of a layer, or of none.
+fn zero_kind(is_present: bool) -> LineKind
+    ensures { result ≡ (if is_present then Kinds.Zero else Kinds.Absent) }
+{
+    if is_present {
+        LineKind::Zero
+    } else {
+        LineKind::Absent
+    }
 }
 
 /// What bytes of a file are, which stand between its holes or in one.
@@ -276,6 +294,7 @@ fn kind_word(kind: LineKind) -> &'static [u8]
     match kind {
         LineKind::Data => b"data",
         LineKind::Zero => b"zero",
+        LineKind::Absent => b"absent",
         LineKind::Compressed => b"compressed",
     }
 }
@@ -310,6 +329,7 @@ fn kind_members(kind: LineKind) -> &'static [u8]
     match kind {
         LineKind::Data => b", \"present\": true, \"zero\": false, \"data\": true",
         LineKind::Zero => b", \"present\": true, \"zero\": true, \"data\": false",
+        LineKind::Absent => b", \"present\": false, \"zero\": true, \"data\": false",
         LineKind::Compressed =>
             b", \"present\": true, \"zero\": false, \"data\": true, \"compressed\": true",
     }

@@ -5,6 +5,7 @@ mod chains;
 mod commands;
 mod compressed;
 mod headers;
+mod layers;
 mod lines;
 mod opener;
 mod qcow2;

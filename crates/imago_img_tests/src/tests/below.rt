@@ -218,18 +218,18 @@ static FORMATS: [Row; 8] = [
         "map says_raw.qcow2",
         0,
         "start                length               kind offset               file\n\
-        0                    4                    data 0                    begun.raw\n\
-        4                    508                  zero 4                    begun.raw\n\
-        512                  1536                 zero\n",
+        0                    4                    data 0                    \"begun.raw\"\n\
+        4                    508                  zero 4                    \"begun.raw\"\n\
+        512                  1536                 absent\n",
         "",
     ),
     (
         "map says_raw_of_sparse.qcow2",
         0,
         "start                length               kind offset               file\n\
-        0                    4                    data 0                    sparse.raw\n\
-        4                    508                  zero 4                    sparse.raw\n\
-        512                  1536                 zero\n",
+        0                    4                    data 0                    \"sparse.raw\"\n\
+        4                    508                  zero 4                    \"sparse.raw\"\n\
+        512                  1536                 absent\n",
         "",
     ),
     (
@@ -248,18 +248,18 @@ static FORMATS: [Row; 8] = [
         "map says_none_of_raw.qcow2",
         0,
         "start                length               kind offset               file\n\
-        0                    2                    zero 0                    plain.raw\n\
-        2                    5                    data 2                    plain.raw\n\
-        7                    2041                 zero\n",
+        0                    2                    zero 0                    \"plain.raw\"\n\
+        2                    5                    data 2                    \"plain.raw\"\n\
+        7                    2041                 absent\n",
         "",
     ),
     (
         "map -f qcow2 says_none_of_raw.qcow2",
         0,
         "start                length               kind offset               file\n\
-        0                    2                    zero 0                    plain.raw\n\
-        2                    5                    data 2                    plain.raw\n\
-        7                    2041                 zero\n",
+        0                    2                    zero 0                    \"plain.raw\"\n\
+        2                    5                    data 2                    \"plain.raw\"\n\
+        7                    2041                 absent\n",
         "",
     ),
     (
@@ -283,7 +283,7 @@ static NAMELESS: [Row; 2] = [
         "map nameless.qcow2",
         0,
         "start                length               kind offset               file\n\
-        0                    2048                 zero\n",
+        0                    2048                 absent\n",
         "",
     ),
     (
@@ -302,12 +302,12 @@ static ABOVE_VMDK: [Row; 11] = [
         "map above.qcow2",
         0,
         "start                length               kind offset               file\n\
-        0                    3                    zero 0                    a.bin\n\
-        3                    3                    data 3                    a.bin\n\
-        6                    506                  zero 6                    a.bin\n\
+        0                    3                    zero 0                    \"a.bin\"\n\
+        3                    3                    data 3                    \"a.bin\"\n\
+        6                    506                  zero 6                    \"a.bin\"\n\
         512                  1024                 zero\n\
-        1536                 3                    data 512                  parts/b.bin\n\
-        1539                 509                  zero 515                  parts/b.bin\n",
+        1536                 3                    data 512                  \"parts/b.bin\"\n\
+        1539                 509                  zero 515                  \"parts/b.bin\"\n",
         "",
     ),
     (
@@ -317,7 +317,7 @@ static ABOVE_VMDK: [Row; 11] = [
          \"data\": true, \"offset\": 1536, \"filename\": \"two_above.qcow2\"},\n\
         { \"start\": 1, \"length\": 511, \"depth\": 0, \"present\": true, \"zero\": true, \
         \"data\": false, \"offset\": 1537, \"filename\": \"two_above.qcow2\"},\n\
-        { \"start\": 512, \"length\": 1024, \"depth\": 0, \"present\": true, \"zero\": true, \
+        { \"start\": 512, \"length\": 1024, \"depth\": 2, \"present\": true, \"zero\": true, \
         \"data\": false},\n\
         { \"start\": 1536, \"length\": 3, \"depth\": 2, \"present\": true, \"zero\": false, \
         \"data\": true, \"offset\": 512, \"filename\": \"parts/b.bin\"},\n\

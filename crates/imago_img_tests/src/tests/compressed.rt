@@ -195,9 +195,9 @@ static READ: [Row; 9] = [
         0,
         "start                length               kind offset               file\n\
         0                    1024                 compressed\n\
-        1024                 512                  zero\n\
-        1536                 6                    data 1536                 packed.qcow2\n\
-        1542                 506                  zero 1542                 packed.qcow2\n",
+        1024                 512                  absent\n\
+        1536                 6                    data 1536                 \"packed.qcow2\"\n\
+        1542                 506                  zero 1542                 \"packed.qcow2\"\n",
         "",
     ),
     (
@@ -209,7 +209,7 @@ static READ: [Row; 9] = [
         \"data\": true, \"offset\": 1536, \"filename\": \"over.qcow2\"},\n\
         { \"start\": 515, \"length\": 509, \"depth\": 0, \"present\": true, \"zero\": true, \
         \"data\": false, \"offset\": 1539, \"filename\": \"over.qcow2\"},\n\
-        { \"start\": 1024, \"length\": 512, \"depth\": 0, \"present\": true, \"zero\": true, \
+        { \"start\": 1024, \"length\": 512, \"depth\": 1, \"present\": false, \"zero\": true, \
         \"data\": false},\n\
         { \"start\": 1536, \"length\": 6, \"depth\": 1, \"present\": true, \"zero\": false, \
         \"data\": true, \"offset\": 1536, \"filename\": \"packed.qcow2\"},\n\
@@ -290,12 +290,12 @@ static FAULTY: [Row; 6] = [
         "map over_torn.qcow2",
         0,
         "start                length               kind offset               file\n\
-        0                    3                    data 1536                 over_torn.qcow2\n\
-        3                    509                  zero 1539                 over_torn.qcow2\n\
+        0                    3                    data 1536                 \"over_torn.qcow2\"\n\
+        3                    509                  zero 1539                 \"over_torn.qcow2\"\n\
         512                  512                  compressed\n\
-        1024                 512                  zero\n\
-        1536                 6                    data 1536                 torn.qcow2\n\
-        1542                 506                  zero 1542                 torn.qcow2\n",
+        1024                 512                  absent\n\
+        1536                 6                    data 1536                 \"torn.qcow2\"\n\
+        1542                 506                  zero 1542                 \"torn.qcow2\"\n",
         "",
     ),
 ];
@@ -323,9 +323,9 @@ static ZSTD: [Row; 7] = [
         "map zstd.qcow2",
         0,
         "start                length               kind offset               file\n\
-        0                    512                  zero\n\
+        0                    512                  absent\n\
         512                  512                  compressed\n\
-        1024                 1024                 zero\n",
+        1024                 1024                 absent\n",
         "",
     ),
     ("check zstd.qcow2", 0, "No faults were found.\n", ""),

@@ -27,7 +27,7 @@ static ROWS: [Row; 19] = [
     (
         "map --json one.qcow2",
         0,
-        "[{ \"start\": 0, \"length\": 512, \"depth\": 0, \"present\": true, \"zero\": true, \
+        "[{ \"start\": 0, \"length\": 512, \"depth\": 0, \"present\": false, \"zero\": true, \
          \"data\": false},\n\
         { \"start\": 512, \"length\": 1, \"depth\": 0, \"present\": true, \"zero\": false, \
         \"data\": true, \"offset\": 2048, \"filename\": \"one.qcow2\"},\n\
@@ -37,7 +37,7 @@ static ROWS: [Row; 19] = [
         \"data\": true, \"offset\": 1536, \"filename\": \"one.qcow2\"},\n\
         { \"start\": 1025, \"length\": 511, \"depth\": 0, \"present\": true, \"zero\": true, \
         \"data\": false, \"offset\": 1537, \"filename\": \"one.qcow2\"},\n\
-        { \"start\": 1536, \"length\": 512, \"depth\": 0, \"present\": true, \"zero\": true, \
+        { \"start\": 1536, \"length\": 512, \"depth\": 0, \"present\": false, \"zero\": true, \
         \"data\": false}]\n",
         "",
     ),
@@ -67,13 +67,13 @@ static ROWS: [Row; 19] = [
         "map top.qcow2",
         0,
         "start                length               kind offset               file\n\
-        0                    1                    data 1536                 top.qcow2\n\
-        1                    511                  zero 1537                 top.qcow2\n\
-        512                  1                    data 1536                 mid.qcow2\n\
-        513                  511                  zero 1537                 mid.qcow2\n\
-        1024                 1                    data 1024                 parts/base.raw\n\
-        1025                 511                  zero 1025                 parts/base.raw\n\
-        1536                 512                  zero\n",
+        0                    1                    data 1536                 \"top.qcow2\"\n\
+        1                    511                  zero 1537                 \"top.qcow2\"\n\
+        512                  1                    data 1536                 \"mid.qcow2\"\n\
+        513                  511                  zero 1537                 \"mid.qcow2\"\n\
+        1024                 1                    data 1024                 \"parts/base.raw\"\n\
+        1025                 511                  zero 1025                 \"parts/base.raw\"\n\
+        1536                 512                  absent\n",
         "",
     ),
     (
