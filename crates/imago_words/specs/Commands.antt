@@ -1,6 +1,7 @@
 -- What the words behind a command's name ask of it.
-use Rattle.std.specs.Prelude.{◌≡◌, ◌∷◌, ◌&&◌, ◌==◌, ℕ, Bool, true, false, [], Option, Some, None}
-use Rattle.std.specs.Prelude.{if◌then◌else◌, codes, is_some, length, option_and_then, unwrap_or}
+use Rattle.std.specs.Prelude.{◌≡◌, ◌∷◌, ◌&&◌, ◌||◌, ◌==◌, ℕ, Bool, true, false, not, []}
+use Rattle.std.specs.Prelude.{Option, Some, None, if◌then◌else◌, codes, is_some, length}
+use Rattle.std.specs.Prelude.{option_and_then, unwrap_or}
 use Rattle.std.specs.Str.{bytes_eq}
 use Rattle.imago_words.specs.declared.command.Check.{Check}
 use Rattle.imago_words.specs.declared.command.Compare.{Compare}
@@ -61,6 +62,18 @@ abbrev pub target_is_meant : State → Bool
 target_is_meant s =
     passes (λ value. bytes_eq value (codes "raw")) (value_given (codes "target-format") s)
 
+-- the size is that of the blocks of zeroes that are left out as holes, or 0 where none are
+abbrev is_hole_size : Option ℕ → Bool
+is_hole_size None = false
+is_hole_size (Some size) = size == 0 || size == 4096
+
+abbrev pub sparse_is_meant : State → Bool
+sparse_is_meant s = passes (λ value. is_hole_size (size_of value)) (value_given (codes "sparse") s)
+
+-- zeroes are left out as holes, unless the size is given as 0
+abbrev pub leaves_holes : State → Bool
+leaves_holes s = not (unwrap_or (size_given (codes "sparse") s) 4096 == 0)
+
 -- What each field of a command is.
 pub record IsOpening (s : State) (o : Opening) : Type 0 where
   pub strict : o.strict ≡ was_given (codes "strict") s
@@ -98,6 +111,7 @@ pub record IsConvert (s : State) (c : Convert) : Type 0 where
   pub source_format : c.source_format ≡ format_given (codes "format") s
   pub target_format : c.target_format ≡ Raw
   pub force : c.force ≡ was_given (codes "force") s
+  pub sparse : c.sparse ≡ leaves_holes s
   pub progress : c.progress ≡ was_given (codes "progress") s
   pub quiet : c.quiet ≡ was_given (codes "quiet") s
   pub opening : IsOpening s c.opening
@@ -121,4 +135,4 @@ compare_is_meant s = are_files 2 s && (format_is_meant (codes "format") s
 
 abbrev pub convert_is_meant : State → Bool
 convert_is_meant s = are_files 2 s && (format_is_meant (codes "format") s
-    && (target_is_meant s && size_is_meant (codes "tables") s))
+    && (target_is_meant s && (sparse_is_meant s && size_is_meant (codes "tables") s)))

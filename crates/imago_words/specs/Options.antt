@@ -73,6 +73,7 @@ convert_options =
     valued (codes "format") (codes "f") []
     ∷ valued (codes "target-format") (codes "O") []
     ∷ flag (codes "force") [] (codes "force")
+    ∷ valued (codes "sparse") (codes "S") []
     ∷ flag (codes "progress") (codes "p") []
     ∷ flag (codes "quiet") (codes "q") (codes "quiet")
     ∷ flag (codes "force-share") (codes "U") (codes "force-share")

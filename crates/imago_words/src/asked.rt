@@ -8,7 +8,7 @@ ghost use Rattle.imago_words.specs.Commands.{format_given, output_given, size_gi
 ghost use Rattle.imago_words.specs.Commands.{format_is_meant, size_is_meant};
 ghost use Rattle.imago_words.specs.Commands.{output_is_meant, human_is_meant, target_is_meant};
 ghost use Rattle.imago_words.specs.Commands.{info_is_meant, check_is_meant, compare_is_meant};
-ghost use Rattle.imago_words.specs.Commands.{convert_is_meant};
+ghost use Rattle.imago_words.specs.Commands.{convert_is_meant, leaves_holes, sparse_is_meant};
 
 use crate::command::{Check, Compare, Convert, Info, Map, Opening, Output};
 use crate::fault::Fault;
@@ -87,6 +87,7 @@ pub fn convert_of<'a>(words: &Words<'a>) -> Result<Convert<'a>, Fault<'a>>
         source_format: format(words, "format")?,
         target_format: target_format(words)?,
         force: words.has("force"),
+        sparse: sparse(words)?,
         progress: words.has("progress"),
         quiet: words.has("quiet"),
         opening: opening(words)?,
@@ -127,6 +128,21 @@ fn target_format<'a>(words: &Words<'a>) -> Result<Format, Fault<'a>>
     match words.last("target-format") {
         Some(given) if given.value != "raw" => Err(Fault::Value(given.row, given.value)),
         _ => Ok(Format::Raw),
+    }
+}
+
+/// Whether zeroes are left out as holes. Blocks of other sizes aren't offered.
+fn sparse<'a>(words: &Words<'a>) -> Result<bool, Fault<'a>>
+    ensures ok { IfOk result (λ sparse. sparse ≡ leaves_holes (state_of words.now)) }
+    ensures exact { is_ok result ≡ sparse_is_meant (state_of words.now) }
+{
+    let Some(given) = words.last("sparse") else {
+        return Ok(true);
+    };
+    match size_named(given.value) {
+        Some(0) => Ok(false),
+        Some(4096) => Ok(true),
+        _ => Err(Fault::Value(given.row, given.value)),
     }
 }
 

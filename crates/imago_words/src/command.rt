@@ -129,6 +129,9 @@ pub struct Convert<'a> {
     pub target_format: Format,
     /// Whether a target that is there is replaced.
     pub force: bool,
+    /// Whether blocks of 4096 zeroes are left out of the target as holes. Else each byte is
+    /// written.
+    pub sparse: bool,
     /// Whether the progress is shown.
     pub progress: bool,
     /// Whether only errors are printed.

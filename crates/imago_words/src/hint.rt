@@ -80,7 +80,7 @@ struct Best {
 impl Best {
     /// None yet. A name that is less near than that isn't worth to be told.
     const NONE: Best = Best {
-        score: 0.7,
+        score: 0.8,
         name: None,
     };
 

@@ -230,6 +230,14 @@ pub static TABLE: Table = Table {
             SOURCE_FORMAT,
             valued!("target-format", "O", "", "FMT", "raw", "The format of OUT"),
             flag!("force", "", "force", "Replace OUT if it exists"),
+            valued!(
+                "sparse",
+                "S",
+                "",
+                "SIZE",
+                "0 or 4k",
+                "How many zeroes make a hole, 0 for none"
+            ),
             PROGRESS,
             QUIET,
             SHARE,
@@ -247,10 +255,6 @@ pub static TABLE: Table = Table {
         ],
         absent: &[
             absent!("-n", "not yet; OUT is made anew, or replaced with --force"),
-            absent!(
-                "-S",
-                "not yet; what is zero in blocks of 4096 bytes is a hole of OUT"
-            ),
             absent!("-c", "OUT is raw, which isn't compressed"),
             absent!("-o", "OUT is raw, which has no options"),
             absent!("-l", "snapshots aren't read; the disk is read as it is now"),

@@ -2,7 +2,7 @@
 
 use super::set_up::{Case, check_cases};
 
-static CASES: [Case; 20] = [
+static CASES: [Case; 22] = [
     Case {
         words: &["info", "disk.vmdk"],
         status: 0,
@@ -78,6 +78,17 @@ static CASES: [Case; 20] = [
         words: &["convert", "-pf", "vmdk", "-O", "raw", "--force", "a", "b"],
         status: 0,
         text: "convert \"a\" vmdk \"b\" raw force progress",
+    },
+    // Zeroes are written too, or left out as holes, as they are if nothing is said.
+    Case {
+        words: &["convert", "-S4k", "-S", "0", "a", "b"],
+        status: 0,
+        text: "convert \"a\" any \"b\" raw full",
+    },
+    Case {
+        words: &["convert", "-S", "0", "-S", "4096", "a", "b"],
+        status: 0,
+        text: "convert \"a\" any \"b\" raw",
     },
     // What only tunes is accepted.
     Case {

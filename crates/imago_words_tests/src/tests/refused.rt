@@ -129,10 +129,9 @@ static CASES: [Case; 37] = [
         text: "-f takes raw, vmdk or qcow2, not \"vdi\"; see imago-img convert --help",
     },
     Case {
-        words: &["convert", "-S", "0", "a", "b"],
+        words: &["convert", "-S", "8k", "a", "b"],
         status: 1,
-        text: "convert has no -S: not yet; what is zero in blocks of 4096 bytes is a hole of OUT; \
-            see imago-img convert --help",
+        text: "-S takes 0 or 4k, not \"8k\"; see imago-img convert --help",
     },
     Case {
         words: &["convert", "-pn", "a", "b"],
