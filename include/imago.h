@@ -90,7 +90,8 @@ bool imago_vmdk_probe(const uint8_t *text, size_t text_length);
  * nothing where accept_unknown_keys holds, and are IMAGO_INVALID_DATA where not.
  *
  * IMAGO_INVALID_DATA is a text that can't be meant, or one of less than 4 bytes or more than 2097152;
- * IMAGO_UNSUPPORTED a version or an extent that isn't offered, or another kind of VMDK image;
+ * IMAGO_UNSUPPORTED a version or an extent that isn't offered, such as a SPARSE or VMFS one, or another
+ * kind of VMDK image;
  * IMAGO_MEMORY no memory, which is answered only where the text has no fault. Refused, *size is as it
  * was. */
 uint32_t imago_vmdk_size(const uint8_t *text, size_t text_length, bool accept_unknown_keys, uint64_t *size);

@@ -3,6 +3,7 @@ use Rattle.imago_storage.specs.declared.error.Error.{Error}
 use Rattle.imago_storage.specs.declared.error.Error.TheVariants.{Memory}
 use Rattle.imago_drivers.specs.Place.{Byte}
 use Rattle.imago_access.specs.Disk.{values_from}
+use Rattle.imago_vmdk.specs.Line.{keys_accepted}
 use Rattle.imago_vmdk.specs.Disk.{described_value}
 use Rattle.imago_plan.specs.declared.piece.Source.{Source}
 use Rattle.imago_plan.specs.declared.piece.Source.TheVariants as S
@@ -33,7 +34,8 @@ piece_record piece = record {
 abbrev pub IsPlanOf : Bool → List ℕ → ℕ → List Piece → Type 0
 IsPlanOf accept text size pieces =
     (bytes : ℕ → ℕ → List ℕ) → bytes 0 0 ≡ text
-    → values_from (described_value accept (bytes 0)) 0 size ≡ map Byte (plan_bytes bytes pieces)
+    → values_from (described_value (keys_accepted accept) (bytes 0)) 0 size
+    ≡ map Byte (plan_bytes bytes pieces)
 
 -- why a descriptor has no plan beside its own fault: for want of memory, or because some byte of
 -- its disk has no place that can be told

@@ -8,7 +8,7 @@ use Rattle.imago_c.specs.declared.record.ExtentRecord.{ExtentRecord}
 abbrev pub name_of : Extent (List ℕ) → List ℕ
 name_of (Extent.Zero sectors) = []
 name_of (Extent.NoAccess sectors) = []
-name_of (Extent.Flat sectors name offset writable) = name
+name_of (Extent.Flat sectors name offset writable vmfs) = name
 
 -- a truth as a number
 abbrev pub number_of : Bool → ℕ
@@ -30,7 +30,7 @@ record_without_file start kind sectors = record {
 abbrev pub record_of : ℕ → Extent (List ℕ) → ExtentRecord
 record_of start (Extent.Zero sectors) = record_without_file start 0 sectors
 record_of start (Extent.NoAccess sectors) = record_without_file start 1 sectors
-record_of start (Extent.Flat sectors name offset writable) = record {
+record_of start (Extent.Flat sectors name offset writable vmfs) = record {
   sectors = sectors;
   offset = offset;
   name_start = start;

@@ -3,7 +3,8 @@ ghost use Rattle.std.specs.Prelude.{◌≡◌, ◌⊎◌, List, length, map, tru
 ghost use Rattle.std.specs.Prelude.{IfOk, IfErr};
 ghost use Rattle.imago_storage.specs.declared.error.Error.TheVariants as Error;
 ghost use Rattle.imago_access.specs.Chain.{driver};
-ghost use Rattle.imago_vmdk.specs.Image.{is_opened, takes_unknown_keys};
+ghost use Rattle.imago_vmdk.specs.Line.{keys_accepted};
+ghost use Rattle.imago_vmdk.specs.Image.{is_opened, accepted_in};
 ghost use Rattle.imago_vmdk.specs.Reading.{reading_of};
 ghost use Rattle.imago_plan.specs.declared.piece.Piece.{Piece};
 ghost use Rattle.imago_c.specs.Answer.{IsAnswer, IsFront};
@@ -89,17 +90,17 @@ fn image_of(
     text: &[u8],
 ) -> Result<FormatAccess<Vmdk<MemStorage>>, Error>
     ensures opened { IfOk result (λ x. is_opened (driver x) ≡ true) }
-    ensures keys { IfOk result (λ x. takes_unknown_keys (driver x) ≡ accept_unknown_keys) }
+    ensures keys { IfOk result (λ x. accepted_in (driver x) ≡ keys_accepted accept_unknown_keys) }
     ensures bytes { IfOk result
         (λ x. (⟦<Vmdk<MemStorage> as FormatDriverInstance>⟧.view (driver x)).stores.bytes 0
         ≡ text.now) }
     ensures reading { IfOk result
-        (λ x. (extents : _) × (reading_of accept_unknown_keys text.now
+        (λ x. (extents : _) × (reading_of (keys_accepted accept_unknown_keys) text.now
         ≡ Ok (
           extents,
           (⟦<Vmdk<MemStorage> as FormatDriverInstance>⟧.view (driver x)).size,
         ))) }
-    ensures refused { let reading = reading_of accept_unknown_keys text.now in
+    ensures refused { let reading = reading_of (keys_accepted accept_unknown_keys) text.now in
         IfErr result (λ e. (reading ≡ Err e) ⊎ MayHaveNoPlan reading e) }
 {
     let descriptor = MemStorage::new(Vec::from_slice(alloc, text)?);
@@ -109,10 +110,10 @@ fn image_of(
 
 /// The plan of the disk that a descriptor describes.
 fn plan_of(alloc: Global, accept_unknown_keys: bool, text: &[u8]) -> Result<Vec<Piece>, Error>
-    ensures plan { let reading = reading_of accept_unknown_keys text.now in
+    ensures plan { let reading = reading_of (keys_accepted accept_unknown_keys) text.now in
         IfOk result
         (λ v. (d : _) × (reading ≡ Ok d) × IsPlanOf accept_unknown_keys text.now d.1 v.items) }
-    ensures refused { let reading = reading_of accept_unknown_keys text.now in
+    ensures refused { let reading = reading_of (keys_accepted accept_unknown_keys) text.now in
         IfErr result (λ e. (reading ≡ Err e) ⊎ MayHaveNoPlan reading e) }
 {
     let image = image_of(alloc, accept_unknown_keys, text)?;
@@ -136,7 +137,7 @@ pub extern "C" fn imago_vmdk_plan(
     pieces: &mut [PieceRecord],
     count: &mut u64,
 ) -> u32
-    ensures { let reading = reading_of accept_unknown_keys text.now in
+    ensures { let reading = reading_of (keys_accepted accept_unknown_keys) text.now in
         IsAnswer reading (MayHaveNoPlan reading)
         (λ d. (ps : List Piece) × IsPlanOf accept_unknown_keys text.now d.1 ps
         × IsFront pieces.old (map piece_record ps) pieces.new × (count.new ≡ length ps))
@@ -154,11 +155,11 @@ pub extern "C" fn imago_vmdk_plan(
 
 /// The records of that plan.
 fn told(alloc: Global, accept_unknown_keys: bool, text: &[u8]) -> Result<Vec<PieceRecord>, Error>
-    ensures plan { let reading = reading_of accept_unknown_keys text.now in
+    ensures plan { let reading = reading_of (keys_accepted accept_unknown_keys) text.now in
         IfOk result
         (λ v. (d : _) × (reading ≡ Ok d) × (ps : List Piece)
         × IsPlanOf accept_unknown_keys text.now d.1 ps × (v.items ≡ map piece_record ps)) }
-    ensures refused { let reading = reading_of accept_unknown_keys text.now in
+    ensures refused { let reading = reading_of (keys_accepted accept_unknown_keys) text.now in
         IfErr result (λ e. (reading ≡ Err e) ⊎ MayHaveNoPlan reading e) }
 {
     let pieces = plan_of(alloc, accept_unknown_keys, text)?;

@@ -1,5 +1,6 @@
 //! Descriptors of VMDK images.
 ghost use Rattle.std.specs.Prelude.{◌≡◌, length};
+ghost use Rattle.imago_vmdk.specs.Line.{keys_accepted};
 ghost use Rattle.imago_vmdk.specs.Probe.{probe_of};
 ghost use Rattle.imago_vmdk.specs.Reading.{reading_of, GivesOrMemory};
 ghost use Rattle.imago_c.specs.Answer.{IsAnswer, IsMemory, IsFront};
@@ -10,6 +11,7 @@ use crate::front::put_front;
 use crate::record::{ExtentRecord, tell_all};
 use imago_storage::error::Error;
 use imago_vmdk::descriptor;
+use imago_vmdk::line::Accepted;
 use std::alloc::Global;
 
 /// Whether these bytes look like a VMDK image's: of another kind, or a descriptor whose first
@@ -19,6 +21,16 @@ pub extern "C" fn imago_vmdk_probe(text: &[u8]) -> bool
     ensures { result ≡ probe_of text.now }
 {
     descriptor::probe(text)
+}
+
+/// What a descriptor may contain: no VMFS extents.
+fn accepted(unknown_keys: bool) -> Accepted
+    ensures { result ≡ keys_accepted unknown_keys }
+{
+    Accepted {
+        unknown_keys,
+        ..Accepted::NOTHING
+    }
 }
 
 /// Tells the size in bytes of the disk that a descriptor describes. Refused, `size` is as it was.
@@ -31,10 +43,10 @@ pub extern "C" fn imago_vmdk_size(
     accept_unknown_keys: bool,
     size: &mut u64,
 ) -> u32
-    ensures { let reading = reading_of accept_unknown_keys text.now in
+    ensures { let reading = reading_of (keys_accepted accept_unknown_keys) text.now in
         IsAnswer reading (IsMemory reading) (λ d. size.new ≡ d.1) (size.new ≡ size.old) result }
 {
-    match descriptor::read(alloc, accept_unknown_keys, text) {
+    match descriptor::read(alloc, accepted(accept_unknown_keys), text) {
         Ok(read) => {
             *size = read.size;
             DONE
@@ -63,9 +75,9 @@ struct Extents {
 /// The extents of a descriptor.
 fn extents_of(alloc: Global, accept_unknown_keys: bool, text: &[u8]) -> Result<Extents, Error>
     ensures { GivesOrMemory (λ x. (x.records.items, x.names.items)) result
-        (told_of (reading_of accept_unknown_keys text.now)) }
+        (told_of (reading_of (keys_accepted accept_unknown_keys) text.now)) }
 {
-    let read = descriptor::read(alloc, accept_unknown_keys, text)?;
+    let read = descriptor::read(alloc, accepted(accept_unknown_keys), text)?;
     let mut records = Vec::new(alloc);
     let mut names = Vec::new(alloc);
     tell_all(&read.extents, &mut records, &mut names)?;
@@ -84,7 +96,7 @@ pub extern "C" fn imago_vmdk_extents(
     names: &mut [u8],
     counts: &mut ExtentCounts,
 ) -> u32
-    ensures { let told = told_of (reading_of accept_unknown_keys text.now) in
+    ensures { let told = told_of (reading_of (keys_accepted accept_unknown_keys) text.now) in
         IsAnswer told (IsMemory told)
         (λ t. IsFront extents.old t.0 extents.new × IsFront names.old t.1 names.new
         × (counts.new.extents ≡ length t.0) × (counts.new.names ≡ length t.1))

@@ -5,7 +5,7 @@ ghost use Rattle.imago_access.specs.declared.access.FormatAccess.{FormatAccess};
 ghost use Rattle.imago_access.specs.Chain.{driver};
 ghost use Rattle.imago_access.specs.Disk.{values_from};
 ghost use Rattle.imago_access.specs.Target.{target, target_here};
-ghost use Rattle.imago_vmdk.specs.Image.{is_opened, takes_unknown_keys};
+ghost use Rattle.imago_vmdk.specs.Image.{is_opened, accepted_in};
 ghost use Rattle.imago_vmdk.specs.Disk.{described_value};
 ghost use Rattle.imago_plan.specs.declared.piece.Piece.{Piece};
 ghost use Rattle.imago_plan.specs.Pieces.{IsPlan};
@@ -43,7 +43,7 @@ pub fn plans_of_vmdk<S: Storage>(image: &FormatAccess<Vmdk<S>>)
         → IsTrue ((view vmdk).stores.features 0).tells_bytes
         → bytes 0 0 ≡ (view vmdk).stores.bytes 0
         → IsPlan view image.now pieces
-        → values_from (described_value (takes_unknown_keys vmdk) (bytes 0)) 0 (view vmdk).size
+        → values_from (described_value (accepted_in vmdk) (bytes 0)) 0 (view vmdk).size
         ≡ map Byte (plan_bytes bytes pieces) }
 {
     imago_vmdk::laws::places_of_bytes(image.inner());

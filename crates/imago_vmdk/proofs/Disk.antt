@@ -13,7 +13,7 @@ pub places_with : {N M : Type 0} (name : N → M) (bytes : ℕ → List ℕ) (in
 places_with name bytes index [] p = refl
 places_with name bytes index (Extent.Zero n ∷ es) p = ap (λ (x : Place). if nat_lt p (n * 512) then Zeroed true else x) (places_with name bytes (index + 0) es (p - n * 512))
 places_with name bytes index (Extent.NoAccess n ∷ es) p = ap (λ (x : Place). if nat_lt p (n * 512) then Refused E.NoAccess else x) (places_with name bytes (index + 0) es (p - n * 512))
-places_with name bytes index (Extent.Flat n file offset writable ∷ es) p =
+places_with name bytes index (Extent.Flat n file offset writable vmfs ∷ es) p =
     ap (λ (x : Place). if nat_lt p (n * 512) then flat_place bytes index writable (offset * 512 + p) else x) (places_with name bytes (index + 1) es (p - n * 512))
 
 module _ (below : ℕ → Value) where
@@ -27,7 +27,7 @@ module _ (below : ℕ → Value) where
   shown_alone bytes index [] p = refl
   shown_alone bytes index (Extent.Zero n ∷ es) p = shown_if (nat_lt p (n * 512)) (Zeroed true) _ refl (shown_alone bytes (index + 0) es (p - n * 512))
   shown_alone bytes index (Extent.NoAccess n ∷ es) p = shown_if (nat_lt p (n * 512)) (Refused E.NoAccess) _ refl (shown_alone bytes (index + 0) es (p - n * 512))
-  shown_alone bytes index (Extent.Flat n file offset writable ∷ es) p = shown_if (nat_lt p (n * 512)) (flat_place bytes index writable (offset * 512 + p)) _
+  shown_alone bytes index (Extent.Flat n file offset writable vmfs ∷ es) p = shown_if (nat_lt p (n * 512)) (flat_place bytes index writable (offset * 512 + p)) _
       (shown_if (nat_lt (offset * 512 + p) (2 ^ 64 - 1)) (Stored (slice_index (bytes index) (offset * 512 + p)) index (offset * 512 + p) writable) (Refused E.InvalidData) refl refl)
       (shown_alone bytes (index + 1) es (p - n * 512))
 
@@ -49,7 +49,7 @@ module _ (old new : ℕ → List ℕ) where
   same_places index [] p = refl
   same_places index (Extent.Zero n ∷ es) p = same_if (nat_lt p (n * 512)) (Zeroed true) (places_from old (index + 0) es (p - n * 512)) (Zeroed true) (places_from new (index + 0) es (p - n * 512)) refl (same_places (index + 0) es (p - n * 512))
   same_places index (Extent.NoAccess n ∷ es) p = same_if (nat_lt p (n * 512)) (Refused E.NoAccess) (places_from old (index + 0) es (p - n * 512)) (Refused E.NoAccess) (places_from new (index + 0) es (p - n * 512)) refl (same_places (index + 0) es (p - n * 512))
-  same_places index (Extent.Flat n file offset w ∷ es) p = same_if (nat_lt p (n * 512)) (flat_place old index w (offset * 512 + p)) (places_from old (index + 1) es (p - n * 512)) (flat_place new index w (offset * 512 + p)) (places_from new (index + 1) es (p - n * 512)) (same_flat index w (offset * 512 + p)) (same_places (index + 1) es (p - n * 512))
+  same_places index (Extent.Flat n file offset w vmfs ∷ es) p = same_if (nat_lt p (n * 512)) (flat_place old index w (offset * 512 + p)) (places_from old (index + 1) es (p - n * 512)) (flat_place new index w (offset * 512 + p)) (places_from new (index + 1) es (p - n * 512)) (same_flat index w (offset * 512 + p)) (same_places (index + 1) es (p - n * 512))
 
   pub same_read : (r : Result (List (Extent (List ℕ)) × ℕ) Error) (p : ℕ) → places_read new r p ≡ with_bytes new (places_read old r p)
   same_read (Ok disk) p = same_places 1 disk.0 p

@@ -114,7 +114,7 @@ flat_refused bytes storage at w h = let t : nat_lt at (2 ^ 64 - 1) ≡ false = g
 pub rest_within : {N : Type 0} (e : Extent N) (at : ℕ) → extent_rest e at ≤ size_of e - at
 rest_within (Extent.Zero sectors) at = omega arith
 rest_within (Extent.NoAccess sectors) at = omega arith
-rest_within (Extent.Flat sectors name offset writable) at = omega arith
+rest_within (Extent.Flat sectors name offset writable vmfs) at = omega arith
 
 -- a mapping that names a place isn't the end, and the place is neither an end nor refused
 names_no_end : (m : ShallowMapping) (i : ℕ) (x : Place) → Names m i x → x ≡ End → ⊥
@@ -205,7 +205,7 @@ mapped_allowed features bytes es p most (Err e) h = map_allowed features bytes e
 same_size : {N M : Type 0} (name : N → M) (e : Extent N) → size_of (extent_with name e) ≡ size_of e
 same_size name (Extent.Zero sectors) = refl
 same_size name (Extent.NoAccess sectors) = refl
-same_size name (Extent.Flat sectors file offset writable) = refl
+same_size name (Extent.Flat sectors file offset writable vmfs) = refl
 
 pub same_sizes : {N M : Type 0} (name : N → M) (es : List (Extent N)) → sum_by size_of (map (extent_with name) es) ≡ sum_by size_of es
 same_sizes name [] = refl

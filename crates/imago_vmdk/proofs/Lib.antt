@@ -8,3 +8,4 @@ pub mod Storages
 pub mod Faults
 pub mod Opened
 pub mod Disk
+pub mod Vmfs

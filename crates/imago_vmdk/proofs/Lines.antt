@@ -6,6 +6,7 @@ use Rattle.std.proofs.lemmas.List.{append-nil}
 use Rattle.std.specs.List.{sum_by}
 use Rattle.std.specs.Option.{ok_or}
 use Rattle.imago_storage.specs.declared.error.Error.{Error}
+use Rattle.imago_vmdk.specs.declared.line.Accepted.{Accepted}
 use Rattle.imago_vmdk.specs.declared.line.Line.{Line}
 use Rattle.imago_storage.specs.declared.error.Error.TheVariants.{InvalidData, Unsupported}
 use Rattle.std.proofs.lemmas.List.Sums.{sum_by-cons}
@@ -14,27 +15,27 @@ use Rattle.imago_vmdk.specs.Line.{◌>>=◌, verdict_of, extent_with, line_with,
 use Rattle.imago_vmdk.specs.Reading.{lines_say, last_version, extents_in, extent_in, version_with, size_in, AreKept, sectors_of, size_of, is_version, fitting, disk_of, disk_in, found_in, survey_of}
 
 -- what is made of the lines that are left, where none of them is a fault
-abbrev pub onward : {B : Type 0} → Bool → (List (Line (List ℕ)) → B) → List (List ℕ) → Result B Error
-onward accept f lines = lines_say accept lines >>= λ ls. Ok (f ls)
+abbrev pub onward : {B : Type 0} → Accepted → (List (Line (List ℕ)) → B) → List (List ℕ) → Result B Error
+onward accepted f lines = lines_say accepted lines >>= λ ls. Ok (f ls)
 
 past : {B : Type 0} (l : Line (List ℕ)) (r : Result (List (Line (List ℕ))) Error) (f : List (Line (List ℕ)) → B) → ((r >>= λ ls. Ok (l ∷ ls)) >>= λ ls. Ok (f ls)) ≡ (r >>= λ ls. Ok (f (l ∷ ls)))
 past l (Ok ls) f = refl
 past l (Err e) f = refl
 
 -- a line is past
-pub step : {B : Type 0} (accept : Bool) (f : List (Line (List ℕ)) → B) (x : List ℕ) (l : Line (List ℕ)) (lines : List (List ℕ)) → verdict_of accept x ≡ Ok l → onward accept f (x ∷ lines) ≡ onward accept (λ ls. f (l ∷ ls)) lines
-step accept f x l lines h = rw h (past l (lines_say accept lines) f)
+pub step : {B : Type 0} (accepted : Accepted) (f : List (Line (List ℕ)) → B) (x : List ℕ) (l : Line (List ℕ)) (lines : List (List ℕ)) → verdict_of accepted x ≡ Ok l → onward accepted f (x ∷ lines) ≡ onward accepted (λ ls. f (l ∷ ls)) lines
+step accepted f x l lines h = rw h (past l (lines_say accepted lines) f)
 
 -- a line is a fault
-pub fault : {B : Type 0} (accept : Bool) (f : List (Line (List ℕ)) → B) (x : List ℕ) (lines : List (List ℕ)) (e : Error) → verdict_of accept x ≡ Err e → onward accept f (x ∷ lines) ≡ Err e
-fault accept f x lines e h = rw h refl
+pub fault : {B : Type 0} (accepted : Accepted) (f : List (Line (List ℕ)) → B) (x : List ℕ) (lines : List (List ℕ)) (e : Error) → verdict_of accepted x ≡ Err e → onward accepted f (x ∷ lines) ≡ Err e
+fault accepted f x lines e h = rw h refl
 
 made_same : {B : Type 0} (f g : List (Line (List ℕ)) → B) (r : Result (List (Line (List ℕ))) Error) → ((ls : List (Line (List ℕ))) → f ls ≡ g ls) → (r >>= λ ls. Ok (f ls)) ≡ (r >>= λ ls. Ok (g ls))
 made_same f g (Ok ls) h = ap Ok (h ls)
 made_same f g (Err e) h = refl
 
-pub same : {B : Type 0} (accept : Bool) (f g : List (Line (List ℕ)) → B) (lines : List (List ℕ)) → ((ls : List (Line (List ℕ))) → f ls ≡ g ls) → onward accept f lines ≡ onward accept g lines
-same accept f g lines h = made_same f g (lines_say accept lines) h
+pub same : {B : Type 0} (accepted : Accepted) (f g : List (Line (List ℕ)) → B) (lines : List (List ℕ)) → ((ls : List (Line (List ℕ))) → f ls ≡ g ls) → onward accepted f lines ≡ onward accepted g lines
+same accepted f g lines h = made_same f g (lines_say accepted lines) h
 
 -- the last version and the size, from such a version and size on
 abbrev pub surveyed : ℕ → ℕ → List (Line (List ℕ)) → ℕ × Option ℕ
@@ -43,7 +44,7 @@ surveyed version size ls = (last_version version ls, fitting (size + sum_by size
 sectors_same : {N M : Type 0} (f : N → M) (e : Extent N) → sectors_of (extent_with f e) ≡ sectors_of e
 sectors_same f (Extent.Zero s) = refl
 sectors_same f (Extent.NoAccess s) = refl
-sectors_same f (Extent.Flat s name offset writable) = refl
+sectors_same f (Extent.Flat s name offset writable vmfs) = refl
 
 surveyed_more : {N : Type 0} (version size : ℕ) (f : N → List ℕ) (l : Line N) (ls : List (Line (List ℕ))) → surveyed version size (line_with f l ∷ ls) ≡ surveyed (version_with version l) (size + size_in l) ls
 surveyed_more version size f Line.Nothing ls = let e : size ≡ size + 0 = omega arith in ap (λ n. surveyed version n ls) e
@@ -56,15 +57,15 @@ surveyed_more version size f (Line.Extent e) ls =
     ap (λ n. (last_version version ls, fitting n)) total
 
 -- a line adds its version and its size
-pub counted : {N : Type 0} (accept : Bool) (version size : ℕ) (f : N → List ℕ) (l : Line N) (x : List ℕ) (lines : List (List ℕ)) → verdict_of accept x ≡ Ok (line_with f l)
-    → onward accept (surveyed version size) (x ∷ lines) ≡ onward accept (surveyed (version_with version l) (size + size_in l)) lines
-counted accept version size f l x lines h = step accept (surveyed version size) x (line_with f l) lines h ∙ same accept _ _ lines (surveyed_more version size f l)
+pub counted : {N : Type 0} (accepted : Accepted) (version size : ℕ) (f : N → List ℕ) (l : Line N) (x : List ℕ) (lines : List (List ℕ)) → verdict_of accepted x ≡ Ok (line_with f l)
+    → onward accepted (surveyed version size) (x ∷ lines) ≡ onward accepted (surveyed (version_with version l) (size + size_in l)) lines
+counted accepted version size f l x lines h = step accepted (surveyed version size) x (line_with f l) lines h ∙ same accepted _ _ lines (surveyed_more version size f l)
 
-pub starts : (accept : Bool) (lines : List (List ℕ)) → onward accept (surveyed 0 0) lines ≡ survey_of accept lines
-starts accept lines = same accept (surveyed 0 0) found_in lines (λ ls. let e : 0 + sum_by size_of (extents_in ls) ≡ sum_by size_of (extents_in ls) = omega arith in ap (λ n. (last_version 0 ls, fitting n)) e)
+pub starts : (accepted : Accepted) (lines : List (List ℕ)) → onward accepted (surveyed 0 0) lines ≡ survey_of accepted lines
+starts accepted lines = same accepted (surveyed 0 0) found_in lines (λ ls. let e : 0 + sum_by size_of (extents_in ls) ≡ sum_by size_of (extents_in ls) = omega arith in ap (λ n. (last_version 0 ls, fitting n)) e)
 
-pub done : (accept : Bool) (version n : ℕ) → onward accept (surveyed version n) [] ≡ Ok (version, fitting n)
-done accept version n = let e : n + 0 ≡ n = omega arith in let found : ℕ → Result (ℕ × Option ℕ) Error = λ m. Ok (version, fitting m) in ap found e
+pub done : (accepted : Accepted) (version n : ℕ) → onward accepted (surveyed version n) [] ≡ Ok (version, fitting n)
+done accepted version n = let e : n + 0 ≡ n = omega arith in let found : ℕ → Result (ℕ × Option ℕ) Error = λ m. Ok (version, fitting m) in ap found e
 
 more_extents : (es : List (Extent (List ℕ))) (l : Line (List ℕ)) (ls : List (Line (List ℕ))) → es ++ extents_in (l ∷ ls) ≡ (es ++ extent_in l) ++ extents_in ls
 more_extents es Line.Nothing ls = ap (λ xs. xs ++ extents_in ls) (sym (append-nil es))
@@ -73,9 +74,9 @@ more_extents es Line.Setting ls = ap (λ xs. xs ++ extents_in ls) (sym (append-n
 more_extents es (Line.Extent e) ls = simp append_assoc
 
 -- a line's extent comes behind those so far
-pub appended : (accept : Bool) (es : List (Extent (List ℕ))) (l : Line (List ℕ)) (x : List ℕ) (lines : List (List ℕ)) → verdict_of accept x ≡ Ok l
-    → onward accept (λ ls. es ++ extents_in ls) (x ∷ lines) ≡ onward accept (λ ls. (es ++ extent_in l) ++ extents_in ls) lines
-appended accept es l x lines h = step accept (λ ls. es ++ extents_in ls) x l lines h ∙ same accept _ _ lines (more_extents es l)
+pub appended : (accepted : Accepted) (es : List (Extent (List ℕ))) (l : Line (List ℕ)) (x : List ℕ) (lines : List (List ℕ)) → verdict_of accepted x ≡ Ok l
+    → onward accepted (λ ls. es ++ extents_in ls) (x ∷ lines) ≡ onward accepted (λ ls. (es ++ extent_in l) ++ extents_in ls) lines
+appended accepted es l x lines h = step accepted (λ ls. es ++ extents_in ls) x l lines h ∙ same accepted _ _ lines (more_extents es l)
 
 -- where extents are kept, they are what the lines give
 pub kept_are : {V : Type 0} (view : V → List (Extent (List ℕ))) (o : Option V) (es : List (Extent (List ℕ))) (r : Result (List (Extent (List ℕ))) Error) → AreKept view o es → r ≡ Ok es → MatchOption o (Unit {0}) (λ v. r ≡ Ok (view v))
@@ -107,8 +108,8 @@ unfolding disk_in
 disk_by_parts (Err e) n es h k = let z : ⊥ = cc in absurd z
 disk_by_parts (Ok ls) n es h k = let same_extents : extents_in ls ≡ es = cc in size_by_version (is_version (last_version 0 ls)) (extents_in ls) (fitting (sum_by size_of (extents_in ls))) n es h same_extents
 
-pub behind_none : (accept : Bool) (es : List (Extent (List ℕ))) → onward accept (λ ls. es ++ extents_in ls) [] ≡ Ok es
-behind_none accept es = ap Ok (append-nil es)
+pub behind_none : (accepted : Accepted) (es : List (Extent (List ℕ))) → onward accepted (λ ls. es ++ extents_in ls) [] ≡ Ok es
+behind_none accepted es = ap Ok (append-nil es)
 
 pub gives_size : (size : Option ℕ) (wanted : Result ℕ Error) → wanted ≡ or_invalid size → Gives (λ n. n) (ok_or size InvalidData) wanted
 gives_size None wanted h = h

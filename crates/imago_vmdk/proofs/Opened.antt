@@ -28,7 +28,7 @@ module _ {N Gate S : Type 0} (opened : Opening Gate S) (resolved : Resolution N)
   one_counted : (e : Extent N) (before after : Gate) (own : List S) → IsExtentOpened opened resolved direct e before after own → length own ≡ storages_of e
   one_counted (Extent.Zero sectors) before after own h = rw h.0 refl
   one_counted (Extent.NoAccess sectors) before after own h = rw h.0 refl
-  one_counted (Extent.Flat sectors name offset writable) before after own h = rw h.1.4 refl
+  one_counted (Extent.Flat sectors name offset writable vmfs) before after own h = rw h.1.4 refl
 
   -- as many storages as there are FLAT extents
   pub all_counted : (es : List (Extent N)) (before after : Gate) (storages : List S) → AreOpened opened resolved direct es before after storages → length storages ≡ storages_in es
@@ -41,7 +41,7 @@ module _ {N M Gate S : Type 0} (name : N → M) (opened : Opening Gate S) (resol
   one_opened : (e : Extent N) (before after : Gate) (own : List S) → IsExtentOpened opened (λ n. resolved (name n)) direct e before after own → IsExtentOpened opened resolved direct (extent_with name e) before after own
   one_opened (Extent.Zero sectors) before after own h = h
   one_opened (Extent.NoAccess sectors) before after own h = h
-  one_opened (Extent.Flat sectors n offset writable) before after own h = h
+  one_opened (Extent.Flat sectors n offset writable vmfs) before after own h = h
 
   pub all_opened : (es : List (Extent N)) (before after : Gate) (storages : List S) → AreOpened opened (λ n. resolved (name n)) direct es before after storages
       → AreOpened opened resolved direct (map (extent_with name) es) before after storages
@@ -51,7 +51,7 @@ module _ {N M Gate S : Type 0} (name : N → M) (opened : Opening Gate S) (resol
   one_refused : (f : Features) (e : Extent N) (before after : Gate) (r : Error) → IsExtentRefused opened (λ n. resolved (name n)) direct f e before after r → IsExtentRefused opened resolved direct f (extent_with name e) before after r
   one_refused f (Extent.Zero sectors) before after r h = h
   one_refused f (Extent.NoAccess sectors) before after r h = h
-  one_refused f (Extent.Flat sectors n offset writable) before after r h = h
+  one_refused f (Extent.Flat sectors n offset writable vmfs) before after r h = h
 
   pub all_refused : (f : Features) (es : List (Extent N)) (before after : Gate) (r : Error) → AreRefused opened (λ n. resolved (name n)) direct f es before after r
       → AreRefused opened resolved direct f (map (extent_with name) es) before after r

@@ -1,5 +1,6 @@
 use Rattle.std.specs.Prelude.{ℕ, Bool, List, map}
 use Rattle.std.specs.String.{string_bytes}
+use Rattle.imago_vmdk.specs.declared.line.Accepted.{Accepted}
 use Rattle.imago_vmdk.specs.declared.line.Extent.{Extent}
 use Rattle.imago_vmdk.specs.declared.vmdk.Vmdk.{Vmdk}
 use Rattle.imago_vmdk.specs.Line.{extent_with}
@@ -24,6 +25,6 @@ storages_of_extents v = v.storages.items
 abbrev pub opens_direct : {S : Type 0} {g : _} {h : _} → Vmdk S g h → Bool
 opens_direct v = v.direct
 
--- whether keys of its descriptor that aren't known are accepted
-abbrev pub takes_unknown_keys : {S : Type 0} {g : _} {h : _} → Vmdk S g h → Bool
-takes_unknown_keys v = v.accepts_unknown_keys
+-- what was accepted of its descriptor
+abbrev pub accepted_in : {S : Type 0} {g : _} {h : _} → Vmdk S g h → Accepted
+accepted_in v = v.accepted

@@ -1,5 +1,6 @@
 pub mod Text
 pub mod Line
+pub mod Vmfs
 pub mod Reading
 pub mod Probe
 pub mod Vmdk

@@ -6,9 +6,22 @@ use Rattle.std.specs.List.{starts_with}
 use Rattle.imago_storage.specs.declared.error.Error.{Error}
 use Rattle.imago_storage.specs.declared.error.Error.TheVariants.{InvalidData, Unsupported}
 use Rattle.imago_vmdk.specs.Text.{utf8_of, words_of, cut_at, number_of, is_text}
+use Rattle.imago_vmdk.specs.declared.line.Accepted.{Accepted}
 use Rattle.imago_vmdk.specs.declared.line.Access.{Access}
 use Rattle.imago_vmdk.specs.declared.line.Extent.{Extent}
 use Rattle.imago_vmdk.specs.declared.line.Line.{Line}
+
+-- a descriptor may contain nothing besides the lines that every reading of one accepts
+abbrev pub nothing_accepted : Accepted
+nothing_accepted = record { unknown_keys = false; vmfs = false }
+
+-- or lines whose keys aren't known, if these are accepted
+abbrev pub keys_accepted : Bool → Accepted
+keys_accepted accept = record { unknown_keys = accept; vmfs = false }
+
+-- or VMFS extents
+abbrev pub vmfs_accepted : Accepted
+vmfs_accepted = record { unknown_keys = false; vmfs = true }
 
 -- go on with a value, unless there is a refusal
 infixl 10 ◌>>=◌
@@ -25,8 +38,8 @@ or_invalid (Some x) = Ok x
 abbrev pub extent_with : {N M : Type 0} → (N → M) → Extent N → Extent M
 extent_with f (Extent.Zero sectors) = Extent.Zero sectors
 extent_with f (Extent.NoAccess sectors) = Extent.NoAccess sectors
-extent_with f (Extent.Flat sectors name offset writable) = Extent.Flat sectors (f name) offset
-    writable
+extent_with f (Extent.Flat sectors name offset writable vmfs) = Extent.Flat sectors (f name) offset
+    writable vmfs
 
 abbrev pub line_with : {N M : Type 0} → (N → M) → Line N → Line M
 line_with f Line.Nothing = Line.Nothing
@@ -45,39 +58,49 @@ access_of word = if is_text word (codes "RW") then Some Access.ReadWrite else
     (if is_text word (codes "RDONLY") then Some Access.ReadOnly else
     (if is_text word (codes "NOACCESS") then Some Access.NoAccess else None))
 
--- the offset in sectors, from the words behind the file name
-abbrev pub offset_of : List (List ℕ) → Result ℕ Error
-offset_of [] = Ok 0
-offset_of (word ∷ words) = or_invalid (number_of 64 word)
+-- The offset in sectors, from the words behind the file name. A FLAT extent has one or none there,
+-- and a VMFS extent always begins where its file does: nothing may stand there.
+abbrev pub offset_of : Bool → List (List ℕ) → Result ℕ Error
+offset_of vmfs [] = Ok 0
+offset_of true (word ∷ words) = Err InvalidData
+offset_of false (word ∷ words) = or_invalid (number_of 64 word)
 
--- a FLAT extent: three words, a name in double quotes, and an offset or none; the name is trimmed
-unfoldable pub flat_of : Bool → ℕ → List ℕ → Result (Extent (List ℕ)) Error
-flat_of writable sectors text = do
+-- an extent that stands in a file, VMFS or FLAT: three words, a name in double quotes, and the
+-- offset; the name is trimmed
+unfoldable pub flat_of : Bool → Bool → ℕ → List ℕ → Result (Extent (List ℕ)) Error
+flat_of vmfs writable sectors text = do
   opening ← or_invalid (cut_at 34 text)
   closing ← or_invalid (cut_at 34 opening.1)
-  offset ← offset_of (words_of closing.1)
-  if length (words_of opening.0) == 3 then Ok (Extent.Flat sectors (trim closing.0) offset writable)
+  offset ← offset_of vmfs (words_of closing.1)
+  if length (words_of opening.0) == 3 then
+      Ok (Extent.Flat sectors (trim closing.0) offset writable vmfs)
       else Err InvalidData
 
--- an extent that may be read, by the words behind the sector count: the first is its type
-unfoldable pub typed_of : Bool → ℕ → List (List ℕ) → List ℕ → Result (Extent (List ℕ)) Error
-typed_of writable sectors [] text = Err InvalidData
-typed_of writable sectors (word ∷ words) text =
+-- an extent that may be read, by the words behind the sector count: the first is its type, and one
+-- that isn't accepted is as unsupported as one that isn't known
+unfoldable pub typed_of : Accepted → Bool → ℕ → List (List ℕ) → List ℕ
+    → Result (Extent (List ℕ)) Error
+typed_of accepted writable sectors [] text = Err InvalidData
+typed_of accepted writable sectors (word ∷ words) text =
     if is_text word (codes "ZERO") then Ok (Extent.Zero sectors) else
-    (if is_text word (codes "FLAT") then flat_of writable sectors text else Err Unsupported)
+    (if is_text word (codes "FLAT") then flat_of false writable sectors text else
+    (if is_text word (codes "VMFS") && accepted.vmfs then flat_of true writable sectors text else
+    Err Unsupported))
 
 -- an extent of that many sectors, by the words behind the sector count
-unfoldable pub sized_of : Access → ℕ → List (List ℕ) → List ℕ → Result (Extent (List ℕ)) Error
-sized_of Access.NoAccess sectors words text = Ok (Extent.NoAccess sectors)
-sized_of Access.ReadOnly sectors words text = typed_of false sectors words text
-sized_of Access.ReadWrite sectors words text = typed_of true sectors words text
+unfoldable pub sized_of : Accepted → Access → ℕ → List (List ℕ) → List ℕ
+    → Result (Extent (List ℕ)) Error
+sized_of accepted Access.NoAccess sectors words text = Ok (Extent.NoAccess sectors)
+sized_of accepted Access.ReadOnly sectors words text = typed_of accepted false sectors words text
+sized_of accepted Access.ReadWrite sectors words text = typed_of accepted true sectors words text
 
 -- an extent, by the words behind the first; the first word alone says nothing
-unfoldable pub extent_of : Access → List (List ℕ) → List ℕ → Result (Line (List ℕ)) Error
-extent_of first [] text = Ok Line.Nothing
-extent_of first (word ∷ words) text = do
+unfoldable pub extent_of : Accepted → Access → List (List ℕ) → List ℕ
+    → Result (Line (List ℕ)) Error
+extent_of accepted first [] text = Ok Line.Nothing
+extent_of accepted first (word ∷ words) text = do
   sectors ← or_invalid (number_of 64 word)
-  extent ← sized_of first sectors words text
+  extent ← sized_of accepted first sectors words text
   Ok (Line.Extent extent)
 
 -- the text's last byte has that value
@@ -97,36 +120,37 @@ abbrev pub is_geometry : List ℕ → Bool
 is_geometry key = (is_text key (codes "ddb.geometry.sectors")
     || is_text key (codes "ddb.geometry.heads")) || is_text key (codes "ddb.geometry.cylinders")
 
--- a key and its value; where `accept` holds, keys that aren't known say nothing
-unfoldable pub setting_of : Bool → List ℕ → List ℕ → Result (Line (List ℕ)) Error
-setting_of accept key value =
+-- a key and its value; where keys that aren't known are accepted, they say nothing
+unfoldable pub setting_of : Accepted → List ℕ → List ℕ → Result (Line (List ℕ)) Error
+setting_of accepted key value =
     if is_text key (codes "version") then
     (or_invalid (number_of 32 value) >>= λ n. Ok (Line.Version n)) else
     (if is_setting key then Ok Line.Setting else
     (if is_text key (codes "parentFileNameHint") then Err Unsupported else
     (if is_geometry key then (or_invalid (number_of 64 (unquoted value)) >>= λ n. Ok Line.Setting)
     else
-    (if accept || starts_with nat_eq key (codes "ddb.") then Ok Line.Nothing else Err
-    InvalidData))))
+    (if accepted.unknown_keys || starts_with nat_eq key (codes "ddb.") then Ok Line.Nothing else
+    Err InvalidData))))
 
 -- a line that is no extent, once it is cut at the first equals sign
-abbrev pub pair_of : Bool → Option (List ℕ × List ℕ) → Result (Line (List ℕ)) Error
-pair_of accept None = Ok Line.Nothing
-pair_of accept (Some p) = setting_of accept (trim p.0) (trim p.1)
+abbrev pub pair_of : Accepted → Option (List ℕ × List ℕ) → Result (Line (List ℕ)) Error
+pair_of accepted None = Ok Line.Nothing
+pair_of accepted (Some p) = setting_of accepted (trim p.0) (trim p.1)
 
 -- a line, by what its first word says, and the words behind that one
-abbrev pub worded_of : Bool → Option Access → List (List ℕ) → List ℕ → Result (Line (List ℕ)) Error
-worded_of accept None words text = pair_of accept (cut_at 61 text)
-worded_of accept (Some first) words text = extent_of first words text
+abbrev pub worded_of : Accepted → Option Access → List (List ℕ) → List ℕ
+    → Result (Line (List ℕ)) Error
+worded_of accepted None words text = pair_of accepted (cut_at 61 text)
+worded_of accepted (Some first) words text = extent_of accepted first words text
 
 -- a trimmed text, by its words; an empty one, and one that begins with a number sign, is skipped
-unfoldable pub text_of : Bool → List (List ℕ) → List ℕ → Result (Line (List ℕ)) Error
-text_of accept [] text = Ok Line.Nothing
-text_of accept (first ∷ words) text = if slice_index text 0 == 35 then Ok Line.Nothing else
-    worded_of accept (access_of first) words text
+unfoldable pub text_of : Accepted → List (List ℕ) → List ℕ → Result (Line (List ℕ)) Error
+text_of accepted [] text = Ok Line.Nothing
+text_of accepted (first ∷ words) text = if slice_index text 0 == 35 then Ok Line.Nothing else
+    worded_of accepted (access_of first) words text
 
--- the verdict of a line, which looks at no other one; `accept`: keys that aren't known are accepted
-unfoldable pub verdict_of : Bool → List ℕ → Result (Line (List ℕ)) Error
-verdict_of accept bytes = do
+-- the verdict of a line, which looks at no other one
+unfoldable pub verdict_of : Accepted → List ℕ → Result (Line (List ℕ)) Error
+verdict_of accepted bytes = do
   text ← or_invalid (utf8_of bytes)
-  text_of accept (words_of (trim text)) (trim text)
+  text_of accepted (words_of (trim text)) (trim text)

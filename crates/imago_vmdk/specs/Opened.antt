@@ -32,7 +32,7 @@ IsExtentOpened opened resolved direct (Extent.Zero sectors) before after own = (
     × (after ≡ before)
 IsExtentOpened opened resolved direct (Extent.NoAccess sectors) before after own = (own ≡ [])
     × (after ≡ before)
-IsExtentOpened opened resolved direct (Extent.Flat sectors name offset writable) before after
+IsExtentOpened opened resolved direct (Extent.Flat sectors name offset writable vmfs) before after
     own = (offset * 512 < 2 ^ 64) × IsStorageOpened opened resolved direct name before after own
 
 -- Extents are opened in order, each by the gate that the one before left, and their storages stand
@@ -71,7 +71,8 @@ abbrev pub IsExtentRefused : {N Gate S : Type 0} → Opening Gate S → Resoluti
     → Extent N → Gate → Gate → Error → Type 0
 IsExtentRefused opened resolved direct f (Extent.Zero sectors) before after e = ⊥
 IsExtentRefused opened resolved direct f (Extent.NoAccess sectors) before after e = ⊥
-IsExtentRefused opened resolved direct f (Extent.Flat sectors name offset writable) before after e =
+IsExtentRefused opened resolved direct f (Extent.Flat sectors name offset writable vmfs) before
+    after e =
     ((2 ^ 64 ≤ offset * 512) × (after ≡ before) × (e ≡ E.InvalidData))
     ⊎ ((offset * 512 < 2 ^ 64) × IsStorageRefused opened resolved direct f name before after e)
 

@@ -7,6 +7,7 @@ use Rattle.imago_storage.specs.declared.error.Error.{Error}
 use Rattle.imago_storage.specs.declared.error.Error.TheVariants.{InvalidData, Unsupported, Memory}
 use Rattle.imago_vmdk.specs.Text.{lines_of, is_text}
 use Rattle.imago_vmdk.specs.Line.{◌>>=◌, verdict_of, Gives}
+use Rattle.imago_vmdk.specs.declared.line.Accepted.{Accepted}
 use Rattle.imago_vmdk.specs.declared.line.Extent.{Extent}
 use Rattle.imago_vmdk.specs.declared.line.Line.{Line}
 
@@ -19,8 +20,8 @@ all_ok (verdict ∷ verdicts) = do
   Ok (line ∷ lines)
 
 -- what the lines of a descriptor say, each by itself
-abbrev pub lines_say : Bool → List (List ℕ) → Result (List (Line (List ℕ))) Error
-lines_say accept lines = all_ok (map (verdict_of accept) lines)
+abbrev pub lines_say : Accepted → List (List ℕ) → Result (List (Line (List ℕ))) Error
+lines_say accepted lines = all_ok (map (verdict_of accepted) lines)
 
 -- the last version, or that one where there is none
 abbrev pub last_version : ℕ → List (Line (List ℕ)) → ℕ
@@ -41,7 +42,7 @@ extents_in (Line.Setting ∷ lines) = extents_in lines
 abbrev pub sectors_of : {N : Type 0} → Extent N → ℕ
 sectors_of (Extent.Zero sectors) = sectors
 sectors_of (Extent.NoAccess sectors) = sectors
-sectors_of (Extent.Flat sectors name offset writable) = sectors
+sectors_of (Extent.Flat sectors name offset writable vmfs) = sectors
 
 abbrev pub size_of : {N : Type 0} → Extent N → ℕ
 size_of extent = sectors_of extent * 512
@@ -68,8 +69,8 @@ disk_in lines = if is_version (last_version 0 lines) then disk_of (extents_in li
 abbrev pub found_in : List (Line (List ℕ)) → ℕ × Option ℕ
 found_in lines = (last_version 0 lines, fitting (sum_by size_of (extents_in lines)))
 
-abbrev pub survey_of : Bool → List (List ℕ) → Result (ℕ × Option ℕ) Error
-survey_of accept lines = lines_say accept lines >>= λ ls. Ok (found_in ls)
+abbrev pub survey_of : Accepted → List (List ℕ) → Result (ℕ × Option ℕ) Error
+survey_of accepted lines = lines_say accepted lines >>= λ ls. Ok (found_in ls)
 
 -- what one line adds: its version counts from then on, and its extent comes behind those before
 abbrev pub version_with : {N : Type 0} → ℕ → Line N → ℕ
@@ -103,8 +104,8 @@ GivesSize version size result = (r : Result (List (Line (List ℕ))) Error)
     → (r >>= λ ls. Ok (found_in ls)) ≡ Ok (version, size)
     → Gives (λ n. n) result ((r >>= disk_in) >>= λ disk. Ok disk.1)
 
-abbrev pub extents_of : Bool → List (List ℕ) → Result (List (Extent (List ℕ))) Error
-extents_of accept lines = lines_say accept lines >>= λ ls. Ok (extents_in ls)
+abbrev pub extents_of : Accepted → List (List ℕ) → Result (List (Extent (List ℕ))) Error
+extents_of accepted lines = lines_say accepted lines >>= λ ls. Ok (extents_in ls)
 
 -- a descriptor may be that long, in bytes: from 4 bytes to 2 MiB
 abbrev pub is_length : ℕ → Bool
@@ -115,10 +116,10 @@ abbrev pub is_sparse : List ℕ → Bool
 is_sparse bytes = is_text (take 4 bytes) (codes "KDMV")
 
 -- what a descriptor's bytes say: the extents, and the size of the disk in bytes
-unfoldable pub reading_of : Bool → List ℕ → Result (List (Extent (List ℕ)) × ℕ) Error
-reading_of accept bytes =
+unfoldable pub reading_of : Accepted → List ℕ → Result (List (Extent (List ℕ)) × ℕ) Error
+reading_of accepted bytes =
     if is_length (length bytes) then
-    (if is_sparse bytes then Err Unsupported else (lines_say accept (lines_of bytes) >>= disk_in))
+    (if is_sparse bytes then Err Unsupported else (lines_say accepted (lines_of bytes) >>= disk_in))
     else Err InvalidData
 
 -- A text that was read from a storage with these bytes: it is as long as they are, and where the
@@ -128,16 +129,18 @@ pub record IsTextOf (tells : Bool) (stored text : List ℕ) : Type 0 where
   pub told : IsTrue tells → text ≡ stored
 
 -- the reading of a descriptor's text that was read from a storage with these bytes
-abbrev pub IsReadingOf : Bool → Bool → List ℕ → Result (List (Extent (List ℕ)) × ℕ) Error → Type 0
-IsReadingOf accept tells stored reading = (text : List ℕ) × IsTextOf tells stored text
-    × (reading_of accept text ≡ reading)
+abbrev pub IsReadingOf : Accepted → Bool → List ℕ → Result (List (Extent (List ℕ)) × ℕ) Error
+    → Type 0
+IsReadingOf accepted tells stored reading = (text : List ℕ) × IsTextOf tells stored text
+    × (reading_of accepted text ≡ reading)
 
 -- where the storage tells its bytes, it is the reading of these
-pub told_reading : (accept tells : Bool) (stored : List ℕ)
-    (reading : Result (List (Extent (List ℕ)) × ℕ) Error) → IsReadingOf accept tells stored reading
-    → IsTrue tells → reading_of accept stored ≡ reading
-told_reading accept tells stored reading (text, read, says) told =
-    ap (reading_of accept) (sym (read.told told)) ∙ says
+pub told_reading : (accepted : Accepted) (tells : Bool) (stored : List ℕ)
+    (reading : Result (List (Extent (List ℕ)) × ℕ) Error)
+    → IsReadingOf accepted tells stored reading → IsTrue tells
+    → reading_of accepted stored ≡ reading
+told_reading accepted tells stored reading (text, read, says) told =
+    ap (reading_of accepted) (sym (read.told told)) ∙ says
 
 -- What a function that takes memory answers, seen so, is what the definition gives, or want of
 -- memory where that is no refusal.

@@ -29,14 +29,14 @@ flat_place bytes index writable at = if nat_lt at (2 ^ 64 - 1) then Stored
 abbrev pub extent_place : {N : Type 0} → (ℕ → List ℕ) → ℕ → Extent N → ℕ → Place
 extent_place bytes index (Extent.Zero sectors) i = Zeroed true
 extent_place bytes index (Extent.NoAccess sectors) i = Refused Error.NoAccess
-extent_place bytes index (Extent.Flat sectors name offset writable) i = flat_place bytes index
+extent_place bytes index (Extent.Flat sectors name offset writable vmfs) i = flat_place bytes index
     writable (offset * 512 + i)
 
 -- how many storages an extent stands in
 abbrev pub storages_of : {N : Type 0} → Extent N → ℕ
 storages_of (Extent.Zero sectors) = 0
 storages_of (Extent.NoAccess sectors) = 0
-storages_of (Extent.Flat sectors name offset writable) = 1
+storages_of (Extent.Flat sectors name offset writable vmfs) = 1
 
 -- how many storages extents stand in
 abbrev pub storages_in : {N : Type 0} → List (Extent N) → ℕ
@@ -60,7 +60,7 @@ vmdk_place bytes true extents p = places_from bytes 1 extents p
 abbrev pub extent_rest : {N : Type 0} → Extent N → ℕ → ℕ
 extent_rest (Extent.Zero sectors) i = sectors * 512 - i
 extent_rest (Extent.NoAccess sectors) i = 0
-extent_rest (Extent.Flat sectors name offset writable) i = min (sectors * 512 - i)
+extent_rest (Extent.Flat sectors name offset writable vmfs) i = min (sectors * 512 - i)
     (2 ^ 64 - 1 - (offset * 512 + i))
 
 abbrev pub rest_from : {N : Type 0} → List (Extent N) → ℕ → ℕ

@@ -99,11 +99,11 @@ module _ {N : Type 0} (bytes : ℕ → List ℕ) where
   extent_has index (Extent.Zero sectors) i = zero_has index (Extent.Zero sectors) i
   extent_has index (Extent.NoAccess sectors) i = refused_has index (Extent.NoAccess sectors) i
       Error.NoAccess (inr refl)
-  extent_has index (Extent.Flat sectors name offset writable) i = ⊎_elim
-      (λ h. rw h (stored_has index (Extent.Flat sectors name offset writable) i (offset * 512 + i)
-      writable refl))
-      (λ h. rw h (refused_has index (Extent.Flat sectors name offset writable) i Error.InvalidData
-      (inl refl)))
+  extent_has index (Extent.Flat sectors name offset writable vmfs) i = ⊎_elim
+      (λ h. rw h (stored_has index (Extent.Flat sectors name offset writable vmfs) i
+      (offset * 512 + i) writable refl))
+      (λ h. rw h (refused_has index (Extent.Flat sectors name offset writable vmfs) i
+      Error.InvalidData (inl refl)))
       (flat_is bytes index (offset * 512 + i) writable)
 
   extent_own : (index : ℕ) (e : Extent N) (p q b c s o : ℕ) (v w : Bool)
@@ -111,7 +111,7 @@ module _ {N : Type 0} (bytes : ℕ → List ℕ) where
       ≡ Stored c s o w → p ≡ q
   extent_own index (Extent.Zero sectors) p q b c s o v w h k = let z : ⊥ = cc in absurd z
   extent_own index (Extent.NoAccess sectors) p q b c s o v w h k = let z : ⊥ = cc in absurd z
-  extent_own index (Extent.Flat sectors name offset writable) p q b c s o v w h k = omega (
+  extent_own index (Extent.Flat sectors name offset writable vmfs) p q b c s o v w h k = omega (
     arith,
     flat_own bytes index (offset * 512 + p) (offset * 512 + q) b c s o writable v writable
         w h k,

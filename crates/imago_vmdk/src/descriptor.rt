@@ -12,7 +12,9 @@ ghost use Rattle.imago_vmdk.specs.Reading.{is_length as may_be_long, fitting, re
 ghost use Rattle.imago_vmdk.specs.Reading.{GivesOrMemory};
 ghost use Rattle.imago_vmdk.specs.Probe.{line_decides, names_version, probe_lines, probe_of};
 
-use crate::line::{Extent, Line, SECTOR_SIZE, cut_at_equals, utf8, verdict, version_number};
+use crate::line::{
+    Accepted, Extent, Line, SECTOR_SIZE, cut_at_equals, utf8, verdict, version_number,
+};
 use imago_storage::error::Error;
 use memchr::memchr;
 use std::alloc::Global;
@@ -76,6 +78,7 @@ fn owned(alloc: Global, extent: Extent<&str>) -> Result<Extent<String>, Error>
             name,
             offset,
             writable,
+            vmfs,
         } => {
             let name = String::from_str(alloc, name)?;
             Ok(Extent::Flat {
@@ -83,6 +86,7 @@ fn owned(alloc: Global, extent: Extent<&str>) -> Result<Extent<String>, Error>
                 name,
                 offset,
                 writable,
+                vmfs,
             })
         }
     }
@@ -173,11 +177,12 @@ fn cut_line(text: &[u8]) -> (&[u8], Option<&[u8]>)
 
 /// Reads all lines. Where memory is refused, only the faults, the version and the size are looked
 /// for from there on.
-fn survey_lines(alloc: Global, accept: bool, text: &[u8]) -> Result<Survey, Error>
-    ensures found { Gives (λ s. (s.version, s.size)) result (survey_of accept (lines_of text.now)) }
+fn survey_lines(alloc: Global, accepted: Accepted, text: &[u8]) -> Result<Survey, Error>
+    ensures found { Gives (λ s. (s.version, s.size)) result
+        (survey_of accepted (lines_of text.now)) }
     ensures extents { IfOk result
         (λ s. MatchOption s.extents (Unit {0})
-        (λ v. extents_of accept (lines_of text.now)
+        (λ v. extents_of accepted (lines_of text.now)
         ≡ Ok (map (extent_with string_bytes) v.items))) }
 {
     let mut survey = Survey {
@@ -188,7 +193,7 @@ fn survey_lines(alloc: Global, accept: bool, text: &[u8]) -> Result<Survey, Erro
     let mut left = Some(text);
     while let Some(text) = left {
         let (line, rest) = cut_line(text);
-        let said = verdict(accept, line)?;
+        let said = verdict(accepted, line)?;
         survey = survey.with(alloc, said);
         left = rest;
     }
@@ -205,19 +210,17 @@ fn disk_size(version: u32, size: Option<u64>) -> Result<u64, Error>
     size.ok_or(Error::InvalidData)
 }
 
-/// What a descriptor says, whose bytes these are. Keys that aren't known are
-/// [`Error::InvalidData`], or say nothing where
-/// `accept_unknown_keys` holds.
+/// What a descriptor says, whose bytes these are. `accepted` allows more lines than those that are
+/// accepted anyway.
 ///
 /// [`Error::InvalidData`] is a length under 4 bytes or over 2 MiB. Then [`Error::Unsupported`] is
 /// another kind of VMDK file, then the first line that can't be meant or isn't offered is answered,
 /// then as unsupported a version that isn't known, and then as invalid a disk whose size in bytes
 /// doesn't fit. [`Error::Memory`] is answered only where none of these is.
 #[tactic(auto, unfolding(crate::specs::Reading::reading_of))]
-pub fn read(alloc: Global, accept_unknown_keys: bool, text: &[u8]) -> Result<Descriptor, Error>
+pub fn read(alloc: Global, accepted: Accepted, text: &[u8]) -> Result<Descriptor, Error>
     ensures reading { GivesOrMemory (λ d. (map (extent_with string_bytes) d.extents.items, d.size))
-        result
-        (reading_of accept_unknown_keys text.now) }
+        result (reading_of accepted text.now) }
     ensures size { IfOk result (λ d. (d.size ≡ sum_by size_of d.extents.items)
         × (d.size < 2 ^ 64)) }
 {
@@ -231,7 +234,7 @@ pub fn read(alloc: Global, accept_unknown_keys: bool, text: &[u8]) -> Result<Des
         version,
         size,
         extents,
-    } = survey_lines(alloc, accept_unknown_keys, text)?;
+    } = survey_lines(alloc, accepted, text)?;
     let size = disk_size(version, size)?;
     let extents = extents.ok_or(Error::Memory)?;
     Ok(Descriptor { extents, size })

@@ -14,6 +14,31 @@ use std::str::SplitWhitespace;
 /// How many bytes a sector has.
 pub(crate) const SECTOR_SIZE: u64 = 512;
 
+/// What a descriptor may contain besides the lines that every reading of one accepts.
+#[derive(Clone, Copy, Debug, PartialEq, Eq)]
+pub struct Accepted {
+    /// Lines with a key that isn't known. They are ignored if they are accepted, and
+    /// [`Error::InvalidData`] otherwise.
+    pub unknown_keys: bool,
+    /// Extents of type VMFS, as ESX writes them. They are read as FLAT extents that begin at the
+    /// first byte of their file if they are accepted, and are [`Error::Unsupported`] otherwise.
+    pub vmfs: bool,
+}
+
+impl Accepted {
+    /// None of these.
+    pub const NOTHING: Accepted = Accepted {
+        unknown_keys: false,
+        vmfs: false,
+    };
+
+    /// All of these.
+    pub const EVERYTHING: Accepted = Accepted {
+        unknown_keys: true,
+        vmfs: true,
+    };
+}
+
 /// What may be done with an extent, by the word that it begins with.
 #[derive(Clone, Copy, Debug, PartialEq, Eq)]
 pub(crate) enum Access {
@@ -48,6 +73,8 @@ pub enum Extent<N> {
         offset: u64,
         /// Whether a mapping says that they may be written there.
         writable: bool,
+        /// Whether the extent's type is VMFS, and not FLAT.
+        vmfs: bool,
     },
 }
 
@@ -147,25 +174,27 @@ fn is_three_words(text: &str) -> bool
     text.split_whitespace().count() == 3
 }
 
-/// The offset behind a file name, in sectors: the first word, or 0.
-fn flat_offset(text: &str) -> Result<u64, Error>
-    ensures { Gives (λ x. x) result (offset_of (words_of text.now)) }
+/// The offset behind a file name, in sectors: the first word, or 0. Behind that of a VMFS extent
+/// nothing may stand.
+fn flat_offset(vmfs: bool, text: &str) -> Result<u64, Error>
+    ensures { Gives (λ x. x) result (offset_of vmfs (words_of text.now)) }
 {
     let mut words = text.split_whitespace();
     match next_word(&mut words) {
         None => Ok(0),
+        Some(_) if vmfs => Err(Error::InvalidData),
         Some(word) => number(word).ok_or(Error::InvalidData),
     }
 }
 
-/// The FLAT extent that a whole line is.
+/// The FLAT or VMFS extent that a whole line is.
 #[tactic(auto, unfolding(crate::specs::Line::flat_of))]
-fn flat_extent(writable: bool, sectors: u64, text: &str) -> Result<Extent<&str>, Error>
-    ensures { Gives (extent_with (λ s. s.now)) result (flat_of writable sectors text.now) }
+fn flat_extent(vmfs: bool, writable: bool, sectors: u64, text: &str) -> Result<Extent<&str>, Error>
+    ensures { Gives (extent_with (λ s. s.now)) result (flat_of vmfs writable sectors text.now) }
 {
     let (before, rest) = cut_at_quote(text).ok_or(Error::InvalidData)?;
     let (name, after) = cut_at_quote(rest).ok_or(Error::InvalidData)?;
-    let offset = flat_offset(after)?;
+    let offset = flat_offset(vmfs, after)?;
     if !is_three_words(before) {
         return Err(Error::InvalidData);
     }
@@ -175,12 +204,14 @@ fn flat_extent(writable: bool, sectors: u64, text: &str) -> Result<Extent<&str>,
         name,
         offset,
         writable,
+        vmfs,
     })
 }
 
 /// The extent that a line is, by its type, which is the next word.
 #[tactic(auto, unfolding(crate::specs::Line::typed_of))]
 fn typed_extent<'a>(
+    accepted: Accepted,
     writable: bool,
     sectors: u64,
     words: &mut SplitWhitespace<'_>,
@@ -188,11 +219,13 @@ fn typed_extent<'a>(
 ) -> Result<Extent<&'a str>, Error>
     requires { IsUtf8 (split_whitespace_rest words.old) }
     ensures { Gives (extent_with (λ s. s.now)) result
-        (typed_of writable sectors (words_of (split_whitespace_rest words.old)) text.now) }
+        (typed_of accepted writable sectors (words_of (split_whitespace_rest words.old))
+        text.now) }
 {
     match next_word(words) {
         Some("ZERO") => Ok(Extent::Zero { sectors }),
-        Some("FLAT") => flat_extent(writable, sectors, text),
+        Some("FLAT") => flat_extent(false, writable, sectors, text),
+        Some("VMFS") if accepted.vmfs => flat_extent(true, writable, sectors, text),
         Some(_) => Err(Error::Unsupported),
         None => Err(Error::InvalidData),
     }
@@ -201,13 +234,14 @@ fn typed_extent<'a>(
 /// What a line says that begins with such a word: an extent, unless nothing follows.
 #[tactic(auto, unfolding(crate::specs::Line::sized_of, crate::specs::Line::extent_of))]
 fn extent_line<'a>(
+    accepted: Accepted,
     access: Access,
     words: &mut SplitWhitespace<'_>,
     text: &'a str,
 ) -> Result<Line<&'a str>, Error>
     requires { IsUtf8 (split_whitespace_rest words.old) }
     ensures { Gives (line_with (λ s. s.now)) result
-        (extent_of access (words_of (split_whitespace_rest words.old)) text.now) }
+        (extent_of accepted access (words_of (split_whitespace_rest words.old)) text.now) }
 {
     let Some(sectors) = next_word(words) else {
         return Ok(Line::Nothing);
@@ -215,16 +249,16 @@ fn extent_line<'a>(
     let sectors = number(sectors).ok_or(Error::InvalidData)?;
     let extent = match access {
         Access::NoAccess => Extent::NoAccess { sectors },
-        Access::ReadOnly => typed_extent(false, sectors, words, text)?,
-        Access::ReadWrite => typed_extent(true, sectors, words, text)?,
+        Access::ReadOnly => typed_extent(accepted, false, sectors, words, text)?,
+        Access::ReadWrite => typed_extent(accepted, true, sectors, words, text)?,
     };
     Ok(Line::Extent(extent))
 }
 
 /// What a key and its value say.
 #[tactic(auto, unfolding(crate::specs::Line::setting_of))]
-fn setting<'a>(accept: bool, key: &str, value: &str) -> Result<Line<&'a str>, Error>
-    ensures { Gives (line_with (λ s. s.now)) result (setting_of accept key.now value.now) }
+fn setting<'a>(accepted: Accepted, key: &str, value: &str) -> Result<Line<&'a str>, Error>
+    ensures { Gives (line_with (λ s. s.now)) result (setting_of accepted key.now value.now) }
 {
     match key {
         "version" => {
@@ -237,25 +271,26 @@ fn setting<'a>(accept: bool, key: &str, value: &str) -> Result<Line<&'a str>, Er
             number(inside_quotes(value)).ok_or(Error::InvalidData)?;
             Ok(Line::Setting)
         }
-        _ if accept || key.starts_with("ddb.") => Ok(Line::Nothing),
+        _ if accepted.unknown_keys || key.starts_with("ddb.") => Ok(Line::Nothing),
         _ => Err(Error::InvalidData),
     }
 }
 
 /// What a line says that is no extent.
-fn pair(accept: bool, text: &str) -> Result<Line<&str>, Error>
-    ensures { Gives (line_with (λ s. s.now)) result (pair_of accept (cut_at 61 text.now)) }
+fn pair(accepted: Accepted, text: &str) -> Result<Line<&str>, Error>
+    ensures { Gives (line_with (λ s. s.now)) result (pair_of accepted (cut_at 61 text.now)) }
 {
     match cut_at_equals(text) {
         None => Ok(Line::Nothing),
-        Some((key, value)) => setting(accept, key.trim(), value.trim()),
+        Some((key, value)) => setting(accepted, key.trim(), value.trim()),
     }
 }
 
 /// What a trimmed line says.
 #[tactic(auto, unfolding(crate::specs::Line::text_of))]
-fn trimmed(accept: bool, text: &str) -> Result<Line<&str>, Error>
-    ensures { Gives (line_with (λ s. s.now)) result (text_of accept (words_of text.now) text.now) }
+fn trimmed(accepted: Accepted, text: &str) -> Result<Line<&str>, Error>
+    ensures { Gives (line_with (λ s. s.now)) result
+        (text_of accepted (words_of text.now) text.now) }
 {
     if text.starts_with('#') {
         return Ok(Line::Nothing);
@@ -265,8 +300,8 @@ fn trimmed(accept: bool, text: &str) -> Result<Line<&str>, Error>
         return Ok(Line::Nothing);
     };
     match access_of(first) {
-        None => pair(accept, text),
-        Some(access) => extent_line(access, &mut words, text),
+        None => pair(accepted, text),
+        Some(access) => extent_line(accepted, access, &mut words, text),
     }
 }
 
@@ -277,19 +312,18 @@ pub(crate) fn utf8(bytes: &[u8]) -> Option<&str>
     str::from_utf8(bytes).ok()
 }
 
-/// What a line of a descriptor says, by itself. Keys that aren't known are [`Error::InvalidData`],
-/// or say nothing where
-/// `accept_unknown_keys` holds.
+/// What a line of a descriptor says, by itself. `accepted` allows more lines than those that are
+/// accepted anyway.
 ///
 /// [`Error::InvalidData`] is a line that can't be meant, and [`Error::Unsupported`] an extent of
 /// another type, or an image that stands over another one.
 #[tactic(auto, unfolding(crate::specs::Line::verdict_of))]
-pub fn verdict(accept_unknown_keys: bool, line: &[u8]) -> Result<Line<&str>, Error>
-    ensures { Gives (line_with (λ s. s.now)) result (verdict_of accept_unknown_keys line.now) }
+pub fn verdict(accepted: Accepted, line: &[u8]) -> Result<Line<&str>, Error>
+    ensures { Gives (line_with (λ s. s.now)) result (verdict_of accepted line.now) }
 {
     if line.is_empty() {
         return Ok(Line::Nothing);
     }
     let text = utf8(line).ok_or(Error::InvalidData)?;
-    trimmed(accept_unknown_keys, text.trim())
+    trimmed(accepted, text.trim())
 }

@@ -13,7 +13,7 @@ ghost use Rattle.imago_drivers.specs.Mapping.{Names};
 ghost use Rattle.imago_drivers.specs.Place.{Refused};
 ghost use Rattle.imago_drivers.specs.Reasons.{allowed};
 ghost use Rattle.imago_drivers.specs.Commit.{IsCommit, IsCancel};
-ghost use Rattle.imago_vmdk.specs.Line.{extent_with};
+ghost use Rattle.imago_vmdk.specs.Line.{extent_with, nothing_accepted};
 ghost use Rattle.imago_vmdk.specs.Reading.{size_of as extent_size, is_length as may_be_long};
 ghost use Rattle.imago_vmdk.specs.Reading.{reading_of, IsTextOf, IsReadingOf};
 ghost use Rattle.imago_vmdk.specs.Probe.{probe_of};
@@ -26,7 +26,7 @@ ghost use Rattle.imago_vmdk.specs.VmdkCalls.{vmdk_calls};
 ghost use Rattle.imago_vmdk.specs.VmdkLaws.{vmdk_lawful, vmdk_causes};
 
 use crate::descriptor::{self, Descriptor, is_length};
-use crate::line::{Extent, SECTOR_SIZE};
+use crate::line::{Accepted, Extent, SECTOR_SIZE};
 pub use crate::vmdk_builder::VmdkOpenBuilder;
 use imago_drivers::drivers::{
     Format, FormatDriverInstance, PreallocateMode, PreparedDataMapping, ShallowMapping,
@@ -65,10 +65,10 @@ pub struct Vmdk<S: Storage> {
     storages: Vec<S>,
     /// Whether these are opened as direct.
     direct: bool,
-    /// Whether keys of the descriptor that aren't known are accepted.
-    accepts_unknown_keys: bool,
+    /// What the descriptor was allowed to contain.
+    accepted: Accepted,
     ghost read: { IsTrue (S.features descriptor).tells_bytes
-        → reading_of accepts_unknown_keys (S.bytes descriptor)
+        → reading_of accepted (S.bytes descriptor)
         ≡ Ok (map (extent_with string_bytes) extents.items, size) },
     ghost sized: { size ≡ sum_by extent_size extents.items },
     ghost fits: { size < 2 ^ 64 },
@@ -308,34 +308,35 @@ fn open_extents<S: Storage, G: ImplicitOpenGate<S>>(
 
 impl<S: Storage> Vmdk<S> {
     ghost use Rattle.imago_vmdk.specs.Image.{descriptor_in, extents_in, is_opened};
-    ghost use Rattle.imago_vmdk.specs.Image.{storages_of_extents, opens_direct, takes_unknown_keys};
+    ghost use Rattle.imago_vmdk.specs.Image.{storages_of_extents, opens_direct, accepted_in};
     ghost use Rattle.imago_vmdk.specs.VmdkBuilder.{IsVmdkImage};
 
     /// Opens the image whose descriptor the storage has. The extents aren't opened yet: until then
     /// the disk has its size, and no place.
     ///
     /// [`Error::Unsupported`] is an image that is to be written, before anything else. What the
-    /// descriptor is refused for is told by [`descriptor::read`]; keys that aren't known are
-    /// refused. [`Error::Device`], [`Error::Memory`] and [`Error::WrapAround`] are passed on from
+    /// descriptor is refused for is told by [`descriptor::read`], with [`Accepted::NOTHING`].
+    /// [`Error::Device`], [`Error::Memory`] and [`Error::WrapAround`] are passed on from
     /// the storage. [`Error::Memory`] is also no room for the text, or, where the text has no
     /// fault, for its extents.
     pub fn open_image(alloc: Global, storage: S, writable: bool) -> Result<Self, Error>
         ensures read_only { writable ≡ true → result ≡ Err Error.Unsupported }
         ensures opened { IfOk result
             (λ v. (descriptor_in v ≡ «storage») × (is_opened v ≡ false) × (opens_direct v ≡ false)
-            × (takes_unknown_keys v ≡ false) ×
-            IsReadingOf false (S.features storage).tells_bytes (S.bytes storage)
+            × (accepted_in v ≡ nothing_accepted) ×
+            IsReadingOf nothing_accepted (S.features storage).tells_bytes (S.bytes storage)
             (Ok (extents_in v, sum_by extent_size (extents_in v)))) }
         ensures refused { writable ≡ false
             → IfErr result
-            (λ e. IsReadingOf false (S.features storage).tells_bytes (S.bytes storage) (Err e)
+            (λ e. IsReadingOf nothing_accepted (S.features storage).tells_bytes (S.bytes storage)
+            (Err e)
             ⊎ allowed (text_reasons (S.features storage) (length (S.bytes storage))) e) }
         ensures device { IsErrOf result Error.Device → (S.features storage).is_reliable ≡ false }
     {
         if writable {
             return Err(Error::Unsupported);
         }
-        Vmdk::open_read_only(alloc, storage, false, false)
+        Vmdk::open_read_only(alloc, storage, false, Accepted::NOTHING)
     }
 
     /// Opens the extents: each by the gate, in order, under its name as the descriptor's storage
@@ -353,7 +354,7 @@ impl<S: Storage> Vmdk<S> {
         ensures descriptor { descriptor_in self.new ≡ descriptor_in self.old }
         ensures extents { extents_in self.new ≡ extents_in self.old }
         ensures settings { (opens_direct self.new ≡ opens_direct self.old)
-            × (takes_unknown_keys self.new ≡ takes_unknown_keys self.old) }
+            × (accepted_in self.new ≡ accepted_in self.old) }
         ensures again { is_opened self.old ≡ true → IsOk result × (self.new ≡ self.old)
             × (gate.new ≡ gate.old) }
         ensures storages { is_opened self.old ≡ false
@@ -393,38 +394,38 @@ impl<S: Storage> Vmdk<S> {
         open_extents(alloc, &self.descriptor, &self.extents, self.direct, gate)
     }
 
-    /// Opens the image with its extents, whose storages are opened as direct or not. Keys that
-    /// aren't known are accepted or not.
+    /// Opens the image with its extents, whose storages are opened as direct or not. The
+    /// descriptor may contain what is accepted.
     pub(crate) fn open_with_extents<G: ImplicitOpenGate<S>>(
         alloc: Global,
         descriptor: S,
         direct: bool,
-        accept_unknown_keys: bool,
+        accepted: Accepted,
         gate: &mut G,
     ) -> Result<Self, Error>
         ensures { IsVmdkImage S.bytes S.features S.openings.resolved G.opened direct
-            accept_unknown_keys gate.old gate.new descriptor result }
+            accepted gate.old gate.new descriptor result }
     {
-        let mut image = Vmdk::open_read_only(alloc, descriptor, direct, accept_unknown_keys)?;
+        let mut image = Vmdk::open_read_only(alloc, descriptor, direct, accepted)?;
         image.open_implicit_dependencies_gated(alloc, gate)?;
         Ok(image)
     }
 
-    /// Opens the image, whose keys that aren't known are accepted or not.
+    /// Opens the image, whose descriptor may contain what is accepted.
     #[tactic(auto, unfolding(crate::specs::Reading::reading_of))]
     pub(crate) fn open_read_only(
         alloc: Global,
         descriptor: S,
         direct: bool,
-        accepts_unknown_keys: bool,
+        accepted: Accepted,
     ) -> Result<Self, Error>
         ensures opened { IfOk result
             (λ v. (descriptor_in v ≡ «descriptor») × (is_opened v ≡ false)
-            × (opens_direct v ≡ direct) × (takes_unknown_keys v ≡ accepts_unknown_keys) ×
-            IsReadingOf accepts_unknown_keys (S.features descriptor).tells_bytes
+            × (opens_direct v ≡ direct) × (accepted_in v ≡ accepted) ×
+            IsReadingOf accepted (S.features descriptor).tells_bytes
             (S.bytes descriptor) (Ok (extents_in v, sum_by extent_size (extents_in v)))) }
         ensures refused { IfErr result
-            (λ e. IsReadingOf accepts_unknown_keys (S.features descriptor).tells_bytes
+            (λ e. IsReadingOf accepted (S.features descriptor).tells_bytes
             (S.bytes descriptor) (Err e)
             ⊎ allowed (text_reasons (S.features descriptor) (length (S.bytes descriptor))) e) }
         ensures device { IsErrOf result Error.Device → (S.features descriptor).is_reliable ≡ false }
@@ -432,7 +433,7 @@ impl<S: Storage> Vmdk<S> {
         let Some(text) = descriptor_text(alloc, &descriptor)? else {
             return Err(Error::InvalidData);
         };
-        let Descriptor { extents, size } = descriptor::read(alloc, accepts_unknown_keys, &text)?;
+        let Descriptor { extents, size } = descriptor::read(alloc, accepted, &text)?;
         let starts = starts_of(alloc, &extents)?;
         Ok(Vmdk {
             descriptor,
@@ -442,7 +443,7 @@ impl<S: Storage> Vmdk<S> {
             opened: false,
             storages: Vec::new(alloc),
             direct,
-            accepts_unknown_keys,
+            accepted,
         })
     }
 }

@@ -1,12 +1,14 @@
 //! The builder of VMDK images.
-ghost use Rattle.std.specs.Prelude.{◌≡◌, true, false, Some, IfOk};
+ghost use Rattle.std.specs.Prelude.{◌≡◌, false, Some, IfOk};
 ghost use Rattle.std.specs.String.{string_bytes};
 ghost use Rattle.imago_storage.specs.Options.{open_options};
 ghost use Rattle.imago_drivers.specs.declared.format.Format.TheVariants as ImageFormat;
 ghost use Rattle.imago_drivers.specs.Builder.{HandedIn, AtPath, unset, storage_options, IsImageOf};
 ghost use Rattle.imago_drivers.specs.BuilderBase.{open_settings};
+ghost use Rattle.imago_vmdk.specs.Line.{nothing_accepted};
 ghost use Rattle.imago_vmdk.specs.VmdkBuilder.{IsVmdkOpening, IsVmdkOpeningBy};
 
+use crate::line::Accepted;
 use crate::vmdk::Vmdk;
 use imago_drivers::builder::{FormatDriverBuilder, FormatDriverBuilderBase};
 use imago_drivers::drivers::{Format, FormatDriverInstance};
@@ -22,46 +24,58 @@ use std::alloc::Global;
 #[derive(Drop)]
 pub struct VmdkOpenBuilder<S> {
     base: FormatDriverBuilderBase<S>,
-    /// Whether keys of the descriptor that aren't known are accepted.
-    accepts_unknown_keys: bool,
+    /// What the descriptor may contain.
+    accepted: Accepted,
 }
 
 impl<S: Storage> Vmdk<S> {
-    ghost use Rattle.imago_vmdk.specs.VmdkBuilderParts.{vmdk_settings, accepts_unknown_keys};
+    ghost use Rattle.imago_vmdk.specs.VmdkBuilderParts.{vmdk_settings, accepted_by};
 
     /// Prepares the opening of the image whose descriptor the storage has.
     pub fn builder(image: S) -> VmdkOpenBuilder<S>
         ensures settings { vmdk_settings result ≡ unset (HandedIn image) }
-        ensures keys { accepts_unknown_keys result ≡ false }
+        ensures accepted { accepted_by result ≡ nothing_accepted }
     {
         VmdkOpenBuilder {
             base: FormatDriverBuilderBase::new(image),
-            accepts_unknown_keys: false,
+            accepted: Accepted::NOTHING,
         }
     }
 
     /// Prepares the opening of the image whose descriptor stands in the storage of that path.
     pub fn builder_path(path: String) -> VmdkOpenBuilder<S>
         ensures settings { vmdk_settings result ≡ unset (AtPath (string_bytes path)) }
-        ensures keys { accepts_unknown_keys result ≡ false }
+        ensures accepted { accepted_by result ≡ nothing_accepted }
     {
         VmdkOpenBuilder {
             base: FormatDriverBuilderBase::new_path(path),
-            accepts_unknown_keys: false,
+            accepted: Accepted::NOTHING,
         }
     }
 }
 
 impl<S: Storage> VmdkOpenBuilder<S> {
-    ghost use Rattle.imago_vmdk.specs.VmdkBuilderParts.{vmdk_settings, accepts_unknown_keys};
+    ghost use Rattle.imago_vmdk.specs.VmdkBuilderParts.{vmdk_settings, accepted_by};
 
     /// Sets whether a line of the descriptor whose key isn't known is accepted, and says nothing
     /// then. It is [`Error::InvalidData`] where it isn't, as by default.
     pub fn accept_unknown_keys(mut self, accept: bool) -> Self
         ensures settings { vmdk_settings result ≡ vmdk_settings self }
-        ensures keys { accepts_unknown_keys result ≡ accept }
+        ensures accepted { accepted_by result
+            ≡ record (accepted_by self) { unknown_keys = accept } }
     {
-        self.accepts_unknown_keys = accept;
+        self.accepted.unknown_keys = accept;
+        self
+    }
+
+    /// Sets whether extents of type VMFS are accepted, as ESX writes them. Such an extent is read
+    /// as a FLAT one that begins at the first byte of its file. By default it isn't accepted, and
+    /// the image is [`Error::Unsupported`].
+    pub fn accept_vmfs(mut self, accept: bool) -> Self
+        ensures settings { vmdk_settings result ≡ vmdk_settings self }
+        ensures accepted { accepted_by result ≡ record (accepted_by self) { vmfs = accept } }
+    {
+        self.accepted.vmfs = accept;
         self
     }
 
@@ -69,21 +83,18 @@ impl<S: Storage> VmdkOpenBuilder<S> {
     /// the extents; it is as it was where the image is to be written.
     fn open_by<G: ImplicitOpenGate<S>>(self, alloc: Global, gate: &mut G) -> Result<Vmdk<S>, Error>
         ensures opened { IsVmdkOpeningBy S.bytes S.features S.openings.resolved G.opened
-            (vmdk_settings self) (accepts_unknown_keys self) gate.old gate.new result }
+            (vmdk_settings self) (accepted_by self) gate.old gate.new result }
         ensures image { IfOk result
             (λ r. IsImageOf G.opened gate.old (vmdk_settings self) S.bytes S.features
             (⟦<Vmdk<S> as FormatDriverInstance>⟧.view r)) }
     {
-        let VmdkOpenBuilder {
-            base,
-            accepts_unknown_keys,
-        } = self;
+        let VmdkOpenBuilder { base, accepted } = self;
         if base.get_writable() {
             return Err(Error::Unsupported);
         }
         let direct = is_direct(&base);
         let storage = base.open_image(alloc, gate)?;
-        Vmdk::open_with_extents(alloc, storage, direct, accepts_unknown_keys, gate)
+        Vmdk::open_with_extents(alloc, storage, direct, accepted, gate)
     }
 }
 
@@ -98,7 +109,7 @@ fn is_direct<S: Storage>(base: &FormatDriverBuilderBase<S>) -> bool
 }
 
 impl<S: Storage> FormatDriverBuilder<S> for VmdkOpenBuilder<S> {
-    ghost use Rattle.imago_vmdk.specs.VmdkBuilderParts.{vmdk_settings, accepts_unknown_keys};
+    ghost use Rattle.imago_vmdk.specs.VmdkBuilderParts.{vmdk_settings, accepted_by};
 
     type Format = Vmdk<S>;
 
@@ -109,18 +120,18 @@ impl<S: Storage> FormatDriverBuilder<S> for VmdkOpenBuilder<S> {
     ghost settings = { vmdk_settings };
 
     ghost opens = { λ Gate opened gate b result. IsVmdkOpening S.bytes S.features
-        S.openings.resolved opened gate (vmdk_settings b) (accepts_unknown_keys b) result };
+        S.openings.resolved opened gate (vmdk_settings b) (accepted_by b) result };
 
     fn new(image: S) -> Self
         ensures settings { vmdk_settings result ≡ unset (HandedIn image) }
-        ensures keys { accepts_unknown_keys result ≡ false }
+        ensures accepted { accepted_by result ≡ nothing_accepted }
     {
         Vmdk::builder(image)
     }
 
     fn new_path(path: String) -> Self
         ensures settings { vmdk_settings result ≡ unset (AtPath (string_bytes path)) }
-        ensures keys { accepts_unknown_keys result ≡ false }
+        ensures accepted { accepted_by result ≡ nothing_accepted }
     {
         Vmdk::builder_path(path)
     }
@@ -128,7 +139,7 @@ impl<S: Storage> FormatDriverBuilder<S> for VmdkOpenBuilder<S> {
     fn write(mut self, writable: bool) -> Self
         ensures settings { vmdk_settings result
             ≡ record (vmdk_settings self) { writable = writable } }
-        ensures keys { accepts_unknown_keys result ≡ accepts_unknown_keys self }
+        ensures accepted { accepted_by result ≡ accepted_by self }
     {
         self.base.set_write(writable);
         self
@@ -137,7 +148,7 @@ impl<S: Storage> FormatDriverBuilder<S> for VmdkOpenBuilder<S> {
     fn storage_open_options(mut self, options: StorageOpenOptions) -> Self
         ensures settings { vmdk_settings result
             ≡ record (vmdk_settings self) { options = Some (open_options options) } }
-        ensures keys { accepts_unknown_keys result ≡ accepts_unknown_keys self }
+        ensures accepted { accepted_by result ≡ accepted_by self }
     {
         self.base.set_storage_open_options(options);
         self
@@ -145,7 +156,7 @@ impl<S: Storage> FormatDriverBuilder<S> for VmdkOpenBuilder<S> {
 
     fn open<G: ImplicitOpenGate<S>>(self, alloc: Global, mut gate: G) -> Result<Vmdk<S>, Error>
         ensures opened { IsVmdkOpening S.bytes S.features S.openings.resolved G.opened gate
-            (vmdk_settings self) (accepts_unknown_keys self) result }
+            (vmdk_settings self) (accepted_by self) result }
         ensures image { IfOk result
             (λ r. IsImageOf G.opened gate (vmdk_settings self) S.bytes S.features
             (⟦<Vmdk<S> as FormatDriverInstance>⟧.view r)) }

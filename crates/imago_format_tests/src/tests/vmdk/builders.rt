@@ -20,6 +20,8 @@ struct Case {
     with_options: bool,
     /// Whether keys that aren't known are accepted, if that is told.
     accept: Option<bool>,
+    /// Whether VMFS extents are accepted, if that is told.
+    vmfs: Option<bool>,
     /// The size of the disk, or the refusal.
     answer: Result<u64, Error>,
     /// The names that are asked for.
@@ -39,13 +41,22 @@ const LAID_OUT: &[u8] =
     ddb.geometry.cylinders = \"1\"\nddb.geometry.heads = \"16\"\nddb.geometry.sectors = \"63\"\n\
     ddb.adapterType = \"ide\"\nddb.toolsVersion = \"2147483647\"\n";
 
-static CASES: [Case; 16] = [
+/// Extents as ESX names them.
+const ESX: &[u8] =
+    b"# Disk DescriptorFile\nversion=1\nCID=fffffffe\nparentCID=ffffffff\ncreateType=\"vmfs\"\n\n\
+    # Extent description\nRW 2 VMFS \"a\"\nRW 1 VMFS \"b\"\n\nddb.adapterType = \"lsilogic\"\n";
+
+/// A VMFS extent with an offset, which QEMU refuses too.
+const ESX_WITH_OFFSET: &[u8] = b"version=1\ncreateType=\"vmfs\"\nRW 1 VMFS \"a\" 0\n";
+
+static CASES: [Case; 21] = [
     Case {
         text: TWO,
         at_path: false,
         write: false,
         with_options: false,
         accept: None,
+        vmfs: None,
         answer: Ok(1024),
         asked: &["a", "b"],
     },
@@ -55,6 +66,7 @@ static CASES: [Case; 16] = [
         write: false,
         with_options: true,
         accept: None,
+        vmfs: None,
         answer: Ok(1024),
         asked: &["d", "a", "b"],
     },
@@ -64,6 +76,7 @@ static CASES: [Case; 16] = [
         write: false,
         with_options: true,
         accept: Some(true),
+        vmfs: None,
         answer: Ok(1024),
         asked: &["a", "b"],
     },
@@ -73,6 +86,7 @@ static CASES: [Case; 16] = [
         write: true,
         with_options: true,
         accept: None,
+        vmfs: None,
         answer: Err(Error::Unsupported),
         asked: &[],
     },
@@ -82,6 +96,7 @@ static CASES: [Case; 16] = [
         write: false,
         with_options: false,
         accept: None,
+        vmfs: None,
         answer: Err(Error::NotFound),
         asked: &["b", "c"],
     },
@@ -91,6 +106,7 @@ static CASES: [Case; 16] = [
         write: false,
         with_options: false,
         accept: None,
+        vmfs: None,
         answer: Err(Error::InvalidData),
         asked: &[],
     },
@@ -100,6 +116,7 @@ static CASES: [Case; 16] = [
         write: false,
         with_options: false,
         accept: None,
+        vmfs: None,
         answer: Err(Error::InvalidData),
         asked: &[],
     },
@@ -109,6 +126,7 @@ static CASES: [Case; 16] = [
         write: false,
         with_options: false,
         accept: Some(true),
+        vmfs: None,
         answer: Ok(512),
         asked: &["d"],
     },
@@ -118,6 +136,7 @@ static CASES: [Case; 16] = [
         write: false,
         with_options: true,
         accept: Some(true),
+        vmfs: None,
         answer: Ok(512),
         asked: &["d"],
     },
@@ -127,6 +146,7 @@ static CASES: [Case; 16] = [
         write: false,
         with_options: false,
         accept: None,
+        vmfs: None,
         answer: Err(Error::InvalidData),
         asked: &["d"],
     },
@@ -136,6 +156,7 @@ static CASES: [Case; 16] = [
         write: false,
         with_options: false,
         accept: Some(true),
+        vmfs: None,
         answer: Ok(1536),
         asked: &["d", "a", "b"],
     },
@@ -145,6 +166,7 @@ static CASES: [Case; 16] = [
         write: false,
         with_options: false,
         accept: Some(true),
+        vmfs: None,
         answer: Ok(0),
         asked: &["d"],
     },
@@ -154,6 +176,7 @@ static CASES: [Case; 16] = [
         write: false,
         with_options: false,
         accept: Some(true),
+        vmfs: None,
         answer: Err(Error::InvalidData),
         asked: &["d"],
     },
@@ -163,6 +186,7 @@ static CASES: [Case; 16] = [
         write: false,
         with_options: false,
         accept: Some(true),
+        vmfs: None,
         answer: Err(Error::InvalidData),
         asked: &["d"],
     },
@@ -172,6 +196,7 @@ static CASES: [Case; 16] = [
         write: false,
         with_options: false,
         accept: Some(true),
+        vmfs: None,
         answer: Err(Error::Unsupported),
         asked: &["d"],
     },
@@ -181,8 +206,59 @@ static CASES: [Case; 16] = [
         write: false,
         with_options: false,
         accept: Some(true),
+        vmfs: None,
         answer: Err(Error::Unsupported),
         asked: &["d"],
+    },
+    Case {
+        text: ESX,
+        at_path: true,
+        write: false,
+        with_options: false,
+        accept: None,
+        vmfs: None,
+        answer: Err(Error::Unsupported),
+        asked: &["d"],
+    },
+    Case {
+        text: ESX,
+        at_path: true,
+        write: false,
+        with_options: false,
+        accept: Some(true),
+        vmfs: Some(false),
+        answer: Err(Error::Unsupported),
+        asked: &["d"],
+    },
+    Case {
+        text: ESX,
+        at_path: true,
+        write: false,
+        with_options: false,
+        accept: None,
+        vmfs: Some(true),
+        answer: Ok(1536),
+        asked: &["d", "a", "b"],
+    },
+    Case {
+        text: ESX_WITH_OFFSET,
+        at_path: false,
+        write: false,
+        with_options: false,
+        accept: None,
+        vmfs: Some(true),
+        answer: Err(Error::InvalidData),
+        asked: &[],
+    },
+    Case {
+        text: ENCODED,
+        at_path: false,
+        write: false,
+        with_options: false,
+        accept: None,
+        vmfs: Some(true),
+        answer: Err(Error::InvalidData),
+        asked: &[],
     },
 ];
 
@@ -194,6 +270,7 @@ static ACCEPTED: [Case; 3] = [
         write: false,
         with_options: true,
         accept: None,
+        vmfs: None,
         answer: Err(Error::InvalidData),
         asked: &[],
     },
@@ -203,6 +280,7 @@ static ACCEPTED: [Case; 3] = [
         write: false,
         with_options: true,
         accept: Some(false),
+        vmfs: None,
         answer: Err(Error::InvalidData),
         asked: &[],
     },
@@ -212,6 +290,7 @@ static ACCEPTED: [Case; 3] = [
         write: false,
         with_options: true,
         accept: Some(true),
+        vmfs: None,
         answer: Ok(512),
         asked: &[],
     },
@@ -240,8 +319,7 @@ fn set<S: Storage, B: FormatDriverBuilder<S>>(
     Ok(builder)
 }
 
-/// The builder of a case, which is told whether it accepts keys that aren't known. A storage that
-/// is handed in has a name.
+/// The builder of a case, which is told what it accepts. A storage that is handed in has a name.
 fn builder(alloc: Global, case: &Case) -> Result<VmdkOpenBuilder<MemStorage>, Error> {
     let builder = if case.at_path {
         VmdkOpenBuilder::new_path(name(alloc, "d")?)
@@ -249,8 +327,12 @@ fn builder(alloc: Global, case: &Case) -> Result<VmdkOpenBuilder<MemStorage>, Er
         let bytes = storage_of(alloc, case.text)?.into_bytes();
         VmdkOpenBuilder::new(MemStorage::named(name(alloc, "d.vmdk")?, bytes))
     };
-    match case.accept {
-        Some(accept) => Ok(builder.accept_unknown_keys(accept)),
+    let builder = match case.accept {
+        Some(accept) => builder.accept_unknown_keys(accept),
+        None => builder,
+    };
+    match case.vmfs {
+        Some(accept) => Ok(builder.accept_vmfs(accept)),
         None => Ok(builder),
     }
 }
@@ -339,6 +421,7 @@ static SHOWN: [Case; 1] = [Case {
     write: false,
     with_options: false,
     accept: None,
+    vmfs: None,
     answer: Ok(0),
     asked: &[],
 }];

@@ -9,7 +9,7 @@ use Rattle.imago_vmdk.proofs.descriptor.read.Goals as goal
 pub returns-clause-reading : goal.returns-clause-reading
 unfolding reading_of
 returns-clause-reading c =
-    let r = lines_say c.args.accept_unknown_keys (lines_of c.args.text.now) in
+    let r = lines_say c.args.accepted (lines_of c.args.text.now) in
     let es = map (extent_with string_bytes) c.in_ok-extents.extents.items in
     let size = c.in_ok-size.ensures r c.in_ok-version.ensures.found in
     let some : c.in_ok-version.field-0.extents ≡ Some c.in_ok-extents.extents = search rules in
@@ -21,7 +21,7 @@ returns-clause-reading c =
 
 pub returns-clause-size : goal.returns-clause-size
 returns-clause-size c =
-    let r = lines_say c.args.accept_unknown_keys (lines_of c.args.text.now) in
+    let r = lines_say c.args.accepted (lines_of c.args.text.now) in
     let es = map (extent_with string_bytes) c.in_ok-extents.extents.items in
     let size = c.in_ok-size.ensures r c.in_ok-version.ensures.found in
     let some : c.in_ok-version.field-0.extents ≡ Some c.in_ok-extents.extents = search rules in

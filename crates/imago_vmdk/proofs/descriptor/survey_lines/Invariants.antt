@@ -10,8 +10,8 @@ use Rattle.imago_vmdk.proofs.descriptor.survey_lines.Given as goal
 
 abbrev pub invariant-loop-left : goal.invariant-loop-left
 invariant-loop-left l = (n : ℕ) × (es : List (Extent (List ℕ))) × (l.survey.size ≡ fitting n) × AreKept (λ v. map (extent_with string_bytes) v.items) l.survey.extents es
-    × (onward l.accept (surveyed l.survey.version n) (lines_left (option_map (λ s. s.now) l.left)) ≡ survey_of l.accept (lines_of l.text))
-    × (onward l.accept (λ ls. es ++ extents_in ls) (lines_left (option_map (λ s. s.now) l.left)) ≡ extents_of l.accept (lines_of l.text))
+    × (onward l.accepted (surveyed l.survey.version n) (lines_left (option_map (λ s. s.now) l.left)) ≡ survey_of l.accepted (lines_of l.text))
+    × (onward l.accepted (λ ls. es ++ extents_in ls) (lines_left (option_map (λ s. s.now) l.left)) ≡ extents_of l.accepted (lines_of l.text))
 
 abbrev pub decreases-loop-left : goal.decreases-loop-left
 decreases-loop-left l = bytes_left l.left

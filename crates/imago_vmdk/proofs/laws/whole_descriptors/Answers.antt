@@ -9,6 +9,8 @@ pub returns : goal.returns
 unfolding lib.Utf8.encode chars is_utf8 trim_start trim_end utf8_of words_of number_of access_of flat_of typed_of sized_of extent_of unquoted setting_of text_of verdict_of disk_in reading_of
 returns c = record {
   extents = refl;
+  vmfs = refl;
+  vmfs_refused = refl;
   no_version = refl;
   last_version = refl;
   fault_before_version = refl;
