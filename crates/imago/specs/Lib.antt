@@ -144,6 +144,7 @@ pub use Rattle.imago_copy.specs.Differences as FirstDifferences
 pub use Rattle.imago_plan.specs.Pieces
 pub use Rattle.imago_plan.specs.PieceBytes
 pub use Rattle.imago_plan.specs.StoredBytes
+pub use Rattle.imago_images.specs.Signatures as ImageSignatures
 pub use Rattle.imago_images.specs.Formats as ImageFormats
 pub use Rattle.imago_images.specs.Opening as ImageOpening
 pub use Rattle.imago_images.specs.Extents as ExtentFiles
@@ -173,6 +174,7 @@ pub use Rattle.imago_drivers.specs.declared.raw.Raw as DeclaredRaw
 pub use Rattle.imago_drivers.specs.declared.gate.NamedGate as DeclaredNamedGate
 pub use Rattle.imago_drivers.specs.declared.builder.FormatDriverBuilderBase
 pub use Rattle.imago_drivers.specs.declared.builder.FormatCreateBuilderBase
+pub use Rattle.imago_vmdk.specs.declared.line.Accepted
 pub use Rattle.imago_vmdk.specs.declared.line.Extent
 pub use Rattle.imago_vmdk.specs.declared.vmdk.Vmdk as DeclaredVmdk
 pub use Rattle.imago_qcow2.specs.declared.entry.L2Table
@@ -205,6 +207,7 @@ pub use Rattle.imago_images.specs.declared.files.FileKind
 pub use Rattle.imago_images.specs.declared.files.FileStatus
 pub use Rattle.imago_images.specs.declared.file.PathFile as DeclaredPathFile
 pub use Rattle.imago_images.specs.declared.format.ImageFormat
+pub use Rattle.imago_images.specs.declared.signature.Signature
 pub use Rattle.imago_images.specs.declared.opening.Opening as DeclaredOpening
 pub use Rattle.imago_images.specs.declared.opening.OtherFiles
 pub use Rattle.imago_images.specs.declared.failure.OpenError

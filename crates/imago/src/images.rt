@@ -5,4 +5,5 @@ pub use imago_images::file::{PathFile, PathStorage};
 pub use imago_images::files::{FileKind, FileStatus, Files};
 pub use imago_images::format::ImageFormat;
 pub use imago_images::opener::{FileImage, open_image};
-pub use imago_images::opening::{Opening, OtherFiles};
+pub use imago_images::opening::{Accepted, Opening, OtherFiles};
+pub use imago_images::signature::Signature;

@@ -10,7 +10,7 @@ ghost use Rattle.imago_access.specs.Runs.{IsRun};
 ghost use Rattle.imago_access.specs.Disk.{disk, backed_value};
 ghost use Rattle.imago_access.specs.Histories.{IsFlatHistory};
 ghost use Rattle.imago_cow.specs.CowImage.{storage_in};
-ghost use Rattle.imago_vmdk.specs.Image.{is_opened, takes_unknown_keys};
+ghost use Rattle.imago_vmdk.specs.Image.{is_opened, accepted_in};
 ghost use Rattle.imago_vmdk.specs.Disk.{described_value};
 ghost use Rattle.imago.specs.Qcow2Chain.{files_of, files_value};
 
@@ -40,7 +40,7 @@ pub fn vmdk_disk<S: Storage>(image: &FormatAccess<Vmdk<S>>)
     ensures { IsTrue
         ((⟦<Vmdk<S> as FormatDriverInstance>⟧.view (driver image.now)).stores.features 0).tells_bytes
         → (p : ℕ) → disk_value ⟦<Vmdk<S> as FormatDriverInstance>⟧.view image.now p
-        ≡ described_value (takes_unknown_keys (driver image.now))
+        ≡ described_value (accepted_in (driver image.now))
         (⟦<Vmdk<S> as FormatDriverInstance>⟧.view (driver image.now)).stores.bytes p }
 {
     imago_vmdk::laws::disk_of_bytes(image.inner());

@@ -10,8 +10,8 @@ use imago::any::AnyDriver;
 use imago::copy::{CopyError, copy_disk};
 use imago::file::HostFile;
 use imago::images::{
-    FileImage, FileKind, FileStatus, Files, OpenError, Opening, OtherFiles, PathStorage, Reason,
-    open_image,
+    Accepted, FileImage, FileKind, FileStatus, Files, OpenError, Opening, OtherFiles, PathStorage,
+    Reason, open_image,
 };
 use std::alloc::Global;
 use std::fs::{self, File, Metadata, OpenOptions};
@@ -103,7 +103,7 @@ pub fn open_disk<'a, H: Files>(host: &'a H, path: &str) -> Result<FileImage<'a, 
 {
     let how = Opening {
         format: None,
-        strict: false,
+        accepted: Accepted::EVERYTHING,
         other_files: OtherFiles::InFolder,
         tables: None,
         writable: false,

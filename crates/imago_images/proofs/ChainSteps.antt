@@ -1,8 +1,9 @@
 -- What an image over layers is, where its host tells what files have.
-use Rattle.std.proofs.Common.{◌≡◌, ℕ, ◌+◌, ◌≤◌, ◌++◌, Bool, false, arith, List, [], ◌∷◌, Option, Some, None, IfSome, length, inl, inr, refl, subst}
+use Rattle.std.proofs.Common.{◌≡◌, ℕ, ◌+◌, ◌≤◌, ◌++◌, false, arith, List, [], ◌∷◌, Option, Some, None, IfSome, length, inl, inr, refl, subst}
 use Rattle.imago_drivers.specs.Place.{Place}
 use Rattle.imago_drivers.specs.View.{View}
 use Rattle.imago_access.specs.declared.access.FormatAccess.{FormatAccess}
+use Rattle.imago_vmdk.specs.declared.line.Accepted.{Accepted}
 use Rattle.imago_images.specs.declared.format.ImageFormat.{ImageFormat}
 use Rattle.imago_images.specs.Formats.{SaysFormat, IsFormatBy}
 use Rattle.imago_images.specs.Layers.{size_by}
@@ -20,17 +21,17 @@ use Rattle.imago_images.specs.declared.opening.OtherFiles.{OtherFiles}
 one_more : (down : List (List ℕ)) (next : List ℕ) (less most : ℕ) → less + 1 ≤ most → length down ≤ less → length (next ∷ down) ≤ most
 one_more down next less most n h = grind (arith, n, h)
 
-module _ {D St : Type 0} (view : D → View St) (strict : Bool) (others : OtherFiles) where
+module _ {D St : Type 0} (view : D → View St) (accepted : Accepted) (others : OtherFiles) where
   pub alone_image :
       (known : Option (List ℕ → List ℕ)) (path : List ℕ) (format : ImageFormat) (inner : D)
       (x : FormatAccess D)
       → ((size : ℕ) (place : ℕ → Place) → IsDriverOf view size place inner
       → ShowsLayers view x size (place ∷ []))
-      → IfSome known (λ files. IsLayerOf view strict others files path format inner None)
-      → IfSome known (λ files. IsImageIn view strict others files path format x)
+      → IfSome known (λ files. IsLayerOf view accepted others files path format inner None)
+      → IfSome known (λ files. IsImageIn view accepted others files path format x)
   alone_image None path format inner x shows h = tt
   alone_image (Some files) path format inner x shows h =
-      (h.0 ∷ [], (None, h.1, refl), shows (size_by strict format (files path)) h.0 h.2)
+      (h.0 ∷ [], (None, h.1, refl), shows (size_by accepted format (files path)) h.0 h.2)
 
   pub over_image :
       (known : Option (List ℕ → List ℕ)) (path next : List ℕ) (format lower : ImageFormat)
@@ -38,23 +39,23 @@ module _ {D St : Type 0} (view : D → View St) (strict : Bool) (others : OtherF
       → ((size rest : ℕ) (place : ℕ → Place) (layers : List (ℕ → Place))
       → IsDriverOf view size place inner → ShowsLayers view y rest layers
       → ShowsLayers view x size (place ∷ layers))
-      → IfSome known (λ files. IsLayerOf view strict others files path format inner (Some next))
+      → IfSome known (λ files. IsLayerOf view accepted others files path format inner (Some next))
       → IfSome known (λ files. SaysFormat (files path) said)
-      → IfSome known (λ files. IsFormatBy said (files next) lower)
+      → IfSome known (λ files. IsFormatBy said next (files next) lower)
       → IsLetThrough others path next
-      → IfSome known (λ files. IsImageIn view strict others files next lower y)
-      → IfSome known (λ files. IsImageIn view strict others files path format x)
+      → IfSome known (λ files. IsImageIn view accepted others files next lower y)
+      → IfSome known (λ files. IsImageIn view accepted others files path format x)
   over_image None path next format lower inner x y said shows h s f t k = tt
   over_image (Some files) path next format lower inner x y said shows h s f t k = (
     h.0 ∷ k.0,
     (Some next, h.1, (t, (lower, (said, s, f), k.1))),
-    shows (size_by strict format (files path)) (size_by strict lower (files next)) h.0 k.0 h.2 k.2,
+    shows (size_by accepted format (files path)) (size_by accepted lower (files next)) h.0 k.0 h.2 k.2,
   )
 
   -- a layer with a file below it goes down to that
   goes_down :
       (files : List ℕ → List ℕ) (path next : List ℕ) (format : ImageFormat) (inner : D)
-      → IsLayerOf view strict others files path format inner (Some next) → GoesDown files path format next
+      → IsLayerOf view accepted others files path format inner (Some next) → GoesDown files path format next
   goes_down files path next Raw inner h = let none : ⊥ = cc h.1.1 in absurd none
   goes_down files path next Qcow2 inner h = (refl, h.1.1)
   goes_down files path next Vmdk inner h = let none : ⊥ = cc h.1.5 in absurd none
@@ -74,7 +75,7 @@ module _ {D St : Type 0} (view : D → View St) (strict : Bool) (others : OtherF
 
     pub too_deep_out :
         (known : Option (List ℕ → List ℕ)) (next : List ℕ) (inner : D)
-        → IfSome known (λ files. IsLayerOf view strict others files path format inner (Some next))
+        → IfSome known (λ files. IsLayerOf view accepted others files path format inner (Some next))
         → length above ≡ 200 → IsRefused path IsTooDeep e → IfSome known IsChainOut
     too_deep_out None next inner h n r = tt
     too_deep_out (Some files) next inner h n r =
@@ -82,7 +83,7 @@ module _ {D St : Type 0} (view : D → View St) (strict : Bool) (others : OtherF
 
     pub next_out :
         (known : Option (List ℕ → List ℕ)) (next : List ℕ) (said : Option ImageFormat) (inner : D)
-        → IfSome known (λ files. IsLayerOf view strict others files path format inner (Some next))
+        → IfSome known (λ files. IsLayerOf view accepted others files path format inner (Some next))
         → IfSome known (λ files. SaysFormat (files path) said)
         → IfSome known (λ files. SaysFormat (files path) said
         → IsNextRefused files statuses reals others above path next e)
@@ -94,9 +95,9 @@ module _ {D St : Type 0} (view : D → View St) (strict : Bool) (others : OtherF
     pub below_out :
         (known : Option (List ℕ → List ℕ)) (next : List ℕ) (said : Option ImageFormat) (lower : ImageFormat)
         (inner : D) (file : ℕ × ℕ) (now : List (ℕ × ℕ))
-        → IfSome known (λ files. IsLayerOf view strict others files path format inner (Some next))
+        → IfSome known (λ files. IsLayerOf view accepted others files path format inner (Some next))
         → IfSome known (λ files. SaysFormat (files path) said)
-        → IfSome known (λ files. IsFormatBy said (files next) lower)
+        → IfSome known (λ files. IsFormatBy said next (files next) lower)
         → IsLetThrough others path next → HasIdentity statuses next file → now ≡ above ++ file ∷ []
         → IfSome known (λ files. (down : List (List ℕ))
         × IsChainRefused files statuses reals others limit now next lower down e)
@@ -122,7 +123,7 @@ module _ {D St : Type 0} (view : D → View St) (strict : Bool) (others : OtherF
   -- a layer with no file below it is the end of the way
   ends_here :
       (files : List ℕ → List ℕ) (path : List ℕ) (format : ImageFormat) (inner : D)
-      → IsLayerOf view strict others files path format inner None
+      → IsLayerOf view accepted others files path format inner None
       → format ≡ Qcow2 → LeadsTo (files path) path None
   ends_here files path Raw inner h is = let none : ⊥ = cc is in absurd none
   ends_here files path Qcow2 inner h is = h.1.1
@@ -132,7 +133,7 @@ module _ {D St : Type 0} (view : D → View St) (strict : Bool) (others : OtherF
       (format : ImageFormat) where
     pub last_ends :
         (known : Option (List ℕ → List ℕ)) (inner : D) (most : ℕ)
-        → IfSome known (λ files. IsLayerOf view strict others files path format inner None)
+        → IfSome known (λ files. IsLayerOf view accepted others files path format inner None)
         → IfSome known (λ files. IsEndingWay files statuses above path format most)
     last_ends None inner most h = tt
     last_ends (Some files) inner most h = ([], ends_here files path format inner h, omega arith)
@@ -140,9 +141,9 @@ module _ {D St : Type 0} (view : D → View St) (strict : Bool) (others : OtherF
     pub next_ends :
         (known : Option (List ℕ → List ℕ)) (next : List ℕ) (said : Option ImageFormat) (lower : ImageFormat)
         (inner : D) (file : ℕ × ℕ) (now : List (ℕ × ℕ)) (less most : ℕ)
-        → IfSome known (λ files. IsLayerOf view strict others files path format inner (Some next))
+        → IfSome known (λ files. IsLayerOf view accepted others files path format inner (Some next))
         → IfSome known (λ files. SaysFormat (files path) said)
-        → IfSome known (λ files. IsFormatBy said (files next) lower)
+        → IfSome known (λ files. IsFormatBy said next (files next) lower)
         → HasIdentity statuses next file → is_among above file ≡ false → now ≡ above ++ file ∷ []
         → less + 1 ≤ most
         → IfSome known (λ files. IsEndingWay files statuses now next lower less)

@@ -1,5 +1,5 @@
 -- The files of a VMDK image's extents, as a gate handed them out.
-use Rattle.std.proofs.Common.{◌≡◌, ℕ, ◌&&◌, ◌++◌, Bool, true, false, not, List, [], ◌∷◌, None, Result, Ok}
+use Rattle.std.proofs.Common.{◌≡◌, ℕ, ◌&&◌, ◌++◌, Bool, true, false, List, [], ◌∷◌, None, Result, Ok}
 use Rattle.std.proofs.Common.{IsTrue, refl, sym, ap, ◌∙◌, subst, map}
 use Rattle.std.specs.Prelude.{slice_index_or}
 use Rattle.std.specs.List.{sum_by}
@@ -7,10 +7,11 @@ use Rattle.imago_storage.specs.declared.error.Error.{Error}
 use Rattle.imago_storage.specs.Features.{Features}
 use Rattle.imago_drivers.specs.Opening.{Opening}
 use Rattle.imago_drivers.specs.Builder.{OpenSettings, HandedIn, unset}
+use Rattle.imago_vmdk.specs.declared.line.Accepted.{Accepted}
 use Rattle.imago_vmdk.specs.declared.line.Extent.{Extent}
 use Rattle.imago_vmdk.specs.declared.vmdk.Vmdk.{Vmdk}
 use Rattle.imago_vmdk.specs.Reading.{reading_of, size_of}
-use Rattle.imago_vmdk.specs.Image.{descriptor_in, extents_in, is_opened, storages_of_extents, takes_unknown_keys}
+use Rattle.imago_vmdk.specs.Image.{descriptor_in, extents_in, is_opened, storages_of_extents, accepted_in}
 use Rattle.imago_vmdk.specs.Opened.{AreOpened, extent_options}
 use Rattle.imago_vmdk.specs.Vmdk.{all_tell}
 use Rattle.imago_vmdk.specs.Disk.{described_place}
@@ -65,7 +66,7 @@ module _ {S Gate : Type 0} (bytes : S → List ℕ) (features : S → Features) 
         ap (map bytes) is ∙ more.1,
         more.2,
       )
-  storages_told resolved beside direct (Extent.Flat sectors name offset writable ∷ extents) before after storages good
+  storages_told resolved beside direct (Extent.Flat sectors name offset writable vmfs ∷ extents) before after storages good
       (between, own, left, first, rest, all) =
       let opening = first.1 in
       let at : List ℕ = opening.0 in
@@ -83,18 +84,18 @@ module _ {S Gate : Type 0} (bytes : S → List ℕ) (features : S → Features) 
   -- the same of an image whose descriptor was handed in
   pub image_told :
       {g : _} {h : _} (resolved : S → List ℕ → List ℕ → Type 0) (settings : OpenSettings S) (s : S)
-      (accept : Bool) (gate : Gate) (v : Vmdk S g h)
+      (accepted : Accepted) (gate : Gate) (v : Vmdk S g h)
       → ((relative name : List ℕ) → resolved s relative name → name ≡ path_beside path relative)
       → settings ≡ unset (HandedIn s) → IsGood gate
-      → IsVmdkOpening bytes features resolved opened gate settings accept (Ok v)
-      → (descriptor_in v ≡ s) × (is_opened v ≡ true) × (takes_unknown_keys v ≡ accept)
+      → IsVmdkOpening bytes features resolved opened gate settings accepted (Ok v)
+      → (descriptor_in v ≡ s) × (is_opened v ≡ true) × (accepted_in v ≡ accepted)
       × AreFiles (extents_in v) (storages_of_extents v)
-  image_told resolved settings s accept gate v beside is good opening =
-      let here : IsVmdkOpening bytes features resolved opened gate (unset (HandedIn s)) accept (Ok v) =
-      subst (λ (o : OpenSettings S). IsVmdkOpening bytes features resolved opened gate o accept (Ok v)) is opening in
+  image_told resolved settings s accepted gate v beside is good opening =
+      let here : IsVmdkOpening bytes features resolved opened gate (unset (HandedIn s)) accepted (Ok v) =
+      subst (λ (o : OpenSettings S). IsVmdkOpening bytes features resolved opened gate o accepted (Ok v)) is opening in
       let found = here.1.1 refl in
-      let image : IsVmdkImageOf bytes features resolved opened false accept found.0 here.0 (Ok s) (Ok v) =
-      subst (λ (o : Result S Error). IsVmdkImageOf bytes features resolved opened false accept found.0 here.0 o (Ok v)) found.2.0 found.3 in (
+      let image : IsVmdkImageOf bytes features resolved opened false accepted found.0 here.0 (Ok s) (Ok v) =
+      subst (λ (o : Result S Error). IsVmdkImageOf bytes features resolved opened false accepted found.0 here.0 o (Ok v)) found.2.0 found.3 in (
         image.0,
         image.1,
         image.2,
@@ -105,32 +106,32 @@ module _ {S Gate : Type 0} (bytes : S → List ℕ) (features : S → Features) 
 -- a driver over these storages is the layer of the descriptor's file
 pub vmdk_is :
     {S : Type 0} {g : _} {h : _} (features : S → Features) (faults : S → ℕ) (bytes : S → List ℕ)
-    (strict : Bool) (others : OtherFiles) (files : List ℕ → List ℕ) (path : List ℕ) (v : Vmdk S g h)
-    → takes_unknown_keys v ≡ not strict
+    (accepted : Accepted) (others : OtherFiles) (files : List ℕ → List ℕ) (path : List ℕ) (v : Vmdk S g h)
+    → accepted_in v ≡ accepted
     → (features (descriptor_in v)).tells_bytes ≡ true → bytes (descriptor_in v) ≡ files path
     → all_tell (map features (storages_of_extents v)) ≡ true
     → map bytes (storages_of_extents v) ≡ map files (extent_paths path (extents_in v))
     → AreLetThrough others path (extent_paths path (extents_in v))
-    → reading_of (takes_unknown_keys v) (bytes (descriptor_in v)) ≡ Ok (extents_in v, v.size)
+    → reading_of (accepted_in v) (bytes (descriptor_in v)) ≡ Ok (extents_in v, v.size)
     → v.size ≡ sum_by size_of v.extents.items
     → ((p : ℕ) → (vmdk_in features bytes v).place p
-    ≡ described_place (takes_unknown_keys v) (λ i. slice_index_or (bytes v.descriptor ∷ map bytes v.storages.items) i []) p)
-    → IsLayerOf (view_over features faults bytes) strict others files path Of.Vmdk (Any.Vmdk v) None
-vmdk_is {S} {g} {h} features faults bytes strict others files path v keys tells own all named through read sized places =
-    let reading : reading_of (not strict) (files path) ≡ Ok (extents_in v, v.size) =
-    subst (λ (xs : List ℕ). reading_of (not strict) xs ≡ Ok (extents_in v, v.size)) own
-    (subst (λ (b : Bool). reading_of b (bytes (descriptor_in v)) ≡ Ok (extents_in v, v.size)) keys read) in
+    ≡ described_place (accepted_in v) (λ i. slice_index_or (bytes v.descriptor ∷ map bytes v.storages.items) i []) p)
+    → IsLayerOf (view_over features faults bytes) accepted others files path Of.Vmdk (Any.Vmdk v) None
+vmdk_is {S} {g} {h} features faults bytes accepted others files path v same tells own all named through read sized places =
+    let reading : reading_of accepted (files path) ≡ Ok (extents_in v, v.size) =
+    subst (λ (xs : List ℕ). reading_of accepted xs ≡ Ok (extents_in v, v.size)) own
+    (subst (λ (a : Accepted). reading_of a (bytes (descriptor_in v)) ≡ Ok (extents_in v, v.size)) same read) in
     let held : List (List ℕ) = bytes v.descriptor ∷ map bytes v.storages.items in
     let lists : held ≡ map files (path ∷ extent_paths path (extents_in v)) =
     ap (λ (x : List ℕ). x ∷ map bytes v.storages.items) own
     ∙ ap (λ (xs : List (List ℕ)). files path ∷ xs) named in (
-      described_place (not strict) (bytes_in files (path ∷ extent_paths path (extents_in v))),
+      described_place accepted (bytes_in files (path ∷ extent_paths path (extents_in v))),
       (extents_in v, v.size, reading, through, refl, refl),
       (
         sym sized ∙ sym (ap size_read reading),
         both _ _ tells all,
         λ p. places p
-            ∙ ap (λ (b : Bool). described_place b (λ i. slice_index_or held i []) p) keys
-            ∙ ap (λ (xs : List (List ℕ)). described_place (not strict) (λ i. slice_index_or xs i []) p) lists,
+            ∙ ap (λ (a : Accepted). described_place a (λ i. slice_index_or held i []) p) same
+            ∙ ap (λ (xs : List (List ℕ)). described_place accepted (λ i. slice_index_or xs i []) p) lists,
       ),
     )

@@ -45,7 +45,7 @@ module _ {S : Type 0} (features : S → Features) (bytes : S → List ℕ)
       (asked : Option (List ℕ → List ℕ)) (above : List (ℕ × ℕ)) (next from named : List ℕ)
       → asked ≡ known → from ≡ next → named ≡ next
       → IfSome asked (λ files. shown ≡ Some (files from))
-      → ((held : List ℕ) → HasBytes features bytes held s → IsRefused named (IsUnknown held said) e)
+      → ((held : List ℕ) → HasBytes features bytes held s → IsRefused named (IsUnknown said named held) e)
       → IfSome known (λ files. SaysFormat (files path) said
       → IsNextRefused files statuses reals others above path next e)
   next_unknown asked above next from named same is called held refused =
@@ -55,15 +55,15 @@ module _ {S : Type 0} (features : S → Features) (bytes : S → List ℕ)
       (λ files h says. inr (inr (
         said,
         says,
-        subst (λ (p : List ℕ). IsRefused p (IsUnknown (files next) said) e) called
-            (subst (λ (p : List ℕ). IsRefused named (IsUnknown (files p) said) e) is
+        subst (λ (p : List ℕ). IsRefused p (IsUnknown said p (files next)) e) called
+            (subst (λ (p : List ℕ). IsRefused named (IsUnknown said named (files p)) e) is
             (refused (files from) (told (files from) h))),
       )))
 
   -- the format of the image's own file isn't told
   pub image_unknown :
       (writable : Bool) (limit : Option ℕ) → IfSome known (λ files. shown ≡ Some (files path))
-      → ((held : List ℕ) → HasBytes features bytes held s → IsRefused path (IsUnknown held said) e)
+      → ((held : List ℕ) → HasBytes features bytes held s → IsRefused path (IsUnknown said path held) e)
       → IfSome known (λ files. IsImageRefused writable files statuses reals others limit said path e)
   image_unknown writable limit held refused =
       where_held known (λ files. shown ≡ Some (files path))
@@ -74,7 +74,7 @@ module _ {S : Type 0} (features : S → Features) (bytes : S → List ℕ)
   pub image_out :
       (writable : Bool) (limit : Option ℕ) (format : ImageFormat) (file : ℕ × ℕ) (now : List (ℕ × ℕ))
       → IfSome known (λ files. shown ≡ Some (files path))
-      → ((held : List ℕ) → HasBytes features bytes held s → IsFormatBy said held format)
+      → ((held : List ℕ) → HasBytes features bytes held s → IsFormatBy said path held format)
       → HasIdentity statuses path file → now ≡ file ∷ []
       → IfSome known (λ files. IsOpeningRefused writable files statuses reals others limit now path format e)
       → IfSome known (λ files. IsImageRefused writable files statuses reals others limit said path e)

@@ -1,11 +1,12 @@
 -- What a file is as a layer, where its host tells what files have.
-use Rattle.std.proofs.Common.{◌≡◌, ℕ, Bool, List, Option, Some, None, Result, Ok, Err, IfOk, IfSome}
+use Rattle.std.proofs.Common.{◌≡◌, ℕ, List, Option, Some, None, Result, Ok, Err, IfOk, IfSome}
 use Rattle.std.proofs.Common.{refl, sym, ap, subst, length}
 use Rattle.std.specs.Prelude.{option_map}
 use Rattle.imago_storage.specs.Features.{Features}
 use Rattle.imago_drivers.specs.Raw.{raw_place}
 use Rattle.imago_drivers.specs.View.{View}
 use Rattle.imago_qcow2.specs.Entry.{disk_size, qcow2_place}
+use Rattle.imago_vmdk.specs.declared.line.Accepted.{Accepted}
 use Rattle.imago_images.specs.declared.format.ImageFormat.{ImageFormat}
 use Rattle.imago_images.specs.declared.format.ImageFormat.TheVariants.{Raw, Vmdk, Qcow2}
 use Rattle.imago_images.specs.Formats.{SaysFormat}
@@ -32,12 +33,12 @@ both_ok (Ok x) P Q R p q f = f x p q
 both_ok (Err e) P Q R p q f = tt
 
 module _ {D St S L B E : Type 0} (view : D → View St) (features : S → Features)
-    (bytes : S → List ℕ) (strict : Bool) (others : OtherFiles) (known : Option (List ℕ → List ℕ)) (path : List ℕ)
+    (bytes : S → List ℕ) (accepted : Accepted) (others : OtherFiles) (known : Option (List ℕ → List ℕ)) (path : List ℕ)
     (file : S) (r : Result L E) (inner : L → D) (below : L → Option B) (path_in : B → List ℕ)
     (format_in : B → Option ImageFormat)
     (told : IfSome known (λ files. HasBytes features bytes (files path) file)) where
   abbrev pub layer_in : ImageFormat → (List ℕ → List ℕ) → L → Type 0
-  layer_in format files l = IsLayerOf view strict others files path format (inner l) (option_map path_in (below l))
+  layer_in format files l = IsLayerOf view accepted others files path format (inner l) (option_map path_in (below l))
 
   pub raw_told :
       (format : ImageFormat) → format ≡ Raw → IfOk r (λ l. below l ≡ None)
@@ -69,15 +70,15 @@ module _ {D St S L B E : Type 0} (view : D → View St) (features : S → Featur
 
   pub vmdk_told :
       (format : ImageFormat) → format ≡ Vmdk → IfOk r (λ l. below l ≡ None)
-      → IfOk r (λ l. IfSome known (λ files. IsLayerOf view strict others files path Vmdk (inner l) None))
+      → IfOk r (λ l. IfSome known (λ files. IsLayerOf view accepted others files path Vmdk (inner l) None))
       → IfOk r (λ l. IfSome known (λ files. layer_in format files l))
   vmdk_told format is alone layer =
       both_ok r (λ l. below l ≡ None)
-      (λ l. IfSome known (λ files. IsLayerOf view strict others files path Vmdk (inner l) None))
+      (λ l. IfSome known (λ files. IsLayerOf view accepted others files path Vmdk (inner l) None))
       (λ l. IfSome known (λ files. layer_in format files l)) alone layer
       (λ l none h.
       subst (λ (f : ImageFormat). IfSome known (λ files. layer_in f files l)) (sym is)
-      (subst (λ (o : Option (List ℕ)). IfSome known (λ files. IsLayerOf view strict others files path Vmdk (inner l) o))
+      (subst (λ (o : Option (List ℕ)). IfSome known (λ files. IsLayerOf view accepted others files path Vmdk (inner l) o))
       (sym (ap (option_map path_in) none)) h))
 
   -- what it says of the format below

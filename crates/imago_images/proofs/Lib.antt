@@ -11,3 +11,5 @@ pub mod RefusalSteps
 pub mod ImageSteps
 pub mod NameAlike
 pub mod WriteSteps
+pub mod BackingSteps
+pub mod SignatureSteps

@@ -1,9 +1,9 @@
 -- A file under two paths of one folder, or a raw one under any: the image is the same.
-use Rattle.std.proofs.Common.{◌≡◌, ℕ, ◌⊎◌, inl, inr, Bool, true, not, List, [], ◌∷◌, map, Option, Some, None, Ok, refl, sym, ap, ◌∙◌, subst, length, slice_index_or}
+use Rattle.std.proofs.Common.{◌≡◌, ℕ, true, List, [], ◌∷◌, map, Option, Some, None, Ok, refl, ap, ◌∙◌, subst, length, slice_index_or}
 use Rattle.std.specs.Path.{path_join}
 use Rattle.imago_drivers.specs.Place.{Place}
 use Rattle.imago_drivers.specs.Raw.{raw_place}
-use Rattle.imago_vmdk.specs.declared.line.Extent.{Extent}
+use Rattle.imago_vmdk.specs.declared.line.Accepted.{Accepted}
 use Rattle.imago_vmdk.specs.Reading.{reading_of}
 use Rattle.imago_vmdk.specs.Disk.{described_place}
 use Rattle.imago_qcow2.specs.Entry.{qcow2_place}
@@ -15,17 +15,17 @@ use Rattle.imago_images.specs.declared.opening.OtherFiles.TheVariants as Others
 use Rattle.imago_images.specs.Extents.{flat_names}
 use Rattle.imago_images.specs.Formats.{IsFormatBelow}
 use Rattle.imago_images.specs.Gate.{folder_path, IsLetThrough, AreLetThrough}
-use Rattle.imago_images.specs.Images.{LeadsTo, extent_paths, bytes_in, IsLayer, GoesOn, AreLayers}
+use Rattle.imago_images.specs.Images.{LeadsTo, extent_paths, IsLayer, GoesOn, AreLayers}
 
 module _ (files : List ℕ → List ℕ) (one other : List ℕ) (same : files one ≡ files other) where
   -- a raw file has the same layers under both
   pub raw_alike :
-      (strict : Bool) (others : OtherFiles) (layers : List (ℕ → Place))
-      → AreLayers strict others files one Raw layers → AreLayers strict others files other Raw layers
-  raw_alike strict others [] are = are
-  raw_alike strict others (place ∷ below) (next, (here, none), goes) =
+      (accepted : Accepted) (others : OtherFiles) (layers : List (ℕ → Place))
+      → AreLayers accepted others files one Raw layers → AreLayers accepted others files other Raw layers
+  raw_alike accepted others [] are = are
+  raw_alike accepted others (place ∷ below) (next, (here, none), goes) =
       let alone : below ≡ [] = subst (λ (n : Option (List ℕ)). GoesOn n below (λ p. IsLetThrough others one p
-      × ((lower : ImageFormat) × IsFormatBelow (files one) (files p) lower × AreLayers strict others files p lower below))) none goes in (
+      × ((lower : ImageFormat) × IsFormatBelow (files one) p (files p) lower × AreLayers accepted others files p lower below))) none goes in (
         None,
         (subst (λ (b : List ℕ). place ≡ raw_place (length b) b) same here, refl),
         alone,
@@ -53,43 +53,43 @@ module _ (files : List ℕ → List ℕ) (one other : List ℕ) (same : files on
     leads : (next : Option (List ℕ)) → LeadsTo (files one) one next → LeadsTo (files other) other next
     leads None h = subst (λ (b : List ℕ). LeadsTo b one None) same h
     leads (Some next) h =
-        let (name, says, is) = subst (λ (b : List ℕ). LeadsTo b one (Some next)) same h in
-        (name, says, is ∙ beside name)
+        let (name, file, says, named, is) = subst (λ (b : List ℕ). LeadsTo b one (Some next)) same h in
+        (name, file, says, named, is ∙ beside file)
 
     layer_alike :
-        (strict : Bool) (others : OtherFiles) (format : ImageFormat) (place : ℕ → Place) (next : Option (List ℕ))
-        → IsLayer strict others files one format place next → IsLayer strict others files other format place next
-    layer_alike strict others Raw place next (here, none) =
+        (accepted : Accepted) (others : OtherFiles) (format : ImageFormat) (place : ℕ → Place) (next : Option (List ℕ))
+        → IsLayer accepted others files one format place next → IsLayer accepted others files other format place next
+    layer_alike accepted others Raw place next (here, none) =
         (subst (λ (b : List ℕ). place ≡ raw_place (length b) b) same here, none)
-    layer_alike strict others Qcow2 place next (here, leading) =
+    layer_alike accepted others Qcow2 place next (here, leading) =
         (subst (λ (b : List ℕ). place ≡ qcow2_place b) same here, leads next leading)
-    layer_alike strict others Vmdk place next (extents, size, read, through, here, none) =
+    layer_alike accepted others Vmdk place next (extents, size, read, through, here, none) =
         let paths : extent_paths one extents ≡ extent_paths other extents = all_beside (flat_names extents) in
         let held : map files (one ∷ extent_paths one extents) ≡ map files (other ∷ extent_paths other extents) =
         ap (λ (b : List ℕ). b ∷ map files (extent_paths one extents)) same
         ∙ ap (λ (ps : List (List ℕ)). files other ∷ map files ps) paths in (
           extents,
           size,
-          subst (λ (b : List ℕ). reading_of (not strict) b ≡ Ok (extents, size)) same read,
+          subst (λ (b : List ℕ). reading_of accepted b ≡ Ok (extents, size)) same read,
           all_let_through others (extent_paths other extents)
               (subst (λ (ps : List (List ℕ)). AreLetThrough others one ps) paths through),
-          subst (λ (bs : List (List ℕ)). place ≡ described_place (not strict) (λ i. slice_index_or bs i [])) held here,
+          subst (λ (bs : List (List ℕ)). place ≡ described_place accepted (λ i. slice_index_or bs i [])) held here,
           none,
         )
 
     -- any file has the same layers under both
     pub image_alike :
-        (strict : Bool) (others : OtherFiles) (format : ImageFormat) (layers : List (ℕ → Place))
-        → AreLayers strict others files one format layers → AreLayers strict others files other format layers
-    image_alike strict others format [] are = are
-    image_alike strict others format (place ∷ below) (next, here, goes) =
-        (next, layer_alike strict others format place next here, on next goes)
+        (accepted : Accepted) (others : OtherFiles) (format : ImageFormat) (layers : List (ℕ → Place))
+        → AreLayers accepted others files one format layers → AreLayers accepted others files other format layers
+    image_alike accepted others format [] are = are
+    image_alike accepted others format (place ∷ below) (next, here, goes) =
+        (next, layer_alike accepted others format place next here, on next goes)
       where
         on : (n : Option (List ℕ))
             → GoesOn n below (λ p. IsLetThrough others one p
-            × ((lower : ImageFormat) × IsFormatBelow (files one) (files p) lower × AreLayers strict others files p lower below))
+            × ((lower : ImageFormat) × IsFormatBelow (files one) p (files p) lower × AreLayers accepted others files p lower below))
             → GoesOn n below (λ p. IsLetThrough others other p
-            × ((lower : ImageFormat) × IsFormatBelow (files other) (files p) lower × AreLayers strict others files p lower below))
+            × ((lower : ImageFormat) × IsFormatBelow (files other) p (files p) lower × AreLayers accepted others files p lower below))
         on None goes = goes
         on (Some p) (through, (lower, by, are)) =
-            (let_through others p through, (lower, subst (λ (b : List ℕ). IsFormatBelow b (files p) lower) same by, are))
+            (let_through others p through, (lower, subst (λ (b : List ℕ). IsFormatBelow b p (files p) lower) same by, are))

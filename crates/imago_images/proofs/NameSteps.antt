@@ -1,17 +1,14 @@
--- What a qcow2 file says of the one below it, and which format a file has.
-use Rattle.std.proofs.Common.{◌≡◌, ℕ, ◌<◌, Bool, true, false, List, Option, Some, None, Result, Ok, Err}
-use Rattle.std.proofs.Common.{IfOk, IfSome, OnOk, MatchResult, IsErr, IsTrue, Global, refl, sym, ap, ◌∙◌, subst, length, inl, inr}
-use Rattle.std.specs.Prelude.{unwrap_or, option_map}
-use Rattle.std.specs.Result.{is_err}
+-- What a qcow2 file says of the one below it.
+use Rattle.std.proofs.Common.{◌≡◌, ℕ, ◌<◌, List, Option, Some, None, Result, Ok, Err}
+use Rattle.std.proofs.Common.{IfOk, IfSome, MatchResult, IsErr, Global, sym, ap, ◌∙◌, subst, length, inl, inr}
+use Rattle.std.specs.Prelude.{option_map}
 use Rattle.std.specs.declared.vec.Vec.{Vec}
-use Rattle.imago_storage.specs.Bytes.{IsReadAt}
 use Rattle.imago_qcow2.specs.Numbers.{be64}
 use Rattle.imago_qcow2.specs.Backing.{IsBackingName, IsFormatName}
 use Rattle.imago_plan.specs.PieceBytes.{bytes_at}
 use Rattle.imago_plan.proofs.BytesAt.{read_bytes}
 use Rattle.imago_images.specs.declared.format.ImageFormat.{ImageFormat}
-use Rattle.imago_images.specs.declared.format.ImageFormat.TheVariants.{Raw, Vmdk, Qcow2}
-use Rattle.imago_images.specs.Formats.{format_by_start, format_named, guessed, is_said_raw, IsFormatBy, SaysFormat}
+use Rattle.imago_images.specs.Formats.{format_named, SaysFormat}
 use Rattle.imago_images.specs.Layers.{SaysBacking}
 use Rattle.imago_images.specs.Refusals.{SaysOtherFormat}
 
@@ -97,38 +94,3 @@ pub name_given :
     → SaysBacking bytes (option_map (λ (n : Vec ℕ Global). n.items) o) → SaysBacking bytes (Some name.items)
 name_given bytes o name is h =
     subst (λ (x : Option (Vec ℕ Global)). SaysBacking bytes (option_map (λ (n : Vec ℕ Global). n.items) x)) is h
-
-pub said_raw :
-    (known : Option (List ℕ → List ℕ)) (path : List ℕ) (said : Option ImageFormat)
-    → said ≡ Some Raw → IfSome known (λ files. IsFormatBy said (files path) Raw)
-said_raw None path said e = tt
-said_raw (Some files) path said e =
-    subst (λ (o : Option ImageFormat). IsFormatBy o (files path) Raw) (sym e) refl
-
--- the format that is said, or else that of the first bytes
-pub format_said :
-    (said : Option ImageFormat) (bytes : List ℕ) (found result : ImageFormat)
-    → guessed bytes ≡ Some found → result ≡ unwrap_or said found → IsFormatBy said bytes result
-format_said None bytes found result g e = g ∙ ap (λ (f : ImageFormat). Some f) (sym e)
-format_said (Some f) bytes found result g e = e
-
-pub raw_said : (said : Option ImageFormat) (bytes : List ℕ) → is_said_raw said ≡ true → IsFormatBy said bytes Raw
-raw_said None bytes e = let none : ⊥ = cc e in absurd none
-raw_said (Some Raw) bytes e = refl
-raw_said (Some Vmdk) bytes e = let none : ⊥ = cc e in absurd none
-raw_said (Some Qcow2) bytes e = let none : ⊥ = cc e in absurd none
-
--- a read that wasn't refused
-pub was_read : {T E : Type 0} (r : Result T E) (P : Type 0) → is_err r ≡ false → OnOk r P → P
-was_read (Ok x) P e h = h
-was_read (Err x) P e h = let none : ⊥ = cc e in absurd none
-
--- what the first bytes that were read tell
-pub head_told :
-    (bytes own head : List ℕ) (tells : Bool) (found : Option ImageFormat) → IsTrue tells × (own ≡ bytes)
-    → (IsTrue tells → IsReadAt own 0 head) → length head ≡ 21 → format_by_start head ≡ found
-    → guessed bytes ≡ found
-head_told bytes own head tells found t read n g =
-    let is : head ≡ bytes_at bytes 0 21 =
-    read_bytes own 0 head (read t.0) ∙ ap (bytes_at own 0) n ∙ ap (λ (xs : List ℕ). bytes_at xs 0 21) t.1 in
-    ap format_by_start (sym is) ∙ g

@@ -6,18 +6,17 @@ use Rattle.imago_storage.specs.Features.{Features}
 use Rattle.imago_plan.specs.PieceBytes.{bytes_at}
 use Rattle.imago_qcow2.specs.Header.{header_of}
 use Rattle.imago_qcow2.specs.declared.fault.OpenFault.{OpenFault}
-use Rattle.imago_qcow2.specs.declared.fault.OpenFault.TheVariants as OpenFault
 use Rattle.imago_qcow2.specs.Fault.{error_of, by_fault}
 use Rattle.imago_qcow2.specs.Limit.{TablesNeedMore}
 use Rattle.imago_storage.specs.declared.error.Error.{Error}
 use Rattle.imago_images.specs.declared.failure.OpenError.{OpenError}
 use Rattle.imago_images.specs.declared.failure.Reason.{Reason}
-use Rattle.imago_images.specs.declared.format.ImageFormat.{ImageFormat}
-use Rattle.imago_images.specs.Formats.{is_said_raw}
 use Rattle.imago_images.specs.HostBytes.{HasBytes}
 use Rattle.imago_images.proofs.PartSteps.{told_same}
 use Rattle.imago_images.specs.FolderParts.{IsBounded, IsBeyond}
-use Rattle.imago_images.specs.Refusals.{IsRefused, IsBySystem, IsByDriver, IsByEither, IsUnopened, IsUnknown, IsSparse, folder_asked}
+use Rattle.imago_images.specs.BackingNames.{file_named}
+use Rattle.imago_images.specs.Layers.{SaysBacking}
+use Rattle.imago_images.specs.Refusals.{IsRefused, IsBySystem, IsByDriver, IsByEither, IsProtocol, IsUnopened, folder_asked}
 
 -- by a reason that says less
 pub weaker :
@@ -51,6 +50,20 @@ pub by_driver :
     → (e : OpenError) → IsRefused path IsByDriver e → IsRefused path why e
 by_driver path why holds e h =
     weaker path IsByDriver why (λ r by. subst (λ (x : Reason). why x) (sym by.1) (holds by.0)) e h
+
+-- by the name that a file has of the one below it
+pub by_name :
+    (path bytes name : List ℕ) (limit : Option ℕ) → SaysBacking bytes (Some name) → (e : OpenError)
+    → IsRefused path (λ r. IsByDriver r ⊎ IsProtocol name r) e → IsRefused path (IsUnopened limit bytes) e
+by_name path bytes name limit says e h =
+    weaker path (λ r. IsByDriver r ⊎ IsProtocol name r) (IsUnopened limit bytes) holds e h
+  where
+    holds : (r : Reason) → IsByDriver r ⊎ IsProtocol name r → IsUnopened limit bytes r
+    holds r (inl by) = subst (λ (x : Reason). IsUnopened limit bytes x) (sym by.1) tt
+    holds r (inr (told, is, text, none)) = subst (λ (x : Reason). IsUnopened limit bytes x) (sym is) (
+      subst (λ (n : List ℕ). SaysBacking bytes (Some n)) (sym text) says,
+      ap file_named text ∙ none,
+    )
 
 pub by_either :
     (path : List ℕ) (why : Reason → Type 0) → ((answer : _) → why (Reason.System answer))
@@ -103,14 +116,6 @@ leads_out None image path bounds b beyond = tt
 leads_out (Some real) image path None b beyond = absurd beyond
 leads_out (Some real) image path (Some folder) b beyond =
     λ within. beyond (subst (λ (f : List ℕ). PathStartsWith (real path) f) (sym b) within)
-
--- a file whose format isn't told, and isn't said to be raw
-pub unknown :
-    (path bytes : List ℕ) (said : Option ImageFormat) → is_said_raw said ≡ false → (e : OpenError)
-    → IsRefused path (λ r. IsByEither r ⊎ IsSparse bytes r) e → IsRefused path (IsUnknown bytes said) e
-unknown path bytes said other (OpenError.OfFile named reason) (is, inl by) = (is, inl by)
-unknown path bytes said other (OpenError.OfFile named reason) (is, inr sparse) = (is, inr (other, sparse))
-unknown path bytes said other OpenError.Memory h = tt
 
 -- a qcow2 file whose tables are larger than the limit
 pub too_large :

@@ -1,10 +1,11 @@
 -- A raw image that is opened for writing.
-use Rattle.std.proofs.Common.{◌≡◌, ℕ, Bool, List, [], ◌∷◌, Option, Some, None, IfSome, length, refl}
+use Rattle.std.proofs.Common.{◌≡◌, ℕ, List, [], ◌∷◌, Option, Some, None, IfSome, length, refl}
 use Rattle.imago_storage.specs.Features.{Features}
 use Rattle.imago_drivers.specs.Place.{Place}
 use Rattle.imago_drivers.specs.Raw.{raw_place}
 use Rattle.imago_drivers.specs.View.{View}
 use Rattle.imago_access.specs.declared.access.FormatAccess.{FormatAccess}
+use Rattle.imago_vmdk.specs.declared.line.Accepted.{Accepted}
 use Rattle.imago_images.specs.declared.format.ImageFormat.TheVariants.{Raw}
 use Rattle.imago_images.specs.declared.opening.OtherFiles.{OtherFiles}
 use Rattle.imago_images.specs.HostBytes.{HasBytes}
@@ -21,10 +22,10 @@ module _ {D St S : Type 0} (view : D → View St) (features : S → Features) (b
       → ((held : List ℕ) → HasBytes features bytes held s
       → IsDriverOf view (length held) (raw_place (length held) held) inner)
       → ((size : ℕ) (place : ℕ → Place) → IsDriverOf view size place inner → ShowsLayers view x size (place ∷ []))
-      → (strict : Bool) (others : OtherFiles)
-      → IfSome known (λ files. IsImageIn view strict others files path Raw x)
-  raw_image None path shown held told of shows strict others = tt
-  raw_image (Some files) path shown held told of shows strict others =
+      → (accepted : Accepted) (others : OtherFiles)
+      → IfSome known (λ files. IsImageIn view accepted others files path Raw x)
+  raw_image None path shown held told of shows accepted others = tt
+  raw_image (Some files) path shown held told of shows accepted others =
       let has : List ℕ = files path in
       let place : ℕ → Place = raw_place (length has) has in (
         place ∷ [],

@@ -54,7 +54,7 @@ IsNextRefused files statuses reals others above path next e =
     ⊎ ((file : ℕ × ℕ) × HasIdentity statuses next file
     × IsRefused next (IsInCircle above file) e)
     ⊎ ((said : Option ImageFormat) × SaysFormat (files path) said
-    × IsRefused next (IsUnknown (files next) said) e)
+    × IsRefused next (IsUnknown said next (files next)) e)
 
 -- A chain isn't opened from the file of a path on, which has that format and is the last one of
 -- those that are given by device and number. The way goes down by these paths to a file, and it
@@ -70,7 +70,7 @@ IsChainRefused files statuses reals others limit above path format [] e =
     ⊎ IsNextRefused files statuses reals others above path next e))
 IsChainRefused files statuses reals others limit above path format (next ∷ down) e =
     GoesDown files path format next × IsLetThrough others path next
-    × ((lower : ImageFormat) × IsFormatBelow (files path) (files next) lower
+    × ((lower : ImageFormat) × IsFormatBelow (files path) next (files next) lower
     × ((file : ℕ × ℕ) × HasIdentity statuses next file
     × IsChainRefused files statuses reals others limit (above ++ file ∷ []) next lower down e))
 
@@ -91,8 +91,8 @@ abbrev pub IsImageRefused :
     → Option ImageFormat → List ℕ → OpenError → Type 0
 IsImageRefused writable files statuses reals others limit said path e =
     IsRefused path (IsUnseen statuses path) e
-    ⊎ IsRefused path (IsUnknown (files path) said) e
-    ⊎ ((format : ImageFormat) × IsFormatBy said (files path) format
+    ⊎ IsRefused path (IsUnknown said path (files path)) e
+    ⊎ ((format : ImageFormat) × IsFormatBy said path (files path) format
     × ((file : ℕ × ℕ) × HasIdentity statuses path file
     × IsOpeningRefused writable files statuses reals others limit (file ∷ []) path format e))
 
@@ -105,7 +105,7 @@ IsWayDown files statuses above path format [] =
     format ≡ Qcow2 → LeadsTo (files path) path None
 IsWayDown files statuses above path format (next ∷ down) =
     GoesDown files path format next
-    × ((lower : ImageFormat) × IsFormatBelow (files path) (files next) lower
+    × ((lower : ImageFormat) × IsFormatBelow (files path) next (files next) lower
     × ((file : ℕ × ℕ) × HasIdentity statuses next file × (is_among above file ≡ false)
     × IsWayDown files statuses (above ++ file ∷ []) next lower down))
 

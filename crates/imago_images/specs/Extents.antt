@@ -8,7 +8,7 @@ abbrev pub flat_names : List (Extent (List ℕ)) → List (List ℕ)
 flat_names [] = []
 flat_names (Extent.Zero sectors ∷ extents) = flat_names extents
 flat_names (Extent.NoAccess sectors ∷ extents) = flat_names extents
-flat_names (Extent.Flat sectors name offset writable ∷ extents) = name ∷ flat_names extents
+flat_names (Extent.Flat sectors name offset writable vmfs ∷ extents) = name ∷ flat_names extents
 
 -- the size of the disk that a descriptor describes, by what was read of it
 abbrev pub size_read : Result (List (Extent (List ℕ)) × ℕ) Error → ℕ

@@ -1,12 +1,15 @@
--- The formats of images in files: their names, and the bytes that a file of each begins with.
-use Rattle.std.specs.Prelude.{◌≡◌, ℕ, Bool, true, false, List, [], ◌∷◌, Option, Some, None, Ok}
+-- The formats of images in files: their names, and which one a file is taken to have.
+use Rattle.std.specs.Prelude.{◌≡◌, ℕ, List, Option, Some, None, Result, Ok, Err}
 use Rattle.std.specs.Prelude.{codes, nat_eq, if◌then◌else◌}
-use Rattle.std.specs.List.{starts_with}
+use Rattle.std.specs.List.{ends_with}
 use Rattle.std.specs.Str.{bytes_eq}
 use Rattle.imago_qcow2.specs.Backing.{format_of}
 use Rattle.imago_plan.specs.PieceBytes.{bytes_at}
 use Rattle.imago_images.specs.declared.format.ImageFormat.{ImageFormat}
 use Rattle.imago_images.specs.declared.format.ImageFormat.TheVariants.{Raw, Vmdk, Qcow2}
+use Rattle.imago_images.specs.declared.signature.Signature.{Signature}
+use Rattle.imago_images.specs.declared.signature.Signature.TheVariants as Of
+use Rattle.imago_images.specs.Signatures.{signature_of, told_by_first, first_block}
 
 -- the format of that name, if one has it
 unfoldable pub format_named : List ℕ → Option ImageFormat
@@ -15,29 +18,52 @@ format_named name =
     (if bytes_eq name (codes "vmdk") then Some Vmdk else
     (if bytes_eq name (codes "qcow2") then Some Qcow2 else None))
 
--- The format of an image by the bytes that its file begins with: a descriptor, or the magic number
--- of qcow2, 'QFI' and 251. A sparse VMDK image has none.
-unfoldable pub format_by_start : List ℕ → Option ImageFormat
-format_by_start head =
-    if starts_with nat_eq head (codes "KDMV") then None else
-    (if starts_with nat_eq head (codes "# Disk DescriptorFile") then Some Vmdk else
-    (if starts_with nat_eq head (81 ∷ 70 ∷ 73 ∷ 251 ∷ []) then Some Qcow2 else Some Raw))
+-- the format that the name of a file ends in, if it does
+unfoldable pub format_by_name : List ℕ → Option ImageFormat
+format_by_name path =
+    if ends_with nat_eq path (codes ".raw") then Some Raw else
+    (if ends_with nat_eq path (codes ".vmdk") then Some Vmdk else None)
 
--- the same of a whole file
-abbrev pub guessed : List ℕ → Option ImageFormat
-guessed bytes = format_by_start (bytes_at bytes 0 21)
+-- A file that begins as a qcow2 image is taken for one, unless its name ends in '.raw'. A guest can
+-- write such a beginning into a raw disk.
+abbrev pub qcow2_by_name : Option ImageFormat → Result ImageFormat Signature
+qcow2_by_name (Some Raw) = Err Of.Qcow2
+qcow2_by_name name = Ok Qcow2
 
--- the format of a file is the one that is said, or else the one that its first bytes tell
-abbrev pub IsFormatBy : Option ImageFormat → List ℕ → ImageFormat → Type 0
-IsFormatBy None bytes format = guessed bytes ≡ Some format
-IsFormatBy (Some said) bytes format = format ≡ said
+-- A file that begins as a descriptor is taken for a VMDK image only if its name ends in '.vmdk'.
+abbrev pub descriptor_by_name : Option ImageFormat → Result ImageFormat Signature
+descriptor_by_name (Some Vmdk) = Ok Vmdk
+descriptor_by_name name = Err Of.Descriptor
 
--- whether a file is said to be raw
-abbrev pub is_said_raw : Option ImageFormat → Bool
-is_said_raw None = false
-is_said_raw (Some Raw) = true
-is_said_raw (Some Vmdk) = false
-is_said_raw (Some Qcow2) = false
+-- What a file is taken for by what its name ends in and what it is recognised as: what isn't
+-- recognised is raw, and all that is neither a qcow2 image nor a descriptor isn't taken for any.
+abbrev pub taken_for : Option ImageFormat → Option Signature → Result ImageFormat Signature
+taken_for name None = Ok Raw
+taken_for name (Some Of.Qcow2) = qcow2_by_name name
+taken_for name (Some Of.Descriptor) = descriptor_by_name name
+taken_for name (Some other) = Err other
+
+-- a format, unless a file is a sparse VMDK image by its first block
+abbrev pub unless_sparse : ImageFormat → Option Signature → Result ImageFormat Signature
+unless_sparse said (Some Of.Sparse) = Err Of.Sparse
+unless_sparse said found = Ok said
+
+-- What a file is that is said to have a format, by its first block: any file is raw where that is
+-- said.
+abbrev pub said_for : ImageFormat → Option Signature → Result ImageFormat Signature
+said_for Raw found = Ok Raw
+said_for Vmdk found = unless_sparse Vmdk found
+said_for Qcow2 found = unless_sparse Qcow2 found
+
+-- The format of the file of a path with these bytes, or what it is recognised as instead: the one
+-- that is said, or else the one that it is taken for.
+abbrev pub told_format : Option ImageFormat → List ℕ → List ℕ → Result ImageFormat Signature
+told_format (Some said) path bytes = said_for said (told_by_first (first_block bytes))
+told_format None path bytes = taken_for (format_by_name path) (signature_of bytes)
+
+-- the file of a path has that format
+abbrev pub IsFormatBy : Option ImageFormat → List ℕ → List ℕ → ImageFormat → Type 0
+IsFormatBy said path bytes format = told_format said path bytes ≡ Ok format
 
 -- what a qcow2 file says of the format of the one below it: nothing, or the name that its header
 -- extension for that has
@@ -47,8 +73,8 @@ SaysFormat bytes (Some format) = (at : ℕ) × (count : ℕ)
     × (format_of bytes ≡ Ok (Some (at, count)))
     × (format_named (bytes_at bytes at count) ≡ Some format)
 
--- the format of the lower one of two files is the one that the upper one says, or else the one that
--- its own first bytes tell
-abbrev pub IsFormatBelow : List ℕ → List ℕ → ImageFormat → Type 0
-IsFormatBelow upper lower format =
-    (said : Option ImageFormat) × SaysFormat upper said × IsFormatBy said lower format
+-- the format of the lower one of two files, which has that path, is the one that the upper one
+-- says, or else the one that it is taken for itself
+abbrev pub IsFormatBelow : List ℕ → List ℕ → List ℕ → ImageFormat → Type 0
+IsFormatBelow upper path lower format =
+    (said : Option ImageFormat) × SaysFormat upper said × IsFormatBy said path lower format

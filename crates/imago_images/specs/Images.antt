@@ -1,11 +1,12 @@
 -- What the image of a file is, layer by layer, by the bytes of the files.
-use Rattle.std.specs.Prelude.{◌≡◌, ℕ, Bool, true, not, List, [], ◌∷◌, map, Option, Some, None}
+use Rattle.std.specs.Prelude.{◌≡◌, ℕ, true, List, [], ◌∷◌, map, Option, Some, None}
 use Rattle.std.specs.Prelude.{length, slice_index_or, Ok}
 use Rattle.imago_drivers.specs.Place.{Place}
 use Rattle.imago_drivers.specs.Raw.{raw_place}
 use Rattle.imago_drivers.specs.View.{View}
 use Rattle.imago_access.specs.declared.access.FormatAccess.{FormatAccess}
 use Rattle.imago_access.specs.Chain.{driver}
+use Rattle.imago_vmdk.specs.declared.line.Accepted.{Accepted}
 use Rattle.imago_vmdk.specs.declared.line.Extent.{Extent}
 use Rattle.imago_vmdk.specs.Reading.{reading_of}
 use Rattle.imago_vmdk.specs.Disk.{described_place}
@@ -15,17 +16,18 @@ use Rattle.imago_images.specs.declared.format.ImageFormat.{ImageFormat}
 use Rattle.imago_images.specs.declared.opening.OtherFiles.{OtherFiles}
 use Rattle.imago_images.specs.declared.format.ImageFormat.TheVariants.{Raw, Vmdk, Qcow2}
 use Rattle.imago_images.specs.Formats.{IsFormatBelow}
+use Rattle.imago_images.specs.BackingNames.{file_named}
 use Rattle.imago_images.specs.Extents.{flat_names}
 use Rattle.imago_images.specs.Layers.{SaysBacking, size_by, IsDriverOf, ShowsLayers}
 use Rattle.imago_images.specs.Layers.{NeverWrites}
 use Rattle.imago_images.specs.Gate.{IsLetThrough, AreLetThrough}
 
 -- The path of the file below a qcow2 file that has that path and these bytes, if there is one: the
--- name that they have stands for it.
+-- name that they have stands for a file, which is taken beside the path.
 abbrev pub LeadsTo : List ℕ → List ℕ → Option (List ℕ) → Type 0
 LeadsTo bytes path None = SaysBacking bytes None
-LeadsTo bytes path (Some next) =
-    (name : List ℕ) × SaysBacking bytes (Some name) × (next ≡ path_beside path name)
+LeadsTo bytes path (Some next) = (name : List ℕ) × (file : List ℕ) × SaysBacking bytes (Some name)
+    × (file_named name ≡ Some file) × (next ≡ path_beside path file)
 
 -- the paths of the files that extents of these names stand in
 abbrev pub extent_paths : List ℕ → List (Extent (List ℕ)) → List (List ℕ)
@@ -39,17 +41,17 @@ bytes_in files paths i = slice_index_or (map files paths) i []
 -- the path of the file below it, if there is one. Nothing is below a VMDK image, whose descriptor
 -- names the files of its FLAT extents.
 abbrev pub IsLayer :
-    Bool → OtherFiles → (List ℕ → List ℕ) → List ℕ → ImageFormat → (ℕ → Place) → Option (List ℕ)
+    Accepted → OtherFiles → (List ℕ → List ℕ) → List ℕ → ImageFormat → (ℕ → Place) → Option (List ℕ)
     → Type 0
-IsLayer strict others files path Raw place next =
+IsLayer accepted others files path Raw place next =
     (place ≡ raw_place (length (files path)) (files path)) × (next ≡ None)
-IsLayer strict others files path Qcow2 place next =
+IsLayer accepted others files path Qcow2 place next =
     (place ≡ qcow2_place (files path)) × LeadsTo (files path) path next
-IsLayer strict others files path Vmdk place next =
+IsLayer accepted others files path Vmdk place next =
     (extents : List (Extent (List ℕ))) × (size : ℕ)
-    × (reading_of (not strict) (files path) ≡ Ok (extents, size))
+    × (reading_of accepted (files path) ≡ Ok (extents, size))
     × AreLetThrough others path (extent_paths path extents)
-    × (place ≡ described_place (not strict) (bytes_in files (path ∷ extent_paths path extents)))
+    × (place ≡ described_place accepted (bytes_in files (path ∷ extent_paths path extents)))
     × (next ≡ None)
 
 -- A chain goes on with the file of the next path, and those below it, or ends.
@@ -58,32 +60,32 @@ GoesOn None below rest = below ≡ []
 GoesOn (Some next) below rest = rest next
 
 -- The layers of an image whose file has that path and that format, the top one first. Each lower
--- file is let through by the one above it, and has the format that this one says, or else its own
--- first bytes.
+-- file is let through by the one above it, and has the format that this one says, or else the one
+-- that it is taken to have itself.
 abbrev pub AreLayers :
-    Bool → OtherFiles → (List ℕ → List ℕ) → List ℕ → ImageFormat → List (ℕ → Place) → Type 0
-AreLayers strict others files path format [] = ⊥
-AreLayers strict others files path format (place ∷ below) =
-    (next : Option (List ℕ)) × IsLayer strict others files path format place next
+    Accepted → OtherFiles → (List ℕ → List ℕ) → List ℕ → ImageFormat → List (ℕ → Place) → Type 0
+AreLayers accepted others files path format [] = ⊥
+AreLayers accepted others files path format (place ∷ below) =
+    (next : Option (List ℕ)) × IsLayer accepted others files path format place next
     × GoesOn next below (λ p. IsLetThrough others path p
-    × ((lower : ImageFormat) × IsFormatBelow (files path) (files p) lower
-    × AreLayers strict others files p lower below))
+    × ((lower : ImageFormat) × IsFormatBelow (files path) p (files p) lower
+    × AreLayers accepted others files p lower below))
 
 -- a driver is that layer, and shows it
 abbrev pub IsLayerOf :
-    {D St : Type 0} → (D → View St) → Bool → OtherFiles → (List ℕ → List ℕ) → List ℕ → ImageFormat
-    → D → Option (List ℕ) → Type 0
-IsLayerOf view strict others files path format inner next =
-    (place : ℕ → Place) × IsLayer strict others files path format place next
-    × IsDriverOf view (size_by strict format (files path)) place inner
+    {D St : Type 0} → (D → View St) → Accepted → OtherFiles → (List ℕ → List ℕ) → List ℕ
+    → ImageFormat → D → Option (List ℕ) → Type 0
+IsLayerOf view accepted others files path format inner next =
+    (place : ℕ → Place) × IsLayer accepted others files path format place next
+    × IsDriverOf view (size_by accepted format (files path)) place inner
 
 -- an image is that of the file of a path, which has that format: it shows the layers of the files
 abbrev pub IsImageIn :
-    {D St : Type 0} → (D → View St) → Bool → OtherFiles → (List ℕ → List ℕ) → List ℕ → ImageFormat
-    → FormatAccess D → Type 0
-IsImageIn view strict others files path format x =
-    (layers : List (ℕ → Place)) × AreLayers strict others files path format layers
-    × ShowsLayers view x (size_by strict format (files path)) layers
+    {D St : Type 0} → (D → View St) → Accepted → OtherFiles → (List ℕ → List ℕ) → List ℕ
+    → ImageFormat → FormatAccess D → Type 0
+IsImageIn view accepted others files path format x =
+    (layers : List (ℕ → Place)) × AreLayers accepted others files path format layers
+    × ShowsLayers view x (size_by accepted format (files path)) layers
 
 -- an image can be written to: its driver writes, and no prepared mapping waits there; and its first
 -- storage is open for that

@@ -1,5 +1,5 @@
 -- What a layer's file says of its disk's size and of the file below it, and what layers show.
-use Rattle.std.specs.Prelude.{◌≡◌, ℕ, ◌<◌, ◌⊎◌, Bool, false, not, List, [], ◌∷◌, Option, Some, None}
+use Rattle.std.specs.Prelude.{◌≡◌, ℕ, ◌<◌, ◌⊎◌, false, List, [], ◌∷◌, Option, Some, None}
 use Rattle.std.specs.Prelude.{length, IsTrue}
 use Rattle.imago_drivers.specs.Place.{Place, Value, Byte, shown}
 use Rattle.imago_drivers.specs.View.{View}
@@ -9,6 +9,7 @@ use Rattle.imago_any_driver.specs.declared.any.AnyDriver.TheVariants as Driver
 use Rattle.imago_qcow2.specs.Limit.{loaded_length}
 use Rattle.imago_qcow2.specs.Qcow2Image.{loaded_in}
 use Rattle.imago_access.specs.Chain.{driver, disk_value, tells_bytes}
+use Rattle.imago_vmdk.specs.declared.line.Accepted.{Accepted}
 use Rattle.imago_vmdk.specs.Reading.{reading_of}
 use Rattle.imago_qcow2.specs.Numbers.{be32, be64}
 use Rattle.imago_qcow2.specs.Entry.{disk_size}
@@ -31,10 +32,10 @@ layers_value [] p = Byte 0
 layers_value (place ∷ below) p = shown (layers_value below) (place p)
 
 -- the size of the disk that a layer's file has, in that format
-abbrev pub size_by : Bool → ImageFormat → List ℕ → ℕ
-size_by strict Raw bytes = length bytes
-size_by strict Qcow2 bytes = disk_size bytes
-size_by strict Vmdk bytes = size_read (reading_of (not strict) bytes)
+abbrev pub size_by : Accepted → ImageFormat → List ℕ → ℕ
+size_by accepted Raw bytes = length bytes
+size_by accepted Qcow2 bytes = disk_size bytes
+size_by accepted Vmdk bytes = size_read (reading_of accepted bytes)
 
 -- a driver of a disk of that size tells its bytes, and has these places
 abbrev pub IsDriverOf : {D St : Type 0} → (D → View St) → ℕ → (ℕ → Place) → D → Type 0

@@ -1,3 +1,4 @@
+pub mod Signatures
 pub mod Formats
 pub mod Opening
 pub mod Extents
@@ -7,6 +8,7 @@ pub mod PathCalls
 pub mod Gate
 pub mod FolderParts
 pub mod GateParts
+pub mod BackingNames
 pub mod Layers
 pub mod Images
 pub mod Way

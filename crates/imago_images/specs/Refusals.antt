@@ -1,6 +1,7 @@
 -- Why files aren't opened for an image: whose fault it is, and what holds there.
 use Rattle.std.specs.Prelude.{◌≡◌, ◌≢◌, ℕ, ◌⊎◌, true, false, List, [], ◌∷◌, Option, Some, None}
-use Rattle.std.specs.Prelude.{Ok, Err, IfSome, IsTrue, codes, length}
+use Rattle.std.specs.Prelude.{Ok, Err, IfSome, IsTrue, String, codes, length}
+use Rattle.std.specs.Global.{Global}
 use Rattle.std.specs.Path.{PathStartsWith}
 use Rattle.std.specs.String.{string_bytes}
 use Rattle.std.specs.declared.io.Error.{Error as IoError}
@@ -21,8 +22,12 @@ use Rattle.imago_images.specs.declared.format.ImageFormat.TheVariants as Format
 use Rattle.imago_images.specs.declared.gate.Named.{Named}
 use Rattle.imago_images.specs.declared.opening.OtherFiles.{OtherFiles}
 use Rattle.imago_images.specs.declared.opening.OtherFiles.TheVariants as Others
-use Rattle.imago_images.specs.Formats.{format_named, guessed, is_said_raw}
+use Rattle.imago_images.specs.declared.signature.Signature.{Signature}
+use Rattle.imago_images.specs.declared.signature.Signature.TheVariants as Of
+use Rattle.imago_images.specs.BackingNames.{file_named}
+use Rattle.imago_images.specs.Formats.{format_named, told_format}
 use Rattle.imago_images.specs.Gate.{folder_path}
+use Rattle.imago_images.specs.Layers.{SaysBacking}
 use Rattle.imago_images.specs.Way.{is_among}
 
 -- A refusal names the file of that path, and this holds of its reason. Where memory was refused,
@@ -59,16 +64,17 @@ IsUnwritten statuses path format Reason.OnlyRead = format ≢ Format.Raw
 IsUnwritten statuses path format (Reason.Image error) = Unit {0}
 IsUnwritten statuses path format reason = IsUnseen statuses path reason
 
--- a file with these bytes begins as a sparse VMDK image does
-abbrev pub IsSparse : List ℕ → Reason → Type 0
-IsSparse bytes Reason.Sparse = guessed bytes ≡ None
-IsSparse bytes reason = ⊥
+-- why a file isn't opened that is recognised as that: a sparse VMDK image has its own reason
+abbrev pub reason_for : Signature → Reason
+reason_for Of.Sparse = Reason.Sparse
+reason_for found = Reason.Recognised found
 
--- The format of a file with these bytes isn't told: it isn't read, or it is a sparse VMDK image
--- that isn't said to be raw.
-abbrev pub IsUnknown : List ℕ → Option ImageFormat → Reason → Type 0
-IsUnknown bytes said reason =
-    IsByEither reason ⊎ ((is_said_raw said ≡ false) × IsSparse bytes reason)
+-- The format of the file of a path isn't told: the file isn't read, or it is recognised as
+-- something that it isn't opened as.
+abbrev pub IsUnknown : Option ImageFormat → List ℕ → List ℕ → Reason → Type 0
+IsUnknown said path bytes reason = IsByEither reason
+    ⊎ ((found : Signature) × (told_format said path bytes ≡ Err found)
+    × (reason ≡ reason_for found))
 
 -- a file stands among those above it
 abbrev pub IsInCircle : List (ℕ × ℕ) → ℕ × ℕ → Reason → Type 0
@@ -134,14 +140,21 @@ abbrev pub HasLargerTables : List ℕ → ℕ → Type 0
 HasLargerTables bytes most =
     (f : Features) × IsTrue f.tells_bytes × TablesNeedMore f bytes (Some most)
 
+-- a name that a qcow2 file has of the one below it stands for no file
+abbrev pub IsProtocol : List ℕ → Reason → Type 0
+IsProtocol name reason = (told : String Global) × (reason ≡ Reason.BackingProtocol told)
+    × (string_bytes told ≡ name) × (file_named name ≡ None)
+
 -- A qcow2 file with these bytes isn't opened within that limit on its tables, if there is one: its
--- header has that fault, its tables are larger than the limit, which is told, it says another
--- format of the file below, or the driver refuses it.
+-- header has that fault, its tables are larger than the limit, which is told, its name of the file
+-- below begins with a protocol, it says another format of that file, or the driver refuses it.
 abbrev pub IsUnopened : Option ℕ → List ℕ → Reason → Type 0
 IsUnopened limit bytes (Reason.Header fault) =
     header_of (bytes_at bytes 0 112) (length bytes) ≡ Err (error_of fault)
 IsUnopened limit bytes (Reason.TablesTooLarge most) =
     (limit ≡ Some most) × HasLargerTables bytes most
+IsUnopened limit bytes (Reason.BackingProtocol told) =
+    SaysBacking bytes (Some (string_bytes told)) × (file_named (string_bytes told) ≡ None)
 IsUnopened limit bytes (Reason.BackingFormat name) = SaysOtherFormat bytes (string_bytes name)
 IsUnopened limit bytes (Reason.Image error) = Unit {0}
 IsUnopened limit bytes (Reason.System answer) = Unit {0}

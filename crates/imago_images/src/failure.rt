@@ -3,6 +3,7 @@ ghost use Rattle.std.specs.Prelude.{◌≡◌, MatchResult, IsErr, IfErr};
 ghost use Rattle.imago_images.specs.declared.failure.OpenError.TheVariants.{Memory};
 ghost use Rattle.imago_images.specs.Refusals.{IsRefused, IsBySystem, IsByDriver};
 
+use crate::signature::Signature;
 use imago_qcow2::fault::HeaderFault;
 use imago_storage::error;
 use std::alloc::{AllocError, AllocFailed, Global};
@@ -43,12 +44,20 @@ pub enum Reason {
     /// A VMDK image of another kind than a text descriptor with extents.
     #[error("a sparse VMDK image, which isn't supported")]
     Sparse,
+    /// A file of a format that isn't supported, or whose name doesn't fit what it begins as. Where
+    /// its format is said, it is opened as that.
+    #[error("{0}")]
+    Recognised(Signature),
     /// A qcow2 image whose backing file of that name or path isn't beside it, nor below.
     #[error("its backing file {0:?} isn't in its folder")]
     BackingOutside(String),
     /// A qcow2 image with a backing file of that path, where no other files are opened.
     #[error("its backing file {0:?} isn't opened: other files aren't permitted")]
     BackingNotPermitted(String),
+    /// A qcow2 image whose backing file of that name is reached by a protocol, as `nbd:` and
+    /// `json:` are: the name has a colon before its first slash, and doesn't begin with `file:`.
+    #[error("its backing file {0:?} is named by a protocol, and only files are supported")]
+    BackingProtocol(String),
     /// A qcow2 image which says that its backing file has this format.
     #[error("its backing file has the format {0:?}, which isn't supported")]
     BackingFormat(String),

@@ -1,6 +1,8 @@
-//! The formats of images in files, and what a file of each begins with.
+//! The formats of images in files, and which one a file is taken to have.
 ghost use Rattle.std.specs.Prelude.{◌≡◌};
-ghost use Rattle.imago_images.specs.Formats.{format_by_start};
+ghost use Rattle.imago_images.specs.Formats.{qcow2_by_name, descriptor_by_name};
+
+use crate::signature::Signature;
 
 /// The format of an image in files.
 #[derive(Clone, Copy, PartialEq, Eq)]
@@ -14,7 +16,8 @@ pub enum ImageFormat {
 }
 
 impl ImageFormat {
-    ghost use Rattle.imago_images.specs.Formats.{format_named};
+    ghost use Rattle.imago_images.specs.Formats.{format_named, format_by_name, taken_for};
+    ghost use Rattle.imago_images.specs.Formats.{said_for, unless_sparse as unless_sparse_by};
 
     /// The format of that name, if one has it.
     #[tactic(auto, unfolding(crate::specs::Formats::format_named))]
@@ -37,31 +40,77 @@ impl ImageFormat {
             ImageFormat::Qcow2 => "qcow2",
         }
     }
+
+    /// The format that the name of a file ends in, as `.raw` or `.vmdk`, if it does. It decides
+    /// nothing by itself: see [`taken`](Self::taken).
+    #[tactic(auto, unfolding(crate::specs::Formats::format_by_name))]
+    pub fn by_name(path: &str) -> Option<ImageFormat>
+        ensures { result ≡ format_by_name path.now }
+    {
+        let name = path.as_bytes();
+        if name.ends_with(b".raw") {
+            return Some(ImageFormat::Raw);
+        }
+        if name.ends_with(b".vmdk") {
+            return Some(ImageFormat::Vmdk);
+        }
+        None
+    }
+
+    /// The format that the file of a path is taken to have where nobody says it, by what it is
+    /// recognised as. A file that is recognised as nothing is raw. Whoever writes a disk can write
+    /// the beginning of another format there, so the name of the file has to agree: a descriptor
+    /// is one only in a file whose name ends in `.vmdk`, and a qcow2 image is none in one whose
+    /// name ends in `.raw`. Otherwise the format has to be said, and this is why.
+    pub fn taken(path: &str, found: Option<Signature>) -> Result<ImageFormat, Signature>
+        ensures { result ≡ taken_for (format_by_name path.now) found }
+    {
+        match found {
+            None => Ok(ImageFormat::Raw),
+            Some(Signature::Qcow2) => qcow2_named(ImageFormat::by_name(path)),
+            Some(Signature::Descriptor) => descriptor_named(ImageFormat::by_name(path)),
+            Some(other) => Err(other),
+        }
+    }
+
+    /// This format, which is said of a file, by what the beginning of the file is recognised as: a
+    /// sparse VMDK image is none, unless it is to be raw.
+    pub fn said(self, found: Option<Signature>) -> Result<ImageFormat, Signature>
+        ensures { result ≡ said_for self found }
+    {
+        match self {
+            ImageFormat::Raw => Ok(self),
+            _ => self.unless_sparse(found),
+        }
+    }
+
+    /// This format, unless a file begins as a sparse VMDK image.
+    fn unless_sparse(self, found: Option<Signature>) -> Result<ImageFormat, Signature>
+        ensures { result ≡ unless_sparse_by self found }
+    {
+        match found {
+            Some(Signature::Sparse) => Err(Signature::Sparse),
+            _ => Ok(self),
+        }
+    }
 }
 
-/// What each descriptor begins with.
-const SIGNATURE: &[u8; 21] = b"# Disk DescriptorFile";
-
-/// What a sparse VMDK image begins with.
-const SPARSE: &[u8; 4] = b"KDMV";
-
-/// What each qcow2 image begins with.
-const QCOW2: &[u8; 4] = b"QFI\xfb";
-
-/// The format of an image by the bytes that its file begins with: a VMDK image begins with a
-/// descriptor, a qcow2 image with its magic number. A sparse VMDK image has none.
-#[tactic(auto, unfolding(crate::specs::Formats::format_by_start))]
-pub fn guess(head: &[u8; 21]) -> Option<ImageFormat>
-    ensures { result ≡ format_by_start head.now }
+/// What a file is taken for that begins as a qcow2 image, by the format that its name ends in.
+fn qcow2_named(name: Option<ImageFormat>) -> Result<ImageFormat, Signature>
+    ensures { result ≡ qcow2_by_name name }
 {
-    if head.starts_with(SPARSE) {
-        return None;
+    match name {
+        Some(ImageFormat::Raw) => Err(Signature::Qcow2),
+        _ => Ok(ImageFormat::Qcow2),
     }
-    if head.starts_with(SIGNATURE) {
-        return Some(ImageFormat::Vmdk);
+}
+
+/// The same of a file that begins as a descriptor.
+fn descriptor_named(name: Option<ImageFormat>) -> Result<ImageFormat, Signature>
+    ensures { result ≡ descriptor_by_name name }
+{
+    match name {
+        Some(ImageFormat::Vmdk) => Ok(ImageFormat::Vmdk),
+        _ => Err(Signature::Descriptor),
     }
-    if head.starts_with(QCOW2) {
-        return Some(ImageFormat::Qcow2);
-    }
-    Some(ImageFormat::Raw)
 }

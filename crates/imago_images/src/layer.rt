@@ -13,19 +13,23 @@ ghost use Rattle.imago_qcow2.specs.Opening.{IsOpened};
 ghost use Rattle.imago_qcow2.specs.Limit.{IsWithin, loaded_length};
 ghost use Rattle.imago_qcow2.specs.Qcow2Image.{storage_in, header_in, loaded_in};
 ghost use Rattle.imago_images.specs.declared.format.ImageFormat.TheVariants as Of;
-ghost use Rattle.imago_images.specs.Formats.{SaysFormat, IsFormatBy, is_said_raw};
-ghost use Rattle.imago_images.specs.Formats.{guessed as guessed_by};
+ghost use Rattle.imago_images.specs.Formats.{SaysFormat, IsFormatBy};
+ghost use Rattle.imago_images.specs.Formats.{told_format as format_told};
 ghost use Rattle.imago_images.specs.Refusals.{IsRefused, IsByDriver, IsByEither, IsUnknown};
-ghost use Rattle.imago_images.specs.Refusals.{IsSparse, IsUnopened};
+ghost use Rattle.imago_images.specs.Refusals.{IsProtocol, IsUnopened, reason_for as reason_by};
+ghost use Rattle.imago_images.specs.BackingNames.{file_named as file_named_by};
 ghost use Rattle.imago_images.specs.Chains.{IsNamedRefused, IsLayerRefused};
 ghost use Rattle.imago_images.specs.declared.gate.Named.TheVariants as NamedAs;
 
+use crate::backing_name::file_named;
 use crate::failure::{OpenError, Reason};
 use crate::file::{PathStorage, look_at};
 use crate::files::Files;
-use crate::format::{ImageFormat, guess};
+use crate::format::ImageFormat;
 use crate::gate::{FolderGate, Named};
 use crate::opening::Opening;
+use crate::recognised::{first_signature, signature_of, unread};
+use crate::signature::Signature;
 use imago_any_driver::any::AnyDriver;
 use imago_drivers::builder::FormatDriverBuilder;
 use imago_drivers::drivers::FormatDriverInstance;
@@ -78,7 +82,7 @@ pub fn open_layer<'a, H: Files>(
     requires path { (⟦<PathStorage<'a, H> as Storage>⟧.features file).filename ≡ Some path.now }
     ensures layer { IfOk result (λ l. IfSome (H.contents host.now)
         (λ files. IsLayerOf ⟦<AnyDriver<PathStorage<'a, H>> as FormatDriverInstance>⟧.view
-        how.strict how.other_files files path.now format l.driver
+        how.accepted how.other_files files path.now format l.driver
         (option_map (λ b. string_bytes b.path) l.below))) }
     ensures format { IfOk result (λ l. IfSome (H.contents host.now)
         (λ files. IfSome l.below (λ b. SaysFormat (files path.now) b.format))) }
@@ -324,11 +328,16 @@ pub fn text_of(alloc: Global, path: &str, name: Vec<u8>) -> Result<String, OpenE
 
 /// The path that a name stands for which the file of that path has.
 fn path_below(alloc: Global, path: &str, name: Vec<u8>) -> Result<String, OpenError>
-    ensures path { IfOk result (λ next. string_bytes next ≡ path_beside_file path.now name.items) }
-    ensures refused { IfErr result (IsRefused path.now IsByDriver) }
+    ensures path { IfOk result (λ next. (file : List ℕ) × (file_named_by name.items ≡ Some file)
+        × (string_bytes next ≡ path_beside_file path.now file)) }
+    ensures refused { IfErr result (IsRefused path.now
+        (λ r. IsByDriver r ⊎ IsProtocol name.items r)) }
 {
     let name = text_of(alloc, path, name)?;
-    Ok(path_beside(alloc, path, &name)?)
+    match file_named(&name) {
+        Some(file) => Ok(path_beside(alloc, path, file)?),
+        None => Err(OpenError::of_file(alloc, path, Reason::BackingProtocol(name))),
+    }
 }
 
 /// The file below a qcow2 image, if there is one.
@@ -390,7 +399,7 @@ fn vmdk_layer<'a, H: Files>(
     ensures alone { IfOk result (λ l. l.below ≡ None) }
     ensures layer { IfOk result (λ l. IfSome (H.contents host.now)
         (λ files. IsLayerOf ⟦<AnyDriver<PathStorage<'a, H>> as FormatDriverInstance>⟧.view
-        how.strict how.other_files files path.now Of.Vmdk l.driver None)) }
+        how.accepted how.other_files files path.now Of.Vmdk l.driver None)) }
     ensures read_only { IfOk result (λ l. NeverWrites
         ⟦<AnyDriver<PathStorage<'a, H>> as FormatDriverInstance>⟧.view l.driver) }
     ensures tables { IfOk result (λ l. tables_in l.driver ≡ 0) }
@@ -400,7 +409,9 @@ fn vmdk_layer<'a, H: Files>(
 {
     let alloc = host.alloc();
     let mut gate = FolderGate::of(host, path, Named::Extents, how.other_files)?;
-    let builder = Vmdk::builder(file).accept_unknown_keys(!how.strict);
+    let builder = Vmdk::builder(file)
+        .accept_unknown_keys(how.accepted.unknown_keys)
+        .accept_vmfs(how.accepted.vmfs);
     match builder.open(alloc, &mut gate) {
         Ok(vmdk) => {
             places_of_bytes(&vmdk);
@@ -444,9 +455,11 @@ fn try_extent<H: Files>(host: &H, path: &str, extent: &str, how: Opening) -> Res
     Ok(())
 }
 
-/// The format of a file: the one that is said, or else the one that its first bytes tell. The first
-/// 21 bytes are read, unless it is said to be raw; only then is a sparse VMDK image taken as its
-/// bytes are, and otherwise it is [`Reason::Sparse`].
+/// The format of the file of that path: the one that is said, or else the one that the file is
+/// taken to have, by its name and by what it is recognised as ([`ImageFormat::taken`]). Where it
+/// isn't said, a file of a format that isn't supported, and one whose name doesn't fit what it
+/// begins as, is [`Reason::Recognised`]. A sparse VMDK image is [`Reason::Sparse`], unless it is
+/// said to be raw. Nothing is read of a file that is said to be raw.
 pub fn format_of<F: HostFile>(
     alloc: Global,
     path: &str,
@@ -455,46 +468,43 @@ pub fn format_of<F: HostFile>(
 ) -> Result<ImageFormat, OpenError>
     ensures told { (bytes : List ℕ) → HasBytes ⟦<FileStorage<F> as Storage>⟧.features
         ⟦<FileStorage<F> as Storage>⟧.bytes bytes file.now
-        → IfOk result (IsFormatBy said bytes) }
+        → IfOk result (IsFormatBy said path.now bytes) }
     ensures refused { (bytes : List ℕ) → HasBytes ⟦<FileStorage<F> as Storage>⟧.features
         ⟦<FileStorage<F> as Storage>⟧.bytes bytes file.now
-        → IfErr result (IsRefused path.now (IsUnknown bytes said)) }
+        → IfErr result (IsRefused path.now (IsUnknown said path.now bytes)) }
 {
-    if is_raw(said) {
-        return Ok(ImageFormat::Raw);
+    match told_format(alloc, path, file, said)? {
+        Ok(format) => Ok(format),
+        Err(found) => Err(OpenError::of_file(alloc, path, reason_for(found))),
     }
-    let guessed = guessed_format(alloc, path, file)?;
-    Ok(said.unwrap_or(guessed))
 }
 
-/// Whether a file is said to be raw.
-fn is_raw(said: Option<ImageFormat>) -> bool
-    ensures { result ≡ is_said_raw said }
+/// Why a file isn't opened that is recognised as that.
+fn reason_for(found: Signature) -> Reason
+    ensures { result ≡ reason_by found }
 {
-    matches!(said, Some(ImageFormat::Raw))
+    match found {
+        Signature::Sparse => Reason::Sparse,
+        other => Reason::Recognised(other),
+    }
 }
 
-/// The format that a file's first bytes tell.
-fn guessed_format<F: HostFile>(
+/// The format of the file of a path, or what it is recognised as instead.
+fn told_format<F: HostFile>(
     alloc: Global,
     path: &str,
     file: &FileStorage<F>,
-) -> Result<ImageFormat, OpenError>
+    said: Option<ImageFormat>,
+) -> Result<Result<ImageFormat, Signature>, OpenError>
     ensures told { (bytes : List ℕ) → HasBytes ⟦<FileStorage<F> as Storage>⟧.features
         ⟦<FileStorage<F> as Storage>⟧.bytes bytes file.now
-        → IfOk result (λ format. guessed_by bytes ≡ Some format) }
-    ensures refused { (bytes : List ℕ) → HasBytes ⟦<FileStorage<F> as Storage>⟧.features
-        ⟦<FileStorage<F> as Storage>⟧.bytes bytes file.now
-        → IfErr result (IsRefused path.now (λ r. IsByEither r ⊎ IsSparse bytes r)) }
+        → IfOk result (λ told. told ≡ format_told said path.now bytes) }
+    ensures refused { IfErr result (IsRefused path.now IsByEither) }
 {
-    let mut head = [0u8; 21];
-    let read = file.read(alloc, &mut head, 0);
-    if let Err(cause) = read {
-        return Err(unread(alloc, path, file, cause));
-    }
-    match guess(&head) {
-        Some(format) => Ok(format),
-        None => Err(OpenError::of_file(alloc, path, Reason::Sparse)),
+    match said {
+        None => Ok(ImageFormat::taken(path, signature_of(alloc, path, file)?)),
+        Some(ImageFormat::Raw) => Ok(Ok(ImageFormat::Raw)),
+        Some(format) => Ok(format.said(first_signature(alloc, path, file)?)),
     }
 }
 
@@ -514,15 +524,5 @@ pub fn told_by_host<F: HostFile, T>(
             Some(answer) => Err(OpenError::of_file(alloc, path, Reason::System(answer))),
             None => Err(cause),
         },
-    }
-}
-
-/// Why a file wasn't read: by the system's own answer, where the storage kept one.
-fn unread<F: HostFile>(alloc: Global, path: &str, file: &FileStorage<F>, cause: Error) -> OpenError
-    ensures { IsRefused path.now IsByEither result }
-{
-    match file.last_error() {
-        Some(answer) => OpenError::of_file(alloc, path, Reason::System(answer)),
-        None => OpenError::of_file(alloc, path, Reason::Image(cause)),
     }
 }

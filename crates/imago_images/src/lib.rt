@@ -7,7 +7,7 @@
 //! ```ignore
 //! let how = Opening {
 //!     format: None,
-//!     strict: false,
+//!     accepted: Accepted::EVERYTHING,
 //!     other_files: OtherFiles::InFolder,
 //!     tables: None,
 //!     writable: false,
@@ -24,6 +24,7 @@
 //! folder and below, or any.
 #![tactic(auto)]
 
+mod backing_name;
 pub mod failure;
 pub mod file;
 pub mod files;
@@ -34,4 +35,6 @@ pub mod layer;
 pub mod opener;
 pub mod opening;
 pub mod over;
+pub mod recognised;
+pub mod signature;
 mod way;

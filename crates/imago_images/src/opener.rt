@@ -1,9 +1,10 @@
 //! An image, opened by its path.
-ghost use Rattle.std.specs.Prelude.{◌≡◌, ◌+◌, ◌++◌, ◌∷◌, [], ℕ, List, Bool, Some, true, false};
+ghost use Rattle.std.specs.Prelude.{◌≡◌, ◌+◌, ◌++◌, ◌∷◌, [], ℕ, List, Some, true, false};
 ghost use Rattle.std.specs.Prelude.{length};
 ghost use Rattle.std.specs.Prelude.{IfOk, IfErr, IfSome};
 ghost use Rattle.std.specs.String.{string_bytes};
 ghost use Rattle.imago_images.specs.declared.format.ImageFormat.TheVariants as Of;
+ghost use Rattle.imago_vmdk.specs.declared.line.Accepted.{Accepted};
 ghost use Rattle.imago_images.specs.declared.opening.OtherFiles.{OtherFiles};
 ghost use Rattle.imago_images.specs.Formats.{IsFormatBy, SaysFormat};
 ghost use Rattle.imago_images.specs.Gate.{IsLetThrough};
@@ -61,10 +62,10 @@ pub fn open_image<'a, H: Files>(
     how: Opening,
 ) -> Result<(ImageFormat, FileImage<'a, H>), OpenError>
     ensures format { IfOk result (λ r. IfSome (H.contents host.now)
-        (λ files. IsFormatBy how.format (files path.now) r.0)) }
+        (λ files. IsFormatBy how.format path.now (files path.now) r.0)) }
     ensures image { IfOk result (λ r. IfSome (H.contents host.now)
         (λ files. IsImageIn ⟦<AnyDriver<PathStorage<'a, H>> as FormatDriverInstance>⟧.view
-        how.strict how.other_files files path.now r.0 r.1)) }
+        how.accepted how.other_files files path.now r.0 r.1)) }
     ensures end { IfOk result (λ r. IfSome (H.contents host.now)
         (λ files. HasEnd files (H.statuses host.now) path.now r.0)) }
     ensures writable { IfOk result (λ r. how.writable ≡ true
@@ -102,7 +103,7 @@ fn open_format<'a, H: Files>(
     requires first { length (entered way.old) ≡ 1 }
     ensures image { IfOk result (λ x. IfSome (H.contents host.now)
         (λ files. IsImageIn ⟦<AnyDriver<PathStorage<'a, H>> as FormatDriverInstance>⟧.view
-        how.strict how.other_files files path.now format x)) }
+        how.accepted how.other_files files path.now format x)) }
     ensures end { IfOk result (λ _. IfSome (H.contents host.now)
         (λ files. IsEndingWay files (H.statuses host.now) (entered way.old) path.now format
         199)) }
@@ -127,10 +128,10 @@ fn open_to_write<'a, H: Files>(
     path: &str,
     format: ImageFormat,
 ) -> Result<FileImage<'a, H>, OpenError>
-    ensures image { (strict : Bool) (others : OtherFiles) → IfOk result
+    ensures image { (accepted : Accepted) (others : OtherFiles) → IfOk result
         (λ x. IfSome (H.contents host.now)
         (λ files. IsImageIn ⟦<AnyDriver<PathStorage<'a, H>> as FormatDriverInstance>⟧.view
-        strict others files path.now format x)) }
+        accepted others files path.now format x)) }
     ensures raw { IfOk result (λ _. format ≡ Of.Raw) }
     ensures writable { IfOk result
         (IsToWrite ⟦<AnyDriver<PathStorage<'a, H>> as FormatDriverInstance>⟧.view) }
@@ -146,10 +147,10 @@ fn open_to_write<'a, H: Files>(
 
 /// Opens the raw image of a path for writing.
 fn raw_to_write<'a, H: Files>(host: &'a H, path: &str) -> Result<FileImage<'a, H>, OpenError>
-    ensures image { (strict : Bool) (others : OtherFiles) → IfOk result
+    ensures image { (accepted : Accepted) (others : OtherFiles) → IfOk result
         (λ x. IfSome (H.contents host.now)
         (λ files. IsImageIn ⟦<AnyDriver<PathStorage<'a, H>> as FormatDriverInstance>⟧.view
-        strict others files path.now Of.Raw x)) }
+        accepted others files path.now Of.Raw x)) }
     ensures writable { IfOk result
         (IsToWrite ⟦<AnyDriver<PathStorage<'a, H>> as FormatDriverInstance>⟧.view) }
     ensures tables { IfOk result (λ x. tables_in (driver_of x) ≡ 0) }
@@ -179,7 +180,7 @@ fn open_chain<'a, H: Files>(
     requires depth { length (entered way.old) + most ≡ 200 }
     ensures image { IfOk result (λ x. IfSome (H.contents host.now)
         (λ files. IsImageIn ⟦<AnyDriver<PathStorage<'a, H>> as FormatDriverInstance>⟧.view
-        how.strict how.other_files files path.now format x)) }
+        how.accepted how.other_files files path.now format x)) }
     ensures read_only { IfOk result
         (IsReadOnly ⟦<AnyDriver<PathStorage<'a, H>> as FormatDriverInstance>⟧.view) }
     ensures tables { IfOk result (λ x. IsWithin how.tables (tables_in (driver_of x))) }
@@ -220,7 +221,8 @@ fn next_file<'a, H: Files>(
     ensures through { IfOk result
         (λ _. IsLetThrough how.other_files path.now (string_bytes next.now.path)) }
     ensures format { IfOk result (λ r. IfSome (H.contents host.now)
-        (λ files. IsFormatBy next.now.format (files (string_bytes next.now.path)) r.1)) }
+        (λ files. IsFormatBy next.now.format (string_bytes next.now.path)
+        (files (string_bytes next.now.path)) r.1)) }
     ensures anew { IfOk result (λ _. (id : ℕ × ℕ)
         × HasIdentity (H.statuses host.now) (string_bytes next.now.path) id
         × (is_among (entered way.old) id ≡ false)

@@ -3,6 +3,7 @@ ghost use Rattle.std.specs.Prelude.{◌≡◌};
 ghost use Rattle.imago_images.specs.Opening.{may_be_outside};
 
 use crate::format::ImageFormat;
+pub use imago_vmdk::line::Accepted;
 
 /// Which files are opened besides the one whose path is given.
 #[derive(Clone, Copy, PartialEq, Eq)]
@@ -18,10 +19,11 @@ pub enum OtherFiles {
 /// How images are to be opened.
 #[derive(Clone, Copy)]
 pub struct Opening {
-    /// The format, if it isn't to be told from the file's first bytes.
+    /// The format, if it isn't to be told from the file's name and from what it begins with
+    /// ([`ImageFormat::taken`]).
     pub format: Option<ImageFormat>,
-    /// Whether a descriptor's keys that aren't known are refused.
-    pub strict: bool,
+    /// What a VMDK descriptor may contain besides the lines that are always accepted.
+    pub accepted: Accepted,
     /// Which other files are opened.
     pub other_files: OtherFiles,
     /// The most bytes that the tables of each qcow2 file of the image may have, if that is limited:

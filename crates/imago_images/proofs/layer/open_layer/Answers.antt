@@ -11,7 +11,7 @@ returns-in-Raw-clause-layer g c =
     let opened = g.H.File.HostFile.contents in
     let file = c.args.file in
     raw_told (view_over (features_of contents opened) faults_of (bytes_of contents opened)) (features_of contents opened) (bytes_of contents opened)
-    c.args.how.strict c.args.how.other_files (contents c.args.host.now) c.args.path.now file c.raw_layer.result
+    c.args.how.accepted c.args.how.other_files (contents c.args.host.now) c.args.path.now file c.raw_layer.result
     driver_in below_in path_in format_in
     c.requires.told
     c.args.format c.in-Raw.is c.raw_layer.ensures.alone c.raw_layer.ensures.driver
@@ -22,7 +22,7 @@ returns-in-Qcow2-clause-layer g c =
     let opened = g.H.File.HostFile.contents in
     let file = c.args.file in
     qcow2_told (view_over (features_of contents opened) faults_of (bytes_of contents opened)) (features_of contents opened) (bytes_of contents opened)
-    c.args.how.strict c.args.how.other_files (contents c.args.host.now) c.args.path.now file c.qcow2_layer.result
+    c.args.how.accepted c.args.how.other_files (contents c.args.host.now) c.args.path.now file c.qcow2_layer.result
     driver_in below_in path_in format_in
     c.requires.told
     c.args.format c.in-Qcow2.is c.qcow2_layer.ensures.driver c.qcow2_layer.ensures.below
@@ -33,7 +33,7 @@ returns-in-Vmdk-clause-layer g c =
     let opened = g.H.File.HostFile.contents in
     let file = c.args.file in
     vmdk_told (view_over (features_of contents opened) faults_of (bytes_of contents opened)) (features_of contents opened) (bytes_of contents opened)
-    c.args.how.strict c.args.how.other_files (contents c.args.host.now) c.args.path.now file c.vmdk_layer.result
+    c.args.how.accepted c.args.how.other_files (contents c.args.host.now) c.args.path.now file c.vmdk_layer.result
     driver_in below_in path_in format_in
     c.requires.told
     c.args.format c.in-Vmdk.is c.vmdk_layer.ensures.alone c.vmdk_layer.ensures.layer
@@ -44,7 +44,7 @@ returns-in-Raw-clause-format g c =
     let opened = g.H.File.HostFile.contents in
     let file = c.args.file in
     alone_said (view_over (features_of contents opened) faults_of (bytes_of contents opened)) (features_of contents opened) (bytes_of contents opened)
-    c.args.how.strict c.args.how.other_files (contents c.args.host.now) c.args.path.now file c.raw_layer.result
+    c.args.how.accepted c.args.how.other_files (contents c.args.host.now) c.args.path.now file c.raw_layer.result
     driver_in below_in path_in format_in
     c.requires.told
     c.raw_layer.ensures.alone
@@ -55,7 +55,7 @@ returns-in-Vmdk-clause-format g c =
     let opened = g.H.File.HostFile.contents in
     let file = c.args.file in
     alone_said (view_over (features_of contents opened) faults_of (bytes_of contents opened)) (features_of contents opened) (bytes_of contents opened)
-    c.args.how.strict c.args.how.other_files (contents c.args.host.now) c.args.path.now file c.vmdk_layer.result
+    c.args.how.accepted c.args.how.other_files (contents c.args.host.now) c.args.path.now file c.vmdk_layer.result
     driver_in below_in path_in format_in
     c.requires.told
     c.vmdk_layer.ensures.alone
@@ -66,7 +66,7 @@ returns-in-Qcow2-clause-format g c =
     let opened = g.H.File.HostFile.contents in
     let file = c.args.file in
     qcow2_said (view_over (features_of contents opened) faults_of (bytes_of contents opened)) (features_of contents opened) (bytes_of contents opened)
-    c.args.how.strict c.args.how.other_files (contents c.args.host.now) c.args.path.now file c.qcow2_layer.result
+    c.args.how.accepted c.args.how.other_files (contents c.args.host.now) c.args.path.now file c.qcow2_layer.result
     driver_in below_in path_in format_in
     c.requires.told
     c.qcow2_layer.ensures.format

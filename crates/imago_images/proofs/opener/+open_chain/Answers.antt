@@ -22,10 +22,10 @@ returns-in_default-clause-image g t c =
     let layer = c.in_ok-driver.field-0 in
     let says : Option Below → Type 0 = λ b. IfSome known (λ files. IsLayerOf
     (view_over (features_of contents opened) faults_of (bytes_of contents opened))
-    c.args.how.strict c.args.how.other_files files c.args.path.now c.args.format layer.driver
+    c.args.how.accepted c.args.how.other_files files c.args.path.now c.args.format layer.driver
     (option_map path_in b)) in
     alone_image (view_over (features_of contents opened) faults_of (bytes_of contents opened))
-    c.args.how.strict c.args.how.other_files known c.args.path.now c.args.format layer.driver
+    c.args.how.accepted c.args.how.other_files known c.args.path.now c.args.format layer.driver
     c.alone.result c.alone.ensures.shows (subst says c.in_default.is c.in_ok-driver.ensures.layer)
 
 pub returns-clause-image : goal.returns-clause-image
@@ -37,13 +37,13 @@ returns-clause-image g t c =
     let next = c.in-Some.next in
     let says : Option Below → Type 0 = λ b. IfSome known (λ files. IsLayerOf
     (view_over (features_of contents opened) faults_of (bytes_of contents opened))
-    c.args.how.strict c.args.how.other_files files c.args.path.now c.args.format layer.driver
+    c.args.how.accepted c.args.how.other_files files c.args.path.now c.args.format layer.driver
     (option_map path_in b)) in
     let shows : List ℕ → Type 0 = λ p. IfSome known (λ files. IsImageIn
     (view_over (features_of contents opened) faults_of (bytes_of contents opened))
-    c.args.how.strict c.args.how.other_files files p c.in_ok-file.format c.in_ok-below.below) in
+    c.args.how.accepted c.args.how.other_files files p c.in_ok-file.format c.in_ok-below.below) in
     over_image (view_over (features_of contents opened) faults_of (bytes_of contents opened))
-    c.args.how.strict c.args.how.other_files known c.args.path.now (string_bytes next.path)
+    c.args.how.accepted c.args.how.other_files known c.args.path.now (string_bytes next.path)
     c.args.format c.in_ok-file.format layer.driver c.in_ok-over.field-0 c.in_ok-below.below next.format
     c.in_ok-over.ensures.shows
     (subst says c.in-Some.is c.in_ok-driver.ensures.layer)
@@ -62,11 +62,11 @@ returns-then-most-eq0-clause-refused g t c =
     let next = c.in-Some.next in
     let says : Option Below → Type 0 = λ b. IfSome known (λ files. IsLayerOf
     (view_over (features_of contents opened) faults_of (bytes_of contents opened))
-    c.args.how.strict c.args.how.other_files files c.args.path.now c.args.format layer.driver
+    c.args.how.accepted c.args.how.other_files files c.args.path.now c.args.format layer.driver
     (option_map path_in b)) in
     let deep : length (entered c.args.way.now) ≡ 200 = omega arith in
     too_deep_out (view_over (features_of contents opened) faults_of (bytes_of contents opened))
-    c.args.how.strict c.args.how.other_files c.args.how.tables (g.H.Files.statuses host) (g.H.Files.real_paths host)
+    c.args.how.accepted c.args.how.other_files c.args.how.tables (g.H.Files.statuses host) (g.H.Files.real_paths host)
     (entered c.args.way.now) c.args.path.now c.args.format c.too_many_below.result known (string_bytes next.path)
     layer.driver (subst says c.in-Some.is c.in_ok-driver.ensures.layer) deep c.too_many_below.ensures
 
@@ -80,13 +80,13 @@ returns-in_err-file-clause-refused g t c =
     let next = c.in-Some.next in
     let says : Option Below → Type 0 = λ b. IfSome known (λ files. IsLayerOf
     (view_over (features_of contents opened) faults_of (bytes_of contents opened))
-    c.args.how.strict c.args.how.other_files files c.args.path.now c.args.format layer.driver
+    c.args.how.accepted c.args.how.other_files files c.args.path.now c.args.format layer.driver
     (option_map path_in b)) in
     let e = c.in_err-file.field-0.0 in
     let p = err_from_is_err_and c.from_residual-in_err-file.result c.from_residual-in_err-file.ensures.1 in
     refused_with c.from_residual-in_err-file.result e _ (p.1 ∙ ap (λ x. Err x) p.2)
     (next_out (view_over (features_of contents opened) faults_of (bytes_of contents opened))
-    c.args.how.strict c.args.how.other_files c.args.how.tables (g.H.Files.statuses host) (g.H.Files.real_paths host)
+    c.args.how.accepted c.args.how.other_files c.args.how.tables (g.H.Files.statuses host) (g.H.Files.real_paths host)
     (entered c.args.way.now) c.args.path.now c.args.format e known (string_bytes next.path) next.format
     layer.driver (subst says c.in-Some.is c.in_ok-driver.ensures.layer)
     (told_format known c.args.path.now Below format_in layer.below next c.in-Some.is c.in_ok-driver.ensures.format)
@@ -102,7 +102,7 @@ returns-in_err-below-clause-refused g t c =
     let next = c.in-Some.next in
     let says : Option Below → Type 0 = λ b. IfSome known (λ files. IsLayerOf
     (view_over (features_of contents opened) faults_of (bytes_of contents opened))
-    c.args.how.strict c.args.how.other_files files c.args.path.now c.args.format layer.driver
+    c.args.how.accepted c.args.how.other_files files c.args.path.now c.args.format layer.driver
     (option_map path_in b)) in
     let e = c.in_err-below.field-0.0 in
     let p = err_from_is_err_and c.from_residual-in_err-below.result c.from_residual-in_err-below.ensures.1 in
@@ -113,7 +113,7 @@ returns-in_err-below-clause-refused g t c =
     c.in_ok-file.format down e) in
     refused_with c.from_residual-in_err-below.result e _ (p.1 ∙ ap (λ x. Err x) p.2)
     (below_out (view_over (features_of contents opened) faults_of (bytes_of contents opened))
-    c.args.how.strict c.args.how.other_files c.args.how.tables (g.H.Files.statuses host) (g.H.Files.real_paths host)
+    c.args.how.accepted c.args.how.other_files c.args.how.tables (g.H.Files.statuses host) (g.H.Files.real_paths host)
     (entered c.args.way.now) c.args.path.now c.args.format e known (string_bytes next.path) next.format
     c.in_ok-file.format layer.driver anew.0 now (subst says c.in-Some.is c.in_ok-driver.ensures.layer)
     (told_format known c.args.path.now Below format_in layer.below next c.in-Some.is c.in_ok-driver.ensures.format)
@@ -129,10 +129,10 @@ returns-in_default-clause-end g t c =
     let layer = c.in_ok-driver.field-0 in
     let says : Option Below → Type 0 = λ b. IfSome known (λ files. IsLayerOf
     (view_over (features_of contents opened) faults_of (bytes_of contents opened))
-    c.args.how.strict c.args.how.other_files files c.args.path.now c.args.format layer.driver
+    c.args.how.accepted c.args.how.other_files files c.args.path.now c.args.format layer.driver
     (option_map path_in b)) in
     last_ends (view_over (features_of contents opened) faults_of (bytes_of contents opened))
-    c.args.how.strict c.args.how.other_files (g.H.Files.statuses host) (entered c.args.way.now)
+    c.args.how.accepted c.args.how.other_files (g.H.Files.statuses host) (entered c.args.way.now)
     c.args.path.now c.args.format known layer.driver c.args.most
     (subst says c.in_default.is c.in_ok-driver.ensures.layer)
 
@@ -146,7 +146,7 @@ returns-clause-end g t c =
     let next = c.in-Some.next in
     let says : Option Below → Type 0 = λ b. IfSome known (λ files. IsLayerOf
     (view_over (features_of contents opened) faults_of (bytes_of contents opened))
-    c.args.how.strict c.args.how.other_files files c.args.path.now c.args.format layer.driver
+    c.args.how.accepted c.args.how.other_files files c.args.path.now c.args.format layer.driver
     (option_map path_in b)) in
     let anew = c.in_ok-file.ensures.anew in
     let now = entered c.next_file.new.way in
@@ -155,7 +155,7 @@ returns-clause-end g t c =
     let ends : List ℕ → Type 0 = λ q. IfSome known (λ files. IsEndingWay files (g.H.Files.statuses host) now q
     c.in_ok-file.format less) in
     next_ends (view_over (features_of contents opened) faults_of (bytes_of contents opened))
-    c.args.how.strict c.args.how.other_files (g.H.Files.statuses host) (entered c.args.way.now)
+    c.args.how.accepted c.args.how.other_files (g.H.Files.statuses host) (entered c.args.way.now)
     c.args.path.now c.args.format known (string_bytes next.path) next.format c.in_ok-file.format layer.driver
     anew.0 now less c.args.most (subst says c.in-Some.is c.in_ok-driver.ensures.layer)
     (told_format known c.args.path.now Below format_in layer.below next c.in-Some.is c.in_ok-driver.ensures.format)

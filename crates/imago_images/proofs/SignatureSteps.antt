@@ -1,0 +1,82 @@
+-- What a file is recognised as by its blocks.
+use Rattle.std.proofs.Common.{◌≡◌, ◌∙◌, ◌<◌, ap, sym, refl, List, ℕ, Option, Some, None, length, arith, min, nat_lt, true, false, ◌-◌, ◌≤◌, Bool, IsTrue, Result, Ok, Err, OnOk, IfOk, subst}
+use Rattle.std.proofs.lemmas.Bool.Decides.{nat_tests}
+use Rattle.imago_storage.specs.Bytes.{IsReadAt}
+use Rattle.imago_plan.specs.PieceBytes.{bytes_at}
+use Rattle.imago_plan.proofs.BytesAt.{read_bytes}
+use Rattle.std.specs.Option.{option_or}
+use Rattle.imago_images.specs.declared.signature.Signature.{Signature}
+use Rattle.imago_images.specs.Signatures.{found_first, first_marks, told_by_text, told_by_first, told_by_last, first_block, last_block, signature_of}
+
+-- the first mark that stands in a block tells
+pub told_by_mark :
+    (block : List ℕ) (s : Signature) → found_first first_marks block ≡ Some s
+    → Some s ≡ told_by_first block
+unfolding told_by_first
+told_by_mark block s is =
+    sym (ap (λ (o : Option Signature). option_or o (told_by_text block)) is)
+
+-- where none stands there, the text does
+pub told_unmarked :
+    (block : List ℕ) → found_first first_marks block ≡ None
+    → told_by_text block ≡ told_by_first block
+unfolding told_by_first
+told_unmarked block is =
+    sym (ap (λ (o : Option Signature). option_or o (told_by_text block)) is)
+
+-- a file is what its first block tells
+pub by_first :
+    (bytes : List ℕ) (s : Signature) (found : Option Signature) → found ≡ Some s
+    → found ≡ told_by_first (first_block bytes) → Some s ≡ signature_of bytes
+by_first bytes s found is told =
+    sym (ap (λ (o : Option Signature). option_or o (told_by_last (last_block bytes))) (sym told ∙ is))
+
+-- where that tells nothing, it is what its last block tells
+pub by_last :
+    (bytes : List ℕ) (last found : Option Signature) → found ≡ None
+    → found ≡ told_by_first (first_block bytes) → last ≡ told_by_last (last_block bytes)
+    → last ≡ signature_of bytes
+by_last bytes last found is told ends =
+    ends ∙ sym (ap (λ (o : Option Signature). option_or o (told_by_last (last_block bytes))) (sym told ∙ is))
+
+-- a file that is shorter than a block has no last one, which tells nothing
+pub no_last : (bytes : List ℕ) → length bytes < 512 → None ≡ told_by_last (last_block bytes)
+unfolding told_by_last
+no_last bytes short =
+    let t : nat_lt (length bytes) 512 ≡ true = grind (arith, nat_tests) in rw t refl
+
+-- what the blocks of a file tell, as they were read
+pub first_told :
+    (bytes block : List ℕ) (n count : ℕ) (found : Option Signature) → n ≡ length bytes
+    → count ≡ min n 512 → block ≡ bytes_at bytes 0 count → found ≡ told_by_first block
+    → found ≡ told_by_first (first_block bytes)
+first_told bytes block n count found long all read told =
+    told ∙ ap told_by_first (read ∙ ap (bytes_at bytes 0) (all ∙ ap (λ (k : ℕ). min k 512) long))
+
+pub last_told :
+    (bytes block : List ℕ) (n at : ℕ) (found : Option Signature) → n ≡ length bytes → 512 ≤ n
+    → at ≡ n - 512 → block ≡ bytes_at bytes at 512 → found ≡ told_by_last block
+    → found ≡ told_by_last (last_block bytes)
+last_told bytes block n at found long enough is read told =
+    let t : nat_lt (length bytes) 512 ≡ false = grind (arith, nat_tests, long, enough) in
+    let here : at ≡ length bytes - 512 = is ∙ ap (λ (k : ℕ). k - 512) long in
+    rw t (told ∙ ap told_by_last (read ∙ ap (λ (k : ℕ). bytes_at bytes k 512) here))
+
+-- what is so where a call succeeded that did
+pub was_done :
+    {T E : Type 0} (r : Result T E) (x : T) (P : Type 0) → r ≡ Ok x → OnOk r P → P
+was_done {T} {E} r x P is h = subst (λ (q : Result T E). OnOk q P) is h
+
+-- what follows of each success
+pub each_ok :
+    {T E : Type 0} (r : Result T E) (P Q : T → Type 0) → ((x : T) → P x → Q x) → IfOk r P → IfOk r Q
+each_ok (Ok x) P Q h p = h x p
+each_ok (Err e) P Q h p = tt
+
+-- a block that was read
+pub block_read :
+    (bytes own block : List ℕ) (tells : Bool) (at n : ℕ) → IsTrue tells × (own ≡ bytes)
+    → (IsTrue tells → IsReadAt own at block) → length block ≡ n → block ≡ bytes_at bytes at n
+block_read bytes own block tells at n told read long =
+    read_bytes own at block (read told.0) ∙ ap (bytes_at own at) long
+    ∙ ap (λ (xs : List ℕ). bytes_at xs at n) told.1
