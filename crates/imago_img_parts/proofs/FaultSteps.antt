@@ -1,5 +1,5 @@
 -- What a check that found no fault says of the files of an image.
-use Rattle.std.proofs.Common.{◌≡◌, ℕ, ◌+◌, ◌-◌, ◌/◌, ◌%◌, ◌<◌, ◌≤◌, ◌⊎◌, arith, Bool, not, List, ◌∷◌, map, length, Option, Some, None, Result, Ok, Err, IfOk, IfSome, String, Global, IsTrue, string_bytes, refl, sym, ap, subst, ◌∙◌}
+use Rattle.std.proofs.Common.{◌≡◌, ℕ, ◌+◌, ◌-◌, ◌/◌, ◌%◌, ◌<◌, ◌≤◌, ◌⊎◌, arith, List, ◌∷◌, map, length, Option, Some, None, Result, Ok, Err, IfOk, IfSome, String, Global, IsTrue, string_bytes, refl, sym, ap, subst, ◌∙◌}
 use Rattle.imago_storage.specs.Features.{Features}
 use Rattle.std.specs.Prelude.{MatchResult, is_ok, IsErr}
 use Rattle.std.specs.declared.vec.Vec.{Vec}
@@ -11,6 +11,7 @@ use Rattle.imago_qcow2.specs.Tables.{header_cluster}
 use Rattle.imago_qcow2.specs.Qcow2.{loaded_view}
 use Rattle.imago_drivers.specs.View.{View}
 use Rattle.imago_drivers.specs.Place.{Place, Stored, Zeroed, Special, Lower, Refused, End}
+use Rattle.imago_vmdk.specs.declared.line.Accepted.{Accepted}
 use Rattle.imago_vmdk.specs.declared.line.Extent.{Extent}
 use Rattle.imago_vmdk.specs.Line.{extent_with}
 use Rattle.imago_vmdk.specs.Reading.{reading_of}
@@ -215,17 +216,17 @@ module _ {S : Type 0} (features : S → Features) (stored : S → List ℕ)
       ))
 
 -- the extents of a descriptor that was read, and that are held
-pub vmdk_faultless : (strict : Bool) (others : OtherFiles) (known : Option (List ℕ → List ℕ))
+pub vmdk_faultless : (accepted : Accepted) (others : OtherFiles) (known : Option (List ℕ → List ℕ))
     (path text : List ℕ) (extents : List (Extent (List ℕ))) (size : ℕ)
-    → reading_of (not strict) text ≡ Ok (extents, size)
+    → reading_of accepted text ≡ Ok (extents, size)
     → IfSome known (λ files. text ≡ files path)
     → IfSome known (λ files. AreHeld others files path extents)
     → IfSome known (λ files. (extents : List (Extent (List ℕ))) × (size : ℕ)
-    × (reading_of (not strict) (files path) ≡ Ok (extents, size))
+    × (reading_of accepted (files path) ≡ Ok (extents, size))
     × AreHeld others files path extents)
-vmdk_faultless strict others None path text extents size says same held = tt
-vmdk_faultless strict others (Some files) path text extents size says same held =
-    (extents, size, ap (reading_of (not strict)) (sym same) ∙ says, held)
+vmdk_faultless accepted others None path text extents size says same held = tt
+vmdk_faultless accepted others (Some files) path text extents size says same held =
+    (extents, size, ap (reading_of accepted) (sym same) ∙ says, held)
 
 -- one extent more is held
 pub extent_step : (others : OtherFiles) (known : Option (List ℕ → List ℕ)) (path : List ℕ)
@@ -242,10 +243,10 @@ extent_step others (Some files) path all rest behind first is held before = λ l
     AreHeld others files path (map (extent_with string_bytes) es)) (sym is) (held, later))
 
 -- an image of a format that its file has is so without a fault
-pub faultless_by : (strict : Bool) (others : OtherFiles) (said : Option ImageFormat)
+pub faultless_by : (accepted : Accepted) (others : OtherFiles) (said : Option ImageFormat)
     (known : Option (List ℕ → List ℕ)) (path : List ℕ) (format : ImageFormat)
-    → IfSome known (λ files. IsFormatBy said (files path) format)
-    → IfSome known (λ files. IsFaultlessAs strict others files path format)
-    → IfSome known (λ files. IsFaultless strict others said files path)
-faultless_by strict others said None path format by none = tt
-faultless_by strict others said (Some files) path format by none = (format, by, none)
+    → IfSome known (λ files. IsFormatBy said path (files path) format)
+    → IfSome known (λ files. IsFaultlessAs accepted others files path format)
+    → IfSome known (λ files. IsFaultless accepted others said files path)
+faultless_by accepted others said None path format by none = tt
+faultless_by accepted others said (Some files) path format by none = (format, by, none)

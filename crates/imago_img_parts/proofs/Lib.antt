@@ -4,3 +4,4 @@ mod Printed
 mod Decimals
 mod ClusterSteps
 mod FaultSteps
+mod Cleared

@@ -25,7 +25,7 @@ must_be_same false m n e is = absurd (false≢true is)
 told : (how : Opening) (other : Option ImageFormat) (same_size : Bool) (files : List ℕ → List ℕ)
     (first second : List ℕ) (size other_size : ℕ) (found : Option ℕ) (skips : Bool)
     → is_left_out same_size size other_size ≡ skips
-    → AreCompared how.strict how.other_files how.format other same_size files first second size
+    → AreCompared how.accepted how.other_files how.format other same_size files first second size
     other_size found
     → AreToldApart how other same_size files first second
     (outcome_when (not skips && not (is_some found)))
@@ -42,7 +42,7 @@ pub told_apart : (how : Opening) (other : Option ImageFormat) (same_size : Bool)
     (found : Option ℕ) (alike : Bool) (outcome : Outcome)
     → alike ≡ (not (is_left_out same_size size other_size) && not (is_some found))
     → outcome ≡ outcome_when alike
-    → IfSome contents (λ files. AreCompared how.strict how.other_files how.format other same_size
+    → IfSome contents (λ files. AreCompared how.accepted how.other_files how.format other same_size
     files first second size other_size found)
     → IfSome contents (λ files. AreToldApart how other same_size files first second outcome)
 told_apart how other same_size contents first second size other_size found alike outcome is of_alike h =
@@ -69,7 +69,7 @@ nothing (Some files) = tt
 -- whether faults were found tells whether an image is in order
 found : (how : Opening) (contents : Option (List ℕ → List ℕ)) (path : List ℕ)
     (fine : Bool) → (fine ≡ true → IfSome contents
-    (λ files. IsFaultless how.strict how.other_files how.format files path))
+    (λ files. IsFaultless how.accepted how.other_files how.format files path))
     → IfSome contents (λ files. IsChecked how files path (outcome_when fine))
 found how contents path true h = h refl
 found how contents path false h = nothing contents
@@ -77,7 +77,7 @@ found how contents path false h = nothing contents
 pub found_faults : (how said : Opening) → how ≡ said → (contents : Option (List ℕ → List ℕ))
     (path : List ℕ) (fine : Bool) (outcome : Outcome) → outcome ≡ outcome_when fine
     → (fine ≡ true → IfSome contents
-    (λ files. IsFaultless how.strict how.other_files how.format files path))
+    (λ files. IsFaultless how.accepted how.other_files how.format files path))
     → IfSome contents (λ files. IsChecked said files path outcome)
 found_faults how said e contents path fine outcome is h =
     let one : IfSome contents (λ files. IsChecked how files path outcome) =

@@ -11,7 +11,7 @@ use Rattle.imago_img_parts.specs.declared.question.Question.{Question}
 use Rattle.imago_img_parts.specs.declared.question.Question.TheVariants as Q
 use Rattle.imago_img_parts.specs.declared.run.Outcome.{Outcome}
 use Rattle.imago_img_parts.specs.declared.run.Outcome.TheVariants.{Fine, Unlike}
-use Rattle.imago_img_parts.specs.Files.{Around}
+use Rattle.imago_img_parts.specs.Files.{Around, IsSoOnceCleared}
 use Rattle.imago_img_parts.specs.Disks.{IsConverted, AreAlike, AreUnlike}
 use Rattle.imago_img_parts.specs.Faultless.{IsFaultless}
 use Rattle.imago_img_parts.specs.Openings.{how_by, image_format}
@@ -26,15 +26,15 @@ outcome_when false = Unlike
 abbrev pub AreToldApart :
     Opening → Option ImageFormat → Bool → (List ℕ → List ℕ) → List ℕ → List ℕ → Outcome → Type 0
 AreToldApart how other same_size files first second Fine =
-    AreAlike how.strict how.other_files how.format other same_size files first second
+    AreAlike how.accepted how.other_files how.format other same_size files first second
 AreToldApart how other same_size files first second Unlike =
-    AreUnlike how.strict how.other_files how.format other same_size files first second
+    AreUnlike how.accepted how.other_files how.format other same_size files first second
 
 -- The file of an image has no fault that a check looks for. What it says where it finds one isn't
 -- told here.
 abbrev pub IsChecked : Opening → (List ℕ → List ℕ) → List ℕ → Outcome → Type 0
 IsChecked how files path Fine =
-    IsFaultless how.strict how.other_files how.format files path
+    IsFaultless how.accepted how.other_files how.format files path
 IsChecked how files path Unlike = Unit {0}
 
 -- what the answer to a question says of files, where it is told what they have
@@ -73,14 +73,17 @@ IsAsked refused question old new before after status =
     (new ≡ old) × (after ≡ before) × IsConcluded refused question old status
 
 -- With status 0 an image was converted, by how it is opened; else the status is 1, and the files
--- are as they were.
+-- are as they were. If a file may be replaced, the unfinished file of an earlier `convert` to the
+-- same path may be gone before.
 abbrev pub IsConvertedBy :
     Opening → Convert → Option (List ℕ → List ℕ) → Option (List ℕ → List ℕ)
     → Option Around → Option Around → ℕ → Type 0
 IsConvertedBy how c old new before after status =
-    ((status ≡ 0) × IsConverted how.strict how.other_files how.format c.force old new before after
-    c.source.now c.target.now)
-    ⊎ ((status ≡ 1) × (new ≡ old) × (after ≡ before))
+    ((status ≡ 0) × IsSoOnceCleared c.force old before c.target.now
+    (λ files around. IsConverted how.accepted how.other_files how.format c.force files new around
+    after c.source.now c.target.now))
+    ⊎ ((status ≡ 1) × IsSoOnceCleared c.force old before c.target.now
+    (λ files around. (new ≡ files) × (after ≡ around)))
 
 -- What a command did to the files of a host, and what its status says of them, where that is told.
 -- The first number is the status of a refused line.

@@ -4,55 +4,56 @@ use Rattle.std.specs.Prelude.{length, map, Option, Some, None, option_map, IfSom
 use Rattle.imago_drivers.specs.Place.{Place, Value, Byte}
 use Rattle.imago_access.specs.Disk.{values_from}
 use Rattle.imago_copy.specs.Differences.{IsFirstDifferentValue}
+use Rattle.imago_vmdk.specs.declared.line.Accepted.{Accepted}
 use Rattle.imago_images.specs.declared.format.ImageFormat.{ImageFormat}
 use Rattle.imago_images.specs.declared.opening.OtherFiles.{OtherFiles}
 use Rattle.imago_images.specs.declared.format.ImageFormat.TheVariants.{Raw, Vmdk, Qcow2}
-use Rattle.imago_images.specs.Formats.{IsFormatBy}
+use Rattle.imago_images.specs.Formats.{IsFormatBy, format_by_name}
 use Rattle.imago_images.specs.Gate.{folder_path}
 use Rattle.imago_images.specs.Layers.{layers_value, size_by}
 use Rattle.imago_images.specs.Images.{AreLayers}
 use Rattle.imago_img_parts.specs.Files.{Around, with_file, IsMade}
 
 -- The image of a path shows these values, one for each offset of its disk: it is opened as the
--- format that was said, or else as the one that its first bytes tell, and its layers are what its
--- file and the files that this one leads to have.
+-- format that was said, or else as the one that its file is taken to have, and its layers are what
+-- its file and the files that this one leads to have.
 abbrev pub ShowsDisk :
-    Bool → OtherFiles → Option ImageFormat → (List ℕ → List ℕ) → List ℕ → List Value → Type 0
-ShowsDisk strict others said files path disk =
-    (format : ImageFormat) × (layers : List (ℕ → Place)) × IsFormatBy said (files path) format
-    × AreLayers strict others files path format layers
-    × (disk ≡ values_from (layers_value layers) 0 (size_by strict format (files path)))
+    Accepted → OtherFiles → Option ImageFormat → (List ℕ → List ℕ) → List ℕ → List Value → Type 0
+ShowsDisk accepted others said files path disk =
+    (format : ImageFormat) × (layers : List (ℕ → Place)) × IsFormatBy said path (files path) format
+    × AreLayers accepted others files path format layers
+    × (disk ≡ values_from (layers_value layers) 0 (size_by accepted format (files path)))
 
 -- the same, where all values are bytes
 abbrev pub HasDisk :
-    Bool → OtherFiles → Option ImageFormat → (List ℕ → List ℕ) → List ℕ → List ℕ → Type 0
-HasDisk strict others said files path disk =
-    ShowsDisk strict others said files path (map Byte disk)
+    Accepted → OtherFiles → Option ImageFormat → (List ℕ → List ℕ) → List ℕ → List ℕ → Type 0
+HasDisk accepted others said files path disk =
+    ShowsDisk accepted others said files path (map Byte disk)
 
 -- the size of the disk that the image of a path has, in bytes
-abbrev pub HasSize : Bool → Option ImageFormat → (List ℕ → List ℕ) → List ℕ → ℕ → Type 0
-HasSize strict said files path size =
-    (format : ImageFormat) × IsFormatBy said (files path) format
-    × (size ≡ size_by strict format (files path))
+abbrev pub HasSize : Accepted → Option ImageFormat → (List ℕ → List ℕ) → List ℕ → ℕ → Type 0
+HasSize accepted said files path size =
+    (format : ImageFormat) × IsFormatBy said path (files path) format
+    × (size ≡ size_by accepted format (files path))
 
 -- the disk of the image of a path was put behind what was there before, where both are told
 abbrev pub IsDiskAppended :
-    Bool → OtherFiles → Option ImageFormat → Option (List ℕ → List ℕ) → List ℕ → Option (List ℕ)
+    Accepted → OtherFiles → Option ImageFormat → Option (List ℕ → List ℕ) → List ℕ → Option (List ℕ)
     → Option (List ℕ) → Type 0
-IsDiskAppended strict others said None path old new = Unit {0}
-IsDiskAppended strict others said (Some files) path None new = Unit {0}
-IsDiskAppended strict others said (Some files) path (Some old) new =
-    (disk : List ℕ) × HasDisk strict others said files path disk × (new ≡ Some (old ++ disk))
+IsDiskAppended accepted others said None path old new = Unit {0}
+IsDiskAppended accepted others said (Some files) path None new = Unit {0}
+IsDiskAppended accepted others said (Some files) path (Some old) new =
+    (disk : List ℕ) × HasDisk accepted others said files path disk × (new ≡ Some (old ++ disk))
 
 -- The file of one path now has the disk that the image of another path had, and all other files
 -- have what they had, where that is told. Nothing else was made, and nothing is left unfinished;
 -- unless it was to be replaced, nothing had that path.
 abbrev pub IsConverted :
-    Bool → OtherFiles → Option ImageFormat → Bool → Option (List ℕ → List ℕ)
+    Accepted → OtherFiles → Option ImageFormat → Bool → Option (List ℕ → List ℕ)
     → Option (List ℕ → List ℕ) → Option Around → Option Around → List ℕ → List ℕ → Type 0
-IsConverted strict others said replace None new before after from to = Unit {0}
-IsConverted strict others said replace (Some files) new before after from to =
-    (disk : List ℕ) × HasDisk strict others said files from disk
+IsConverted accepted others said replace None new before after from to = Unit {0}
+IsConverted accepted others said replace (Some files) new before after from to =
+    (disk : List ℕ) × HasDisk accepted others said files from disk
     × IsMade (Some files) new to (Some disk) × (after ≡ option_map (with_file to) before)
     × (replace ≡ false → IfSome before (λ a. a.there to ≡ false))
 
@@ -63,6 +64,14 @@ abbrev pub NamesStandAlike : List ℕ → List ℕ → ImageFormat → Type 0
 NamesStandAlike first second Raw = Unit {0}
 NamesStandAlike first second Vmdk = folder_path first ≡ folder_path second
 NamesStandAlike first second Qcow2 = folder_path first ≡ folder_path second
+
+-- The same is said of the formats of the files of two paths. Where nothing is said, their names say
+-- the same.
+abbrev pub AreSaidAlike :
+    Option ImageFormat → Option ImageFormat → List ℕ → List ℕ → Type 0
+AreSaidAlike None other first second =
+    (other ≡ None) × (format_by_name first ≡ format_by_name second)
+AreSaidAlike (Some said) other first second = other ≡ Some said
 
 -- Two paths are those of one image, which has that format: they are the same, or the file of both
 -- has the same bytes, and the names in it stand for the same files beside both.
@@ -77,30 +86,30 @@ is_left_out same_size size other_size = same_size && not (size == other_size)
 -- What is found of the disks of the images of two paths: their sizes, and where they differ first,
 -- which is left out where they have to have the same size, and haven't.
 abbrev pub AreCompared :
-    Bool → OtherFiles → Option ImageFormat → Option ImageFormat → Bool → (List ℕ → List ℕ)
+    Accepted → OtherFiles → Option ImageFormat → Option ImageFormat → Bool → (List ℕ → List ℕ)
     → List ℕ → List ℕ → ℕ → ℕ → Option ℕ → Type 0
-AreCompared strict others said other same_size files first second size other_size found =
-    (x : List Value) × (y : List Value) × ShowsDisk strict others said files first x
-    × ShowsDisk strict others other files second y
+AreCompared accepted others said other same_size files first second size other_size found =
+    (x : List Value) × (y : List Value) × ShowsDisk accepted others said files first x
+    × ShowsDisk accepted others other files second y
     × (size ≡ length x) × (other_size ≡ length y)
     × (is_left_out same_size size other_size ≡ false → IsFirstDifferentValue x y found)
 
 -- The disks of the images of two paths are the same, where all behind the end of the shorter one is
 -- taken as 0; and they have the same size, if they have to.
 abbrev pub AreAlike :
-    Bool → OtherFiles → Option ImageFormat → Option ImageFormat → Bool → (List ℕ → List ℕ)
+    Accepted → OtherFiles → Option ImageFormat → Option ImageFormat → Bool → (List ℕ → List ℕ)
     → List ℕ → List ℕ → Type 0
-AreAlike strict others said other same_size files first second =
-    (x : List Value) × (y : List Value) × ShowsDisk strict others said files first x
-    × ShowsDisk strict others other files second y
+AreAlike accepted others said other same_size files first second =
+    (x : List Value) × (y : List Value) × ShowsDisk accepted others said files first x
+    × ShowsDisk accepted others other files second y
     × (same_size ≡ true → length x ≡ length y) × IsFirstDifferentValue x y None
 
 -- There is an offset at which they differ first; or they have to have the same size, and haven't.
 abbrev pub AreUnlike :
-    Bool → OtherFiles → Option ImageFormat → Option ImageFormat → Bool → (List ℕ → List ℕ)
+    Accepted → OtherFiles → Option ImageFormat → Option ImageFormat → Bool → (List ℕ → List ℕ)
     → List ℕ → List ℕ → Type 0
-AreUnlike strict others said other same_size files first second =
-    (x : List Value) × (y : List Value) × ShowsDisk strict others said files first x
-    × ShowsDisk strict others other files second y
+AreUnlike accepted others said other same_size files first second =
+    (x : List Value) × (y : List Value) × ShowsDisk accepted others said files first x
+    × ShowsDisk accepted others other files second y
     × (((at : ℕ) × IsFirstDifferentValue x y (Some at))
     ⊎ ((same_size ≡ true) × (length x ≢ length y)))

@@ -1,7 +1,8 @@
 -- What holds of the file of an image in which no fault is found.
-use Rattle.std.specs.Prelude.{◌≡◌, ℕ, ◌+◌, ◌*◌, ◌/◌, ◌<◌, ◌≤◌, Bool, not, List, [], ◌∷◌, Option}
+use Rattle.std.specs.Prelude.{◌≡◌, ℕ, ◌+◌, ◌*◌, ◌/◌, ◌<◌, ◌≤◌, List, [], ◌∷◌, Option}
 use Rattle.std.specs.Prelude.{length, Ok}
 use Rattle.imago_drivers.specs.Place.{Place, Stored, Zeroed, Special, Lower, Refused, End}
+use Rattle.imago_vmdk.specs.declared.line.Accepted.{Accepted}
 use Rattle.imago_vmdk.specs.declared.line.Extent.{Extent}
 use Rattle.imago_vmdk.specs.Reading.{reading_of}
 use Rattle.imago_qcow2.specs.declared.header.Header.{Header}
@@ -21,7 +22,7 @@ use Rattle.imago_images.specs.Gate.{IsLetThrough}
 abbrev pub IsHeld : OtherFiles → (List ℕ → List ℕ) → List ℕ → Extent (List ℕ) → Type 0
 IsHeld others files path (Extent.Zero sectors) = Unit {0}
 IsHeld others files path (Extent.NoAccess sectors) = Unit {0}
-IsHeld others files path (Extent.Flat sectors name offset writable) =
+IsHeld others files path (Extent.Flat sectors name offset writable vmfs) =
     IsLetThrough others path (path_beside path name)
     × ((offset + sectors) * 512 ≤ length (files (path_beside path name)))
 
@@ -75,19 +76,20 @@ pub record HasSoundTables (bytes : List ℕ) : Type 0 where
 -- The file of a path has no fault as an image of that format. In a raw file there is none to find.
 -- The descriptor of a VMDK image can be read, and its extents are held. The header of a qcow2 file
 -- is accepted, and its tables have no fault; what is below it isn't looked at.
-abbrev pub IsFaultlessAs : Bool → OtherFiles → (List ℕ → List ℕ) → List ℕ → ImageFormat → Type 0
-IsFaultlessAs strict others files path Raw = Unit {0}
-IsFaultlessAs strict others files path Vmdk =
+abbrev pub IsFaultlessAs : Accepted → OtherFiles → (List ℕ → List ℕ) → List ℕ → ImageFormat → Type 0
+IsFaultlessAs accepted others files path Raw = Unit {0}
+IsFaultlessAs accepted others files path Vmdk =
     (extents : List (Extent (List ℕ))) × (size : ℕ)
-    × (reading_of (not strict) (files path) ≡ Ok (extents, size))
+    × (reading_of accepted (files path) ≡ Ok (extents, size))
     × AreHeld others files path extents
-IsFaultlessAs strict others files path Qcow2 =
+IsFaultlessAs accepted others files path Qcow2 =
     (header : Header) × (header_of (files path) (length (files path)) ≡ Ok header)
     × HasSoundTables (files path)
 
--- The same as an image of the format that was said, or else of the one that its first bytes tell.
+-- The same as an image of the format that was said, or else of the one that its file is taken to
+-- have.
 abbrev pub IsFaultless :
-    Bool → OtherFiles → Option ImageFormat → (List ℕ → List ℕ) → List ℕ → Type 0
-IsFaultless strict others said files path =
-    (format : ImageFormat) × IsFormatBy said (files path) format
-    × IsFaultlessAs strict others files path format
+    Accepted → OtherFiles → Option ImageFormat → (List ℕ → List ℕ) → List ℕ → Type 0
+IsFaultless accepted others said files path =
+    (format : ImageFormat) × IsFormatBy said path (files path) format
+    × IsFaultlessAs accepted others files path format

@@ -1,25 +1,61 @@
 -- The files of a host: what is told of them, and what making one does to them.
-use Rattle.std.specs.Prelude.{◌≡◌, ◌≢◌, ℕ, ◌+◌, ◌-◌, Bool, ◌||◌, List, Option, Some, None, length}
+use Rattle.std.specs.Prelude.{◌≡◌, ◌≢◌, ◌⊎◌, ℕ, ◌+◌, ◌-◌, Bool, true, false, ◌||◌, List, []}
+use Rattle.std.specs.Prelude.{Option, Some, None, length}
 use Rattle.std.specs.Str.{bytes_eq}
 
--- What is told of files beside their bytes: which paths lead to something, and how many files are
--- begun, and neither finished nor abandoned.
+-- What is told of files beside their bytes: which paths lead to something, how many files are
+-- begun, and neither finished nor abandoned, and under which path one is made that is to have
+-- another path.
 pub record Around : Type 0 where
   pub there : List ℕ → Bool
   pub unfinished : ℕ
+  pub beside : List ℕ → List ℕ
 
 -- one more file is begun, which has no path yet
 abbrev pub begun : Around → Around
-begun a = record { there = a.there; unfinished = a.unfinished + 1 }
+begun a = record { there = a.there; unfinished = a.unfinished + 1; beside = a.beside }
 
 -- one fewer is
 abbrev pub ended : Around → Around
-ended a = record { there = a.there; unfinished = a.unfinished - 1 }
+ended a = record { there = a.there; unfinished = a.unfinished - 1; beside = a.beside }
 
 -- a file has that path
 abbrev pub with_file : List ℕ → Around → Around
-with_file path a =
-    record { there = λ other. bytes_eq path other || a.there other; unfinished = a.unfinished }
+with_file path a = record {
+  there = λ other. bytes_eq path other || a.there other;
+  unfinished = a.unfinished;
+  beside = a.beside;
+}
+
+-- The file of that path is gone, and all others are as they were.
+pub record IsGone (old new : List ℕ → List ℕ) (before after : Around) (gone : List ℕ) : Type 0 where
+  pub free : after.there gone ≡ false
+  pub empty : new gone ≡ []
+  pub others : (other : List ℕ) → other ≢ gone → new other ≡ old other
+  pub still_there : (other : List ℕ) → other ≢ gone → after.there other ≡ before.there other
+  pub unfinished : after.unfinished ≡ before.unfinished
+  pub beside : after.beside ≡ before.beside
+
+-- The unfinished file is gone that a copy to that path left, and all others are as they were, where
+-- all of that is told.
+abbrev pub IsWithoutLeftOver :
+    Option (List ℕ → List ℕ) → Option (List ℕ → List ℕ) → Option Around → Option Around → List ℕ
+    → Type 0
+IsWithoutLeftOver None new before after path = Unit {0}
+IsWithoutLeftOver (Some old) new None after path = Unit {0}
+IsWithoutLeftOver (Some old) new (Some before) after path =
+    (files : List ℕ → List ℕ) × (now : Around) × (new ≡ Some files) × (after ≡ Some now)
+    × IsGone old files before now (before.beside path)
+
+-- Something is so of all files as they are. If the file of the path may be replaced, it is so of
+-- them as they are, or without the unfinished file that a copy to that path left.
+abbrev pub IsSoOnceCleared :
+    Bool → Option (List ℕ → List ℕ) → Option Around → List ℕ
+    → (Option (List ℕ → List ℕ) → Option Around → Type 0) → Type 0
+IsSoOnceCleared false files around path IsSo = IsSo files around
+IsSoOnceCleared true files around path IsSo = IsSo files around
+    ⊎ ((cleared : Option (List ℕ → List ℕ)) × (left : Option Around)
+    × IsWithoutLeftOver files cleared around left path × IsSo cleared left)
 
 -- A file of that path has those bytes now, and all others have what they had, where that is told.
 abbrev pub IsMade : Option (List ℕ → List ℕ) → Option (List ℕ → List ℕ) → List ℕ → Option (List ℕ)

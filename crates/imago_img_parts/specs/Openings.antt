@@ -1,5 +1,5 @@
 -- How the images that a command line names are opened.
-use Rattle.std.specs.Prelude.{Bool, true, false, Option, option_map}
+use Rattle.std.specs.Prelude.{Bool, true, false, not, Option, option_map}
 use Rattle.imago_words.specs.declared.command.Opening as Said
 use Rattle.imago_words.specs.declared.format.Format.{Format}
 use Rattle.imago_words.specs.declared.format.Format.TheVariants as Named
@@ -21,11 +21,11 @@ others_by true = Others.Any
 others_by false = Others.InFolder
 
 -- How an image is opened, by its format, if it was said, and by what is said of all images of the
--- command. No command writes to an image.
+-- command. No command writes to an image, and all commands accept VMFS extents.
 abbrev pub how_by : Option Format → Said.Opening → Opening
 how_by format said = record {
   format = option_map image_format format;
-  strict = said.strict;
+  accepted = record { unknown_keys = not said.strict; vmfs = true };
   other_files = others_by said.allow_outside;
   tables = said.tables;
   writable = false;

@@ -28,7 +28,7 @@ use imago_qcow2::laws::image_of_bytes;
 use imago_storage::error::Error;
 use imago_storage::storage::Storage;
 use imago_vmdk::descriptor::{self, Descriptor};
-use imago_vmdk::line::{Extent, verdict};
+use imago_vmdk::line::{Accepted, Extent, verdict};
 use std::alloc::Global;
 use std::io::{self, Write};
 
@@ -45,7 +45,7 @@ pub fn check<H: Host, W: Write>(
     output: &mut W,
 ) -> Result<bool, Failure>
     ensures { IfOk result (λ fine. fine ≡ true → IfSome (H.contents host.now)
-        (λ files. IsFaultless how.strict how.other_files how.format files path.now)) }
+        (λ files. IsFaultless how.accepted how.other_files how.format files path.now)) }
 {
     let faults = check_format(host, path, how, output)?;
     tell_count(faults, output).map_err(Failure::Output)?;
@@ -69,7 +69,7 @@ fn check_format<H: Host, W: Write>(
     output: &mut W,
 ) -> Result<u64, Failure>
     ensures { IfOk result (λ n. n ≡ 0 → IfSome (H.contents host.now)
-        (λ files. IsFaultless how.strict how.other_files how.format files path.now)) }
+        (λ files. IsFaultless how.accepted how.other_files how.format files path.now)) }
 {
     let file = look_at(host, path)?;
     match format_of(host.alloc(), path, &file, how.format)? {
@@ -94,7 +94,7 @@ fn check_qcow2<'a, H: Host, W: Write>(
         (λ files. HasBytes ⟦<PathStorage<'a, H> as Storage>⟧.features
         ⟦<PathStorage<'a, H> as Storage>⟧.bytes (files path.now) file) }
     ensures { IfOk result (λ n. n ≡ 0 → IfSome (H.contents host.now)
-        (λ files. IsFaultlessAs how.strict how.other_files files path.now Of.Qcow2)) }
+        (λ files. IsFaultlessAs how.accepted how.other_files files path.now Of.Qcow2)) }
 {
     let length = Failure::or_image(host.alloc(), path, file.size())?;
     let found = runs_of(host, path, &mut file, length);
@@ -173,11 +173,11 @@ fn check_vmdk<'a, H: Host, W: Write>(
         (λ files. HasBytes ⟦<PathStorage<'a, H> as Storage>⟧.features
         ⟦<PathStorage<'a, H> as Storage>⟧.bytes (files path.now) file.now) }
     ensures { IfOk result (λ n. n ≡ 0 → IfSome (H.contents host.now)
-        (λ files. IsFaultlessAs how.strict how.other_files files path.now Of.Vmdk)) }
+        (λ files. IsFaultlessAs how.accepted how.other_files files path.now Of.Vmdk)) }
 {
     let text = descriptor_text(host.alloc(), path, file)?;
-    let faults = check_lines(path, !how.strict, &text, output).map_err(Failure::Output)?;
-    match descriptor::read(host.alloc(), !how.strict, &text) {
+    let faults = check_lines(path, how.accepted, &text, output).map_err(Failure::Output)?;
+    match descriptor::read(host.alloc(), how.accepted, &text) {
         Ok(described) => check_extents(host, path, &described, how, output),
         Err(cause) => tell_whole(path, faults, cause, output),
     }
@@ -215,7 +215,7 @@ fn whole_fault(cause: Error) -> &'static str {
 /// Tells the lines of a descriptor that can't be meant, and how many there are.
 fn check_lines<W: Write>(
     path: &str,
-    accept_unknown_keys: bool,
+    accepted: Accepted,
     text: &[u8],
     output: &mut W,
 ) -> io::Result<u64> {
@@ -223,7 +223,7 @@ fn check_lines<W: Write>(
     let mut faults: u64 = 0;
     for line in text.split(|byte| *byte == b'\n') {
         number = number.saturating_add(1);
-        if let Err(cause) = verdict(accept_unknown_keys, line) {
+        if let Err(cause) = verdict(accepted, line) {
             faults = faults.saturating_add(1);
             tell_line(path, number, line, cause, output)?;
         }

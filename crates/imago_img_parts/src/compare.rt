@@ -5,7 +5,7 @@ ghost use Rattle.imago_access.specs.Disk.{disk};
 ghost use Rattle.imago_copy.specs.Differences.{IsFirstDifferentValue};
 ghost use Rattle.imago_images.specs.Gate.{folder_path};
 ghost use Rattle.imago_img_parts.specs.Disks.{AreCompared, ArePathsOfOne, NamesStandAlike};
-ghost use Rattle.imago_img_parts.specs.Disks.{is_left_out};
+ghost use Rattle.imago_img_parts.specs.Disks.{AreSaidAlike, is_left_out};
 
 use crate::failure::Failure;
 use crate::host::Host;
@@ -44,13 +44,15 @@ pub fn compare_images<H: Host>(
     same_size: bool,
 ) -> Result<Comparison, Failure>
     ensures { IfOk result (λ found. IfSome (H.contents host.now)
-        (λ files. AreCompared how.strict how.other_files how.format other same_size files first.now
-        second.now found.sizes.0 found.sizes.1 found.difference)) }
+        (λ files. AreCompared how.accepted how.other_files how.format other same_size files
+        first.now second.now found.sizes.0 found.sizes.1 found.difference)) }
 {
     let alloc = host.alloc();
     let (format, left) = open_image(host, first, how)?;
     let size = readable_size(alloc, first, &left)?;
-    if is_said_alike(how.format, other) && are_paths_of_one(host, first, second, format) {
+    if are_said_alike(how.format, other, first, second)
+        && are_paths_of_one(host, first, second, format)
+    {
         return Ok(Comparison {
             sizes: (size, size),
             difference: None,
@@ -89,7 +91,7 @@ fn not_compared<H: Host>(
 
 /// How the second image is opened, by how the first one is, and its own format.
 fn said_of_second(how: Opening, other: Option<ImageFormat>) -> Opening
-    ensures strict { result.strict ≡ how.strict }
+    ensures accepted { result.accepted ≡ how.accepted }
     ensures others { result.other_files ≡ how.other_files }
     ensures format { result.format ≡ other }
 {
@@ -99,13 +101,19 @@ fn said_of_second(how: Opening, other: Option<ImageFormat>) -> Opening
     }
 }
 
-/// Whether the same is said of the formats of two images.
-fn is_said_alike(one: Option<ImageFormat>, other: Option<ImageFormat>) -> bool
-    ensures { result ≡ true → one ≡ other }
+/// Whether the same is said of the formats of the files of two paths. Where nothing is said, their
+/// names have to say the same, since a name may refuse what the file begins as.
+fn are_said_alike(
+    one: Option<ImageFormat>,
+    other: Option<ImageFormat>,
+    first: &str,
+    second: &str,
+) -> bool
+    ensures { result ≡ true → AreSaidAlike one other first.now second.now }
 {
     match (one, other) {
-        (None, None)
-        | (Some(ImageFormat::Raw), Some(ImageFormat::Raw))
+        (None, None) => ImageFormat::by_name(first) == ImageFormat::by_name(second),
+        (Some(ImageFormat::Raw), Some(ImageFormat::Raw))
         | (Some(ImageFormat::Vmdk), Some(ImageFormat::Vmdk))
         | (Some(ImageFormat::Qcow2), Some(ImageFormat::Qcow2)) => true,
         _ => false,

@@ -1,10 +1,11 @@
 //! An image's disk, written to a raw file.
 ghost use Rattle.std.specs.Prelude.{◌≡◌, OnOk, OnErr, IfOk, IfSome, IsOk, option_map};
 ghost use Rattle.imago_img_parts.specs.Disks.{HasSize, IsDiskAppended, IsConverted};
-ghost use Rattle.imago_img_parts.specs.Files.{ended, with_file, IsMade, IsWhole};
+ghost use Rattle.imago_img_parts.specs.Files.{ended, with_file, IsMade, IsSoOnceCleared};
+ghost use Rattle.imago_img_parts.specs.Files.{IsWhole, IsWithoutLeftOver};
 
 use crate::failure::{Failure, Reason, Refusal};
-use crate::host::{FileKind, FileStatus, Host};
+use crate::host::{FileKind, FileStatus, Host, Making};
 use crate::image::{CHUNK, has_file, not_read, readable_size};
 use crate::progress::Progress;
 use imago_copy::copy::{CopyError, copy_disk};
@@ -15,27 +16,89 @@ use std::io::ErrorKind;
 
 /// Writes the disk of an image to a raw file of that path. What the image's files have says what
 /// the new file then has: the image's disk, byte for byte. What is known to be zero there stays a
-/// hole.
+/// hole, unless each byte is to be written.
 ///
 /// The path may be taken only where what it leads to is to be replaced, and never by a file of the
-/// image. The files of the image are looked at before the new one is made. Refused, no file was
-/// made or changed.
+/// image. The files of the image are looked at before the new one is made. An unfinished file that
+/// an earlier copy to that path left is refused, or removed where the path's file may be replaced.
+/// Refused, no other file was made or changed.
 pub fn convert_image<H: Host>(
     host: &mut H,
     from: &str,
     to: &str,
     how: Opening,
-    replace: bool,
+    making: Making,
     show: bool,
 ) -> Result<(), Failure>
-    ensures converted { OnOk result (IsConverted how.strict how.other_files how.format replace
-        (H.contents host.old) (H.contents host.new) (H.around host.old) (H.around host.new)
-        from.now to.now) }
-    ensures refused { OnErr result
-        ((H.contents host.new ≡ H.contents host.old) × (H.around host.new ≡ H.around host.old)) }
+    ensures converted { OnOk result (IsSoOnceCleared making.replace (H.contents host.old)
+        (H.around host.old) to.now (λ files around. IsConverted how.accepted how.other_files
+        how.format making.replace files (H.contents host.new) around (H.around host.new)
+        from.now to.now)) }
+    ensures refused { OnErr result (IsSoOnceCleared making.replace (H.contents host.old)
+        (H.around host.old) to.now
+        (λ files around. (H.contents host.new ≡ files) × (H.around host.new ≡ around))) }
 {
-    let size = tested_size(&*host, from, to, how, replace)?;
-    match host.create(to, size, replace) {
+    clear(host, from, to, how, making.replace)?;
+    convert_beside(host, from, to, how, making, show)
+}
+
+/// Removes the unfinished file that a copy to that path left, if the path's file may be replaced,
+/// and nothing else speaks against the copy.
+fn clear<H: Host>(
+    host: &mut H,
+    from: &str,
+    to: &str,
+    how: Opening,
+    replace: bool,
+) -> Result<(), Failure>
+    ensures { IsSoOnceCleared replace (H.contents host.old) (H.around host.old) to.now
+        (λ files around. (H.contents host.new ≡ files) × (H.around host.new ≡ around)) }
+{
+    if !replace {
+        return Ok(());
+    }
+    if !has_left_over(&*host, to)? {
+        return Ok(());
+    }
+    tested_size(&*host, from, to, how, true)?;
+    remove_left_over(host, to)
+}
+
+/// Whether a copy to that path left an unfinished file when it was killed.
+fn has_left_over<H: Host>(host: &H, to: &str) -> Result<bool, Failure> {
+    let left = Failure::or_system(host.alloc(), to, host.left_over(to))?;
+    Ok(left.is_some())
+}
+
+/// Removes the unfinished file that a copy to that path left.
+fn remove_left_over<H: Host>(host: &mut H, to: &str) -> Result<(), Failure>
+    ensures gone { OnOk result (IsWithoutLeftOver (H.contents host.old) (H.contents host.new)
+        (H.around host.old) (H.around host.new) to.now) }
+    ensures same { OnErr result (H.contents host.new ≡ H.contents host.old) }
+    ensures refused { OnErr result (H.around host.new ≡ H.around host.old) }
+{
+    let removed = host.remove_left_over(to);
+    Failure::or_system(host.alloc(), to, removed)
+}
+
+/// Does the same where no unfinished file is left beside the path. Refused, it leaves all files as
+/// they were.
+fn convert_beside<H: Host>(
+    host: &mut H,
+    from: &str,
+    to: &str,
+    how: Opening,
+    making: Making,
+    show: bool,
+) -> Result<(), Failure>
+    ensures converted { OnOk result (IsConverted how.accepted how.other_files how.format
+        making.replace (H.contents host.old) (H.contents host.new) (H.around host.old)
+        (H.around host.new) from.now to.now) }
+    ensures same { OnErr result (H.contents host.new ≡ H.contents host.old) }
+    ensures refused { OnErr result (H.around host.new ≡ H.around host.old) }
+{
+    let size = tested_size(&*host, from, to, how, making.replace)?;
+    match host.create(to, size, making) {
         Ok(target) => {
             let (target, filled) = fill_shown(&*host, from, to, how, target, size, show);
             end(host, to, target, filled)
@@ -54,11 +117,12 @@ fn tested_size<H: Host>(
     replace: bool,
 ) -> Result<u64, Failure>
     ensures { IfOk result (λ size. IfSome (H.contents host.now)
-        (λ files. HasSize how.strict how.format files from.now size)) }
+        (λ files. HasSize how.accepted how.format files from.now size)) }
 {
     let (_, image) = open_image(host, from, how)?;
     let size = readable_size(host.alloc(), from, &image)?;
     test_target(host, &image, to, replace)?;
+    test_left_over(host, &image, to, replace)?;
     Ok(size)
 }
 
@@ -73,7 +137,7 @@ fn fill_shown<H: Host>(
     show: bool,
 ) -> (H::Target, Result<(), Failure>)
     ensures same { H.Target.made_for result.0 ≡ H.Target.made_for target }
-    ensures filled { OnOk result.1 (IsDiskAppended how.strict how.other_files how.format
+    ensures filled { OnOk result.1 (IsDiskAppended how.accepted how.other_files how.format
         (H.contents host.now) from.now (H.Target.contents target) (H.Target.contents result.0)) }
 {
     let mut target = Progress::new(target, host, show, size);
@@ -90,7 +154,7 @@ fn fill<H: Host, T: Target>(
     target: &mut T,
 ) -> Result<(), Failure>
     ensures same { T.made_for target.new ≡ T.made_for target.old }
-    ensures filled { OnOk result (IsDiskAppended how.strict how.other_files how.format
+    ensures filled { OnOk result (IsDiskAppended how.accepted how.other_files how.format
         (H.contents host.now) from.now (T.contents target.old) (T.contents target.new)) }
 {
     let alloc = host.alloc();
@@ -144,6 +208,28 @@ fn test_target<H: Host>(
         Some(refusal) => Err(Failure::of_target(host.alloc(), to, refusal)),
         None => Ok(()),
     }
+}
+
+/// Whether no unfinished file stands beside a path, or one that may be removed: it isn't a file of
+/// the image.
+fn test_left_over<H: Host>(
+    host: &H,
+    image: &FileImage<'_, H>,
+    to: &str,
+    replace: bool,
+) -> Result<(), Failure> {
+    let alloc = host.alloc();
+    let Some(left) = Failure::or_system(alloc, to, host.left_over(to))? else {
+        return Ok(());
+    };
+    if !replace {
+        return Err(Failure::of_target(alloc, &left, Refusal::LeftOver));
+    }
+    let there = Failure::or_system(alloc, &left, host.status(&left))?;
+    if has_file(image, there) {
+        return Err(Failure::of_target(alloc, &left, Refusal::IsSource));
+    }
+    Ok(())
 }
 
 /// Why a file isn't replaced, which may be one of the image that is read.

@@ -2,6 +2,7 @@
 ghost use Rattle.std.specs.Prelude.{◌≡◌, MatchResult, IsErr};
 
 pub use imago_images::failure::{OpenError, Reason};
+use imago_images::signature::Signature;
 use imago_inflate::fault::InflateError;
 use imago_storage::error;
 use std::alloc::{AllocError, AllocFailed, Global};
@@ -47,6 +48,9 @@ pub enum Refusal {
     /// What is to be made is there already.
     #[error("it exists already; --force replaces it")]
     Exists,
+    /// A copy that was killed left it, and nothing is to be replaced.
+    #[error("it is left from an interrupted convert; remove it, or say --force")]
+    LeftOver,
     /// What is to be replaced isn't a regular file.
     #[error("only a regular file can be replaced")]
     NotReplaced,
@@ -81,8 +85,24 @@ fn advice_for(reason: &Reason) -> &'static str {
             "; imago-img check tells where"
         }
         Reason::Sparse => "; -f raw takes its bytes as they are",
+        Reason::Recognised(signature) => advice_for_signature(*signature),
         Reason::BackingOutside(_) | Reason::Outside(_) => "; --allow-outside permits it",
         _ => "",
+    }
+}
+
+/// The same, by what the file is recognised as.
+fn advice_for_signature(signature: Signature) -> &'static str {
+    match signature {
+        Signature::Qcow2 => "; say -f qcow2 or -f raw",
+        Signature::Descriptor | Signature::OtherDescriptor => "; say -f vmdk or -f raw",
+        Signature::Tar
+        | Signature::Gzip
+        | Signature::Bzip2
+        | Signature::Xz
+        | Signature::Zstd
+        | Signature::Zip => "; unpack it, or say -f raw for its bytes as they are",
+        _ => "; convert it with qemu-img, or say -f raw for its bytes as they are",
     }
 }
 

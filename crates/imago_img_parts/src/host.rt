@@ -1,14 +1,31 @@
 //! Where the commands find files, and make them.
 ghost use Rattle.std.specs.Prelude.{◌≡◌, ◌<◌, ◌≤◌, [], Option, Some, false};
 ghost use Rattle.std.specs.Prelude.{OnOk, OnErr, IfOk, IfSome, option_map, replicate};
+ghost use Rattle.std.specs.Prelude.{string_bytes};
 ghost use Rattle.imago_plan.specs.PieceBytes.{bytes_at};
 ghost use Rattle.imago_img_parts.specs.Files.{Around, begun, ended, with_file, IsMade, IsWhole};
+ghost use Rattle.imago_img_parts.specs.Files.{IsWithoutLeftOver};
 
 use imago_copy::target::Target;
 pub use imago_images::files::{FileKind, FileStatus, Files};
 use std::io;
 
+/// What the path of a file that is being made ends in, until the file is finished.
+pub const UNFINISHED: &str = ".imago-img-unfinished";
+
+/// How a new file is made.
+#[derive(Clone, Copy)]
+pub struct Making {
+    /// Whether it may replace a regular file.
+    pub replace: bool,
+    /// Whether blocks of 4096 zeroes are left out as holes. Else each byte is written.
+    pub sparse: bool,
+}
+
 /// Where the commands find files by their paths, and make them.
+///
+/// A file is made under an unfinished path, beside the one that it is to have, and gets that one
+/// when it is finished. A copy that is killed leaves the unfinished file.
 pub trait Host: Files {
     /// A file that is being made. What its path leads to, and its bytes, are promised once it is
     /// finished. It can't be dropped: it is either finished or abandoned.
@@ -32,22 +49,38 @@ pub trait Host: Files {
     /// Ends what was shown of a copy.
     fn end_progress(&self);
 
-    /// Begins a file of that many bytes for a path. What has the path stays until the new file is
-    /// finished; where it isn't to be replaced, it is
-    /// [`AlreadyExists`](io::ErrorKind::AlreadyExists).
-    fn create(&mut self, path: &str, size: u64, replace: bool) -> io::Result<Self::Target>
+    /// The path of the unfinished file that a copy to a path left when it was killed, if there is
+    /// one.
+    fn left_over(&self, path: &str) -> io::Result<Option<String>>
+        ensures beside { IfOk result (λ found. IfSome found (λ left. IfSome (around self.now)
+            (λ a. string_bytes left ≡ a.beside path.now))) };
+
+    /// Removes the unfinished file that a copy to a path left. It is never emptied, since it may be
+    /// a second name of a finished file. Refused, it is still there.
+    fn remove_left_over(&mut self, path: &str) -> io::Result<()>
+        ensures gone { OnOk result (IsWithoutLeftOver (Self.contents self.old)
+            (Self.contents self.new) (around self.old) (around self.new) path.now) }
+        ensures same { OnErr result (Self.contents self.new ≡ Self.contents self.old) }
+        ensures refused { OnErr result (around self.new ≡ around self.old) };
+
+    /// Begins a file of that many bytes for a path, under its unfinished path. What has the path
+    /// stays until the new file is finished; where it isn't to be replaced, it is
+    /// [`AlreadyExists`](io::ErrorKind::AlreadyExists), and so is what has the unfinished path.
+    fn create(&mut self, path: &str, size: u64, how: Making) -> io::Result<Self::Target>
         ensures same { Self.contents self.new ≡ Self.contents self.old }
         ensures begun { OnOk result (around self.new ≡ option_map begun (around self.old)) }
         ensures refused { OnErr result (around self.new ≡ around self.old) }
-        ensures free { OnOk result (replace ≡ false
+        ensures free { OnOk result (how.replace ≡ false
             → IfSome (around self.old) (λ a. a.there path.now ≡ false)) }
         ensures empty { IfOk result
             (λ t. IfSome (Self.contents self.old) (λ _. Self.Target.contents t ≡ Some [])) }
         ensures made_for { IfOk result (λ t. IfSome (Self.contents self.old)
             (λ _. Self.Target.made_for t ≡ Some (path.now, size))) };
 
-    /// Gives a file, into which all of its bytes were put, the path for which it was begun.
-    /// Refused, the file is gone, and what had the path still has it.
+    /// Gives a file, into which all of its bytes were put, the path for which it was begun. Unless
+    /// it is to replace what had the path when it was begun, what came to have the path meanwhile
+    /// is [`AlreadyExists`](io::ErrorKind::AlreadyExists). Refused, the file is gone, and what had
+    /// the path still has it.
     fn finish(&mut self, target: Self::Target) -> io::Result<()>
         requires whole { IfSome (Self.contents self.old)
             (λ _. IsWhole (Self.Target.made_for target) (Self.Target.contents target)) }

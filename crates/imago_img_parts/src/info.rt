@@ -81,7 +81,7 @@ fn report_on_vmdk<H: Host>(
     how: Opening,
 ) -> Result<Report, Failure> {
     let text = descriptor_text(host.alloc(), path, file)?;
-    let said = descriptor::read(host.alloc(), !how.strict, &text);
+    let said = descriptor::read(host.alloc(), how.accepted, &text);
     let described = Failure::or_image(host.alloc(), path, said)?;
     Ok(Report {
         format: ImageFormat::Vmdk,
@@ -157,7 +157,8 @@ fn kind_of(extent: &Extent<String>) -> &'static str {
     match extent {
         Extent::Zero { .. } => "ZERO",
         Extent::NoAccess { .. } => "NOACCESS",
-        Extent::Flat { .. } => "FLAT",
+        Extent::Flat { vmfs: true, .. } => "VMFS",
+        Extent::Flat { vmfs: false, .. } => "FLAT",
     }
 }
 

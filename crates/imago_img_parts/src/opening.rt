@@ -4,6 +4,7 @@ ghost use Rattle.imago_img_parts.specs.Openings.{how_by, image_format, others_by
 
 use imago_images::format::ImageFormat;
 use imago_images::opening::{Opening, OtherFiles};
+use imago_vmdk::line::Accepted;
 use imago_words::command::Opening as Said;
 use imago_words::format::Format;
 
@@ -14,7 +15,10 @@ pub fn how_to_open(format: Option<Format>, said: Said) -> Opening
 {
     Opening {
         format: said_format(format),
-        strict: said.strict,
+        accepted: Accepted {
+            unknown_keys: !said.strict,
+            vmfs: true,
+        },
         other_files: other_files(said.allow_outside),
         tables: said.tables,
         // No command writes to an image.

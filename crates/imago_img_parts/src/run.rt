@@ -13,7 +13,7 @@ use crate::check::check;
 use crate::commands::{Comparison, compare_images, convert_image};
 use crate::compare::leaves_out;
 use crate::failure::Failure;
-use crate::host::Host;
+use crate::host::{Host, Making};
 use crate::info::info;
 use crate::map::map_image;
 use crate::opening::{how_to_open, said_format};
@@ -126,8 +126,11 @@ fn convert<H: Host, E: Write>(host: &mut H, asked: Convert<'_>, errors: &mut E) 
         asked.source,
         asked.target,
         how,
-        asked.force,
-        !asked.quiet,
+        Making {
+            replace: asked.force,
+            sparse: asked.sparse,
+        },
+        asked.progress && !asked.quiet,
     ) {
         Ok(()) => 0,
         Err(refused) => tell(refused, errors, 1),

@@ -3,20 +3,33 @@ ghost use Rattle.std.specs.Prelude.{◌≡◌, ◌+◌, ◌-◌, ◌<◌, ◌≤
 ghost use Rattle.std.specs.Prelude.{false, length, drop, option_to_list};
 ghost use Rattle.std.specs.String.{string_bytes};
 
-use crate::host::{FileKind, FileStatus, Files, Host};
+use crate::host::{FileKind, FileStatus, Files, Host, Making, UNFINISHED};
 use imago_copy::target::Target;
 use imago_file::host::HostFile;
 use std::alloc::Global;
 use std::cell::Cell;
-use std::fs::{self, File, Metadata, OpenOptions};
-use std::io::{self, ErrorKind, IsTerminal, Seek, SeekFrom};
-use std::os::unix::fs::{FileExt, FileTypeExt, MetadataExt};
+use std::fs::{self, File, Metadata, OpenOptions, Permissions};
+use std::io::{self, ErrorKind, Seek, SeekFrom};
+use std::os::unix::fs::{
+    FileExt, FileTypeExt, MetadataExt, OpenOptionsExt, PermissionsExt, fchown,
+};
 
 /// The least run of zeroes that stays a hole, in bytes.
 const BLOCK: usize = 4096;
 
-/// What the path of a file that is to replace another one ends in, until it does.
-const UNFINISHED: &str = ".imago-img-unfinished";
+/// What is written of zeroes at a time.
+static ZEROES: [u8; 65536] = [0; 65536];
+
+/// The mode of a new file, of which the system takes away what the user's mask names.
+const NEW_FILE: u32 = 0o666;
+
+/// The mode of a file that only its owner may read and write.
+const OWNER_ALONE: u32 = 0o600;
+
+/// The bits of a mode that say who may read, write and run a file; and those of its group.
+const PERMISSIONS: u32 = 0o777;
+
+const GROUP: u32 = 0o070;
 
 /// How many files are kept open, where nothing else is asked for.
 const MOST_OPEN: usize = 16;
@@ -35,8 +48,6 @@ pub struct System<'a> {
     kept: Cell<Vec<OpenFile>>,
     /// How many files may be open beside the one that is used.
     others: usize,
-    /// Whether the standard error is a terminal.
-    has_terminal: bool,
 }
 
 /// A file that is open, and its path.
@@ -52,10 +63,14 @@ struct OpenFile {
 #[derive(Drop)]
 pub struct NewFile {
     file: File,
-    /// Its path.
+    /// Its path, until it is finished.
     path: String,
-    /// The path that it is to have, if it is to replace what has that one.
-    replaced: Option<String>,
+    /// The path that it is to have then.
+    to: String,
+    /// Whether a file had that path when this one was begun. That one is replaced.
+    replaces: bool,
+    /// Whether blocks of zeroes stay holes.
+    sparse: bool,
     /// How much is written.
     at: u64,
 }
@@ -72,7 +87,6 @@ impl<'a> System<'a> {
             runtime,
             kept: Cell::new(Vec::new(runtime.alloc())),
             others: most.saturating_sub(1),
-            has_terminal: runtime.stderr().is_terminal(),
         }
     }
 
@@ -243,6 +257,17 @@ fn write_blocks(file: &File, source: &[u8], offset: u64) -> io::Result<()> {
     file.write_all_at(&source[begin..end], offset.wrapping_add(begin as u64))
 }
 
+/// Writes that many zeroes.
+fn write_zeroes(file: &File, count: u64, offset: u64) -> io::Result<()> {
+    let mut done = 0;
+    while done < count {
+        let part = (count - done).min(ZEROES.len() as u64);
+        file.write_all_at(&ZEROES[..part as usize], offset.wrapping_add(done))?;
+        done += part;
+    }
+    Ok(())
+}
+
 /// Whether all bytes are 0.
 #[inline(never)]
 fn is_zero(bytes: &[u8]) -> bool {
@@ -318,27 +343,29 @@ impl<'a> Host for System<'a> {
 
     // That something can't be shown is no failure of the copy.
     fn show_progress(&self, done: u64, total: u64, hundredths: u64) {
-        if self.has_terminal {
-            let _ = eprint!(self.runtime; "\r{done} of {total} bytes ({hundredths} %)");
-        }
+        let _ = eprint!(self.runtime; "\r{done} of {total} bytes ({hundredths} %)");
     }
 
     fn end_progress(&self) {
-        if self.has_terminal {
-            let _ = eprintln!(self.runtime);
-        }
+        let _ = eprintln!(self.runtime);
     }
 
-    fn create(&mut self, path: &str, size: u64, replace: bool) -> io::Result<NewFile> {
-        let target = if replace && fs::exists(self.runtime, path)? {
-            let replaced = self.real_path(path)?;
-            let path = format!(in self.alloc(); "{replaced}{UNFINISHED}")?;
-            self.create_new(path, Some(replaced))?
-        } else {
-            let path = String::from_str(self.alloc(), path)?;
-            self.create_new(path, None)?
-        };
-        match target.file.set_len(size) {
+    fn left_over(&self, path: &str) -> io::Result<Option<String>> {
+        let left = self.unfinished(&self.final_path(path)?)?;
+        let found = self.there(&left)?;
+        Ok(found.map(|_| left))
+    }
+
+    fn remove_left_over(&mut self, path: &str) -> io::Result<()> {
+        let left = self.unfinished(&self.final_path(path)?)?;
+        fs::remove_file(self.runtime, &left)
+    }
+
+    fn create(&mut self, path: &str, size: u64, how: Making) -> io::Result<NewFile> {
+        let to = self.final_path(path)?;
+        let old = self.replaced(&to, how.replace)?;
+        let target = self.begin(to, old.is_some(), how.sparse)?;
+        match prepare(&target.file, old, size) {
             Ok(()) => Ok(target),
             Err(cause) => {
                 self.abandon(target);
@@ -350,35 +377,148 @@ impl<'a> Host for System<'a> {
     // The files that are kept open are closed, since one may be what the new file replaces.
     fn finish(&mut self, target: NewFile) -> io::Result<()> {
         self.take_kept();
-        let Some(replaced) = &target.replaced else {
-            return Ok(());
-        };
-        let renamed = fs::rename(self.runtime, &target.path, replaced);
-        if renamed.is_err() {
+        let named = self.name(&target);
+        if named.is_err() {
             self.abandon(target);
         }
-        renamed
+        named
     }
 
     fn abandon(&mut self, target: NewFile) {
-        let _ = fs::remove_file(self.runtime, &target.path);
+        if self.has_path(&target) {
+            let _ = fs::remove_file(self.runtime, &target.path);
+        }
     }
 }
 
 impl<'a> System<'a> {
-    /// Makes a file under a path that is free.
-    fn create_new(&self, path: String, replaced: Option<String>) -> io::Result<NewFile> {
+    /// The path that a new file is to have: what is there already is followed through its links.
+    fn final_path(&self, path: &str) -> io::Result<String> {
+        match self.real_path(path) {
+            Err(cause) if cause.kind() == ErrorKind::NotFound => {
+                Ok(String::from_str(self.alloc(), path)?)
+            }
+            real => real,
+        }
+    }
+
+    /// The path under which a file is made that is to have that path.
+    fn unfinished(&self, to: &str) -> io::Result<String> {
+        Ok(format!(in self.alloc(); "{to}{UNFINISHED}")?)
+    }
+
+    /// What has a path, if anything does. A link isn't followed.
+    fn there(&self, path: &str) -> io::Result<Option<Metadata>> {
+        match fs::symlink_metadata(self.runtime, path) {
+            Ok(found) => Ok(Some(found)),
+            Err(cause) if cause.kind() == ErrorKind::NotFound => Ok(None),
+            Err(cause) => Err(cause),
+        }
+    }
+
+    /// What a new file of that path is to replace, if anything: a regular file, if it may be. A link
+    /// that leads nowhere isn't replaced.
+    fn replaced(&self, to: &str, replace: bool) -> io::Result<Option<Metadata>> {
+        if to.is_empty() {
+            return Err(io::Error::from(ErrorKind::NotFound));
+        }
+        let found = self.there(to)?;
+        match &found {
+            Some(old) if !replace || kind_of(old) != FileKind::Regular => {
+                Err(io::Error::from(ErrorKind::AlreadyExists))
+            }
+            _ => Ok(found),
+        }
+    }
+
+    /// Begins a file for a path. While it is to replace another one, nobody else may read it.
+    fn begin(&self, to: String, replaces: bool, sparse: bool) -> io::Result<NewFile> {
+        let path = self.unfinished(&to)?;
         let file = OpenOptions::new()
             .write(true)
             .create_new(true)
+            .mode(if replaces { OWNER_ALONE } else { NEW_FILE })
             .open(self.runtime, &path)?;
         Ok(NewFile {
             file,
             path,
-            replaced,
+            to,
+            replaces,
+            sparse,
             at: 0,
         })
     }
+
+    /// Gives a new file the path that it is to have. A file that came to have that path meanwhile
+    /// isn't replaced.
+    fn name(&self, target: &NewFile) -> io::Result<()> {
+        if !self.has_path(target) {
+            return Err(io::Error::from(ErrorKind::NotFound));
+        }
+        if target.replaces {
+            return fs::rename(self.runtime, &target.path, &target.to);
+        }
+        match fs::hard_link(self.runtime, &target.path, &target.to) {
+            Ok(()) => {
+                let _ = fs::remove_file(self.runtime, &target.path);
+                Ok(())
+            }
+            Err(cause) if is_without_links(cause.kind()) => self.rename_to_free(target),
+            refused => refused,
+        }
+    }
+
+    /// Renames a new file, where a file system has no second names for a file.
+    fn rename_to_free(&self, target: &NewFile) -> io::Result<()> {
+        if self.there(&target.to)?.is_some() {
+            return Err(io::Error::from(ErrorKind::AlreadyExists));
+        }
+        fs::rename(self.runtime, &target.path, &target.to)
+    }
+
+    /// Whether a new file still has its unfinished path: another program may have removed it, and
+    /// have begun its own.
+    fn has_path(&self, target: &NewFile) -> bool {
+        match (self.there(&target.path), target.file.metadata()) {
+            (Ok(Some(there)), Ok(ours)) => there.dev() == ours.dev() && there.ino() == ours.ino(),
+            _ => false,
+        }
+    }
+}
+
+/// Whether a link may be refused for that because the file system has none: `EPERM`, `EOPNOTSUPP`,
+/// `ENOSYS` and `EMLINK`.
+fn is_without_links(kind: ErrorKind) -> bool {
+    matches!(
+        kind,
+        ErrorKind::PermissionDenied | ErrorKind::Unsupported | ErrorKind::TooManyLinks
+    )
+}
+
+/// Gives a new file its length, and the mode, owner and group of the one that it is to replace.
+/// Where a file system refuses that mode, the file keeps the one that it was made with.
+fn prepare(file: &File, old: Option<Metadata>, size: u64) -> io::Result<()> {
+    if let Some(old) = old {
+        let mode = mode_after(&old, own_as(file, &old));
+        let _ = file.set_permissions(Permissions::from_mode(mode));
+    }
+    file.set_len(size)
+}
+
+/// Gives a file the owner and the group of another one, as far as that is permitted. It answers
+/// whether the group is the same then.
+fn own_as(file: &File, old: &Metadata) -> bool {
+    if fchown(file, Some(old.uid()), Some(old.gid())).is_ok() {
+        return true;
+    }
+    fchown(file, None, Some(old.gid())).is_ok()
+}
+
+/// Who may read, write and run a file that replaces another one: no more than could before. Another
+/// group may do nothing.
+fn mode_after(old: &Metadata, has_group: bool) -> u32 {
+    let mode = old.mode() & PERMISSIONS;
+    if has_group { mode } else { mode & !GROUP }
 }
 
 impl Target for NewFile {
@@ -387,12 +527,19 @@ impl Target for NewFile {
     ghost made_for = { λ _. None };
 
     fn append(&mut self, source: &[u8]) -> io::Result<()> {
-        write_blocks(&self.file, source, self.at)?;
+        if self.sparse {
+            write_blocks(&self.file, source, self.at)?;
+        } else {
+            self.file.write_all_at(source, self.at)?;
+        }
         self.at = self.at.wrapping_add(source.len() as u64);
         Ok(())
     }
 
     fn append_zeroes(&mut self, count: u64) -> io::Result<()> {
+        if !self.sparse {
+            write_zeroes(&self.file, count, self.at)?;
+        }
         self.at = self.at.wrapping_add(count);
         Ok(())
     }

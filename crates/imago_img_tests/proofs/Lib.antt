@@ -1,1 +1,2 @@
 mod Zeroes
+mod LeftOver

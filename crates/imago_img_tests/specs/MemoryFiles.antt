@@ -1,6 +1,6 @@
 -- What the files of a host in memory are.
 use Rattle.std.specs.Prelude.{ℕ, Bool, false, ◌||◌, List, [], ◌∷◌, ◌++◌, length, Option, Some, None}
-use Rattle.std.specs.Prelude.{codes, if◌then◌else◌}
+use Rattle.std.specs.Prelude.{codes, filter, if◌then◌else◌, not}
 use Rattle.std.specs.Str.{bytes_eq}
 use Rattle.std.specs.String.{string_bytes}
 use Rattle.imago_images.specs.declared.files.FileKind.{FileKind}
@@ -20,6 +20,14 @@ file_bytes (file ∷ files) path =
 abbrev pub has_file : List MemoryFile → List ℕ → Bool
 has_file [] path = false
 has_file (file ∷ files) path = bytes_eq (string_bytes file.path) path || has_file files path
+
+-- the files of other paths
+abbrev pub files_without : List ℕ → List MemoryFile → List MemoryFile
+files_without path = filter (λ file. not (bytes_eq (string_bytes file.path) path))
+
+-- the path under which a file is made that is to have a path
+abbrev pub unfinished_path : List ℕ → List ℕ
+unfinished_path path = path ++ codes ".imago-img-unfinished"
 
 -- what a file of that nature is
 abbrev pub kind_by : Nature → FileKind

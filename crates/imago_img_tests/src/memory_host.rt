@@ -3,10 +3,11 @@ ghost use Rattle.std.specs.Prelude.{◌≡◌, ◌+◌, ◌≤◌, [], Some, tru
 ghost use Rattle.std.specs.Prelude.{slice_index, EachIndex, IfOk, MatchOption, MatchResult};
 ghost use Rattle.std.specs.String.{string_bytes};
 ghost use Rattle.imago_plan.specs.PieceBytes.{bytes_at};
+ghost use Rattle.imago_img_tests.specs.MemoryFiles.{files_without, unfinished_path};
 
 use imago_copy::target::Target;
 use imago_file::host::MemoryFile as OpenFile;
-use imago_img_parts::host::{FileKind, FileStatus, Files, Host};
+use imago_img_parts::host::{FileKind, FileStatus, Files, Host, Making};
 use std::alloc::{AllocError, Global};
 use std::cell::Cell;
 use std::io::{self, ErrorKind};
@@ -75,6 +76,8 @@ pub struct MemoryTarget {
     path: String,
     size: u64,
     bytes: Vec<u8>,
+    /// Whether a file had that path when it was begun.
+    replaces: bool,
     /// How many times something may still be put in.
     appends: u64,
 }
@@ -238,6 +241,20 @@ fn byte_at(bytes: &[u8], offset: u64, count: u64) -> Option<u8>
     Some(bytes[index as usize])
 }
 
+/// The path of the unfinished file that is to have a path.
+fn unfinished_path(alloc: Global, path: &str) -> Result<String, AllocError>
+    ensures { IfOk result (λ left. string_bytes left ≡ unfinished_path path.now) }
+{
+    format!(in alloc; "{path}.imago-img-unfinished")
+}
+
+/// Removes the files of a path.
+fn remove_all(files: &mut Vec<MemoryFile>, path: &str)
+    ensures { files.new.items ≡ files_without path.now files.old.items }
+{
+    files.retain(|file| file.path.as_str() != path);
+}
+
 impl Files for MemoryHost {
     ghost use Rattle.imago_img_tests.specs.MemoryFiles.{file_bytes, file_status};
     ghost use Rattle.imago_img_tests.specs.MemoryFiles.{path_without_links};
@@ -299,13 +316,14 @@ impl Files for MemoryHost {
 }
 
 impl Host for MemoryHost {
-    ghost use Rattle.imago_img_tests.specs.MemoryFiles.{has_file};
+    ghost use Rattle.imago_img_tests.specs.MemoryFiles.{has_file, unfinished_path};
 
     type Target = MemoryTarget;
 
     ghost around = { λ h. Some (record {
       there = has_file h.files.items;
       unfinished = h.unfinished;
+      beside = unfinished_path;
     }) };
 
     fn run_at(&self, path: &str, offset: u64, most: u64) -> (u64, bool) {
@@ -325,8 +343,26 @@ impl Host for MemoryHost {
 
     fn end_progress(&self) {}
 
-    fn create(&mut self, path: &str, size: u64, replace: bool) -> io::Result<MemoryTarget> {
-        if !replace && self.file(path).is_ok() {
+    fn left_over(&self, path: &str) -> io::Result<Option<String>> {
+        let left = unfinished_path(self.alloc, path)?;
+        if self.file(&left).is_err() {
+            return Ok(None);
+        }
+        Ok(Some(left))
+    }
+
+    fn remove_left_over(&mut self, path: &str) -> io::Result<()> {
+        let left = unfinished_path(self.alloc, path)?;
+        if self.file(&left).is_err() {
+            return Err(io::Error::from(ErrorKind::NotFound));
+        }
+        remove_all(&mut self.files, &left);
+        Ok(())
+    }
+
+    fn create(&mut self, path: &str, size: u64, how: Making) -> io::Result<MemoryTarget> {
+        let replaces = self.file(path).is_ok();
+        if replaces && !how.replace || self.left_over(path)?.is_some() {
             return Err(io::Error::from(ErrorKind::AlreadyExists));
         }
         let path = String::from_str(self.alloc, path)?;
@@ -338,6 +374,7 @@ impl Host for MemoryHost {
             path,
             size,
             bytes: Vec::new(self.alloc),
+            replaces,
             appends: self.appends,
         })
     }
@@ -346,6 +383,9 @@ impl Host for MemoryHost {
         self.unfinished = self.unfinished.saturating_sub(1);
         if !self.finishes {
             return Err(io::Error::from(ErrorKind::PermissionDenied));
+        }
+        if !target.replaces && self.file(&target.path).is_ok() {
+            return Err(io::Error::from(ErrorKind::AlreadyExists));
         }
         let file = MemoryFile {
             path: target.path,

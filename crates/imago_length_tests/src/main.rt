@@ -12,7 +12,7 @@ ghost use Rattle.std.specs.Prelude.{◌<◌};
 mod attributes;
 
 use crate::attributes::ByAttributes;
-use imago_img_parts::host::{Files, Host};
+use imago_img_parts::host::{Files, Host, Making};
 use imago_img_parts::system::System;
 use std::fs::{self, File};
 use std::io;
@@ -93,6 +93,12 @@ const ENOUGH: u64 = 9;
 
 /// Up to how many bytes are asked for.
 const MOST: [u64; 6] = [1, 2, 512, 4096, 4294967296, u64::MAX];
+
+/// How a file is made that replaces another one.
+const REPLACE: Making = Making {
+    replace: true,
+    sparse: true,
+};
 
 /// How many questions there are for an offset.
 const KINDS: u64 = 2;
@@ -255,7 +261,7 @@ impl<'a> Comparison<'a> {
         let path = CROWD[0];
         let mut host = System::new(self.rt);
         host.run_at(path, 0, ENOUGH);
-        let target = host.create(path, 2, true)?;
+        let target = host.create(path, 2, REPLACE)?;
         host.finish(target)?;
         self.count(host.run_at(path, 0, ENOUGH).0 == 2, path, 0, ENOUGH);
         Ok(())

@@ -3,7 +3,7 @@
 use super::set_up::{Case, check_cases};
 
 /// Command lines that are done.
-static CASES: [Case; 8] = [
+static CASES: [Case; 12] = [
     Case {
         words: "info disk.vmdk",
         appends: 0,
@@ -73,6 +73,15 @@ static CASES: [Case; 8] = [
         written: Some((7, &[(2, b"hello")])),
     },
     Case {
+        words: "convert -S 0 disk.vmdk out.raw",
+        appends: 99,
+        finishes: true,
+        status: 0,
+        output: "",
+        errors: "",
+        written: Some((2048, &[(3, b"abc"), (1536, b"xyz")])),
+    },
+    Case {
         words: "convert --allow-outside outside.vmdk out.raw",
         appends: 99,
         finishes: true,
@@ -100,6 +109,34 @@ static CASES: [Case; 8] = [
             2 faults were found.\n",
         errors: "",
         written: None,
+    },
+    Case {
+        words: "info esx.vmdk",
+        appends: 0,
+        finishes: true,
+        status: 0,
+        output: "image: \"esx.vmdk\"\nformat: vmdk\nsize: 512 bytes\n\
+            extent: VMFS, 512 bytes from 0 of \"esx-flat.vmdk\"\n",
+        errors: "",
+        written: None,
+    },
+    Case {
+        words: "check --strict esx.vmdk",
+        appends: 0,
+        finishes: true,
+        status: 0,
+        output: "No faults were found.\n",
+        errors: "",
+        written: None,
+    },
+    Case {
+        words: "convert esx.vmdk out.raw",
+        appends: 99,
+        finishes: true,
+        status: 0,
+        output: "",
+        errors: "",
+        written: Some((512, &[(509, b"esx")])),
     },
 ];
 

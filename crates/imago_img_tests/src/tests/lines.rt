@@ -130,8 +130,7 @@ static REFUSED: [Row; 22] = [
         "copy a.bin",
         1,
         "",
-        "imago-img: \"copy\" isn't a command of imago-img (did you mean compare?); see imago-img \
-         --help\n",
+        "imago-img: \"copy\" isn't a command of imago-img; see imago-img --help\n",
     ),
     (
         "convrt plain.raw out.raw",
@@ -190,8 +189,7 @@ static REFUSED: [Row; 22] = [
         "map --verbose a.bin",
         1,
         "",
-        "imago-img: map has no option \"--verbose\" (did you mean --version?); see imago-img map \
-         --help\n",
+        "imago-img: map has no option \"--verbose\"; see imago-img map --help\n",
     ),
     (
         "info --jsn plain.raw",
@@ -239,11 +237,10 @@ static REFUSED: [Row; 22] = [
          imago-img convert --help\n",
     ),
     (
-        "convert -S 0 plain.raw out.raw",
+        "convert -S 64k plain.raw out.raw",
         1,
         "",
-        "imago-img: convert has no -S: not yet; what is zero in blocks of 4096 bytes is a hole of \
-         OUT; see imago-img convert --help\n",
+        "imago-img: -S takes 0 or 4k, not \"64k\"; see imago-img convert --help\n",
     ),
     // Of a comparison, 1 tells that the disks differ, and nothing else.
     (

@@ -8,7 +8,7 @@ use imago_drivers::drivers::FormatDriverInstance;
 use imago_images::files::Files;
 use imago_images::format::ImageFormat;
 use imago_images::opener::open_image;
-use imago_images::opening::{Opening, OtherFiles};
+use imago_images::opening::{Accepted, Opening, OtherFiles};
 use std::alloc::Global;
 use std::process::Abort;
 
@@ -24,7 +24,7 @@ enum Opened {
 /// A path, which other files may be opened, and what comes of it.
 type Row = (&'static str, OtherFiles, Opened);
 
-static ROWS: [Row; 19] = [
+static ROWS: [Row; 20] = [
     (
         "plain.raw",
         OtherFiles::InFolder,
@@ -134,6 +134,11 @@ static ROWS: [Row; 19] = [
         ),
     ),
     (
+        "trusting.qcow2",
+        OtherFiles::InFolder,
+        Opened::Refused("\"guest.raw\": a qcow2 image in a file whose name ends in .raw"),
+    ),
+    (
         "parts",
         OtherFiles::InFolder,
         Opened::Refused("\"parts\": neither a regular file nor a block device"),
@@ -178,7 +183,7 @@ fn check_row<H: Files>(rt: &impl Abort, host: &H, row: &Row) {
     let (path, other_files, opened) = row;
     let how = Opening {
         format: None,
-        strict: false,
+        accepted: Accepted::EVERYTHING,
         other_files: *other_files,
         tables: None,
         writable: false,
@@ -244,7 +249,7 @@ fn check_limited<H: Files>(rt: &impl Abort, host: &H) {
     for &(most, path, refused) in &LIMITED {
         let how = Opening {
             format: None,
-            strict: false,
+            accepted: Accepted::EVERYTHING,
             other_files: OtherFiles::InFolder,
             tables: Some(most),
             writable: false,
@@ -293,7 +298,7 @@ static READ_ONLY: [ReadOnlyRow; 4] = [
 /// How an image is opened for writing.
 const TO_WRITE: Opening = Opening {
     format: None,
-    strict: false,
+    accepted: Accepted::EVERYTHING,
     other_files: OtherFiles::None,
     tables: None,
     writable: true,

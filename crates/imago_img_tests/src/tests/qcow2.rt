@@ -6,7 +6,7 @@ use super::set_up::{Case, check_cases};
 type Row = (&'static str, u8, &'static str, &'static str);
 
 /// Command lines that make no file.
-static ROWS: [Row; 19] = [
+static ROWS: [Row; 21] = [
     // One image.
     (
         "info one.qcow2",
@@ -122,6 +122,20 @@ static ROWS: [Row; 19] = [
         "",
         "imago-img: \"other.qcow2\": its backing file has the format \"luks\", which isn't \
          supported\n",
+    ),
+    // `qemu-img` takes `file:NAME` for the file, and looks for a protocol named json.
+    (
+        "compare file.qcow2 one.raw",
+        0,
+        "Images are identical.\n",
+        "",
+    ),
+    (
+        "map json.qcow2",
+        1,
+        "",
+        "imago-img: \"json.qcow2\": its backing file \"json:b\" is named by a protocol, and only \
+         files are supported\n",
     ),
     (
         "map --strict above.qcow2",

@@ -24,7 +24,7 @@ pub struct Case {
 }
 
 /// The files.
-static FILES: [FileRow; 25] = [
+static FILES: [FileRow; 27] = [
     (
         "disk.vmdk",
         0,
@@ -103,6 +103,14 @@ static FILES: [FileRow; 25] = [
     ),
     ("sparse.vmdk", 0, b"KDMV\x01\x00\x00\x00", Nature::Plain),
     ("long.vmdk", 0, b"# Disk DescriptorFile", Nature::Plain),
+    // As ESX names the extents of a disk.
+    (
+        "esx.vmdk",
+        0,
+        b"# Disk DescriptorFile\nversion=1\ncreateType=\"vmfs\"\nRW 1 VMFS \"esx-flat.vmdk\"\n",
+        Nature::Plain,
+    ),
+    ("esx-flat.vmdk", 509, b"esx", Nature::Plain),
     ("plain.raw", 2, b"hello", Nature::Plain),
     ("longer.raw", 2, b"hello\0\0", Nature::Plain),
     ("other.raw", 2, b"hellO", Nature::Plain),
@@ -119,7 +127,7 @@ pub const VERSION_2: &[u8] = b"QFI\xfb\0\0\0\x02";
 pub const VERSION_3: &[u8] = b"QFI\xfb\0\0\0\x03";
 
 /// qcow2 images, and what they stand above or show. A name of a backing file stands at 200.
-static PARTS: [PartsRow; 15] = [
+static PARTS: [PartsRow; 19] = [
     (
         "one.qcow2",
         2560,
@@ -259,6 +267,33 @@ static PARTS: [PartsRow; 15] = [
             (200, b"one.raw"),
         ],
     ),
+    // Names that a protocol begins, one of them that of a file.
+    (
+        "file.qcow2",
+        1024,
+        &[
+            (0, VERSION_2),
+            (15, b"\xc8\0\0\0\x0c"),
+            (23, b"\x09"),
+            (30, b"\x08"),
+            (39, b"\x01"),
+            (46, b"\x02"),
+            (200, b"file:one.raw"),
+        ],
+    ),
+    (
+        "json.qcow2",
+        1024,
+        &[
+            (0, VERSION_2),
+            (15, b"\xc8\0\0\0\x06"),
+            (23, b"\x09"),
+            (30, b"\x08"),
+            (39, b"\x01"),
+            (46, b"\x02"),
+            (200, b"json:b"),
+        ],
+    ),
     (
         "above.qcow2",
         1024,
@@ -272,6 +307,21 @@ static PARTS: [PartsRow; 15] = [
             (200, b"disk.vmdk"),
         ],
     ),
+    // Above a file that begins as another format than its name says.
+    (
+        "trusting.qcow2",
+        1024,
+        &[
+            (0, VERSION_2),
+            (15, b"\xc8\0\0\0\x09"),
+            (23, b"\x09"),
+            (30, b"\x08"),
+            (39, b"\x01"),
+            (46, b"\x02"),
+            (200, b"guest.raw"),
+        ],
+    ),
+    ("guest.raw", 1024, &[(0, VERSION_2)]),
     // No L2 table.
     (
         "bare.qcow2",

@@ -2,8 +2,9 @@
 
 use crate::memory_host::{MemoryHost, Nature};
 use imago_images::format::ImageFormat;
-use imago_images::opening::OtherFiles;
+use imago_images::opening::{Accepted, OtherFiles};
 use imago_img_parts::commands::{Opening, compare_images, convert_image};
+use imago_img_parts::host::Making;
 use std::alloc::{AllocError, Global};
 use std::io;
 
@@ -13,10 +14,16 @@ const TEXT: &[u8] = b"# Disk DescriptorFile\nversion=1\nRW 1 ZERO\nRW 1 FLAT \"a
 /// Each option of an opening as it is where none is given.
 const PLAIN: Opening = Opening {
     format: None,
-    strict: false,
+    accepted: Accepted::EVERYTHING,
     other_files: OtherFiles::InFolder,
     tables: None,
     writable: false,
+};
+
+/// A new file, which replaces none.
+const NEW: Making = Making {
+    replace: false,
+    sparse: true,
 };
 
 /// A host with a disk.
@@ -32,7 +39,7 @@ fn a_converted_disk_is_the_same(rt: HostRuntime) {
     let made = disk(rt.alloc());
     assert!(&rt; made.is_ok());
     let Ok(mut host) = made else { return };
-    let done = convert_image(&mut host, "disk.vmdk", "out.raw", PLAIN, false, false);
+    let done = convert_image(&mut host, "disk.vmdk", "out.raw", PLAIN, NEW, false);
     assert!(&rt; done.is_ok());
     let found = compare_images(&host, "disk.vmdk", "out.raw", PLAIN, None, false);
     assert!(&rt; matches!(&found, Ok(found) if found.difference.is_none()));
@@ -49,6 +56,7 @@ fn unreadable(alloc: Global) -> io::Result<MemoryHost> {
     host.add("disk.vmdk", TEXT, Nature::Plain)?;
     host.add("a.bin", b"x", Nature::Torn(0))?;
     host.link("disk.vmdk", "second.vmdk")?;
+    host.link("disk.vmdk", "disk.txt")?;
     Ok(host)
 }
 
@@ -56,10 +64,12 @@ fn unreadable(alloc: Global) -> io::Result<MemoryHost> {
 type Pair = (&'static str, &'static str, Option<bool>);
 
 /// Two names of one image are the same, and its data isn't read.
-static PAIRS: [Pair; 5] = [
+static PAIRS: [Pair; 6] = [
     ("one.raw", "one.raw", Some(true)),
     ("one.raw", "parts/linked.raw", Some(true)),
     ("disk.vmdk", "second.vmdk", Some(true)),
+    // By that name it is no VMDK image.
+    ("disk.vmdk", "disk.txt", None),
     ("one.raw", "other.raw", None),
     ("one.raw", "nothing.raw", None),
 ];

@@ -22,7 +22,7 @@ returns-in-Ok g c =
     c.in_ok-length.was in
     IfOk-weaker c.tell_faults.result
     (λ n. n ≡ 0 → AreFaultless c.in_ok-length.length c.deref.result.now)
-    (λ n. n ≡ 0 → IfSome known (λ files. IsFaultlessAs c.args.how.strict c.args.how.other_files
+    (λ n. n ≡ 0 → IfSome known (λ files. IsFaultlessAs c.args.how.accepted c.args.how.other_files
     files c.args.path.now Of.Qcow2))
     (λ n found zero. qcow2_faultless (features_of contents opened) (bytes_of contents opened) known
     c.args.path.now c.args.file c.in_ok-length.length c.in-Ok.runs.items length_is

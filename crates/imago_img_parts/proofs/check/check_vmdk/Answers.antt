@@ -1,4 +1,4 @@
-use Rattle.std.proofs.Common.{◌≡◌, List, ℕ, Ok, IfSome, map, not, subst}
+use Rattle.std.proofs.Common.{◌≡◌, List, ℕ, Ok, IfSome, map, subst}
 use Rattle.std.specs.String.{string_bytes}
 use Rattle.std.proofs.lemmas.Result.{IfOk-weaker}
 use Rattle.imago_vmdk.specs.Line.{extent_with}
@@ -18,15 +18,15 @@ returns-in-Ok g c =
     let same : IfSome known (λ files. c.in_ok-text.text.items ≡ files c.args.path.now) =
     of_file (features_of contents opened) (bytes_of contents opened) known c.args.path.now c.args.file.now
     (λ bytes. c.in_ok-text.text.items ≡ bytes) c.in_ok-text.ensures c.requires in
-    let says : reading_of (not c.args.how.strict) c.in_ok-text.text.items
+    let says : reading_of c.args.how.accepted c.in_ok-text.text.items
     ≡ Ok (extents, c.in-Ok.described.size) =
-    subst (λ (text : List ℕ). reading_of (not c.args.how.strict) text
+    subst (λ (text : List ℕ). reading_of c.args.how.accepted text
     ≡ Ok (extents, c.in-Ok.described.size)) c.deref-2.ensures.value c.in-Ok.ensures.reading in
     IfOk-weaker c.check_extents.result
     (λ n. n ≡ 0 → IfSome known
     (λ files. AreHeld c.args.how.other_files files c.args.path.now extents))
-    (λ n. n ≡ 0 → IfSome known (λ files. IsFaultlessAs c.args.how.strict c.args.how.other_files
+    (λ n. n ≡ 0 → IfSome known (λ files. IsFaultlessAs c.args.how.accepted c.args.how.other_files
     files c.args.path.now Of.Vmdk))
-    (λ n held zero. vmdk_faultless c.args.how.strict c.args.how.other_files known c.args.path.now
+    (λ n held zero. vmdk_faultless c.args.how.accepted c.args.how.other_files known c.args.path.now
     c.in_ok-text.text.items extents c.in-Ok.described.size says same (held zero))
     c.check_extents.ensures

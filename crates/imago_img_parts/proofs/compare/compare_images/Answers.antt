@@ -8,9 +8,9 @@ pub returns-in-Ok : goal.returns-in-Ok
 returns-in-Ok g c =
     let contents = g.H.Files.contents in
     let opened = g.H.File.HostFile.contents in
-    compared_disks (view_over (features_of contents opened) faults_of (bytes_of contents opened)) c.args.how.strict
-    c.args.how.other_files c.args.how.format c.args.other c.args.same_size c.said_of_second.result.strict
-    c.said_of_second.result.other_files c.said_of_second.result.format c.said_of_second.ensures.strict
+    compared_disks (view_over (features_of contents opened) faults_of (bytes_of contents opened)) c.args.how.accepted
+    c.args.how.other_files c.args.how.format c.args.other c.args.same_size c.said_of_second.result.accepted
+    c.said_of_second.result.other_files c.said_of_second.result.format c.said_of_second.ensures.accepted
     c.said_of_second.ensures.others c.said_of_second.ensures.format (contents c.args.host.now) c.args.first.now
     c.args.second.now c.in_ok-format.format c.in_ok-right.field-0-0 c.in_ok-format.left c.in_ok-right.right
     c.in_ok-size.size c.in_ok-other_size.other_size c.leaves_out.result
@@ -22,9 +22,9 @@ pub returns-then-are_paths_of_one : goal.returns-then-are_paths_of_one
 returns-then-are_paths_of_one g c =
     let contents = g.H.Files.contents in
     let opened = g.H.File.HostFile.contents in
-    compared_same (view_over (features_of contents opened) faults_of (bytes_of contents opened)) c.args.how.strict
+    compared_same (view_over (features_of contents opened) faults_of (bytes_of contents opened)) c.args.how.accepted
     c.args.how.other_files c.args.how.format c.args.other c.args.same_size (contents c.args.host.now) c.args.first.now
     c.args.second.now c.in_ok-format.format c.in_ok-format.left c.in_ok-size.size c.in_ok-size.ensures
-    (c.is_said_alike.ensures c.if-is_said_alike.true)
+    (c.are_said_alike.ensures c.if-are_said_alike.true)
     (c.are_paths_of_one.ensures c.if-are_paths_of_one.true)
     c.in_ok-format.ensures.format c.in_ok-format.ensures.image

@@ -1,31 +1,23 @@
-use Rattle.imago_img_parts.proofs.Disks.{whole_file, converted_file}
+use Rattle.imago_img_parts.specs.Disks.{IsConverted}
+use Rattle.imago_img_parts.proofs.Cleared.{err_then, ok_then}
 use Rattle.imago_img_parts.proofs.convert.convert_image.Goals as goal
 
-pub end-requires : goal.end-requires
-end-requires g c =
-    let contents = g.H.Files.contents in
-    let target = c.in-Ok.target in
-    let full = c.fill_shown-target.result.0 in
-    let created = c.in-Ok.ensures in
-    record {
-      whole = whole_file c.args.how.strict c.args.how.other_files c.args.how.format (contents c.args.host.now)
-          (contents c.create.new.self) c.args.from.now c.args.to.now c.in_ok-size.size (g.H.Target.Target.made_for target)
-          (g.H.Target.Target.made_for full) (g.H.Target.Target.contents target) (g.H.Target.Target.contents full)
-          c.fill_shown-target.result.1 created.same c.fill_shown-target.ensures.same c.in_ok-size.ensures created.empty
-          created.made_for c.fill_shown-target.ensures.filled;
-    }
-
-pub returns-in-Ok-clause-converted : goal.returns-in-Ok-clause-converted
-returns-in-Ok-clause-converted g c =
+pub returns-clause-converted : goal.returns-clause-converted
+returns-clause-converted g c =
     let contents = g.H.Files.contents in
     let around = g.H.Host.around in
-    let target = c.in-Ok.target in
-    let full = c.fill_shown-target.result.0 in
-    let created = c.in-Ok.ensures in
-    converted_file c.args.how.strict c.args.how.other_files c.args.how.format (contents c.args.host.now)
-    (contents c.create.new.self) c.args.from.now c.args.to.now c.in_ok-size.size (g.H.Target.Target.made_for target)
-    (g.H.Target.Target.made_for full) (g.H.Target.Target.contents target) (g.H.Target.Target.contents full)
-    c.fill_shown-target.result.1 c.args.replace c.end.result (contents c.end.new.host) (around c.args.host.now)
-    (around c.create.new.self) (around c.end.new.host) created.same c.fill_shown-target.ensures.same created.empty
-    created.made_for c.fill_shown-target.ensures.filled c.end.ensures.done c.end.ensures.made created.begun
-    c.end.ensures.there created.free
+    let how = c.args.how in
+    ok_then (contents c.args.host.now) (around c.args.host.now) c.args.to.now c.convert_beside.result
+    c.args.making.replace
+    (λ files left. IsConverted how.accepted how.other_files how.format c.args.making.replace files
+    (contents c.convert_beside.new.host) left (around c.convert_beside.new.host) c.args.from.now c.args.to.now)
+    (contents c.clear.new.host) (around c.clear.new.host) c.clear.ensures c.convert_beside.ensures.converted
+
+pub returns-clause-refused : goal.returns-clause-refused
+returns-clause-refused g c =
+    let contents = g.H.Files.contents in
+    let around = g.H.Host.around in
+    err_then (contents c.args.host.now) (around c.args.host.now) c.args.to.now c.convert_beside.result
+    c.args.making.replace (contents c.convert_beside.new.host) (around c.convert_beside.new.host)
+    (contents c.clear.new.host) (around c.clear.new.host) c.clear.ensures c.convert_beside.ensures.same
+    c.convert_beside.ensures.refused

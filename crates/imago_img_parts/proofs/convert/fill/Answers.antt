@@ -8,7 +8,7 @@ pub returns-in-Ok-clause-filled : goal.returns-in-Ok-clause-filled
 returns-in-Ok-clause-filled g c =
     let contents = g.H.Files.contents in
     let opened = g.H.File.HostFile.contents in
-    appended_disk (view_over (features_of contents opened) faults_of (bytes_of contents opened)) c.args.how.strict
+    appended_disk (view_over (features_of contents opened) faults_of (bytes_of contents opened)) c.args.how.accepted
     c.args.how.other_files c.args.how.format (contents c.args.host.now) c.args.from.now
     c.in_ok-image.field-0-0 c.in_ok-image.image _ _ c.in_ok-image.ensures.format
     c.in_ok-image.ensures.image c.in-Ok.ensures.put
