@@ -416,8 +416,8 @@ impl<'a> System<'a> {
         }
     }
 
-    /// What a new file of that path is to replace, if anything: a regular file, if it may be. A link
-    /// that leads nowhere isn't replaced.
+    /// What a new file of that path is to replace, if anything: a regular file, if it may be. A
+    /// link that leads nowhere isn't replaced.
     fn replaced(&self, to: &str, replace: bool) -> io::Result<Option<Metadata>> {
         if to.is_empty() {
             return Err(io::Error::from(ErrorKind::NotFound));
