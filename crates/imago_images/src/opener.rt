@@ -42,9 +42,9 @@ pub type FileImage<'a, H> = FormatAccess<AnyDriver<PathStorage<'a, H>>>;
 /// chain of files below it. Tells the format of the file of that path too.
 ///
 /// Each file is looked at before it is read. The image holds none open; its host may. What is read
-/// are the first 512 bytes of a file whose format isn't said to be raw, the last 512 where no format
-/// is said and the first tell nothing, and headers, tables and descriptors; data is read when the
-/// image is.
+/// are the first 512 bytes of a file whose format isn't said to be raw, the last 512 where no
+/// format is said and the first tell nothing, and headers, tables and descriptors; data is read
+/// when the image is.
 ///
 /// Unless the opening says `writable`, no file is written to, now or later. Otherwise the image has
 /// to be a raw one. Its file is opened for writing then, and the image is written like any other;
