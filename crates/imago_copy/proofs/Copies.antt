@@ -1,8 +1,8 @@
 -- Values put behind one another.
-use Rattle.std.proofs.Common.{◌≡◌, ℕ, ◌+◌, ◌-◌, ◌<◌, ◌≤◌, ⊎_elim, Bool, List, [], ◌++◌, length, map, replicate, Option, Some, None, refl, sym, ap, ◌∙◌, subst, arith}
+use Rattle.std.proofs.Common.{◌≡◌, ℕ, ◌+◌, ◌-◌, ◌<◌, ◌≤◌, ⊎_elim, Bool, List, [], ◌++◌, length, map, min, replicate, take, Option, Some, None, Result, Ok, Err, OnErr, refl, sym, ap, ◌∙◌, subst, arith}
 use Rattle.std.specs.Prelude.{IsTrue}
 use Rattle.std.proofs.lemmas.Bool.{cases_lt}
-use Rattle.std.proofs.lemmas.List.{same_lists, get_or_append_left, get_or-append_right, get_or-map, get_or-replicate, length-replicate, length-append, length-map, append_assoc, append-nil}
+use Rattle.std.proofs.lemmas.List.{same_lists, get_or_append_left, get_or-append_right, get_or-map, get_or-replicate, get_or-take, length-replicate, length-append, length-map, length-take, append_assoc, append-nil}
 use Rattle.std.proofs.lemmas.List.FromFn.{length-map-range_with_len, get_or-map-range_with_len}
 use Rattle.imago_drivers.specs.Place.{Value, Byte, shown, HasValues}
 use Rattle.imago_drivers.specs.View.{View}
@@ -11,11 +11,16 @@ use Rattle.imago_access.specs.Chain.{driver, disk_value, tells_bytes}
 use Rattle.imago_access.specs.Disk.{values_from, disk}
 use Rattle.imago_access.specs.Resolved.{LeadsToZero}
 use Rattle.imago_access.specs.Target.{Target, target}
-use Rattle.imago_copy.specs.Appended.{IsAppended}
+use Rattle.imago_copy.specs.Appended.{IsAppended, IsPartlyAppended}
 use Rattle.imago_copy.specs.declared.runs.Run.{Run}
 use Rattle.imago_copy.specs.Runs.{IsRunAt, IsNextRun}
-use Rattle.imago_copy.specs.Copies.{IsPut, IsDiskPut}
+use Rattle.imago_copy.specs.Copies.{IsPut, IsPartlyPut, IsDiskPut, IsDiskPartlyPut}
 use Rattle.imago_copy.specs.Ends.{AreZeroBehind}
+
+-- what holds anyway holds where there is an error
+pub on_error : {T E : Type 0} (r : Result T E) (P : Type 0) → P → OnErr r P
+on_error (Ok x) P h = tt
+on_error (Err e) P h = h
 
 -- no values were put
 pub put_none : (at : ℕ → Value) (o : ℕ) (s : Option (List ℕ)) → IsPut at o 0 s s
@@ -125,3 +130,81 @@ module _ {D St : Type 0} (view : D → View St) where
   next_ends x y p q o e is h =
       let ends : ((view (driver x)).size ≤ p) × (q ≡ p) = subst (λ (z : Option Run). IsNextRun view x p z q) is h in
       subst (λ (z : FormatAccess D). (view (driver z)).size ≤ p) e ends.0
+
+-- nothing was put
+pub partly_none : (at : ℕ → Value) (o most : ℕ) (s : Option (List ℕ)) → IsPartlyPut at o most s s
+partly_none at o most s =
+    let least : 0 ≤ most = omega arith in
+    (0, least, put_none at o s)
+
+-- the first of some bytes were put, which are values from there on
+pub partly_bytes : (at : ℕ → Value) (o most : ℕ) (s t : Option (List ℕ)) (bytes : List ℕ) → length bytes ≤ most → HasValues at o bytes → IsPartlyAppended s t bytes → IsPartlyPut at o most s t
+partly_bytes at o most None t bytes fits values is =
+    let least : 0 ≤ most = omega arith in
+    (0, least, tt)
+partly_bytes at o most (Some old) t bytes fits values (n, le, is) =
+    let len : length (take n bytes) ≡ min n (length bytes) = length-take n bytes in
+    let all : length (take n bytes) ≡ n = omega (arith, len, le) in
+    let within : n ≤ most = omega (arith, le, fits) in (
+      n,
+      within,
+      (
+        take n bytes,
+        all,
+        (λ k lt.
+            let inside : k < n = omega (arith, lt, all) in
+            let there : k < length bytes = omega (arith, inside, le) in
+            values k there ∙ ap Byte (sym (get_or-take n bytes k 0 inside))),
+        is,
+      ),
+    )
+
+-- values that were put, and some behind them
+pub partly_more : (at : ℕ → Value) (o a b most : ℕ) (s mid t : Option (List ℕ)) → a + b ≤ most → IsPut at o a s mid → IsPartlyPut at (o + a) b mid t → IsPartlyPut at o most s t
+partly_more at o a b most s mid t fits h (n, le, k) =
+    let within : a + n ≤ most = omega (arith, le, fits) in
+    (a + n, within, put_more at o a n s mid t h k)
+
+-- what was put of a run up to a place behind its data, and some zeroes of the rest
+pub partly_tail : (at : ℕ → Value) (o some done n : ℕ) (s mid t : Option (List ℕ)) → some ≤ done → done < n → AreZeroBehind at o some n
+    → IsPut at o done s mid → IsPartlyAppended mid t (replicate (n - done) 0) → IsPartlyPut at o n s t
+partly_tail at o some done n s mid t behind left zero put is =
+    let all : done + (n - done) ≤ n = omega (arith, left) in
+    partly_more at o done (n - done) n s mid t all put
+    (partly_bytes at (o + done) (n - done) mid t (replicate (n - done) 0) zeroes values is)
+  where
+    zeroes : length (replicate {A = ℕ} (n - done) 0) ≤ n - done
+    zeroes = omega (arith, length-replicate {A = ℕ} (n - done) 0)
+
+    values : HasValues at (o + done) (replicate (n - done) 0)
+    values k lt =
+        let inside : k < n - done = omega (arith, lt, length-replicate {A = ℕ} (n - done) 0) in
+        let place : o + (done + k) ≡ o + done + k = omega arith in
+        ap at (sym place) ∙ zero (done + k) (omega (arith, behind)) (omega (arith, inside))
+        ∙ ap Byte (sym (get_or-replicate (n - done) k 0 0 inside))
+
+-- the same of the same image
+pub partly_as : {D St : Type 0} (view : D → View St) (y x : FormatAccess D) (o n : ℕ) (s t : Option (List ℕ)) → y ≡ x → (IsTrue (tells_bytes view y) → IsPartlyPut (disk_value view y) o n s t)
+    → IsTrue (tells_bytes view x) → IsPartlyPut (disk_value view x) o n s t
+partly_as view y x o n s t same h = subst (λ (z : FormatAccess _). IsTrue (tells_bytes view z) → IsPartlyPut (disk_value view z) o n s t) same h
+
+module _ {D St : Type 0} (view : D → View St) (x : FormatAccess D) where
+  -- the first values of a disk were put
+  pub partly_disk : (most : ℕ) (s t : Option (List ℕ)) → most ≤ (view (driver x)).size → IsPartlyPut (disk_value view x) 0 most s t → IsDiskPartlyPut (disk view x) s t
+  partly_disk most None t fits h = tt
+  partly_disk most (Some old) t fits (n, le, (bytes, len, values, is)) =
+      let f : ℕ → Value = disk_value view x in
+      let size : ℕ = (view (driver x)).size in
+      let listed : length (values_from f 0 size) ≡ size = length-map-range_with_len f 0 size in
+      let cut : length (take (length bytes) (values_from f 0 size)) ≡ min (length bytes) (length (values_from f 0 size)) = length-take (length bytes) (values_from f 0 size) in
+      let mapped : length (map Byte bytes) ≡ length bytes = length-map bytes Byte in
+      let all : length (map Byte bytes) ≡ length (take (length bytes) (values_from f 0 size)) = omega (arith, cut, listed, mapped, len, le, fits) in (
+        bytes,
+        same_lists (map Byte bytes) (take (length bytes) (values_from f 0 size)) all
+            (λ k d lt.
+            let there : k < length bytes = omega (arith, lt, mapped) in
+            let here : k < size = omega (arith, there, len, le, fits) in
+            get_or-map Byte bytes k 0 d there ∙ sym (values k there) ∙ sym (get_or-map-range_with_len f 0 size k (0 + k) d here refl)
+            ∙ sym (get_or-take (length bytes) (values_from f 0 size) k d there)),
+        is,
+      )

@@ -20,7 +20,7 @@ none_some : {A : Type 0} (a : A) → None ≡ Some a → ⊥
 none_some a e = cc e
 
 -- where a mapping leads, what it names stands
-named_stands : (m : Mapping) (k : Kind) (i : ℕ) (t : Target) → named_kind m ≡ Some k → LeadsTo m i t → Stands k i t
+pub named_stands : (m : Mapping) (k : Kind) (i : ℕ) (t : Target) → named_kind m ≡ Some k → LeadsTo m i t → Stands k i t
 named_stands (M.Raw layer storage offset w) k i t e h =
     subst (λ (z : Kind). Stands z i t) (some_is _ _ e) (h.0, (h.1.0, h.1.1, h.1.2))
 named_stands (M.Zero explicit) k i t e h = subst (λ (z : Kind). Stands z i t) (some_is _ _ e) (explicit, h)

@@ -1,22 +1,13 @@
 -- The runs of a disk, each of one layer.
-use Rattle.std.specs.Prelude.{◌≡◌, ℕ, ◌+◌, ◌<◌, ◌≤◌, ◌^◌, List, [], ◌∷◌, Option, Some, None}
+use Rattle.std.specs.Prelude.{◌≡◌, ℕ, ◌+◌, ◌≤◌, true, List, [], ◌∷◌, Option, Some, None}
 use Rattle.imago_drivers.specs.View.{View}
 use Rattle.imago_access.specs.declared.access.FormatAccess.{FormatAccess}
 use Rattle.imago_access.specs.Chain.{driver}
 use Rattle.imago_access.specs.Target.{Target, target}
-use Rattle.imago_copy.specs.declared.runs.Kind.{Kind}
-use Rattle.imago_copy.specs.declared.runs.Kind.TheVariants as K
 use Rattle.imago_copy.specs.declared.layers.LayerRun.{LayerRun}
 use Rattle.imago_copy.specs.declared.layers.LayerRuns.{LayerRuns}
 use Rattle.imago_copy.specs.Allocations.{AreAllocated}
-use Rattle.imago_copy.specs.Runs.{Stands, IsRunAt}
-use Rattle.imago_copy.specs.RunsOf.{image_of as image_of_runs, at_of as at_of_runs, IsReady}
-
--- bytes of that kind are those of the layer of that depth
-abbrev pub IsOfLayer : Kind → ℕ → Type 0
-IsOfLayer K.Zero depth = ⊥
-IsOfLayer (K.Stored layer storage offset) depth = depth ≡ layer
-IsOfLayer (K.Special layer offset) depth = depth ≡ layer
+use Rattle.imago_copy.specs.Runs.{IsRunAt, goes_on}
 
 -- a run that begins at p, of which the layer that is told has each byte, or none has one
 abbrev pub IsLayerRunAt : (ℕ → Target) → ℕ → LayerRun → Type 0
@@ -29,6 +20,22 @@ AreLayerRuns leads p [] q = p ≡ q
 AreLayerRuns leads p (r ∷ rs) q =
     IsLayerRunAt leads p r × AreLayerRuns leads (p + r.run.count) rs q
 
+-- A run goes on as the one that is next on the disk: as its kind does, and the same layer has both,
+-- or none has.
+abbrev pub GoesOn : LayerRun → LayerRun → Type 0
+GoesOn r next = (goes_on r.run.kind r.run.count next.run.kind ≡ true)
+    × (next.allocation ≡ r.allocation)
+
+-- such a run begins at an offset, if the disk of that size doesn't end there
+abbrev pub IsLayerRestFrom : (ℕ → Target) → ℕ → ℕ → Option LayerRun → Type 0
+IsLayerRestFrom leads size p None = size ≤ p
+IsLayerRestFrom leads size p (Some r) = IsLayerRunAt leads p r × (p + r.run.count ≤ size)
+
+-- the same of an image
+abbrev pub IsLayerRestOf :
+    {D St : Type 0} → (D → View St) → FormatAccess D → ℕ → Option LayerRun → Type 0
+IsLayerRestOf view x p r = IsLayerRestFrom (target view x) (view (driver x)).size p r
+
 -- the next one of a disk from an offset on, and where it ends: none where the disk ends there
 abbrev pub IsNextLayerRun :
     {D St : Type 0} → (D → View St) → FormatAccess D → ℕ → Option LayerRun → ℕ → Type 0
@@ -38,19 +45,17 @@ IsNextLayerRun view x p (Some r) q = IsLayerRunAt (target view x) p r × (q ≡ 
 
 -- the image
 abbrev pub image_of : {D : Type 0} → LayerRuns D → FormatAccess D
-image_of r = image_of_runs r.runs
+image_of r = r.image.now
 
 -- where the next one begins
 abbrev pub at_of : {D : Type 0} → LayerRuns D → ℕ
 at_of r = r.at
 
--- where the zeroes end that begin there, if any do
-abbrev pub end_of : {D : Type 0} → LayerRuns D → ℕ
-end_of r = r.end
+-- the first mapping of the next one, if the disk doesn't end before it
+abbrev pub next_of : {D : Type 0} → LayerRuns D → Option LayerRun
+next_of r = r.next
 
--- what lies between the next one and the end of the runs that were asked for is zeroes of no
--- storage
+-- what is at hand is the next mapping of the image
 abbrev pub AreReady : {D St : Type 0} → (D → View St) → LayerRuns D → Type 0
-AreReady view r = IsReady view r.runs × (r.end ≡ at_of_runs r.runs) × (r.at ≤ r.end)
-    × (r.end < 2 ^ 64)
-    × ((p : ℕ) → r.at ≤ p → p < r.end → Stands K.Zero 0 (target view (image_of r) p))
+AreReady view r = IsLayerRestOf view r.image.now r.at r.next
+    × (r.at ≤ (view (driver r.image.now)).size)

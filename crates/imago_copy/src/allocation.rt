@@ -3,8 +3,9 @@ ghost use Rattle.std.specs.Prelude.{◌≡◌, ◌≢◌, ◌+◌, ◌-◌, ◌^
 ghost use Rattle.imago_access.specs.Target.{target};
 ghost use Rattle.imago_copy.specs.Allocations.{in_layer, in_none, allocation_of, AreAllocated};
 
+use crate::layers::first_run;
 use imago_access::access::FormatAccess;
-use imago_drivers::drivers::{FormatDriverInstance, ShallowMapping};
+use imago_drivers::drivers::FormatDriverInstance;
 use imago_storage::error::Error;
 
 /// Which layer of an image has bytes of its disk, if one has.
@@ -20,73 +21,33 @@ pub struct Allocation {
     pub is_present: bool,
 }
 
-/// Whether both are the same.
-fn are_same(one: Allocation, other: Allocation) -> bool
-    ensures { IsTrue result ↔ (one ≡ other) }
-{
-    one.depth == other.depth && one.is_present == other.is_present
-}
-
-/// Bytes that the layer of that depth has.
-pub(crate) fn present(depth: usize) -> Allocation
-    ensures { result ≡ in_layer «depth» }
-{
-    Allocation {
-        depth,
-        is_present: true,
-    }
-}
-
-/// Bytes that no layer has, and that the layer above the one of that depth leaves to it.
-fn absent(depth: usize) -> Allocation
-    requires { 0 < depth }
-    ensures { result ≡ in_none («depth» - 1) }
-{
-    Allocation {
-        depth: depth - 1,
-        is_present: false,
-    }
-}
-
-/// Which layer has the first bytes of a range inside the disk, and how many bytes these are: as
-/// many as the drivers on the way map at once.
-fn first_allocation<D: FormatDriverInstance>(
-    image: &FormatAccess<D>,
-    at: u64,
-    most: u64,
-) -> Result<(Allocation, u64), Error>
-    requires { 0 < most }
-    ensures some { IfOk result (λ r. 0 < r.1) }
-    ensures within { IfOk result (λ r. r.1 ≤ most) }
-    ensures allocated { IfOk result (λ r. AreAllocated (target D.view image.now) at r.1 r.0) }
-{
-    let mut layer = image;
-    let mut depth: usize = 0;
-    let mut offset = at;
-    let mut left = most;
-    loop {
-        let (mapping, count) = layer.get_shallow_mapping(offset, left)?;
-        match mapping {
-            ShallowMapping::Indirect {
-                offset: below_at,
-                ..
-            } => match layer.backing() {
-                None => return Ok((absent(depth.saturating_add(1)), count)),
-                Some(below) => {
-                    layer = below;
-                    depth = depth.saturating_add(1);
-                    offset = below_at;
-                    left = count;
-                }
-            },
-            ShallowMapping::Eof => {
-                if depth == 0 {
-                    return Err(Error::Unsupported);
-                }
-                return Ok((absent(depth), left));
-            }
-            _ => return Ok((present(depth), count)),
+impl Allocation {
+    /// Bytes that the layer of that depth has.
+    pub(crate) fn in_layer(depth: usize) -> Self
+        ensures { result ≡ in_layer «depth» }
+    {
+        Allocation {
+            depth,
+            is_present: true,
         }
+    }
+
+    /// Bytes that no layer has, and that the layer above the one of that depth leaves to it.
+    pub(crate) fn in_none(depth: usize) -> Self
+        requires { 0 < depth }
+        ensures { result ≡ in_none («depth» - 1) }
+    {
+        Allocation {
+            depth: depth - 1,
+            is_present: false,
+        }
+    }
+
+    /// Whether both are the same.
+    pub(crate) fn is_same(self, other: Self) -> bool
+        ensures { IsTrue result ↔ (self ≡ other) }
+    {
+        self.depth == other.depth && self.is_present == other.is_present
     }
 }
 
@@ -108,13 +69,15 @@ pub fn allocation_at<D: FormatDriverInstance>(
     ensures apart { IfOk result
         (λ r. r.1 < most → allocation_of (target D.view image.now (at + r.1)) ≢ r.0) }
 {
-    let (found, mut count) = first_allocation(image, at, most)?;
+    let first = first_run(image, at, most)?;
+    let found = first.allocation;
+    let mut count = first.run.count;
     while count < most {
-        let (next, more) = first_allocation(image, at + count, most - count)?;
-        if !are_same(next, found) {
+        let next = first_run(image, at + count, most - count)?;
+        if !next.allocation.is_same(found) {
             return Ok((found, count));
         }
-        count += more;
+        count += next.run.count;
     }
     Ok((found, count))
 }

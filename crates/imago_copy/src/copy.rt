@@ -1,10 +1,10 @@
 //! A disk, copied to a target.
-ghost use Rattle.std.specs.Prelude.{◌≡◌, ◌+◌, ◌<◌, ◌≤◌, ◌^◌, IsTrue, OnOk, IfOk};
+ghost use Rattle.std.specs.Prelude.{◌≡◌, ◌+◌, ◌<◌, ◌≤◌, ◌^◌, IsTrue, OnOk, OnErr, IfOk};
 ghost use Rattle.imago_access.specs.Chain.{disk_value, tells_bytes};
 ghost use Rattle.imago_access.specs.Disk.{disk};
 ghost use Rattle.imago_access.specs.ReaderOf.{image_of, IsKeeping};
 ghost use Rattle.imago_access.specs.Target.{target as leads_to};
-ghost use Rattle.imago_copy.specs.Copies.{IsPut, IsDiskPut};
+ghost use Rattle.imago_copy.specs.Copies.{IsPut, IsPartlyPut, IsDiskPut, IsDiskPartlyPut};
 ghost use Rattle.imago_copy.specs.Runs.{IsRunAt};
 
 use crate::ends::data_count;
@@ -66,6 +66,9 @@ fn copy_first<D: FormatDriverInstance, T: Target>(
     ensures put { IsTrue (tells_bytes D.view (image_of reader.old)) → IfOk result (λ n.
         IsPut (disk_value D.view (image_of reader.old)) at n (T.contents target.old)
         (T.contents target.new)) }
+    ensures refused { IsTrue (tells_bytes D.view (image_of reader.old)) → OnErr result
+        (IsPartlyPut (disk_value D.view (image_of reader.old)) at most (T.contents target.old)
+        (T.contents target.new)) }
 {
     let count = most.min(buf.len() as u64);
     if count == 0 {
@@ -98,6 +101,9 @@ fn copy_data<D: FormatDriverInstance, T: Target>(
     ensures put { IsTrue (tells_bytes D.view (image_of reader.old)) → IfOk result (λ n.
         IsPut (disk_value D.view (image_of reader.old)) run.at n (T.contents target.old)
         (T.contents target.new)) }
+    ensures refused { IsTrue (tells_bytes D.view (image_of reader.old)) → OnErr result
+        (IsPartlyPut (disk_value D.view (image_of reader.old)) run.at run.count
+        (T.contents target.old) (T.contents target.new)) }
 {
     let mut done: u64 = 0;
     while done < least {
@@ -124,6 +130,9 @@ fn copy_run<D: FormatDriverInstance, T: Target>(
     ensures put { IsTrue (tells_bytes D.view (image_of reader.old)) → OnOk result
         (IsPut (disk_value D.view (image_of reader.old)) run.at run.count (T.contents target.old)
         (T.contents target.new)) }
+    ensures refused { IsTrue (tells_bytes D.view (image_of reader.old)) → OnErr result
+        (IsPartlyPut (disk_value D.view (image_of reader.old)) run.at run.count
+        (T.contents target.old) (T.contents target.new)) }
 {
     let data = data_count(reader.image(), run);
     let done = copy_data(alloc, reader, target, run, data, buf)?;
@@ -154,7 +163,7 @@ fn copy_run<D: FormatDriverInstance, T: Target>(
 /// it is [`Error::Unsupported`], where the driver maps nothing inside the disk.
 /// [`CopyError::Target`] is what the target refused; or it is [`ErrorKind::InvalidInput`], where
 /// there is something to read and the buffer is empty. A refusal ends the copy. What was put in
-/// until then stays in the target, and no contract says what that is; the buffer is unspecified.
+/// until then stays in the target: the first bytes of the disk, or none. The buffer is unspecified.
 pub fn copy_disk<D: FormatDriverInstance, T: Target>(
     alloc: Global,
     image: &FormatAccess<D>,
@@ -164,6 +173,8 @@ pub fn copy_disk<D: FormatDriverInstance, T: Target>(
     ensures same { T.made_for target.new ≡ T.made_for target.old }
     ensures put { IsTrue (tells_bytes D.view image.now) → OnOk result
         (IsDiskPut (disk D.view image.now) (T.contents target.old) (T.contents target.new)) }
+    ensures refused { IsTrue (tells_bytes D.view image.now) → OnErr result
+        (IsDiskPartlyPut (disk D.view image.now) (T.contents target.old) (T.contents target.new)) }
 {
     let mut runs = Runs::new(image)?;
     let mut reader = Reader::new(alloc, image);

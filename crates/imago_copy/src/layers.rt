@@ -1,13 +1,14 @@
 //! The runs of a disk, each of one layer.
-ghost use Rattle.std.specs.Prelude.{◌≡◌, ◌+◌, ◌<◌, ◌≤◌, ◌^◌, IfOk, IfSome, IfNone};
+ghost use Rattle.std.specs.Prelude.{◌≡◌, ◌+◌, ◌<◌, ◌≤◌, ◌^◌, ◌↔◌, IsTrue, IfOk, IfErr, IfSome};
+ghost use Rattle.imago_access.specs.Chain.{driver};
 ghost use Rattle.imago_access.specs.Target.{target};
 ghost use Rattle.imago_copy.specs.declared.runs.Kind.TheVariants as Kind;
-ghost use Rattle.imago_copy.specs.LayerRuns.{IsLayerRunAt, IsNextLayerRun, IsOfLayer};
+ghost use Rattle.imago_copy.specs.LayerRuns.{GoesOn, IsLayerRunAt, IsLayerRestOf, IsNextLayerRun};
 
-use crate::allocation::{Allocation, allocation_at, present};
-use crate::runs::{Kind, Run, Runs};
+use crate::allocation::Allocation;
+use crate::runs::{Kind, Run};
 use imago_access::access::FormatAccess;
-use imago_drivers::drivers::FormatDriverInstance;
+use imago_drivers::drivers::{FormatDriverInstance, ShallowMapping};
 use imago_storage::error::Error;
 
 /// A run of a disk, all of whose bytes the same layer has, or none.
@@ -19,32 +20,164 @@ pub struct LayerRun {
     pub allocation: Allocation,
 }
 
-/// The depth of the layer that has bytes of that kind, where the kind tells it.
-fn layer_of(kind: Kind) -> Option<usize>
-    ensures some { IfSome result (IsOfLayer kind) }
-    ensures none { IfNone result (kind ≡ Kind.Zero) }
-{
-    match kind {
-        Kind::Stored { layer, .. } | Kind::Special { layer, .. } => Some(layer),
-        Kind::Zero => None,
+impl LayerRun {
+    /// That many bytes from an offset on, all of a kind, and of the layer that has them.
+    fn new(at: u64, count: u64, kind: Kind, allocation: Allocation) -> Self
+        ensures { result ≡ record {
+          run = record { at = at; count = count; kind = kind };
+          allocation = allocation;
+        } }
+    {
+        LayerRun {
+            run: Run { at, count, kind },
+            allocation,
+        }
+    }
+
+    /// Whether it goes on as the one that is next on the disk.
+    fn goes_on(self, next: Self) -> bool
+        ensures { IsTrue result ↔ GoesOn self next }
+    {
+        next.allocation.is_same(self.allocation)
+            && self.run.kind.goes_on(self.run.count, next.run.kind)
+    }
+
+    /// This run with that many bytes more.
+    fn longer(self, more: u64) -> Self
+        requires { self.run.count + more < 2 ^ 64 }
+        ensures { result ≡ record self {
+          run = record self.run { count = self.run.count + more };
+        } }
+    {
+        LayerRun {
+            run: self.run.longer(more),
+            ..self
+        }
     }
 }
 
-/// The runs of a disk from its start to its end, as [`Runs`] has them, but that zeroes of another
-/// layer are another run, and so are those that no layer has.
+/// What the first bytes of a range inside the disk are, and which layer has them: as many bytes as
+/// the drivers on the way down map at once.
+pub(crate) fn first_run<D: FormatDriverInstance>(
+    image: &FormatAccess<D>,
+    at: u64,
+    most: u64,
+) -> Result<LayerRun, Error>
+    requires { 0 < most }
+    ensures run { IfOk result (λ r. IsLayerRunAt (target D.view image.now) «at» r) }
+    ensures within { IfOk result (λ r. r.run.count ≤ most) }
+{
+    let mut layer = image;
+    let mut depth: usize = 0;
+    let mut offset = at;
+    let mut left = most;
+    loop {
+        let (mapping, count) = layer.get_shallow_mapping(offset, left)?;
+        match mapping {
+            ShallowMapping::Indirect {
+                offset: below_at,
+                ..
+            } => match layer.backing() {
+                None => {
+                    let none = Allocation::in_none(depth.saturating_add(1));
+                    return Ok(LayerRun::new(at, count, Kind::Zero, none));
+                }
+                Some(below) => {
+                    layer = below;
+                    depth = depth.saturating_add(1);
+                    offset = below_at;
+                    left = count;
+                }
+            },
+            ShallowMapping::Eof => {
+                if depth == 0 {
+                    return Err(Error::Unsupported);
+                }
+                let none = Allocation::in_none(depth);
+                return Ok(LayerRun::new(at, left, Kind::Zero, none));
+            }
+            ShallowMapping::Zero { .. } => {
+                let own = Allocation::in_layer(depth);
+                return Ok(LayerRun::new(at, count, Kind::Zero, own));
+            }
+            ShallowMapping::Raw {
+                storage,
+                offset,
+                ..
+            } => {
+                let kind = Kind::Stored {
+                    layer: depth,
+                    storage,
+                    offset,
+                };
+                return Ok(LayerRun::new(at, count, kind, Allocation::in_layer(depth)));
+            }
+            ShallowMapping::Special { offset } => {
+                let kind = Kind::Special {
+                    layer: depth,
+                    offset,
+                };
+                return Ok(LayerRun::new(at, count, kind, Allocation::in_layer(depth)));
+            }
+        }
+    }
+}
+
+/// The run that begins at an offset inside the disk, as far as one mapping goes.
+fn mapped_run<D: FormatDriverInstance>(image: &FormatAccess<D>, at: u64) -> Result<LayerRun, Error>
+    requires { at < (D.view (driver image.now)).size }
+    ensures run { IfOk result (λ r. IsLayerRunAt (target D.view image.now) «at» r) }
+    ensures inside { IfOk result
+        (λ r. at + r.run.count ≤ (D.view (driver image.now)).size) }
+{
+    first_run(image, at, image.size() - at)
+}
+
+/// The run that begins as that one, as far as it goes on; and the first mapping of the next one, if
+/// the disk doesn't end there.
+fn longest<D: FormatDriverInstance>(
+    image: &FormatAccess<D>,
+    first: LayerRun,
+) -> Result<(LayerRun, Option<LayerRun>), Error>
+    requires run { IsLayerRunAt (target D.view image.now) first.run.at first }
+    requires inside { first.run.at + first.run.count ≤ (D.view (driver image.now)).size }
+    ensures run { IfOk result
+        (λ r. IsLayerRunAt (target D.view image.now) first.run.at r.0) }
+    ensures rest { IfOk result
+        (λ r. IsLayerRestOf D.view image.now (first.run.at + r.0.run.count) r.1) }
+    ensures inside { IfOk result
+        (λ r. first.run.at + r.0.run.count ≤ (D.view (driver image.now)).size) }
+    ensures fits { IfOk result (λ r. first.run.at + r.0.run.count < 2 ^ 64) }
+    ensures apart { IfOk result (λ r. IfSome r.1 (λ next. GoesOn r.0 next → ⊥)) }
+{
+    let size = image.size();
+    let mut run = first;
+    while run.run.at + run.run.count < size {
+        let next = mapped_run(image, run.run.at + run.run.count)?;
+        if !run.goes_on(next) {
+            return Ok((run, Some(next)));
+        }
+        run = run.longer(next.run.count);
+    }
+    Ok((run, None))
+}
+
+/// The runs of a disk from its start to its end, as [`Runs`](crate::runs::Runs) has them, but that
+/// zeroes of another layer are another run, and so are those that no layer has.
 ///
-/// Where zeroes stand in no storage, the layers are asked for them once more.
+/// Each mapping is asked for once, of the layers on the way down to the one that has the bytes. No
+/// byte is read.
 #[derive(Drop)]
 pub struct LayerRuns<'a, D> {
-    runs: Runs<'a, D>,
+    image: &'a FormatAccess<D>,
     /// Where the next one begins.
     at: u64,
-    /// Where the zeroes end that begin there, if any do; else where the next one begins.
-    end: u64,
+    /// Its first mapping, if the disk doesn't end there.
+    next: Option<LayerRun>,
 }
 
 impl<'a, D: FormatDriverInstance> LayerRuns<'a, D> {
-    ghost use Rattle.imago_copy.specs.LayerRuns.{image_of, at_of, end_of, AreReady};
+    ghost use Rattle.imago_copy.specs.LayerRuns.{image_of, at_of, next_of, AreReady};
 
     /// The runs of that image's disk. The first mapping is asked for at once, and its refusal is
     /// passed on, as by [`next_run`](Self::next_run).
@@ -53,62 +186,35 @@ impl<'a, D: FormatDriverInstance> LayerRuns<'a, D> {
         ensures start { IfOk result (λ r. at_of r ≡ 0) }
         ensures ready { IfOk result (AreReady D.view) }
     {
-        Ok(LayerRuns {
-            runs: Runs::new(image)?,
-            at: 0,
-            end: 0,
-        })
-    }
-
-    /// The first run of the zeroes that begin where the next run does.
-    fn next_zeroes(&mut self) -> Result<LayerRun, Error>
-        requires ready { AreReady D.view self.old }
-        requires some { at_of self.old < end_of self.old }
-        ensures same { image_of self.new ≡ image_of self.old }
-        ensures run { IfOk result
-            (λ r. IsLayerRunAt (target D.view (image_of self.old)) (at_of self.old) r) }
-        ensures next { IfOk result (λ r. at_of self.new ≡ at_of self.old + r.run.count) }
-        ensures end { end_of self.new ≡ end_of self.old }
-        ensures ready { AreReady D.view self.new }
-    {
-        let image = self.runs.image();
-        let (allocation, count) = allocation_at(image, self.at, self.end - self.at)?;
-        let run = Run {
-            at: self.at,
-            count,
-            kind: Kind::Zero,
-        };
-        self.at += count;
-        Ok(LayerRun { run, allocation })
+        let mut next = None;
+        if image.size() > 0 {
+            next = Some(mapped_run(image, 0)?);
+        }
+        Ok(LayerRuns { image, at: 0, next })
     }
 
     /// The next run, or `None` at the end of the disk.
     ///
-    /// A refusal is that of [`Runs::next_run`], or of [`allocation_at`]. Refused, the next call
-    /// asks for the same again.
+    /// Mappings are asked for up to the first that is no part of the run, so a refusal comes in
+    /// place of the run before it. It is that of [`get_mapping`](FormatAccess::get_mapping), or
+    /// [`Error::Unsupported`] where the driver maps nothing inside the disk. Refused, nothing has
+    /// changed: the next call asks for the same again.
     pub fn next_run(&mut self) -> Result<Option<LayerRun>, Error>
         requires { AreReady D.view self.old }
         ensures same { image_of self.new ≡ image_of self.old }
         ensures run { IfOk result (λ r.
             IsNextLayerRun D.view (image_of self.old) (at_of self.old) r (at_of self.new)) }
+        ensures apart { IfOk result
+            (λ r. IfSome r (λ run. IfSome (next_of self.new) (λ next. GoesOn run next → ⊥))) }
         ensures ready { IfOk result (λ _. AreReady D.view self.new) }
+        ensures refused { IfErr result (λ _. self.new ≡ self.old) }
     {
-        if self.at < self.end {
-            return Ok(Some(self.next_zeroes()?));
-        }
-        let Some(run) = self.runs.next_run()? else {
+        let Some(first) = self.next else {
             return Ok(None);
         };
-        self.end = run.at + run.count;
-        match layer_of(run.kind) {
-            Some(layer) => {
-                self.at = self.end;
-                Ok(Some(LayerRun {
-                    run,
-                    allocation: present(layer),
-                }))
-            }
-            None => Ok(Some(self.next_zeroes()?)),
-        }
+        let (run, next) = longest(self.image, first)?;
+        self.at += run.run.count;
+        self.next = next;
+        Ok(Some(run))
     }
 }

@@ -80,7 +80,7 @@ impl Kind {
     }
 
     /// Whether that many bytes of this kind go on as the kind that is next on the disk.
-    fn goes_on(self, count: u64, next: Kind) -> bool
+    pub(crate) fn goes_on(self, count: u64, next: Kind) -> bool
         ensures { result ≡ goes_on self «count» next }
     {
         match (self, next) {
@@ -108,7 +108,7 @@ impl Kind {
 
 impl Run {
     /// This run with that many bytes more.
-    fn longer(self, more: u64) -> Run
+    pub(crate) fn longer(self, more: u64) -> Run
         requires { self.count + more < 2 ^ 64 }
         ensures { result ≡ record self { count = self.count + more } }
     {

@@ -1,13 +1,13 @@
 //! What a disk's bytes are put into.
-ghost use Rattle.std.specs.Prelude.{◌≡◌, ℕ, List, Option, Some, None, OnOk, replicate};
-ghost use Rattle.imago_copy.specs.Appended.{IsAppended};
+ghost use Rattle.std.specs.Prelude.{◌≡◌, ℕ, List, Option, Some, None, OnOk, OnErr, replicate};
+ghost use Rattle.imago_copy.specs.Appended.{IsAppended, IsPartlyAppended};
 
 use std::io::{self, ErrorKind};
 
 /// What bytes are put into, one after the other: a file, or memory. Counts are in bytes.
 ///
-/// What an implementation can't do, it refuses by an error of its own. Nothing is promised of what
-/// a target holds after a refusal.
+/// What an implementation can't do, it refuses by an error of its own. The first ones of the bytes
+/// that were refused may have been put in then.
 pub trait Target {
     /// What was put in so far, where an implementation says it. One over files says `None`, since
     /// no contract says what a file holds.
@@ -20,13 +20,17 @@ pub trait Target {
     /// Puts bytes behind what was put in before.
     fn append(&mut self, source: &[u8]) -> io::Result<()>
         ensures same { made_for self.new ≡ made_for self.old }
-        ensures appended { OnOk result (IsAppended (contents self.old) (contents self.new) source.now) };
+        ensures appended { OnOk result (IsAppended (contents self.old) (contents self.new) source.now) }
+        ensures refused { OnErr result
+            (IsPartlyAppended (contents self.old) (contents self.new) source.now) };
 
     /// Puts that many zeroes behind what was put in before.
     fn append_zeroes(&mut self, count: u64) -> io::Result<()>
         ensures same { made_for self.new ≡ made_for self.old }
         ensures appended { OnOk result
-            (IsAppended (contents self.old) (contents self.new) (replicate count 0)) };
+            (IsAppended (contents self.old) (contents self.new) (replicate count 0)) }
+        ensures refused { OnErr result
+            (IsPartlyAppended (contents self.old) (contents self.new) (replicate count 0)) };
 }
 
 /// Bytes are put behind those that are there. [`ErrorKind::OutOfMemory`] is no room for them, and

@@ -1,7 +1,7 @@
 use Rattle.std.proofs.Common.{◌≡◌, ℕ, Bool}
 use Rattle.imago_access.specs.Target.{told_depth}
 use Rattle.imago_access.specs.Ways.{LeadsDown}
-use Rattle.imago_copy.proofs.allocation.first_allocation.Given as goal
+use Rattle.imago_copy.proofs.layers.first_run.Given as goal
 
 abbrev pub invariant-loop-mapping : goal.invariant-loop-mapping
 invariant-loop-mapping g l = record {

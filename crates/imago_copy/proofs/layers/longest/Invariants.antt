@@ -1,0 +1,18 @@
+use Rattle.std.proofs.Common.{◌≡◌, ◌+◌, ◌-◌, ◌≤◌}
+use Rattle.imago_access.specs.Chain.{driver}
+use Rattle.imago_access.specs.Target.{target}
+use Rattle.imago_copy.specs.LayerRuns.{IsLayerRunAt}
+use Rattle.imago_copy.proofs.layers.longest.Given as goal
+
+abbrev pub invariant-loop-run : goal.invariant-loop-run
+invariant-loop-run g l =
+    let view = g.D.FormatDriverInstance.view in
+    record {
+      size : l.size ≡ (view (driver l.image)).size;
+      at : l.run.run.at ≡ l.fn.first.run.at;
+      inside : l.run.run.at + l.run.run.count ≤ l.size;
+      run : IsLayerRunAt (target view l.image) l.run.run.at l.run;
+    }
+
+abbrev pub decreases-loop-run : goal.decreases-loop-run
+decreases-loop-run g l = l.size - (l.run.run.at + l.run.run.count)
