@@ -2,10 +2,11 @@
 //! into raw files.
 #![tactic(auto)]
 
-use imago_img_parts::run::run;
+use imago_img_parts::run::{run, unread_status};
 use imago_img_parts::system::System;
+use std::env::{self, Env};
+use std::io;
 use std::process::ExitCode;
-use std::{env, io};
 
 fn main(rt: HostRuntime) -> ExitCode {
     let mut output = io::writer(&rt);
@@ -14,7 +15,7 @@ fn main(rt: HostRuntime) -> ExitCode {
         Ok(words) => words,
         Err(refused) => {
             let _ = eprintln!(rt; "imago-img: the command line can't be read: {refused}");
-            return ExitCode::from(2);
+            return ExitCode::from(refused_status(&rt));
         }
     };
     let mut host = System::new(&rt);
@@ -28,4 +29,17 @@ fn words(rt: &HostRuntime) -> io::Result<Vec<String>> {
         words.push(word)?;
     }
     Ok(words)
+}
+
+/// The status where the command line can't be read, by its first word. One that is longer than the
+/// names of the commands, or isn't UTF-8, is none of them.
+fn refused_status(rt: &HostRuntime) -> u8 {
+    let mut first = [0; 16];
+    let Ok(length) = rt.arg(1, &mut first) else {
+        return unread_status("");
+    };
+    match str::from_utf8(&first[..length]) {
+        Ok(word) => unread_status(word),
+        Err(_) => unread_status(""),
+    }
 }

@@ -1,5 +1,5 @@
 -- The disks of opened images, and what is made of them.
-use Rattle.std.proofs.Common.{◌≡◌, ℕ, ◌+◌, ◌-◌, inl, inr, Bool, false, List, [], Option, Some, None, Result, Ok, Err, length, OnOk, IsOk, IfSome, IsTrue, refl, sym, ap, subst, ◌∙◌, arith}
+use Rattle.std.proofs.Common.{◌≡◌, ℕ, ◌+◌, ◌-◌, inl, inr, Bool, false, List, [], map, Option, Some, None, Result, Ok, Err, length, OnOk, IsOk, IfSome, IsTrue, refl, sym, ap, subst, ◌∙◌, arith}
 use Rattle.std.specs.Prelude.{option_map}
 use Rattle.std.proofs.lemmas.Bool.{false≢true}
 use Rattle.std.proofs.lemmas.List.{length-map}
@@ -197,6 +197,18 @@ on_ok : {A E : Type 0} (r : Result A E) (P : Type 0) → IsOk r → OnOk r P →
 on_ok (Ok x) P is h = h
 on_ok (Err e) P is h = absurd (false≢true is)
 
+-- a disk has as many values as is told
+pub disk_sized :
+    (accepted : Accepted) (others : OtherFiles) (said : Option ImageFormat)
+    (files : List ℕ → List ℕ) (path : List ℕ) (size : ℕ) (d : List Value)
+    → HasSize accepted said files path size → ShowsDisk accepted others said files path d
+    → length d ≡ size
+disk_sized accepted others said files path size d (f, by, len) (format, layers, other, are, shows) =
+    let same : format ≡ f = one_format said path (files path) format f other by in
+    ap length shows
+    ∙ length-map-range_with_len (layers_value layers) 0 (size_by accepted format (files path))
+    ∙ ap (λ (g : ImageFormat). size_by accepted g (files path)) same ∙ sym len
+
 -- as many bytes are in a file that was begun for a disk as the disk has
 whole_disk :
     (accepted : Accepted) (others : OtherFiles) (said : Option ImageFormat) (known : Option (List ℕ → List ℕ))
@@ -205,12 +217,10 @@ whole_disk :
     → IfSome known (λ files. old ≡ Some []) → IfSome known (λ files. made ≡ Some (to, size))
     → IsDiskAppended accepted others said known from old put → IfSome known (λ files. IsWhole later put)
 whole_disk accepted others said None from to size made later old put e sized empty is filled = tt
-whole_disk accepted others said (Some files) from to size made later old put e (f, by, len) empty is filled =
-    let (bytes, (format, layers, other, are, shows), then) = subst (λ (o : Option (List ℕ)). IsDiskAppended accepted others said (Some files) from o put) empty filled in
-    let same : format ≡ f = one_format said from (files from) format f other by in
-    let all : length bytes ≡ size = sym (length-map bytes Byte) ∙ ap length shows
-    ∙ length-map-range_with_len (layers_value layers) 0 (size_by accepted format (files from))
-    ∙ ap (λ (g : ImageFormat). size_by accepted g (files from)) same ∙ sym len in
+whole_disk accepted others said (Some files) from to size made later old put e sized empty is filled =
+    let (bytes, has, then) = subst (λ (o : Option (List ℕ)). IsDiskAppended accepted others said (Some files) from o put) empty filled in
+    let all : length bytes ≡ size = sym (length-map bytes Byte)
+    ∙ disk_sized accepted others said files from size (map Byte bytes) sized has in
     let whole : IsWhole (Some (to, size)) put = subst (λ (o : Option (List ℕ)). IsWhole (Some (to, size)) o) (sym then) all in
     subst (λ (m : Option (List ℕ × ℕ)). IsWhole m put) (sym (e ∙ is)) whole
 

@@ -1,4 +1,5 @@
 mod Disks
+mod Overwritten
 mod Told
 mod Printed
 mod Decimals

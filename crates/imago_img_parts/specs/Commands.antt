@@ -12,7 +12,8 @@ use Rattle.imago_img_parts.specs.declared.question.Question.TheVariants as Q
 use Rattle.imago_img_parts.specs.declared.run.Outcome.{Outcome}
 use Rattle.imago_img_parts.specs.declared.run.Outcome.TheVariants.{Fine, Unlike}
 use Rattle.imago_img_parts.specs.Files.{Around, IsSoOnceCleared}
-use Rattle.imago_img_parts.specs.Disks.{IsConverted, AreAlike, AreUnlike}
+use Rattle.imago_img_parts.specs.Disks.{IsConverted, IsConvertedOver, IsPartlyConvertedOver}
+use Rattle.imago_img_parts.specs.Disks.{AreAlike, AreUnlike}
 use Rattle.imago_img_parts.specs.Faultless.{IsFaultless}
 use Rattle.imago_img_parts.specs.Openings.{how_by, image_format}
 
@@ -72,18 +73,36 @@ abbrev pub IsAsked :
 IsAsked refused question old new before after status =
     (new ≡ old) × (after ≡ before) × IsConcluded refused question old status
 
--- With status 0 an image was converted, by how it is opened; else the status is 1, and the files
--- are as they were. If a file may be replaced, the unfinished file of an earlier `convert` to the
--- same path may be gone before.
-abbrev pub IsConvertedBy :
+-- With status 0 an image was converted to a new file, by how it is opened; else the status is 1,
+-- and the files are as they were. If a file may be replaced, the unfinished file of an earlier
+-- `convert` to the same path may be gone before.
+abbrev pub IsNewlyConverted :
     Opening → Convert → Option (List ℕ → List ℕ) → Option (List ℕ → List ℕ)
     → Option Around → Option Around → ℕ → Type 0
-IsConvertedBy how c old new before after status =
+IsNewlyConverted how c old new before after status =
     ((status ≡ 0) × IsSoOnceCleared c.force old before c.target.now
     (λ files around. IsConverted how.accepted how.other_files how.format c.force files new around
     after c.source.now c.target.now))
     ⊎ ((status ≡ 1) × IsSoOnceCleared c.force old before c.target.now
     (λ files around. (new ≡ files) × (after ≡ around)))
+
+-- With status 0 it was converted to a file that is there; else the status is 1, and the first bytes
+-- of the disk may have been put over those of that file.
+abbrev pub IsConvertedInto :
+    Opening → Convert → Option (List ℕ → List ℕ) → Option (List ℕ → List ℕ) → ℕ → Type 0
+IsConvertedInto how c old new status =
+    ((status ≡ 0) × IsConvertedOver how.accepted how.other_files how.format old new c.source.now
+    c.target.now)
+    ⊎ ((status ≡ 1) × IsPartlyConvertedOver how.accepted how.other_files how.format old new
+    c.source.now c.target.now)
+
+-- the one or the other, by whether the file has to be there
+abbrev pub IsConvertedBy :
+    Opening → Convert → Option (List ℕ → List ℕ) → Option (List ℕ → List ℕ)
+    → Option Around → Option Around → ℕ → Type 0
+IsConvertedBy how c old new before after status =
+    (c.existing ≡ false → IsNewlyConverted how c old new before after status)
+    × (c.existing ≡ true → (after ≡ before) × IsConvertedInto how c old new status)
 
 -- What a command did to the files of a host, and what its status says of them, where that is told.
 -- The first number is the status of a refused line.

@@ -1,6 +1,7 @@
 -- The disks of images in files, and what the commands on whole disks do with them.
-use Rattle.std.specs.Prelude.{◌≡◌, ◌≢◌, ℕ, ◌⊎◌, ◌&&◌, ◌==◌, Bool, true, false, not, List, ◌++◌}
-use Rattle.std.specs.Prelude.{length, map, Option, Some, None, option_map, IfSome}
+use Rattle.std.specs.Prelude.{◌≡◌, ◌≢◌, ℕ, ◌≤◌, ◌⊎◌, ◌&&◌, ◌==◌, Bool, true, false, not}
+use Rattle.std.specs.Prelude.{List, [], ◌++◌, take, length, map, Option, Some, None, option_map}
+use Rattle.std.specs.Prelude.{IfSome}
 use Rattle.imago_drivers.specs.Place.{Place, Value, Byte}
 use Rattle.imago_access.specs.Disk.{values_from}
 use Rattle.imago_copy.specs.Differences.{IsFirstDifferentValue}
@@ -12,7 +13,7 @@ use Rattle.imago_images.specs.Formats.{IsFormatBy, format_by_name}
 use Rattle.imago_images.specs.Gate.{folder_path}
 use Rattle.imago_images.specs.Layers.{layers_value, size_by}
 use Rattle.imago_images.specs.Images.{AreLayers}
-use Rattle.imago_img_parts.specs.Files.{Around, with_file, IsMade}
+use Rattle.imago_img_parts.specs.Files.{Around, with_file, IsMade, IsOverwritten}
 
 -- The image of a path shows these values, one for each offset of its disk: it is opened as the
 -- format that was said, or else as the one that its file is taken to have, and its layers are what
@@ -44,6 +45,43 @@ IsDiskAppended accepted others said None path old new = Unit {0}
 IsDiskAppended accepted others said (Some files) path None new = Unit {0}
 IsDiskAppended accepted others said (Some files) path (Some old) new =
     (disk : List ℕ) × HasDisk accepted others said files path disk × (new ≡ Some (old ++ disk))
+
+-- the first bytes that the image of a path shows; or none, where it can't be read there
+abbrev pub IsBegunDisk :
+    Accepted → OtherFiles → Option ImageFormat → (List ℕ → List ℕ) → List ℕ → List ℕ → Type 0
+IsBegunDisk accepted others said files path bytes = (bytes ≡ [])
+    ⊎ ((disk : List Value) × ShowsDisk accepted others said files path disk
+    × (map Byte bytes ≡ take (length bytes) disk))
+
+-- such bytes were put behind what was there before, where both are told
+abbrev pub IsDiskPartlyAppended :
+    Accepted → OtherFiles → Option ImageFormat → Option (List ℕ → List ℕ) → List ℕ → Option (List ℕ)
+    → Option (List ℕ) → Type 0
+IsDiskPartlyAppended accepted others said None path old new = Unit {0}
+IsDiskPartlyAppended accepted others said (Some files) path None new = Unit {0}
+IsDiskPartlyAppended accepted others said (Some files) path (Some old) new =
+    (bytes : List ℕ) × IsBegunDisk accepted others said files path bytes
+    × (new ≡ Some (old ++ bytes))
+
+-- The disk that the image of one path had was put over the file of another path, which has at least
+-- as many bytes: what it has behind them, and all other files, are as they were, where that is
+-- told.
+abbrev pub IsConvertedOver :
+    Accepted → OtherFiles → Option ImageFormat → Option (List ℕ → List ℕ)
+    → Option (List ℕ → List ℕ) → List ℕ → List ℕ → Type 0
+IsConvertedOver accepted others said None new from to = Unit {0}
+IsConvertedOver accepted others said (Some files) new from to =
+    (disk : List ℕ) × HasDisk accepted others said files from disk
+    × (length disk ≤ length (files to)) × IsOverwritten (Some files) new to (Some disk)
+
+-- the first bytes of that disk were, or none
+abbrev pub IsPartlyConvertedOver :
+    Accepted → OtherFiles → Option ImageFormat → Option (List ℕ → List ℕ)
+    → Option (List ℕ → List ℕ) → List ℕ → List ℕ → Type 0
+IsPartlyConvertedOver accepted others said None new from to = Unit {0}
+IsPartlyConvertedOver accepted others said (Some files) new from to =
+    (bytes : List ℕ) × IsBegunDisk accepted others said files from bytes
+    × (length bytes ≤ length (files to)) × IsOverwritten (Some files) new to (Some bytes)
 
 -- The file of one path now has the disk that the image of another path had, and all other files
 -- have what they had, where that is told. Nothing else was made, and nothing is left unfinished;

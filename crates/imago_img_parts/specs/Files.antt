@@ -1,6 +1,6 @@
 -- The files of a host: what is told of them, and what making one does to them.
-use Rattle.std.specs.Prelude.{◌≡◌, ◌≢◌, ◌⊎◌, ℕ, ◌+◌, ◌-◌, Bool, true, false, ◌||◌, List, []}
-use Rattle.std.specs.Prelude.{Option, Some, None, length}
+use Rattle.std.specs.Prelude.{◌≡◌, ◌≢◌, ◌⊎◌, ℕ, ◌+◌, ◌-◌, Bool, true, false, ◌||◌}
+use Rattle.std.specs.Prelude.{List, [], ◌++◌, Option, Some, None, drop, length}
 use Rattle.std.specs.Str.{bytes_eq}
 
 -- What is told of files beside their bytes: which paths lead to something, how many files are
@@ -37,12 +37,14 @@ pub record IsGone (old new : List ℕ → List ℕ) (before after : Around) (gon
   pub beside : after.beside ≡ before.beside
 
 -- The unfinished file is gone that a copy to that path left, and all others are as they were, where
--- all of that is told.
+-- that is told. Which file it is follows from what is told of files beside their bytes.
 abbrev pub IsWithoutLeftOver :
     Option (List ℕ → List ℕ) → Option (List ℕ → List ℕ) → Option Around → Option Around → List ℕ
     → Type 0
 IsWithoutLeftOver None new before after path = Unit {0}
-IsWithoutLeftOver (Some old) new None after path = Unit {0}
+IsWithoutLeftOver (Some old) new None after path =
+    (files : List ℕ → List ℕ) × (gone : List ℕ) × (new ≡ Some files) × (after ≡ None)
+    × ((other : List ℕ) → other ≢ gone → files other ≡ old other)
 IsWithoutLeftOver (Some old) new (Some before) after path =
     (files : List ℕ → List ℕ) × (now : Around) × (new ≡ Some files) × (after ≡ Some now)
     × IsGone old files before now (before.beside path)
@@ -71,3 +73,14 @@ abbrev pub IsWhole : Option (List ℕ × ℕ) → Option (List ℕ) → Type 0
 IsWhole None bytes = Unit {0}
 IsWhole (Some made) None = Unit {0}
 IsWhole (Some made) (Some bytes) = length bytes ≡ made.1
+
+-- Bytes were put over the first ones of the file of a path, which has at least as many; it and all
+-- other files else have what they had, where that is told.
+abbrev pub IsOverwritten :
+    Option (List ℕ → List ℕ) → Option (List ℕ → List ℕ) → List ℕ → Option (List ℕ) → Type 0
+IsOverwritten None new path bytes = Unit {0}
+IsOverwritten (Some old) new path None = Unit {0}
+IsOverwritten (Some old) new path (Some bytes) =
+    (files : List ℕ → List ℕ) × (new ≡ Some files)
+    × (files path ≡ bytes ++ drop (length bytes) (old path))
+    × ((other : List ℕ) → other ≢ path → files other ≡ old other)

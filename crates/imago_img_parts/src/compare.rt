@@ -49,7 +49,7 @@ pub fn compare_images<H: Host>(
 {
     let alloc = host.alloc();
     let (format, left) = open_image(host, first, how)?;
-    let size = readable_size(alloc, first, &left)?;
+    let (size, _) = readable_size(alloc, first, &left)?;
     if are_said_alike(how.format, other, first, second)
         && are_paths_of_one(host, first, second, format)
     {
@@ -59,7 +59,7 @@ pub fn compare_images<H: Host>(
         });
     }
     let (_, right) = open_image(host, second, said_of_second(how, other))?;
-    let other_size = readable_size(alloc, second, &right)?;
+    let (other_size, _) = readable_size(alloc, second, &right)?;
     match compared(
         alloc,
         &left,

@@ -1,6 +1,7 @@
 //! An image's disk, written to a raw file.
 ghost use Rattle.std.specs.Prelude.{◌≡◌, OnOk, OnErr, IfOk, IfSome, IsOk, option_map};
-ghost use Rattle.imago_img_parts.specs.Disks.{HasSize, IsDiskAppended, IsConverted};
+ghost use Rattle.imago_img_parts.specs.Disks.{HasSize, IsDiskAppended, IsDiskPartlyAppended};
+ghost use Rattle.imago_img_parts.specs.Disks.{IsConverted};
 ghost use Rattle.imago_img_parts.specs.Files.{ended, with_file, IsMade, IsSoOnceCleared};
 ghost use Rattle.imago_img_parts.specs.Files.{IsWhole, IsWithoutLeftOver};
 
@@ -12,7 +13,7 @@ use imago_copy::copy::{CopyError, copy_disk};
 use imago_copy::target::Target;
 use imago_images::opener::{FileImage, open_image};
 use imago_images::opening::Opening;
-use std::io::ErrorKind;
+use std::io::{self, ErrorKind, Write};
 
 /// Writes the disk of an image to a raw file of that path. What the image's files have says what
 /// the new file then has: the image's disk, byte for byte. What is known to be zero there stays a
@@ -21,14 +22,16 @@ use std::io::ErrorKind;
 /// The path may be taken only where what it leads to is to be replaced, and never by a file of the
 /// image. The files of the image are looked at before the new one is made. An unfinished file that
 /// an earlier copy to that path left is refused, or removed where the path's file may be replaced.
-/// Refused, no other file was made or changed.
-pub fn convert_image<H: Host>(
+/// Refused, no other file was made or changed. It warns of files of the image that end before bytes
+/// of the disk do.
+pub fn convert_image<H: Host, E: Write>(
     host: &mut H,
     from: &str,
     to: &str,
     how: Opening,
     making: Making,
     show: bool,
+    warnings: &mut E,
 ) -> Result<(), Failure>
     ensures converted { OnOk result (IsSoOnceCleared making.replace (H.contents host.old)
         (H.around host.old) to.now (λ files around. IsConverted how.accepted how.other_files
@@ -39,7 +42,7 @@ pub fn convert_image<H: Host>(
         (λ files around. (H.contents host.new ≡ files) × (H.around host.new ≡ around))) }
 {
     clear(host, from, to, how, making.replace)?;
-    convert_beside(host, from, to, how, making, show)
+    convert_beside(host, from, to, how, making, show, warnings)
 }
 
 /// Removes the unfinished file that a copy to that path left, if the path's file may be replaced,
@@ -60,7 +63,7 @@ fn clear<H: Host>(
     if !has_left_over(&*host, to)? {
         return Ok(());
     }
-    tested_size(&*host, from, to, how, true)?;
+    tested_size(&*host, from, to, how, true, &mut io::sink())?;
     remove_left_over(host, to)
 }
 
@@ -83,13 +86,14 @@ fn remove_left_over<H: Host>(host: &mut H, to: &str) -> Result<(), Failure>
 
 /// Does the same where no unfinished file is left beside the path. Refused, it leaves all files as
 /// they were.
-fn convert_beside<H: Host>(
+fn convert_beside<H: Host, E: Write>(
     host: &mut H,
     from: &str,
     to: &str,
     how: Opening,
     making: Making,
     show: bool,
+    warnings: &mut E,
 ) -> Result<(), Failure>
     ensures converted { OnOk result (IsConverted how.accepted how.other_files how.format
         making.replace (H.contents host.old) (H.contents host.new) (H.around host.old)
@@ -97,7 +101,7 @@ fn convert_beside<H: Host>(
     ensures same { OnErr result (H.contents host.new ≡ H.contents host.old) }
     ensures refused { OnErr result (H.around host.new ≡ H.around host.old) }
 {
-    let size = tested_size(&*host, from, to, how, making.replace)?;
+    let size = tested_size(&*host, from, to, how, making.replace, warnings)?;
     match host.create(to, size, making) {
         Ok(target) => {
             let (target, filled) = fill_shown(&*host, from, to, how, target, size, show);
@@ -108,37 +112,42 @@ fn convert_beside<H: Host>(
 }
 
 /// The size in bytes of an image's disk, which can be read and may be written to a file of that
-/// path.
-fn tested_size<H: Host>(
+/// path. It warns of files of the image that end too early. That it can't warn is no failure.
+fn tested_size<H: Host, E: Write>(
     host: &H,
     from: &str,
     to: &str,
     how: Opening,
     replace: bool,
+    warnings: &mut E,
 ) -> Result<u64, Failure>
     ensures { IfOk result (λ size. IfSome (H.contents host.now)
         (λ files. HasSize how.accepted how.format files from.now size)) }
 {
     let (_, image) = open_image(host, from, how)?;
-    let size = readable_size(host.alloc(), from, &image)?;
+    let (size, short) = readable_size(host.alloc(), from, &image)?;
     test_target(host, &image, to, replace)?;
     test_left_over(host, &image, to, replace)?;
+    let _ = short.warn(warnings);
     Ok(size)
 }
 
-/// Puts the bytes of the disk into a new file, and shows how far it is.
-fn fill_shown<H: Host>(
+/// Puts the bytes of the disk into a file, and shows how far it is. Refused, the first ones of them
+/// may have been put in.
+pub(crate) fn fill_shown<H: Host, T: Target>(
     host: &H,
     from: &str,
     to: &str,
     how: Opening,
-    target: H::Target,
+    target: T,
     size: u64,
     show: bool,
-) -> (H::Target, Result<(), Failure>)
-    ensures same { H.Target.made_for result.0 ≡ H.Target.made_for target }
+) -> (T, Result<(), Failure>)
+    ensures same { T.made_for result.0 ≡ T.made_for target }
     ensures filled { OnOk result.1 (IsDiskAppended how.accepted how.other_files how.format
-        (H.contents host.now) from.now (H.Target.contents target) (H.Target.contents result.0)) }
+        (H.contents host.now) from.now (T.contents target) (T.contents result.0)) }
+    ensures refused { OnErr result.1 (IsDiskPartlyAppended how.accepted how.other_files how.format
+        (H.contents host.now) from.now (T.contents target) (T.contents result.0)) }
 {
     let mut target = Progress::new(target, host, show, size);
     let filled = fill(host, from, to, how, &mut target);
@@ -155,6 +164,8 @@ fn fill<H: Host, T: Target>(
 ) -> Result<(), Failure>
     ensures same { T.made_for target.new ≡ T.made_for target.old }
     ensures filled { OnOk result (IsDiskAppended how.accepted how.other_files how.format
+        (H.contents host.now) from.now (T.contents target.old) (T.contents target.new)) }
+    ensures refused { OnErr result (IsDiskPartlyAppended how.accepted how.other_files how.format
         (H.contents host.now) from.now (T.contents target.old) (T.contents target.new)) }
 {
     let alloc = host.alloc();

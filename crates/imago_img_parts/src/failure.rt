@@ -16,7 +16,7 @@ pub enum Failure {
     /// line.
     #[error("{0}{advice}", advice = advice_on(.0))]
     NotOpened(OpenError),
-    /// A file isn't begun, because of what has its path already.
+    /// A file isn't begun, or written over, because of what has its path, or hasn't.
     #[error("{path:?}: {refusal}")]
     NotMade {
         /// The file, as the program was given it.
@@ -42,7 +42,7 @@ pub enum Failure {
     Memory,
 }
 
-/// Why a file isn't made.
+/// Why a file isn't made, or written over.
 #[derive(Debug, Drop, Error)]
 pub enum Refusal {
     /// What is to be made is there already.
@@ -57,6 +57,23 @@ pub enum Refusal {
     /// What is to be replaced is a file of the image that is read.
     #[error("a file of the image that is read is never replaced")]
     IsSource,
+    /// What is to be written over isn't there.
+    #[error("it doesn't exist; without -n it is made")]
+    Missing,
+    /// What is to be written over has no bytes at offsets.
+    #[error("only a regular file or a block device can be written into")]
+    NotWritten,
+    /// What is to be written over has fewer bytes than the disk. Both numbers are in bytes.
+    #[error("it has {length} bytes, and the disk has {size}")]
+    TooSmall {
+        /// How many it has.
+        length: u64,
+        /// How many the disk has.
+        size: u64,
+    },
+    /// What is to be written over is a file of the image that is read.
+    #[error("a file of the image that is read is never written into")]
+    IsRead,
 }
 
 /// Why a compressed cluster can't be read, and what can be done about it.

@@ -1,10 +1,10 @@
 //! Where the commands find files, and make them.
-ghost use Rattle.std.specs.Prelude.{◌≡◌, ◌<◌, ◌≤◌, [], Option, Some, false};
-ghost use Rattle.std.specs.Prelude.{OnOk, OnErr, IfOk, IfSome, option_map, replicate};
+ghost use Rattle.std.specs.Prelude.{◌≡◌, ◌<◌, ◌≤◌, [], Option, Some, true, false};
+ghost use Rattle.std.specs.Prelude.{OnOk, OnErr, IfOk, IfSome, length, option_map, replicate};
 ghost use Rattle.std.specs.Prelude.{string_bytes};
 ghost use Rattle.imago_plan.specs.PieceBytes.{bytes_at};
 ghost use Rattle.imago_img_parts.specs.Files.{Around, begun, ended, with_file, IsMade, IsWhole};
-ghost use Rattle.imago_img_parts.specs.Files.{IsWithoutLeftOver};
+ghost use Rattle.imago_img_parts.specs.Files.{IsOverwritten, IsWithoutLeftOver};
 
 use imago_copy::target::Target;
 pub use imago_images::files::{FileKind, FileStatus, Files};
@@ -25,11 +25,16 @@ pub struct Making {
 /// Where the commands find files by their paths, and make them.
 ///
 /// A file is made under an unfinished path, beside the one that it is to have, and gets that one
-/// when it is finished. A copy that is killed leaves the unfinished file.
+/// when it is finished. A copy that is killed leaves the unfinished file. A file that is there may
+/// be written over instead: then its bytes change one after the other.
 pub trait Host: Files {
     /// A file that is being made. What its path leads to, and its bytes, are promised once it is
     /// finished. It can't be dropped: it is either finished or abandoned.
     type Target: Target;
+
+    /// A file that was there before, and is written over from its first byte on. It can't be
+    /// dropped: it is closed.
+    type Existing: Target;
 
     /// What is told of the files beside their bytes, where an implementation says it.
     ghost around: { Self → Option Around };
@@ -96,4 +101,24 @@ pub trait Host: Files {
     fn abandon(&mut self, target: Self::Target)
         ensures same { Self.contents self.new ≡ Self.contents self.old }
         ensures gone { around self.new ≡ option_map ended (around self.old) };
+
+    /// Opens the file of a path to be written over. None is made or cut by that.
+    fn open_existing(&mut self, path: &str) -> io::Result<Self::Existing>
+        ensures same { Self.contents self.new ≡ Self.contents self.old }
+        ensures around { around self.new ≡ around self.old }
+        ensures there { OnOk result (IfSome (around self.old) (λ a. a.there path.now ≡ true)) }
+        ensures empty { IfOk result
+            (λ t. IfSome (Self.contents self.old) (λ _. Self.Existing.contents t ≡ Some [])) }
+        ensures made_for { IfOk result (λ t. IfSome (Self.contents self.old)
+            (λ files. Self.Existing.made_for t ≡ Some (path.now, length (files path.now)))) };
+
+    /// Closes a file that was written over. What was put in stands at its start, and behind that
+    /// what it had before.
+    fn close_existing(&mut self, target: Self::Existing)
+        requires there { IfSome (Self.contents self.old) (λ _. IfSome (around self.old)
+            (λ a. IfSome (Self.Existing.made_for target) (λ m. a.there m.0 ≡ true))) }
+        ensures written { IfSome (Self.Existing.made_for target)
+            (λ m. IsOverwritten (Self.contents self.old) (Self.contents self.new) m.0
+            (Self.Existing.contents target)) }
+        ensures around { around self.new ≡ around self.old };
 }

@@ -6,6 +6,7 @@ ghost use Rattle.imago_copy.specs.LayerRuns.{AreLayerRuns};
 
 use crate::failure::{ClusterFault, Failure, Reason};
 use crate::host::{FileStatus, Host};
+use crate::short::ShortFiles;
 use crate::streams::{stream_fault_in, unoffered_in};
 use imago_access::access::FormatAccess;
 use imago_any_driver::any::AnyDriver;
@@ -38,21 +39,22 @@ pub fn runs_of<D: FormatDriverInstance>(
 
 /// The size in bytes of the disk of an image, which has that path, if each place of it is mapped
 /// and no cluster that shows there is compressed in a way that isn't offered. No cluster is
-/// decoded.
-pub fn readable_size<'a, H: Host>(
+/// decoded. The files are told too that end before bytes of the disk do.
+pub fn readable_size<'a, 'b, H: Host>(
     alloc: Global,
     path: &str,
-    image: &FileImage<'a, H>,
-) -> Result<u64, Failure>
-    ensures { IfOk result (λ size. size
+    image: &'b FileImage<'a, H>,
+) -> Result<(u64, ShortFiles<'b>), Failure>
+    ensures { IfOk result (λ r. r.0
         ≡ (⟦<AnyDriver<PathStorage<'a, H>> as FormatDriverInstance>⟧.view
         (driver image.now)).size) }
 {
-    let unoffered = Failure::or_image(alloc, path, unoffered_in(image))?;
+    let mut short = ShortFiles::new();
+    let unoffered = Failure::or_image(alloc, path, unoffered_in(image, &mut short))?;
     if let Some((file, offset)) = unoffered {
         return Err(Failure::of_cluster(alloc, file, offset, ClusterFault::Zstd));
     }
-    Ok(image.size())
+    Ok((image.size(), short))
 }
 
 /// Whether a file is one of the top layer of an image.

@@ -1,7 +1,8 @@
 //! The program, over any host.
-ghost use Rattle.std.specs.Prelude.{◌≡◌, ◌≤◌, ◌&&◌, IfOk, IfSome, is_some, map, not, option_map};
+ghost use Rattle.std.specs.Prelude.{◌≡◌, ◌≤◌, ◌&&◌, OnOk, OnErr, IfOk, IfSome, is_some, map};
+ghost use Rattle.std.specs.Prelude.{not, option_map};
 ghost use Rattle.std.specs.Prelude.{string_bytes};
-ghost use Rattle.imago_words.specs.Line.{status_for, status_of};
+ghost use Rattle.imago_words.specs.Line.{kind_named, status_for, status_of};
 ghost use Rattle.imago_img_parts.specs.declared.run.Outcome.TheVariants.{Fine};
 ghost use Rattle.imago_img_parts.specs.Commands.{AreToldApart, IsAnswered, IsChecked};
 ghost use Rattle.imago_img_parts.specs.Commands.{IsConcluded, IsConvertedBy, IsPerformed, IsRun};
@@ -10,7 +11,7 @@ ghost use Rattle.imago_img_parts.specs.Disks.{is_left_out};
 ghost use Rattle.imago_img_parts.specs.Openings.{how_by, image_format};
 
 use crate::check::check;
-use crate::commands::{Comparison, compare_images, convert_image};
+use crate::commands::{Comparison, compare_images, convert_image, overwrite};
 use crate::compare::leaves_out;
 use crate::failure::Failure;
 use crate::host::{Host, Making};
@@ -60,6 +61,14 @@ fn refused_status(words: &[String]) -> u8
         return 1;
     };
     status_for(Kind::named(first.as_str()))
+}
+
+/// The status where the words of a command line can't be read, by its first word.
+pub fn unread_status(first: &str) -> u8
+    ensures most { result ≤ 2 }
+    ensures status { result ≡ status_for (kind_named first.now) }
+{
+    status_for(Kind::named(first))
 }
 
 /// The same, by the command that the first word names.
@@ -120,21 +129,62 @@ fn convert<H: Host, E: Write>(host: &mut H, asked: Convert<'_>, errors: &mut E) 
         asked.entry (H.contents host.old) (H.contents host.new) (H.around host.old)
         (H.around host.new) result }
 {
+    match convert_warned(host, asked, errors) {
+        Ok(()) => 0,
+        Err(refused) => tell(refused, errors, 1),
+    }
+}
+
+/// Converts an image, and tells what is to be warned of, unless nothing but errors is to be told.
+fn convert_warned<H: Host, E: Write>(
+    host: &mut H,
+    asked: Convert<'_>,
+    warnings: &mut E,
+) -> Result<(), Failure>
+    ensures converted { OnOk result (IsConvertedBy
+        (how_by asked.entry.source_format asked.entry.opening) asked.entry (H.contents host.old)
+        (H.contents host.new) (H.around host.old) (H.around host.new) 0) }
+    ensures refused { OnErr result (IsConvertedBy
+        (how_by asked.entry.source_format asked.entry.opening) asked.entry (H.contents host.old)
+        (H.contents host.new) (H.around host.old) (H.around host.new) 1) }
+{
+    if asked.quiet {
+        return convert_as_asked(host, asked, &mut io::sink());
+    }
+    convert_as_asked(host, asked, warnings)
+}
+
+/// Converts an image to a new file, or into one that is there.
+fn convert_as_asked<H: Host, E: Write>(
+    host: &mut H,
+    asked: Convert<'_>,
+    warnings: &mut E,
+) -> Result<(), Failure>
+    ensures converted { OnOk result (IsConvertedBy
+        (how_by asked.entry.source_format asked.entry.opening) asked.entry (H.contents host.old)
+        (H.contents host.new) (H.around host.old) (H.around host.new) 0) }
+    ensures refused { OnErr result (IsConvertedBy
+        (how_by asked.entry.source_format asked.entry.opening) asked.entry (H.contents host.old)
+        (H.contents host.new) (H.around host.old) (H.around host.new) 1) }
+{
     let how = how_to_open(asked.source_format, asked.opening);
-    match convert_image(
+    let show = asked.progress && !asked.quiet;
+    if asked.existing {
+        return overwrite(host, asked.source, asked.target, how, show, warnings);
+    }
+    let making = Making {
+        replace: asked.force,
+        sparse: asked.sparse,
+    };
+    convert_image(
         host,
         asked.source,
         asked.target,
         how,
-        Making {
-            replace: asked.force,
-            sparse: asked.sparse,
-        },
-        asked.progress && !asked.quiet,
-    ) {
-        Ok(()) => 0,
-        Err(refused) => tell(refused, errors, 1),
-    }
+        making,
+        show,
+        warnings,
+    )
 }
 
 /// Answers a question, and gives the status.

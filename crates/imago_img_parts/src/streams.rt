@@ -1,10 +1,13 @@
-//! Compressed clusters of an image that can't be read: in which of its files, where, and why.
+//! What speaks against reading an image: compressed clusters that can't be read, in which of its
+//! files, where, and why; and files that end too early.
 //!
-//! An image is looked at again for this once a read of it was refused. So only then does it cost
-//! time.
+//! Ways of compression that aren't offered are looked for before an image is read, and the ends of
+//! files too. For faulty streams it is looked at again once a read was refused. So only then do
+//! these cost time.
 
 use crate::failure::ClusterFault;
 use crate::host::Host;
+use crate::short::{ShortFile, ShortFiles, short_file};
 use imago_access::access::FormatAccess;
 use imago_any_driver::any::AnyDriver;
 use imago_copy::runs::{Kind, Run, Runs};
@@ -67,17 +70,39 @@ fn cluster_start<S: Storage>(qcow2: &Qcow2<S>, at: u64) -> u64 {
     at.checked_rem(cluster).map_or(at, |rest| at - rest)
 }
 
+/// A cluster of a disk that is compressed in a way that isn't offered: the file that has it, and
+/// where it begins on the disk.
+fn unoffered<'b, H: Host>(image: &'b FileImage<'_, H>, run: Run) -> Option<(&'b str, u64)> {
+    let (path, qcow2) = qcow2_of(image, run)?;
+    if qcow2.header().compression() == Compression::Zstd {
+        return Some((path, cluster_start(qcow2, run.at)));
+    }
+    None
+}
+
+/// The file in which a run of a disk stands, if it ends before the run does.
+fn short_of<'b, H: Host>(image: &'b FileImage<'_, H>, run: Run) -> Option<ShortFile<'b>> {
+    match run.kind {
+        Kind::Stored { layer, .. } => short_file(layer_at(image, layer)?, run),
+        _ => None,
+    }
+}
+
 /// The file that has the first cluster of a disk that is compressed in a way that isn't offered,
-/// and where that cluster begins on the disk, if there is one.
+/// and where that cluster begins on the disk, if there is one. The files that end before bytes of
+/// the disk do are put to the others, as far as they come before it.
 pub fn unoffered_in<'b, H: Host>(
     image: &'b FileImage<'_, H>,
+    short: &mut ShortFiles<'b>,
 ) -> Result<Option<(&'b str, u64)>, Error> {
     let mut runs = Runs::new(image)?;
     while let Some(run) = runs.next_run()? {
-        if let Some((path, qcow2)) = qcow2_of(image, run) {
-            if qcow2.header().compression() == Compression::Zstd {
-                return Ok(Some((path, cluster_start(qcow2, run.at))));
-            }
+        let found = unoffered(image, run);
+        if found.is_some() {
+            return Ok(found);
+        }
+        if let Some(file) = short_of(image, run) {
+            short.add(file);
         }
     }
     Ok(None)

@@ -75,6 +75,14 @@ pub struct NewFile {
     at: u64,
 }
 
+/// A file that is written over.
+#[derive(Drop)]
+pub struct ExistingFile {
+    file: File,
+    /// How much is written.
+    at: u64,
+}
+
 impl<'a> System<'a> {
     /// The files of that runtime, of which up to sixteen are kept open.
     pub fn new(runtime: &'a HostRuntime) -> Self {
@@ -330,6 +338,8 @@ impl<'a> Files for System<'a> {
 impl<'a> Host for System<'a> {
     type Target = NewFile;
 
+    type Existing = ExistingFile;
+
     ghost around = { λ _. None };
 
     fn run_at(&self, path: &str, offset: u64, most: u64) -> (u64, bool) {
@@ -388,6 +398,15 @@ impl<'a> Host for System<'a> {
         if self.has_path(&target) {
             let _ = fs::remove_file(self.runtime, &target.path);
         }
+    }
+
+    fn open_existing(&mut self, path: &str) -> io::Result<ExistingFile> {
+        let file = OpenOptions::new().write(true).open(self.runtime, path)?;
+        Ok(ExistingFile { file, at: 0 })
+    }
+
+    fn close_existing(&mut self, target: ExistingFile) {
+        let _ = target;
     }
 }
 
@@ -540,6 +559,24 @@ impl Target for NewFile {
         if !self.sparse {
             write_zeroes(&self.file, count, self.at)?;
         }
+        self.at = self.at.wrapping_add(count);
+        Ok(())
+    }
+}
+
+impl Target for ExistingFile {
+    ghost contents = { λ _. None };
+
+    ghost made_for = { λ _. None };
+
+    fn append(&mut self, source: &[u8]) -> io::Result<()> {
+        self.file.write_all_at(source, self.at)?;
+        self.at = self.at.wrapping_add(source.len() as u64);
+        Ok(())
+    }
+
+    fn append_zeroes(&mut self, count: u64) -> io::Result<()> {
+        write_zeroes(&self.file, count, self.at)?;
         self.at = self.at.wrapping_add(count);
         Ok(())
     }

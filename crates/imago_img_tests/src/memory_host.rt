@@ -1,5 +1,5 @@
 //! A host whose files are in memory.
-ghost use Rattle.std.specs.Prelude.{◌≡◌, ◌+◌, ◌≤◌, [], Some, true, false, length, replicate};
+ghost use Rattle.std.specs.Prelude.{◌≡◌, ◌+◌, ◌≤◌, [], Some, None, true, false, length, replicate};
 ghost use Rattle.std.specs.Prelude.{slice_index, EachIndex, IfOk, MatchOption, MatchResult};
 ghost use Rattle.std.specs.String.{string_bytes};
 ghost use Rattle.imago_plan.specs.PieceBytes.{bytes_at};
@@ -81,6 +81,10 @@ pub struct MemoryTarget {
     /// How many times something may still be put in.
     appends: u64,
 }
+
+/// A file in memory is never written over.
+#[derive(Drop)]
+pub struct MemoryExisting;
 
 impl MemoryHost {
     ghost use Rattle.imago_img_tests.specs.MemoryFiles.{file_bytes, first_of, has_file};
@@ -320,6 +324,8 @@ impl Host for MemoryHost {
 
     type Target = MemoryTarget;
 
+    type Existing = MemoryExisting;
+
     ghost around = { λ h. Some (record {
       there = has_file h.files.items;
       unfinished = h.unfinished;
@@ -402,21 +408,23 @@ impl Host for MemoryHost {
         let _ = target;
         self.unfinished = self.unfinished.saturating_sub(1);
     }
+
+    fn open_existing(&mut self, _path: &str) -> io::Result<MemoryExisting> {
+        Err(io::Error::from(ErrorKind::Unsupported))
+    }
+
+    fn close_existing(&mut self, target: MemoryExisting) {
+        let _ = target;
+    }
 }
 
-impl MemoryTarget {
-    /// Counts an append, and refuses one too many, as a full device does.
-    fn take_append(&mut self) -> io::Result<()>
-        ensures bytes { self.new.bytes ≡ self.old.bytes }
-        ensures path { self.new.path ≡ self.old.path }
-        ensures size { self.new.size ≡ self.old.size }
-    {
-        if self.appends == 0 {
-            return Err(io::Error::from(ErrorKind::StorageFull));
-        }
-        self.appends -= 1;
-        Ok(())
+/// Counts an append, and refuses one too many, as a full device does.
+fn take_append(appends: &mut u64) -> io::Result<()> {
+    if *appends == 0 {
+        return Err(io::Error::from(ErrorKind::StorageFull));
     }
+    *appends -= 1;
+    Ok(())
 }
 
 impl Target for MemoryTarget {
@@ -425,12 +433,26 @@ impl Target for MemoryTarget {
     ghost made_for = { λ t. Some (string_bytes t.path, t.size) };
 
     fn append(&mut self, source: &[u8]) -> io::Result<()> {
-        self.take_append()?;
+        take_append(&mut self.appends)?;
         Target::append(&mut self.bytes, source)
     }
 
     fn append_zeroes(&mut self, count: u64) -> io::Result<()> {
-        self.take_append()?;
+        take_append(&mut self.appends)?;
         Target::append_zeroes(&mut self.bytes, count)
+    }
+}
+
+impl Target for MemoryExisting {
+    ghost contents = { λ _. None };
+
+    ghost made_for = { λ _. None };
+
+    fn append(&mut self, _source: &[u8]) -> io::Result<()> {
+        Err(io::Error::from(ErrorKind::Unsupported))
+    }
+
+    fn append_zeroes(&mut self, _count: u64) -> io::Result<()> {
+        Err(io::Error::from(ErrorKind::Unsupported))
     }
 }

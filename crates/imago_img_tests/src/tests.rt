@@ -4,6 +4,7 @@ mod below;
 mod chains;
 mod commands;
 mod compressed;
+mod existing;
 mod formats;
 mod headers;
 mod layers;

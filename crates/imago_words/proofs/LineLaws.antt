@@ -31,6 +31,7 @@ worked_asks (Asked.Convert c) a = record {
   source_format = a.source_format;
   target_format = a.target_format;
   force = a.force;
+  existing = a.existing;
   sparse = a.sparse;
   progress = a.progress;
   quiet = a.quiet;

@@ -111,6 +111,7 @@ pub record IsConvert (s : State) (c : Convert) : Type 0 where
   pub source_format : c.source_format ≡ format_given (codes "format") s
   pub target_format : c.target_format ≡ Raw
   pub force : c.force ≡ was_given (codes "force") s
+  pub existing : c.existing ≡ was_given (codes "existing") s
   pub sparse : c.sparse ≡ leaves_holes s
   pub progress : c.progress ≡ was_given (codes "progress") s
   pub quiet : c.quiet ≡ was_given (codes "quiet") s

@@ -20,6 +20,7 @@ pub record IsWorkedConvert (c : Convert) : Type 0 where
   pub source_format : c.source_format ≡ Some Qcow2
   pub target_format : c.target_format ≡ Raw
   pub force : c.force ≡ true
+  pub existing : c.existing ≡ false
   pub sparse : c.sparse ≡ true
   pub progress : c.progress ≡ true
   pub quiet : c.quiet ≡ false

@@ -73,6 +73,7 @@ convert_options =
     valued (codes "format") (codes "f") []
     ∷ valued (codes "target-format") (codes "O") []
     ∷ flag (codes "force") [] (codes "force")
+    ∷ flag (codes "existing") (codes "n") []
     ∷ valued (codes "sparse") (codes "S") []
     ∷ flag (codes "progress") (codes "p") []
     ∷ flag (codes "quiet") (codes "q") (codes "quiet")

@@ -87,6 +87,7 @@ pub fn convert_of<'a>(words: &Words<'a>) -> Result<Convert<'a>, Fault<'a>>
         source_format: format(words, "format")?,
         target_format: target_format(words)?,
         force: words.has("force"),
+        existing: words.has("existing"),
         sparse: sparse(words)?,
         progress: words.has("progress"),
         quiet: words.has("quiet"),

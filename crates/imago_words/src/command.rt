@@ -129,6 +129,8 @@ pub struct Convert<'a> {
     pub target_format: Format,
     /// Whether a target that is there is replaced.
     pub force: bool,
+    /// Whether the target is written over, which has to be there. It isn't replaced then.
+    pub existing: bool,
     /// Whether blocks of 4096 zeroes are left out of the target as holes. Else each byte is
     /// written.
     pub sparse: bool,

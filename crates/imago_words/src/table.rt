@@ -230,6 +230,7 @@ pub static TABLE: Table = Table {
             SOURCE_FORMAT,
             valued!("target-format", "O", "", "FMT", "raw", "The format of OUT"),
             flag!("force", "", "force", "Replace OUT if it exists"),
+            flag!("existing", "n", "", "Write into OUT, which exists"),
             valued!(
                 "sparse",
                 "S",
@@ -254,7 +255,6 @@ pub static TABLE: Table = Table {
             VERSION,
         ],
         absent: &[
-            absent!("-n", "not yet; OUT is made anew, or replaced with --force"),
             absent!("-c", "OUT is raw, which isn't compressed"),
             absent!("-o", "OUT is raw, which has no options"),
             absent!("-l", "snapshots aren't read; the disk is read as it is now"),

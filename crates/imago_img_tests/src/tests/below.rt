@@ -393,7 +393,8 @@ static CONVERTED: [Case; 2] = [
         finishes: true,
         status: 0,
         output: "",
-        errors: "",
+        errors: "imago-img: warning: \"parts/b.bin\": 515 bytes, and the image uses it up to 1024: what \
+            lacks reads as 0\n",
         written: Some((2048, &[(0, b"t"), (1536, b"xyz")])),
     },
     Case {
@@ -402,7 +403,8 @@ static CONVERTED: [Case; 2] = [
         finishes: true,
         status: 0,
         output: "",
-        errors: "",
+        errors: "imago-img: warning: \"/etc/secret\": 3 bytes, and the image uses it up to 512: what lacks \
+            reads as 0\n",
         written: Some((2048, &[(0, b"top")])),
     },
 ];

@@ -3,7 +3,7 @@
 use super::set_up::{Case, check_cases};
 
 /// Command lines that are done.
-static CASES: [Case; 12] = [
+static CASES: [Case; 13] = [
     Case {
         words: "info disk.vmdk",
         appends: 0,
@@ -44,7 +44,10 @@ static CASES: [Case; 12] = [
         finishes: true,
         status: 0,
         output: "",
-        errors: "",
+        errors: "imago-img: warning: \"a.bin\": 6 bytes, and the image uses it up to 512: what lacks reads as \
+            0\n\
+            imago-img: warning: \"parts/b.bin\": 515 bytes, and the image uses it up to 1024: what \
+            lacks reads as 0\n",
         written: Some((2048, &[(3, b"abc"), (1536, b"xyz")])),
     },
     Case {
@@ -78,7 +81,10 @@ static CASES: [Case; 12] = [
         finishes: true,
         status: 0,
         output: "",
-        errors: "",
+        errors: "imago-img: warning: \"a.bin\": 6 bytes, and the image uses it up to 512: what lacks reads as \
+            0\n\
+            imago-img: warning: \"parts/b.bin\": 515 bytes, and the image uses it up to 1024: what \
+            lacks reads as 0\n",
         written: Some((2048, &[(3, b"abc"), (1536, b"xyz")])),
     },
     Case {
@@ -87,8 +93,18 @@ static CASES: [Case; 12] = [
         finishes: true,
         status: 0,
         output: "",
-        errors: "",
+        errors: "imago-img: warning: \"/etc/secret\": 3 bytes, and the image uses it up to 512: what lacks \
+            reads as 0\n",
         written: Some((512, &[(0, b"top")])),
+    },
+    Case {
+        words: "convert -q disk.vmdk out.raw",
+        appends: 99,
+        finishes: true,
+        status: 0,
+        output: "",
+        errors: "",
+        written: Some((2048, &[(3, b"abc"), (1536, b"xyz")])),
     },
     Case {
         words: "convert disk.dev out.raw",

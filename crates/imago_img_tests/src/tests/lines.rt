@@ -230,11 +230,10 @@ static REFUSED: [Row; 22] = [
          --help\n",
     ),
     (
-        "convert -n plain.raw out.raw",
+        "convert -n plain.raw",
         1,
         "",
-        "imago-img: convert has no -n: not yet; OUT is made anew, or replaced with --force; see \
-         imago-img convert --help\n",
+        "imago-img: convert takes FILE OUT; a file is missing; see imago-img convert --help\n",
     ),
     (
         "convert -S 64k plain.raw out.raw",

@@ -203,7 +203,7 @@ fn a_copy_that_fails_leaves_no_file(rt: HostRuntime) {
             &rt,
             rt.alloc(),
             &[Case {
-                words: "convert disk.vmdk out.raw",
+                words: "convert -q disk.vmdk out.raw",
                 appends,
                 finishes: true,
                 status: 1,
@@ -217,7 +217,7 @@ fn a_copy_that_fails_leaves_no_file(rt: HostRuntime) {
         &rt,
         rt.alloc(),
         &[Case {
-            words: "convert disk.vmdk out.raw",
+            words: "convert -q disk.vmdk out.raw",
             appends: 3,
             finishes: false,
             status: 1,

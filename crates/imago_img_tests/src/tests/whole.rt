@@ -39,7 +39,15 @@ fn a_converted_disk_is_the_same(rt: HostRuntime) {
     let made = disk(rt.alloc());
     assert!(&rt; made.is_ok());
     let Ok(mut host) = made else { return };
-    let done = convert_image(&mut host, "disk.vmdk", "out.raw", PLAIN, NEW, false);
+    let done = convert_image(
+        &mut host,
+        "disk.vmdk",
+        "out.raw",
+        PLAIN,
+        NEW,
+        false,
+        &mut io::sink(),
+    );
     assert!(&rt; done.is_ok());
     let found = compare_images(&host, "disk.vmdk", "out.raw", PLAIN, None, false);
     assert!(&rt; matches!(&found, Ok(found) if found.difference.is_none()));

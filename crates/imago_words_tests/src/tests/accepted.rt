@@ -2,7 +2,7 @@
 
 use super::set_up::{Case, check_cases};
 
-static CASES: [Case; 22] = [
+static CASES: [Case; 23] = [
     Case {
         words: &["info", "disk.vmdk"],
         status: 0,
@@ -78,6 +78,11 @@ static CASES: [Case; 22] = [
         words: &["convert", "-pf", "vmdk", "-O", "raw", "--force", "a", "b"],
         status: 0,
         text: "convert \"a\" vmdk \"b\" raw force progress",
+    },
+    Case {
+        words: &["convert", "-pn", "a", "b"],
+        status: 0,
+        text: "convert \"a\" any \"b\" raw existing progress",
     },
     // Zeroes are written too, or left out as holes, as they are if nothing is said.
     Case {

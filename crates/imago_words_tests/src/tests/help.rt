@@ -128,8 +128,8 @@ Options:
 
 const CONVERT: &str = "Write an image's disk to another image
 
-usage: imago-img convert [-f FMT] [-O FMT] [--force] [-S SIZE] [-p] [-q] [-U]
-                         [-t CACHE] [-T CACHE] [-m N] [-W] [-C] [-r RATE]
+usage: imago-img convert [-f FMT] [-O FMT] [--force] [-n] [-S SIZE] [-p] [-q]
+                         [-U] [-t CACHE] [-T CACHE] [-m N] [-W] [-C] [-r RATE]
                          [--tables SIZE] [--strict] [--allow-outside] [-h] [-V]
                          FILE OUT
 
@@ -137,6 +137,7 @@ Options:
   -f FMT                The format of FILE: raw, vmdk or qcow2
   -O FMT                The format of OUT: raw
       --force           Replace OUT if it exists
+  -n                    Write into OUT, which exists
   -S SIZE               How many zeroes make a hole, 0 for none: 0 or 4k
   -p                    Show the progress
   -q, --quiet           Print nothing but errors

@@ -2,7 +2,7 @@
 
 use super::set_up::{Case, check_cases};
 
-static CASES: [Case; 37] = [
+static CASES: [Case; 36] = [
     Case {
         words: &[],
         status: 1,
@@ -132,12 +132,6 @@ static CASES: [Case; 37] = [
         words: &["convert", "-S", "8k", "a", "b"],
         status: 1,
         text: "-S takes 0 or 4k, not \"8k\"; see imago-img convert --help",
-    },
-    Case {
-        words: &["convert", "-pn", "a", "b"],
-        status: 1,
-        text: "convert has no -n: not yet; OUT is made anew, or replaced with --force; \
-            see imago-img convert --help",
     },
     Case {
         words: &["map", "--tables=8E", "x"],

@@ -89,13 +89,14 @@ fn shown(alloc: Global, command: Command<'_>) -> Result<String, AllocError> {
             let rules = opening(alloc, convert.opening)?;
             let told = told(convert.progress, convert.quiet);
             let force = if convert.force { " force" } else { "" };
+            let existing = if convert.existing { " existing" } else { "" };
             let full = if convert.sparse { "" } else { " full" };
             let (source, target) = (
                 format(convert.source_format),
                 format(Some(convert.target_format)),
             );
             format!(in alloc;
-                "convert {:?} {source} {:?} {target}{force}{full}{told}{rules}",
+                "convert {:?} {source} {:?} {target}{force}{existing}{full}{told}{rules}",
                 convert.source, convert.target
             )
         }
