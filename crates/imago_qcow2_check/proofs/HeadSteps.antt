@@ -1,0 +1,40 @@
+-- What the header says.
+use Rattle.std.proofs.Common.{◌≡◌, ℕ, ◌+◌, ◌*◌, ◌^◌, ◌<◌, ◌≤◌, List, length, refl, ap, sym, ◌∙◌, arith}
+use Rattle.std.proofs.Math.Nat.{pow-le-pow_right}
+use Rattle.imago_storage.specs.Bytes.{IsReadAt}
+use Rattle.imago_qcow2.specs.Header.{IsClusterSize}
+use Rattle.imago_qcow2.specs.Numbers.{be32, be64}
+use Rattle.imago_qcow2.proofs.HeaderSteps.{same32, same64, head_same}
+use Rattle.imago_qcow2_check.specs.declared.head.Head.{Head}
+use Rattle.imago_qcow2_check.specs.HeadParts.{IsHead}
+use Rattle.imago_qcow2_check.specs.Counts.{count_order}
+
+pub longest : (n : ℕ) → IsClusterSize n → n ≤ 2 ^ 21
+longest n (k, least, most, is) =
+    let two : 0 < 2 = omega arith in
+    let high : 2 ^ k ≤ 2 ^ 21 = pow-le-pow_right two most in
+    omega (arith, high, is)
+
+order_same : (bytes head : List ℕ) → be32 head 4 ≡ be32 bytes 4 → be32 head 96 ≡ be32 bytes 96 → count_order head ≡ count_order bytes
+unfolding count_order
+order_same bytes head a b = rw (a, b) refl
+
+-- what the first bytes say, the file does
+pub head_moved : (bytes head : List ℕ) (h : Head) → IsReadAt bytes 0 head → 112 ≤ length head → IsHead head h → IsHead bytes h
+head_moved bytes head h r len x =
+    let same = head_same bytes head r len in
+    let v = same32 bytes head same 4 (omega arith) in
+    let c = same32 bytes head same 20 (omega arith) in
+    let o = same32 bytes head same 96 (omega arith) in
+    let b = same32 bytes head same 56 (omega arith) in
+    record {
+      cluster = x.cluster ∙ ap (λ k. 2 ^ k) c;
+      version = x.version ∙ v;
+      order = x.order ∙ order_same bytes head v o;
+      blocks_start = x.blocks_start ∙ same64 bytes head same 48 (omega arith);
+      blocks_length = x.blocks_length ∙ ap (λ k. k * 2 ^ be32 head 20) b ∙ ap (λ k. be32 bytes 56 * 2 ^ k) c;
+      l1_start = x.l1_start ∙ same64 bytes head same 40 (omega arith);
+      l1_count = x.l1_count ∙ same32 bytes head same 36 (omega arith);
+      snapshots_start = x.snapshots_start ∙ same64 bytes head same 64 (omega arith);
+      snapshots_count = x.snapshots_count ∙ same32 bytes head same 60 (omega arith);
+    }

@@ -1,0 +1,9 @@
+pub mod SumSteps
+pub mod TallySteps
+pub mod RangeSteps
+pub mod CountSteps
+pub mod BlockSteps
+pub mod EntrySteps
+pub mod SnapshotSteps
+pub mod HeadSteps
+pub mod CheckSteps

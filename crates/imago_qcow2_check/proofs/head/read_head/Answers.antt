@@ -1,0 +1,15 @@
+use Rattle.std.proofs.Common.{rules, ◌≡◌, ◌≤◌, length, arith}
+use Rattle.std.specs.Prelude.{IsTrue}
+use Rattle.imago_storage.specs.Bytes.{IsReadAt}
+use Rattle.imago_qcow2_check.proofs.HeadSteps.{longest, head_moved}
+use Rattle.imago_qcow2_check.proofs.head.read_head.Goals as goal
+
+pub check_known-requires-clause-most : goal.check_known-requires-clause-most
+check_known-requires-clause-most g c = longest c.in_ok-says.says.cluster c.in_ok-says.ensures.size
+
+pub returns-clause-says : goal.returns-clause-says
+returns-clause-says g c = λ (told : IsTrue (g.S.Storage.features c.args.storage.now).tells_bytes).
+    let B = g.S.Storage.bytes c.args.storage.now in
+    let r : IsReadAt B 0 c.read.new.buf = search rules in
+    let l : 112 ≤ length c.read.new.buf = search rules in
+    head_moved B c.read.new.buf c.in_ok-says.says r l c.in_ok-says.ensures.says

@@ -1,0 +1,13 @@
+pub mod Sums
+pub mod TallyParts
+pub mod Clusters
+pub mod Entries
+pub mod Counts
+pub mod CountParts
+pub mod Snapshots
+pub mod SnapshotParts
+pub mod Uses
+pub mod HeadParts
+pub mod Faults
+pub mod Tallies
+pub mod Compared

@@ -1,0 +1,142 @@
+//! The check of a file.
+ghost use Rattle.std.specs.Prelude.{◌≡◌, ℕ, List, ◌+◌, ◌*◌, ◌/◌, ◌^◌, ◌<◌, ◌≤◌, length, slice_index, min, OnOk, IfOk, IsTrue};
+ghost use Rattle.imago_storage.specs.Bytes.{IsReadAt};
+ghost use Rattle.imago_qcow2.specs.Header.{IsClusterSize};
+ghost use Rattle.imago_qcow2_check.specs.Tallies.{setting_of, Adds};
+ghost use Rattle.imago_qcow2_check.specs.HeadParts.{IsHead};
+ghost use Rattle.imago_qcow2_check.specs.CountParts.{count_from};
+ghost use Rattle.imago_qcow2_check.specs.Counts.{count_of, blocks_count, blocks_start};
+ghost use Rattle.imago_qcow2_check.specs.Uses.{setting, uses_of};
+ghost use Rattle.imago_qcow2_check.specs.Faults.{corruptions_of, leaks_of, verdict_of, entry_faults};
+ghost use Rattle.imago_qcow2_check.specs.Faults.{table_faults_of};
+
+use crate::blocks::{compare, look_at_blocks, look_for_shared};
+use crate::counts::read_counts;
+use crate::entry::Place;
+use crate::fault::{CheckError, Fault, Table, Verdict};
+use crate::head::{Head, read_head};
+use crate::shape::Shape;
+use crate::snapshots::look_at_snapshots;
+use crate::tables::{look_at_l1, read_bytes};
+use crate::tally::Tally;
+use imago_storage::storage::Storage;
+use std::alloc::Global;
+
+/// How many bytes are kept for each cluster of the file: its count, and how often it is used.
+const PER_CLUSTER: u64 = 8;
+
+/// What a check may take.
+#[derive(Clone, Copy, Debug, PartialEq, Eq)]
+pub struct Limits {
+    /// How many bytes of memory counts and uses may have: 8 for each cluster of the file.
+    pub memory: u64,
+    /// How many faults are kept.
+    pub faults: usize,
+}
+
+/// What a check found.
+#[derive(Drop, Debug)]
+pub struct Report {
+    /// How many clusters are used more often than their counts say, and how many faults entries
+    /// have.
+    pub corruptions: u64,
+    /// How many clusters are used less often than their counts say.
+    pub leaks: u64,
+    /// The first faults, in the order in which they were found.
+    pub faults: Vec<Fault>,
+}
+
+impl Report {
+    /// What is said of the file.
+    pub fn verdict(&self) -> Verdict
+        ensures { result ≡ verdict_of self.now.corruptions self.now.leaks }
+    {
+        if self.corruptions > 0 {
+            return Verdict::Corrupt;
+        }
+        if self.leaks > 0 {
+            return Verdict::Leaks;
+        }
+        Verdict::Faultless
+    }
+}
+
+/// The shape of a file whose header says this, if counts and uses need no more memory than that.
+fn shape_of(head: Head, limits: Limits) -> Result<Shape, CheckError>
+    requires { IsClusterSize head.cluster }
+    ensures file { IfOk result (λ s. s.file ≡ head.file) }
+    ensures cluster { IfOk result (λ s. s.cluster ≡ head.cluster) }
+    ensures version { IfOk result (λ s. s.version ≡ head.version) }
+{
+    if head.file.div_ceil(head.cluster) > limits.memory / PER_CLUSTER {
+        return Err(CheckError::TooLarge);
+    }
+    match Shape::new(head.file, head.cluster, head.version) {
+        Some(shape) => Ok(shape),
+        None => Err(CheckError::TooLarge),
+    }
+}
+
+/// Counts all uses of clusters.
+fn count_uses<S: Storage>(
+    storage: &S,
+    alloc: Global,
+    head: Head,
+    shape: Shape,
+    counts: &[u32],
+    table: &[u8],
+    tally: &mut Tally,
+) -> Result<(), CheckError>
+    requires all { length tally.old.uses.items ≡ shape.clusters }
+    ensures all { OnOk result (length tally.new.uses.items ≡ shape.clusters) }
+    ensures told { IsTrue (S.features storage.now).tells_bytes
+        → IsHead (S.bytes storage.now) head
+        → setting_of shape counts.now ≡ setting (S.bytes storage.now)
+        → length table.now ≡ head.blocks_length
+        → IsReadAt (S.bytes storage.now) head.blocks_start table.now
+        → OnOk result
+        (Adds tally.old tally.new (uses_of (S.bytes storage.now))
+        (table_faults_of (S.bytes storage.now))) }
+{
+    tally.use_bytes(shape, 0, shape.cluster)?;
+    let place = Place {
+        table: head.l1_start,
+        active: true,
+        first: true,
+    };
+    look_at_l1(storage, alloc, shape, counts, place, head.l1_count, tally)?;
+    look_at_snapshots(
+        storage,
+        alloc,
+        shape,
+        counts,
+        head.snapshots_start,
+        head.snapshots_count,
+        tally,
+    )?;
+    look_at_blocks(shape, table, head.blocks_start, tally)?;
+    Ok(())
+}
+
+/// Checks a qcow2 file: counts how often each of its clusters is used, and compares that with its
+/// reference count.
+pub fn check<S: Storage>(storage: &S, alloc: Global, limits: Limits) -> Result<Report, CheckError>
+    ensures corruptions { IsTrue (S.features storage.now).tells_bytes
+        → IfOk result (λ r. r.corruptions ≡ corruptions_of (S.bytes storage.now)) }
+    ensures leaks { IsTrue (S.features storage.now).tells_bytes
+        → IfOk result (λ r. r.leaks ≡ leaks_of (S.bytes storage.now)) }
+{
+    let head = read_head(storage, alloc)?;
+    let shape = shape_of(head, limits)?;
+    let table = read_bytes(storage, alloc, head.blocks_start, head.blocks_length)?;
+    let counts = read_counts(storage, alloc, shape, head.order, &table)?;
+    let mut tally = Tally::new(alloc, shape.clusters, limits.faults)?;
+    count_uses(storage, alloc, head, shape, &counts, &table, &mut tally)?;
+    look_for_shared(shape, &table, head.blocks_start, &mut tally)?;
+    compare(shape.cluster, &counts, &mut tally)?;
+    Ok(Report {
+        corruptions: tally.corruptions,
+        leaks: tally.leaks,
+        faults: tally.faults,
+    })
+}

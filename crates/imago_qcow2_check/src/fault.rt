@@ -1,0 +1,159 @@
+//! What a check finds, and why a file can't be checked.
+ghost use Rattle.std.specs.Prelude.{◌≡◌};
+
+use imago_qcow2::fault::HeaderFault;
+use imago_storage::error;
+use std::alloc::{AllocError, AllocFailed};
+use thiserror::Error;
+
+/// A part of a file whose entries name other parts.
+#[derive(Clone, Copy, Debug, PartialEq, Eq)]
+pub enum Table {
+    /// The L1 table of the image or of a snapshot.
+    L1,
+    /// An L2 table.
+    L2,
+    /// The table of snapshots.
+    Snapshots,
+    /// The table of blocks of reference counts.
+    CountBlocks,
+    /// The header.
+    Header,
+}
+
+/// A fault of a file. All offsets and lengths are in bytes of the file.
+#[derive(Clone, Copy, Debug, PartialEq, Eq)]
+pub enum Fault {
+    /// The entry of a table at that offset is invalid: bits that are reserved are set, or what it
+    /// names doesn't begin where a cluster does, or is a table that the file doesn't hold.
+    InvalidEntry {
+        /// The table that the entry belongs to.
+        table: Table,
+        /// Where the entry stands.
+        at: u64,
+    },
+    /// What the entry of a table at that offset names passes the end of the file.
+    PastEnd {
+        /// The table that the entry belongs to.
+        table: Table,
+        /// Where the entry stands.
+        at: u64,
+        /// Where what it names begins.
+        start: u64,
+        /// How long that is.
+        length: u64,
+    },
+    /// The copied bit of the entry at that offset disagrees with the reference count of what it
+    /// names: it is set exactly where that is 1, and never for a compressed cluster.
+    CopiedBit {
+        /// The table that the entry belongs to.
+        table: Table,
+        /// Where the entry stands.
+        at: u64,
+    },
+    /// The block of reference counts that the entry at that offset names is used for something
+    /// else, or named twice.
+    SharedBlock {
+        /// Where the entry stands.
+        at: u64,
+        /// Where the block begins.
+        start: u64,
+    },
+    /// A cluster is used more often than its reference count says.
+    Overused {
+        /// Where the cluster begins.
+        at: u64,
+        /// Its reference count.
+        count: u32,
+        /// How often it is used.
+        uses: u32,
+    },
+    /// A cluster is used less often than its reference count says.
+    Leaked {
+        /// Where the cluster begins.
+        at: u64,
+        /// Its reference count, or 2^32 - 1 where it is greater.
+        count: u32,
+        /// How often it is used.
+        uses: u32,
+    },
+}
+
+/// What is said of a file that was checked.
+#[derive(Clone, Copy, Debug, PartialEq, Eq)]
+pub enum Verdict {
+    /// Nothing is wrong.
+    Faultless,
+    /// A cluster is used more often than its count says, or an entry is invalid.
+    Corrupt,
+    /// Clusters are used less often than their counts say, and nothing else is wrong.
+    Leaks,
+}
+
+impl Verdict {
+    /// The exit status of `qemu-img check` for it.
+    pub fn status(self) -> u8 {
+        match self {
+            Verdict::Faultless => 0,
+            Verdict::Corrupt => 2,
+            Verdict::Leaks => 3,
+        }
+    }
+}
+
+/// Why a file can't be checked.
+#[derive(Clone, Copy, Debug, PartialEq, Eq, Error)]
+pub enum CheckError {
+    /// The storage, or memory.
+    #[error("{0}")]
+    Storage(error::Error),
+    /// The header.
+    #[error("{0}")]
+    Header(HeaderFault),
+    /// What is kept in memory has more bytes than the limit.
+    #[error("the check needs more memory than the limit allows")]
+    TooLarge,
+    /// The L1 table has more than 32 MiB.
+    #[error("the header says an L1 table of more than 32 MiB")]
+    LongTable,
+    /// The table of blocks of reference counts isn't at a cluster's start, or has more than 8 MiB.
+    #[error("the header says a table of reference counts that can't be meant")]
+    CountTable,
+    /// The table of snapshots passes the file's end, has more than 65536 entries, or isn't at a
+    /// cluster's start.
+    #[error("the header says a table of snapshots that can't be meant")]
+    SnapshotTable,
+    /// A cluster is used more than 2^32 - 2 times.
+    #[error("a cluster is used too often to count")]
+    TooManyUses,
+    /// Bitmaps, which use clusters.
+    #[error("the image has bitmaps, whose clusters aren't counted")]
+    Bitmaps,
+    /// Autoclear features that aren't known, which may use clusters.
+    #[error("the header says autoclear features that aren't known")]
+    UnknownFeatures(u64),
+    /// A header extension of a type that isn't known, which may use clusters.
+    #[error("the header has an extension of the type {0:#010x}, which isn't known")]
+    UnknownExtension(u32),
+    /// Header extensions that pass their room.
+    #[error("the header's extensions pass their room")]
+    Extensions,
+}
+
+impl From<error::Error> for CheckError {
+    fn from(error: error::Error) -> CheckError {
+        CheckError::Storage(error)
+    }
+}
+
+impl<T: Drop> From<AllocFailed<T>> for CheckError {
+    fn from(_refused: AllocFailed<T>) -> CheckError {
+        CheckError::Storage(error::Error::Memory)
+    }
+}
+
+impl From<AllocError> for CheckError {
+    fn from(_refused: AllocError) -> CheckError {
+        CheckError::Storage(error::Error::Memory)
+    }
+}

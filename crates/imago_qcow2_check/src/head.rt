@@ -1,0 +1,181 @@
+//! What the header of a file says of the parts that use clusters.
+ghost use Rattle.std.specs.Prelude.{◌≡◌, ℕ, List, ◌+◌, ◌*◌, ◌/◌, ◌%◌, ◌^◌, ◌<◌, ◌≤◌, length, IfOk, OnOk, IsTrue};
+ghost use Rattle.imago_qcow2.specs.Header.{IsClusterSize, own_length, features_at};
+ghost use Rattle.imago_qcow2_check.specs.HeadParts.{IsHead};
+ghost use Rattle.imago_qcow2_check.specs.Counts.{count_order};
+
+use crate::fault::CheckError;
+use imago_qcow2::header::{self, HEAD_LENGTH};
+use imago_qcow2::number::{number32, number64};
+use imago_storage::ext::StorageExt;
+use imago_storage::storage::Storage;
+use std::alloc::Global;
+
+/// The most entries that the L1 table may have: 32 MiB.
+const MOST_L1_ENTRIES: u32 = 4_194_304;
+
+/// The most bytes that the table of blocks of counts may have.
+const LONGEST_COUNT_TABLE: u64 = 8 << 20;
+
+/// The most snapshots that there may be.
+const MOST_SNAPSHOTS: u32 = 65536;
+
+/// What the header says.
+#[derive(Clone, Copy)]
+pub(crate) struct Head {
+    /// The file's length in bytes.
+    pub(crate) file: u64,
+    /// A cluster's length in bytes.
+    pub(crate) cluster: u64,
+    pub(crate) version: u32,
+    /// How many bits a reference count has, by the base 2 logarithm.
+    pub(crate) order: u32,
+    /// Where the table of blocks of counts begins, in bytes, and how long it is.
+    pub(crate) blocks_start: u64,
+    pub(crate) blocks_length: usize,
+    /// Where the L1 table begins, in bytes, and how many entries it has.
+    pub(crate) l1_start: u64,
+    pub(crate) l1_count: u32,
+    /// Where the table of snapshots begins, in bytes, and how many there are.
+    pub(crate) snapshots_start: u64,
+    pub(crate) snapshots_count: u32,
+}
+
+/// Whether an extension of that type is known, and uses no cluster that isn't counted: the format of
+/// the backing file, the names of features, bitmaps, and the name of an external data file.
+fn check_extension(kind: u32) -> Result<(), CheckError> {
+    match kind {
+        0xe279_2aca | 0x6803_f857 | 0x2385_2875 | 0x4441_5441 => Ok(()),
+        _ => Err(CheckError::UnknownExtension(kind)),
+    }
+}
+
+/// Whether all header extensions are known. They stand from the offset on, and don't pass the end.
+fn check_extensions<S: Storage>(
+    storage: &S,
+    alloc: Global,
+    start: u64,
+    end: u64,
+) -> Result<(), CheckError>
+    requires { end ≤ 2 ^ 21 }
+{
+    let mut at = start;
+    while at < end {
+        let mut head = [0u8; 8];
+        storage.read(alloc, &mut head, at)?;
+        let kind = number32(&head, 0);
+        let count = number32(&head, 4) as u64;
+        if kind == 0 {
+            return Ok(());
+        }
+        if end - at < 8 + count {
+            return Err(CheckError::Extensions);
+        }
+        check_extension(kind)?;
+        at += 8 + count.next_multiple_of(8);
+    }
+    Ok(())
+}
+
+/// How many bits a reference count has, by the base 2 logarithm.
+#[tactic(auto, unfolding(crate::specs::Counts::count_order))]
+fn order_of(head: &[u8]) -> u32
+    requires { 112 ≤ length head.now }
+    ensures { result ≡ count_order head.now }
+{
+    if number32(head, 4) < 3 {
+        return 4;
+    }
+    number32(head, 96)
+}
+
+/// What the first bytes of a file of that length say.
+fn head_by(head: &[u8], file: u64) -> Result<Head, CheckError>
+    requires { 112 ≤ length head.now }
+    ensures says { IfOk result (IsHead head.now) }
+    ensures file { IfOk result (λ h. h.file ≡ file) }
+    ensures size { IfOk result (λ h. IsClusterSize h.cluster) }
+    ensures widths { IfOk result (λ h. h.order ≤ 6) }
+{
+    let header = match header::read(head, file) {
+        Ok(header) => header,
+        Err(fault) => return Err(CheckError::Header(fault)),
+    };
+    let order = order_of(head);
+    let cluster = header.cluster_size();
+    let blocks_start = number64(head, 48);
+    let blocks_length = number32(head, 56) as u64 * cluster;
+    let l1_count = number32(head, 36);
+    let snapshots_start = number64(head, 64);
+    let snapshots_count = number32(head, 60);
+    if l1_count > MOST_L1_ENTRIES {
+        return Err(CheckError::LongTable);
+    }
+    if order > 6 || blocks_start % cluster != 0 || blocks_length > LONGEST_COUNT_TABLE {
+        return Err(CheckError::CountTable);
+    }
+    if snapshots_start % cluster != 0 || snapshots_count > MOST_SNAPSHOTS {
+        return Err(CheckError::SnapshotTable);
+    }
+    Ok(Head {
+        file,
+        cluster,
+        version: header.version(),
+        order,
+        blocks_start,
+        blocks_length: blocks_length as usize,
+        l1_start: number64(head, 40),
+        l1_count,
+        snapshots_start,
+        snapshots_count,
+    })
+}
+
+/// Whether a file whose header is sound has nothing that may use clusters and isn't known.
+fn check_known<S: Storage>(
+    storage: &S,
+    alloc: Global,
+    head: &[u8],
+    cluster: u64,
+) -> Result<(), CheckError>
+    requires len { 112 ≤ length head.now }
+    requires most { cluster ≤ 2 ^ 21 }
+{
+    let is_old = number32(head, 4) < 3;
+    let features = if is_old { 0 } else { number64(head, 88) };
+    if features == 1 {
+        return Err(CheckError::Bitmaps);
+    }
+    if features > 1 {
+        return Err(CheckError::UnknownFeatures(features));
+    }
+    let own = if is_old {
+        72
+    } else {
+        number32(head, 100) as u64
+    };
+    let name = number64(head, 8);
+    let end = if name == 0 {
+        cluster
+    } else {
+        cluster.min(name)
+    };
+    check_extensions(storage, alloc, own, end)
+}
+
+/// Reads the header of a file. Refused are a header that has a fault, tables that are too long, and
+/// an image with something that may use clusters and isn't known.
+pub(crate) fn read_head<S: Storage>(storage: &S, alloc: Global) -> Result<Head, CheckError>
+    ensures says { IsTrue (S.features storage.now).tells_bytes
+        → IfOk result (IsHead (S.bytes storage.now)) }
+    ensures file { IfOk result (λ h. h.file ≡ length (S.bytes storage.now)) }
+    ensures size { IfOk result (λ h. IsClusterSize h.cluster) }
+    ensures widths { IfOk result (λ h. h.order ≤ 6) }
+{
+    let file = storage.size()?;
+    let mut head = [0u8; HEAD_LENGTH];
+    storage.read(alloc, &mut head, 0)?;
+    let says = head_by(&head, file)?;
+    check_known(storage, alloc, &head, says.cluster)?;
+    Ok(says)
+}
