@@ -7,3 +7,5 @@ pub mod EntrySteps
 pub mod SnapshotSteps
 pub mod HeadSteps
 pub mod CheckSteps
+pub mod KnownSteps
+pub mod VerdictSteps

@@ -7,7 +7,9 @@ pub mod CountParts
 pub mod Snapshots
 pub mod SnapshotParts
 pub mod Uses
+pub mod Known
 pub mod HeadParts
 pub mod Faults
+pub mod Verdicts
 pub mod Tallies
 pub mod Compared

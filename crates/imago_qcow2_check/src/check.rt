@@ -9,6 +9,8 @@ ghost use Rattle.imago_qcow2_check.specs.Counts.{count_of, blocks_count, blocks_
 ghost use Rattle.imago_qcow2_check.specs.Uses.{setting, uses_of};
 ghost use Rattle.imago_qcow2_check.specs.Faults.{corruptions_of, leaks_of, verdict_of, entry_faults};
 ghost use Rattle.imago_qcow2_check.specs.Faults.{table_faults_of};
+ghost use Rattle.imago_qcow2_check.specs.Known.{IsKnown};
+ghost use Rattle.imago_qcow2_check.specs.Verdicts.{IsVerdict};
 
 use crate::blocks::{compare, look_at_blocks, look_for_shared};
 use crate::counts::read_counts;
@@ -118,13 +120,14 @@ fn count_uses<S: Storage>(
     Ok(())
 }
 
-/// Checks a qcow2 file: counts how often each of its clusters is used, and compares that with its
-/// reference count.
-pub fn check<S: Storage>(storage: &S, alloc: Global, limits: Limits) -> Result<Report, CheckError>
+/// Counts faults and leaks of a file.
+fn count<S: Storage>(storage: &S, alloc: Global, limits: Limits) -> Result<Report, CheckError>
     ensures corruptions { IsTrue (S.features storage.now).tells_bytes
         → IfOk result (λ r. r.corruptions ≡ corruptions_of (S.bytes storage.now)) }
     ensures leaks { IsTrue (S.features storage.now).tells_bytes
         → IfOk result (λ r. r.leaks ≡ leaks_of (S.bytes storage.now)) }
+    ensures known { IsTrue (S.features storage.now).tells_bytes
+        → OnOk result (IsKnown (S.bytes storage.now)) }
 {
     let head = read_head(storage, alloc)?;
     let shape = shape_of(head, limits)?;
@@ -139,4 +142,24 @@ pub fn check<S: Storage>(storage: &S, alloc: Global, limits: Limits) -> Result<R
         leaks: tally.leaks,
         faults: tally.faults,
     })
+}
+
+/// Checks a qcow2 file: counts how often each of its clusters is used, and compares that with its
+/// reference count. It reads the header, the tables and the reference counts, and changes nothing.
+///
+/// A file that can't be checked is a [`CheckError`]: its header has a fault, something in it may use
+/// clusters and isn't known, counts and uses need more memory than the limit, or a read was refused.
+/// So no leak is told of a file in which something isn't known.
+pub fn check<S: Storage>(storage: &S, alloc: Global, limits: Limits) -> Result<Report, CheckError>
+    ensures corruptions { IsTrue (S.features storage.now).tells_bytes
+        → IfOk result (λ r. r.corruptions ≡ corruptions_of (S.bytes storage.now)) }
+    ensures leaks { IsTrue (S.features storage.now).tells_bytes
+        → IfOk result (λ r. r.leaks ≡ leaks_of (S.bytes storage.now)) }
+    ensures verdict { IsTrue (S.features storage.now).tells_bytes → IfOk result
+        (λ r. IsVerdict (S.bytes storage.now) (verdict_of r.corruptions r.leaks)) }
+    ensures known { IsTrue (S.features storage.now).tells_bytes
+        → OnOk result (IsKnown (S.bytes storage.now)) }
+{
+    let report = count(storage, alloc, limits)?;
+    Ok(report)
 }

@@ -1,6 +1,11 @@
 //! What the header of a file says of the parts that use clusters.
 ghost use Rattle.std.specs.Prelude.{◌≡◌, ℕ, List, ◌+◌, ◌*◌, ◌/◌, ◌%◌, ◌^◌, ◌<◌, ◌≤◌, length, IfOk, OnOk, IsTrue};
 ghost use Rattle.imago_qcow2.specs.Header.{IsClusterSize, own_length, features_at};
+ghost use Rattle.std.specs.Prelude.{true};
+ghost use Rattle.imago_qcow2.specs.Numbers.{be32};
+ghost use Rattle.imago_qcow2.specs.Entry.{cluster_length};
+ghost use Rattle.imago_qcow2.specs.Backing.{extensions_end};
+ghost use Rattle.imago_qcow2_check.specs.Known.{is_known_type, known_from, IsKnown};
 ghost use Rattle.imago_qcow2_check.specs.HeadParts.{IsHead};
 ghost use Rattle.imago_qcow2_check.specs.Counts.{count_order};
 
@@ -41,13 +46,26 @@ pub(crate) struct Head {
     pub(crate) snapshots_count: u32,
 }
 
-/// Whether an extension of that type is known, and uses no cluster that isn't counted: the format of
-/// the backing file, the names of features, bitmaps, and the name of an external data file.
-fn check_extension(kind: u32) -> Result<(), CheckError> {
-    match kind {
-        0xe279_2aca | 0x6803_f857 | 0x2385_2875 | 0x4441_5441 => Ok(()),
-        _ => Err(CheckError::UnknownExtension(kind)),
-    }
+/// Whether header extensions of that type are known, and use no cluster that isn't counted: the
+/// format of the backing file, the names of features, bitmaps, and the name of an external data file.
+fn is_known(kind: u32) -> bool
+    ensures { result ≡ is_known_type kind }
+{
+    kind == 0xe279_2aca || kind == 0x6803_f857 || kind == 0x2385_2875 || kind == 0x4441_5441
+}
+
+/// The type of the header extension at that offset of the file, and the length of what it holds, in
+/// bytes.
+fn extension_at<S: Storage>(storage: &S, alloc: Global, at: u64) -> Result<(u32, u64), CheckError>
+    ensures kind { IsTrue (S.features storage.now).tells_bytes
+        → IfOk result (λ r. r.0 ≡ be32 (S.bytes storage.now) at) }
+    ensures count { IsTrue (S.features storage.now).tells_bytes
+        → IfOk result (λ r. r.1 ≡ be32 (S.bytes storage.now) (at + 4)) }
+    ensures small { IfOk result (λ r. r.1 < 2 ^ 32) }
+{
+    let mut head = [0u8; 8];
+    storage.read(alloc, &mut head, at)?;
+    Ok((number32(&head, 0), number32(&head, 4) as u64))
 }
 
 /// Whether all header extensions are known. They stand from the offset on, and don't pass the end.
@@ -58,20 +76,21 @@ fn check_extensions<S: Storage>(
     end: u64,
 ) -> Result<(), CheckError>
     requires { end ≤ 2 ^ 21 }
+    ensures { IsTrue (S.features storage.now).tells_bytes
+        → OnOk result (known_from (S.bytes storage.now) start end ≡ true) }
 {
     let mut at = start;
     while at < end {
-        let mut head = [0u8; 8];
-        storage.read(alloc, &mut head, at)?;
-        let kind = number32(&head, 0);
-        let count = number32(&head, 4) as u64;
+        let (kind, count) = extension_at(storage, alloc, at)?;
         if kind == 0 {
             return Ok(());
         }
         if end - at < 8 + count {
             return Err(CheckError::Extensions);
         }
-        check_extension(kind)?;
+        if !is_known(kind) {
+            return Err(CheckError::UnknownExtension(kind));
+        }
         at += 8 + count.next_multiple_of(8);
     }
     Ok(())
@@ -131,6 +150,43 @@ fn head_by(head: &[u8], file: u64) -> Result<Head, CheckError>
     })
 }
 
+/// The autoclear features. Version 2 has none.
+#[tactic(auto, unfolding(imago_qcow2::specs::Header::features_at))]
+fn autoclear_features(head: &[u8]) -> u64
+    requires { 112 ≤ length head.now }
+    ensures { result ≡ features_at head.now 88 }
+{
+    if number32(head, 4) < 3 {
+        return 0;
+    }
+    number64(head, 88)
+}
+
+/// The header's own length in bytes.
+#[tactic(auto, unfolding(imago_qcow2::specs::Header::own_length))]
+fn length_of(head: &[u8]) -> u64
+    requires { 112 ≤ length head.now }
+    ensures { result ≡ own_length head.now }
+{
+    if number32(head, 4) < 3 {
+        return 72;
+    }
+    number32(head, 100) as u64
+}
+
+/// Where header extensions end at the latest: at the backing file's name, or with the first cluster.
+fn end_of(head: &[u8], cluster: u64) -> u64
+    requires { 112 ≤ length head.now }
+    ensures most { result ≤ cluster }
+    ensures says { cluster ≡ cluster_length head.now → result ≡ extensions_end head.now }
+{
+    let name = number64(head, 8);
+    if name == 0 {
+        return cluster;
+    }
+    cluster.min(name)
+}
+
 /// Whether a file whose header is sound has nothing that may use clusters and isn't known.
 fn check_known<S: Storage>(
     storage: &S,
@@ -140,27 +196,20 @@ fn check_known<S: Storage>(
 ) -> Result<(), CheckError>
     requires len { 112 ≤ length head.now }
     requires most { cluster ≤ 2 ^ 21 }
+    ensures features { OnOk result (features_at head.now 88 ≡ 0) }
+    ensures extensions { IsTrue (S.features storage.now).tells_bytes
+        → cluster ≡ cluster_length head.now → OnOk result
+        (known_from (S.bytes storage.now) (own_length head.now) (extensions_end head.now) ≡ true) }
 {
-    let is_old = number32(head, 4) < 3;
-    let features = if is_old { 0 } else { number64(head, 88) };
+    let features = autoclear_features(head);
     if features == 1 {
         return Err(CheckError::Bitmaps);
     }
-    if features > 1 {
+    if features > 0 {
         return Err(CheckError::UnknownFeatures(features));
     }
-    let own = if is_old {
-        72
-    } else {
-        number32(head, 100) as u64
-    };
-    let name = number64(head, 8);
-    let end = if name == 0 {
-        cluster
-    } else {
-        cluster.min(name)
-    };
-    check_extensions(storage, alloc, own, end)
+    check_extensions(storage, alloc, length_of(head), end_of(head, cluster))?;
+    Ok(())
 }
 
 /// Reads the header of a file. Refused are a header that has a fault, tables that are too long, and
@@ -168,6 +217,8 @@ fn check_known<S: Storage>(
 pub(crate) fn read_head<S: Storage>(storage: &S, alloc: Global) -> Result<Head, CheckError>
     ensures says { IsTrue (S.features storage.now).tells_bytes
         → IfOk result (IsHead (S.bytes storage.now)) }
+    ensures known { IsTrue (S.features storage.now).tells_bytes
+        → OnOk result (IsKnown (S.bytes storage.now)) }
     ensures file { IfOk result (λ h. h.file ≡ length (S.bytes storage.now)) }
     ensures size { IfOk result (λ h. IsClusterSize h.cluster) }
     ensures widths { IfOk result (λ h. h.order ≤ 6) }

@@ -1,6 +1,7 @@
 use Rattle.std.proofs.Common.{rules, ◌≡◌, ◌≤◌, length, arith}
 use Rattle.std.specs.Prelude.{IsTrue}
 use Rattle.imago_storage.specs.Bytes.{IsReadAt}
+use Rattle.imago_qcow2_check.proofs.KnownSteps.{known_moved}
 use Rattle.imago_qcow2_check.proofs.HeadSteps.{longest, head_moved}
 use Rattle.imago_qcow2_check.proofs.head.read_head.Goals as goal
 
@@ -13,3 +14,11 @@ returns-clause-says g c = λ (told : IsTrue (g.S.Storage.features c.args.storage
     let r : IsReadAt B 0 c.read.new.buf = search rules in
     let l : 112 ≤ length c.read.new.buf = search rules in
     head_moved B c.read.new.buf c.in_ok-says.says r l c.in_ok-says.ensures.says
+
+pub returns-clause-known : goal.returns-clause-known
+returns-clause-known g c = λ (told : IsTrue (g.S.Storage.features c.args.storage.now).tells_bytes).
+    let B = g.S.Storage.bytes c.args.storage.now in
+    let r : IsReadAt B 0 c.read.new.buf = search rules in
+    let l : 112 ≤ length c.read.new.buf = search rules in
+    let k = c.in_ok-check_known.ensures in
+    known_moved B c.read.new.buf r l k.features (k.extensions told c.in_ok-says.ensures.says.cluster)

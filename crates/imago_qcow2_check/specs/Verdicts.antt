@@ -1,0 +1,51 @@
+-- What a verdict says of a file.
+use Rattle.std.specs.Prelude.{◌≡◌, ◌<◌, ◌≤◌, ◌⊎◌, ℕ, ◌+◌, ◌*◌, ◌/◌, true, List}
+use Rattle.imago_qcow2.specs.Numbers.{be64}
+use Rattle.imago_qcow2.specs.Entry.{l1_entry}
+use Rattle.imago_qcow2_check.specs.declared.fault.Verdict.{Verdict}
+use Rattle.imago_qcow2_check.specs.declared.fault.Verdict.TheVariants as V
+use Rattle.imago_qcow2_check.specs.Clusters.{cluster_count}
+use Rattle.imago_qcow2_check.specs.Entries.{offset_of, names_table, l1_entry_faults, l2_entry_faults}
+use Rattle.imago_qcow2_check.specs.Counts.{blocks_count, block_entry, count_of}
+use Rattle.imago_qcow2_check.specs.Snapshots.{snapshot_count, snapshots_start, snapshot_at}
+use Rattle.imago_qcow2_check.specs.Uses.{setting, l1_count, snapshot_faults, block_faults, uses_of}
+use Rattle.imago_qcow2_check.specs.Faults.{shared_fault, entry_faults}
+
+-- Every entry is valid: those of the L1 table, and of each L2 table that it names; those of each
+-- snapshot; and those of the table of blocks of counts, whose blocks are used for nothing else.
+pub record HasValidEntries (bytes : List ℕ) : Type 0 where
+  pub l1 : (i : ℕ) → i < l1_count bytes
+      → l1_entry_faults (setting bytes) true (l1_entry bytes i) ≡ 0
+  pub l2 : (i j : ℕ) → i < l1_count bytes
+      → names_table (setting bytes) (l1_entry bytes i) ≡ true → j < (setting bytes).cluster / 8
+      → l2_entry_faults (setting bytes) true (be64 bytes (offset_of (l1_entry bytes i) + 8 * j))
+      ≡ 0
+  pub snapshots : (i : ℕ) → i < snapshot_count bytes
+      → snapshot_faults (setting bytes) bytes (snapshot_at bytes (snapshots_start bytes) i) ≡ 0
+  pub blocks : (i : ℕ) → i < blocks_count bytes
+      → block_faults (setting bytes) (block_entry bytes i) ≡ 0
+  pub apart : (i : ℕ) → i < blocks_count bytes
+      → shared_fault (setting bytes) (uses_of bytes) (block_entry bytes i) ≡ 0
+
+-- Nothing is wrong: every entry is valid, and each cluster of the file is used as often as its
+-- reference count says.
+pub record IsFaultless (bytes : List ℕ) : Type 0 where
+  pub entries : HasValidEntries bytes
+  pub counts : (n : ℕ) → n < cluster_count (setting bytes) → uses_of bytes n ≡ count_of bytes n
+
+-- an entry is invalid, or a cluster is used more often than its count says
+abbrev pub IsCorrupt : List ℕ → Type 0
+IsCorrupt bytes = (0 < entry_faults bytes)
+    ⊎ ((n : ℕ) × (n < cluster_count (setting bytes)) × (count_of bytes n < uses_of bytes n))
+
+-- A cluster is used less often than its count says, and nothing else is wrong.
+pub record HasLeaksAlone (bytes : List ℕ) : Type 0 where
+  pub entries : HasValidEntries bytes
+  pub counts : (n : ℕ) → n < cluster_count (setting bytes) → uses_of bytes n ≤ count_of bytes n
+  pub leak : (n : ℕ) × (n < cluster_count (setting bytes)) × (uses_of bytes n < count_of bytes n)
+
+-- what a verdict says
+abbrev pub IsVerdict : List ℕ → Verdict → Type 0
+IsVerdict bytes V.Faultless = IsFaultless bytes
+IsVerdict bytes V.Corrupt = IsCorrupt bytes
+IsVerdict bytes V.Leaks = HasLeaksAlone bytes
