@@ -171,8 +171,8 @@ module _ (bytes : List ℕ) (s : Setting) (same : s ≡ setting bytes) (counts t
   shared_total : total (λ i. shared_fault s (slice_index t1.uses.items) (be64 table (8 * i))) (length table / 8) ≡ total (λ i. shared_fault (setting bytes) (uses_of bytes) (block_entry bytes i)) (blocks_count bytes)
   shared_total =
       let a = total_same (λ i. shared_fault s (slice_index t1.uses.items) (be64 table (8 * i))) (λ i. shared_fault s (uses_of bytes) (block_entry bytes i)) (length table / 8)
-          (λ i h. ap (shared_fault s (slice_index t1.uses.items)) (read64 bytes table (blocks_start bytes) r (8 * i) (omega (arith, h)))
-          ∙ shared_same s (slice_index t1.uses.items) (uses_of bytes) (block_entry bytes i) some (λ n k. uses1 n (omega (arith, is, k)))) in
+      (λ i h. ap (shared_fault s (slice_index t1.uses.items)) (read64 bytes table (blocks_start bytes) r (8 * i) (omega (arith, h)))
+      ∙ shared_same s (slice_index t1.uses.items) (uses_of bytes) (block_entry bytes i) some (λ n k. uses1 n (omega (arith, is, k)))) in
       a ∙ ap (λ z. total (λ i. shared_fault z (uses_of bytes) (block_entry bytes i)) (length table / 8)) same
       ∙ ap (λ z. total (λ i. shared_fault (setting bytes) (uses_of bytes) (block_entry bytes i)) (z / 8)) whole
 
@@ -180,20 +180,20 @@ module _ (bytes : List ℕ) (s : Setting) (same : s ≡ setting bytes) (counts t
   unfolding overused
   over_total =
       let a = total_same (is_overused (slice_index counts) (slice_index t2.uses.items)) (is_overused (count_of bytes) (uses_of bytes)) (length counts)
-          (λ n h.
-          let u = uses2 n (omega (arith, h, len)) in
-          let small : uses_of bytes n < 4294967295 = (let k = x.counted n h in omega (arith, k, u)) in
-          ap (λ y. one_if (nat_lt (slice_index counts n) y)) u ∙ ap (λ y. one_if (nat_lt y (uses_of bytes n))) (each n (omega (arith, h, len))) ∙ ap one_if (min_less (count_of bytes n) (uses_of bytes n) small)) in
+      (λ n h.
+      let u = uses2 n (omega (arith, h, len)) in
+      let small : uses_of bytes n < 4294967295 = (let k = x.counted n h in omega (arith, k, u)) in
+      ap (λ y. one_if (nat_lt (slice_index counts n) y)) u ∙ ap (λ y. one_if (nat_lt y (uses_of bytes n))) (each n (omega (arith, h, len))) ∙ ap one_if (min_less (count_of bytes n) (uses_of bytes n) small)) in
       a ∙ ap (total (is_overused (count_of bytes) (uses_of bytes))) (len ∙ is ∙ ap cluster_count same)
 
   leak_total : total (is_leaked (slice_index counts) (slice_index t2.uses.items)) (length counts) ≡ leaks_of bytes
   unfolding leaks_of
   leak_total =
       let a = total_same (is_leaked (slice_index counts) (slice_index t2.uses.items)) (is_leaked (count_of bytes) (uses_of bytes)) (length counts)
-          (λ n h.
-          let u = uses2 n (omega (arith, h, len)) in
-          let small : uses_of bytes n < 4294967295 = (let k = x.counted n h in omega (arith, k, u)) in
-          ap (λ y. one_if (nat_lt y (slice_index counts n))) u ∙ ap (λ y. one_if (nat_lt (uses_of bytes n) y)) (each n (omega (arith, h, len))) ∙ ap one_if (min_more (count_of bytes n) (uses_of bytes n) small)) in
+      (λ n h.
+      let u = uses2 n (omega (arith, h, len)) in
+      let small : uses_of bytes n < 4294967295 = (let k = x.counted n h in omega (arith, k, u)) in
+      ap (λ y. one_if (nat_lt y (slice_index counts n))) u ∙ ap (λ y. one_if (nat_lt (uses_of bytes n) y)) (each n (omega (arith, h, len))) ∙ ap one_if (min_more (count_of bytes n) (uses_of bytes n) small)) in
       a ∙ ap (total (is_leaked (count_of bytes) (uses_of bytes))) (len ∙ is ∙ ap cluster_count same)
 
   pub all_corruptions : t3.corruptions ≡ corruptions_of bytes

@@ -134,7 +134,7 @@ more_at order cluster bytes table old new index per count entry n i is len few i
     let e : slice_index new n ≡ min (count_by order cluster bytes entry i) 4294967295 = ap (slice_index new) at ∙ x.added i inside in
     let c : count_from order cluster bytes table n ≡ count_by order cluster bytes (block_in table (n / per)) (n % per) = rw is refl in
     let d : count_by order cluster bytes (block_in table (n / per)) (n % per) ≡ count_by order cluster bytes entry i =
-        ap (λ k. count_by order cluster bytes (block_in table k) (n % per)) q ∙ ap (count_by order cluster bytes (block_in table index)) m ∙ ap (λ y. count_by order cluster bytes y i) (sym is_entry) in
+    ap (λ k. count_by order cluster bytes (block_in table k) (n % per)) q ∙ ap (count_by order cluster bytes (block_in table index)) m ∙ ap (λ y. count_by order cluster bytes y i) (sym is_entry) in
     e ∙ ap (λ y. min y 4294967295) (sym (c ∙ d))
 
 -- the counts of one more block

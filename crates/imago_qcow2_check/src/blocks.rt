@@ -34,9 +34,9 @@ fn look_at_block(shape: Shape, entry: u64, at: u64, tally: &mut Tally) -> Result
         table: Table::CountBlocks,
         at,
     };
-    tally.tell(shape.rest(entry) != 0, fault, true)?;
+    tally.tell(shape.rest(entry) != 0, fault)?;
     let count = length_of(shape, entry);
-    tally.name(shape, entry, count, Table::CountBlocks, at, true)?;
+    tally.name(shape, entry, count, Table::CountBlocks, at)?;
     Ok(())
 }
 
@@ -77,7 +77,7 @@ pub(crate) fn look_at_blocks(
         (blocks_uses (setting_of shape counts) bytes start (length table.now))
         (blocks_faults (setting_of shape counts) bytes start (length table.now))) }
 {
-    tally.name(shape, start, table.len() as u64, Table::Header, 48, true)?;
+    tally.name(shape, start, table.len() as u64, Table::Header, 48)?;
     look_at_entries(shape, table, start, tally)?;
     Ok(())
 }
@@ -113,17 +113,13 @@ pub(crate) fn look_for_shared(
         let entry = number64(table, 8 * index);
         let at = start.wrapping_add(8 * index as u64);
         let shared = is_shared(shape, &tally.uses, entry);
-        tally.tell(shared, Fault::SharedBlock { at, start: entry }, true)?;
+        tally.tell(shared, Fault::SharedBlock { at, start: entry })?;
     }
     Ok(())
 }
 
 /// Compares how often each cluster is used with its count.
-pub(crate) fn compare(
-    cluster: u64,
-    counts: &[u32],
-    tally: &mut Tally,
-) -> Result<(), CheckError>
+pub(crate) fn compare(cluster: u64, counts: &[u32], tally: &mut Tally) -> Result<(), CheckError>
     requires all { length tally.old.uses.items ≡ length counts.now }
     ensures { OnOk result
         (IsCompared (slice_index counts.now) (slice_index tally.old.uses.items)
@@ -136,7 +132,7 @@ pub(crate) fn compare(
             return Err(CheckError::TooManyUses);
         }
         let at = (index as u64).wrapping_mul(cluster);
-        tally.tell(count < uses, Fault::Overused { at, count, uses }, true)?;
+        tally.tell(count < uses, Fault::Overused { at, count, uses })?;
         tally.tell_leak(uses < count, Fault::Leaked { at, count, uses })?;
     }
     Ok(())

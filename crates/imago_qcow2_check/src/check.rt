@@ -104,7 +104,6 @@ fn count_uses<S: Storage>(
     let place = Place {
         table: head.l1_start,
         active: true,
-        first: true,
     };
     look_at_l1(storage, alloc, shape, counts, place, head.l1_count, tally)?;
     look_at_snapshots(

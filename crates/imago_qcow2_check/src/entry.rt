@@ -32,8 +32,6 @@ pub(crate) struct Place {
     pub(crate) table: u64,
     /// Whether it belongs to the image, and not to a snapshot.
     pub(crate) active: bool,
-    /// Whether it wasn't looked at before.
-    pub(crate) first: bool,
 }
 
 impl Place {
@@ -185,10 +183,22 @@ fn look_at_cluster(
 {
     let (start, count) = data_of(shape, entry, says);
     let at = place.entry(index);
-    tally.name(shape, start, count, Table::L2, at, place.first)?;
-    tally.tell(is_invalid(says), Fault::InvalidEntry { table: Table::L2, at }, place.first)?;
+    tally.name(shape, start, count, Table::L2, at)?;
+    tally.tell(
+        is_invalid(says),
+        Fault::InvalidEntry {
+            table: Table::L2,
+            at,
+        },
+    )?;
     let copied = cluster_disagrees(shape, counts, place.active, entry, says);
-    tally.tell(copied, Fault::CopiedBit { table: Table::L2, at }, place.first)?;
+    tally.tell(
+        copied,
+        Fault::CopiedBit {
+            table: Table::L2,
+            at,
+        },
+    )?;
     Ok(())
 }
 
@@ -240,8 +250,20 @@ pub(crate) fn look_at_l1_entry(
     let count = length_of(shape, offset);
     tally.use_bytes(shape, offset, count)?;
     let invalid = is_invalid_table(l2_table(entries, index, shape.cluster, shape.file));
-    tally.tell(invalid, Fault::InvalidEntry { table: Table::L1, at }, place.first)?;
+    tally.tell(
+        invalid,
+        Fault::InvalidEntry {
+            table: Table::L1,
+            at,
+        },
+    )?;
     let copied = disagrees(shape, counts, place.active, offset, entry);
-    tally.tell(copied, Fault::CopiedBit { table: Table::L1, at }, place.first)?;
+    tally.tell(
+        copied,
+        Fault::CopiedBit {
+            table: Table::L1,
+            at,
+        },
+    )?;
     Ok(())
 }

@@ -43,11 +43,7 @@ fn read_snapshot<S: Storage>(storage: &S, alloc: Global, at: u64) -> Result<Snap
     Ok(Snapshot {
         l1_start: number64(&head, 0),
         l1_count: number32(&head, 8),
-        end: at
-            + 40
-            + number32(&head, 36) as u64
-            + number16(&head, 12)
-            + number16(&head, 14),
+        end: at + 40 + number32(&head, 36) as u64 + number16(&head, 12) + number16(&head, 14),
     })
 }
 
@@ -85,15 +81,22 @@ fn look_at_tables<S: Storage>(
             table: Table::Snapshots,
             at,
         };
-        tally.tell(true, fault, true)?;
+        tally.tell(true, fault)?;
         return Ok(());
     }
     let place = Place {
         table: snapshot.l1_start,
         active: false,
-        first: true,
     };
-    look_at_l1(storage, alloc, shape, counts, place, snapshot.l1_count, tally)?;
+    look_at_l1(
+        storage,
+        alloc,
+        shape,
+        counts,
+        place,
+        snapshot.l1_count,
+        tally,
+    )?;
     Ok(())
 }
 
@@ -152,6 +155,6 @@ pub(crate) fn look_at_snapshots<S: Storage>(
     for _index in 0..count {
         end = look_at_next(storage, alloc, shape, counts, end, tally)?;
     }
-    tally.name(shape, start, end - start, Table::Header, 64, true)?;
+    tally.name(shape, start, end - start, Table::Header, 64)?;
     Ok(())
 }

@@ -67,7 +67,6 @@ fn look_at_named<S: Storage>(
     let inner = Place {
         table: offset,
         active: place.active,
-        first: place.first,
     };
     look_at_l2(shape, counts, inner, table, tally)?;
     Ok(())
@@ -122,9 +121,11 @@ pub(crate) fn look_at_l1<S: Storage>(
         count)) }
 {
     let bytes = 8 * count as u64;
-    tally.name(shape, place.table, bytes, Table::L1, place.table, true)?;
+    tally.name(shape, place.table, bytes, Table::L1, place.table)?;
     let entries = read_bytes(storage, alloc, place.table, bytes as usize)?;
     let mut table = read_bytes(storage, alloc, 0, shape.cluster as usize)?;
-    look_at_entries(storage, alloc, shape, counts, place, &entries, &mut table, tally)?;
+    look_at_entries(
+        storage, alloc, shape, counts, place, &entries, &mut table, tally,
+    )?;
     Ok(())
 }

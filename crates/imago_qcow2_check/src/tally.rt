@@ -63,21 +63,21 @@ impl Tally {
         self.uses[index]
     }
 
-    /// Keeps a fault that is told now, if there is room.
-    fn keep(&mut self, fault: Fault, first: bool) -> Result<(), CheckError>
+    /// Keeps a fault, if there is room, and unless it was kept before.
+    fn keep(&mut self, fault: Fault) -> Result<(), CheckError>
         ensures uses { OnOk result (self.new.uses.items ≡ self.old.uses.items) }
         ensures corruptions { OnOk result (self.new.corruptions ≡ self.old.corruptions) }
         ensures leaks { OnOk result (self.new.leaks ≡ self.old.leaks) }
     {
-        if first && self.room > 0 {
+        if self.room > 0 && !self.faults.contains(&fault) {
             self.faults.push(fault)?;
             self.room -= 1;
         }
         Ok(())
     }
 
-    /// Counts a fault, if it is one, and keeps it where it is the first time that it is found.
-    pub(crate) fn tell(&mut self, is_fault: bool, fault: Fault, first: bool) -> Result<(), CheckError>
+    /// Counts a fault, if it is one, as often as it is found, and keeps it once.
+    pub(crate) fn tell(&mut self, is_fault: bool, fault: Fault) -> Result<(), CheckError>
         ensures adds { OnOk result (Adds self.old self.new (λ n. 0) (one_if is_fault)) }
         ensures same { OnOk result (self.new.uses.items ≡ self.old.uses.items) }
     {
@@ -88,7 +88,7 @@ impl Tally {
             return Err(CheckError::TooLarge);
         };
         self.corruptions = corruptions;
-        self.keep(fault, first)
+        self.keep(fault)
     }
 
     /// Counts the leak of a cluster, if it is one.
@@ -104,7 +104,7 @@ impl Tally {
             return Err(CheckError::TooLarge);
         };
         self.leaks = leaks;
-        self.keep(fault, true)
+        self.keep(fault)
     }
 
     /// Counts the uses of clusters by so many bytes from an offset on, which don't pass the end of
@@ -148,7 +148,6 @@ impl Tally {
         count: u64,
         table: Table,
         place: u64,
-        first: bool,
     ) -> Result<(), CheckError>
         requires all { length self.old.uses.items ≡ shape.clusters }
         ensures { (counts : List ℕ) → OnOk result
@@ -163,7 +162,7 @@ impl Tally {
             start: at,
             length: count,
         };
-        self.tell(past, fault, first)?;
+        self.tell(past, fault)?;
         Ok(())
     }
 }

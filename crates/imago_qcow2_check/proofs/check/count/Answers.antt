@@ -27,7 +27,7 @@ returns-clause-corruptions g c = λ (told : IsTrue (g.S.Storage.features c.args.
     let file = c.in_ok-shape.ensures.file ∙ c.in_ok-head.ensures.file in
     let version = c.in_ok-shape.ensures.version ∙ is.version in
     let each : (n : ℕ) → n < shape.clusters → slice_index counts n ≡ min (count_of B n) 4294967295 = λ n below.
-        rw c.deref.ensures.value at (c.in_ok-counts.ensures.told told n below) ∙ ap (λ x. min x 4294967295) (count_same h.order shape.cluster B table n is.order cluster r whole) in
+    rw c.deref.ensures.value at (c.in_ok-counts.ensures.told told n below) ∙ ap (λ x. min x 4294967295) (count_same h.order shape.cluster B table n is.order cluster r whole) in
     let same : setting_of shape counts ≡ setting B = setting_same shape B counts file cluster version c.in_ok-counts.ensures.all each in
     let e2 = c.deref-2.ensures.value in
     let e3 = c.deref-3.ensures.value in
@@ -55,7 +55,7 @@ returns-clause-leaks g c = λ (told : IsTrue (g.S.Storage.features c.args.storag
     let file = c.in_ok-shape.ensures.file ∙ c.in_ok-head.ensures.file in
     let version = c.in_ok-shape.ensures.version ∙ is.version in
     let each : (n : ℕ) → n < shape.clusters → slice_index counts n ≡ min (count_of B n) 4294967295 = λ n below.
-        rw c.deref.ensures.value at (c.in_ok-counts.ensures.told told n below) ∙ ap (λ x. min x 4294967295) (count_same h.order shape.cluster B table n is.order cluster r whole) in
+    rw c.deref.ensures.value at (c.in_ok-counts.ensures.told told n below) ∙ ap (λ x. min x 4294967295) (count_same h.order shape.cluster B table n is.order cluster r whole) in
     let same : setting_of shape counts ≡ setting B = setting_same shape B counts file cluster version c.in_ok-counts.ensures.all each in
     let e2 = c.deref-2.ensures.value in
     let e3 = c.deref-3.ensures.value in

@@ -29,6 +29,6 @@ returns-clause-told g c = λ (told : IsTrue (g.S.Storage.features c.args.storage
     let n : c.min-count.result ≡ min (per_block order cluster) (c.args.shape.clusters - length old) = omega (arith, c.per_block_of.ensures, c.len.ensures, c.min-count.ensures) in
     let few : c.min-count.result ≤ per_block order (length block) = rw whole (omega (arith, n)) in
     let x : AppendsCounts (count_by order cluster B c.args.entry) c.min-count.result old c.put_counts.new.counts.items =
-        appends_same (count_in order block 0) (count_by order cluster B c.args.entry) c.min-count.result old c.put_counts.new.counts.items
-        (λ i below. count_read B block start r order i c.requires.order (omega (arith, below, few)) ∙ sym (c.in-Some.ensures.there order i B)) c.in_ok-put_counts.ensures in
+    appends_same (count_in order block 0) (count_by order cluster B c.args.entry) c.min-count.result old c.put_counts.new.counts.items
+    (λ i below. count_read B block start r order i c.requires.order (omega (arith, below, few)) ∙ sym (c.in-Some.ensures.there order i B)) c.in_ok-put_counts.ensures in
     rw n at x
