@@ -1,5 +1,5 @@
 -- All uses, and the comparison with the counts.
-use Rattle.std.proofs.Common.{◌≡◌, ℕ, ◌+◌, ◌-◌, ◌*◌, ◌/◌, ◌%◌, ◌<◌, ◌≤◌, Bool, true, false, not, nat_lt, nat_eq, min, List, length, refl, ap, sym, ◌∙◌, arith}
+use Rattle.std.proofs.Common.{◌≡◌, ℕ, ◌+◌, ◌*◌, ◌/◌, ◌%◌, ◌<◌, ◌≤◌, true, false, not, nat_lt, nat_eq, min, List, length, refl, ap, sym, ◌∙◌, arith}
 use Rattle.imago_qcow2_check.specs.declared.tally.Tally.{Tally}
 use Rattle.imago_qcow2_check.specs.declared.head.Head.{Head}
 use Rattle.imago_qcow2_check.specs.HeadParts.{IsHead}
@@ -11,8 +11,8 @@ use Rattle.imago_qcow2_check.specs.Snapshots.{snapshot_count, snapshots_start}
 use Rattle.imago_qcow2_check.specs.Uses.{setting, l1_count, header_use, snapshots_uses, snapshots_faults, blocks_uses, blocks_faults, uses_of}
 use Rattle.imago_qcow2_check.specs.Faults.{table_faults_of}
 use Rattle.imago_qcow2_check.specs.Tallies.{Adds}
-use Rattle.imago_qcow2_check.proofs.TallySteps.{adds_same, adds_then}
-use Rattle.std.proofs.Common.{◌^◌, ⊎_elim, replicate, ◌&&◌, ◌||◌}
+use Rattle.imago_qcow2_check.proofs.TallySteps.{adds_then}
+use Rattle.std.proofs.Common.{⊎_elim, replicate}
 use Rattle.std.specs.Prelude.{slice_index}
 use Rattle.std.specs.Int.{div_ceil}
 use Rattle.std.proofs.Math.Path.{fun_ext}
@@ -28,7 +28,7 @@ use Rattle.imago_qcow2_check.specs.declared.shape.Shape.{Shape}
 use Rattle.imago_qcow2_check.specs.Sums.{total, one_if}
 use Rattle.imago_qcow2_check.specs.Clusters.{cluster_count, passes}
 use Rattle.imago_qcow2_check.specs.Counts.{blocks_count, block_entry, count_by, count_of, count_order, per_block}
-use Rattle.imago_qcow2_check.specs.CountParts.{block_in, count_from}
+use Rattle.imago_qcow2_check.specs.CountParts.{count_from}
 use Rattle.imago_qcow2_check.specs.Uses.{is_once, block_length}
 use Rattle.imago_qcow2_check.specs.Faults.{shared_fault, is_overused, is_leaked, entry_faults, overused, leaks_of, corruptions_of}
 use Rattle.imago_qcow2_check.specs.Tallies.{setting_of}

@@ -1,13 +1,12 @@
 -- Reference counts, in a block and one block after the other.
-use Rattle.std.proofs.Common.{◌≡◌, ℕ, zero, suc, ◌+◌, ◌-◌, ◌*◌, ◌/◌, ◌%◌, ◌^◌, ◌<◌, ◌≤◌, List, length, min, true, false, nat_lt, nat_eq, refl, ap, sym, ◌∙◌, ⊎_elim, add-one, arith}
+use Rattle.std.proofs.Common.{◌≡◌, ℕ, zero, suc, ◌+◌, ◌-◌, ◌*◌, ◌/◌, ◌%◌, ◌^◌, ◌<◌, ◌≤◌, List, length, min, refl, ap, sym, ◌∙◌, ⊎_elim, add-one, arith}
 use Rattle.std.proofs.Math.Nat.{suc-mul}
 use Rattle.std.specs.Prelude.{slice_index}
 use Rattle.std.proofs.lemmas.Bool.{cases_lt}
-use Rattle.std.proofs.lemmas.Bool.Decides.{nat_tests}
 use Rattle.std.proofs.lemmas.Nat.{div-mul-add, mod-mul-add}
 use Rattle.imago_storage.specs.Bytes.{IsReadAt}
 use Rattle.imago_qcow2.specs.Numbers.{be32, be64}
-use Rattle.imago_qcow2_check.specs.Counts.{be_number, count_in, per_block, count_by, block_start}
+use Rattle.imago_qcow2_check.specs.Counts.{be_number, count_in, per_block, count_by}
 use Rattle.imago_qcow2_check.specs.CountParts.{AppendsCounts, block_in, count_from}
 
 pub number_32 : (bytes : List ℕ) (at : ℕ) → be_number bytes at 4 ≡ be32 bytes at

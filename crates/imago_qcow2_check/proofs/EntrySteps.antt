@@ -1,7 +1,6 @@
 -- What entries of L1 and L2 tables use.
-use Rattle.std.proofs.Common.{◌≡◌, ℕ, ◌+◌, ◌*◌, ◌/◌, ◌%◌, ◌<◌, ◌≤◌, Bool, true, false, List, length, not, nat_eq, refl, ap, sym, ◌∙◌, arith}
+use Rattle.std.proofs.Common.{◌≡◌, ℕ, ◌+◌, ◌*◌, ◌/◌, ◌<◌, Bool, true, false, List, length, refl, ap, sym, arith}
 use Rattle.imago_storage.specs.Bytes.{IsReadAt}
-use Rattle.imago_qcow2.specs.declared.entry.L2Table.{L2Table}
 use Rattle.imago_qcow2.specs.declared.entry.GuestCluster.{GuestCluster}
 use Rattle.imago_qcow2.specs.Numbers.{be64}
 use Rattle.imago_qcow2.specs.Entry.{table_in_entry, cluster_in_entry}
@@ -13,7 +12,7 @@ use Rattle.imago_qcow2_check.specs.Entries.{offset_of, length_at, data_start, da
 use Rattle.imago_qcow2_check.specs.Entries.{l2_entry_use, l2_entry_faults, l2_uses, l2_faults, l1_entry_use, l1_entry_faults, names_table, named_use, named_faults, table_use, table_faults, l1_uses, l1_faults}
 use Rattle.imago_qcow2_check.specs.Tallies.{Adds}
 use Rattle.imago_qcow2_check.proofs.SumSteps.{total_same}
-use Rattle.imago_qcow2_check.proofs.TallySteps.{adds_none, adds_same, adds_then, adds_told, told_adds}
+use Rattle.imago_qcow2_check.proofs.TallySteps.{adds_none, adds_same, adds_then, adds_told}
 
 module _ (s : Setting) (active : Bool) where
   -- what an L2 entry says is in its definition

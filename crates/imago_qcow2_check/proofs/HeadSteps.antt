@@ -1,9 +1,9 @@
 -- What the header says.
-use Rattle.std.proofs.Common.{◌≡◌, ℕ, ◌+◌, ◌*◌, ◌^◌, ◌<◌, ◌≤◌, List, length, refl, ap, sym, ◌∙◌, arith}
+use Rattle.std.proofs.Common.{◌≡◌, ℕ, ◌*◌, ◌^◌, ◌<◌, ◌≤◌, List, length, refl, ap, ◌∙◌, arith}
 use Rattle.std.proofs.Math.Nat.{pow-le-pow_right}
 use Rattle.imago_storage.specs.Bytes.{IsReadAt}
 use Rattle.imago_qcow2.specs.Header.{IsClusterSize}
-use Rattle.imago_qcow2.specs.Numbers.{be32, be64}
+use Rattle.imago_qcow2.specs.Numbers.{be32}
 use Rattle.imago_qcow2.proofs.HeaderSteps.{same32, same64, head_same}
 use Rattle.imago_qcow2_check.specs.declared.head.Head.{Head}
 use Rattle.imago_qcow2_check.specs.HeadParts.{IsHead}

@@ -1,10 +1,10 @@
 -- Header extensions, one after the other.
 use Rattle.std.proofs.Common.{zero, suc, ◌≡◌, ℕ, ◌+◌, ◌-◌, ◌<◌, ◌≤◌, Bool, true, false, nat_lt, nat_eq, List, length, refl, sym, ap, ◌∙◌, arith}
-use Rattle.std.specs.Prelude.{if◌then◌else◌, slice_index}
+use Rattle.std.specs.Prelude.{if◌then◌else◌}
 use Rattle.std.specs.Int.{next_multiple_of}
 use Rattle.std.proofs.lemmas.Bool.Decides.{nat_tests}
 use Rattle.imago_storage.specs.Bytes.{IsReadAt}
-use Rattle.imago_qcow2.specs.Numbers.{be32, be64}
+use Rattle.imago_qcow2.specs.Numbers.{be32}
 use Rattle.imago_qcow2.specs.Header.{features_at, own_length}
 use Rattle.imago_qcow2.specs.Backing.{extensions_end}
 use Rattle.imago_qcow2.proofs.HeaderSteps.{same32, same64, head_same}

@@ -1,6 +1,5 @@
 -- What snapshots use.
-use Rattle.std.proofs.Common.{◌≡◌, ℕ, ◌+◌, ◌-◌, ◌*◌, ◌/◌, ◌%◌, ◌<◌, ◌≤◌, ◌||◌, Bool, true, false, not, nat_lt, nat_eq, List, length, refl, ap, sym, ◌∙◌, add-one, arith}
-use Rattle.std.specs.Int.{next_multiple_of}
+use Rattle.std.proofs.Common.{◌≡◌, ℕ, ◌+◌, ◌-◌, ◌%◌, ◌||◌, Bool, true, false, not, nat_lt, nat_eq, List, refl, ap, sym, ◌∙◌, add-one}
 use Rattle.imago_qcow2_check.specs.declared.tally.Tally.{Tally}
 use Rattle.imago_qcow2_check.specs.declared.snapshots.Snapshot.{Snapshot}
 use Rattle.imago_qcow2_check.specs.Sums.{total, one_if}

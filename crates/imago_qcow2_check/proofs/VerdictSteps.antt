@@ -1,11 +1,9 @@
 -- What the numbers of faults and leaks say.
-use Rattle.std.proofs.Common.{◌≡◌, ◌≢◌, ℕ, zero, suc, ◌+◌, ◌*◌, ◌/◌, ◌<◌, ◌≤◌, ⊎_elim, inl, inr, Bool, true, false, nat_lt, nat_eq, List, length, refl, ap, sym, ◌∙◌, arith}
-use Rattle.std.specs.Prelude.{if◌then◌else◌}
+use Rattle.std.proofs.Common.{◌≡◌, ℕ, zero, suc, ◌+◌, ◌*◌, ◌/◌, ◌<◌, ◌≤◌, ⊎_elim, inl, inr, Bool, true, false, nat_lt, nat_eq, List, arith}
 use Rattle.std.proofs.lemmas.Bool.{cases_lt, cases_eq}
 use Rattle.std.proofs.lemmas.Bool.Decides.{nat_tests}
 use Rattle.imago_qcow2.specs.Numbers.{be64}
 use Rattle.imago_qcow2.specs.Entry.{l1_entry, l1_start}
-use Rattle.imago_qcow2_check.specs.declared.fault.Verdict.{Verdict}
 use Rattle.imago_qcow2_check.specs.Sums.{total, one_if}
 use Rattle.imago_qcow2_check.specs.Clusters.{Setting, cluster_count}
 use Rattle.imago_qcow2_check.specs.Entries.{offset_of, names_table, l1_entry_faults, l2_entry_faults, l2_faults, named_faults, table_faults, l1_faults}

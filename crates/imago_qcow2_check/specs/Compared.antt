@@ -1,5 +1,5 @@
 -- What the comparison of counts and uses adds.
-use Rattle.std.specs.Prelude.{◌≡◌, ◌<◌, ℕ, ◌+◌, List, length}
+use Rattle.std.specs.Prelude.{◌≡◌, ◌<◌, ℕ, ◌+◌}
 use Rattle.imago_qcow2_check.specs.declared.tally.Tally.{Tally}
 use Rattle.imago_qcow2_check.specs.Sums.{total}
 use Rattle.imago_qcow2_check.specs.Faults.{is_overused, is_leaked}

@@ -1,6 +1,6 @@
 -- Reference counts as they are read, one block after the other.
-use Rattle.std.specs.Prelude.{◌≡◌, ◌<◌, ℕ, ◌+◌, ◌*◌, ◌/◌, ◌%◌, List, length, slice_index, min, nat_lt}
-use Rattle.std.specs.Prelude.{if◌then◌else◌}
+use Rattle.std.specs.Prelude.{◌≡◌, ◌<◌, ℕ, ◌+◌, ◌*◌, ◌/◌, ◌%◌, List, length, slice_index, min}
+use Rattle.std.specs.Prelude.{nat_lt, if◌then◌else◌}
 use Rattle.imago_qcow2.specs.Numbers.{be64}
 use Rattle.imago_qcow2_check.specs.Counts.{per_block, count_by}
 

@@ -1,6 +1,6 @@
 -- What the entries of L1 and L2 tables use, and their faults.
-use Rattle.std.specs.Prelude.{ℕ, ◌+◌, ◌-◌, ◌*◌, ◌/◌, ◌%◌, ◌^◌, Bool, ◌||◌, ◌&&◌, not, nat_lt, nat_eq}
-use Rattle.std.specs.Prelude.{List, if◌then◌else◌, true, false}
+use Rattle.std.specs.Prelude.{ℕ, ◌+◌, ◌-◌, ◌*◌, ◌/◌, ◌%◌, ◌^◌, Bool, ◌||◌, ◌&&◌, not, nat_lt}
+use Rattle.std.specs.Prelude.{nat_eq, List, if◌then◌else◌, true, false}
 use Rattle.imago_qcow2.specs.declared.entry.L2Table.{L2Table}
 use Rattle.imago_qcow2.specs.declared.entry.L2Table.TheVariants as T
 use Rattle.imago_qcow2.specs.declared.entry.GuestCluster.{GuestCluster}
@@ -93,8 +93,8 @@ unfoldable pub l2_faults : Setting → List ℕ → Bool → ℕ → ℕ
 l2_faults s bytes active start =
     total (λ j. l2_entry_faults s active (be64 bytes (start + 8 * j))) (s.cluster / 8)
 
--- An L1 entry names an L2 table by its offset, and the whole of it lies in the file. Its entries are
--- looked at then, even if other bits of the L1 entry are invalid.
+-- An L1 entry names an L2 table by its offset, and the whole of it lies in the file. The table's
+-- entries are looked at then, even if other bits of the L1 entry are invalid.
 abbrev pub names_table : Setting → ℕ → Bool
 names_table s entry =
     not (nat_eq (offset_of entry) 0) && not (nat_lt s.file (offset_of entry + s.cluster))
@@ -124,8 +124,8 @@ unfoldable pub table_faults : Setting → List ℕ → Bool → ℕ → ℕ
 table_faults s bytes active entry =
     l1_entry_faults s active entry + named_faults s bytes active entry
 
--- The same of an L1 table of so many entries, the image's own, which is active, or a snapshot's. Its
--- own bytes are used too.
+-- The same of an L1 table of so many entries, the image's own, which is active, or a snapshot's.
+-- Its own bytes are used too.
 unfoldable pub l1_uses : Setting → List ℕ → ℕ → ℕ → ℕ → ℕ
 l1_uses s bytes start count n = use_of s start (8 * count) n
     + total (λ i. table_use s bytes (be64 bytes (start + 8 * i)) n) count

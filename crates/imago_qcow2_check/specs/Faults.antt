@@ -1,12 +1,13 @@
 -- The faults of a file, and the verdict on it.
-use Rattle.std.specs.Prelude.{◌≡◌, ◌<◌, ℕ, ◌+◌, ◌*◌, ◌/◌, ◌||◌, not, List, nat_lt, nat_eq}
+use Rattle.std.specs.Prelude.{ℕ, ◌+◌, ◌/◌, ◌||◌, not, List, nat_lt, nat_eq}
 use Rattle.std.specs.Prelude.{if◌then◌else◌, true}
 use Rattle.imago_qcow2.specs.Entry.{l1_start}
 use Rattle.imago_qcow2_check.specs.declared.fault.Verdict.{Verdict}
 use Rattle.imago_qcow2_check.specs.Sums.{total, one_if}
 use Rattle.imago_qcow2_check.specs.Clusters.{Setting, cluster_count, passes}
 use Rattle.imago_qcow2_check.specs.Entries.{l1_faults}
-use Rattle.imago_qcow2_check.specs.Counts.{blocks_start, blocks_length, blocks_count, block_entry, count_of}
+use Rattle.imago_qcow2_check.specs.Counts.{blocks_start, blocks_length, blocks_count}
+use Rattle.imago_qcow2_check.specs.Counts.{block_entry, count_of}
 use Rattle.imago_qcow2_check.specs.Snapshots.{snapshot_count, snapshots_start}
 use Rattle.imago_qcow2_check.specs.Uses.{setting, l1_count, snapshots_faults, blocks_faults}
 use Rattle.imago_qcow2_check.specs.Uses.{block_length, uses_of}
@@ -39,10 +40,12 @@ entry_faults bytes = table_faults_of bytes
 
 -- How many clusters are used more often than their counts say, and how many less often.
 unfoldable pub overused : List ℕ → ℕ
-overused bytes = total (is_overused (count_of bytes) (uses_of bytes)) (cluster_count (setting bytes))
+overused bytes =
+    total (is_overused (count_of bytes) (uses_of bytes)) (cluster_count (setting bytes))
 
 unfoldable pub leaks_of : List ℕ → ℕ
-leaks_of bytes = total (is_leaked (count_of bytes) (uses_of bytes)) (cluster_count (setting bytes))
+leaks_of bytes =
+    total (is_leaked (count_of bytes) (uses_of bytes)) (cluster_count (setting bytes))
 
 abbrev pub corruptions_of : List ℕ → ℕ
 corruptions_of bytes = entry_faults bytes + overused bytes

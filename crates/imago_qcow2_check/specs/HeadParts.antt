@@ -1,6 +1,5 @@
 -- What the header says, as it is kept.
-use Rattle.std.specs.Prelude.{◌≡◌, ℕ, ◌*◌, List}
-use Rattle.imago_qcow2.specs.Numbers.{be32}
+use Rattle.std.specs.Prelude.{◌≡◌, ℕ, List}
 use Rattle.imago_qcow2.specs.Entry.{version_of, cluster_length, l1_start}
 use Rattle.imago_qcow2_check.specs.declared.head.Head.{Head}
 use Rattle.imago_qcow2_check.specs.Counts.{count_order, blocks_start, blocks_length}

@@ -1,6 +1,5 @@
 -- The snapshot table of a file.
 use Rattle.std.specs.Prelude.{ℕ, zero, suc, ◌+◌, ◌-◌, ◌%◌, Bool, ◌||◌, not, List, nat_lt, nat_eq}
-use Rattle.std.specs.Prelude.{if◌then◌else◌}
 use Rattle.std.specs.Int.{next_multiple_of}
 use Rattle.imago_qcow2.specs.Numbers.{be32, be64}
 use Rattle.imago_qcow2_check.specs.Counts.{be_number}
@@ -12,8 +11,8 @@ snapshot_count bytes = be32 bytes 60
 abbrev pub snapshots_start : List ℕ → ℕ
 snapshots_start bytes = be64 bytes 64
 
--- A snapshot's entry has 40 bytes, more of them, and the lengths of these, of its id and of its name
--- among them. This is where the entry that begins there ends.
+-- A snapshot's entry has 40 bytes, and then more of them, its id and its name, whose lengths are
+-- among the first ones. This is where the entry ends that begins there.
 abbrev pub snapshot_end : List ℕ → ℕ → ℕ
 snapshot_end bytes at =
     at + 40 + be32 bytes (at + 36) + be_number bytes (at + 12) 2 + be_number bytes (at + 14) 2
@@ -40,8 +39,8 @@ snapshot_l1 bytes at = be64 bytes at
 abbrev pub snapshot_l1_count : List ℕ → ℕ → ℕ
 snapshot_l1_count bytes at = be32 bytes (at + 8)
 
--- It is invalid: it doesn't begin where a cluster does, or has more than 32 MiB. Nothing it names is
--- looked at then.
+-- It is invalid: it doesn't begin where a cluster does, or has more than 32 MiB. Nothing that it
+-- names is looked at then.
 abbrev pub is_invalid_l1 : ℕ → List ℕ → ℕ → Bool
 is_invalid_l1 cluster bytes at = not (nat_eq (snapshot_l1 bytes at % cluster) 0)
     || nat_lt 4194304 (snapshot_l1_count bytes at)

@@ -5,9 +5,9 @@ use Rattle.std.specs.Int.{div_ceil}
 use Rattle.imago_qcow2.specs.Numbers.{be32, be64}
 use Rattle.imago_qcow2.specs.Entry.{version_of, cluster_length, l1_start}
 use Rattle.imago_qcow2_check.specs.Sums.{total, one_if}
-use Rattle.imago_qcow2_check.specs.Clusters.{Setting, cluster_count, use_of, past_fault}
+use Rattle.imago_qcow2_check.specs.Clusters.{Setting, use_of, past_fault}
 use Rattle.imago_qcow2_check.specs.Entries.{l1_uses, l1_faults}
-use Rattle.imago_qcow2_check.specs.Counts.{blocks_start, blocks_length, block_entry, count_of}
+use Rattle.imago_qcow2_check.specs.Counts.{blocks_start, blocks_length, count_of}
 use Rattle.imago_qcow2_check.specs.Snapshots.{snapshot_count, snapshots_start, snapshot_at}
 use Rattle.imago_qcow2_check.specs.Snapshots.{snapshots_length, snapshot_l1, snapshot_l1_count}
 use Rattle.imago_qcow2_check.specs.Snapshots.{is_invalid_l1}

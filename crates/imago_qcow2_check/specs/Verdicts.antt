@@ -5,7 +5,8 @@ use Rattle.imago_qcow2.specs.Entry.{l1_entry}
 use Rattle.imago_qcow2_check.specs.declared.fault.Verdict.{Verdict}
 use Rattle.imago_qcow2_check.specs.declared.fault.Verdict.TheVariants as V
 use Rattle.imago_qcow2_check.specs.Clusters.{cluster_count}
-use Rattle.imago_qcow2_check.specs.Entries.{offset_of, names_table, l1_entry_faults, l2_entry_faults}
+use Rattle.imago_qcow2_check.specs.Entries.{offset_of, names_table, l1_entry_faults}
+use Rattle.imago_qcow2_check.specs.Entries.{l2_entry_faults}
 use Rattle.imago_qcow2_check.specs.Counts.{blocks_count, block_entry, count_of}
 use Rattle.imago_qcow2_check.specs.Snapshots.{snapshot_count, snapshots_start, snapshot_at}
 use Rattle.imago_qcow2_check.specs.Uses.{setting, l1_count, snapshot_faults, block_faults, uses_of}

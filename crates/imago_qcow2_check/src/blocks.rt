@@ -1,9 +1,11 @@
 //! The table of blocks of reference counts, and the comparison of counts and uses.
-ghost use Rattle.std.specs.Prelude.{◌≡◌, ℕ, List, ◌+◌, ◌*◌, ◌/◌, ◌%◌, ◌^◌, ◌<◌, ◌≤◌, length, slice_index, OnOk};
+ghost use Rattle.std.specs.Prelude.{◌≡◌, ℕ, List, ◌+◌, ◌*◌, ◌/◌, ◌%◌, ◌^◌, ◌<◌, ◌≤◌, length};
+ghost use Rattle.std.specs.Prelude.{slice_index, OnOk};
 ghost use Rattle.imago_storage.specs.Bytes.{IsReadAt};
 ghost use Rattle.imago_qcow2.specs.Numbers.{be64};
 ghost use Rattle.imago_qcow2_check.specs.Sums.{total, one_if};
-ghost use Rattle.imago_qcow2_check.specs.Uses.{block_length, block_use, block_faults, blocks_uses, blocks_faults};
+ghost use Rattle.imago_qcow2_check.specs.Uses.{block_length, block_use, block_faults, blocks_uses};
+ghost use Rattle.imago_qcow2_check.specs.Uses.{blocks_faults};
 ghost use Rattle.imago_qcow2_check.specs.Faults.{shared_fault, is_overused, is_leaked};
 ghost use Rattle.imago_qcow2_check.specs.Tallies.{setting_of, Adds};
 ghost use Rattle.imago_qcow2_check.specs.Compared.{IsCompared};

@@ -1,5 +1,6 @@
 //! The check of a file.
-ghost use Rattle.std.specs.Prelude.{◌≡◌, ℕ, List, ◌+◌, ◌*◌, ◌/◌, ◌^◌, ◌<◌, ◌≤◌, length, slice_index, min, OnOk, IfOk, IsTrue};
+ghost use Rattle.std.specs.Prelude.{◌≡◌, ℕ, List, ◌+◌, ◌*◌, ◌/◌, ◌^◌, ◌<◌, ◌≤◌, length};
+ghost use Rattle.std.specs.Prelude.{slice_index, min, OnOk, IfOk, IsTrue};
 ghost use Rattle.imago_storage.specs.Bytes.{IsReadAt};
 ghost use Rattle.imago_qcow2.specs.Header.{IsClusterSize};
 ghost use Rattle.imago_qcow2_check.specs.Tallies.{setting_of, Adds};
@@ -7,7 +8,8 @@ ghost use Rattle.imago_qcow2_check.specs.HeadParts.{IsHead};
 ghost use Rattle.imago_qcow2_check.specs.CountParts.{count_from};
 ghost use Rattle.imago_qcow2_check.specs.Counts.{count_of, blocks_count, blocks_start};
 ghost use Rattle.imago_qcow2_check.specs.Uses.{setting, uses_of};
-ghost use Rattle.imago_qcow2_check.specs.Faults.{corruptions_of, leaks_of, verdict_of, entry_faults};
+ghost use Rattle.imago_qcow2_check.specs.Faults.{corruptions_of, leaks_of, verdict_of};
+ghost use Rattle.imago_qcow2_check.specs.Faults.{entry_faults};
 ghost use Rattle.imago_qcow2_check.specs.Faults.{table_faults_of};
 ghost use Rattle.imago_qcow2_check.specs.Known.{IsKnown};
 ghost use Rattle.imago_qcow2_check.specs.Verdicts.{IsVerdict};
@@ -146,9 +148,9 @@ fn count<S: Storage>(storage: &S, alloc: Global, limits: Limits) -> Result<Repor
 /// Checks a qcow2 file: counts how often each of its clusters is used, and compares that with its
 /// reference count. It reads the header, the tables and the reference counts, and changes nothing.
 ///
-/// A file that can't be checked is a [`CheckError`]: its header has a fault, something in it may use
-/// clusters and isn't known, counts and uses need more memory than the limit, or a read was refused.
-/// So no leak is told of a file in which something isn't known.
+/// A file that can't be checked is a [`CheckError`]: its header has a fault, something in it may
+/// use clusters and isn't known, counts and uses need more memory than the limit, or a read was
+/// refused. So no leak is told of a file in which something isn't known.
 pub fn check<S: Storage>(storage: &S, alloc: Global, limits: Limits) -> Result<Report, CheckError>
     ensures corruptions { IsTrue (S.features storage.now).tells_bytes
         → IfOk result (λ r. r.corruptions ≡ corruptions_of (S.bytes storage.now)) }

@@ -1,7 +1,9 @@
 //! The reference counts of a file.
-ghost use Rattle.std.specs.Prelude.{◌≡◌, ℕ, List, ◌+◌, ◌-◌, ◌*◌, ◌/◌, ◌%◌, ◌^◌, ◌<◌, ◌≤◌, length, slice_index, min, OnOk, IfOk, IfSome, None, IsTrue};
+ghost use Rattle.std.specs.Prelude.{◌≡◌, ℕ, List, ◌+◌, ◌-◌, ◌*◌, ◌/◌, ◌%◌, ◌^◌, ◌<◌, ◌≤◌, length};
+ghost use Rattle.std.specs.Prelude.{slice_index, min, OnOk, IfOk, IfSome, None, IsTrue};
 ghost use Rattle.imago_qcow2.specs.Numbers.{be64};
-ghost use Rattle.imago_qcow2_check.specs.Counts.{be_number, count_in, per_block, count_by, block_start};
+ghost use Rattle.imago_qcow2_check.specs.Counts.{be_number, count_in, per_block, count_by};
+ghost use Rattle.imago_qcow2_check.specs.Counts.{block_start};
 ghost use Rattle.imago_qcow2_check.specs.CountParts.{AppendsCounts, block_in, count_from};
 
 use crate::fault::CheckError;

@@ -1,10 +1,14 @@
 //! The entries of L1 and L2 tables.
-ghost use Rattle.std.specs.Prelude.{◌≡◌, ℕ, List, ◌+◌, ◌-◌, ◌*◌, ◌/◌, ◌%◌, ◌^◌, ◌<◌, ◌≤◌, length, OnOk};
+ghost use Rattle.std.specs.Prelude.{◌≡◌, ℕ, List, ◌+◌, ◌-◌, ◌*◌, ◌/◌, ◌%◌, ◌^◌, ◌<◌, ◌≤◌, length};
+ghost use Rattle.std.specs.Prelude.{OnOk};
 ghost use Rattle.imago_qcow2.specs.Numbers.{be64};
-ghost use Rattle.imago_qcow2.specs.Entry.{cluster_in_entry, compressed_in_entry, cluster_bits, offset_bits};
+ghost use Rattle.imago_qcow2.specs.Entry.{cluster_in_entry, compressed_in_entry, cluster_bits};
+ghost use Rattle.imago_qcow2.specs.Entry.{offset_bits};
 ghost use Rattle.imago_qcow2_check.specs.Sums.{total, one_if};
-ghost use Rattle.imago_qcow2_check.specs.Entries.{offset_of, is_copied, length_at, data_start, data_length};
-ghost use Rattle.imago_qcow2_check.specs.Entries.{copied_fault, cluster_copied_fault, invalid_cluster, invalid_table};
+ghost use Rattle.imago_qcow2_check.specs.Entries.{offset_of, is_copied, length_at, data_start};
+ghost use Rattle.imago_qcow2_check.specs.Entries.{data_length};
+ghost use Rattle.imago_qcow2_check.specs.Entries.{copied_fault, cluster_copied_fault};
+ghost use Rattle.imago_qcow2_check.specs.Entries.{invalid_cluster, invalid_table};
 ghost use Rattle.imago_qcow2_check.specs.Entries.{cluster_use, cluster_faults, l2_entry_use};
 ghost use Rattle.imago_qcow2_check.specs.Entries.{l2_entry_faults, l1_entry_use, l1_entry_faults};
 ghost use Rattle.imago_qcow2_check.specs.Tallies.{setting_of, Adds};

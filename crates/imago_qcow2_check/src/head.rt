@@ -1,5 +1,6 @@
 //! What the header of a file says of the parts that use clusters.
-ghost use Rattle.std.specs.Prelude.{◌≡◌, ℕ, List, ◌+◌, ◌*◌, ◌/◌, ◌%◌, ◌^◌, ◌<◌, ◌≤◌, length, IfOk, OnOk, IsTrue};
+ghost use Rattle.std.specs.Prelude.{◌≡◌, ℕ, List, ◌+◌, ◌*◌, ◌/◌, ◌%◌, ◌^◌, ◌<◌, ◌≤◌, length, IfOk};
+ghost use Rattle.std.specs.Prelude.{OnOk, IsTrue};
 ghost use Rattle.imago_qcow2.specs.Header.{IsClusterSize, own_length, features_at};
 ghost use Rattle.std.specs.Prelude.{true};
 ghost use Rattle.imago_qcow2.specs.Numbers.{be32};
@@ -47,7 +48,8 @@ pub(crate) struct Head {
 }
 
 /// Whether header extensions of that type are known, and use no cluster that isn't counted: the
-/// format of the backing file, the names of features, bitmaps, and the name of an external data file.
+/// format of the backing file, the names of features, bitmaps, and the name of an external data
+/// file.
 fn is_known(kind: u32) -> bool
     ensures { result ≡ is_known_type kind }
 {
@@ -174,7 +176,8 @@ fn length_of(head: &[u8]) -> u64
     number32(head, 100) as u64
 }
 
-/// Where header extensions end at the latest: at the backing file's name, or with the first cluster.
+/// Where header extensions end at the latest: at the backing file's name, or with the first
+/// cluster.
 fn end_of(head: &[u8], cluster: u64) -> u64
     requires { 112 ≤ length head.now }
     ensures most { result ≤ cluster }

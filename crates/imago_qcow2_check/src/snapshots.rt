@@ -1,9 +1,12 @@
 //! The table of snapshots, and the tables of each.
-ghost use Rattle.std.specs.Prelude.{◌≡◌, ℕ, List, ◌+◌, ◌-◌, ◌*◌, ◌/◌, ◌%◌, ◌^◌, ◌<◌, ◌≤◌, length, nat_eq, nat_lt, not, ◌||◌, OnOk, IfOk, IsTrue};
+ghost use Rattle.std.specs.Prelude.{◌≡◌, ℕ, List, ◌+◌, ◌-◌, ◌*◌, ◌/◌, ◌%◌, ◌^◌, ◌<◌, ◌≤◌, length};
+ghost use Rattle.std.specs.Prelude.{nat_eq, nat_lt, not, ◌||◌, OnOk, IfOk, IsTrue};
 ghost use Rattle.std.specs.Int.{next_multiple_of};
 ghost use Rattle.imago_qcow2_check.specs.Sums.{total};
-ghost use Rattle.imago_qcow2_check.specs.Snapshots.{snapshot_l1, snapshot_l1_count, snapshot_end, snapshots_end, snapshot_at};
-ghost use Rattle.imago_qcow2_check.specs.Uses.{snapshot_uses, snapshot_faults, snapshots_uses, snapshots_faults};
+ghost use Rattle.imago_qcow2_check.specs.Snapshots.{snapshot_l1, snapshot_l1_count, snapshot_end};
+ghost use Rattle.imago_qcow2_check.specs.Snapshots.{snapshots_end, snapshot_at};
+ghost use Rattle.imago_qcow2_check.specs.Uses.{snapshot_uses, snapshot_faults, snapshots_uses};
+ghost use Rattle.imago_qcow2_check.specs.Uses.{snapshots_faults};
 ghost use Rattle.imago_qcow2_check.specs.SnapshotParts.{IsSnapshot};
 ghost use Rattle.imago_qcow2_check.specs.Tallies.{setting_of, Adds};
 

@@ -1,5 +1,6 @@
 //! What is counted while a file is looked at.
-ghost use Rattle.std.specs.Prelude.{◌≡◌, ℕ, List, ◌+◌, ◌<◌, ◌≤◌, ◌*◌, length, slice_index, replicate, IfOk, OnOk};
+ghost use Rattle.std.specs.Prelude.{◌≡◌, ℕ, List, ◌+◌, ◌<◌, ◌≤◌, ◌*◌, length, slice_index};
+ghost use Rattle.std.specs.Prelude.{replicate, IfOk, OnOk};
 ghost use Rattle.imago_qcow2_check.specs.Sums.{one_if};
 ghost use Rattle.imago_qcow2_check.specs.Clusters.{use_of, past_fault};
 ghost use Rattle.imago_qcow2_check.specs.Tallies.{setting_of, AddsUses, Adds};

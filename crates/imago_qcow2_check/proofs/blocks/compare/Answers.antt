@@ -1,9 +1,8 @@
-use Rattle.std.proofs.Common.{rules, ◌≡◌, ℕ, List, ◌+◌, ◌<◌, length, nat_lt, ⊎_elim, ◌≤◌, refl, ap, ◌∙◌, arith}
+use Rattle.std.proofs.Common.{◌≡◌, ℕ, List, ◌+◌, ◌<◌, nat_lt, ⊎_elim, ◌≤◌, refl, ap, ◌∙◌, arith}
 use Rattle.std.proofs.lemmas.Bool.{cases_lt}
 use Rattle.std.specs.Prelude.{slice_index}
 use Rattle.imago_qcow2_check.specs.Sums.{total, one_if}
 use Rattle.imago_qcow2_check.specs.Faults.{is_overused, is_leaked}
-use Rattle.imago_qcow2_check.specs.Compared.{IsCompared}
 use Rattle.imago_qcow2_check.proofs.SumSteps.{total_none, total_more}
 use Rattle.imago_qcow2_check.proofs.blocks.compare.Goals as goal
 

@@ -1,4 +1,3 @@
-use Rattle.std.proofs.Common.{◌≡◌, length}
 use Rattle.std.specs.Prelude.{slice_index}
 use Rattle.imago_qcow2_check.specs.Compared.{IsCompared}
 use Rattle.imago_qcow2_check.proofs.blocks.compare.Given as goal

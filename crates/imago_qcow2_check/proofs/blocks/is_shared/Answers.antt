@@ -1,4 +1,4 @@
-use Rattle.std.proofs.Common.{rules, ◌≡◌, ℕ, List, ◌+◌, ◌<◌, ◌≤◌, ◌*◌, ◌/◌, length, refl, sym, ◌∙◌, arith, []}
+use Rattle.std.proofs.Common.{◌<◌, ◌*◌, sym, ◌∙◌, arith, []}
 use Rattle.std.proofs.lemmas.Nat.{div_below}
 use Rattle.imago_qcow2_check.specs.Tallies.{setting_of}
 use Rattle.imago_qcow2_check.proofs.RangeSteps.{not_past}

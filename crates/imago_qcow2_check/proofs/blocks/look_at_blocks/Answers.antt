@@ -1,9 +1,9 @@
-use Rattle.std.proofs.Common.{rules, ◌≡◌, ℕ, List, ◌+◌, ◌*◌, ◌/◌, length, []}
+use Rattle.std.proofs.Common.{◌*◌, ◌/◌, length, []}
 use Rattle.imago_qcow2.specs.Numbers.{be64}
 use Rattle.imago_qcow2_check.specs.Sums.{total}
 use Rattle.imago_qcow2_check.specs.Uses.{block_use, block_faults}
 use Rattle.imago_qcow2_check.specs.Clusters.{use_of, past_fault}
-use Rattle.imago_qcow2_check.specs.Tallies.{setting_of, Adds}
+use Rattle.imago_qcow2_check.specs.Tallies.{setting_of}
 use Rattle.imago_qcow2_check.proofs.TallySteps.{adds_len}
 use Rattle.imago_qcow2_check.proofs.BlockSteps.{blocks_adds}
 use Rattle.imago_qcow2_check.proofs.blocks.look_at_blocks.Goals as goal

@@ -1,4 +1,4 @@
-use Rattle.std.proofs.Common.{rules, ◌≡◌, ℕ, List, ◌+◌, ◌*◌, ◌/◌, length, [], arith}
+use Rattle.std.proofs.Common.{◌≡◌, ◌*◌, ◌/◌, length, [], arith}
 use Rattle.imago_qcow2_check.specs.Sums.{total}
 use Rattle.imago_qcow2.specs.Numbers.{be64}
 use Rattle.imago_qcow2_check.specs.Uses.{block_use, block_faults}

@@ -1,9 +1,9 @@
-use Rattle.std.proofs.Common.{rules, ◌≡◌, ℕ, List, ◌+◌, ◌*◌, ◌/◌, length, refl, ap, ◌∙◌, arith, []}
+use Rattle.std.proofs.Common.{◌≡◌, ℕ, ◌+◌, ◌*◌, ◌/◌, length, refl, ◌∙◌, arith}
 use Rattle.std.specs.Prelude.{slice_index}
 use Rattle.imago_qcow2.specs.Numbers.{be64}
 use Rattle.imago_qcow2_check.specs.Sums.{total, one_if}
 use Rattle.imago_qcow2_check.specs.Faults.{shared_fault}
-use Rattle.imago_qcow2_check.specs.Tallies.{setting_of, Adds}
+use Rattle.imago_qcow2_check.specs.Tallies.{setting_of}
 use Rattle.imago_qcow2_check.proofs.SumSteps.{total_none, total_more}
 use Rattle.imago_qcow2_check.proofs.TallySteps.{uses_equal}
 use Rattle.imago_qcow2_check.proofs.blocks.look_for_shared.Goals as goal

@@ -1,6 +1,3 @@
-use Rattle.std.proofs.Common.{◌≡◌, ◌∙◌, sym}
-use Rattle.imago_qcow2_check.specs.Faults.{verdict_of}
-use Rattle.imago_qcow2_check.specs.Verdicts.{IsVerdict}
 use Rattle.imago_qcow2_check.proofs.VerdictSteps.{verdict_is}
 use Rattle.imago_qcow2_check.proofs.check.check.Goals as goal
 

@@ -1,10 +1,9 @@
-use Rattle.std.proofs.Common.{rules, ◌≡◌, ◌+◌, ◌*◌, ◌/◌, ◌<◌, ◌≤◌, List, length, min, true, sym, ap, ◌∙◌, arith, [], ℕ}
+use Rattle.std.proofs.Common.{◌≡◌, ◌<◌, length, min, sym, ap, ◌∙◌, arith, [], ℕ}
 use Rattle.std.specs.Prelude.{IsTrue, slice_index}
 use Rattle.imago_storage.specs.Bytes.{IsReadAt}
 use Rattle.imago_qcow2_check.specs.Counts.{count_of, blocks_start}
 use Rattle.imago_qcow2_check.specs.Uses.{setting}
-use Rattle.imago_qcow2_check.specs.Compared.{IsCompared}
-use Rattle.imago_qcow2_check.specs.Tallies.{setting_of, Adds}
+use Rattle.imago_qcow2_check.specs.Tallies.{setting_of}
 use Rattle.imago_qcow2_check.proofs.CheckSteps.{count_same, setting_same, all_corruptions, all_leaks}
 use Rattle.imago_qcow2_check.proofs.check.count.Goals as goal
 

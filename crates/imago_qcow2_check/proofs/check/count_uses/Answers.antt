@@ -1,7 +1,5 @@
-use Rattle.std.proofs.Common.{rules, ◌≡◌, ◌*◌, length, ap, sym, true, []}
 use Rattle.imago_qcow2_check.specs.Clusters.{use_of}
-use Rattle.imago_qcow2_check.specs.Uses.{blocks_uses, blocks_faults}
-use Rattle.imago_qcow2_check.specs.Tallies.{setting_of, Adds}
+use Rattle.imago_qcow2_check.specs.Tallies.{setting_of}
 use Rattle.imago_qcow2_check.proofs.TallySteps.{adds_len}
 use Rattle.imago_qcow2_check.proofs.CheckSteps.{uses_adds}
 use Rattle.imago_qcow2_check.proofs.check.count_uses.Goals as goal

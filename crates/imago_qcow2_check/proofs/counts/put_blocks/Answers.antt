@@ -1,5 +1,4 @@
-use Rattle.std.proofs.Common.{rules, ◌≡◌, ◌+◌, ◌-◌, ◌*◌, ◌<◌, ◌≤◌, min, length, refl, arith, ℕ}
-use Rattle.std.specs.Prelude.{IsTrue}
+use Rattle.std.proofs.Common.{rules, ◌≡◌, ◌+◌, ◌-◌, ◌*◌, ◌<◌, min, length, refl, arith, ℕ}
 use Rattle.imago_qcow2_check.specs.Counts.{per_block}
 use Rattle.imago_qcow2_check.proofs.CountSteps.{times_more, blocks_more}
 use Rattle.imago_qcow2_check.proofs.counts.put_blocks.Goals as goal

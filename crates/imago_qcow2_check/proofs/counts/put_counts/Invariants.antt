@@ -1,4 +1,3 @@
-use Rattle.std.proofs.Common.{◌≤◌}
 use Rattle.imago_qcow2_check.specs.Counts.{count_in}
 use Rattle.imago_qcow2_check.specs.CountParts.{AppendsCounts}
 use Rattle.imago_qcow2_check.proofs.counts.put_counts.Given as goal

@@ -1,9 +1,7 @@
-use Rattle.std.proofs.Common.{rules, ◌≡◌, ◌*◌, ℕ, List, ap, ◌∙◌}
+use Rattle.std.proofs.Common.{◌*◌, ap, ◌∙◌}
 use Rattle.imago_qcow2.specs.Numbers.{be64}
-use Rattle.imago_qcow2.specs.Entry.{table_in_entry}
-use Rattle.imago_qcow2_check.specs.Sums.{one_if}
-use Rattle.imago_qcow2_check.specs.Entries.{invalid_table, offset_of, copied_fault}
-use Rattle.imago_qcow2_check.specs.Tallies.{setting_of, Adds}
+use Rattle.imago_qcow2_check.specs.Entries.{invalid_table}
+use Rattle.imago_qcow2_check.specs.Tallies.{setting_of}
 use Rattle.imago_qcow2_check.proofs.EntrySteps.{l1_entry_adds}
 use Rattle.imago_qcow2_check.proofs.entry.look_at_l1_entry.Goals as goal
 

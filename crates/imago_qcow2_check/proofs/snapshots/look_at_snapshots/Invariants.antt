@@ -1,4 +1,4 @@
-use Rattle.std.proofs.Common.{◌≡◌, ◌≤◌, ◌*◌, length}
+use Rattle.std.proofs.Common.{◌≡◌, ◌≤◌, length}
 use Rattle.std.specs.Prelude.{IsTrue}
 use Rattle.imago_qcow2_check.specs.Sums.{total}
 use Rattle.imago_qcow2_check.specs.Snapshots.{snapshots_end, snapshot_at}

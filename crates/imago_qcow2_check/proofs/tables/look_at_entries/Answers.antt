@@ -1,7 +1,5 @@
-use Rattle.std.proofs.Common.{rules, ◌≡◌, ℕ, List, ◌+◌, ◌*◌, ◌/◌, length, arith}
-use Rattle.std.specs.Prelude.{IsTrue}
+use Rattle.std.proofs.Common.{rules, ◌*◌}
 use Rattle.imago_qcow2.specs.Numbers.{be64}
-use Rattle.imago_qcow2_check.specs.Sums.{total}
 use Rattle.imago_qcow2_check.specs.Entries.{table_use, table_faults, named_use, named_faults}
 use Rattle.imago_qcow2_check.specs.Tallies.{setting_of, Adds}
 use Rattle.imago_qcow2_check.proofs.TallySteps.{adds_first, adds_next}

@@ -1,6 +1,6 @@
-use Rattle.std.proofs.Common.{rules, ◌≡◌, ℕ, List, ◌+◌, ◌*◌, ◌/◌, length, refl, arith}
+use Rattle.std.proofs.Common.{◌*◌, refl}
 use Rattle.imago_qcow2_check.specs.Clusters.{use_of, past_fault}
-use Rattle.imago_qcow2_check.specs.Tallies.{setting_of, Adds}
+use Rattle.imago_qcow2_check.specs.Tallies.{setting_of}
 use Rattle.imago_qcow2_check.proofs.TallySteps.{adds_len}
 use Rattle.imago_qcow2_check.proofs.EntrySteps.{l1_adds}
 use Rattle.imago_qcow2_check.proofs.tables.look_at_l1.Goals as goal

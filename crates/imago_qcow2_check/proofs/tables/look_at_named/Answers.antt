@@ -1,7 +1,7 @@
-use Rattle.std.proofs.Common.{rules, ◌≡◌, ℕ, List, length, sym, ◌∙◌}
+use Rattle.std.proofs.Common.{rules, ◌≡◌, length, sym, ◌∙◌}
 use Rattle.std.specs.Prelude.{IsTrue}
 use Rattle.imago_storage.specs.Bytes.{IsReadAt}
-use Rattle.imago_qcow2_check.specs.Tallies.{setting_of, Adds}
+use Rattle.imago_qcow2_check.specs.Tallies.{setting_of}
 use Rattle.imago_qcow2_check.proofs.EntrySteps.{l2_adds, named_adds, none_adds}
 use Rattle.imago_qcow2_check.proofs.tables.look_at_named.Goals as goal
 

@@ -1,4 +1,3 @@
-use Rattle.std.proofs.Common.{◌≤◌}
 use Rattle.imago_qcow2_check.specs.TallyParts.{between}
 use Rattle.imago_qcow2_check.specs.Tallies.{AddsUses}
 use Rattle.imago_qcow2_check.proofs.tally.count_uses.Given as goal

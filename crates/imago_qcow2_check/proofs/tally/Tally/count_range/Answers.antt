@@ -1,8 +1,8 @@
-use Rattle.std.proofs.Common.{rules, ◌≡◌, ℕ, List, ◌+◌, ◌-◌, ◌<◌, ◌≤◌, ◌*◌, ◌/◌, length, refl, arith}
+use Rattle.std.proofs.Common.{◌≡◌, ◌+◌, refl, arith}
 use Rattle.std.specs.Vec.{with_items}
 use Rattle.std.proofs.lemmas.List.{with_items_is}
 use Rattle.imago_qcow2_check.specs.Clusters.{use_of}
-use Rattle.imago_qcow2_check.specs.Tallies.{setting_of, AddsUses, Adds}
+use Rattle.imago_qcow2_check.specs.Tallies.{setting_of, AddsUses}
 use Rattle.imago_qcow2_check.specs.TallyParts.{between}
 use Rattle.imago_qcow2_check.proofs.TallySteps.{uses_same}
 use Rattle.imago_qcow2_check.proofs.RangeSteps.{range_use}

@@ -1,7 +1,7 @@
-use Rattle.std.proofs.Common.{rules, ◌≡◌, ℕ, List, ◌+◌, length, refl, sym, ap, arith}
+use Rattle.std.proofs.Common.{ap, arith}
 use Rattle.imago_qcow2_check.specs.Sums.{one_if}
 use Rattle.imago_qcow2_check.specs.Clusters.{use_of, past_fault}
-use Rattle.imago_qcow2_check.specs.Tallies.{setting_of, Adds}
+use Rattle.imago_qcow2_check.specs.Tallies.{setting_of}
 use Rattle.imago_qcow2_check.proofs.TallySteps.{adds_told}
 use Rattle.imago_qcow2_check.proofs.tally.Tally.name.Goals as goal
 

@@ -1,6 +1,6 @@
-use Rattle.std.proofs.Common.{rules, ◌≡◌, ℕ, List, ◌+◌, ◌<◌, ◌≤◌, ◌*◌, length, refl, sym, ◌∙◌, arith, []}
+use Rattle.std.proofs.Common.{refl, sym, ◌∙◌, arith, []}
 use Rattle.imago_qcow2_check.specs.Clusters.{use_of}
-use Rattle.imago_qcow2_check.specs.Tallies.{setting_of, Adds}
+use Rattle.imago_qcow2_check.specs.Tallies.{setting_of}
 use Rattle.imago_qcow2_check.proofs.TallySteps.{adds_none}
 use Rattle.imago_qcow2_check.proofs.RangeSteps.{use_zero, use_past, not_past}
 use Rattle.imago_qcow2_check.proofs.tally.Tally.use_bytes.Goals as goal
