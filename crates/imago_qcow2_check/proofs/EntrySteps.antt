@@ -1,5 +1,5 @@
 -- What entries of L1 and L2 tables use.
-use Rattle.std.proofs.Common.{◌≡◌, ℕ, ◌+◌, ◌*◌, ◌/◌, ◌<◌, Bool, true, false, List, length, refl, ap, sym, arith}
+use Rattle.std.proofs.Common.{◌%◌, ◌≡◌, ℕ, ◌+◌, ◌*◌, ◌/◌, ◌<◌, Bool, true, false, List, length, refl, ap, sym, arith}
 use Rattle.imago_storage.specs.Bytes.{IsReadAt}
 use Rattle.imago_qcow2.specs.declared.entry.GuestCluster.{GuestCluster}
 use Rattle.imago_qcow2.specs.Numbers.{be64}
@@ -11,10 +11,36 @@ use Rattle.imago_qcow2_check.specs.Clusters.{Setting, use_of, past_fault}
 use Rattle.imago_qcow2_check.specs.Entries.{offset_of, length_at, data_start, data_length, invalid_cluster, invalid_table, copied_fault, cluster_copied_fault, cluster_use, cluster_faults}
 use Rattle.imago_qcow2_check.specs.Entries.{l2_entry_use, l2_entry_faults, l2_uses, l2_faults, l1_entry_use, l1_entry_faults, names_table, named_use, named_faults, table_use, table_faults, l1_uses, l1_faults}
 use Rattle.imago_qcow2_check.specs.Tallies.{Adds}
+use Rattle.imago_qcow2_check.specs.Clusters.{passes}
+use Rattle.imago_qcow2_check.proofs.RangeSteps.{use_zero}
 use Rattle.imago_qcow2_check.proofs.SumSteps.{total_same}
 use Rattle.imago_qcow2_check.proofs.TallySteps.{adds_none, adds_same, adds_then, adds_told}
 
+zero_says : (version cluster : ℕ) → 0 < cluster → cluster_in_entry version cluster 0 ≡ GuestCluster.Absent
+unfolding cluster_in_entry
+zero_says version cluster some = let z : 0 % cluster ≡ 0 = omega arith in rw z refl
+
+copied_none : (s : Setting) (active : Bool) → copied_fault s active 0 0 ≡ 0
+unfolding copied_fault
+copied_none s true = refl
+copied_none s false = refl
+
+past_none : (s : Setting) → past_fault s 0 0 ≡ 0
+unfolding passes
+past_none s = refl
+
 module _ (s : Setting) (active : Bool) where
+  -- an entry that is 0 uses nothing
+  pub zero_adds : (a : Tally) (entry : ℕ) → entry ≡ 0 → 0 < s.cluster → Adds a a (l2_entry_use s entry) (l2_entry_faults s active entry)
+  unfolding l2_entry_use l2_entry_faults
+  zero_adds a entry is some =
+      let e = zero_says s.version s.cluster some in
+      let p = past_none s in
+      let q = copied_none s active in
+      let f : l2_entry_faults s active 0 ≡ 0 = rw e (omega (arith, p, q)) in
+      let x : Adds a a (l2_entry_use s 0) (l2_entry_faults s active 0) = adds_none a (l2_entry_use s 0) (l2_entry_faults s active 0) (λ n. rw e (use_zero s 0 0 n refl)) f in
+      rw is x
+
   -- what an L2 entry says is in its definition
   pub l2_entry_adds : (a b : Tally) (entry : ℕ) (says : GuestCluster) → says ≡ cluster_in_entry s.version s.cluster entry → Adds a b (cluster_use s entry says) (cluster_faults s active entry says)
       → Adds a b (l2_entry_use s entry) (l2_entry_faults s active entry)

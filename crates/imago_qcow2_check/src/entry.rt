@@ -206,6 +206,29 @@ fn look_at_cluster(
     Ok(())
 }
 
+/// Looks at an L2 entry.
+fn look_at_l2_entry(
+    shape: Shape,
+    counts: &[u32],
+    place: Place,
+    index: u64,
+    entry: u64,
+    tally: &mut Tally,
+) -> Result<(), CheckError>
+    requires all { length tally.old.uses.items ≡ shape.clusters }
+    ensures { OnOk result
+        (Adds tally.old tally.new (l2_entry_use (setting_of shape counts.now) entry)
+        (l2_entry_faults (setting_of shape counts.now) place.active entry)) }
+{
+    // most entries of a sparse disk
+    if entry == 0 {
+        return Ok(());
+    }
+    let says = cluster_by(shape, entry);
+    look_at_cluster(shape, counts, place, index, entry, says, tally)?;
+    Ok(())
+}
+
 /// Looks at the entries of an L2 table.
 pub(crate) fn look_at_l2(
     shape: Shape,
@@ -225,8 +248,7 @@ pub(crate) fn look_at_l2(
 {
     for index in 0..table.len() / 8 {
         let entry = number64(table, 8 * index);
-        let says = cluster_by(shape, entry);
-        look_at_cluster(shape, counts, place, index as u64, entry, says, tally)?;
+        look_at_l2_entry(shape, counts, place, index as u64, entry, tally)?;
     }
     Ok(())
 }

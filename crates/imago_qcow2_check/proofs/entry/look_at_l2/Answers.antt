@@ -4,7 +4,6 @@ use Rattle.imago_qcow2_check.specs.Sums.{total}
 use Rattle.imago_qcow2_check.specs.Entries.{l2_entry_use, l2_entry_faults}
 use Rattle.imago_qcow2_check.specs.Tallies.{setting_of, Adds}
 use Rattle.imago_qcow2_check.proofs.TallySteps.{adds_first, adds_next}
-use Rattle.imago_qcow2_check.proofs.EntrySteps.{l2_entry_adds}
 use Rattle.imago_qcow2_check.proofs.entry.look_at_l2.Goals as goal
 
 pub loop-index-init : goal.loop-index-init
@@ -16,9 +15,8 @@ pub loop-index-preserved : goal.loop-index-preserved
 loop-index-preserved c =
     let s = setting_of c.args.shape c.args.counts.now in
     let active = c.args.place.active in
-    let new = c.look_at_cluster.new.tally in
-    let x = l2_entry_adds s active c.loop-index.tally new c.number64-entry.result c.cluster_by-says.result c.cluster_by-says.ensures c.in_ok-look_at_cluster.ensures in
-    let here : Adds c.loop-index.tally new (l2_entry_use s (be64 c.args.table.now (8 * c.loop-index.index))) (l2_entry_faults s active (be64 c.args.table.now (8 * c.loop-index.index))) = rw c.number64-entry.ensures at x in
+    let new = c.look_at_l2_entry.new.tally in
+    let here : Adds c.loop-index.tally new (l2_entry_use s (be64 c.args.table.now (8 * c.loop-index.index))) (l2_entry_faults s active (be64 c.args.table.now (8 * c.loop-index.index))) = rw c.number64-entry.ensures at c.in_ok-look_at_l2_entry.ensures in
     adds_next c.args.tally.now c.loop-index.tally new (λ j n. l2_entry_use s (be64 c.args.table.now (8 * j)) n) (λ j. l2_entry_faults s active (be64 c.args.table.now (8 * j))) c.loop-index.index c.loop-index.invariant here
 
 pub returns : goal.returns
