@@ -11,6 +11,7 @@ ghost use Rattle.imago_qcow2_check.specs.Uses.{setting, uses_of};
 ghost use Rattle.imago_qcow2_check.specs.Faults.{corruptions_of, leaks_of, verdict_of};
 ghost use Rattle.imago_qcow2_check.specs.Faults.{entry_faults};
 ghost use Rattle.imago_qcow2_check.specs.Faults.{table_faults_of};
+ghost use Rattle.imago_qcow2_check.specs.Clusters.{cluster_count};
 ghost use Rattle.imago_qcow2_check.specs.Known.{IsKnown};
 ghost use Rattle.imago_qcow2_check.specs.Verdicts.{IsVerdict};
 
@@ -68,6 +69,7 @@ impl Report {
 /// The shape of a file whose header says this, if counts and uses need no more memory than that.
 fn shape_of(head: Head, limits: Limits) -> Result<Shape, CheckError>
     requires { IsClusterSize head.cluster }
+    ensures within { IfOk result (λ s. 8 * s.clusters ≤ limits.memory) }
     ensures file { IfOk result (λ s. s.file ≡ head.file) }
     ensures cluster { IfOk result (λ s. s.cluster ≡ head.cluster) }
     ensures version { IfOk result (λ s. s.version ≡ head.version) }
@@ -129,6 +131,8 @@ fn count<S: Storage>(storage: &S, alloc: Global, limits: Limits) -> Result<Repor
         → IfOk result (λ r. r.leaks ≡ leaks_of (S.bytes storage.now)) }
     ensures known { IsTrue (S.features storage.now).tells_bytes
         → OnOk result (IsKnown (S.bytes storage.now)) }
+    ensures within { IsTrue (S.features storage.now).tells_bytes → OnOk result
+        (8 * cluster_count (setting (S.bytes storage.now)) ≤ limits.memory) }
 {
     let head = read_head(storage, alloc)?;
     let shape = shape_of(head, limits)?;
@@ -160,6 +164,8 @@ pub fn check<S: Storage>(storage: &S, alloc: Global, limits: Limits) -> Result<R
         (λ r. IsVerdict (S.bytes storage.now) (verdict_of r.corruptions r.leaks)) }
     ensures known { IsTrue (S.features storage.now).tells_bytes
         → OnOk result (IsKnown (S.bytes storage.now)) }
+    ensures within { IsTrue (S.features storage.now).tells_bytes → OnOk result
+        (8 * cluster_count (setting (S.bytes storage.now)) ≤ limits.memory) }
 {
     let report = count(storage, alloc, limits)?;
     Ok(report)

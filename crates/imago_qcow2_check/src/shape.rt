@@ -36,6 +36,7 @@ impl Shape {
     /// The shape of a file of that length, if it has fewer than 2^40 clusters.
     pub(crate) fn new(file: u64, cluster: u64, version: u32) -> Option<Shape>
         requires { IsClusterSize cluster }
+        ensures clusters { IfSome result (λ s. s.clusters ≡ div_ceil file cluster) }
         ensures file { IfSome result (λ s. s.file ≡ file) }
         ensures cluster { IfSome result (λ s. s.cluster ≡ cluster) }
         ensures version { IfSome result (λ s. s.version ≡ version) }

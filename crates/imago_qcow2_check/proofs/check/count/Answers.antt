@@ -1,5 +1,7 @@
 use Rattle.std.proofs.Common.{◌≡◌, ◌<◌, length, min, sym, ap, ◌∙◌, arith, [], ℕ}
 use Rattle.std.specs.Prelude.{IsTrue, slice_index}
+use Rattle.std.specs.Int.{div_ceil}
+use Rattle.imago_qcow2.specs.Entry.{cluster_length}
 use Rattle.imago_storage.specs.Bytes.{IsReadAt}
 use Rattle.imago_qcow2_check.specs.Counts.{count_of, blocks_start}
 use Rattle.imago_qcow2_check.specs.Uses.{setting}
@@ -67,3 +69,14 @@ returns-clause-leaks g c = λ (told : IsTrue (g.S.Storage.features c.args.storag
     let some : 0 < shape.cluster = omega (arith, shape.shortest) in
     all_leaks B (setting_of shape counts) same counts table c.in_ok-tally.tally c.count_uses.new.tally c.look_for_shared.new.tally c.compare.new.tally shape.clusters shape.all some c.in_ok-counts.ensures.all each
     c.in_ok-tally.ensures.uses c.in_ok-tally.ensures.corruptions c.in_ok-tally.ensures.leaks p r whole q x
+
+pub returns-clause-within : goal.returns-clause-within
+returns-clause-within g c = λ (told : IsTrue (g.S.Storage.features c.args.storage.now).tells_bytes).
+    let B = g.S.Storage.bytes c.args.storage.now in
+    let shape = c.in_ok-shape.shape in
+    let is = c.in_ok-head.ensures.says told in
+    let cluster = c.in_ok-shape.ensures.cluster ∙ is.cluster in
+    let file = c.in_ok-shape.ensures.file ∙ c.in_ok-head.ensures.file in
+    let e : shape.clusters ≡ div_ceil (length B) (cluster_length B) = shape.all ∙ ap (λ x. div_ceil x shape.cluster) file ∙ ap (div_ceil (length B)) cluster in
+    let w = c.in_ok-shape.ensures.within in
+    rw e at w
