@@ -45,6 +45,12 @@ pub record HasLeaksAlone (bytes : List ℕ) : Type 0 where
   pub counts : (n : ℕ) → n < cluster_count (setting bytes) → uses_of bytes n ≤ count_of bytes n
   pub leak : (n : ℕ) × (n < cluster_count (setting bytes)) × (uses_of bytes n < count_of bytes n)
 
+-- the exit status of qemu-img check for a verdict
+abbrev pub status_of : Verdict → ℕ
+status_of V.Faultless = 0
+status_of V.Corrupt = 2
+status_of V.Leaks = 3
+
 -- what a verdict says
 abbrev pub IsVerdict : List ℕ → Verdict → Type 0
 IsVerdict bytes V.Faultless = IsFaultless bytes

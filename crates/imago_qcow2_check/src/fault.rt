@@ -1,5 +1,6 @@
 //! What a check finds, and why a file can't be checked.
 ghost use Rattle.std.specs.Prelude.{◌≡◌};
+ghost use Rattle.imago_qcow2_check.specs.Verdicts.{status_of};
 
 use imago_qcow2::fault::HeaderFault;
 use imago_storage::error;
@@ -92,7 +93,9 @@ pub enum Verdict {
 
 impl Verdict {
     /// The exit status of `qemu-img check` for it.
-    pub fn status(self) -> u8 {
+    pub fn status(self) -> u8
+        ensures { result ≡ status_of self }
+    {
         match self {
             Verdict::Faultless => 0,
             Verdict::Corrupt => 2,
