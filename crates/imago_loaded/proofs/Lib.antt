@@ -1,3 +1,2 @@
 pub mod LoadedSteps
 pub mod TableSteps
-pub mod Chain

@@ -1,8 +1,9 @@
 -- qcow2 files of which the tables are in memory.
-use Rattle.std.proofs.Common.{◌≡◌, ℕ, ◌+◌, ◌*◌, ◌/◌, ◌^◌, ◌<◌, ◌≤◌, ⊎_elim, List, length, sym, ap, subst, ◌∙◌, arith}
+use Rattle.std.proofs.Common.{◌≡◌, ℕ, ◌+◌, ◌*◌, ◌/◌, ◌^◌, ◌<◌, ◌≤◌, ⊎_elim, List, length, min, sym, ap, subst, ◌∙◌, arith}
 use Rattle.std.specs.Prelude.{slice_index}
 use Rattle.std.specs.Int.{div_ceil}
 use Rattle.std.proofs.lemmas.Bool.{cases_lt}
+use Rattle.std.proofs.lemmas.List.{get_or_past}
 use Rattle.imago_storage.specs.Bytes.{IsReadAt}
 use Rattle.imago_plan.specs.PieceBytes.{bytes_at}
 use Rattle.imago_qcow2.specs.declared.entry.L2Table.{L2Table}
@@ -15,7 +16,7 @@ use Rattle.imago_qcow2.proofs.HeaderSteps.{same32, same64}
 use Rattle.imago_loaded.specs.declared.loaded.LoadedFile.{LoadedFile}
 use Rattle.imago_loaded.specs.Loaded.{loaded_bytes, HasBytesOf, AreThere, Keeps}
 use Rattle.imago_loaded.specs.Tables.{AreLoaded}
-use Rattle.imago_loaded.proofs.LoadedSteps.{loaded_length, byte_at, same_range, there_stays}
+use Rattle.imago_loaded.proofs.LoadedSteps.{loaded_length, byte_at, byte_behind, same_byte, same_range, there_stays}
 
 -- with one table more in memory there are more
 pub tables_more : (entries : List ℕ) (cluster file n : ℕ) (a b : LoadedFile) → Keeps a b → AreLoaded entries cluster file n a
@@ -27,6 +28,14 @@ tables_more entries cluster file n a b keeps h last i at lt is = ⊎_elim
     let e : n ≡ i = omega (arith, lt, at_end) in
     last at (subst (λ k. table_in_entry file cluster (be64 entries (8 * k)) ≡ L2Table.Stored at) (sym e) is))
     (cases_lt i n)
+
+-- the front of a file, as far as the file reaches, is in memory
+pub front_same : (file : List ℕ) (f : LoadedFile) (n : ℕ) → HasBytesOf file f → length file ≡ f.length → 0 < f.block → AreThere f 0 (min n f.length)
+    → (i : ℕ) → i < n → slice_index file i ≡ slice_index (loaded_bytes f) i
+front_same file f n has len positive there i lt = ⊎_elim
+    (λ (inside : i < f.length). same_byte file f has len positive i (there i (omega arith) (omega (arith, lt, inside))))
+    (λ (behind : f.length ≤ i). get_or_past file i 0 (omega (arith, len, behind)) ∙ sym (byte_behind f i behind))
+    (cases_lt i f.length)
 
 module _ (file head entries : List ℕ) (f : LoadedFile) (start count cluster size : ℕ)
     (head_is : head ≡ bytes_at file 0 112) (entries_are : entries ≡ bytes_at file start (8 * count)) (entries_len : length entries ≡ 8 * count)
@@ -56,13 +65,13 @@ module _ (file head entries : List ℕ) (f : LoadedFile) (start count cluster si
       read64 file entries start is_read (8 * i) (let e = entries_len in omega (arith, e, h))
       ∙ ap (λ (n : ℕ). be64 file (n + 8 * i)) own_start
 
-  pub loads_tables : HasBytesOf file f → f.length ≡ size → 0 < f.block → 112 ≤ cluster → AreThere f 0 cluster → AreThere f start (8 * count)
+  pub loads_tables : HasBytesOf file f → f.length ≡ size → 0 < f.block → 112 ≤ cluster → AreThere f 0 (min cluster f.length) → AreThere f start (8 * count)
       → AreLoaded entries cluster size count f → HaveSameTables file (loaded_bytes f)
   loads_tables has len positive small first l1 l2 =
       let whole : length file ≡ f.length = size_is ∙ sym len in
       record {
         len = whole ∙ sym (loaded_length f);
-        header = λ i h. same_range file f 0 cluster has whole positive first i (omega (arith, h, small));
+        header = λ i h. front_same file f cluster has whole positive first (0 + i) (omega (arith, h, small));
         l1 = subst (λ (s : ℕ). (i : ℕ) → i < 8 * table_count file → slice_index file (s + i) ≡ slice_index (loaded_bytes f) (s + i)) own_start
             (λ i h. same_range file f start (8 * count) has whole positive l1 i (let e = own_count in omega (arith, e, h)));
         l2 = λ i at h is k lt.

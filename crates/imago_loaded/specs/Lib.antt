@@ -1,4 +1,3 @@
 pub mod Features
 pub mod Loaded
 pub mod Tables
-pub mod Chain

@@ -1,66 +1,19 @@
 //! A file of which some blocks are in memory.
 ghost use Rattle.std.specs.Prelude.{◌≡◌, ℕ, ◌+◌, ◌*◌, ◌%◌, ◌^◌, ◌<◌, ◌≤◌, List, length};
-ghost use Rattle.std.specs.Prelude.{slice_index, OnOk};
+ghost use Rattle.std.specs.Prelude.{slice_index, OnOk, IfErr, IsTrue, ◌↔◌};
 ghost use Rattle.imago_storage.specs.Bytes.{IsReadAt};
 ghost use Rattle.imago_storage.specs.IoCount.{no_work};
 ghost use Rattle.imago_storage.specs.Maintenance.{no_maintenance};
 ghost use Rattle.imago_storage.specs.Openings.{no_openings};
 ghost use Rattle.imago_loaded.specs.Features.{loaded_features, loaded_lawful};
 
-use imago_qcow2::fault::HeaderFault;
 use imago_storage::error::Error;
 use imago_storage::storage::{
     PreallocateMode, Storage, StorageCreateOptions, StorageOpenOptions, ZeroKind,
 };
-use std::alloc::{AllocError, AllocFailed, Global};
+use std::alloc::Global;
 use std::collections::BTreeMap;
-use std::{fmt, io};
-use thiserror::Error;
-
-/// Why a part of a file isn't loaded.
-#[derive(Debug, Drop, Error)]
-pub enum LoadError {
-    /// There is no memory, or a part passes the greatest offset.
-    #[error("{0}")]
-    Image(Error),
-    /// The header of a qcow2 file is refused.
-    #[error("{0}")]
-    Header(HeaderFault),
-    /// The source refused.
-    #[error("{0}")]
-    Io(io::Error),
-}
-
-impl From<Error> for LoadError {
-    fn from(error: Error) -> LoadError {
-        LoadError::Image(error)
-    }
-}
-
-impl From<HeaderFault> for LoadError {
-    fn from(fault: HeaderFault) -> LoadError {
-        LoadError::Header(fault)
-    }
-}
-
-impl From<io::Error> for LoadError {
-    fn from(error: io::Error) -> LoadError {
-        LoadError::Io(error)
-    }
-}
-
-impl From<AllocError> for LoadError {
-    fn from(_refused: AllocError) -> LoadError {
-        LoadError::Image(Error::Memory)
-    }
-}
-
-impl<T: Drop> From<AllocFailed<T>> for LoadError {
-    fn from(refused: AllocFailed<T>) -> LoadError {
-        let _ = refused;
-        LoadError::Image(Error::Memory)
-    }
-}
+use std::fmt;
 
 /// A file of which some blocks are in memory, by their numbers. Bytes of others are told as 0.
 ///
@@ -91,7 +44,7 @@ fn copy_out(bytes: &[u8], buf: &mut [u8], index: usize)
 
 impl LoadedFile {
     ghost use Rattle.imago_loaded.specs.Loaded.{loaded_bytes, Loads, HasBytesOf};
-    ghost use Rattle.imago_loaded.specs.Loaded.{block_length, file_length};
+    ghost use Rattle.imago_loaded.specs.Loaded.{block_length, file_length, IsThere};
 
     /// A file of that many bytes, in blocks of so many. None is in memory.
     pub fn new(alloc: Global, size: u64, block: u64) -> Self
@@ -155,16 +108,39 @@ impl LoadedFile {
         }
     }
 
+    /// How many bytes the file has.
+    pub fn length(&self) -> u64
+        ensures { result ≡ file_length self.now }
+    {
+        self.length
+    }
+
+    /// How many bytes a block has.
+    pub fn block_length(&self) -> u64
+        ensures value { result ≡ block_length self.now }
+        ensures positive { 0 < result }
+    {
+        self.block
+    }
+
+    /// Whether the block of that number is in memory.
+    pub fn has_block(&self, number: u64) -> bool
+        ensures { IsTrue result ↔ IsThere self.now number }
+    {
+        self.blocks.get(&number).is_some()
+    }
+
     /// Puts the block of that number into memory, and lets go of one that was there.
     ///
-    /// [`Error::Memory`] in [`LoadError::Image`] is no room for it.
-    pub fn put_block(&mut self, number: u64, block: Vec<u8>) -> Result<(), LoadError>
+    /// [`Error::Memory`] is no room for it.
+    pub fn put_block(&mut self, number: u64, block: Vec<u8>) -> Result<(), Error>
         ensures loaded { OnOk result (Loads self.old self.new number) }
         ensures bytes { OnOk result ((file : List ℕ)
             → ((i : ℕ) → i < block_length self.old → slice_index block.items i
             ≡ slice_index file (number * block_length self.old + i))
             → HasBytesOf file self.old
             → HasBytesOf file self.new) }
+        ensures memory { IfErr result (λ e. e ≡ Error.Memory) }
     {
         self.blocks.insert(number, block)?;
         Ok(())
