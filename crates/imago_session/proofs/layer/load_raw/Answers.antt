@@ -1,0 +1,8 @@
+use Rattle.std.proofs.Common.{◌∙◌, sym, ap, map}
+use Rattle.std.specs.String.{string_bytes}
+use Rattle.imago_loaded.proofs.LoadedSteps.{loaded_length}
+use Rattle.imago_session.proofs.layer.load_raw.Goals as goal
+
+pub returns : goal.returns
+returns c = λ f part is.
+    ((is, c.in_ok-image.ensures.opened.1 ∙ loaded_length c.args.file ∙ sym part.1), ap (map string_bytes) c.new.ensures.items)

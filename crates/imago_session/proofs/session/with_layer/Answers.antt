@@ -1,0 +1,30 @@
+use Rattle.std.proofs.Common.{◌≡◌, ◌+◌, ◌-◌, ◌∙◌, ◌∷◌, [], ℕ, List, Option, length, length-append, sym, ap, subst, arith}
+use Rattle.std.specs.Prelude.{MatchOption}
+use Rattle.imago_session.specs.declared.session.Named.{Named}
+use Rattle.imago_session.specs.Files.{Layer, AreAbove, GoesDown, IsLowest, backing_name}
+use Rattle.imago_session.proofs.LaidSteps.{above_more}
+use Rattle.imago_session.proofs.session.with_layer.Goals as goal
+
+pub returns-in_ok-image-in-None : goal.returns-in_ok-image-in-None
+returns-in_ok-image-in-None c = λ accepted files are own names.
+    let k = length c.args.above.now.items in
+    let low = subst (λ (o : Option Named). MatchOption o (IsLowest c.args.layer (files k).bytes) (λ (n : Named). GoesDown c.args.layer (files k).bytes × (n.name.items ≡ backing_name (files k).bytes))) c.in-None.is (c.in_ok-below_of.ensures accepted (files k) own) in
+    let chained = c.in_ok-image-in-None.ensures in
+    let number = c.len-number.ensures in
+    let whole = c.args.above.now.ok.0 in
+    let count = chained.count in (
+      subst (λ (xs : List Layer). AreAbove accepted files xs) (sym chained.all) tt,
+      c.with_extents.ensures accepted files (length c.chain.new.above.items) (chained.layers accepted files are own low) (names ∙ sym (chained.names files)) (omega (arith, number, whole, count)),
+    )
+
+pub returns-in_ok-push-in-Some : goal.returns-in_ok-push-in-Some
+returns-in_ok-push-in-Some c = λ accepted files are own names.
+    let ds = c.args.above.now.items in
+    let k = length ds in
+    let some = subst (λ (o : Option Named). MatchOption o (IsLowest c.args.layer (files k).bytes) (λ (n : Named). GoesDown c.args.layer (files k).bytes × (n.name.items ≡ backing_name (files k).bytes))) c.in-Some.is (c.in_ok-below_of.ensures accepted (files k) own) in
+    let items = c.in_ok-push-in-Some.ensures.items in
+    let more : length c.push.new.self.items ≡ k + 1 = ap length items ∙ length-append ds (c.args.layer ∷ []) in
+    let last : k ≡ length c.push.new.self.items - 1 = omega (arith, more) in (
+      subst (λ (xs : List Layer). AreAbove accepted files xs) (sym items) (above_more accepted files ds c.args.layer are own some.0),
+      some.1 ∙ ap (λ (n : ℕ). backing_name (files n).bytes) last,
+    )

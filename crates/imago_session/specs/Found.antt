@@ -1,0 +1,33 @@
+-- What is made of a file of which some blocks are in memory.
+use Rattle.std.specs.Prelude.{◌≡◌, ℕ, ◌-◌, ◌*◌, List, map, min}
+use Rattle.std.specs.String.{string_bytes}
+use Rattle.imago_vmdk.specs.declared.line.Accepted.{Accepted}
+use Rattle.imago_plan.specs.PieceBytes.{bytes_at}
+use Rattle.imago_loaded.specs.Loaded.{file_length, block_length}
+use Rattle.imago_session.specs.declared.loading.Loading.{Loading}
+use Rattle.imago_session.specs.declared.layer.Found.{Found}
+use Rattle.imago_session.specs.declared.layer.Found.TheVariants as F
+use Rattle.imago_session.specs.Blocks.{IsPartOf}
+use Rattle.imago_session.specs.Known.{AreKnownOf}
+use Rattle.imago_session.specs.Files.{File, IsLayerOf, extent_names}
+
+-- what is in memory is of that file, which is opened as its caller says
+abbrev pub IsLoadingOf : File → Loading → Type 0
+IsLoadingOf f l = IsPartOf f.bytes l.file × (f.format ≡ l.format) × AreKnownOf f.bytes l.file l.tables
+
+-- what was found is of that file
+abbrev pub IsFoundOf : Accepted → File → Found → Type 0
+IsFoundOf accepted f (F.Loading l) = IsLoadingOf f l
+IsFoundOf accepted f (F.Layer d names) =
+    IsLayerOf accepted d f × (map string_bytes names.items ≡ extent_names d f.bytes)
+
+-- where the block that a file asks for begins in the file, and how many bytes it has there
+abbrev pub block_start : Loading → ℕ
+block_start l = l.number * block_length l.file
+
+abbrev pub block_count : Loading → ℕ
+block_count l = min (block_length l.file) (file_length l.file - block_start l)
+
+-- these are its bytes
+abbrev pub IsBlockGiven : List ℕ → Loading → List ℕ → Type 0
+IsBlockGiven bytes l block = block ≡ bytes_at bytes (block_start l) (block_count l)

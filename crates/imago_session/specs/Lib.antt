@@ -1,0 +1,6 @@
+pub mod Steps
+pub mod Blocks
+pub mod Known
+pub mod Files
+pub mod Found
+pub mod Opening

@@ -1,0 +1,100 @@
+-- How far the opening of an image is, and what it asks for.
+use Rattle.std.specs.Prelude.{◌≡◌, ℕ, ◌+◌, ◌-◌, ◌<◌, List, [], length, map}
+use Rattle.std.specs.Prelude.{Option, slice_index, slice_index_or}
+use Rattle.std.specs.String.{string_bytes}
+use Rattle.imago_drivers.specs.Place.{Byte}
+use Rattle.imago_drivers.specs.declared.format.Format.{Format}
+use Rattle.imago_vmdk.specs.declared.line.Accepted.{Accepted}
+use Rattle.imago_plan.specs.declared.piece.Piece.{Piece}
+use Rattle.imago_plan.specs.declared.piece.Source.{Source}
+use Rattle.imago_plan.specs.declared.piece.Source.TheVariants as From
+use Rattle.imago_plan.specs.PieceBytes.{bytes_at}
+use Rattle.imago_access.specs.declared.access.FormatAccess.{FormatAccess}
+use Rattle.imago_session.specs.declared.session.State.{State}
+use Rattle.imago_session.specs.declared.session.State.TheVariants as S
+use Rattle.imago_session.specs.declared.session.Session.{Session}
+use Rattle.imago_session.specs.declared.session.Want.{Want}
+use Rattle.imago_session.specs.declared.session.Want.TheVariants as W
+use Rattle.imago_session.specs.Files.{File, Layer, AreAbove, AreLayersOf, described_value}
+use Rattle.imago_session.specs.Files.{backing_name, names_in, layers_in}
+use Rattle.imago_session.specs.Found.{IsLoadingOf, block_start, block_count}
+
+-- How far an opening is, of these files, with so many layers above: what is in memory of a file is
+-- its own, a name that is told is that of the layer above, and the layers of an image are those of
+-- the files.
+abbrev pub IsStateOf : Accepted → (ℕ → File) → ℕ → State → Type 0
+IsStateOf accepted files k (S.Loading l) = IsLoadingOf (files k) l
+IsStateOf accepted files k (S.Below named) =
+    named.name.items ≡ backing_name (files (k - 1)).bytes
+IsStateOf accepted files k (S.Extents p) =
+    AreLayersOf accepted files p.image
+    × (map string_bytes p.names.items ≡ names_in files p.image) × (p.first ≡ layers_in p.image)
+IsStateOf accepted files k (S.Open image) = AreLayersOf accepted files image
+IsStateOf accepted files k S.Refused = Unit {0}
+
+-- All that a session was given is of these files, the top one first.
+abbrev pub IsOf : (ℕ → File) → Session → Type 0
+IsOf files s =
+    AreAbove s.accepted files s.above.items
+    × IsStateOf s.accepted files (length s.above.items) s.state
+
+-- the image is open, and is one that this holds of
+abbrev pub IsOpenWith : State → (FormatAccess Layer → Type 0) → Type 0
+IsOpenWith (S.Loading l) P = ⊥
+IsOpenWith (S.Below named) P = ⊥
+IsOpenWith (S.Extents p) P = ⊥
+IsOpenWith (S.Open image) P = P image
+IsOpenWith S.Refused P = ⊥
+
+-- What is asked for: a block of the file that is loaded, as far as the file has it; or the next
+-- file. Files are numbered in the order in which they are asked for, the top one by 0.
+abbrev pub wanted_in : ℕ → State → Want
+wanted_in k (S.Loading l) = W.Bytes k (block_start l) (block_count l)
+wanted_in k (S.Below named) = W.Backing k
+wanted_in k (S.Extents p) = W.Extent (p.first + p.next)
+wanted_in k (S.Open image) = W.Nothing
+wanted_in k S.Refused = W.Refused
+
+abbrev pub wanted : Session → Want
+wanted s = wanted_in (length s.above.items) s.state
+
+-- bytes are those that are asked for, of these files
+abbrev pub IsAnswer : (ℕ → File) → Want → List ℕ → Type 0
+IsAnswer files (W.Bytes k from count) bytes = bytes ≡ bytes_at (files k).bytes from count
+IsAnswer files (W.Backing k) bytes = ⊥
+IsAnswer files (W.Extent k) bytes = ⊥
+IsAnswer files W.Nothing bytes = ⊥
+IsAnswer files W.Refused bytes = ⊥
+
+-- The file that is asked for has that length, and is to be opened in that format. Nothing has to be
+-- known of the file of an extent.
+abbrev pub IsFileAnswer : (ℕ → File) → Want → ℕ → Option Format → Type 0
+IsFileAnswer files (W.Backing k) count format =
+    (length (files k).bytes ≡ count) × ((files k).format ≡ format)
+IsFileAnswer files (W.Extent k) count format = Unit {0}
+IsFileAnswer files (W.Bytes k from n) count format = ⊥
+IsFileAnswer files W.Nothing count format = ⊥
+IsFileAnswer files W.Refused count format = ⊥
+
+-- the name of the file that is asked for, by the files that are there: that of the backing file of
+-- the last one, or, once all layers are there, that of the file of the lowest one's next extent
+abbrev pub IsNameIn : (ℕ → File) → ℕ → State → List ℕ → Type 0
+IsNameIn files k (S.Loading l) name = ⊥
+IsNameIn files k (S.Below named) name = name ≡ backing_name (files (k - 1)).bytes
+IsNameIn files k (S.Extents p) name = name ≡ slice_index_or (names_in files p.image) p.next []
+IsNameIn files k (S.Open image) name = ⊥
+IsNameIn files k S.Refused name = ⊥
+
+abbrev pub IsNameWanted : (ℕ → File) → Session → List ℕ → Type 0
+IsNameWanted files s name = IsNameIn files (length s.above.items) s.state name
+
+-- where a source of a piece is: the number of its file, as files are numbered
+abbrev pub source_byte : (ℕ → File) → Source → ℕ → ℕ
+source_byte files From.Zero i = 0
+source_byte files (From.Stored from) i =
+    slice_index (files (from.layer + from.storage)).bytes (from.offset + i)
+
+-- each byte of a piece is that of the disk which the files say
+abbrev pub ShowsBytes : (ℕ → File) → ℕ → Piece → FormatAccess Layer → Type 0
+ShowsBytes files at piece image = (i : ℕ) → i < piece.count
+    → described_value files image (at + i) ≡ Byte (source_byte files piece.source i)

@@ -1,0 +1,326 @@
+//! The layers of images, over files of which only what is needed is in memory.
+ghost use Rattle.std.specs.Prelude.{◌≡◌, ℕ, ◌+◌, ◌^◌, ◌<◌, ◌≤◌, List, Option, None, true, map, length};
+ghost use Rattle.std.specs.Prelude.{◌++◌, IfOk, IfErr, OnOk, IfSome, IsOk};
+ghost use Rattle.std.specs.List.{flat_map};
+ghost use Rattle.std.specs.String.{string_bytes};
+ghost use Rattle.imago_drivers.specs.declared.format.Format.{Format};
+ghost use Rattle.imago_vmdk.specs.Image.{descriptor_in, is_opened, accepted_in};
+ghost use Rattle.imago_vmdk.specs.Line.{extent_with};
+ghost use Rattle.imago_vmdk.specs.Probe.{probe_of as vmdk_probe};
+ghost use Rattle.imago_qcow2.specs.Opening.{probe_of as qcow2_probe};
+ghost use Rattle.imago_any_driver.specs.AnyDriver.{detected};
+ghost use Rattle.imago_loaded.specs.Loaded.{file_length, AreThere};
+ghost use Rattle.imago_session.specs.Blocks.{IsMissing, IsPartOf};
+ghost use Rattle.imago_session.specs.Known.{AreKnownOf};
+ghost use Rattle.imago_session.specs.Files.{File, IsFormatBy, file_name};
+ghost use Rattle.imago_session.specs.Found.{IsFoundOf, IsLoadingOf, IsBlockGiven};
+ghost use Rattle.imago_session.specs.Found.{block_start, block_count};
+ghost use Rattle.imago_session.specs.Steps.{IfMissing, IfReady};
+
+use crate::block::{BLOCK, Step, first_missing, part};
+use crate::loading::{Loading, Tables};
+use crate::tables::{next_missing, tables_of};
+use imago_any_driver::any::AnyDriver;
+use imago_drivers::builder::FormatDriverBuilder;
+use imago_drivers::drivers::{Format, FormatDriverInstance};
+use imago_drivers::gate::ImplicitOpenGate;
+use imago_drivers::raw::Raw;
+use imago_loaded::loaded::LoadedFile;
+use imago_qcow2::header::HEAD_LENGTH;
+use imago_qcow2::qcow2::Qcow2;
+use imago_storage::error::Error;
+use imago_storage::storage::StorageOpenOptions;
+use imago_vmdk::descriptor;
+use imago_vmdk::line::{Accepted, Extent};
+use imago_vmdk::vmdk::Vmdk;
+use std::alloc::Global;
+
+/// The driver of a layer.
+pub type Layer = AnyDriver<LoadedFile>;
+
+/// The most bytes that a descriptor may have. No longer file is looked at as one.
+const LONGEST_DESCRIPTOR: u64 = 1 << 21;
+
+impl Loading {
+    /// Where the block begins in the file, and how many bytes of it the file has.
+    pub(crate) fn block(&self) -> (u64, u64)
+        ensures start { result.0 ≡ block_start self.now }
+        ensures count { result.1 ≡ block_count self.now }
+        ensures some { 0 < result.1 }
+    {
+        let length = self.file.length();
+        let block = self.file.block_length();
+        let start = self.number * block;
+        (start, block.min(length - start))
+    }
+}
+
+/// What is made of a file of which some blocks are in memory.
+#[derive(Drop)]
+pub(crate) enum Found {
+    /// Nothing yet.
+    Loading(Loading),
+    /// A layer, and the names of the files of its extents.
+    Layer(Layer, Vec<String>),
+}
+
+/// The first block of the file that isn't in memory, if the file may be a descriptor by its length.
+fn missing_text(file: &LoadedFile) -> Option<u64>
+    ensures there { result ≡ None → file_length file.now ≤ 2 ^ 21
+        → AreThere file.now 0 (file_length file.now) }
+    ensures missing { IfSome result (IsMissing file.now) }
+{
+    let length = file.length();
+    if length > LONGEST_DESCRIPTOR {
+        return None;
+    }
+    first_missing(file, 0, length)
+}
+
+/// Which format the file is recognised as: qcow2 by its first bytes, else VMDK where the whole is
+/// the text of a descriptor, else raw.
+fn recognised(alloc: Global, file: &LoadedFile) -> Result<Step<Format>, Error>
+    ensures missing { IfOk result (IfMissing (IsMissing file.now)) }
+    ensures ready { IfOk result (IfReady (λ f. (bytes : List ℕ) → IsPartOf bytes file.now
+        → f ≡ detected qcow2_probe vmdk_probe bytes)) }
+{
+    let length = file.length();
+    if let Some(number) = first_missing(file, 0, length.min(HEAD_LENGTH as u64)) {
+        return Ok(Step::Missing(number));
+    }
+    if Qcow2::probe(alloc, file)? {
+        return Ok(Step::Ready(Format::Qcow2));
+    }
+    if let Some(number) = missing_text(file) {
+        return Ok(Step::Missing(number));
+    }
+    if Vmdk::probe(alloc, file)? {
+        return Ok(Step::Ready(Format::Vmdk));
+    }
+    Ok(Step::Ready(Format::Raw))
+}
+
+/// The format of the file: the one that is said, or the one that it is recognised as.
+fn format_of(alloc: Global, file: &LoadedFile, said: Option<Format>) -> Result<Step<Format>, Error>
+    ensures missing { IfOk result (IfMissing (IsMissing file.now)) }
+    ensures ready { IfOk result (IfReady (λ f. (bytes : List ℕ) → IsPartOf bytes file.now
+        → IsFormatBy said bytes f)) }
+{
+    match said {
+        Some(format) => Ok(Step::Ready(format)),
+        None => recognised(alloc, file),
+    }
+}
+
+/// Opens each storage as a file without bytes: where an extent's bytes stand doesn't depend on
+/// them.
+#[derive(Drop)]
+struct EmptyExtents(Global);
+
+impl ImplicitOpenGate<LoadedFile> for EmptyExtents {
+    ghost opened = { λ o a b r. IsOk r };
+
+    fn open_storage(
+        &mut self,
+        _alloc: Global,
+        _opts: StorageOpenOptions,
+    ) -> Result<LoadedFile, Error> {
+        Ok(LoadedFile::new(self.0, 0, BLOCK))
+    }
+}
+
+/// The image of a descriptor, all of which is in memory.
+fn open_vmdk(alloc: Global, accepted: Accepted, file: LoadedFile) -> Result<Vmdk<LoadedFile>, Error>
+    ensures file { IfOk result (λ v. descriptor_in v ≡ file) }
+    ensures opened { IfOk result (λ v. is_opened v ≡ true) }
+    ensures accepted { IfOk result (λ v. accepted_in v ≡ accepted) }
+{
+    let builder = Vmdk::builder(file)
+        .accept_unknown_keys(accepted.unknown_keys)
+        .accept_vmfs(accepted.vmfs);
+    builder.open(alloc, EmptyExtents(alloc))
+}
+
+/// The names of the files of extents, in order.
+fn names_of(alloc: Global, extents: &[Extent<String>]) -> Result<Vec<String>, Error>
+    ensures names { IfOk result (λ v. map string_bytes v.items
+        ≡ flat_map file_name (map (extent_with string_bytes) extents.now)) }
+    ensures memory { IfErr result (λ e. e ≡ Error.Memory) }
+{
+    let mut names = Vec::new(alloc);
+    for extent in extents {
+        push_name(alloc, &mut names, extent)?;
+    }
+    Ok(names)
+}
+
+/// Puts the name of an extent's file behind the others, if it has one. Refused, it is
+/// [`Error::Memory`].
+fn push_name(alloc: Global, names: &mut Vec<String>, extent: &Extent<String>) -> Result<(), Error>
+    ensures names { OnOk result (map string_bytes names.new.items ≡ map string_bytes names.old.items
+        ++ file_name (extent_with string_bytes extent.now)) }
+    ensures memory { IfErr result (λ e. e ≡ Error.Memory) }
+{
+    if let Extent::Flat { name, .. } = extent {
+        names.push(String::from_str(alloc, name)?)?;
+    }
+    Ok(())
+}
+
+/// What is made of a descriptor's file.
+fn load_vmdk(
+    alloc: Global,
+    accepted: Accepted,
+    file: LoadedFile,
+    format: Option<Format>,
+    tables: Option<Tables>,
+) -> Result<Found, Error>
+    ensures { IfOk result (λ r. (f : File) → IsPartOf f.bytes file
+        → AreKnownOf f.bytes file tables → f.format ≡ format → IsFormatBy format f.bytes Format.Vmdk
+        → IsFoundOf accepted f r) }
+{
+    let length = file.length();
+    if length > LONGEST_DESCRIPTOR {
+        return Err(Error::InvalidData);
+    }
+    if let Some(number) = first_missing(&file, 0, length) {
+        return Ok(Found::Loading(Loading {
+            file,
+            format,
+            tables,
+            number,
+        }));
+    }
+    let text = part(alloc, &file, 0, length)?;
+    let read = descriptor::read(alloc, accepted, &text)?;
+    let names = names_of(alloc, &read.extents)?;
+    let image = open_vmdk(alloc, accepted, file)?;
+    Ok(Found::Layer(AnyDriver::Vmdk(image), names))
+}
+
+/// What is made of a qcow2 file.
+fn load_qcow2(
+    alloc: Global,
+    accepted: Accepted,
+    file: LoadedFile,
+    format: Option<Format>,
+    known: Option<Tables>,
+) -> Result<Found, Error>
+    ensures { IfOk result (λ r. (f : File) → IsPartOf f.bytes file
+        → AreKnownOf f.bytes file known → f.format ≡ format → IsFormatBy format f.bytes Format.Qcow2
+        → IsFoundOf accepted f r) }
+{
+    let mut tables = match tables_of(alloc, &file, known)? {
+        Step::Missing(number) => {
+            return Ok(Found::Loading(Loading {
+                file,
+                format,
+                tables: None,
+                number,
+            }));
+        }
+        Step::Ready(tables) => tables,
+    };
+    if let Some(number) = next_missing(&file, &mut tables) {
+        return Ok(Found::Loading(Loading {
+            file,
+            format,
+            tables: Some(tables),
+            number,
+        }));
+    }
+    let image = Qcow2::open_image(alloc, file, false)?;
+    Ok(Found::Layer(AnyDriver::Qcow2(image), Vec::new(alloc)))
+}
+
+/// What is made of a raw file.
+fn load_raw(alloc: Global, accepted: Accepted, file: LoadedFile) -> Result<Found, Error>
+    ensures { IfOk result (λ r. (f : File) → IsPartOf f.bytes file
+        → IsFormatBy f.format f.bytes Format.Raw → IsFoundOf accepted f r) }
+{
+    let _ = accepted;
+    let image = Raw::open_image(file, false)?;
+    Ok(Found::Layer(AnyDriver::Raw(image), Vec::new(alloc)))
+}
+
+/// What is made of a file in that format.
+fn load_as(
+    alloc: Global,
+    accepted: Accepted,
+    file: LoadedFile,
+    format: Option<Format>,
+    tables: Option<Tables>,
+    taken: Format,
+) -> Result<Found, Error>
+    ensures { IfOk result (λ r. (f : File) → IsPartOf f.bytes file
+        → AreKnownOf f.bytes file tables → f.format ≡ format → IsFormatBy format f.bytes taken
+        → IsFoundOf accepted f r) }
+{
+    match taken {
+        Format::Raw => load_raw(alloc, accepted, file),
+        Format::Vmdk => load_vmdk(alloc, accepted, file, format, tables),
+        Format::Qcow2 => load_qcow2(alloc, accepted, file, format, tables),
+        Format::Cow => Err(Error::Unsupported),
+    }
+}
+
+/// What is made of a file of which some blocks are in memory.
+fn load(
+    alloc: Global,
+    accepted: Accepted,
+    file: LoadedFile,
+    format: Option<Format>,
+    tables: Option<Tables>,
+) -> Result<Found, Error>
+    ensures { IfOk result (λ r. (f : File) → IsPartOf f.bytes file
+        → AreKnownOf f.bytes file tables → f.format ≡ format → IsFoundOf accepted f r) }
+{
+    match format_of(alloc, &file, format)? {
+        Step::Missing(number) => Ok(Found::Loading(Loading {
+            file,
+            format,
+            tables,
+            number,
+        })),
+        Step::Ready(taken) => load_as(alloc, accepted, file, format, tables, taken),
+    }
+}
+
+/// What is made of a file of that many bytes, of which nothing is in memory.
+pub(crate) fn begin(
+    alloc: Global,
+    accepted: Accepted,
+    count: u64,
+    format: Option<Format>,
+) -> Result<Found, Error>
+    ensures { IfOk result (λ r. (f : File) → length f.bytes ≡ count → f.format ≡ format
+        → IsFoundOf accepted f r) }
+{
+    load(
+        alloc,
+        accepted,
+        LoadedFile::new(alloc, count, BLOCK),
+        format,
+        None,
+    )
+}
+
+/// What is made of a file with the block that it was asked for.
+pub(crate) fn resume(
+    alloc: Global,
+    accepted: Accepted,
+    loading: Loading,
+    block: Vec<u8>,
+) -> Result<Found, Error>
+    ensures { IfOk result (λ r. (f : File) → IsLoadingOf f loading
+        → IsBlockGiven f.bytes loading block.items → IsFoundOf accepted f r) }
+{
+    let Loading {
+        mut file,
+        format,
+        tables,
+        number,
+    } = loading;
+    file.put_block(number, block)?;
+    load(alloc, accepted, file, format, tables)
+}

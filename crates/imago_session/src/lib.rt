@@ -1,0 +1,14 @@
+//! Images that are opened without any input of their own: they ask for bytes, and their caller
+//! gives them.
+//!
+//! [`session`] opens an image so, and says where each byte of its disk stands. [`laws`] are laws of
+//! the layers that it opens.
+#![tactic(auto)]
+
+mod block;
+mod extents;
+pub mod laws;
+mod layer;
+mod loading;
+pub mod session;
+mod tables;

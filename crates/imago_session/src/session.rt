@@ -1,0 +1,415 @@
+//! An image that is opened by asking for bytes.
+ghost use Rattle.std.specs.Prelude.{◌≡◌, ◌+◌, ◌^◌, ◌≤◌, ◌<◌, ◌⊎◌, ℕ, List, [], length, Some, None};
+ghost use Rattle.std.specs.Prelude.{IfOk, OnOk, IfErr, IfSome, MatchOption, map, slice_index_or};
+ghost use Rattle.std.specs.String.{string_bytes};
+ghost use Rattle.imago_vmdk.specs.declared.line.Accepted.{Accepted};
+ghost use Rattle.imago_qcow2.specs.Disk.{HaveSameTables, AreSameBytes};
+ghost use Rattle.imago_qcow2.specs.Entry.{cluster_length};
+ghost use Rattle.imago_qcow2.specs.Qcow2Image.{storage_in};
+ghost use Rattle.imago_access.specs.Target.{target};
+ghost use Rattle.imago_loaded.specs.Loaded.{loaded_bytes};
+ghost use Rattle.imago_plan.specs.Pieces.{named_source, IsPieceAt};
+ghost use Rattle.imago_session.specs.Files.{File, IsLayerOf, GoesDown, IsLowest, AreAbove};
+ghost use Rattle.imago_session.specs.Files.{AreLayersOf, backing_name, described_size};
+ghost use Rattle.imago_session.specs.Files.{HasBacking, HasNoBacking, extent_names, names_in};
+ghost use Rattle.imago_session.specs.Files.{layers_in};
+ghost use Rattle.imago_session.specs.Found.{IsFoundOf};
+ghost use Rattle.imago_session.specs.Opening.{IsStateOf, IsOf, IsOpenWith, wanted, wanted_in};
+ghost use Rattle.imago_session.specs.Opening.{IsAnswer, IsFileAnswer, IsNameWanted, ShowsBytes};
+ghost use Rattle.imago_session.specs.declared.session.State.{State};
+
+use crate::extents::{Extents, following};
+use crate::laws::{pieces_of_files, size_of_files};
+pub use crate::layer::Layer;
+use crate::layer::{Found, begin, resume};
+use crate::loading::Loading;
+use imago_access::access::FormatAccess;
+use imago_access::mapping::Mapping;
+use imago_any_driver::any::AnyDriver;
+use imago_drivers::drivers::{Format, FormatDriverInstance};
+use imago_loaded::loaded::LoadedFile;
+use imago_plan::piece::{Location, Piece, Source};
+use imago_qcow2::laws::image_of_bytes;
+use imago_qcow2::qcow2::Qcow2;
+use imago_storage::error::Error;
+use imago_vmdk::line::Accepted;
+use std::alloc::Global;
+use std::mem;
+
+/// The most layers that an image has.
+pub const MOST_LAYERS: usize = 200;
+
+/// What a file says of the file below it.
+#[derive(Drop)]
+struct Named {
+    name: Vec<u8>,
+    /// The name of its format, if it is told.
+    format: Option<Vec<u8>>,
+}
+
+/// How far the opening is.
+#[derive(Drop)]
+enum State {
+    /// A block of a file is asked for.
+    Loading(Loading),
+    /// The file below the last one is asked for.
+    Below(Named),
+    /// The file of an extent is asked for.
+    Extents(Extents),
+    /// The image is open.
+    Open(FormatAccess<Layer>),
+    /// It was refused.
+    Refused,
+}
+
+/// What is asked for. Files are numbered in the order in which they are asked for: the top one is
+/// 0. Offsets and counts are in bytes.
+#[derive(Clone, Copy, Debug, PartialEq, Eq)]
+pub enum Want {
+    /// Nothing: the image is open.
+    Nothing,
+    /// So many bytes of the file of that number, from that offset on. All are inside the file.
+    Bytes(usize, u64, u64),
+    /// The backing file of the last one, which has that number from then on.
+    Backing(usize),
+    /// The file of an extent, which has that number from then on.
+    Extent(usize),
+    /// Nothing: the opening was refused.
+    Refused,
+}
+
+/// An image that is being opened, or is open. It has no file: it asks for bytes, and is given them.
+#[derive(Drop)]
+pub struct Session {
+    alloc: Global,
+    /// What a descriptor may contain.
+    accepted: Accepted,
+    /// The layers that are above the file which is loaded, the top one first.
+    above: Vec<Layer>,
+    state: State,
+}
+
+/// The layers over the lowest one. Refused, it is [`Error::Memory`].
+fn chain(alloc: Global, above: &mut Vec<Layer>, lowest: Layer) -> Result<FormatAccess<Layer>, Error>
+    ensures layers { let k = length above.old.items in
+        IfOk result (λ x. (accepted : Accepted) (files : ℕ → File)
+        → AreAbove accepted files above.old.items → IsLayerOf accepted lowest (files k)
+        → IsLowest lowest (files k).bytes → AreLayersOf accepted files x) }
+    ensures names { let k = length above.old.items in
+        IfOk result (λ x. (files : ℕ → File)
+        → names_in files x ≡ extent_names lowest (files k).bytes) }
+    ensures count { IfOk result (λ x. layers_in x ≡ length above.old.items + 1) }
+    ensures all { OnOk result (above.new.items ≡ []) }
+    ensures memory { IfErr result (λ e. e ≡ Error.Memory) }
+{
+    let mut image = FormatAccess::new(lowest);
+    while let Some(driver) = above.pop() {
+        let below = Box::new(alloc, image)?;
+        image = FormatAccess::with_backing(driver, below);
+    }
+    Ok(image)
+}
+
+/// What a qcow2 image says of the file below it, if it names one. A name without bytes is none.
+fn below_qcow2(alloc: Global, qcow2: &Qcow2<LoadedFile>) -> Result<Option<Named>, Error>
+    ensures { let own = loaded_bytes (storage_in qcow2.now) in
+        IfOk result (λ b. (bytes : List ℕ) → HaveSameTables bytes own
+        → AreSameBytes bytes own 0 (cluster_length bytes)
+        → MatchOption b (HasNoBacking bytes)
+        (λ named. HasBacking bytes × (named.name.items ≡ backing_name bytes))) }
+{
+    image_of_bytes(qcow2);
+    let Some(name) = qcow2.backing_file(alloc)? else {
+        return Ok(None);
+    };
+    if name.is_empty() {
+        return Ok(None);
+    }
+    let format = qcow2.backing_format(alloc)?;
+    Ok(Some(Named { name, format }))
+}
+
+/// What a layer says of the file below it, if there is one.
+fn below_of(alloc: Global, layer: &Layer) -> Result<Option<Named>, Error>
+    ensures { IfOk result (λ b. (accepted : Accepted) (f : File)
+        → IsLayerOf accepted layer.now f
+        → MatchOption b (IsLowest layer.now f.bytes)
+        (λ named. GoesDown layer.now f.bytes × (named.name.items ≡ backing_name f.bytes))) }
+{
+    match layer {
+        AnyDriver::Qcow2(qcow2) => below_qcow2(alloc, qcow2),
+        AnyDriver::Raw(_) | AnyDriver::Vmdk(_) | AnyDriver::Cow(_) => Ok(None),
+    }
+}
+
+/// How far the opening is with an image of all layers, and these names of the files of extents,
+/// whose first one has that number.
+fn with_extents(image: FormatAccess<Layer>, names: Vec<String>, first: usize) -> State
+    requires { first ≤ 200 }
+    ensures { (accepted : Accepted) (files : ℕ → File) (k : ℕ) → AreLayersOf accepted files image
+        → map string_bytes names.items ≡ names_in files image → first ≡ layers_in image
+        → IsStateOf accepted files k result }
+{
+    if names.is_empty() {
+        return State::Open(image);
+    }
+    State::Extents(Extents {
+        image,
+        names,
+        first,
+        next: 0,
+    })
+}
+
+/// How far the opening is with one more layer. [`Error::Unsupported`] is one too many.
+fn with_layer(
+    alloc: Global,
+    above: &mut Vec<Layer>,
+    layer: Layer,
+    names: Vec<String>,
+) -> Result<State, Error>
+    ensures { let k = length above.old.items in
+        IfOk result (λ s. (accepted : Accepted) (files : ℕ → File)
+        → AreAbove accepted files above.old.items → IsLayerOf accepted layer (files k)
+        → map string_bytes names.items ≡ extent_names layer (files k).bytes
+        → AreAbove accepted files above.new.items
+        × IsStateOf accepted files (length above.new.items) s) }
+{
+    let number = above.len();
+    if number >= MOST_LAYERS {
+        return Err(Error::Unsupported);
+    }
+    match below_of(alloc, &layer)? {
+        None => {
+            let image = chain(alloc, above, layer)?;
+            Ok(with_extents(image, names, number + 1))
+        }
+        Some(named) => {
+            above.push(layer)?;
+            Ok(State::Below(named))
+        }
+    }
+}
+
+/// How far the opening is with what was made of a file.
+fn with_found(alloc: Global, above: &mut Vec<Layer>, found: Found) -> Result<State, Error>
+    ensures { let k = length above.old.items in
+        IfOk result (λ s. (accepted : Accepted) (files : ℕ → File)
+        → AreAbove accepted files above.old.items → IsFoundOf accepted (files k) found
+        → AreAbove accepted files above.new.items
+        × IsStateOf accepted files (length above.new.items) s) }
+{
+    match found {
+        Found::Loading(loading) => Ok(State::Loading(loading)),
+        Found::Layer(layer, names) => with_layer(alloc, above, layer, names),
+    }
+}
+
+/// How far the opening is once the file of an extent is there.
+fn after_extent(extents: Extents) -> State
+    ensures { (accepted : Accepted) (files : ℕ → File) (k : ℕ)
+        → IsStateOf accepted files k (State.Extents extents) → IsStateOf accepted files k result }
+{
+    let Extents {
+        image,
+        names,
+        first,
+        next,
+    } = extents;
+    let Some(next) = following(first, next, names.len()) else {
+        return State::Open(image);
+    };
+    State::Extents(Extents {
+        image,
+        names,
+        first,
+        next,
+    })
+}
+
+/// What a mapping names, as a piece's source. [`Error::Unsupported`] is the end of the image, and
+/// bytes that a driver makes up.
+fn source_of(mapping: Mapping) -> Result<Source, Error>
+    ensures source { IfOk result (λ s. named_source mapping ≡ Some s) }
+{
+    match mapping {
+        Mapping::Raw {
+            layer,
+            storage,
+            offset,
+            ..
+        } if layer < usize::MAX => Ok(Source::Stored(Location {
+            layer,
+            storage,
+            offset,
+        })),
+        Mapping::Zero { .. } => Ok(Source::Zero),
+        Mapping::Raw { .. } | Mapping::Eof | Mapping::Special { .. } => Err(Error::Unsupported),
+    }
+}
+
+/// The piece that begins at an offset of the disk, of at most that many bytes.
+fn piece_at<D: FormatDriverInstance>(
+    image: &FormatAccess<D>,
+    at: u64,
+    most: u64,
+) -> Result<Piece, Error>
+    requires { 0 < most }
+    ensures piece { IfOk result
+        (λ p. IsPieceAt (target D.view image.now) «at» p × (p.count ≤ most)) }
+{
+    let (mapping, count) = image.get_mapping(at, most)?;
+    let source = source_of(mapping)?;
+    Ok(Piece { at, count, source })
+}
+
+impl Session {
+    /// Begins with the top file, which has that many bytes. It is opened in that format, or, if
+    /// none is said, in the one that its bytes are recognised as. Descriptors may contain what is
+    /// accepted.
+    pub fn new(
+        alloc: Global,
+        accepted: Accepted,
+        count: u64,
+        format: Option<Format>,
+    ) -> Result<Session, Error>
+        ensures { IfOk result (λ s. (files : ℕ → File) → length (files 0).bytes ≡ count
+            → (files 0).format ≡ format → IsOf files s) }
+    {
+        let mut above = Vec::new(alloc);
+        let found = begin(alloc, accepted, count, format)?;
+        let state = with_found(alloc, &mut above, found)?;
+        Ok(Session {
+            alloc,
+            accepted,
+            above,
+            state,
+        })
+    }
+
+    /// What is asked for.
+    pub fn want(&self) -> Want
+        ensures wanted { result ≡ wanted self.now }
+    {
+        let number = self.above.len();
+        match &self.state {
+            State::Loading(loading) => {
+                let (from, count) = loading.block();
+                Want::Bytes(number, from, count)
+            }
+            State::Below(_) => Want::Backing(number),
+            State::Extents(extents) => Want::Extent(extents.number()),
+            State::Open(_) => Want::Nothing,
+            State::Refused => Want::Refused,
+        }
+    }
+
+    /// Gives the bytes that are asked for.
+    ///
+    /// [`Error::Unsupported`] is where no bytes are asked for, and [`Error::InvalidData`] a count
+    /// that isn't the one asked for. Nothing changed then. Any other refusal is the end of the
+    /// opening.
+    pub fn give(&mut self, bytes: &[u8]) -> Result<(), Error>
+        ensures { OnOk result ((files : ℕ → File) → IsAnswer files (wanted self.old) bytes.now
+            → IsOf files self.old → IsOf files self.new) }
+    {
+        let Want::Bytes(_, _, count) = self.want() else {
+            return Err(Error::Unsupported);
+        };
+        if bytes.len() as u64 != count {
+            return Err(Error::InvalidData);
+        }
+        let block = Vec::from_slice(self.alloc, bytes)?;
+        let State::Loading(loading) = mem::replace(&mut self.state, State::Refused) else {
+            return Err(Error::Unsupported);
+        };
+        let found = resume(self.alloc, self.accepted, loading, block)?;
+        self.state = with_found(self.alloc, &mut self.above, found)?;
+        Ok(())
+    }
+
+    /// Gives the file that is asked for, which has that many bytes. It is opened in that format,
+    /// or, if none is said, in the one that its bytes are recognised as. The file of an extent
+    /// needs neither.
+    ///
+    /// [`Error::Unsupported`] is where no file is asked for. Nothing changed then. Any other
+    /// refusal is the end of the opening.
+    pub fn give_file(&mut self, count: u64, format: Option<Format>) -> Result<(), Error>
+        ensures { OnOk result ((files : ℕ → File) → IsFileAnswer files (wanted self.old) count format
+            → IsOf files self.old → IsOf files self.new) }
+    {
+        match mem::replace(&mut self.state, State::Refused) {
+            State::Below(_) => {
+                let found = begin(self.alloc, self.accepted, count, format)?;
+                self.state = with_found(self.alloc, &mut self.above, found)?;
+                Ok(())
+            }
+            State::Extents(extents) => {
+                self.state = after_extent(extents);
+                Ok(())
+            }
+            other => {
+                self.state = other;
+                Err(Error::Unsupported)
+            }
+        }
+    }
+
+    /// The name of the file that is asked for, as the image has it, if one is.
+    pub fn name(&self) -> Option<&[u8]>
+        ensures { IfSome result (λ name. (files : ℕ → File) → IsOf files self.now
+            → IsNameWanted files self.now name.now) }
+    {
+        match &self.state {
+            State::Below(named) => Some(&named.name),
+            State::Extents(extents) => extents.name(),
+            State::Loading(_) | State::Open(_) | State::Refused => None,
+        }
+    }
+
+    /// The name of the format that the file is said to have which is asked for, if one is.
+    pub fn format_name(&self) -> Option<&[u8]> {
+        match &self.state {
+            State::Below(
+                Named {
+                    format: Some(format),
+                    ..
+                },
+            ) => Some(format),
+            _ => None,
+        }
+    }
+
+    /// The size of the disk in bytes, if the image is open.
+    pub fn size(&self) -> Option<u64>
+        ensures { IfSome result (λ n. IsOpenWith self.now.state (λ x. (files : ℕ → File)
+            → IsOf files self.now → n ≡ described_size files x)) }
+    {
+        match &self.state {
+            State::Open(image) => {
+                size_of_files(image);
+                Some(image.size())
+            }
+            _ => None,
+        }
+    }
+
+    /// Where the bytes of the disk stand from that offset on: at most that many.
+    ///
+    /// [`Error::NotFound`] is an image that isn't open.
+    pub fn map(&self, at: u64, most: u64) -> Result<Piece, Error>
+        requires { 0 < most }
+        ensures { let view = ⟦<Layer as FormatDriverInstance>⟧.view in
+            IfOk result (λ p. IsOpenWith self.now.state (λ x. IsPieceAt (target view x) «at» p
+            × (p.count ≤ most) × ((files : ℕ → File) → IsOf files self.now
+            → ShowsBytes files «at» p x))) }
+    {
+        match &self.state {
+            State::Open(image) => {
+                pieces_of_files(image);
+                piece_at(image, at, most)
+            }
+            _ => Err(Error::NotFound),
+        }
+    }
+}
