@@ -3,7 +3,8 @@ use Rattle.std.specs.Prelude.{◌≡◌, ℕ, ◌-◌, ◌*◌, List, map, min}
 use Rattle.std.specs.String.{string_bytes}
 use Rattle.imago_vmdk.specs.declared.line.Accepted.{Accepted}
 use Rattle.imago_plan.specs.PieceBytes.{bytes_at}
-use Rattle.imago_loaded.specs.Loaded.{file_length, block_length}
+use Rattle.imago_loaded.specs.declared.loaded.LoadedFile.{LoadedFile}
+use Rattle.imago_loaded.specs.Loaded.{file_length, block_length, Loads}
 use Rattle.imago_session.specs.declared.loading.Loading.{Loading}
 use Rattle.imago_session.specs.declared.layer.Found.{Found}
 use Rattle.imago_session.specs.declared.layer.Found.TheVariants as F
@@ -31,3 +32,13 @@ block_count l = min (block_length l.file) (file_length l.file - block_start l)
 -- these are its bytes
 abbrev pub IsBlockGiven : List ℕ → Loading → List ℕ → Type 0
 IsBlockGiven bytes l block = block ≡ bytes_at bytes (block_start l) (block_count l)
+
+-- what was made of a file is a layer, or the same file still
+abbrev pub IsFoundIn : LoadedFile → Found → Type 0
+IsFoundIn file (F.Loading l) = l.file ≡ file
+IsFoundIn file (F.Layer d names) = Unit {0}
+
+-- it is a layer, or the file with its block, and with all that was there before
+abbrev pub IsFurther : Loading → Found → Type 0
+IsFurther old (F.Loading l) = Loads old.file l.file old.number
+IsFurther old (F.Layer d names) = Unit {0}

@@ -17,6 +17,10 @@ use Rattle.imago_session.specs.declared.session.Want.{Want}
 use Rattle.imago_session.specs.declared.session.Want.TheVariants as W
 use Rattle.imago_session.specs.Files.{File, Layer, AreAbove, AreLayersOf, described_value}
 use Rattle.imago_session.specs.Files.{backing_name, names_in, layers_in}
+use Rattle.imago_loaded.specs.Loaded.{Loads}
+use Rattle.imago_session.specs.declared.layer.Found.{Found}
+use Rattle.imago_session.specs.declared.layer.Found.TheVariants as F
+use Rattle.imago_session.specs.Blocks.{IsMissing}
 use Rattle.imago_session.specs.Found.{IsLoadingOf, block_start, block_count}
 
 -- How far an opening is, of these files, with so many layers above: what is in memory of a file is
@@ -98,3 +102,37 @@ source_byte files (From.Stored from) i =
 abbrev pub ShowsBytes : (ℕ → File) → ℕ → Piece → FormatAccess Layer → Type 0
 ShowsBytes files at piece image = (i : ℕ) → i < piece.count
     → described_value files image (at + i) ≡ Byte (source_byte files piece.source i)
+
+-- A block that was given brings an opening on: it is in memory from then on, with all that was there
+-- before, or the file is open.
+abbrev pub IsBroughtOn : State → State → Type 0
+IsBroughtOn (S.Loading old) (S.Loading new) = Loads old.file new.file old.number
+IsBroughtOn (S.Loading old) (S.Below named) = Unit {0}
+IsBroughtOn (S.Loading old) (S.Extents p) = Unit {0}
+IsBroughtOn (S.Loading old) (S.Open image) = Unit {0}
+IsBroughtOn (S.Loading old) S.Refused = ⊥
+IsBroughtOn (S.Below named) new = ⊥
+IsBroughtOn (S.Extents p) new = ⊥
+IsBroughtOn (S.Open image) new = ⊥
+IsBroughtOn S.Refused new = ⊥
+
+-- a file was opened, so the next one is asked for, or the image is open
+abbrev pub IsBehind : State → Type 0
+IsBehind (S.Loading l) = ⊥
+IsBehind (S.Below named) = Unit {0}
+IsBehind (S.Extents p) = Unit {0}
+IsBehind (S.Open image) = Unit {0}
+IsBehind S.Refused = ⊥
+
+-- how far an opening is with what was made of a file
+abbrev pub IsStateWith : Found → State → Type 0
+IsStateWith (F.Loading l) s = s ≡ S.Loading l
+IsStateWith (F.Layer d names) s = IsBehind s
+
+-- the block that is asked for isn't in memory
+abbrev pub AsksOnce : State → Type 0
+AsksOnce (S.Loading l) = IsMissing l.file l.number
+AsksOnce (S.Below named) = Unit {0}
+AsksOnce (S.Extents p) = Unit {0}
+AsksOnce (S.Open image) = Unit {0}
+AsksOnce S.Refused = Unit {0}

@@ -14,7 +14,7 @@ ghost use Rattle.imago_session.specs.Blocks.{IsMissing, IsPartOf};
 ghost use Rattle.imago_session.specs.Known.{AreKnownOf};
 ghost use Rattle.imago_session.specs.Files.{File, IsFormatBy, file_name};
 ghost use Rattle.imago_session.specs.Found.{IsFoundOf, IsLoadingOf, IsBlockGiven};
-ghost use Rattle.imago_session.specs.Found.{block_start, block_count};
+ghost use Rattle.imago_session.specs.Found.{block_start, block_count, IsFoundIn, IsFurther};
 ghost use Rattle.imago_session.specs.Steps.{IfMissing, IfReady};
 
 use crate::block::{BLOCK, Step, first_missing, part};
@@ -175,9 +175,10 @@ fn load_vmdk(
     format: Option<Format>,
     tables: Option<Tables>,
 ) -> Result<Found, Error>
-    ensures { IfOk result (λ r. (f : File) → IsPartOf f.bytes file
+    ensures agrees { IfOk result (λ r. (f : File) → IsPartOf f.bytes file
         → AreKnownOf f.bytes file tables → f.format ≡ format → IsFormatBy format f.bytes Format.Vmdk
         → IsFoundOf accepted f r) }
+    ensures same { IfOk result (IsFoundIn file) }
 {
     let length = file.length();
     if length > LONGEST_DESCRIPTOR {
@@ -206,9 +207,10 @@ fn load_qcow2(
     format: Option<Format>,
     known: Option<Tables>,
 ) -> Result<Found, Error>
-    ensures { IfOk result (λ r. (f : File) → IsPartOf f.bytes file
+    ensures agrees { IfOk result (λ r. (f : File) → IsPartOf f.bytes file
         → AreKnownOf f.bytes file known → f.format ≡ format → IsFormatBy format f.bytes Format.Qcow2
         → IsFoundOf accepted f r) }
+    ensures same { IfOk result (IsFoundIn file) }
 {
     let mut tables = match tables_of(alloc, &file, known)? {
         Step::Missing(number) => {
@@ -235,8 +237,9 @@ fn load_qcow2(
 
 /// What is made of a raw file.
 fn load_raw(alloc: Global, accepted: Accepted, file: LoadedFile) -> Result<Found, Error>
-    ensures { IfOk result (λ r. (f : File) → IsPartOf f.bytes file
+    ensures agrees { IfOk result (λ r. (f : File) → IsPartOf f.bytes file
         → IsFormatBy f.format f.bytes Format.Raw → IsFoundOf accepted f r) }
+    ensures same { IfOk result (IsFoundIn file) }
 {
     let _ = accepted;
     let image = Raw::open_image(file, false)?;
@@ -252,9 +255,10 @@ fn load_as(
     tables: Option<Tables>,
     taken: Format,
 ) -> Result<Found, Error>
-    ensures { IfOk result (λ r. (f : File) → IsPartOf f.bytes file
+    ensures agrees { IfOk result (λ r. (f : File) → IsPartOf f.bytes file
         → AreKnownOf f.bytes file tables → f.format ≡ format → IsFormatBy format f.bytes taken
         → IsFoundOf accepted f r) }
+    ensures same { IfOk result (IsFoundIn file) }
 {
     match taken {
         Format::Raw => load_raw(alloc, accepted, file),
@@ -272,8 +276,9 @@ fn load(
     format: Option<Format>,
     tables: Option<Tables>,
 ) -> Result<Found, Error>
-    ensures { IfOk result (λ r. (f : File) → IsPartOf f.bytes file
+    ensures agrees { IfOk result (λ r. (f : File) → IsPartOf f.bytes file
         → AreKnownOf f.bytes file tables → f.format ≡ format → IsFoundOf accepted f r) }
+    ensures same { IfOk result (IsFoundIn file) }
 {
     match format_of(alloc, &file, format)? {
         Step::Missing(number) => Ok(Found::Loading(Loading {
@@ -312,8 +317,9 @@ pub(crate) fn resume(
     loading: Loading,
     block: Vec<u8>,
 ) -> Result<Found, Error>
-    ensures { IfOk result (λ r. (f : File) → IsLoadingOf f loading
+    ensures agrees { IfOk result (λ r. (f : File) → IsLoadingOf f loading
         → IsBlockGiven f.bytes loading block.items → IsFoundOf accepted f r) }
+    ensures further { IfOk result (IsFurther loading) }
 {
     let Loading {
         mut file,

@@ -16,6 +16,7 @@ ghost use Rattle.imago_session.specs.Files.{layers_in};
 ghost use Rattle.imago_session.specs.Found.{IsFoundOf};
 ghost use Rattle.imago_session.specs.Opening.{IsStateOf, IsOf, IsOpenWith, wanted, wanted_in};
 ghost use Rattle.imago_session.specs.Opening.{IsAnswer, IsFileAnswer, IsNameWanted, ShowsBytes};
+ghost use Rattle.imago_session.specs.Opening.{IsBehind, IsStateWith, IsBroughtOn, AsksOnce};
 ghost use Rattle.imago_session.specs.declared.session.State.{State};
 
 use crate::extents::{Extents, following};
@@ -146,9 +147,10 @@ fn below_of(alloc: Global, layer: &Layer) -> Result<Option<Named>, Error>
 /// whose first one has that number.
 fn with_extents(image: FormatAccess<Layer>, names: Vec<String>, first: usize) -> State
     requires { first ≤ 200 }
-    ensures { (accepted : Accepted) (files : ℕ → File) (k : ℕ) → AreLayersOf accepted files image
+    ensures agrees { (accepted : Accepted) (files : ℕ → File) (k : ℕ) → AreLayersOf accepted files image
         → map string_bytes names.items ≡ names_in files image → first ≡ layers_in image
         → IsStateOf accepted files k result }
+    ensures behind { IsBehind result }
 {
     if names.is_empty() {
         return State::Open(image);
@@ -168,12 +170,13 @@ fn with_layer(
     layer: Layer,
     names: Vec<String>,
 ) -> Result<State, Error>
-    ensures { let k = length above.old.items in
+    ensures agrees { let k = length above.old.items in
         IfOk result (λ s. (accepted : Accepted) (files : ℕ → File)
         → AreAbove accepted files above.old.items → IsLayerOf accepted layer (files k)
         → map string_bytes names.items ≡ extent_names layer (files k).bytes
         → AreAbove accepted files above.new.items
         × IsStateOf accepted files (length above.new.items) s) }
+    ensures behind { IfOk result IsBehind }
 {
     let number = above.len();
     if number >= MOST_LAYERS {
@@ -193,11 +196,12 @@ fn with_layer(
 
 /// How far the opening is with what was made of a file.
 fn with_found(alloc: Global, above: &mut Vec<Layer>, found: Found) -> Result<State, Error>
-    ensures { let k = length above.old.items in
+    ensures agrees { let k = length above.old.items in
         IfOk result (λ s. (accepted : Accepted) (files : ℕ → File)
         → AreAbove accepted files above.old.items → IsFoundOf accepted (files k) found
         → AreAbove accepted files above.new.items
         × IsStateOf accepted files (length above.new.items) s) }
+    ensures state { IfOk result (IsStateWith found) }
 {
     match found {
         Found::Loading(loading) => Ok(State::Loading(loading)),
@@ -273,8 +277,9 @@ impl Session {
         count: u64,
         format: Option<Format>,
     ) -> Result<Session, Error>
-        ensures { IfOk result (λ s. (files : ℕ → File) → length (files 0).bytes ≡ count
+        ensures agrees { IfOk result (λ s. (files : ℕ → File) → length (files 0).bytes ≡ count
             → (files 0).format ≡ format → IsOf files s) }
+        ensures accepted { IfOk result (λ s. s.accepted ≡ «accepted») }
     {
         let mut above = Vec::new(alloc);
         let found = begin(alloc, accepted, count, format)?;
@@ -290,6 +295,7 @@ impl Session {
     /// What is asked for.
     pub fn want(&self) -> Want
         ensures wanted { result ≡ wanted self.now }
+        ensures once { AsksOnce self.now.state }
     {
         let number = self.above.len();
         match &self.state {
@@ -310,8 +316,9 @@ impl Session {
     /// that isn't the one asked for. Nothing changed then. Any other refusal is the end of the
     /// opening.
     pub fn give(&mut self, bytes: &[u8]) -> Result<(), Error>
-        ensures { OnOk result ((files : ℕ → File) → IsAnswer files (wanted self.old) bytes.now
+        ensures agrees { OnOk result ((files : ℕ → File) → IsAnswer files (wanted self.old) bytes.now
             → IsOf files self.old → IsOf files self.new) }
+        ensures further { OnOk result (IsBroughtOn self.old.state self.new.state) }
     {
         let Want::Bytes(_, _, count) = self.want() else {
             return Err(Error::Unsupported);
@@ -335,7 +342,7 @@ impl Session {
     /// [`Error::Unsupported`] is where no file is asked for. Nothing changed then. Any other
     /// refusal is the end of the opening.
     pub fn give_file(&mut self, count: u64, format: Option<Format>) -> Result<(), Error>
-        ensures { OnOk result ((files : ℕ → File) → IsFileAnswer files (wanted self.old) count format
+        ensures agrees { OnOk result ((files : ℕ → File) → IsFileAnswer files (wanted self.old) count format
             → IsOf files self.old → IsOf files self.new) }
     {
         match mem::replace(&mut self.state, State::Refused) {

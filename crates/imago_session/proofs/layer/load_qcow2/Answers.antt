@@ -14,8 +14,8 @@ use Rattle.imago_session.specs.Steps.{IfReady}
 use Rattle.imago_session.proofs.KnownSteps.{front_of}
 use Rattle.imago_session.proofs.layer.load_qcow2.Goals as goal
 
-pub returns : goal.returns
-returns c = λ f part known says is.
+pub returns-clause-agrees : goal.returns-clause-agrees
+returns-clause-agrees c = λ f part known says is.
     let file = c.args.file in
     let t = c.in-Ready.tables in
     let ready = subst (λ (s : Step Tables). IfReady (λ (x : Tables). (bytes : List ℕ) → IsPartOf bytes file → AreKnownOf bytes file c.args.known → AreTablesOf bytes file x) s) c.in-Ready.is c.in_ok-number.ensures.ready in

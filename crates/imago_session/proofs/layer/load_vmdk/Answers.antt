@@ -10,8 +10,8 @@ use Rattle.imago_session.specs.Files.{IsFormatBy, file_name, names_read}
 use Rattle.imago_session.proofs.ReadSteps.{same_whole, read_whole}
 use Rattle.imago_session.proofs.layer.load_vmdk.Goals as goal
 
-pub returns : goal.returns
-returns c = λ f part known says is.
+pub returns-clause-agrees : goal.returns-clause-agrees
+returns-clause-agrees c = λ f part known says is.
     let file = c.args.file in
     let there = subst (λ (n : ℕ). AreThere file 0 n) c.length-length.ensures (c.first_missing.ensures.there c.in_default.is) in
     let whole : f.bytes ≡ loaded_bytes file = same_whole f.bytes file part there in

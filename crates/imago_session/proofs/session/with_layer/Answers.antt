@@ -5,8 +5,8 @@ use Rattle.imago_session.specs.Files.{Layer, AreAbove, GoesDown, IsLowest, backi
 use Rattle.imago_session.proofs.LaidSteps.{above_more}
 use Rattle.imago_session.proofs.session.with_layer.Goals as goal
 
-pub returns-in_ok-image-in-None : goal.returns-in_ok-image-in-None
-returns-in_ok-image-in-None c = λ accepted files are own names.
+pub returns-in_ok-image-in-None-clause-agrees : goal.returns-in_ok-image-in-None-clause-agrees
+returns-in_ok-image-in-None-clause-agrees c = λ accepted files are own names.
     let k = length c.args.above.now.items in
     let low = subst (λ (o : Option Named). MatchOption o (IsLowest c.args.layer (files k).bytes) (λ (n : Named). GoesDown c.args.layer (files k).bytes × (n.name.items ≡ backing_name (files k).bytes))) c.in-None.is (c.in_ok-below_of.ensures accepted (files k) own) in
     let chained = c.in_ok-image-in-None.ensures in
@@ -14,11 +14,11 @@ returns-in_ok-image-in-None c = λ accepted files are own names.
     let whole = c.args.above.now.ok.0 in
     let count = chained.count in (
       subst (λ (xs : List Layer). AreAbove accepted files xs) (sym chained.all) tt,
-      c.with_extents.ensures accepted files (length c.chain.new.above.items) (chained.layers accepted files are own low) (names ∙ sym (chained.names files)) (omega (arith, number, whole, count)),
+      c.with_extents.ensures.agrees accepted files (length c.chain.new.above.items) (chained.layers accepted files are own low) (names ∙ sym (chained.names files)) (omega (arith, number, whole, count)),
     )
 
-pub returns-in_ok-push-in-Some : goal.returns-in_ok-push-in-Some
-returns-in_ok-push-in-Some c = λ accepted files are own names.
+pub returns-in_ok-push-in-Some-clause-agrees : goal.returns-in_ok-push-in-Some-clause-agrees
+returns-in_ok-push-in-Some-clause-agrees c = λ accepted files are own names.
     let ds = c.args.above.now.items in
     let k = length ds in
     let some = subst (λ (o : Option Named). MatchOption o (IsLowest c.args.layer (files k).bytes) (λ (n : Named). GoesDown c.args.layer (files k).bytes × (n.name.items ≡ backing_name (files k).bytes))) c.in-Some.is (c.in_ok-below_of.ensures accepted (files k) own) in
