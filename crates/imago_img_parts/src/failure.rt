@@ -46,13 +46,13 @@ pub enum Failure {
 #[derive(Debug, Drop, Error)]
 pub enum Refusal {
     /// What is to be made is there already.
-    #[error("it exists already; --force replaces it")]
+    #[error("it exists already; --force replaces a file, -n writes into it")]
     Exists,
-    /// A copy that was killed left it, and nothing is to be replaced.
-    #[error("it is left from an interrupted convert; remove it, or say --force")]
+    /// A copy that was killed left it, or one that runs writes it, and nothing is to be replaced.
+    #[error("another convert writes it, or left it when it was interrupted; --force removes it")]
     LeftOver,
     /// What is to be replaced isn't a regular file.
-    #[error("only a regular file can be replaced")]
+    #[error("only a regular file can be replaced; -n writes into a block device")]
     NotReplaced,
     /// What is to be replaced is a file of the image that is read.
     #[error("a file of the image that is read is never replaced")]
@@ -104,6 +104,7 @@ fn advice_for(reason: &Reason) -> &'static str {
         Reason::Sparse => "; -f raw takes its bytes as they are",
         Reason::Recognised(signature) => advice_for_signature(*signature),
         Reason::BackingOutside(_) | Reason::Outside(_) => "; --allow-outside permits it",
+        Reason::TablesTooLarge(_) => "; --tables raises it",
         _ => "",
     }
 }

@@ -1,1 +1,2 @@
 pub mod MemoryFiles
+pub mod Pairs

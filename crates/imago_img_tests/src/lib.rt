@@ -2,5 +2,6 @@
 #![tactic(auto)]
 
 pub mod memory_host;
+pub mod pair_host;
 #[cfg(test)]
 mod tests;

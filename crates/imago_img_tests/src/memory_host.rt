@@ -190,7 +190,7 @@ fn is_barred(nature: Nature, offset: u64, count: usize) -> bool {
 
 /// Fills the buffer with bytes from the offset on, with 0 behind their end.
 #[tactic(auto, using(std::proofs::lemmas::List::places))]
-fn read_padded(bytes: &[u8], buf: &mut [u8], offset: u64)
+pub(crate) fn read_padded(bytes: &[u8], buf: &mut [u8], offset: u64)
     ensures { EachIndex buf.new (λ k. slice_index buf.new k ≡ slice_index bytes.now (offset + k)) }
 {
     if offset >= bytes.len() as u64 {
@@ -419,7 +419,7 @@ impl Host for MemoryHost {
 }
 
 /// Counts an append, and refuses one too many, as a full device does.
-fn take_append(appends: &mut u64) -> io::Result<()> {
+pub(crate) fn take_append(appends: &mut u64) -> io::Result<()> {
     if *appends == 0 {
         return Err(io::Error::from(ErrorKind::StorageFull));
     }

@@ -111,7 +111,7 @@ static ROWS: [Row; 28] = [
         "convert plain.raw other.raw",
         1,
         "",
-        "imago-img: \"other.raw\": it exists already; --force replaces it\n",
+        "imago-img: \"other.raw\": it exists already; --force replaces a file, -n writes into it\n",
     ),
     (
         "convert --force plain.raw plain.raw",
@@ -129,7 +129,8 @@ static ROWS: [Row; 28] = [
         "convert --force plain.raw disk.dev",
         1,
         "",
-        "imago-img: \"disk.dev\": only a regular file can be replaced\n",
+        "imago-img: \"disk.dev\": only a regular file can be replaced; -n writes into a block \
+         device\n",
     ),
     // What is different, or faulty.
     (

@@ -34,8 +34,8 @@ static ROWS: [Row; 7] = [
     (
         "convert disk.raw out.raw",
         1,
-        "imago-img: \"out.raw.imago-img-unfinished\": it is left from an interrupted convert; \
-         remove it, or say --force\n",
+        "imago-img: \"out.raw.imago-img-unfinished\": another convert writes it, or left it when \
+         it was interrupted; --force removes it\n",
         true,
         false,
     ),
@@ -62,7 +62,7 @@ static ROWS: [Row; 7] = [
     (
         "convert disk.raw old.raw",
         1,
-        "imago-img: \"old.raw\": it exists already; --force replaces it\n",
+        "imago-img: \"old.raw\": it exists already; --force replaces a file, -n writes into it\n",
         true,
         false,
     ),

@@ -1,0 +1,217 @@
+//! A host with two files in memory: an image, and a file that it is written into.
+ghost use Rattle.std.specs.Prelude.{◌≡◌, ◌≤◌, ◌++◌, [], Some, true, false, drop, length};
+ghost use Rattle.std.specs.Prelude.{MatchOption, ℕ, List};
+ghost use Rattle.std.specs.String.{string_bytes};
+ghost use Rattle.imago_img_tests.specs.Pairs.{pair_bytes, has_path};
+
+use crate::memory_host::{read_padded, take_append};
+use imago_copy::target::Target;
+use imago_file::host::MemoryFile as OpenFile;
+use imago_img_parts::host::{FileKind, FileStatus, Files, Host, Making};
+use std::alloc::{AllocError, Global};
+use std::io::{self, ErrorKind};
+
+/// Two files in memory. None is made.
+#[derive(Drop)]
+pub struct PairHost {
+    alloc: Global,
+    image_path: String,
+    image: Vec<u8>,
+    out_path: String,
+    out: Vec<u8>,
+    /// How many times something may be put into a file.
+    appends: u64,
+}
+
+/// A file that is written over.
+#[derive(Drop)]
+pub struct PairTarget {
+    path: String,
+    /// How many bytes it has.
+    size: u64,
+    /// Those that were put in.
+    bytes: Vec<u8>,
+    /// How many times something may still be put in.
+    appends: u64,
+}
+
+/// Puts bytes over the first ones of others.
+#[tactic(auto, using(std::proofs::lemmas::List::places))]
+fn put_first(file: &mut [u8], bytes: &[u8])
+    requires { length bytes.now ≤ length file.old }
+    ensures { file.new ≡ bytes.now ++ drop (length bytes.now) file.old }
+{
+    file[..bytes.len()].copy_from_slice(bytes);
+}
+
+/// Puts bytes over the first ones of a file, which has those alone if it is shorter.
+fn put_over(file: &mut Vec<u8>, bytes: Vec<u8>)
+    ensures { file.new.items ≡ bytes.items ++ drop (length bytes.items) file.old.items }
+{
+    if bytes.len() >= file.len() {
+        *file = bytes;
+        return;
+    }
+    put_first(file, &bytes);
+}
+
+impl PairHost {
+    /// An image, and a file that it is written into. Something may be put in that many times.
+    pub fn new(
+        alloc: Global,
+        image: (&str, Vec<u8>),
+        out: (&str, Vec<u8>),
+        appends: u64,
+    ) -> Result<Self, AllocError> {
+        Ok(PairHost {
+            alloc,
+            image_path: String::from_str(alloc, image.0)?,
+            image: image.1,
+            out_path: String::from_str(alloc, out.0)?,
+            out: out.1,
+            appends,
+        })
+    }
+
+    /// The bytes of the file of a path, if there is one.
+    pub fn bytes(&self, path: &str) -> Option<&[u8]>
+        ensures bytes { MatchOption result (pair_bytes self.now path.now ≡ [])
+            (λ bytes. bytes.now ≡ pair_bytes self.now path.now) }
+        ensures there { MatchOption result (has_path self.now path.now ≡ false)
+            (λ _. has_path self.now path.now ≡ true) }
+    {
+        if self.out_path.as_str() == path {
+            return Some(&self.out);
+        }
+        if self.image_path.as_str() == path {
+            return Some(&self.image);
+        }
+        None
+    }
+}
+
+impl Files for PairHost {
+    ghost use Rattle.imago_img_tests.specs.Pairs.{pair_bytes};
+
+    type File = OpenFile;
+
+    ghost contents = { λ h. Some (pair_bytes h) };
+
+    fn alloc(&self) -> Global {
+        self.alloc
+    }
+
+    fn status(&self, path: &str) -> io::Result<FileStatus> {
+        let Some(bytes) = self.bytes(path) else {
+            return Err(io::Error::from(ErrorKind::NotFound));
+        };
+        Ok(FileStatus {
+            kind: FileKind::Regular,
+            length: bytes.len() as u64,
+            device: 1,
+            inode: (self.out_path.as_str() == path) as u64,
+        })
+    }
+
+    fn read_at(&self, path: &str, buf: &mut [u8], offset: u64) -> io::Result<()> {
+        let Some(bytes) = self.bytes(path) else {
+            return Err(io::Error::from(ErrorKind::NotFound));
+        };
+        read_padded(bytes, buf, offset);
+        Ok(())
+    }
+
+    fn is_same_file(&self, one: &str, other: &str) -> io::Result<bool> {
+        Ok(one == other)
+    }
+
+    fn open_to_write(&self, _path: &str) -> io::Result<OpenFile> {
+        Err(io::Error::from(ErrorKind::Unsupported))
+    }
+
+    fn real_path(&self, path: &str) -> io::Result<String> {
+        Ok(String::from_str(self.alloc, path)?)
+    }
+}
+
+impl Host for PairHost {
+    ghost use Rattle.imago_img_tests.specs.Pairs.{has_path};
+
+    type Target = Vec<u8>;
+
+    type Existing = PairTarget;
+
+    ghost around = { λ h. Some (record {
+      there = has_path h;
+      unfinished = 0;
+      beside = λ path. path;
+    }) };
+
+    fn run_at(&self, _path: &str, _offset: u64, most: u64) -> (u64, bool) {
+        (most, true)
+    }
+
+    fn show_progress(&self, _done: u64, _total: u64, _hundredths: u64) {}
+
+    fn end_progress(&self) {}
+
+    fn left_over(&self, _path: &str) -> io::Result<Option<String>> {
+        Ok(None)
+    }
+
+    fn remove_left_over(&mut self, _path: &str) -> io::Result<()> {
+        Err(io::Error::from(ErrorKind::NotFound))
+    }
+
+    fn create(&mut self, _path: &str, _size: u64, _how: Making) -> io::Result<Vec<u8>> {
+        Err(io::Error::from(ErrorKind::Unsupported))
+    }
+
+    fn finish(&mut self, target: Vec<u8>) -> io::Result<()> {
+        let _ = target;
+        Err(io::Error::from(ErrorKind::Unsupported))
+    }
+
+    fn abandon(&mut self, target: Vec<u8>) {
+        let _ = target;
+    }
+
+    fn open_existing(&mut self, path: &str) -> io::Result<PairTarget> {
+        let Some(bytes) = self.bytes(path) else {
+            return Err(io::Error::from(ErrorKind::NotFound));
+        };
+        let size = bytes.len() as u64;
+        Ok(PairTarget {
+            path: String::from_str(self.alloc, path)?,
+            size,
+            bytes: Vec::new(self.alloc),
+            appends: self.appends,
+        })
+    }
+
+    // A file shows what was put over it once it is closed.
+    fn close_existing(&mut self, target: PairTarget) {
+        let is_out = self.out_path.as_str() == target.path.as_str();
+        if is_out {
+            put_over(&mut self.out, target.bytes);
+        } else {
+            put_over(&mut self.image, target.bytes);
+        }
+    }
+}
+
+impl Target for PairTarget {
+    ghost contents = { λ t. Some t.bytes.items };
+
+    ghost made_for = { λ t. Some (string_bytes t.path, t.size) };
+
+    fn append(&mut self, source: &[u8]) -> io::Result<()> {
+        take_append(&mut self.appends)?;
+        Target::append(&mut self.bytes, source)
+    }
+
+    fn append_zeroes(&mut self, count: u64) -> io::Result<()> {
+        take_append(&mut self.appends)?;
+        Target::append_zeroes(&mut self.bytes, count)
+    }
+}
