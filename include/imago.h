@@ -1,3 +1,4 @@
+/* SPDX-License-Identifier: MIT */
 /* The layer for C: scripts on disk images in memory, and what the descriptors of VMDK images say.
  *
  * To link it: `rt lib` in the folder crates/imago_c makes out/libimago_c.a, once it is proved. That archive calls two

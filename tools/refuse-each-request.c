@@ -1,3 +1,4 @@
+/* SPDX-License-Identifier: MIT */
 // Loaded before the C library (LD_PRELOAD), it refuses each request for memory in turn. At a request the process forks: to the
 // child it is refused, and each later one granted; to the parent it is granted. So there is a child for each request, which goes on from there
 // to its own end.

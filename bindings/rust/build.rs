@@ -1,3 +1,4 @@
+// SPDX-License-Identifier: MIT
 //! Links the static library: IMAGO_LIB is the folder that has it and the C parts that it calls.
 
 fn main() {

@@ -1,3 +1,4 @@
+/* SPDX-License-Identifier: MIT */
 /* Times the calls of libimago_bench.a: the least of several runs, in nanoseconds a call, and beside it the time of a bare
    copy of the same bytes in the same run. */
 #include <stdint.h>

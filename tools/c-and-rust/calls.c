@@ -1,3 +1,4 @@
+/* SPDX-License-Identifier: MIT */
 /* Makes each call of include/imago.h with good and with bad input. What it expects is worked out by hand. It prints how many calls
  * answered as expected, and fails where one didn't.
  */

@@ -1,3 +1,4 @@
+// SPDX-License-Identifier: MIT
 //! Makes each call with good and with bad input. What it expects is worked out by hand.
 
 use imago_c::{

@@ -1,3 +1,4 @@
+// SPDX-License-Identifier: MIT
 //! Makes random calls on images through the library, and the same on a `Vec<u8>`: the two must not differ.
 //!
 //!     cargo run --example differential [CALLS [SEED]]

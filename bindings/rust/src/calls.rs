@@ -1,3 +1,4 @@
+// SPDX-License-Identifier: MIT
 //! The calls of `include/imago.h`. Nothing compares these declarations with those of `crates/imago_c`, but the examples that run.
 
 /// `struct imago_extent`.

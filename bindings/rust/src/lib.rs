@@ -1,3 +1,4 @@
+// SPDX-License-Identifier: MIT
 //! Scripts on disk images in memory, and what the descriptors of VMDK images say.
 //!
 //! This is safe Rust over the static library of `crates/imago_c`, which is proved. What each call does

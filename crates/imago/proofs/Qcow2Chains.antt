@@ -1,4 +1,5 @@
 -- Chains of qcow2 images, layer by layer.
+-- SPDX-License-Identifier: MIT
 use Rattle.std.proofs.Common.{◌≡◌, ℕ, List, IsTrue, refl, ◌∙◌}
 use Rattle.imago_drivers.specs.Place.{Value, Place, Stored, Zeroed, Special, Lower, Refused, End, shown}
 use Rattle.imago_drivers.specs.View.{View}

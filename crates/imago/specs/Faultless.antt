@@ -1,3 +1,4 @@
+-- SPDX-License-Identifier: MIT
 use Rattle.std.specs.Prelude.{◌≡◌, ℕ, true}
 use Rattle.imago_storage.specs.Features.{Features}
 

@@ -1,4 +1,5 @@
 -- The disk of a chain of qcow2 files.
+-- SPDX-License-Identifier: MIT
 pub mod Qcow2Chain
 -- Storages whose devices never fail.
 pub mod Faultless

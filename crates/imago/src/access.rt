@@ -1,3 +1,4 @@
+// SPDX-License-Identifier: MIT
 //! Images, and what their ranges are.
 
 pub use imago_access::access::FormatAccess;

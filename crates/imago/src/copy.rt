@@ -1,3 +1,4 @@
+// SPDX-License-Identifier: MIT
 //! What a disk is made of, and its bytes copied and compared.
 
 pub use imago_copy::compare::first_difference;

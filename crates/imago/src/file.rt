@@ -1,3 +1,4 @@
+// SPDX-License-Identifier: MIT
 //! Storages over files, and a gate that opens the files that images name.
 
 pub use imago_file::file::FileStorage;

@@ -1,3 +1,4 @@
+// SPDX-License-Identifier: MIT
 //! Image formats, under the paths of the Rust crate.
 
 pub use crate::access;

@@ -1,3 +1,4 @@
+// SPDX-License-Identifier: MIT
 //! Images in files, opened by their paths.
 
 pub use imago_images::failure::{OpenError, Reason};

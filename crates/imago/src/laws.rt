@@ -1,3 +1,4 @@
+// SPDX-License-Identifier: MIT
 //! Laws that follow from the contracts. Their functions do nothing, but for those of the modules
 //! here, which make the calls that they speak of.
 ghost use Rattle.std.specs.Prelude.{◌≡◌, ℕ, List, IsTrue, true};

@@ -1,3 +1,4 @@
+// SPDX-License-Identifier: MIT
 //! Access to virtual disk images.
 //!
 //! A [`Storage`] holds bytes, a driver shows a disk that stands in storages, and a [`FormatAccess`]

@@ -1,3 +1,4 @@
+// SPDX-License-Identifier: MIT
 //! Where the bytes of an image's disk stand.
 
 pub use imago_plan::name::{path_beside, stays_below};

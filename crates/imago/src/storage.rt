@@ -1,3 +1,4 @@
+// SPDX-License-Identifier: MIT
 //! Storages, and requests of any range on them.
 
 pub use imago_storage::ext;

@@ -1,3 +1,4 @@
+-- SPDX-License-Identifier: MIT
 use Rattle.std.proofs.Common.{◌+◌, ◌-◌, nat_eq, arith, ◌<◌, ◌≤◌, ◌≡◌, ℕ, inl, inr, ⊎_elim, Bool, true, false, ◌&&◌, Option, Some, None, refl, sym, ap, ◌∙◌, subst, Box, Global}
 use Rattle.std.proofs.lemmas.Bool.{ne_eqb}
 use Rattle.imago_storage.specs.declared.error.Error.{Error}

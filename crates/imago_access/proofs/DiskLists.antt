@@ -1,3 +1,4 @@
+-- SPDX-License-Identifier: MIT
 use Rattle.std.proofs.Common.{◌≡◌, ℕ, ◌+◌, ◌-◌, ◌<◌, ◌≤◌, ◌⊎◌, ⊎_elim, inl, inr, Bool, true, false, List, [], ◌++◌, length, take, map, replicate, min, max, get_or, refl, sym, ap, ◌∙◌, arith, length-take, length-drop, length-append, slice_index}
 use Rattle.std.proofs.lemmas.Bool.{cases_lt}
 use Rattle.std.proofs.lemmas.List.{places, same_lists, length-map, get_or-map, get_or_default, get_or-take, get_or-replicate, length-replicate, get_or_append_left, append-nil, nil_from_length}

@@ -1,3 +1,4 @@
+-- SPDX-License-Identifier: MIT
 use Rattle.std.proofs.Common.{◌≡◌, ℕ, ◌+◌, ◌<◌, ◌≤◌, ◌⊎◌, inl, inr, ⊎_elim, Option, Some, None, refl, sym, ap, ◌∙◌, subst, arith, max, Box, Global}
 use Rattle.std.proofs.lemmas.Bool.{cases_lt}
 use Rattle.imago_storage.specs.Features.{Features}

@@ -1,3 +1,4 @@
+-- SPDX-License-Identifier: MIT
 use Rattle.std.proofs.Common.{◌≡◌, ℕ, ◌+◌, ◌-◌, ◌<◌, ◌≤◌, ◌⊎◌, List, length, take, ap, ◌∙◌, subst, arith, Result}
 use Rattle.std.specs.Prelude.{IsTrue}
 use Rattle.imago_storage.specs.declared.error.Error.{Error}

@@ -1,3 +1,4 @@
+-- SPDX-License-Identifier: MIT
 use Rattle.std.proofs.Common.{◌≡◌, ℕ, ◌+◌, ◌<◌, ◌≤◌, ◌⊎◌, ◌&&◌, inl, inr, ⊎_elim, Bool, true, false, None, refl, sym, ap, ◌∙◌, subst, arith, nat_eq, rules, zero, suc, min, max}
 use Rattle.std.proofs.lemmas.Bool.{cases_lt}
 use Rattle.imago_storage.specs.declared.error.Error.{Error}

@@ -1,3 +1,4 @@
+-- SPDX-License-Identifier: MIT
 use Rattle.std.proofs.Common.{◌≡◌, ℕ, ◌+◌, ◌<◌, ◌≤◌, ◌↔◌, inl, inr, ⊎_elim, Bool, Option, Some, None, refl, sym, ◌∙◌, subst, arith, min, max, Box, Global}
 use Rattle.std.proofs.lemmas.Bool.{cases_lt}
 use Rattle.imago_drivers.specs.Operation.{Map}

@@ -1,3 +1,4 @@
+-- SPDX-License-Identifier: MIT
 pub mod Chains
 pub mod Descent
 pub mod Landed

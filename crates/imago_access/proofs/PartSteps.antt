@@ -1,3 +1,4 @@
+-- SPDX-License-Identifier: MIT
 use Rattle.std.proofs.Common.{◌≡◌, ℕ, ◌+◌, ◌-◌, ◌^◌, ◌<◌, ◌≤◌, ◌⊎◌, ⊎_elim, inl, inr, List, [], ◌∷◌, None, true, refl, sym, subst, arith, Result, Ok, Err}
 use Rattle.std.specs.Prelude.{IsOk}
 use Rattle.imago_storage.specs.declared.error.Error.{Error}

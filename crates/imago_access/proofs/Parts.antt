@@ -1,3 +1,4 @@
+-- SPDX-License-Identifier: MIT
 use Rattle.std.proofs.Common.{◌≡◌, ℕ, ◌+◌, ◌-◌, ◌<◌, ◌≤◌, ◌&&◌, inl, inr, ⊎_elim, Bool, true, false, List, length, take, Option, Some, None, refl, sym, ap, ◌∙◌, arith, Ok, Err, subst, min}
 use Rattle.std.specs.Prelude.{IsTrue, IsErrOf, is_none, not}
 use Rattle.imago_storage.specs.declared.error.Error.{Error}

@@ -1,3 +1,4 @@
+-- SPDX-License-Identifier: MIT
 use Rattle.std.proofs.Common.{List, [], ◌∷◌, ◌++◌, refl, subst}
 use Rattle.imago_drivers.specs.View.{View}
 use Rattle.imago_drivers.specs.CallRelations.{Calls}

@@ -1,3 +1,4 @@
+-- SPDX-License-Identifier: MIT
 use Rattle.std.proofs.Common.{◌≡◌, ℕ, ◌+◌, ◌<◌, ◌≤◌, ◌⊎◌, inl, inr, ⊎_elim, Bool, true, false, Option, Some, None, List, length, ap, arith, Result, Ok, Err}
 use Rattle.std.specs.Prelude.{IsTrue, OnOk, OnErr}
 use Rattle.imago_storage.specs.declared.error.Error.{Error}

@@ -1,3 +1,4 @@
+-- SPDX-License-Identifier: MIT
 use Rattle.std.proofs.Common.{◌≡◌, ℕ, ◌<◌, ◌≤◌, ◌&&◌, inl, inr, true, refl, sym, ap, ◌∙◌, subst, arith, Result, Ok, Err, min, max, length}
 use Rattle.std.specs.Prelude.{IsTrue, IfErr, OnOk, OnErr}
 use Rattle.imago_storage.specs.declared.error.Error.{Error}

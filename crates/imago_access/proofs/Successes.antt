@@ -1,3 +1,4 @@
+-- SPDX-License-Identifier: MIT
 use Rattle.std.proofs.Common.{◌≡◌, ℕ, ◌+◌, ◌^◌, ◌<◌, ◌≤◌, ◌⊎◌, inl, inr, ⊎_elim, Bool, true, false, List, length, refl, arith, Result, Ok, Err}
 use Rattle.std.specs.Prelude.{IfErr, IsOk, IsErrOf, max}
 use Rattle.imago_storage.specs.declared.error.Error.{Error}

@@ -1,3 +1,4 @@
+-- SPDX-License-Identifier: MIT
 use Rattle.std.specs.Prelude.{◌≡◌, ℕ, ◌+◌, ◌^◌, ◌<◌, ◌≤◌, ◌⊎◌, ◌&&◌, Bool, true, false, None, List}
 use Rattle.std.specs.Prelude.{length, IsTrue, Result, IsOk, IfOk, IfErr, OnOk, OnErr, IsErrOf}
 use Rattle.imago_storage.specs.declared.error.Error.{Error}

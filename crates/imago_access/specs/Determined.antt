@@ -1,3 +1,4 @@
+-- SPDX-License-Identifier: MIT
 use Rattle.std.specs.Prelude.{◌≡◌, ◌≢◌, ℕ, ◌≤◌, ◌⊎◌, ◌&&◌, not, Bool, true, false, List, ◌∷◌}
 use Rattle.std.specs.Prelude.{length, take, map}
 use Rattle.imago_storage.specs.declared.error.Error.{Error}

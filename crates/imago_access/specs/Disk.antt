@@ -1,4 +1,5 @@
 -- The disk of an image as one flat list, and what each call does to it.
+-- SPDX-License-Identifier: MIT
 
 use Rattle.std.specs.Prelude.{◌≡◌, ℕ, ◌+◌, ◌-◌, ◌<◌, ◌≤◌, ◌⊎◌, ◌↔◌, Bool, true, false, List, ◌++◌}
 use Rattle.std.specs.Prelude.{length, take, drop, map, replicate, slice_index, get_or, Result}

@@ -1,3 +1,4 @@
+-- SPDX-License-Identifier: MIT
 use Rattle.std.specs.Prelude.{◌≡◌, ℕ}
 use Rattle.imago_drivers.specs.Place.{End}
 use Rattle.imago_drivers.specs.Lengths.{AreNoShorter}

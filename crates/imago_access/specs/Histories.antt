@@ -1,4 +1,5 @@
 -- What a list of calls does to the disk as a flat list.
+-- SPDX-License-Identifier: MIT
 
 use Rattle.std.specs.Prelude.{◌≡◌, ℕ, ◌+◌, ◌<◌, ◌≤◌, ◌⊎◌, ◌&&◌, not, Bool, List, [], ◌∷◌, length}
 use Rattle.std.specs.Prelude.{take, IfOk, IfErr}

@@ -1,3 +1,4 @@
+-- SPDX-License-Identifier: MIT
 use Rattle.std.specs.Borrow.{Lends, MutBor, Fml, RattleType}
 use Rattle.imago_access.specs.declared.access.FormatAccess.{FormatAccess, roll-FormatAccess}
 use Rattle.imago_access.specs.declared.access.FormatAccess.{out-FormatAccess}

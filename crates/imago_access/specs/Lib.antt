@@ -1,3 +1,4 @@
+-- SPDX-License-Identifier: MIT
 pub mod Moves
 pub mod Chain
 pub mod Specials

@@ -1,3 +1,4 @@
+-- SPDX-License-Identifier: MIT
 use Rattle.std.specs.Prelude.{◌≡◌, ℕ, ◌+◌, ◌<◌, false}
 use Rattle.imago_drivers.specs.Operation.{Read}
 use Rattle.imago_drivers.specs.Place.{Place}

@@ -1,3 +1,4 @@
+-- SPDX-License-Identifier: MIT
 use Rattle.std.specs.Prelude.{◌≡◌, ℕ, ◌+◌, ◌<◌, ◌≤◌, ◌⊎◌, Bool, true, false, List, [], ◌∷◌, length}
 use Rattle.std.specs.Prelude.{take, drop, min, is_none, Result, Ok, Err}
 use Rattle.imago_storage.specs.declared.error.Error.{Error}

@@ -1,3 +1,4 @@
+-- SPDX-License-Identifier: MIT
 use Rattle.std.specs.Prelude.{◌≡◌, ℕ, ◌<◌, ◌⊎◌, Bool, List, [], ◌∷◌, length, max, Result, Ok, Err}
 use Rattle.std.specs.Prelude.{IsOk, IfOk, IfErr, IsTrue}
 use Rattle.std.specs.declared.vec.Vec.{Vec}

@@ -1,3 +1,4 @@
+-- SPDX-License-Identifier: MIT
 use Rattle.std.specs.Prelude.{◌≡◌, ℕ, ◌-◌, ◌^◌, ◌<◌, if◌then◌else◌, nat_eq, List, take, IsTrue}
 use Rattle.imago_drivers.specs.Place.{Value, Byte, HasValues}
 use Rattle.imago_drivers.specs.View.{View}

@@ -1,3 +1,4 @@
+-- SPDX-License-Identifier: MIT
 use Rattle.std.specs.Prelude.{◌≡◌, ℕ, ◌+◌, ◌^◌, ◌<◌, ◌≤◌, ◌⊎◌, ◌↔◌, max, Bool, true, false, List}
 use Rattle.std.specs.Prelude.{length, Result, IfErr, IsOk, IsErrOf}
 use Rattle.imago_storage.specs.declared.error.Error.{Error}

@@ -1,3 +1,4 @@
+-- SPDX-License-Identifier: MIT
 use Rattle.std.specs.Prelude.{ℕ, List, ◌++◌, true, false, codes}
 use Rattle.std.specs.Fmt.{decimal, digits}
 use Rattle.imago_access.specs.declared.mapping.Mapping.{Mapping}

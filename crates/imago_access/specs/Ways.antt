@@ -1,3 +1,4 @@
+-- SPDX-License-Identifier: MIT
 use Rattle.std.specs.Prelude.{◌≡◌, ℕ, ◌+◌, ◌<◌, ◌≤◌, ◌↔◌, ◌&&◌, Bool, false, None, nat_eq}
 use Rattle.std.specs.Prelude.{if◌then◌else◌, IsTrue}
 use Rattle.imago_storage.specs.declared.error.Error.{Error}

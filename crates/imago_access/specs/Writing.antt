@@ -1,3 +1,4 @@
+-- SPDX-License-Identifier: MIT
 use Rattle.std.specs.Prelude.{◌≡◌, ℕ, ◌+◌, ◌<◌, ◌≤◌, ◌⊎◌, ◌&&◌, ◌||◌, not, if◌then◌else◌, Bool}
 use Rattle.std.specs.Prelude.{true, false, Option, Some, None, is_none, List, length, slice_index}
 use Rattle.std.specs.Prelude.{IsTrue, Result, IfOk, IfErr, OnOk, OnErr}

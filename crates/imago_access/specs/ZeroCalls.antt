@@ -1,3 +1,4 @@
+-- SPDX-License-Identifier: MIT
 use Rattle.std.specs.Prelude.{◌≡◌, ℕ, ◌+◌, ◌-◌, ◌<◌, ◌≤◌, ◌⊎◌, true, List, [], ◌∷◌, length}
 use Rattle.std.specs.Prelude.{slice_index, EachIndex, Option, Some, None, max, Result, Ok, Err}
 use Rattle.std.specs.Prelude.{IfOk}

@@ -1,3 +1,4 @@
+// SPDX-License-Identifier: MIT
 //! An image: a driver, and what is below it.
 ghost use Rattle.std.specs.Prelude.{◌≡◌, None, Some};
 ghost use Rattle.std.specs.Option.{option_copied};

@@ -1,3 +1,4 @@
+// SPDX-License-Identifier: MIT
 //! The alignments that the storages of an image ask of requests.
 ghost use Rattle.std.specs.Prelude.{◌≡◌, ◌<◌};
 ghost use Rattle.imago_access.specs.Alignments.{IsGreatest, HasStorage, align_of, has_align};

@@ -1,3 +1,4 @@
+// SPDX-License-Identifier: MIT
 //! The way of a range down the layers of an image.
 ghost use Rattle.std.specs.Prelude.{◌≡◌, ◌+◌, ◌-◌, ◌^◌, ◌<◌, ◌≤◌, ◌⊎◌, ◌&&◌, ℕ, Err, IfOk, IfErr};
 ghost use Rattle.std.specs.Prelude.{min, max};

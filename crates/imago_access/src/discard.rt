@@ -1,3 +1,4 @@
+// SPDX-License-Identifier: MIT
 //! Discarding ranges of an image.
 ghost use Rattle.std.specs.Prelude.{◌≡◌, ℕ, ◌+◌, ◌<◌, ◌^◌, List, None, IsOk, IsTrue};
 ghost use Rattle.imago_access.specs.Calls.{TakesChange};

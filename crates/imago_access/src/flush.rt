@@ -1,3 +1,4 @@
+// SPDX-License-Identifier: MIT
 //! Flushing and syncing an image.
 ghost use Rattle.std.specs.Prelude.{◌≡◌};
 ghost use Rattle.imago_access.specs.Chain.{driver};

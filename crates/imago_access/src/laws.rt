@@ -1,3 +1,4 @@
+// SPDX-License-Identifier: MIT
 //! Laws of images that follow from what each call promises. The functions do nothing.
 ghost use Rattle.std.specs.Prelude.{◌≡◌, ℕ, ◌+◌, ◌≤◌, List, length, IsTrue};
 ghost use Rattle.imago_drivers.specs.Place.{Value, Byte, shown};

@@ -1,3 +1,4 @@
+// SPDX-License-Identifier: MIT
 //! Images over chains of layers.
 //!
 //! An [`access::FormatAccess`] has a driver and, below it, another image that the driver may refer

@@ -1,3 +1,4 @@
+// SPDX-License-Identifier: MIT
 //! What a range of an image is, resolved through its layers.
 ghost use Rattle.std.specs.Prelude.{◌≡◌, ◌↔◌, IsTrue, Some, true};
 ghost use Rattle.imago_access.specs.declared.mapping.Mapping.TheVariants as M;

@@ -1,3 +1,4 @@
+// SPDX-License-Identifier: MIT
 //! Reading an image.
 ghost use Rattle.std.specs.Prelude.{◌≡◌, ◌+◌, ◌<◌, ◌≤◌, ℕ, length, take, slice_index, EachIndex};
 ghost use Rattle.std.specs.Prelude.{IfOk, IfErr, IsOk, IsTrue, OnOk};

@@ -1,3 +1,4 @@
+// SPDX-License-Identifier: MIT
 //! Reading an image by one who goes on: special bytes are made up in blocks, and a block of which
 //! only a part was read is kept.
 ghost use Rattle.std.specs.Prelude.{◌≡◌, ◌+◌, ◌-◌, ◌^◌, ◌<◌, ◌≤◌, ℕ, length, take, Err};

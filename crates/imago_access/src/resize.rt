@@ -1,3 +1,4 @@
+// SPDX-License-Identifier: MIT
 //! Resizing an image.
 ghost use Rattle.std.specs.Prelude.{◌≡◌, None, true, take, IfErr, OnOk, IsTrue};
 ghost use Rattle.imago_drivers.specs.Operation.{Grow, Shrink};

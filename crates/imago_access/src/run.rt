@@ -1,3 +1,4 @@
+// SPDX-License-Identifier: MIT
 //! Lists of calls on an image.
 ghost use Rattle.std.specs.Prelude.{◌≡◌, ◌<◌, ◌++◌, List, length, None, IsTrue, IfOk, IfErr, OnOk};
 ghost use Rattle.std.specs.Prelude.{OnErr};

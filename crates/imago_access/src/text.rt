@@ -1,3 +1,4 @@
+// SPDX-License-Identifier: MIT
 //! The text of a whole chain.
 
 use crate::access::FormatAccess;

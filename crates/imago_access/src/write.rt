@@ -1,3 +1,4 @@
+// SPDX-License-Identifier: MIT
 //! Writing to an image.
 ghost use Rattle.std.specs.Prelude.{◌≡◌, ◌+◌, ◌^◌, ◌<◌, None, is_none, length, IfOk, IsOk};
 ghost use Rattle.std.specs.Prelude.{IsTrue};

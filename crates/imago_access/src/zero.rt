@@ -1,3 +1,4 @@
+// SPDX-License-Identifier: MIT
 //! Zeroing ranges of an image.
 ghost use Rattle.std.specs.Prelude.{◌≡◌, ℕ, ◌+◌, ◌-◌, ◌/◌, ◌<◌, ◌≤◌, ◌^◌, None, true, List, IsTrue};
 ghost use Rattle.std.specs.Prelude.{IfOk, IfErr, OnOk, IsOk, ◌⊎◌, length, slice_index, EachIndex};

@@ -1,3 +1,4 @@
+-- SPDX-License-Identifier: MIT
 pub mod Restated
 pub mod Variants
 pub mod Detection

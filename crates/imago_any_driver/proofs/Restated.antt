@@ -1,3 +1,4 @@
+-- SPDX-License-Identifier: MIT
 use Rattle.std.proofs.Common.{◌≡◌, ◌↔◌, ℕ, ◌≤◌, Bool, true, false, Option, Some, None, List, length, refl, sym, ◌∙◌, arith, max, Result, Ok, Err}
 use Rattle.std.specs.Prelude.{OnOk, OnErr, IfOk, IfErr, is_none}
 use Rattle.imago_storage.specs.declared.error.Error.{Error}

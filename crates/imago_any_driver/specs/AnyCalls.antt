@@ -1,4 +1,5 @@
 -- The calls of the driver of any format: each is that of the driver that it is.
+-- SPDX-License-Identifier: MIT
 use Rattle.std.specs.Prelude.{◌≡◌, ℕ, Bool, Result, Ok, Err, refl}
 use Rattle.std.proofs.Common.{inl, inr}
 use Rattle.imago_storage.specs.declared.error.Error.{Error}

@@ -1,4 +1,5 @@
 -- The driver of any format: what it shows, and which format bytes have.
+-- SPDX-License-Identifier: MIT
 use Rattle.std.specs.Prelude.{◌≡◌, ℕ, ◌+◌, ◌⊎◌, ◌||◌, Bool, List, ◌∷◌, map, if◌then◌else◌}
 use Rattle.imago_storage.specs.Features.{Features, AreLawful}
 use Rattle.imago_drivers.specs.Laws.{IsLawful, AreCauses}

@@ -1,4 +1,5 @@
 -- A driver and its calls, told again for mappings that may hold another state.
+-- SPDX-License-Identifier: MIT
 use Rattle.std.specs.Prelude.{◌≡◌, ℕ, Bool, Option, Some, None, Result, Ok, Err}
 use Rattle.std.proofs.Common.{inl, inr}
 use Rattle.imago_storage.specs.declared.error.Error.{Error}

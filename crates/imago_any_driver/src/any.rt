@@ -1,3 +1,4 @@
+// SPDX-License-Identifier: MIT
 //! The driver of images of any format.
 ghost use Rattle.std.specs.Prelude.{◌≡◌, None, false, IfOk, IfErr, IsErrOf, IsTrue};
 ghost use Rattle.imago_storage.specs.Error.{IsExtRefusal};

@@ -1,3 +1,4 @@
+// SPDX-License-Identifier: MIT
 //! One driver for images of any format.
 //!
 //! [`any::AnyDriver`] is the driver of a raw image, a VMDK image, a copy-on-write disk or a qcow2

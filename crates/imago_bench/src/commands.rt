@@ -1,3 +1,4 @@
+// SPDX-License-Identifier: MIT
 //! Commands of `imago-img`: on snapshots, and on descriptors of many extents.
 
 use crate::descriptor::descriptor;

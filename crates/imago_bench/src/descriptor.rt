@@ -1,3 +1,4 @@
+// SPDX-License-Identifier: MIT
 //! VMDK descriptors of many extents, as tools that split disks write them.
 
 use crate::random::Random;

@@ -1,3 +1,4 @@
+// SPDX-License-Identifier: MIT
 //! Digests of what jobs answer.
 ghost use Rattle.std.specs.Prelude.{◌<◌};
 

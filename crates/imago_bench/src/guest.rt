@@ -1,3 +1,4 @@
+// SPDX-License-Identifier: MIT
 //! Images that calls are made on. Their storages are in memory.
 ghost use Rattle.std.specs.Prelude.{◌≡◌, None, IfSome};
 ghost use Rattle.imago_access.specs.Chain.{driver};

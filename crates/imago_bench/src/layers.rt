@@ -1,3 +1,4 @@
+// SPDX-License-Identifier: MIT
 //! Long chains of copy-on-write disks, as continuous backup makes them.
 ghost use Rattle.std.specs.Prelude.{◌≡◌, None, IfSome};
 

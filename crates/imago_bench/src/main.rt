@@ -1,3 +1,4 @@
+// SPDX-License-Identifier: MIT
 //! The benchmark's program: a job, on inputs that follow from a seed. It prints a digest of all
 //! that the job answers.
 //!

@@ -1,3 +1,4 @@
+// SPDX-License-Identifier: MIT
 //! Disks whose clusters are compressed.
 
 use crate::commands::{obey, snapshot};

@@ -1,3 +1,4 @@
+// SPDX-License-Identifier: MIT
 //! Qcow2 files.
 ghost use Rattle.std.specs.Prelude.{◌<◌};
 

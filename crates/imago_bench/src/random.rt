@@ -1,3 +1,4 @@
+// SPDX-License-Identifier: MIT
 //! Numbers that follow from a seed.
 ghost use Rattle.std.specs.Prelude.{◌≤◌};
 

@@ -1,3 +1,4 @@
+// SPDX-License-Identifier: MIT
 //! Long scripts of commands.
 
 use crate::digest::Digest;

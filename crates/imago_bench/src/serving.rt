@@ -1,3 +1,4 @@
+// SPDX-License-Identifier: MIT
 //! Guests that are served: copy-on-write disks above images of each format.
 use crate::descriptor::{descriptor, names};
 use crate::digest::Digest;

@@ -1,3 +1,4 @@
+// SPDX-License-Identifier: MIT
 //! The numbers of refusals.
 ghost use Rattle.std.specs.Prelude.{◌≡◌};
 ghost use Rattle.imago_c.specs.Answer.{code_of};

@@ -1,3 +1,4 @@
+// SPDX-License-Identifier: MIT
 //! Buffers of a caller.
 ghost use Rattle.imago_c.specs.Answer.{IsFront};
 

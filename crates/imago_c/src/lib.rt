@@ -1,3 +1,4 @@
+// SPDX-License-Identifier: MIT
 //! The layer for C, and for Rust by way of C: numbers and slices of bytes cross, nothing else.
 //!
 //! `include/imago.h` declares what is exported here, and says who owns what. A result is

@@ -1,3 +1,4 @@
+// SPDX-License-Identifier: MIT
 //! Where the bytes of a VMDK image's disk stand.
 ghost use Rattle.std.specs.Prelude.{◌≡◌, ◌⊎◌, List, length, map, true, Ok, Err, IsOk};
 ghost use Rattle.std.specs.Prelude.{IfOk, IfErr};

@@ -1,3 +1,4 @@
+// SPDX-License-Identifier: MIT
 //! Extents of a descriptor as records of fixed length, and a text that has their names.
 ghost use Rattle.std.specs.Prelude.{◌≡◌, ◌++◌, ◌∷◌, [], length, map, OnOk, IfErr};
 ghost use Rattle.std.specs.List.{flat_map};

@@ -1,3 +1,4 @@
+// SPDX-License-Identifier: MIT
 //! Scripts.
 ghost use Rattle.std.specs.Prelude.{◌≡◌, ◌≤◌, drop};
 

@@ -1,3 +1,4 @@
+// SPDX-License-Identifier: MIT
 //! Descriptors of VMDK images.
 ghost use Rattle.std.specs.Prelude.{◌≡◌, length};
 ghost use Rattle.imago_vmdk.specs.Line.{keys_accepted};

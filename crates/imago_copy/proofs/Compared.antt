@@ -1,4 +1,5 @@
 -- Parts of two disks, compared.
+-- SPDX-License-Identifier: MIT
 use Rattle.std.proofs.Common.{◌≡◌, ℕ, ◌+◌, ◌-◌, ◌<◌, ◌≤◌, ◌⊎◌, ⊎_elim, List, length, slice_index, Option, Some, None, sym, ap, ◌∙◌, subst, arith, Result, Ok}
 use Rattle.std.specs.Prelude.{IsTrue, IfOk}
 use Rattle.imago_storage.specs.declared.error.Error.{Error}

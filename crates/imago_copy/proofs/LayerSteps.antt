@@ -1,4 +1,5 @@
 -- The runs of a disk, parted by layers.
+-- SPDX-License-Identifier: MIT
 use Rattle.std.proofs.Common.{◌≡◌, ℕ, ◌+◌, ◌-◌, ◌<◌, ◌≤◌, ◌&&◌, Bool, false, List, [], ◌∷◌, ◌++◌, Option, Some, None, nat_eq, refl, sym, ap, ◌∙◌, subst, arith}
 use Rattle.imago_drivers.specs.Laws.{IsLawful}
 use Rattle.imago_drivers.specs.Mapping.{Names, IsRight}

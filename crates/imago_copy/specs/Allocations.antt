@@ -1,4 +1,5 @@
 -- Which layer of an image has what an offset of its disk leads to, if one has.
+-- SPDX-License-Identifier: MIT
 use Rattle.std.specs.Prelude.{◌≡◌, ℕ, ◌+◌, ◌-◌, ◌<◌, true, false}
 use Rattle.imago_drivers.specs.Place.{Place, Stored, Zeroed, Special, Lower, Refused, End}
 use Rattle.imago_access.specs.Target.{Target, told_depth}

@@ -1,4 +1,5 @@
 -- Bytes that are put into a target.
+-- SPDX-License-Identifier: MIT
 use Rattle.std.specs.Prelude.{◌≡◌, ℕ, ◌≤◌, List, ◌++◌, take, length, Option, Some, None}
 
 -- bytes were put behind what was there before, where that is known

@@ -1,4 +1,5 @@
 -- Where two lists of bytes, and two disks, differ first.
+-- SPDX-License-Identifier: MIT
 use Rattle.std.specs.Prelude.{◌≡◌, ◌≢◌, ℕ, ◌<◌, List, slice_index, Option, Some, None}
 use Rattle.imago_drivers.specs.Place.{Value}
 use Rattle.imago_access.specs.Disk.{value_at}

@@ -1,4 +1,5 @@
 -- What is known of a disk from where its storages end.
+-- SPDX-License-Identifier: MIT
 use Rattle.std.specs.Prelude.{◌≡◌, ℕ, ◌+◌, ◌<◌, ◌≤◌, Bool}
 use Rattle.imago_drivers.specs.Place.{Value, Byte, Stored}
 use Rattle.imago_access.specs.Target.{Target}

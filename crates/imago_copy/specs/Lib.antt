@@ -1,3 +1,4 @@
+-- SPDX-License-Identifier: MIT
 pub mod Runs
 pub mod Allocations
 pub mod LayerRuns

@@ -1,4 +1,5 @@
 -- What the runs of a disk are.
+-- SPDX-License-Identifier: MIT
 use Rattle.std.specs.Prelude.{◌≡◌, ℕ, ◌+◌, ◌<◌, ◌≤◌, ◌&&◌, ◌==◌, Bool, true, false}
 use Rattle.std.specs.Prelude.{Option, Some, None}
 use Rattle.imago_drivers.specs.Place.{Value, Stored, Special}

@@ -1,4 +1,5 @@
 -- What is seen of the runs that are left.
+-- SPDX-License-Identifier: MIT
 use Rattle.std.specs.Prelude.{ℕ, ◌≤◌, Option}
 use Rattle.imago_drivers.specs.View.{View}
 use Rattle.imago_access.specs.declared.access.FormatAccess.{FormatAccess}

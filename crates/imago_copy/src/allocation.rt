@@ -1,3 +1,4 @@
+// SPDX-License-Identifier: MIT
 //! Which layer of an image has the bytes at an offset of its disk, if one has.
 ghost use Rattle.std.specs.Prelude.{◌≡◌, ◌≢◌, ◌+◌, ◌-◌, ◌^◌, ◌<◌, ◌≤◌, ◌↔◌, IsTrue, IfOk};
 ghost use Rattle.imago_access.specs.Target.{target};

@@ -1,3 +1,4 @@
+// SPDX-License-Identifier: MIT
 //! Whether two disks show the same.
 ghost use Rattle.std.specs.Prelude.{◌≡◌, ◌+◌, ◌<◌, ◌≤◌, ◌^◌, ◌-◌, true, IsTrue, OnOk, IfOk, IfSome};
 ghost use Rattle.std.specs.Prelude.{length};

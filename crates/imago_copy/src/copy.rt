@@ -1,3 +1,4 @@
+// SPDX-License-Identifier: MIT
 //! A disk, copied to a target.
 ghost use Rattle.std.specs.Prelude.{◌≡◌, ◌+◌, ◌<◌, ◌≤◌, ◌^◌, IsTrue, OnOk, OnErr, IfOk};
 ghost use Rattle.imago_access.specs.Chain.{disk_value, tells_bytes};

@@ -1,3 +1,4 @@
+// SPDX-License-Identifier: MIT
 //! Where the storages of a disk end: what lies behind is zero, without a look at it.
 ghost use Rattle.std.specs.Prelude.{◌≡◌, ℕ, ◌+◌, ◌-◌, ◌<◌, ◌≤◌, ◌^◌, IfSome};
 ghost use Rattle.imago_access.specs.Chain.{disk_value};

@@ -1,3 +1,4 @@
+// SPDX-License-Identifier: MIT
 //! The runs of a disk, each of one layer.
 ghost use Rattle.std.specs.Prelude.{◌≡◌, ◌+◌, ◌<◌, ◌≤◌, ◌^◌, ◌↔◌, IsTrue, IfOk, IfErr, IfSome};
 ghost use Rattle.imago_access.specs.Chain.{driver};

@@ -1,3 +1,4 @@
+// SPDX-License-Identifier: MIT
 //! What an image's disk is made of, and its bytes copied and compared.
 //!
 //! [`Runs`](runs::Runs) tells what a disk is made of, run by run, and

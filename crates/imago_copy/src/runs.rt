@@ -1,3 +1,4 @@
+// SPDX-License-Identifier: MIT
 //! The runs of a disk: its mappings, joined where one goes on as the last one ended.
 ghost use Rattle.std.specs.Prelude.{◌≡◌, ℕ, ◌+◌, ◌<◌, ◌≤◌, ◌^◌, ◌↔◌, false, IsTrue};
 ghost use Rattle.std.specs.Prelude.{IfOk, IfErr, IfSome};

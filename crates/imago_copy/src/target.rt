@@ -1,3 +1,4 @@
+// SPDX-License-Identifier: MIT
 //! What a disk's bytes are put into.
 ghost use Rattle.std.specs.Prelude.{◌≡◌, ℕ, List, Option, Some, None, OnOk, OnErr, replicate};
 ghost use Rattle.imago_copy.specs.Appended.{IsAppended, IsPartlyAppended};

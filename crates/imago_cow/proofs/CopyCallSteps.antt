@@ -1,4 +1,5 @@
 -- The calls that copies are made of.
+-- SPDX-License-Identifier: MIT
 use Rattle.std.proofs.Common.{◌≡◌, ℕ, ◌+◌, ◌-◌, ◌*◌, ◌/◌, ◌%◌, ◌∙◌, ◌<◌, Bool, true, false, List, min, refl, sym, arith, inl, inr, Result, Ok, Err, Option, None, Some}
 use Rattle.std.specs.Prelude.{IsErr}
 use Rattle.imago_storage.specs.declared.error.Error.{Error}

@@ -1,3 +1,4 @@
+-- SPDX-License-Identifier: MIT
 use Rattle.std.proofs.Common.{◌≡◌, ◌≢◌, ℕ, ◌+◌, ◌-◌, ◌*◌, ◌/◌, ◌%◌, ◌<◌, ◌≤◌, ◌⊎◌, ⊎_elim, inl, inr, Bool, true, false, List, length, Option, Some, refl, sym, ap, ◌∙◌, arith, min, max, Result, Ok, Err, nat_lt}
 use Rattle.std.specs.Prelude.{slice_get, slice_index, IsTrue, IfErr}
 use Rattle.std.proofs.lemmas.Bool.{cases_Bool}

@@ -1,3 +1,4 @@
+-- SPDX-License-Identifier: MIT
 use Rattle.std.proofs.Common.{◌≡◌, ℕ, ◌+◌, ◌/◌, ◌<◌, ⊎_elim, true, false, List, Some, Result, sym, subst, ap, ◌∙◌, arith}
 use Rattle.std.specs.Prelude.{slice_get, IsOk, IsErrOf}
 use Rattle.std.proofs.lemmas.Bool.{cases_lt}

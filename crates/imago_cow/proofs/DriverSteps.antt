@@ -1,3 +1,4 @@
+-- SPDX-License-Identifier: MIT
 use Rattle.std.proofs.Common.{◌≡◌, ℕ, ◌+◌, ◌-◌, ◌*◌, ◌/◌, ◌<◌, ◌≤◌, ◌⊎◌, ⊎_elim, inl, inr, Bool, true, false, List, length, Option, Some, None, refl, sym, ap, ◌∙◌, arith, Result, Ok, Err, nat_lt}
 use Rattle.std.specs.Prelude.{slice_index, slice_get, is_none, IsTrue, IfErr, IsErrOf}
 use Rattle.std.proofs.lemmas.Bool.{cases_lt}

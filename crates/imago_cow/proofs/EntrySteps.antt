@@ -1,3 +1,4 @@
+-- SPDX-License-Identifier: MIT
 use Rattle.std.proofs.Common.{suc, zero, ◌≡◌, ℕ, ◌≤◌, ◌++◌, ◌∷◌, List, length, take, replicate, ap, ◌∙◌, refl}
 use Rattle.std.specs.Prelude.{map, slice_set}
 use Rattle.std.proofs.lemmas.List.{map-set, map-append, take_all}

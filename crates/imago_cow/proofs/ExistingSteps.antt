@@ -1,3 +1,4 @@
+-- SPDX-License-Identifier: MIT
 use Rattle.std.proofs.Common.{◌≡◌, ℕ, ◌+◌, ◌-◌, ◌*◌, ◌/◌, ◌%◌, ◌<◌, ◌≤◌, Bool, true, List, Option, Some, None, refl, sym, subst, ap, ◌∙◌, arith, Ok, min}
 use Rattle.std.specs.Prelude.{slice_get, slice_index, length}
 use Rattle.imago_storage.specs.Features.{Features}

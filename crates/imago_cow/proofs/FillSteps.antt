@@ -1,3 +1,4 @@
+-- SPDX-License-Identifier: MIT
 use Rattle.std.proofs.Common.{zero, suc, ◌≡◌, ℕ, ◌+◌, ◌-◌, ◌*◌, ◌/◌, ◌<◌, ◌≤◌, ◌⊎◌, ⊎_elim, inl, inr, Bool, true, false, List, [], ◌∷◌, ◌++◌, length, take, min, max, Some, Result, Ok, Err, refl, sym, subst, ap, ◌∙◌, arith, nat_lt}
 use Rattle.std.specs.Prelude.{slice_get, slice_index, IsTrue, OnOk, OnErr, sum_by, replicate}
 use Rattle.std.proofs.lemmas.Bool.{cases_lt}

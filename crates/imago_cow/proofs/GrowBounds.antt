@@ -1,3 +1,4 @@
+-- SPDX-License-Identifier: MIT
 use Rattle.std.proofs.Common.{◌≡◌, ℕ, ◌+◌, ◌/◌, ◌%◌, ◌<◌, ◌≤◌, ⊎_elim, true, false, List, length, None, ap, arith}
 use Rattle.std.specs.Prelude.{slice_get}
 use Rattle.std.specs.Int.{next_multiple_of}

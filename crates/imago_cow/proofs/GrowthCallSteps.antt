@@ -1,4 +1,5 @@
 -- The calls that a growth makes of the storage.
+-- SPDX-License-Identifier: MIT
 use Rattle.std.proofs.Common.{suc, ◌≡◌, ℕ, ◌+◌, ◌-◌, ◌*◌, ◌/◌, ◌%◌, ◌<◌, ◌≤◌, ◌++◌, ◌∷◌, [], Bool, true, false, List, length, min, max, refl, sym, subst, arith, inl, inr, ⊎_elim, Result, Ok, Err, Option, None, Some}
 use Rattle.std.specs.Prelude.{IsOk, slice_get, slice_set}
 use Rattle.imago_storage.specs.declared.error.Error.{Error}

@@ -1,3 +1,4 @@
+-- SPDX-License-Identifier: MIT
 use Rattle.std.proofs.Common.{◌≡◌, ℕ, ◌^◌, ◌<◌, Some, arith}
 use Rattle.imago_cow.specs.declared.table.Table.{Table}
 use Rattle.imago_cow.specs.TableView.{held_of, free_of}

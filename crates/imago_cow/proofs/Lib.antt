@@ -1,3 +1,4 @@
+-- SPDX-License-Identifier: MIT
 pub mod BlockSteps
 pub mod ZeroFill
 pub mod NameSteps

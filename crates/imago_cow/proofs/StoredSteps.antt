@@ -1,3 +1,4 @@
+-- SPDX-License-Identifier: MIT
 use Rattle.std.proofs.Common.{◌≡◌, ℕ, ◌+◌, ◌-◌, ◌*◌, ◌/◌, ◌<◌, ◌≤◌, ⊎_elim, inl, inr, Bool, true, List, length, Option, Some, None, refl, sym, ap, ◌∙◌, arith, Result, Ok, Err}
 use Rattle.std.specs.Prelude.{slice_get, slice_index, IsTrue, IfErr, OnOk, OnErr, IsErrOf}
 use Rattle.std.proofs.lemmas.Bool.{cases_lt}

@@ -1,3 +1,4 @@
+-- SPDX-License-Identifier: MIT
 use Rattle.std.proofs.Common.{◌≡◌, ℕ, ◌+◌, ◌-◌, ◌%◌, ◌^◌, ◌≤◌, ⊎_elim, arith}
 use Rattle.imago_storage.specs.Features.{Features, ZeroSupport, AreLawful}
 use Rattle.imago_storage.specs.Padding.{Wraps, aligned_start}

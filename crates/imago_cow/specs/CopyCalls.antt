@@ -1,4 +1,5 @@
 -- Which calls a copy-on-write disk makes of its storage to fill data blocks.
+-- SPDX-License-Identifier: MIT
 use Rattle.std.specs.Prelude.{◌≡◌, ℕ, zero, suc, ◌+◌, ◌-◌, ◌*◌, ◌/◌, ◌%◌, ◌<◌, ◌≤◌, ◌⊎◌, ◌++◌, ◌∷◌}
 use Rattle.std.specs.Prelude.{[], min, max, slice_set, OnOk, OnErr, Bool, true}
 use Rattle.std.specs.Prelude.{false, List, length, slice_get, Option, Some, None, Result, Ok, Err}

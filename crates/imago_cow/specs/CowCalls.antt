@@ -1,3 +1,4 @@
+-- SPDX-License-Identifier: MIT
 use Rattle.std.specs.Prelude.{◌≡◌, ℕ, ◌+◌, ◌%◌, ◌^◌, ◌<◌, ◌≤◌, ◌*◌, ◌⊎◌, List, length, take, Option}
 use Rattle.std.specs.Prelude.{Bool, Some, None, Result, Ok, Err, IfOk, IsOk, IsErrOf, OnOk, OnErr}
 use Rattle.imago_storage.specs.declared.error.Error.{Error}

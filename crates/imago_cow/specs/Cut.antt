@@ -1,3 +1,4 @@
+-- SPDX-License-Identifier: MIT
 use Rattle.std.specs.Prelude.{◌≡◌, ◌≢◌, ℕ, ◌+◌, ◌-◌, ◌*◌, ◌%◌, ◌/◌, ◌<◌, ◌≤◌, ◌⊎◌, Bool, true}
 use Rattle.std.specs.Prelude.{false, IsTrue, List, length, slice_get, slice_set, slice_index}
 use Rattle.std.specs.Prelude.{Option, Some, None, Result, OnOk, OnErr, ◌^◌}

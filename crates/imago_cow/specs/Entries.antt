@@ -1,4 +1,5 @@
 -- what the numbers of a table stand for
+-- SPDX-License-Identifier: MIT
 use Rattle.std.specs.Prelude.{ℕ, List, map}
 use Rattle.std.specs.Vec.{vec_capacity}
 use Rattle.imago_cow.specs.declared.entries.Entries.{Entries}

@@ -1,3 +1,4 @@
+-- SPDX-License-Identifier: MIT
 use Rattle.std.specs.Prelude.{◌≡◌, ℕ, ◌+◌, ◌-◌, ◌*◌, ◌%◌, ◌/◌, ◌<◌, ◌≤◌, ◌⊎◌, Bool, true, false}
 use Rattle.std.specs.Prelude.{List, length, take, min, max, Result, Ok, Err}
 use Rattle.std.specs.Prelude.{slice_get, Option, Some, None}

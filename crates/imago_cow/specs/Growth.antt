@@ -1,3 +1,4 @@
+-- SPDX-License-Identifier: MIT
 use Rattle.std.specs.Prelude.{◌≡◌, ℕ, ◌+◌, ◌*◌, ◌/◌, ◌<◌, ◌≤◌, ◌⊎◌, ◌++◌, ◌∷◌, [], Bool, IsTrue}
 use Rattle.std.specs.Prelude.{List, length, slice_index, slice_get, Some, max, Result, IfErr}
 use Rattle.imago_storage.specs.declared.error.Error.{Error}

@@ -1,3 +1,4 @@
+-- SPDX-License-Identifier: MIT
 use Rattle.std.specs.Prelude.{◌≡◌, ℕ, zero, suc, ◌+◌, ◌*◌, ◌%◌, ◌/◌, ◌<◌, ◌≤◌, ◌⊎◌, ◌≢◌, ◌&&◌, Bool}
 use Rattle.std.specs.Prelude.{true, false, List, length, slice_index, slice_get, Option, Some, None}
 use Rattle.std.specs.Prelude.{if◌then◌else◌, nat_lt, Result, IfOk, IsOk}

@@ -1,3 +1,4 @@
+-- SPDX-License-Identifier: MIT
 use Rattle.std.specs.Prelude.{◌≡◌, ℕ, zero, suc, ◌+◌, ◌-◌, ◌*◌, ◌%◌, ◌/◌, ◌<◌, ◌≤◌, ◌⊎◌, ◌&&◌, ◌||◌}
 use Rattle.std.specs.Prelude.{Bool, true, false, List, length, slice_get, if◌then◌else◌, nat_lt}
 use Rattle.std.specs.Prelude.{refl}

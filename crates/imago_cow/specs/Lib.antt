@@ -1,3 +1,4 @@
+-- SPDX-License-Identifier: MIT
 pub mod Free
 pub mod Table
 pub mod Packed

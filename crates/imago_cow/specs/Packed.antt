@@ -1,4 +1,5 @@
 -- how the entry of a guest block is one number
+-- SPDX-License-Identifier: MIT
 use Rattle.std.specs.Prelude.{ℕ, ◌-◌, nat_eq, if◌then◌else◌}
 use Rattle.imago_cow.specs.declared.table.GuestBlock.{GuestBlock}
 

@@ -1,3 +1,4 @@
+-- SPDX-License-Identifier: MIT
 use Rattle.std.specs.Prelude.{◌≡◌, ℕ, ◌+◌, ◌*◌, ◌%◌, ◌<◌, ◌≤◌, List, sum_by, Option, Some, None}
 use Rattle.std.specs.Prelude.{nat_lt, if◌then◌else◌, Bool, true, false}
 use Rattle.imago_cow.specs.declared.free.FreeBlocks.{FreeBlocks}

@@ -1,3 +1,4 @@
+-- SPDX-License-Identifier: MIT
 use Rattle.std.specs.Prelude.{List, [], ◌∷◌}
 use Rattle.imago_cow.specs.declared.table.GuestBlock.{GuestBlock}
 

@@ -1,3 +1,4 @@
+// SPDX-License-Identifier: MIT
 //! The length of guest blocks and data blocks.
 ghost use Rattle.std.specs.Prelude.{◌≡◌, ℕ, ◌/◌, ◌%◌, ◌^◌, ◌<◌, IsTrue};
 ghost use Rattle.std.specs.Int.{is_power_of_two};

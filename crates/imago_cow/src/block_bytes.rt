@@ -1,3 +1,4 @@
+// SPDX-License-Identifier: MIT
 //! Reads and writes of the storage bytes that places of the disk stand in.
 ghost use Rattle.std.specs.Prelude.{◌≡◌, ℕ, ◌+◌, ◌<◌, length, Some, slice_get, IfErr, OnOk, OnErr};
 ghost use Rattle.std.specs.Prelude.{IsOk, IsTrue, IsErrOf, slice_index, true, false};

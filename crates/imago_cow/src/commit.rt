@@ -1,3 +1,4 @@
+// SPDX-License-Identifier: MIT
 //! What a commit makes of the write that waits.
 ghost use Rattle.std.specs.Prelude.{◌≡◌, ℕ, ◌+◌, ◌*◌, ◌/◌, ◌<◌, ◌≤◌, length, slice_get, Some, None};
 ghost use Rattle.std.specs.Prelude.{false};

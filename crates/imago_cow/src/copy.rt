@@ -1,3 +1,4 @@
+// SPDX-License-Identifier: MIT
 //! The copying of what places without data show into a data block.
 ghost use Rattle.std.specs.Prelude.{◌≡◌, ℕ, ◌+◌, ◌-◌, ◌%◌, ◌^◌, ◌<◌, ◌≤◌, ◌⊎◌, ◌&&◌, max, length};
 ghost use Rattle.std.specs.Prelude.{slice_index, IsTrue, IfOk, IfErr, OnOk, IsErrOf, true, false};

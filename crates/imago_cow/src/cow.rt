@@ -1,3 +1,4 @@
+// SPDX-License-Identifier: MIT
 //! The copy-on-write driver.
 ghost use Rattle.std.specs.Prelude.{◌≡◌, ℕ, ◌+◌, ◌*◌, ◌/◌, ◌^◌, ◌<◌, ◌≤◌, ◌⊎◌, ◌↔◌, None, Some};
 ghost use Rattle.std.specs.Prelude.{IfOk, IfErr, IsOk, IsTrue, max, slice_get, true, false};

@@ -1,3 +1,4 @@
+// SPDX-License-Identifier: MIT
 //! The guest block that the disk's end cuts, in a growth.
 ghost use Rattle.std.specs.Prelude.{◌≡◌, ◌≢◌, ℕ, ◌+◌, ◌-◌, ◌*◌, ◌/◌, ◌%◌, ◌^◌, ◌<◌, ◌≤◌, ◌⊎◌};
 ghost use Rattle.std.specs.Prelude.{max, IsOk};

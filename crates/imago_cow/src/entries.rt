@@ -1,3 +1,4 @@
+// SPDX-License-Identifier: MIT
 //! What guest blocks are, as it lies in memory.
 ghost use Rattle.std.specs.Prelude.{◌≡◌, ℕ, ◌+◌, ◌-◌, ◌^◌, ◌<◌, ◌≤◌, ◌++◌, ◌∷◌, [], length, take};
 ghost use Rattle.std.specs.Prelude.{replicate, Some, IfOk, IfErr, OnOk, OnErr, IsOk, slice_get};

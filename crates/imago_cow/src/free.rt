@@ -1,3 +1,4 @@
+// SPDX-License-Identifier: MIT
 //! The data blocks that are free.
 ghost use Rattle.std.specs.Prelude.{◌≡◌, ℕ, ◌+◌, ◌-◌, ◌^◌, ◌<◌, ◌≤◌, IfErr, OnOk, IfSome, IfNone};
 ghost use Rattle.std.specs.Prelude.{MatchOption};

@@ -1,3 +1,4 @@
+// SPDX-License-Identifier: MIT
 //! The growth of a copy-on-write disk.
 ghost use Rattle.std.specs.Prelude.{◌≡◌, ◌≢◌, ℕ, ◌+◌, ◌*◌, ◌/◌, ◌%◌, ◌<◌, ◌≤◌, ◌⊎◌, IfErr, OnOk};
 ghost use Rattle.std.specs.Prelude.{OnErr, slice_get};

@@ -1,3 +1,4 @@
+// SPDX-License-Identifier: MIT
 //! Guest blocks by ranges of the disk.
 ghost use Rattle.std.specs.Prelude.{◌≡◌, ◌≢◌, ℕ, ◌+◌, ◌*◌, ◌/◌, ◌%◌, ◌^◌, ◌<◌, ◌≤◌, ◌⊎◌, length};
 ghost use Rattle.std.specs.Prelude.{Option, Some, None, slice_get, slice_set, true};

@@ -1,3 +1,4 @@
+// SPDX-License-Identifier: MIT
 //! How the guest blocks follow the size of the disk.
 ghost use Rattle.std.specs.Prelude.{◌≡◌, ◌≢◌, ℕ, ◌+◌, ◌-◌, ◌*◌, ◌^◌, ◌<◌, ◌≤◌, ◌⊎◌, min, max};
 ghost use Rattle.std.specs.Prelude.{length, take, None, Some, Ok, OnOk, OnErr, IfOk, IfErr};

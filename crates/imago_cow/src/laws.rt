@@ -1,3 +1,4 @@
+// SPDX-License-Identifier: MIT
 //! What holds of every table. The functions do nothing; their contracts are proved.
 ghost use Rattle.std.specs.Prelude.{◌≡◌, ℕ, ◌+◌, ◌<◌, Some, slice_get, slice_set, None};
 ghost use Rattle.imago_cow.specs.declared.table.GuestBlock.{GuestBlock};

@@ -1,3 +1,4 @@
+// SPDX-License-Identifier: MIT
 //! Copy-on-write disks: a disk in blocks, each of which leads to the layer below until it is
 //! written.
 //!

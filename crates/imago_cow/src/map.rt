@@ -1,3 +1,4 @@
+// SPDX-License-Identifier: MIT
 //! How places of the disk are mapped, and whose a byte of the storage is.
 ghost use Rattle.std.specs.Prelude.{◌≡◌, ℕ, ◌+◌, ◌-◌, ◌*◌, ◌/◌, ◌%◌, ◌^◌, ◌<◌, ◌≤◌, min, length};
 ghost use Rattle.std.specs.Prelude.{Some, slice_get};

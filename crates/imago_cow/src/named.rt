@@ -1,3 +1,4 @@
+// SPDX-License-Identifier: MIT
 //! Which bytes of the storage places of the disk stand in.
 ghost use Rattle.std.specs.Prelude.{◌≡◌, ◌≢◌, ℕ, ◌+◌, ◌*◌, ◌^◌, ◌<◌, ◌≤◌, Some, slice_get, true};
 ghost use Rattle.std.specs.Prelude.{false};

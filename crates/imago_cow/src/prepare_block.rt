@@ -1,3 +1,4 @@
+// SPDX-License-Identifier: MIT
 //! The preparing of a data block for a write.
 ghost use Rattle.std.specs.Prelude.{◌≡◌, ℕ, ◌+◌, ◌*◌, ◌^◌, ◌<◌, ◌≤◌, length};
 ghost use Rattle.std.specs.Prelude.{max, Option, Some, None, IfOk, IfErr, OnOk, OnErr};

@@ -1,3 +1,4 @@
+// SPDX-License-Identifier: MIT
 //! Room for more in a list.
 ghost use Rattle.std.specs.Prelude.{◌≡◌, ◌+◌, ◌≤◌, length, OnOk, IfErr, IsOk};
 ghost use Rattle.std.specs.Vec.{vec_capacity};

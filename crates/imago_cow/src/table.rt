@@ -1,3 +1,4 @@
+// SPDX-License-Identifier: MIT
 //! The table of a copy-on-write disk: what each guest block is, and which data blocks are free.
 ghost use Rattle.std.specs.Prelude.{◌≡◌, ◌≢◌, ℕ, ◌+◌, ◌-◌, ◌^◌, ◌<◌, ◌≤◌, ◌++◌, ◌∷◌, [], length};
 ghost use Rattle.std.specs.Prelude.{take, replicate, max, Some, None, IfOk, IfErr, OnOk, OnErr};

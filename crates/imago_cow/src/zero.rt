@@ -1,3 +1,4 @@
+// SPDX-License-Identifier: MIT
 //! Data blocks that are filled with zeroes.
 ghost use Rattle.std.specs.Prelude.{◌≡◌, ◌≢◌, ℕ, ◌%◌, ◌<◌, ◌≤◌, ◌⊎◌, max, length, IsTrue, IfErr};
 ghost use Rattle.std.specs.Prelude.{OnOk, OnErr, IsErrOf, true, false};

@@ -1,3 +1,4 @@
+-- SPDX-License-Identifier: MIT
 pub mod StorageBytes
 pub mod AlignedParts
 pub mod Lengths

@@ -1,3 +1,4 @@
+-- SPDX-License-Identifier: MIT
 use Rattle.std.proofs.Common.{◌≡◌, ℕ, ◌+◌, ◌%◌, ◌<◌, ◌≤◌, arith, inl, inr, false, refl}
 use Rattle.std.specs.Int.{next_multiple_of}
 use Rattle.imago_storage.specs.declared.error.Error.{Error}

@@ -1,4 +1,5 @@
 -- What each call of a driver promises, as one record.
+-- SPDX-License-Identifier: MIT
 
 use Rattle.std.specs.Prelude.{◌≡◌, ℕ, ◌+◌, ◌≤◌, ◌&&◌, Bool, true, false, IsTrue, List, length, None}
 use Rattle.std.specs.Prelude.{Result, IfOk, IfErr, OnOk, OnErr, IsOk}

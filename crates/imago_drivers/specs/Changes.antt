@@ -1,3 +1,4 @@
+-- SPDX-License-Identifier: MIT
 use Rattle.std.specs.Prelude.{◌≡◌, ℕ, ◌+◌, ◌<◌, ◌≤◌, ◌⊎◌, Bool, true, List, slice_index}
 use Rattle.std.specs.Prelude.{if◌then◌else◌}
 use Rattle.imago_drivers.specs.Place.{Value, Byte}

@@ -1,3 +1,4 @@
+-- SPDX-License-Identifier: MIT
 use Rattle.std.specs.Prelude.{◌≡◌, ◌↔◌, ◌≤◌, ℕ, ◌+◌, ◌<◌, Bool, true, false, Option, Some, None}
 use Rattle.std.specs.Prelude.{Result, IfErr, OnOk, OnErr, IsTrue, IsErrOf, is_some}
 use Rattle.imago_storage.specs.declared.error.Error.{Error}

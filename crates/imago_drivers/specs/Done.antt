@@ -1,3 +1,4 @@
+-- SPDX-License-Identifier: MIT
 use Rattle.std.specs.Prelude.{◌≡◌, ℕ, ◌+◌, ◌≤◌, ◌⊎◌, ◌&&◌, max, Bool, false, IsTrue}
 use Rattle.std.specs.Prelude.{Result, IfOk, OnErr}
 use Rattle.imago_storage.specs.declared.error.Error.{Error}

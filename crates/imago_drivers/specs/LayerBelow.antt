@@ -1,3 +1,4 @@
+-- SPDX-License-Identifier: MIT
 use Rattle.std.specs.Prelude.{◌≡◌, ℕ, ◌+◌, ◌≤◌, Bool, true, false, Option, Some, None, refl}
 use Rattle.std.specs.Borrow.{Bor}
 use Rattle.imago_storage.specs.declared.error.Error.{Error}

@@ -1,3 +1,4 @@
+-- SPDX-License-Identifier: MIT
 use Rattle.std.specs.Prelude.{◌≡◌, ◌≢◌, ℕ, ◌+◌, ◌-◌, ◌<◌, ◌≤◌, length, max, if◌then◌else◌, nat_lt}
 use Rattle.imago_storage.specs.Features.{Features, len_align}
 use Rattle.imago_drivers.specs.View.{Stores}

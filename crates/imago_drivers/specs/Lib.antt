@@ -1,3 +1,4 @@
+-- SPDX-License-Identifier: MIT
 pub mod Operation
 pub mod Place
 pub mod Outside

@@ -1,3 +1,4 @@
+-- SPDX-License-Identifier: MIT
 use Rattle.imago_drivers.specs.declared.format.PreallocateMode.{PreallocateMode}
 
 -- What a call is, for its causes and for what it takes. Data mappings, their writes and their

@@ -1,3 +1,4 @@
+-- SPDX-License-Identifier: MIT
 use Rattle.std.specs.Prelude.{◌≡◌, ℕ, ◌/◌, Bool, IsTrue}
 use Rattle.imago_drivers.specs.Place.{Place, Stored, IsIn}
 

@@ -1,3 +1,4 @@
+-- SPDX-License-Identifier: MIT
 use Rattle.std.specs.Prelude.{◌≡◌, ℕ, ◌+◌, ◌<◌, ◌≤◌, ◌⊎◌, Bool, true, false, List, Option, Some}
 use Rattle.std.specs.Prelude.{None, length, max, slice_index, is_some, IsTrue}
 use Rattle.imago_drivers.specs.Operation.{Operation}

@@ -1,3 +1,4 @@
+-- SPDX-License-Identifier: MIT
 use Rattle.std.specs.Prelude.{◌≡◌, ℕ, ◌+◌, ◌-◌, ◌<◌, ◌≤◌, ◌⊎◌, Bool, true, List, slice_index}
 use Rattle.imago_storage.specs.Features.{IsAlignedTo}
 use Rattle.imago_storage.specs.Padding.{aligned_start, aligned_end}

@@ -1,3 +1,4 @@
+-- SPDX-License-Identifier: MIT
 use Rattle.std.specs.Prelude.{◌≡◌, ℕ, ◌+◌, ◌-◌, ◌≤◌, Bool, true, false, List, length, slice_index}
 use Rattle.std.specs.Prelude.{if◌then◌else◌, nat_lt, min, None}
 use Rattle.imago_storage.specs.declared.error.Error.TheVariants as E

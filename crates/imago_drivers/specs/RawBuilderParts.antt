@@ -1,3 +1,4 @@
+-- SPDX-License-Identifier: MIT
 use Rattle.imago_drivers.specs.declared.raw_builder.RawOpenBuilder.{RawOpenBuilder}
 use Rattle.imago_drivers.specs.declared.raw_builder.RawCreateBuilder.{RawCreateBuilder}
 use Rattle.imago_drivers.specs.Builder.{OpenSettings, CreateSettings}

@@ -1,3 +1,4 @@
+-- SPDX-License-Identifier: MIT
 use Rattle.std.specs.Prelude.{ℕ, Bool}
 use Rattle.imago_drivers.specs.declared.raw.Raw.{Raw}
 

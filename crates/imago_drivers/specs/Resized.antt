@@ -1,3 +1,4 @@
+-- SPDX-License-Identifier: MIT
 use Rattle.std.specs.Prelude.{◌≡◌, ℕ, ◌<◌, ◌≤◌, Bool, IsTrue, min, max}
 use Rattle.imago_drivers.specs.Place.{Value, Byte, End, values, SamePlaces}
 use Rattle.imago_drivers.specs.View.{View}

@@ -1,3 +1,4 @@
+-- SPDX-License-Identifier: MIT
 use Rattle.std.specs.Prelude.{ℕ, List, ◌∷◌, [], false, if◌then◌else◌, nat_lt}
 use Rattle.imago_drivers.specs.Place.{Value, Byte, Place, Lower, End}
 

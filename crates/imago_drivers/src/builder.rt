@@ -1,3 +1,4 @@
+// SPDX-License-Identifier: MIT
 //! Builders, which open and create images by their options.
 ghost use Rattle.std.specs.Prelude.{◌≡◌, Some, None, IfOk, IfErr, IsOk, option_map};
 ghost use Rattle.std.specs.Option.{option_copied};

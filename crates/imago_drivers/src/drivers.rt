@@ -1,3 +1,4 @@
+// SPDX-License-Identifier: MIT
 //! The interface of a format driver.
 ghost use Rattle.std.specs.Prelude.{◌≡◌, ℕ, ◌+◌, ◌<◌, ◌≤◌, ◌⊎◌, ◌↔◌, ◌&&◌, Option, None, Bool};
 ghost use Rattle.std.specs.Prelude.{true, false, List, length, slice_get};

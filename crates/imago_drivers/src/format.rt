@@ -1,3 +1,4 @@
+// SPDX-License-Identifier: MIT
 //! Image formats, and how an image that grows is allocated.
 
 /// The formats that a driver can have.

@@ -1,3 +1,4 @@
+// SPDX-License-Identifier: MIT
 //! What may be opened for an image.
 ghost use Rattle.std.specs.Prelude.{◌≡◌, ◌++◌, ◌∷◌, [], ℕ, List, OnOk, OnErr, IfErr, IsOk};
 ghost use Rattle.std.specs.Prelude.{MatchOption};

@@ -1,3 +1,4 @@
+// SPDX-License-Identifier: MIT
 //! What the definitions give for raw images, and for examples that are worked by hand. The
 //! functions do nothing; their contracts are proved.
 ghost use Rattle.std.specs.Prelude.{◌≡◌, ℕ, ◌^◌, ◌<◌, ◌≤◌, List, length, true, false};

@@ -1,3 +1,4 @@
+// SPDX-License-Identifier: MIT
 //! The layer below a driver.
 ghost use Rattle.std.specs.Prelude.{◌≡◌, ℕ, length, OnOk, IfErr, Ok, IsTrue};
 ghost use Rattle.imago_drivers.specs.Place.{HasValues};

@@ -1,3 +1,4 @@
+// SPDX-License-Identifier: MIT
 //! The interface of a format driver, and the driver of raw images.
 //!
 //! A driver shows a disk: a layer of places, each a byte of one of its storages, a zero, a special

@@ -1,3 +1,4 @@
+// SPDX-License-Identifier: MIT
 //! What a range of a layer is, and where the data of a range is to be written.
 ghost use Rattle.std.specs.Prelude.{◌≡◌, Option, Some, None, is_none};
 ghost use Rattle.std.specs.Option.{option_copied};

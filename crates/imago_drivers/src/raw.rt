@@ -1,3 +1,4 @@
+// SPDX-License-Identifier: MIT
 //! The driver of raw images.
 ghost use Rattle.std.specs.Prelude.{◌≡◌, ℕ, ◌+◌, ◌^◌, ◌<◌, ◌≤◌, length, slice_index, IsTrue};
 ghost use Rattle.std.specs.Prelude.{IfOk, IfErr, OnOk, OnErr, IsOk, IsErrOf, Ok, true, false};

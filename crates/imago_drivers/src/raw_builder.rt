@@ -1,3 +1,4 @@
+// SPDX-License-Identifier: MIT
 //! Builders of raw images.
 ghost use Rattle.std.specs.Prelude.{◌≡◌, ◌≤◌, ◌⊎◌, [], length, true, IsTrue, OnOk, OnErr, IfOk};
 ghost use Rattle.std.specs.Prelude.{IfErr};

@@ -1,3 +1,4 @@
+// SPDX-License-Identifier: MIT
 //! Bytes of a storage, for drivers whose places stand in one.
 ghost use Rattle.std.specs.Prelude.{◌≡◌, ◌+◌, ◌≤◌, max, length, slice_index, IsTrue, IsOk, IfErr};
 ghost use Rattle.std.specs.Prelude.{OnOk, OnErr, IsErrOf, true, false};

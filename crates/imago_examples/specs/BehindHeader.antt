@@ -1,3 +1,4 @@
+-- SPDX-License-Identifier: MIT
 use Rattle.std.specs.Prelude.{◌≡◌, ℕ, ◌+◌, ◌<◌, Bool, true, false, List, slice_index, if◌then◌else◌}
 use Rattle.std.specs.Prelude.{nat_lt, None}
 use Rattle.imago.specs.DeclaredError.{Error}

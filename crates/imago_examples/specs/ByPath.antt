@@ -1,4 +1,5 @@
 -- What images that are opened by their paths show, by the bytes of their files.
+-- SPDX-License-Identifier: MIT
 use Rattle.std.specs.Prelude.{◌≡◌, ℕ, true, List, map, None}
 use Rattle.imago.specs.Place.{Place, Byte, HasValues}
 use Rattle.imago.specs.View.{View}

@@ -1,3 +1,4 @@
+-- SPDX-License-Identifier: MIT
 pub mod ReadOnly
 pub mod BehindHeader
 pub mod BehindHeaderLaws

@@ -1,4 +1,5 @@
 -- What never changes in a storage that may only be read.
+-- SPDX-License-Identifier: MIT
 use Rattle.std.specs.Prelude.{◌≡◌, ℕ, false, true, Result, Err}
 use Rattle.imago.specs.DeclaredError.{Error}
 use Rattle.imago.specs.Features.{Features, NotOffered, AreLawful}

@@ -1,3 +1,4 @@
+// SPDX-License-Identifier: MIT
 //! A read-only disk that stands behind a header in a storage.
 //!
 //! Of the calls of a driver only `get_mapping` and `read_mapped` do something here. All others tell

@@ -1,3 +1,4 @@
+// SPDX-License-Identifier: MIT
 //! Images opened by their paths, over any host; and a host of the system's files.
 //!
 //! A host that states what its files hold, as one in memory, has the images' bytes said by

@@ -1,3 +1,4 @@
+// SPDX-License-Identifier: MIT
 //! Images in files: raw and qcow2 images, and copy-on-write disks above them.
 //!
 //! The functions take any host of files: for those of the system it is a `&HostRuntime`, lent as

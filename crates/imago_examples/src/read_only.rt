@@ -1,3 +1,4 @@
+// SPDX-License-Identifier: MIT
 //! A storage that may only be read.
 //!
 //! It passes reads and flushes on, and refuses every change. Its bytes are those of the storage

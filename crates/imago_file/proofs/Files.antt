@@ -1,3 +1,4 @@
+-- SPDX-License-Identifier: MIT
 use Rattle.std.proofs.Common.{◌≡◌, ℕ, ◌+◌, ◌≤◌, List, length, replicate, max, arith, refl, ap, sym, ◌∙◌, Option, Some, None, Ok, Err, is_some, inl}
 use Rattle.std.specs.Prelude.{IsOk, OnOk, OnErr}
 use Rattle.std.proofs.lemmas.List.{length-replicate, places, same_lists}

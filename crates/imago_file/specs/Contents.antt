@@ -1,4 +1,5 @@
 -- What an open file holds, where that is told, and what its calls make of it.
+-- SPDX-License-Identifier: MIT
 use Rattle.std.specs.Prelude.{◌≡◌, ◌≤◌, ℕ, ◌-◌, ◌++◌, List, Option, Some, None, Result, IsOk}
 use Rattle.std.specs.Prelude.{length, take, replicate}
 use Rattle.std.specs.Option.{ForSome}

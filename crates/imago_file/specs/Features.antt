@@ -1,4 +1,5 @@
 -- What never changes in a storage over a file.
+-- SPDX-License-Identifier: MIT
 use Rattle.std.specs.Prelude.{ℕ, Bool, true, false, List, Option, is_some, refl}
 use Rattle.imago_storage.specs.Features.{Features, AsData, Never, AreLawful}
 

@@ -1,4 +1,5 @@
 -- What the calls of an open file are, and which of them a storage over it makes.
+-- SPDX-License-Identifier: MIT
 use Rattle.std.specs.Prelude.{◌≡◌, ℕ, ◌+◌, ◌-◌, ◌^◌, ◌<◌, ◌&&◌, Bool, true, false, List, replicate}
 use Rattle.std.specs.Prelude.{nat_lt, length, max, min, Result, Ok, Err, OnOk, OnErr}
 use Rattle.std.specs.declared.io.Error.{Error as IoError}

@@ -1,4 +1,5 @@
 -- What is seen of a gate over files.
+-- SPDX-License-Identifier: MIT
 use Rattle.std.specs.Prelude.{ℕ, List, Option, option_map}
 use Rattle.std.specs.String.{string_bytes}
 use Rattle.std.specs.declared.io.Error.{Error as IoError}

@@ -1,3 +1,4 @@
+-- SPDX-License-Identifier: MIT
 pub mod Contents
 pub mod FileCalls
 pub mod Features

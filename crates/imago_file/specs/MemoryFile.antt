@@ -1,4 +1,5 @@
 -- What the calls of a file in memory are.
+-- SPDX-License-Identifier: MIT
 use Rattle.std.specs.Prelude.{◌≡◌, ◌≤◌, ℕ, ◌+◌, ◌-◌, ◌^◌, List, min, length, Ok}
 use Rattle.std.specs.Prelude.{IsOk, OnOk, OnErr}
 use Rattle.imago_storage.specs.Bytes.{splice, IsReadAt}

@@ -1,4 +1,5 @@
 -- What it is to open a file as a storage, and to create one.
+-- SPDX-License-Identifier: MIT
 use Rattle.std.specs.Prelude.{◌≡◌, ℕ, ◌⊎◌, Bool, true, false, List, length, Option, Some, None}
 use Rattle.std.specs.Prelude.{is_some, IfSome, IsTrue, Result, Ok, Err}
 use Rattle.std.specs.IoError.{error_kind}

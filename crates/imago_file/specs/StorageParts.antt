@@ -1,4 +1,5 @@
 -- What is seen of a storage over a file, by what the file holds.
+-- SPDX-License-Identifier: MIT
 use Rattle.std.specs.Prelude.{ℕ, List, Option, is_some, option_map}
 use Rattle.std.specs.String.{string_bytes}
 use Rattle.imago_storage.specs.Features.{Features}

@@ -1,3 +1,4 @@
+// SPDX-License-Identifier: MIT
 //! A storage over a file.
 ghost use Rattle.std.specs.Prelude.{◌≡◌, ◌≤◌, ◌+◌, ◌^◌, ◌<◌, ◌&&◌, ℕ, Err, Ok, length, max, min};
 ghost use Rattle.std.specs.Prelude.{option_map, is_some, IfOk, IfSome, MatchResult, Result};

@@ -1,3 +1,4 @@
+// SPDX-License-Identifier: MIT
 //! A gate that opens files.
 ghost use Rattle.std.specs.Prelude.{◌≡◌, None, Some, option_map};
 ghost use Rattle.std.specs.String.{string_bytes};

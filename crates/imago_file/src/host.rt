@@ -1,3 +1,4 @@
+// SPDX-License-Identifier: MIT
 //! Open files: the system's, and files in memory.
 ghost use Rattle.std.specs.Prelude.{◌≡◌, ◌+◌, ◌-◌, ◌≤◌, ◌<◌, ◌^◌, ◌++◌, ℕ, List, Option, Some};
 ghost use Rattle.std.specs.Prelude.{None, OnOk, OnErr, IfOk, IsOk, length, replicate};

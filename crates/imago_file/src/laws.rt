@@ -1,3 +1,4 @@
+// SPDX-License-Identifier: MIT
 //! Laws of raw images over files: functions whose contracts follow from those of the calls that
 //! they make.
 ghost use Rattle.std.specs.Prelude.{◌≡◌, ◌+◌, ◌<◌, None, length, true, IsTrue, IsErrOf, OnOk};

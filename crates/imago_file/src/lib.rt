@@ -1,3 +1,4 @@
+// SPDX-License-Identifier: MIT
 //! Storages over files.
 //!
 //! [`host`] has what an open file can do, with the system's files as one implementation and files

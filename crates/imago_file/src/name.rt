@@ -1,3 +1,4 @@
+// SPDX-License-Identifier: MIT
 //! Names of files that images give.
 ghost use Rattle.std.specs.Prelude.{◌≡◌, IfOk};
 ghost use Rattle.std.specs.String.{string_bytes};

@@ -1,3 +1,4 @@
+// SPDX-License-Identifier: MIT
 //! How files are opened and created as storages.
 ghost use Rattle.std.specs.Prelude.{◌≡◌, Some, None, IfOk, IfErr, OnOk, true, false};
 ghost use Rattle.std.specs.IoError.{error_kind};

@@ -1,3 +1,4 @@
+// SPDX-License-Identifier: MIT
 //! The length of a file, set as a preallocation mode asks.
 ghost use Rattle.std.specs.Prelude.{◌≡◌, ◌≤◌, ◌<◌, ◌^◌, Ok, OnOk, OnErr, MatchResult};
 ghost use Rattle.imago_file.specs.Contents.{IsLong, resized, IsPartlyGrown};

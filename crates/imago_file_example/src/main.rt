@@ -1,3 +1,4 @@
+// SPDX-License-Identifier: MIT
 //! An example: a file of the system as a storage. It opens `disk.raw`, writes, reads, resizes and
 //! syncs it, opens it again, creates another file, and prints what each step answers.
 #![tactic(auto)]

@@ -1,3 +1,4 @@
+// SPDX-License-Identifier: MIT
 //! Tests of storages over files, and files and a host in memory for them.
 #![tactic(auto)]
 

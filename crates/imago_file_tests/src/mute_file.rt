@@ -1,3 +1,4 @@
+// SPDX-License-Identifier: MIT
 //! Files that don't tell their length, and a host of them.
 ghost use Rattle.std.specs.Prelude.{None};
 ghost use Rattle.imago_file.specs.FileCalls.{any_calls};

@@ -1,3 +1,4 @@
+// SPDX-License-Identifier: MIT
 //! A host of files in memory.
 ghost use Rattle.imago_file.specs.Opening.{any_opening};
 

@@ -1,3 +1,4 @@
+// SPDX-License-Identifier: MIT
 //! What no clause says: each public function once, what is kept of a refusal, and what a refused
 //! write leaves of a file that tells nothing.
 //!

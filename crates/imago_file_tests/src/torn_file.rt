@@ -1,3 +1,4 @@
+// SPDX-License-Identifier: MIT
 //! A file in memory whose writes are torn.
 ghost use Rattle.std.specs.Prelude.{None};
 ghost use Rattle.imago_file.specs.FileCalls.{any_calls};

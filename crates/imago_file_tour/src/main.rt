@@ -1,3 +1,4 @@
+// SPDX-License-Identifier: MIT
 //! A tour of images in files: a raw image, a qcow2 image with an overlay, and a copy-on-write disk
 //! above them whose data stands in a file of its own. It prints what each of them reads, and why a
 //! step was refused, if one was.

@@ -1,3 +1,4 @@
+// SPDX-License-Identifier: MIT
 //! Tests: builders and gates, VMDK images, copy-on-write disks. What tests share stands in
 //! `imago_test_storages`,
 //! `imago_test_drivers` and `imago_test_tables`; nothing else is here.

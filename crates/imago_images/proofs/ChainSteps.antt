@@ -1,4 +1,5 @@
 -- What an image over layers is, where its host tells what files have.
+-- SPDX-License-Identifier: MIT
 use Rattle.std.proofs.Common.{◌≡◌, ℕ, ◌+◌, ◌≤◌, ◌++◌, false, arith, List, [], ◌∷◌, Option, Some, None, IfSome, length, inl, inr, refl, subst}
 use Rattle.imago_drivers.specs.Place.{Place}
 use Rattle.imago_drivers.specs.View.{View}

@@ -1,4 +1,5 @@
 -- The files of a VMDK image's extents, as a gate handed them out.
+-- SPDX-License-Identifier: MIT
 use Rattle.std.proofs.Common.{◌≡◌, ℕ, ◌&&◌, ◌++◌, Bool, true, false, List, [], ◌∷◌, None, Result, Ok}
 use Rattle.std.proofs.Common.{IsTrue, refl, sym, ap, ◌∙◌, subst, map}
 use Rattle.std.specs.Prelude.{slice_index_or}

@@ -1,4 +1,5 @@
 -- Why an image, or the file below one, isn't opened, where its host tells what files have.
+-- SPDX-License-Identifier: MIT
 use Rattle.std.proofs.Common.{◌≡◌, ℕ, Bool, List, [], ◌∷◌, Option, Some, None, Result, Err, IfErr, IfSome}
 use Rattle.std.proofs.Common.{sym, ap, subst, inl, inr}
 use Rattle.imago_storage.specs.Features.{Features}

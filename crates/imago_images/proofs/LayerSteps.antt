@@ -1,4 +1,5 @@
 -- What a file is as a layer, where its host tells what files have.
+-- SPDX-License-Identifier: MIT
 use Rattle.std.proofs.Common.{◌≡◌, ℕ, List, Option, Some, None, Result, Ok, Err, IfOk, IfSome}
 use Rattle.std.proofs.Common.{refl, sym, ap, subst, length}
 use Rattle.std.specs.Prelude.{option_map}

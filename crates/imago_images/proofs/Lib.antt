@@ -1,3 +1,4 @@
+-- SPDX-License-Identifier: MIT
 pub mod ShownBytes
 pub mod OverSteps
 pub mod PathSteps

@@ -1,4 +1,5 @@
 -- A file under two paths of one folder, or a raw one under any: the image is the same.
+-- SPDX-License-Identifier: MIT
 use Rattle.std.proofs.Common.{◌≡◌, ℕ, true, List, [], ◌∷◌, map, Option, Some, None, Ok, refl, ap, ◌∙◌, subst, length, slice_index_or}
 use Rattle.std.specs.Path.{path_join}
 use Rattle.imago_drivers.specs.Place.{Place}

@@ -1,4 +1,5 @@
 -- What a qcow2 file says of the one below it.
+-- SPDX-License-Identifier: MIT
 use Rattle.std.proofs.Common.{◌≡◌, ℕ, ◌<◌, List, Option, Some, None, Result, Ok, Err}
 use Rattle.std.proofs.Common.{IfOk, IfSome, MatchResult, IsErr, Global, sym, ap, ◌∙◌, subst, length, inl, inr}
 use Rattle.std.specs.Prelude.{option_map}

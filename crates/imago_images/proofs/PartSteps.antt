@@ -1,4 +1,5 @@
 -- What is in a layer that was opened, and what a gate handed out.
+-- SPDX-License-Identifier: MIT
 use Rattle.std.proofs.Common.{◌≡◌, ℕ, Bool, List, Option, Some, None, Ok, IfOk, IfSome, IsTrue, refl, sym, ap, ◌∙◌, subst}
 use Rattle.std.specs.Prelude.{option_map}
 use Rattle.std.specs.Borrow.{MutBor}

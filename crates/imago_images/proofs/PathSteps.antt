@@ -1,4 +1,5 @@
 -- What is seen of the storage of a path, for drivers over it.
+-- SPDX-License-Identifier: MIT
 use Rattle.std.proofs.Common.{ℕ, List, Option}
 use Rattle.std.specs.String.{string_bytes}
 use Rattle.imago_storage.specs.Features.{Features}

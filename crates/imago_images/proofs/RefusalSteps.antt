@@ -1,4 +1,5 @@
 -- Refusals, passed on.
+-- SPDX-License-Identifier: MIT
 use Rattle.std.proofs.Common.{◌≡◌, ℕ, ◌⊎◌, Bool, true, false, not, List, Option, Some, None, Result, Ok, Err, IfErr, IfSome}
 use Rattle.std.proofs.Common.{refl, sym, ap, ◌∙◌, subst, length, inl, inr}
 use Rattle.std.specs.Path.{PathStartsWith}

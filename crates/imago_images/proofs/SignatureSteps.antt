@@ -1,4 +1,5 @@
 -- What a file is recognised as by its blocks.
+-- SPDX-License-Identifier: MIT
 use Rattle.std.proofs.Common.{◌≡◌, ◌∙◌, ◌<◌, ap, sym, refl, List, ℕ, Option, Some, None, length, arith, min, nat_lt, true, false, ◌-◌, ◌≤◌, Bool, IsTrue, Result, Ok, Err, OnOk, IfOk, subst}
 use Rattle.std.proofs.lemmas.Bool.Decides.{nat_tests}
 use Rattle.imago_storage.specs.Bytes.{IsReadAt}

@@ -1,4 +1,5 @@
 -- A VMDK image that was opened over the files of a host is the layer of its descriptor's file.
+-- SPDX-License-Identifier: MIT
 use Rattle.std.proofs.Common.{◌≡◌, ℕ, List, [], ◌∷◌, Option, None, Ok, IfSome, IsTrue, sym, ◌∙◌, subst, map}
 use Rattle.std.specs.Prelude.{slice_index_or}
 use Rattle.std.specs.List.{sum_by}

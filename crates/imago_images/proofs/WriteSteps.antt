@@ -1,4 +1,5 @@
 -- A raw image that is opened for writing.
+-- SPDX-License-Identifier: MIT
 use Rattle.std.proofs.Common.{◌≡◌, ℕ, List, [], ◌∷◌, Option, Some, None, IfSome, length, refl}
 use Rattle.imago_storage.specs.Features.{Features}
 use Rattle.imago_drivers.specs.Place.{Place}

@@ -1,5 +1,6 @@
 -- What the name of a backing file in a qcow2 header stands for: a file, or something that is
 -- reached by a protocol.
+-- SPDX-License-Identifier: MIT
 use Rattle.std.specs.Prelude.{ℕ, Bool, true, false, List, [], ◌∷◌, Option, Some, None}
 use Rattle.std.specs.Prelude.{codes, drop, nat_eq, if◌then◌else◌}
 use Rattle.std.specs.List.{starts_with}

@@ -1,4 +1,5 @@
 -- The files on the way down from an image's, and why one of them isn't opened.
+-- SPDX-License-Identifier: MIT
 use Rattle.std.specs.Prelude.{◌≡◌, ℕ, ◌≤◌, ◌⊎◌, ◌++◌, List, [], ◌∷◌, Option, Some, None, IfSome}
 use Rattle.std.specs.Prelude.{Bool, true, false, length}
 use Rattle.imago_images.specs.declared.failure.OpenError.{OpenError}

@@ -1,4 +1,5 @@
 -- What a VMDK descriptor says of its extents' files and of its disk's size.
+-- SPDX-License-Identifier: MIT
 use Rattle.std.specs.Prelude.{ℕ, List, [], ◌∷◌, Result, Ok, Err}
 use Rattle.imago_storage.specs.declared.error.Error.{Error}
 use Rattle.imago_vmdk.specs.declared.line.Extent.{Extent}

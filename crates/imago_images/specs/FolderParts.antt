@@ -1,4 +1,5 @@
 -- What is seen of the folder of an image.
+-- SPDX-License-Identifier: MIT
 use Rattle.std.specs.Prelude.{◌≡◌, ℕ, List, Option, Some, None, option_map, IfSome}
 use Rattle.std.specs.Path.{PathStartsWith}
 use Rattle.std.specs.String.{string_bytes}

@@ -1,4 +1,5 @@
 -- Which of the files that an image names its gate lets through, and what it hands out for them.
+-- SPDX-License-Identifier: MIT
 use Rattle.std.specs.Prelude.{◌≡◌, ℕ, true, List, [], ◌∷◌, Option, Some, unwrap_or}
 use Rattle.std.specs.Prelude.{IfSome}
 use Rattle.std.specs.Path.{path_parent}

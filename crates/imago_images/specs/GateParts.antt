@@ -1,4 +1,5 @@
 -- What is seen of the gate of an image's files.
+-- SPDX-License-Identifier: MIT
 use Rattle.std.specs.Prelude.{ℕ, List, Option}
 use Rattle.imago_images.specs.declared.gate.FolderGate.{FolderGate}
 use Rattle.imago_images.specs.declared.gate.Named.{Named}

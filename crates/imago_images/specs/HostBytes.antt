@@ -1,4 +1,5 @@
 -- The bytes of a host's files, as files and storages show them.
+-- SPDX-License-Identifier: MIT
 use Rattle.std.specs.Prelude.{◌≡◌, ℕ, List, Option, option_map, IsTrue}
 use Rattle.imago_storage.specs.Features.{Features}
 use Rattle.imago_file.specs.Contents.{resized}

@@ -1,4 +1,5 @@
 -- What the image of a file is, layer by layer, by the bytes of the files.
+-- SPDX-License-Identifier: MIT
 use Rattle.std.specs.Prelude.{◌≡◌, ℕ, true, List, [], ◌∷◌, map, Option, Some, None}
 use Rattle.std.specs.Prelude.{length, slice_index_or, Ok}
 use Rattle.imago_drivers.specs.Place.{Place}

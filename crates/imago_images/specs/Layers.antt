@@ -1,4 +1,5 @@
 -- What a layer's file says of its disk's size and of the file below it, and what layers show.
+-- SPDX-License-Identifier: MIT
 use Rattle.std.specs.Prelude.{◌≡◌, ℕ, ◌<◌, ◌⊎◌, false, List, [], ◌∷◌, Option, Some, None}
 use Rattle.std.specs.Prelude.{length, IsTrue}
 use Rattle.imago_drivers.specs.Place.{Place, Value, Byte, shown}

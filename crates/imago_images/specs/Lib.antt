@@ -1,3 +1,4 @@
+-- SPDX-License-Identifier: MIT
 pub mod Signatures
 pub mod Formats
 pub mod Opening

@@ -1,4 +1,5 @@
 -- Which files are opened besides the one whose path is given.
+-- SPDX-License-Identifier: MIT
 use Rattle.std.specs.Prelude.{Bool, false, true}
 use Rattle.imago_images.specs.declared.opening.OtherFiles.{OtherFiles}
 use Rattle.imago_images.specs.declared.opening.OtherFiles.TheVariants as Others

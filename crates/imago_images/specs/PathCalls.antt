@@ -1,4 +1,5 @@
 -- What the calls of the file of a path are.
+-- SPDX-License-Identifier: MIT
 use Rattle.std.specs.Prelude.{◌≡◌, ℕ, ◌≤◌, List, Ok, IsErr, OnOk, OnErr, Result}
 use Rattle.std.specs.declared.io.Error.{Error as IoError}
 use Rattle.imago_file.specs.FileCalls.{FileCalls, Answer}

@@ -1,4 +1,5 @@
 -- What is seen of the file of a path.
+-- SPDX-License-Identifier: MIT
 use Rattle.std.specs.Prelude.{ℕ, Bool, true, false, List, Option}
 use Rattle.std.specs.String.{string_bytes}
 use Rattle.imago_images.specs.declared.file.Access.{Access}

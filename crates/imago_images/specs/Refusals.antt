@@ -1,4 +1,5 @@
 -- Why files aren't opened for an image: whose fault it is, and what holds there.
+-- SPDX-License-Identifier: MIT
 use Rattle.std.specs.Prelude.{◌≡◌, ◌≢◌, ℕ, ◌⊎◌, true, false, List, [], ◌∷◌, Option, Some, None}
 use Rattle.std.specs.Prelude.{Ok, Err, IfSome, IsTrue, String, codes, length}
 use Rattle.std.specs.Global.{Global}

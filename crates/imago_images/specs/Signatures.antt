@@ -1,4 +1,5 @@
 -- What the files of each format begin or end with, and what a file is recognised as by that.
+-- SPDX-License-Identifier: MIT
 use Rattle.std.specs.Prelude.{ℕ, ◌-◌, Bool, true, false, List, [], ◌∷◌, length, take, drop, min}
 use Rattle.std.specs.Prelude.{Option, Some, None, option_map, codes, nat_lt, if◌then◌else◌}
 use Rattle.std.specs.List.{find}

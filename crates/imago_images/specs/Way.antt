@@ -1,4 +1,5 @@
 -- The files on the way down a chain.
+-- SPDX-License-Identifier: MIT
 use Rattle.std.specs.Prelude.{ℕ, ◌&&◌, Bool, List, nat_eq}
 use Rattle.std.specs.List.{list_any}
 use Rattle.imago_images.specs.declared.files.FileStatus.{FileStatus}

@@ -1,3 +1,4 @@
+// SPDX-License-Identifier: MIT
 //! What a qcow2 image's name of the file below it stands for.
 ghost use Rattle.std.specs.Prelude.{◌≡◌, option_map};
 ghost use Rattle.imago_images.specs.BackingNames.{names_protocol as name_names_protocol};

@@ -1,3 +1,4 @@
+// SPDX-License-Identifier: MIT
 //! Why an image isn't opened.
 ghost use Rattle.std.specs.Prelude.{◌≡◌, MatchResult, IsErr, IfErr};
 ghost use Rattle.imago_images.specs.declared.failure.OpenError.TheVariants.{Memory};

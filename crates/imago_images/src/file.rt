@@ -1,3 +1,4 @@
+// SPDX-License-Identifier: MIT
 //! A file by its path, as a file that is open.
 ghost use Rattle.std.specs.Prelude.{◌≡◌, ◌<◌, ◌≤◌, ◌+◌, ℕ, List, Some, true, false};
 ghost use Rattle.std.specs.Prelude.{IfOk, IfErr, IfSome};

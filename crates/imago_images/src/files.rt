@@ -1,3 +1,4 @@
+// SPDX-License-Identifier: MIT
 //! Files that are found and read by their paths.
 ghost use Rattle.std.specs.Prelude.{◌≡◌, ℕ, List, Option, None, Some, true};
 ghost use Rattle.std.specs.Prelude.{OnOk, IfOk, IfSome, length};

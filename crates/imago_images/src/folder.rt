@@ -1,3 +1,4 @@
+// SPDX-License-Identifier: MIT
 //! The folder of an image, and the links that lead out of it.
 
 ghost use Rattle.std.specs.Prelude.{◌≡◌, true, IfOk, IfErr};

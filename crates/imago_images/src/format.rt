@@ -1,3 +1,4 @@
+// SPDX-License-Identifier: MIT
 //! The formats of images in files, and which one a file is taken to have.
 ghost use Rattle.std.specs.Prelude.{◌≡◌};
 ghost use Rattle.imago_images.specs.Formats.{qcow2_by_name, descriptor_by_name};

@@ -1,3 +1,4 @@
+// SPDX-License-Identifier: MIT
 //! The gate of the files that an image names.
 ghost use Rattle.std.specs.Prelude.{◌≡◌, ℕ, List, Option, true, false, Some, IfOk, IfErr, IfSome};
 ghost use Rattle.std.specs.String.{string_bytes};

@@ -1,3 +1,4 @@
+// SPDX-License-Identifier: MIT
 //! A layer by itself: a file in a format, and the name of the file below it.
 ghost use Rattle.std.specs.Prelude.{◌≡◌, ◌≤◌, ℕ, ◌⊎◌, List, Option, None, Some, IfOk, IfErr, IfSome, IsErr};
 ghost use Rattle.std.specs.Prelude.{IsTrue, MatchResult, length, option_map};

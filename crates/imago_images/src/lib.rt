@@ -1,3 +1,4 @@
+// SPDX-License-Identifier: MIT
 //! Disk images in files, opened by their paths: raw files, VMDK descriptors with the files of
 //! their extents, and qcow2 images with all of their backing files.
 //!

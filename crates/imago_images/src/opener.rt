@@ -1,3 +1,4 @@
+// SPDX-License-Identifier: MIT
 //! An image, opened by its path.
 ghost use Rattle.std.specs.Prelude.{◌≡◌, ◌+◌, ◌++◌, ◌∷◌, [], ℕ, List, Some, true, false};
 ghost use Rattle.std.specs.Prelude.{length};

@@ -1,3 +1,4 @@
+// SPDX-License-Identifier: MIT
 //! How images are to be opened.
 ghost use Rattle.std.specs.Prelude.{◌≡◌};
 ghost use Rattle.imago_images.specs.Opening.{may_be_outside};

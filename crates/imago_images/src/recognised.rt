@@ -1,3 +1,4 @@
+// SPDX-License-Identifier: MIT
 //! What a file is recognised as by the bytes that it begins or ends with.
 ghost use Rattle.std.specs.Prelude.{◌≡◌, ℕ, List, OnOk, IfOk, IfErr, length as count_of};
 ghost use Rattle.imago_plan.specs.PieceBytes.{bytes_at};

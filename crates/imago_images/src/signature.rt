@@ -1,3 +1,4 @@
+// SPDX-License-Identifier: MIT
 //! What the files of each format begin or end with, by which a file is recognised.
 ghost use Rattle.std.specs.Prelude.{◌≡◌, map, take, drop};
 ghost use Rattle.imago_images.specs.Signatures.{known, stands, found_first};

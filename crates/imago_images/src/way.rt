@@ -1,3 +1,4 @@
+// SPDX-License-Identifier: MIT
 //! The way down a chain.
 ghost use Rattle.std.specs.Prelude.{◌≡◌, ◌++◌, ◌∷◌, [], ℕ, List, true, false, OnOk, IfErr};
 ghost use Rattle.imago_images.specs.PathFile.{file_path, file_status};

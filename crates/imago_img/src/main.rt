@@ -1,3 +1,4 @@
+// SPDX-License-Identifier: MIT
 //! The program `imago-img`: what disk images in files are, where their bytes stand, and their way
 //! into raw files.
 #![tactic(auto)]

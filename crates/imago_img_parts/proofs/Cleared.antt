@@ -1,4 +1,5 @@
 -- What is so of files once an unfinished file is removed.
+-- SPDX-License-Identifier: MIT
 use Rattle.std.proofs.Common.{◌≡◌, inl, inr, ⊎_elim, Bool, true, false, List, ℕ, Option, Result, Ok, Err, OnOk, OnErr, refl, sym, subst}
 use Rattle.std.proofs.lemmas.Bool.{true≢false}
 use Rattle.imago_img_parts.specs.Files.{Around, IsSoOnceCleared, IsWithoutLeftOver}

@@ -1,3 +1,4 @@
+-- SPDX-License-Identifier: MIT
 use Rattle.std.proofs.Common.{◌≡◌, ℕ, List, ◌∷◌, [], ◌++◌, ◌+◌, ◌/◌, ◌%◌, ◌^◌, ◌<◌, ◌≤◌, length, drop}
 use Rattle.std.proofs.Common.{ap, sym, ◌∙◌, set}
 use Rattle.std.specs.Fmt.{decimal}

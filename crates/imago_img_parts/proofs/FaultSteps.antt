@@ -1,4 +1,5 @@
 -- What a check that found no fault says of the files of an image.
+-- SPDX-License-Identifier: MIT
 use Rattle.std.proofs.Common.{◌≡◌, ℕ, ◌+◌, ◌-◌, ◌/◌, ◌%◌, ◌<◌, ◌≤◌, ◌⊎◌, arith, List, ◌∷◌, map, length, Option, Some, None, Result, Ok, Err, IfOk, IfSome, String, Global, IsTrue, string_bytes, refl, sym, ap, subst, ◌∙◌}
 use Rattle.imago_storage.specs.Features.{Features}
 use Rattle.std.specs.Prelude.{MatchResult, is_ok, IsErr}

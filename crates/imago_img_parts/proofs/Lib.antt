@@ -1,3 +1,4 @@
+-- SPDX-License-Identifier: MIT
 mod Disks
 mod Overwritten
 mod Told

@@ -1,4 +1,5 @@
 -- What is put over a file that is there: the disk of an image, or its first bytes.
+-- SPDX-License-Identifier: MIT
 use Rattle.std.proofs.Common.{◌≡◌, ℕ, ◌≤◌, inl, inr, ⊎_elim, min, List, [], map, Option, Some, None, Result, Ok, Err, length, OnOk, OnErr, IfSome, IsTrue, refl, sym, ap, subst, ◌∙◌, arith}
 use Rattle.std.proofs.lemmas.List.{append-nil, length-map, length-take}
 use Rattle.imago_drivers.specs.Place.{Byte}

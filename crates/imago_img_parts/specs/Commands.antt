@@ -1,4 +1,5 @@
 -- What the commands of `imago-img` do, by the status that each gives.
+-- SPDX-License-Identifier: MIT
 use Rattle.std.specs.Prelude.{◌≡◌, ◌⊎◌, ℕ, Bool, true, false, List, Option, IfSome}
 use Rattle.std.specs.Prelude.{option_map}
 use Rattle.imago_words.specs.declared.command.Command.{Command}

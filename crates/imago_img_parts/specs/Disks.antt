@@ -1,4 +1,5 @@
 -- The disks of images in files, and what the commands on whole disks do with them.
+-- SPDX-License-Identifier: MIT
 use Rattle.std.specs.Prelude.{◌≡◌, ◌≢◌, ℕ, ◌≤◌, ◌⊎◌, ◌&&◌, ◌==◌, Bool, true, false, not}
 use Rattle.std.specs.Prelude.{List, [], ◌++◌, take, length, map, Option, Some, None, option_map}
 use Rattle.std.specs.Prelude.{IfSome}

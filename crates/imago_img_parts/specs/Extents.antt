@@ -1,4 +1,5 @@
 -- What is found under the names of a descriptor's extents.
+-- SPDX-License-Identifier: MIT
 use Rattle.std.specs.Prelude.{◌≡◌, ℕ, ◌+◌, ◌*◌, ◌≤◌, List, length}
 use Rattle.imago_file.specs.Names.{path_beside}
 use Rattle.imago_images.specs.declared.opening.OtherFiles.{OtherFiles}

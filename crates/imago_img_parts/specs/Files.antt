@@ -1,4 +1,5 @@
 -- The files of a host: what is told of them, and what making one does to them.
+-- SPDX-License-Identifier: MIT
 use Rattle.std.specs.Prelude.{◌≡◌, ◌≢◌, ◌⊎◌, ℕ, ◌+◌, ◌-◌, Bool, true, false, ◌||◌}
 use Rattle.std.specs.Prelude.{List, [], ◌++◌, Option, Some, None, drop, length}
 use Rattle.std.specs.Str.{bytes_eq}

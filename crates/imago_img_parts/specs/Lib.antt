@@ -1,3 +1,4 @@
+-- SPDX-License-Identifier: MIT
 pub mod Files
 pub mod Disks
 pub mod Lines

@@ -1,4 +1,5 @@
 -- The lines that tell where the bytes of a disk stand.
+-- SPDX-License-Identifier: MIT
 use Rattle.std.specs.Prelude.{ℕ, ◌-◌, List, [], ◌∷◌, ◌++◌, Option, None, Some}
 use Rattle.std.specs.Prelude.{length, replicate, codes}
 use Rattle.std.specs.Fmt.{decimal}

@@ -1,4 +1,5 @@
 -- How the images that a command line names are opened.
+-- SPDX-License-Identifier: MIT
 use Rattle.std.specs.Prelude.{Bool, true, false, not, Option, option_map}
 use Rattle.imago_words.specs.declared.command.Opening as Said
 use Rattle.imago_words.specs.declared.format.Format.{Format}

@@ -1,3 +1,4 @@
+// SPDX-License-Identifier: MIT
 //! Whether an image is in order.
 ghost use Rattle.std.specs.Prelude.{◌≡◌, ℕ, ◌<◌, List, map, length as count_of, true, false, Ok};
 ghost use Rattle.std.specs.Prelude.{IfOk, IfSome};

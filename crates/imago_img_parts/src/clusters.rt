@@ -1,3 +1,4 @@
+// SPDX-License-Identifier: MIT
 //! The clusters of a qcow2 file, as its disk has them.
 ghost use Rattle.std.specs.Prelude.{◌≡◌, ◌+◌, ◌/◌, ◌<◌, ◌≤◌, ◌⊎◌, true, IsTrue};
 ghost use Rattle.std.specs.Prelude.{IfOk, IfSome, IfNone, OnOk};

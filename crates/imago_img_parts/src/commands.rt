@@ -1,3 +1,4 @@
+// SPDX-License-Identifier: MIT
 //! The commands on whole disks, by the files that they read and make.
 
 pub use crate::compare::{Comparison, compare_images};

@@ -1,3 +1,4 @@
+// SPDX-License-Identifier: MIT
 //! Whether two images show the same.
 ghost use Rattle.std.specs.Prelude.{◌≡◌, true, false, IsTrue, IfOk, IfSome};
 ghost use Rattle.imago_access.specs.Chain.{tells_bytes};

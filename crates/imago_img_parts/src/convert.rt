@@ -1,3 +1,4 @@
+// SPDX-License-Identifier: MIT
 //! An image's disk, written to a raw file.
 ghost use Rattle.std.specs.Prelude.{◌≡◌, OnOk, OnErr, IfOk, IfSome, IsOk, option_map};
 ghost use Rattle.imago_img_parts.specs.Disks.{HasSize, IsDiskAppended, IsDiskPartlyAppended};

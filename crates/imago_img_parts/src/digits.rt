@@ -1,3 +1,4 @@
+// SPDX-License-Identifier: MIT
 //! Numbers as their decimal digits.
 ghost use Rattle.std.specs.Prelude.{◌≡◌, ◌<◌, ◌≤◌, drop, length};
 ghost use Rattle.std.specs.Fmt.{decimal};

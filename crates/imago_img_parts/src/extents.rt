@@ -1,3 +1,4 @@
+// SPDX-License-Identifier: MIT
 //! The files that extents stand in, as they are found.
 
 ghost use Rattle.std.specs.Prelude.{◌≡◌, ◌+◌, ◌*◌, ◌≤◌, ◌↔◌, IsTrue, IfOk, IfSome, false};

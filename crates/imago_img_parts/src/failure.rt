@@ -1,3 +1,4 @@
+// SPDX-License-Identifier: MIT
 //! Why a command isn't done.
 ghost use Rattle.std.specs.Prelude.{◌≡◌, MatchResult, IsErr};
 

@@ -1,3 +1,4 @@
+// SPDX-License-Identifier: MIT
 //! Where the commands find files, and make them.
 ghost use Rattle.std.specs.Prelude.{◌≡◌, ◌<◌, ◌≤◌, [], Option, Some, true, false};
 ghost use Rattle.std.specs.Prelude.{OnOk, OnErr, IfOk, IfSome, length, option_map, replicate};

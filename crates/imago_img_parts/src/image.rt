@@ -1,3 +1,4 @@
+// SPDX-License-Identifier: MIT
 //! What the commands ask of an opened image: whether its disk can be read, and its files.
 ghost use Rattle.std.specs.Prelude.{◌≡◌, IfOk};
 ghost use Rattle.imago_access.specs.Chain.{driver};

@@ -1,3 +1,4 @@
+// SPDX-License-Identifier: MIT
 //! What an image is.
 
 use crate::extents::{ExtentFile, bytes_of, find, tell_fault};

@@ -1,3 +1,4 @@
+// SPDX-License-Identifier: MIT
 //! Texts in JSON.
 
 use serde_json::Value;

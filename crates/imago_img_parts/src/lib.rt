@@ -1,3 +1,4 @@
+// SPDX-License-Identifier: MIT
 //! All of the program `imago-img` but its `main`: what a disk image in files is, where its bytes
 //! stand, and their way into a raw file.
 //!

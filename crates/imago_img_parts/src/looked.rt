@@ -1,3 +1,4 @@
+// SPDX-License-Identifier: MIT
 //! What is read of a file that was looked at: its first byte, or the text of a descriptor.
 ghost use Rattle.std.specs.Prelude.{◌≡◌, ℕ, List, IfOk};
 ghost use Rattle.imago_images.specs.HostBytes.{HasBytes};

@@ -1,3 +1,4 @@
+// SPDX-License-Identifier: MIT
 //! Where the bytes of an image's disk stand.
 ghost use Rattle.std.specs.Prelude.{◌≡◌, ◌<◌, ◌≤◌, ◌++◌, if◌then◌else◌, OnOk, option_map};
 ghost use Rattle.std.specs.Fmt.{decimal};

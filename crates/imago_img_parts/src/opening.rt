@@ -1,3 +1,4 @@
+// SPDX-License-Identifier: MIT
 //! How the images that a command line names are opened.
 ghost use Rattle.std.specs.Prelude.{◌≡◌, option_map};
 ghost use Rattle.imago_img_parts.specs.Openings.{how_by, image_format, others_by};

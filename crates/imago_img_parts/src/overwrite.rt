@@ -1,3 +1,4 @@
+// SPDX-License-Identifier: MIT
 //! An image's disk, written over a file that is there.
 ghost use Rattle.std.specs.Prelude.{◌≡◌, ◌≤◌, OnOk, OnErr, IfOk, IfSome, length};
 ghost use Rattle.imago_img_parts.specs.Disks.{HasSize, IsConvertedOver, IsPartlyConvertedOver};

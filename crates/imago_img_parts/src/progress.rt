@@ -1,3 +1,4 @@
+// SPDX-License-Identifier: MIT
 //! How far a copy is.
 ghost use Rattle.std.specs.Prelude.{◌≡◌};
 

@@ -1,3 +1,4 @@
+// SPDX-License-Identifier: MIT
 //! What a qcow2 file is.
 
 use crate::clusters::{ClusterCounts, count_clusters};

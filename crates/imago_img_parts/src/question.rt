@@ -1,3 +1,4 @@
+// SPDX-License-Identifier: MIT
 //! The questions that commands answer.
 
 use imago_words::command::{Check, Compare, Info, Map};

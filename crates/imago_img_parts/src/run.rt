@@ -1,3 +1,4 @@
+// SPDX-License-Identifier: MIT
 //! The program, over any host.
 ghost use Rattle.std.specs.Prelude.{◌≡◌, ◌≤◌, ◌&&◌, OnOk, OnErr, IfOk, IfSome, is_some, map};
 ghost use Rattle.std.specs.Prelude.{not, option_map};

@@ -1,3 +1,4 @@
+// SPDX-License-Identifier: MIT
 //! Files of an image that end before the bytes which its disk has there.
 
 use crate::host::Host;

@@ -1,3 +1,4 @@
+// SPDX-License-Identifier: MIT
 //! What speaks against reading an image: compressed clusters that can't be read, in which of its
 //! files, where, and why; and files that end too early.
 //!

@@ -1,3 +1,4 @@
+// SPDX-License-Identifier: MIT
 //! The system's files.
 ghost use Rattle.std.specs.Prelude.{◌≡◌, ◌+◌, ◌-◌, ◌<◌, ◌≤◌, min, None, IfOk, IfSome, IsNone, true};
 ghost use Rattle.std.specs.Prelude.{false, length, drop, option_to_list};

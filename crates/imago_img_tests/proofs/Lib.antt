@@ -1,2 +1,3 @@
+-- SPDX-License-Identifier: MIT
 mod Zeroes
 mod LeftOver

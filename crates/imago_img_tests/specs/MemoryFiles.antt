@@ -1,4 +1,5 @@
 -- What the files of a host in memory are.
+-- SPDX-License-Identifier: MIT
 use Rattle.std.specs.Prelude.{ℕ, Bool, false, ◌||◌, List, [], ◌∷◌, ◌++◌, length, Option, Some, None}
 use Rattle.std.specs.Prelude.{codes, filter, if◌then◌else◌, not}
 use Rattle.std.specs.Str.{bytes_eq}

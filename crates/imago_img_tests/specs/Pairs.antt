@@ -1,4 +1,5 @@
 -- What two files in memory are.
+-- SPDX-License-Identifier: MIT
 use Rattle.std.specs.Prelude.{ℕ, Bool, ◌||◌, List, [], if◌then◌else◌}
 use Rattle.std.specs.Str.{bytes_eq}
 use Rattle.std.specs.String.{string_bytes}

@@ -1,3 +1,4 @@
+// SPDX-License-Identifier: MIT
 //! Tests of the program `imago-img`, over a host whose files are in memory.
 #![tactic(auto)]
 

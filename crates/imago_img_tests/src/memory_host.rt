@@ -1,3 +1,4 @@
+// SPDX-License-Identifier: MIT
 //! A host whose files are in memory.
 ghost use Rattle.std.specs.Prelude.{◌≡◌, ◌+◌, ◌≤◌, [], Some, None, true, false, length, replicate};
 ghost use Rattle.std.specs.Prelude.{slice_index, EachIndex, IfOk, MatchOption, MatchResult};

@@ -1,3 +1,4 @@
+// SPDX-License-Identifier: MIT
 //! A host with two files in memory: an image, and a file that it is written into.
 ghost use Rattle.std.specs.Prelude.{◌≡◌, ◌≤◌, ◌++◌, [], Some, true, false, drop, length};
 ghost use Rattle.std.specs.Prelude.{MatchOption, ℕ, List};

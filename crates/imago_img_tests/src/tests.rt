@@ -1,3 +1,4 @@
+// SPDX-License-Identifier: MIT
 //! Command lines over files in memory: what each prints, its status, and the file that it makes.
 
 mod below;

@@ -1,3 +1,4 @@
+// SPDX-License-Identifier: MIT
 //! Decodes the streams of its standard input, for `tools/inflate-against-zlib`; and the tests of
 //! `imago_inflate`.
 //!

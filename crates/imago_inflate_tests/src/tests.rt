@@ -1,3 +1,4 @@
+// SPDX-License-Identifier: MIT
 //! Streams, what comes out of each, and why some are refused.
 //!
 //! Sound ones were made by zlib 1.2.13, through Python's `zlib.compressobj`, and what comes out is

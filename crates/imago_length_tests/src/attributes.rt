@@ -1,3 +1,4 @@
+// SPDX-License-Identifier: MIT
 //! The system's files, whose lengths are told by their attributes, asked for at each question. This
 //! is what `System` did before it sought the end of a file, kept as it was for the comparison.
 use std::cell::Cell;

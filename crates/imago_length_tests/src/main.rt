@@ -1,3 +1,4 @@
+// SPDX-License-Identifier: MIT
 //! Compares what `System` tells of files with what their attributes tell, asked for at each
 //! question: how many bytes come before a file's end or are behind it, and the bytes themselves.
 //! One file grows, shrinks and is replaced meanwhile. Which files `System` keeps open is seen where

@@ -1,2 +1,3 @@
+-- SPDX-License-Identifier: MIT
 pub mod LoadedSteps
 pub mod TableSteps

@@ -1,4 +1,5 @@
 -- Files of which some blocks are in memory.
+-- SPDX-License-Identifier: MIT
 use Rattle.std.proofs.Common.{◌≡◌, ℕ, ◌+◌, ◌-◌, ◌*◌, ◌%◌, ◌/◌, ◌<◌, ◌≤◌, ⊎_elim, inl, List, length, Result, Ok, Err, OnOk, refl, sym, ap, subst, ◌∙◌, arith, false}
 use Rattle.std.specs.Prelude.{slice_index, max, Option, Some, None, IsSome, IsTrue}
 use Rattle.std.specs.declared.vec.Vec.{Vec}

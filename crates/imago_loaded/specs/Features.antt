@@ -1,3 +1,4 @@
+-- SPDX-License-Identifier: MIT
 use Rattle.std.specs.Prelude.{true, false, refl}
 use Rattle.imago_storage.specs.Features.{Features, AsData, AreLawful}
 use Rattle.imago_storage.specs.Mem.{null_features}

@@ -1,3 +1,4 @@
+-- SPDX-License-Identifier: MIT
 pub mod Features
 pub mod Loaded
 pub mod Tables

@@ -1,3 +1,4 @@
+// SPDX-License-Identifier: MIT
 //! Files of which only some blocks are in memory.
 //!
 //! [`loaded`] has such a file, as a storage.

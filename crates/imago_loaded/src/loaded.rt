@@ -1,3 +1,4 @@
+// SPDX-License-Identifier: MIT
 //! A file of which some blocks are in memory.
 ghost use Rattle.std.specs.Prelude.{◌≡◌, ℕ, ◌+◌, ◌*◌, ◌%◌, ◌^◌, ◌<◌, ◌≤◌, List, length};
 ghost use Rattle.std.specs.Prelude.{slice_index, OnOk, IfErr, IsTrue, ◌↔◌};

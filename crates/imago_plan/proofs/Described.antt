@@ -1,4 +1,5 @@
 -- Images of one layer, by the bytes of its storages.
+-- SPDX-License-Identifier: MIT
 use Rattle.std.proofs.Common.{◌≡◌, ℕ, IsTrue, List, sym, ap, ◌∙◌, subst}
 use Rattle.imago_drivers.specs.Place.{Byte, shown}
 use Rattle.imago_drivers.specs.View.{View}

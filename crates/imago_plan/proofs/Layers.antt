@@ -1,4 +1,5 @@
 -- What an offset of an image leads to where its driver takes no layer below.
+-- SPDX-License-Identifier: MIT
 use Rattle.std.proofs.Common.{◌≡◌, ℕ, Bool, false, true, refl, sym, ap, ◌∙◌}
 use Rattle.imago_drivers.specs.Place.{Place, Stored, Zeroed, Special, Lower, Refused, End}
 use Rattle.imago_drivers.specs.Laws.{IsLawful}

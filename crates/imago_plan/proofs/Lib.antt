@@ -1,3 +1,4 @@
+-- SPDX-License-Identifier: MIT
 pub mod Mapped
 pub mod Pieces
 pub mod BytesAt

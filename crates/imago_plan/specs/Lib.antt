@@ -1,3 +1,4 @@
+-- SPDX-License-Identifier: MIT
 pub use Rattle.imago_file.specs.Names
 pub mod Pieces
 pub mod PieceBytes

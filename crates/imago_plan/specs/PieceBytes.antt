@@ -1,3 +1,4 @@
+-- SPDX-License-Identifier: MIT
 use Rattle.std.specs.Prelude.{ℕ, List, map, replicate, slice_index}
 use Rattle.std.specs.List.{range_with_len, flat_map}
 use Rattle.imago_plan.specs.declared.piece.Location.{Location}

@@ -1,3 +1,4 @@
+-- SPDX-License-Identifier: MIT
 use Rattle.std.specs.Prelude.{ℕ, List}
 use Rattle.imago_drivers.specs.Place.{Value, Byte, shown}
 use Rattle.imago_drivers.specs.View.{View}

@@ -1,2 +1,3 @@
+// SPDX-License-Identifier: MIT
 //! What the bytes of a disk are put into.
 pub use imago_copy::target::Target;

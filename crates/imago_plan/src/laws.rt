@@ -1,3 +1,4 @@
+// SPDX-License-Identifier: MIT
 //! Laws of plans. The functions do nothing; their contracts are proved.
 ghost use Rattle.std.specs.Prelude.{◌≡◌, ℕ, List, true, false, IsTrue, map};
 ghost use Rattle.imago_drivers.specs.Place.{Byte};

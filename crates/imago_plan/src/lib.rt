@@ -1,3 +1,4 @@
+// SPDX-License-Identifier: MIT
 //! Where the bytes of an image's disk stand.
 //!
 //! [`plan`] lists the pieces of a disk: zeroes, or bytes of one storage. A plan is right whatever

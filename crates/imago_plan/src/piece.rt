@@ -1,3 +1,4 @@
+// SPDX-License-Identifier: MIT
 //! A piece of a disk.
 ghost use Rattle.std.specs.Prelude.{◌≡◌, ◌+◌, ◌^◌, ◌<◌};
 

@@ -1,3 +1,4 @@
+// SPDX-License-Identifier: MIT
 //! The pieces of a disk.
 ghost use Rattle.std.specs.Prelude.{◌≡◌, ◌+◌, ◌^◌, ◌<◌, ◌≤◌, ◌++◌, ◌∷◌, [], List, Some, None};
 ghost use Rattle.std.specs.Prelude.{IfOk, IfErr, OnOk};

@@ -1,4 +1,5 @@
 -- Header extensions, one after the other.
+-- SPDX-License-Identifier: MIT
 use Rattle.std.proofs.Common.{⊎_elim, inl, inr, zero, suc, ◌≡◌, ℕ, ◌+◌, ◌-◌, ◌<◌, ◌≤◌, true, false, nat_lt, nat_eq, min, List, Option, Some, None, Result, Ok, Err, refl, sym, ap, ◌∙◌, arith}
 use Rattle.std.specs.Prelude.{if◌then◌else◌, IsTrue}
 use Rattle.std.specs.Int.{next_multiple_of}

@@ -1,4 +1,5 @@
 -- Reads of compressed clusters: what they give, and why they are refused.
+-- SPDX-License-Identifier: MIT
 use Rattle.std.proofs.Common.{◌≡◌, ℕ, ◌+◌, ◌-◌, ◌/◌, ◌%◌, ◌<◌, ◌≤◌, ◌⊎◌, ⊎_elim, inl, inr, Bool, true, false, List, ◌++◌, length, take, Option, None, Result, Ok, Err, refl, sym, ap, ◌∙◌, subst, arith, length-append, length-take}
 use Rattle.std.specs.Prelude.{IfErr, IfOk, OnOk, IsTrue, IsErr}
 use Rattle.std.proofs.Math.ListN.{get_or-append}

@@ -1,4 +1,5 @@
 -- The headers of two lists of bytes that begin alike.
+-- SPDX-License-Identifier: MIT
 use Rattle.std.proofs.Common.{◌≡◌, ℕ, ◌+◌, ◌^◌, ◌<◌, ◌≤◌, List, length, refl, ap, ◌∙◌, arith}
 use Rattle.std.specs.Prelude.{slice_index}
 use Rattle.imago_storage.specs.Bytes.{IsReadAt}

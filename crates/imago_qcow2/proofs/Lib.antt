@@ -1,3 +1,4 @@
+-- SPDX-License-Identifier: MIT
 pub mod NumberSteps
 pub mod HeaderSteps
 pub mod TableSteps

@@ -1,4 +1,5 @@
 -- A limit on tables, as they are loaded one after the other.
+-- SPDX-License-Identifier: MIT
 use Rattle.std.proofs.Common.{◌≡◌, ℕ, zero, suc, ◌+◌, ◌-◌, ◌*◌, ◌≤◌, ⊎_elim, Bool, true, false, ◌||◌, List, [], ◌∷◌, length, Option, Some, None, is_some, inr, mul-le-mul_left, refl, sym, ap, ◌∙◌, subst, arith, ◌/◌}
 use Rattle.std.specs.Prelude.{nat_eq}
 use Rattle.std.specs.BTreeMap.{get, is_at, Updates}

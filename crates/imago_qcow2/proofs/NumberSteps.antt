@@ -1,4 +1,5 @@
 -- Numbers that stand alike in two lists of bytes are the same.
+-- SPDX-License-Identifier: MIT
 use Rattle.std.proofs.Common.{◌≡◌, ℕ, ◌+◌, ◌<◌, ◌≤◌, List, length, ap, ◌∙◌, arith}
 use Rattle.std.specs.Prelude.{slice_index}
 use Rattle.imago_storage.specs.Bytes.{IsReadAt}

@@ -1,4 +1,5 @@
 -- The opening of an image by its builder.
+-- SPDX-License-Identifier: MIT
 use Rattle.std.proofs.Common.{◌≡◌, ◌⊎◌, Bool, true, false, ℕ, List, Result, Ok, Err}
 use Rattle.std.specs.Prelude.{IfOk, IfErr}
 use Rattle.imago_storage.specs.declared.error.Error.{Error}

@@ -1,4 +1,5 @@
 -- Reads of the file, and why they are refused.
+-- SPDX-License-Identifier: MIT
 use Rattle.std.proofs.Common.{◌≡◌, ℕ, ◌+◌, ◌<◌, ◌≤◌, ⊎_elim, inl, false, List, length, Result, Ok, Err, refl, ap, ◌∙◌, arith}
 use Rattle.std.specs.Prelude.{IfErr, IsErrOf}
 use Rattle.imago_storage.specs.declared.error.Error.{Error}

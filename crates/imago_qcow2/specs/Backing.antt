@@ -1,4 +1,5 @@
 -- What the header says of the backing file: its name, and the name of its format.
+-- SPDX-License-Identifier: MIT
 use Rattle.std.specs.Prelude.{◌≡◌, ℕ, zero, suc, ◌+◌, ◌-◌, ◌<◌, ◌≤◌, false, List, length, min}
 use Rattle.std.specs.Prelude.{Option, Some, None, Result, Ok, Err, if◌then◌else◌, nat_lt, nat_eq}
 use Rattle.std.specs.Prelude.{◌⊎◌, IsTrue}

@@ -1,4 +1,5 @@
 -- What compressed clusters hold. Each is a stream of its own.
+-- SPDX-License-Identifier: MIT
 use Rattle.std.specs.Prelude.{◌≡◌, ◌⊎◌, ℕ, Bool, true, false, List, slice_index, map}
 use Rattle.std.specs.Prelude.{Result, Ok, Err, IsOk, IsErr, Option, Some, None}
 use Rattle.std.specs.List.{range_with_len}

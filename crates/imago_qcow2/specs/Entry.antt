@@ -1,4 +1,5 @@
 -- What the bytes of a file say of its disk: the entries of its tables, and each offset's place.
+-- SPDX-License-Identifier: MIT
 use Rattle.std.specs.Prelude.{ℕ, ◌+◌, ◌-◌, ◌*◌, ◌%◌, ◌/◌, ◌^◌, Bool, true, false, ◌||◌, not}
 use Rattle.std.specs.Prelude.{List, length, slice_index, if◌then◌else◌, nat_lt, nat_eq}
 use Rattle.std.specs.Int.{w64, trailing_zeros}

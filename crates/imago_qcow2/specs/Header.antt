@@ -1,4 +1,5 @@
 -- What the header of a file says, and its faults.
+-- SPDX-License-Identifier: MIT
 use Rattle.std.specs.Prelude.{◌≡◌, ◌<◌, ◌≤◌, ℕ, ◌+◌, ◌-◌, ◌*◌, ◌%◌, ◌/◌, ◌^◌, ◌||◌, not}
 use Rattle.std.specs.Prelude.{Bool, List, slice_index, if◌then◌else◌, nat_lt, nat_eq, Result, Ok}
 use Rattle.std.specs.Prelude.{Err}

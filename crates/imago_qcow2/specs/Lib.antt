@@ -1,3 +1,4 @@
+-- SPDX-License-Identifier: MIT
 pub mod Numbers
 pub mod Header
 pub mod Compressed

@@ -1,4 +1,5 @@
 -- How many bytes the tables of an image have, and what a limit on them leaves.
+-- SPDX-License-Identifier: MIT
 use Rattle.std.specs.Prelude.{◌≡◌, ◌≤◌, ◌<◌, ◌⊎◌, ◌||◌, ℕ, zero, suc, ◌+◌, ◌-◌, ◌*◌, Bool, false}
 use Rattle.std.specs.Prelude.{List, [], ◌∷◌, length, Option, Some, None, is_some, nat_eq}
 use Rattle.std.specs.Prelude.{if◌then◌else◌}

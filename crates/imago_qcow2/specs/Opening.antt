@@ -1,4 +1,5 @@
 -- Why an image isn't opened, or looked at, and what the header of one that is says.
+-- SPDX-License-Identifier: MIT
 use Rattle.std.specs.Prelude.{◌≡◌, ℕ, ◌+◌, ◌*◌, ◌<◌, ◌≤◌, ◌⊎◌, Bool, false, ◌&&◌, ◌||◌, List}
 use Rattle.std.specs.Prelude.{length, nat_eq, IsOk, Ok, Err, IsTrue}
 use Rattle.std.specs.Int.{div_ceil}

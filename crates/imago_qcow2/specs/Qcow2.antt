@@ -1,4 +1,5 @@
 -- The view of an image: its places, and what its calls may be refused for and answer.
+-- SPDX-License-Identifier: MIT
 use Rattle.std.specs.Prelude.{◌≡◌, ℕ, ◌+◌, ◌-◌, ◌/◌, ◌<◌, ◌≤◌, ◌⊎◌, Bool, true, false, List, length}
 use Rattle.std.specs.Prelude.{None}
 use Rattle.imago_storage.specs.declared.error.Error.{Error}

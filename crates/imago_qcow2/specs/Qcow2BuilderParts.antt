@@ -1,4 +1,5 @@
 -- What is set in a builder of qcow2 images.
+-- SPDX-License-Identifier: MIT
 use Rattle.std.specs.Prelude.{Bool}
 use Rattle.imago_drivers.specs.Builder.{OpenSettings}
 use Rattle.imago_drivers.specs.BuilderBase.{open_settings}

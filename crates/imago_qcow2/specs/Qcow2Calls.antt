@@ -1,3 +1,4 @@
+-- SPDX-License-Identifier: MIT
 use Rattle.std.specs.Prelude.{◌≡◌, ℕ, ◌+◌, ◌/◌, ◌<◌, ◌⊎◌, Bool, List, length, IsTrue}
 use Rattle.std.specs.Prelude.{Result, Ok, Err, IsOk, IsErr, Option, None, refl}
 use Rattle.std.proofs.Common.{⊎_elim}

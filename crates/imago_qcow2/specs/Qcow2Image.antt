@@ -1,4 +1,5 @@
 -- What callers see of an image: its storage, and what was loaded of it when it was opened.
+-- SPDX-License-Identifier: MIT
 use Rattle.imago_qcow2.specs.declared.header.Header.{Header}
 use Rattle.imago_qcow2.specs.declared.qcow2.Qcow2.{Qcow2}
 use Rattle.imago_qcow2.specs.Tables.{LoadedImage, loaded_of}

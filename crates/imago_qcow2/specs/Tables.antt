@@ -1,5 +1,6 @@
 -- What was loaded of an image when it was opened, what that says of its disk, and how it follows
 -- from the bytes of the file.
+-- SPDX-License-Identifier: MIT
 use Rattle.std.specs.Prelude.{◌≡◌, ℕ, ◌*◌, ◌/◌, ◌%◌, List, length, slice_get}
 use Rattle.std.specs.Prelude.{Option, Some, None, IfSome, IsTrue, Ok}
 use Rattle.std.specs.Int.{div_ceil}

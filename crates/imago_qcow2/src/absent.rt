@@ -1,3 +1,4 @@
+// SPDX-License-Identifier: MIT
 //! Runs of absent guest clusters, by which the end of one is found without a look at each entry.
 ghost use Rattle.std.specs.Prelude.{◌≡◌, ℕ, ◌+◌, ◌*◌, ◌/◌, ◌%◌, ◌^◌, ◌<◌, ◌≤◌, length, IfOk, Some};
 ghost use Rattle.std.specs.Prelude.{slice_get};

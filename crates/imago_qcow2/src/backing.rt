@@ -1,3 +1,4 @@
+// SPDX-License-Identifier: MIT
 //! What an image says of its backing file.
 ghost use Rattle.std.specs.Prelude.{◌≡◌, ℕ, ◌+◌, ◌^◌, ◌<◌, ◌≤◌, IfOk, IfErr, IfSome, IsTrue, Ok};
 ghost use Rattle.imago_drivers.specs.Reasons.{allowed};

@@ -1,3 +1,4 @@
+// SPDX-License-Identifier: MIT
 //! The length of clusters, by which guest clusters are found.
 ghost use Rattle.std.specs.Prelude.{◌≡◌, ℕ, ◌-◌, ◌*◌, ◌/◌, ◌%◌, ◌^◌, ◌<◌, ◌≤◌};
 ghost use Rattle.imago_qcow2.specs.Header.{IsClusterSize};

@@ -1,3 +1,4 @@
+// SPDX-License-Identifier: MIT
 //! The bytes of compressed guest clusters.
 ghost use Rattle.std.specs.Prelude.{◌≡◌, ◌+◌, ◌≤◌, ◌^◌, length, IfOk, IfErr};
 ghost use Rattle.imago_storage.specs.declared.error.Error.TheVariants.{Memory};

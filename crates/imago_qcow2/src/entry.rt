@@ -1,3 +1,4 @@
+// SPDX-License-Identifier: MIT
 //! What the entries of an image's tables say.
 ghost use Rattle.std.specs.Prelude.{◌≡◌, ℕ, ◌^◌, ◌<◌, IfSome, None};
 ghost use Rattle.imago_qcow2.specs.Entry.{table_in_entry, cluster_in_entry};

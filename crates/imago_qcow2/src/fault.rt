@@ -1,3 +1,4 @@
+// SPDX-License-Identifier: MIT
 //! Why the header of a file is refused, and why an image isn't opened within a limit.
 ghost use Rattle.std.specs.Prelude.{◌≡◌};
 ghost use Rattle.imago_qcow2.specs.Fault.{error_of};

@@ -1,3 +1,4 @@
+// SPDX-License-Identifier: MIT
 //! The header of an image's file.
 ghost use Rattle.std.specs.Prelude.{◌≡◌, ◌≤◌, ◌<◌, ◌^◌, ◌+◌, ◌*◌, ◌/◌, length, OnOk, IfOk};
 ghost use Rattle.std.specs.Prelude.{true, false};

@@ -1,3 +1,4 @@
+// SPDX-License-Identifier: MIT
 //! Laws of disks, and what the definitions give for entries that are written out. The functions do
 //! nothing; their contracts are proved.
 ghost use Rattle.std.specs.Prelude.{◌≡◌, ℕ, ◌/◌, ◌≤◌, List, length, IsTrue, Ok};

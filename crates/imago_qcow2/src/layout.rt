@@ -1,3 +1,4 @@
+// SPDX-License-Identifier: MIT
 //! Where the tables of an image lie in its file: for who keeps these alone in memory.
 ghost use Rattle.std.specs.Prelude.{◌≡◌, ℕ, ◌+◌, ◌*◌, ◌^◌, ◌<◌, ◌≤◌, length, IfOk, IfErr, Err};
 ghost use Rattle.imago_qcow2.specs.Numbers.{be64};

@@ -1,3 +1,4 @@
+// SPDX-License-Identifier: MIT
 //! The driver of qcow2 images of versions 2 and 3, read-only.
 //!
 //! [`qcow2`] has the driver, [`header`] what a file's header says, [`fault`] why one is refused,

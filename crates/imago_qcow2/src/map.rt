@@ -1,3 +1,4 @@
+// SPDX-License-Identifier: MIT
 //! Mappings of places of the disk.
 ghost use Rattle.std.specs.Prelude.{◌≡◌, ℕ, ◌+◌, ◌-◌, ◌^◌, ◌<◌, ◌≤◌, true, false, IfOk, IfErr};
 ghost use Rattle.imago_storage.specs.declared.error.Error.{Error};

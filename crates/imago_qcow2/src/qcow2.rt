@@ -1,3 +1,4 @@
+// SPDX-License-Identifier: MIT
 //! The driver of qcow2 images.
 ghost use Rattle.std.specs.Prelude.{◌≡◌, ℕ, ◌+◌, ◌-◌, ◌*◌, ◌/◌, ◌%◌, ◌^◌, ◌<◌, ◌≤◌, ◌⊎◌, length};
 ghost use Rattle.std.specs.Prelude.{List, Some, true, false, IsErrOf, IfErr, IfOk, OnOk, IsTrue};

@@ -1,3 +1,4 @@
+// SPDX-License-Identifier: MIT
 //! The builder of qcow2 images.
 ghost use Rattle.std.specs.Prelude.{◌≡◌, false, Some, IfOk};
 ghost use Rattle.std.specs.String.{string_bytes};

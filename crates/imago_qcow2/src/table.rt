@@ -1,3 +1,4 @@
+// SPDX-License-Identifier: MIT
 //! The tables of an image, as they are in memory.
 ghost use Rattle.std.specs.Prelude.{◌≡◌, ℕ, suc, ◌+◌, ◌*◌, ◌/◌, ◌^◌, ◌<◌, ◌≤◌, length, slice_get};
 ghost use Rattle.std.specs.Prelude.{List, [], Option, Some, IfOk, IfErr, IfSome, IsTrue, OnOk};

@@ -1,4 +1,5 @@
 -- What the table of blocks of counts uses.
+-- SPDX-License-Identifier: MIT
 use Rattle.std.proofs.Common.{◌≡◌, ℕ, ◌+◌, ◌*◌, ◌/◌, ◌%◌, ◌<◌, List, length, not, nat_eq, refl, ap, sym, arith}
 use Rattle.imago_storage.specs.Bytes.{IsReadAt}
 use Rattle.imago_qcow2.proofs.NumberSteps.{read64}

@@ -1,4 +1,5 @@
 -- All uses, and the comparison with the counts.
+-- SPDX-License-Identifier: MIT
 use Rattle.std.proofs.Common.{◌≡◌, ℕ, ◌+◌, ◌*◌, ◌/◌, ◌%◌, ◌<◌, ◌≤◌, true, false, not, nat_lt, nat_eq, min, List, length, refl, ap, sym, ◌∙◌, arith}
 use Rattle.imago_qcow2_check.specs.declared.tally.Tally.{Tally}
 use Rattle.imago_qcow2_check.specs.declared.head.Head.{Head}

@@ -1,4 +1,5 @@
 -- What entries of L1 and L2 tables use.
+-- SPDX-License-Identifier: MIT
 use Rattle.std.proofs.Common.{◌%◌, ◌≡◌, ℕ, ◌+◌, ◌*◌, ◌/◌, ◌<◌, Bool, true, false, List, length, refl, ap, sym, arith}
 use Rattle.imago_storage.specs.Bytes.{IsReadAt}
 use Rattle.imago_qcow2.specs.declared.entry.GuestCluster.{GuestCluster}

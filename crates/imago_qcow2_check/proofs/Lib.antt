@@ -1,3 +1,4 @@
+-- SPDX-License-Identifier: MIT
 pub mod SumSteps
 pub mod TallySteps
 pub mod RangeSteps

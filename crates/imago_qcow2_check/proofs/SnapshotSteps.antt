@@ -1,4 +1,5 @@
 -- What snapshots use.
+-- SPDX-License-Identifier: MIT
 use Rattle.std.proofs.Common.{◌≡◌, ℕ, ◌+◌, ◌-◌, ◌%◌, ◌||◌, Bool, true, false, not, nat_lt, nat_eq, List, refl, ap, sym, ◌∙◌, add-one}
 use Rattle.imago_qcow2_check.specs.declared.tally.Tally.{Tally}
 use Rattle.imago_qcow2_check.specs.declared.snapshots.Snapshot.{Snapshot}

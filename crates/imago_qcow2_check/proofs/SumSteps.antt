@@ -1,4 +1,5 @@
 -- Sums over indices.
+-- SPDX-License-Identifier: MIT
 use Rattle.std.proofs.Common.{◌≡◌, ℕ, zero, suc, ◌+◌, ◌<◌, refl, ⊎_elim, add-one, arith}
 use Rattle.std.proofs.lemmas.Bool.{cases_eq}
 use Rattle.imago_qcow2_check.specs.Sums.{total}

@@ -1,4 +1,5 @@
 -- The clusters of a file, and which of them some of its bytes touch.
+-- SPDX-License-Identifier: MIT
 use Rattle.std.specs.Prelude.{ℕ, ◌+◌, ◌-◌, ◌*◌, ◌/◌, Bool, ◌||◌, ◌&&◌, not, nat_lt, nat_eq}
 use Rattle.std.specs.Prelude.{if◌then◌else◌}
 use Rattle.std.specs.Int.{div_ceil}

@@ -1,4 +1,5 @@
 -- What the comparison of counts and uses adds.
+-- SPDX-License-Identifier: MIT
 use Rattle.std.specs.Prelude.{◌≡◌, ◌<◌, ℕ, ◌+◌}
 use Rattle.imago_qcow2_check.specs.declared.tally.Tally.{Tally}
 use Rattle.imago_qcow2_check.specs.Sums.{total}

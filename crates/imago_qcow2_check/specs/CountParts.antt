@@ -1,4 +1,5 @@
 -- Reference counts as they are read, one block after the other.
+-- SPDX-License-Identifier: MIT
 use Rattle.std.specs.Prelude.{◌≡◌, ◌<◌, ℕ, ◌+◌, ◌*◌, ◌/◌, ◌%◌, List, length, slice_index, min}
 use Rattle.std.specs.Prelude.{nat_lt, if◌then◌else◌}
 use Rattle.imago_qcow2.specs.Numbers.{be64}

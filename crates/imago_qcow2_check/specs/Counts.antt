@@ -1,4 +1,5 @@
 -- What the reference counts of a file say.
+-- SPDX-License-Identifier: MIT
 use Rattle.std.specs.Prelude.{ℕ, zero, suc, ◌+◌, ◌-◌, ◌*◌, ◌/◌, ◌%◌, ◌^◌, ◌||◌, not}
 use Rattle.std.specs.Prelude.{List, slice_index, nat_lt, nat_eq, if◌then◌else◌}
 use Rattle.imago_qcow2.specs.Numbers.{be32, be64}

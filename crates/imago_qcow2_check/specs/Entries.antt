@@ -1,4 +1,5 @@
 -- What the entries of L1 and L2 tables use, and their faults.
+-- SPDX-License-Identifier: MIT
 use Rattle.std.specs.Prelude.{ℕ, ◌+◌, ◌-◌, ◌*◌, ◌/◌, ◌%◌, ◌^◌, Bool, ◌||◌, ◌&&◌, not, nat_lt}
 use Rattle.std.specs.Prelude.{nat_eq, List, if◌then◌else◌, true, false}
 use Rattle.imago_qcow2.specs.declared.entry.L2Table.{L2Table}

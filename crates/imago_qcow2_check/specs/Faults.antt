@@ -1,4 +1,5 @@
 -- The faults of a file, and the verdict on it.
+-- SPDX-License-Identifier: MIT
 use Rattle.std.specs.Prelude.{ℕ, ◌+◌, ◌/◌, ◌||◌, not, List, nat_lt, nat_eq}
 use Rattle.std.specs.Prelude.{if◌then◌else◌, true}
 use Rattle.imago_qcow2.specs.Entry.{l1_start}

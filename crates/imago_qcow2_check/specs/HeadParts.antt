@@ -1,4 +1,5 @@
 -- What the header says, as it is kept.
+-- SPDX-License-Identifier: MIT
 use Rattle.std.specs.Prelude.{◌≡◌, ℕ, List}
 use Rattle.imago_qcow2.specs.Entry.{version_of, cluster_length, l1_start}
 use Rattle.imago_qcow2_check.specs.declared.head.Head.{Head}

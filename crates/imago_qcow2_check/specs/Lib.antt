@@ -1,3 +1,4 @@
+-- SPDX-License-Identifier: MIT
 pub mod Sums
 pub mod TallyParts
 pub mod Clusters

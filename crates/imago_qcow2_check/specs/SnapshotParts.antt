@@ -1,4 +1,5 @@
 -- A snapshot as it is read.
+-- SPDX-License-Identifier: MIT
 use Rattle.std.specs.Prelude.{◌≡◌, ℕ, List}
 use Rattle.imago_qcow2_check.specs.declared.snapshots.Snapshot.{Snapshot}
 use Rattle.imago_qcow2_check.specs.Snapshots.{snapshot_l1, snapshot_l1_count, snapshot_end}

@@ -1,4 +1,5 @@
 -- The snapshot table of a file.
+-- SPDX-License-Identifier: MIT
 use Rattle.std.specs.Prelude.{ℕ, zero, suc, ◌+◌, ◌-◌, ◌%◌, Bool, ◌||◌, not, List, nat_lt, nat_eq}
 use Rattle.std.specs.Int.{next_multiple_of}
 use Rattle.imago_qcow2.specs.Numbers.{be32, be64}

@@ -1,4 +1,5 @@
 -- Sums over indices.
+-- SPDX-License-Identifier: MIT
 use Rattle.std.specs.Prelude.{ℕ, zero, suc, ◌+◌, Bool, if◌then◌else◌}
 
 -- the sum of the first n values

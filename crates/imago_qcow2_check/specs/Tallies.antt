@@ -1,4 +1,5 @@
 -- What is counted while a file is looked at.
+-- SPDX-License-Identifier: MIT
 use Rattle.std.specs.Prelude.{◌≡◌, ◌<◌, ℕ, ◌+◌, List, length, slice_index, nat_eq}
 use Rattle.imago_qcow2_check.specs.declared.shape.Shape.{Shape}
 use Rattle.imago_qcow2_check.specs.declared.tally.Tally.{Tally}

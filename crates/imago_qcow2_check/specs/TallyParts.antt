@@ -1,4 +1,5 @@
 -- Numbers from one to another.
+-- SPDX-License-Identifier: MIT
 use Rattle.std.specs.Prelude.{ℕ, ◌||◌, not, nat_lt, if◌then◌else◌}
 
 -- 1 for the numbers from one on and before another

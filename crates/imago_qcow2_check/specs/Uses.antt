@@ -1,4 +1,5 @@
 -- How often each cluster of a file is used.
+-- SPDX-License-Identifier: MIT
 use Rattle.std.specs.Prelude.{ℕ, ◌+◌, ◌*◌, ◌%◌, Bool, ◌&&◌, ◌||◌, not, List, length, nat_lt, nat_eq}
 use Rattle.std.specs.Prelude.{if◌then◌else◌, ◌/◌, false}
 use Rattle.std.specs.Int.{div_ceil}

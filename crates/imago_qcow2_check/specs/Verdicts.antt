@@ -1,4 +1,5 @@
 -- What a verdict says of a file.
+-- SPDX-License-Identifier: MIT
 use Rattle.std.specs.Prelude.{◌≡◌, ◌<◌, ◌≤◌, ◌⊎◌, ℕ, ◌+◌, ◌*◌, ◌/◌, true, List}
 use Rattle.imago_qcow2.specs.Numbers.{be64}
 use Rattle.imago_qcow2.specs.Entry.{l1_entry}

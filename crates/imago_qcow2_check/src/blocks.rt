@@ -1,3 +1,4 @@
+// SPDX-License-Identifier: MIT
 //! The table of blocks of reference counts, and the comparison of counts and uses.
 ghost use Rattle.std.specs.Prelude.{◌≡◌, ℕ, List, ◌+◌, ◌*◌, ◌/◌, ◌%◌, ◌^◌, ◌<◌, ◌≤◌, length};
 ghost use Rattle.std.specs.Prelude.{slice_index, OnOk};

@@ -1,3 +1,4 @@
+// SPDX-License-Identifier: MIT
 //! The reference counts of a file.
 ghost use Rattle.std.specs.Prelude.{◌≡◌, ℕ, List, ◌+◌, ◌-◌, ◌*◌, ◌/◌, ◌%◌, ◌^◌, ◌<◌, ◌≤◌, length};
 ghost use Rattle.std.specs.Prelude.{slice_index, min, OnOk, IfOk, IfSome, None, IsTrue};

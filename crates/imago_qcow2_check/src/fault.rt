@@ -1,3 +1,4 @@
+// SPDX-License-Identifier: MIT
 //! What a check finds, and why a file can't be checked.
 ghost use Rattle.std.specs.Prelude.{◌≡◌};
 ghost use Rattle.imago_qcow2_check.specs.Verdicts.{status_of};

@@ -1,3 +1,4 @@
+// SPDX-License-Identifier: MIT
 //! What the header of a file says of the parts that use clusters.
 ghost use Rattle.std.specs.Prelude.{◌≡◌, ℕ, List, ◌+◌, ◌*◌, ◌/◌, ◌%◌, ◌^◌, ◌<◌, ◌≤◌, length, IfOk};
 ghost use Rattle.std.specs.Prelude.{OnOk, IsTrue};

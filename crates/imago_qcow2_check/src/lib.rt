@@ -1,3 +1,4 @@
+// SPDX-License-Identifier: MIT
 //! The check of a qcow2 file: how often each of its clusters is used, against its reference count.
 //!
 //! [`check`] has the check, and [`fault`] what it finds and why a file can't be checked.

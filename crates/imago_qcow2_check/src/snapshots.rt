@@ -1,3 +1,4 @@
+// SPDX-License-Identifier: MIT
 //! The table of snapshots, and the tables of each.
 ghost use Rattle.std.specs.Prelude.{◌≡◌, ℕ, List, ◌+◌, ◌-◌, ◌*◌, ◌/◌, ◌%◌, ◌^◌, ◌<◌, ◌≤◌, length};
 ghost use Rattle.std.specs.Prelude.{nat_eq, nat_lt, not, ◌||◌, OnOk, IfOk, IsTrue};

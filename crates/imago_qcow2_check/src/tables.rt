@@ -1,3 +1,4 @@
+// SPDX-License-Identifier: MIT
 //! L1 tables, and the L2 tables that they name.
 ghost use Rattle.std.specs.Prelude.{◌≡◌, ℕ, List, ◌+◌, ◌-◌, ◌*◌, ◌/◌, ◌%◌, ◌^◌, ◌<◌, ◌≤◌, length};
 ghost use Rattle.std.specs.Prelude.{OnOk, IfOk, IsTrue};

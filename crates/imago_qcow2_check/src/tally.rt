@@ -1,3 +1,4 @@
+// SPDX-License-Identifier: MIT
 //! What is counted while a file is looked at.
 ghost use Rattle.std.specs.Prelude.{◌≡◌, ℕ, List, ◌+◌, ◌<◌, ◌≤◌, ◌*◌, length, slice_index};
 ghost use Rattle.std.specs.Prelude.{replicate, IfOk, OnOk};

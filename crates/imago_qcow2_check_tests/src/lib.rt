@@ -1,3 +1,4 @@
+// SPDX-License-Identifier: MIT
 //! Tests of `imago_qcow2_check`: files with a fault each, and what is said of them.
 #![tactic(auto)]
 

@@ -1,3 +1,4 @@
+// SPDX-License-Identifier: MIT
 //! Files with faults, and what is said of each.
 //!
 //! Expected verdicts and numbers are those of `qemu-img check`, version 7.2, on the same files.

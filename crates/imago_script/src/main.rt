@@ -1,3 +1,4 @@
+// SPDX-License-Identifier: MIT
 //! The program `imago-script`: it reads commands on disk images from its standard input, and prints
 //! a line for each.
 #![tactic(auto)]

@@ -1,3 +1,4 @@
+// SPDX-License-Identifier: MIT
 //! Scripts, what they print, and how they end.
 
 mod attacks;

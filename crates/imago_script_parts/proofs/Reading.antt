@@ -1,4 +1,5 @@
 -- Bytes that are read from digits: one more of them, all of them, and what is no digit.
+-- SPDX-License-Identifier: MIT
 use Rattle.std.proofs.Common.{◌≡◌, ℕ, suc, ◌+◌, ◌*◌, ◌/◌, ◌%◌, ◌<◌, ◌≤◌}
 use Rattle.std.proofs.Common.{List, [], ◌∷◌, length, slice_index, slice_set}
 use Rattle.std.proofs.Common.{Option, Some, None, Ok, Err, true, is_some, refl, sym, ap, ◌∙◌, arith}

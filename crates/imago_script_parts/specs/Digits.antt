@@ -1,4 +1,5 @@
 -- bytes as hexadecimal digits, two for each: which are read already, and what is no digit
+-- SPDX-License-Identifier: MIT
 use Rattle.std.specs.Prelude.{◌≡◌, ℕ, ◌+◌, ◌*◌, ◌/◌, ◌%◌, ◌<◌}
 use Rattle.std.specs.Prelude.{List, Some, None, length, slice_index}
 use Rattle.hex.specs.Hex.{hex_digit_value}

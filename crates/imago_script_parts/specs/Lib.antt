@@ -1,3 +1,4 @@
+-- SPDX-License-Identifier: MIT
 pub mod ScriptStorage
 pub mod Digits
 pub mod Words

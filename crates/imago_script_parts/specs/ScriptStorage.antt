@@ -1,3 +1,4 @@
+-- SPDX-License-Identifier: MIT
 use Rattle.std.specs.Prelude.{Result}
 use Rattle.imago.specs.DeclaredError.{Error}
 use Rattle.imago.specs.Maintenance.{Maintenance}

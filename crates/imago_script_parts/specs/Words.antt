@@ -1,3 +1,4 @@
+-- SPDX-License-Identifier: MIT
 use Rattle.std.specs.Prelude.{◌≡◌, ℕ, List, [], ◌∷◌, ◌++◌, ◌<◌, ◌≤◌, ◌⊎◌, Ok, length, EachIndex}
 use Rattle.std.specs.Prelude.{slice_index}
 use Rattle.hex.specs.Hex.{decode_of}

@@ -1,3 +1,4 @@
+// SPDX-License-Identifier: MIT
 //! What a script answers to a command.
 ghost use Rattle.std.specs.Prelude.{◌≤◌, length};
 

@@ -1,3 +1,4 @@
+// SPDX-License-Identifier: MIT
 //! What a line of a script says.
 ghost use Rattle.std.specs.Prelude.{◌≤◌, ◌^◌, ◌↔◌, IsSome};
 

@@ -1,3 +1,4 @@
+// SPDX-License-Identifier: MIT
 //! Bytes as hexadecimal digits, two for each.
 //!
 //! The loops have no branch in them, so that they take many bytes at once.

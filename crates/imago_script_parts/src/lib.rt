@@ -1,3 +1,4 @@
+// SPDX-License-Identifier: MIT
 //! All of the program `imago-script` but its `main`: scripts of commands on disk images, and what
 //! they print.
 //!

@@ -1,3 +1,4 @@
+// SPDX-License-Identifier: MIT
 //! A script: lines of commands, each answered by a line.
 ghost use Rattle.std.specs.Prelude.{◌≤◌};
 

@@ -1,3 +1,4 @@
+// SPDX-License-Identifier: MIT
 //! The storages of a script.
 ghost use Rattle.imago.specs.Openings.{no_openings};
 ghost use Rattle.imago_script_parts.specs.ScriptStorage.{by_kind, kinds_lawful};

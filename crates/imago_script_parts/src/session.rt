@@ -1,3 +1,4 @@
+// SPDX-License-Identifier: MIT
 //! What a script has made so far, and what its commands do to it.
 ghost use Rattle.std.specs.Prelude.{◌≡◌, None, IsErrOf};
 ghost use Rattle.std.specs.Option.{ForSome};

@@ -1,3 +1,4 @@
+// SPDX-License-Identifier: MIT
 //! What ends a script before its last line.
 
 use std::alloc::{AllocError, AllocFailed};

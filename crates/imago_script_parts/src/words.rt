@@ -1,3 +1,4 @@
+// SPDX-License-Identifier: MIT
 //! The words of a line, and what they spell.
 ghost use Rattle.std.specs.Prelude.{◌≡◌, ◌^◌, ◌%◌, ◌<◌, ◌≤◌, ◌↔◌, length};
 ghost use Rattle.std.specs.Prelude.{IsTrue, IfOk, IfErr};

@@ -1,4 +1,5 @@
 -- What layers that are open over a part of their files show.
+-- SPDX-License-Identifier: MIT
 use Rattle.std.proofs.Common.{⊎_elim, ◌≡◌, ℕ, suc, ◌+◌, ◌≤◌, List, Bool, true, false, refl, sym, ap, subst, ◌∙◌, arith, map, slice_index_or, ◌∷◌, [], Ok}
 use Rattle.std.specs.Prelude.{slice_index, nat_lt, if◌then◌else◌}
 use Rattle.std.specs.String.{string_bytes}

@@ -1,3 +1,4 @@
+-- SPDX-License-Identifier: MIT
 pub mod ReadSteps
 pub mod FormatSteps
 pub mod KnownSteps

@@ -1,4 +1,5 @@
 -- What is read of a file whose blocks are in memory is the file's.
+-- SPDX-License-Identifier: MIT
 use Rattle.std.proofs.Common.{◌≡◌, ℕ, ◌+◌, ◌-◌, ◌*◌, ◌/◌, ◌%◌, ◌<◌, ◌≤◌, ⊎_elim, List, length, refl, sym, ap, subst, ◌∙◌, arith}
 use Rattle.std.proofs.Common.{true≢false, Result, Ok, Err, IfOk}
 use Rattle.std.specs.Prelude.{slice_index, Option, Some, None, is_some, Bool, false, true, min, not, ◌||◌, nat_eq, nat_lt, if◌then◌else◌}

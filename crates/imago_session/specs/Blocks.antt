@@ -1,4 +1,5 @@
 -- What is in memory of a file, block by block.
+-- SPDX-License-Identifier: MIT
 use Rattle.std.specs.Prelude.{◌≡◌, ℕ, ◌*◌, ◌<◌, List, length}
 use Rattle.imago_loaded.specs.declared.loaded.LoadedFile.{LoadedFile}
 use Rattle.imago_loaded.specs.Loaded.{file_length, block_length, HasBytesOf, IsThere}

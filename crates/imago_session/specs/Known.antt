@@ -1,4 +1,5 @@
 -- What is known of the tables of a qcow2 file.
+-- SPDX-License-Identifier: MIT
 use Rattle.std.specs.Prelude.{◌≡◌, ℕ, ◌*◌, List, Option, Some, None, min}
 use Rattle.imago_qcow2.specs.Entry.{cluster_length, l1_start}
 use Rattle.imago_qcow2.specs.Opening.{table_count}

@@ -1,3 +1,4 @@
+-- SPDX-License-Identifier: MIT
 pub mod Steps
 pub mod Blocks
 pub mod Known

@@ -1,4 +1,5 @@
 -- How far the opening of an image is, and what it asks for.
+-- SPDX-License-Identifier: MIT
 use Rattle.std.specs.Prelude.{◌≡◌, ℕ, ◌+◌, ◌-◌, ◌<◌, List, [], length, map}
 use Rattle.std.specs.Prelude.{Option, slice_index, slice_index_or}
 use Rattle.std.specs.String.{string_bytes}

@@ -1,4 +1,5 @@
 -- What a step found.
+-- SPDX-License-Identifier: MIT
 use Rattle.std.specs.Prelude.{ℕ}
 use Rattle.imago_session.specs.declared.block.Step.{Step}
 use Rattle.imago_session.specs.declared.block.Step.TheVariants as S

@@ -1,3 +1,4 @@
+// SPDX-License-Identifier: MIT
 //! Which block of a file has to be in memory next.
 ghost use Rattle.std.specs.Prelude.{◌≡◌, ◌+◌, ◌^◌, ◌<◌, ◌≤◌, length, None, IfOk, IfErr, IfSome};
 ghost use Rattle.imago_storage.specs.Bytes.{IsReadAt};

@@ -1,3 +1,4 @@
+// SPDX-License-Identifier: MIT
 //! Images of which the files of the extents are asked for.
 ghost use Rattle.std.specs.Prelude.{◌≡◌, ◌+◌, ◌^◌, ◌≤◌, ◌<◌, ◌⊎◌, None, IfSome, [], map};
 ghost use Rattle.std.specs.Prelude.{slice_index_or};

@@ -1,3 +1,4 @@
+// SPDX-License-Identifier: MIT
 //! Laws of layers that are open over a part of their files. The functions do nothing; their
 //! contracts are proved.
 ghost use Rattle.std.specs.Prelude.{◌≡◌, ℕ};

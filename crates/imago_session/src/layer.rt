@@ -1,3 +1,4 @@
+// SPDX-License-Identifier: MIT
 //! The layers of images, over files of which only what is needed is in memory.
 ghost use Rattle.std.specs.Prelude.{◌≡◌, ℕ, ◌+◌, ◌^◌, ◌<◌, ◌≤◌, List, Option, None, true, map, length};
 ghost use Rattle.std.specs.Prelude.{◌++◌, IfOk, IfErr, OnOk, IfSome, IsOk};

@@ -1,3 +1,4 @@
+// SPDX-License-Identifier: MIT
 //! Images that are opened without any input of their own: they ask for bytes, and their caller
 //! gives them.
 //!

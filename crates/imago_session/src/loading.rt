@@ -1,3 +1,4 @@
+// SPDX-License-Identifier: MIT
 //! Files that aren't opened yet, since a block of them has to be in memory first.
 ghost use Rattle.std.specs.Prelude.{◌≡◌, ◌*◌, ◌^◌, ◌≤◌, length};
 ghost use Rattle.imago_session.specs.Blocks.{IsMissing};

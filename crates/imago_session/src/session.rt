@@ -1,3 +1,4 @@
+// SPDX-License-Identifier: MIT
 //! An image that is opened by asking for bytes.
 ghost use Rattle.std.specs.Prelude.{◌≡◌, ◌+◌, ◌^◌, ◌≤◌, ◌<◌, ◌⊎◌, ℕ, List, [], length, Some, None};
 ghost use Rattle.std.specs.Prelude.{IfOk, OnOk, IfErr, IfSome, MatchOption, map, slice_index_or};

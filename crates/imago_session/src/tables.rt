@@ -1,3 +1,4 @@
+// SPDX-License-Identifier: MIT
 //! The tables of a qcow2 file, as far as they are in memory.
 ghost use Rattle.std.specs.Prelude.{◌≡◌, ℕ, ◌+◌, ◌*◌, ◌/◌, ◌^◌, ◌<◌, ◌≤◌, ◌⊎◌, List, length, min};
 ghost use Rattle.std.specs.Prelude.{None, Err, IfOk, IfErr, IfSome};

@@ -1,3 +1,4 @@
+-- SPDX-License-Identifier: MIT
 use Rattle.std.proofs.Common.{◌≡◌, ℕ, ◌+◌, ◌-◌, ◌*◌, ◌%◌, ◌/◌, ◌<◌, ◌≤◌, arith, ap, ◌∙◌}
 use Rattle.std.proofs.Math.Nat.{mod-eq-zero_of_dvd, mod_self, mod-eq_of_lt, div-add-mod', dvd-mul_left}
 use Rattle.std.specs.Int.{next_multiple_of}

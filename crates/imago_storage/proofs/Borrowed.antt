@@ -1,4 +1,5 @@
 -- What was called of a storage behind a borrow, as calls of the borrow.
+-- SPDX-License-Identifier: MIT
 
 use Rattle.std.proofs.Common.{ℕ, List, [], ◌∷◌, replicate, ap, inl, inr, Result, MutBor}
 use Rattle.imago_storage.specs.declared.error.Error.{Error}

@@ -1,3 +1,4 @@
+-- SPDX-License-Identifier: MIT
 pub mod Alignment
 pub mod Powers
 pub mod Splices

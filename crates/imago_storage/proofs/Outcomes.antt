@@ -1,3 +1,4 @@
+-- SPDX-License-Identifier: MIT
 use Rattle.std.proofs.Common.{◌≡◌, ℕ, ◌<◌, ◌≤◌, ◌⊎◌, List, length, arith, inl, inr, ap, refl, ◌∙◌, Bool, IsTrue, Result, Ok, Err, OnOk, OnErr}
 use Rattle.imago_storage.specs.Bytes.{OldOrNew, WriteOutcome}
 use Rattle.imago_storage.specs.Calls.{ShowsNoChange}

@@ -1,3 +1,4 @@
+-- SPDX-License-Identifier: MIT
 use Rattle.std.proofs.Common.{◌≡◌, ℕ, ◌+◌, ◌-◌, ◌*◌, ◌%◌, ◌/◌, ◌^◌, ◌<◌, ◌≤◌, arith, inl, inr, ap, ◌∙◌}
 use Rattle.std.proofs.Math.Nat.{dvd-add, dvd-mul_right, mod-eq-zero_of_dvd, mod_self, mod-eq_of_lt, div-add-mod, le_of_dvd, dvd_of_mod-eq-zero, add-mod_left}
 use Rattle.std.proofs.lemmas.Nat.Gcd.{dvd_refl}

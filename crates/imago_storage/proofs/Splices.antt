@@ -1,3 +1,4 @@
+-- SPDX-License-Identifier: MIT
 use Rattle.std.proofs.Common.{◌≡◌, ℕ, ◌+◌, ◌-◌, ◌<◌, ◌≤◌, ◌⊎◌, List, ◌++◌, length, take, replicate, get_or, max, arith, inl, refl, ap, ◌∙◌}
 use Rattle.std.proofs.lemmas.List.{places, same_lists, take_at, length-append, length-replicate}
 use Rattle.imago_storage.specs.Bytes.{splice, OldOrNew}

@@ -1,3 +1,4 @@
+-- SPDX-License-Identifier: MIT
 use Rattle.std.proofs.Common.{◌≡◌, ℕ, ◌+◌, ◌-◌, ◌*◌, ◌%◌, ◌<◌, ◌≤◌, max, min, arith, ◌∙◌}
 use Rattle.std.proofs.Math.Nat.{add-mul}
 use Rattle.imago_storage.specs.Features.{Features, AreLawful, len_align}

@@ -1,3 +1,4 @@
+-- SPDX-License-Identifier: MIT
 use Rattle.std.proofs.Common.{◌≡◌, ℕ, ◌+◌, ◌-◌, ◌*◌, ◌<◌, ◌≤◌, ◌⊎◌, List, ◌++◌, length, take, drop, replicate, get_or, max, min, arith, inl, inr, refl, sym, ap, ◌∙◌, Bool, Result, Ok, Err, IsErrAnd}
 use Rattle.std.proofs.lemmas.List.{places, length-append, length-replicate, length-take-le, length-drop, take-append-drop, take_rest, get_or_append_left, get_or-append_right}
 use Rattle.std.proofs.lemmas.Grind.{same_number_lists}

@@ -1,3 +1,4 @@
+-- SPDX-License-Identifier: MIT
 use Rattle.std.proofs.Common.{◌≡◌, ℕ, ◌+◌, ◌-◌, ◌%◌, ◌≤◌, ◌⊎◌, List, take, replicate, get_or, max, min, arith, refl, ap, ◌∙◌, Bool, Result, Ok}
 use Rattle.std.proofs.lemmas.List.{places, length-replicate, take-replicate}
 use Rattle.std.specs.Int.{IsPowerOfTwo}

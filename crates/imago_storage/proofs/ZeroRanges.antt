@@ -1,3 +1,4 @@
+-- SPDX-License-Identifier: MIT
 use Rattle.std.proofs.Common.{◌≡◌, ℕ, ◌+◌, ◌-◌, ◌<◌, ◌≤◌, ◌⊎◌, List, length, replicate, get_or, max, arith, inl, inr, ⊎_elim, refl, sym, ap, ◌∙◌, Result, Ok, Err, IsOk}
 use Rattle.std.proofs.lemmas.List.{length-append, length-replicate, get_or-replicate, append-nil}
 use Rattle.std.proofs.lemmas.Grind.{same_number_lists}

@@ -1,3 +1,4 @@
+-- SPDX-License-Identifier: MIT
 use Rattle.std.specs.Prelude.{◌≡◌, ◌≢◌, ℕ, ◌+◌, ◌-◌, ◌<◌, ◌≤◌, ◌⊎◌, List, ◌++◌, length, take, drop}
 use Rattle.std.specs.Prelude.{min, max, replicate, slice_index, EachIndex, Bool, IsTrue, Result}
 use Rattle.std.specs.Prelude.{OnOk, OnErr}

@@ -1,3 +1,4 @@
+-- SPDX-License-Identifier: MIT
 use Rattle.std.specs.Prelude.{◌≡◌, ◌≢◌, ℕ, ◌+◌, ◌-◌, ◌%◌, ◌<◌, ◌≤◌, ◌⊎◌, ◌↔◌, false, List, length}
 use Rattle.std.specs.Prelude.{replicate, Result, IsTrue, OnOk, OnErr, IfErr, IsErrOf, IsOk}
 use Rattle.imago_storage.specs.declared.error.Error.{Error}

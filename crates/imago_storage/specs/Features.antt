@@ -1,3 +1,4 @@
+-- SPDX-License-Identifier: MIT
 use Rattle.std.specs.Prelude.{◌≡◌, ◌≢◌, ℕ, ◌+◌, ◌%◌, ◌^◌, ◌<◌, ◌⊎◌, Bool, IsTrue, List, Option, max}
 use Rattle.std.specs.Int.{IsPowerOfTwo}
 use Rattle.imago_storage.specs.declared.options.ZeroKind.{ZeroKind}

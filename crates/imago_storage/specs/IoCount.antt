@@ -1,3 +1,4 @@
+-- SPDX-License-Identifier: MIT
 use Rattle.std.specs.Prelude.{ℕ, ◌+◌, ◌*◌, ◌<◌, ◌≤◌, max, min}
 use Rattle.imago_storage.specs.Features.{Features, len_align}
 use Rattle.imago_storage.specs.Padding.{padded_length}

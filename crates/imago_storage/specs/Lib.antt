@@ -1,3 +1,4 @@
+-- SPDX-License-Identifier: MIT
 pub mod Error
 pub mod Bytes
 pub mod Features

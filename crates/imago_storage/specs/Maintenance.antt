@@ -1,3 +1,4 @@
+-- SPDX-License-Identifier: MIT
 use Rattle.std.specs.Prelude.{◌≡◌, ℕ, ◌⊎◌, List, Result, Ok, Err, OnOk, OnErr}
 use Rattle.imago_storage.specs.Bytes.{splice, IsResized}
 use Rattle.imago_storage.specs.declared.error.Error.{Error}

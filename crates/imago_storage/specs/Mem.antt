@@ -1,3 +1,4 @@
+-- SPDX-License-Identifier: MIT
 use Rattle.std.specs.Prelude.{◌≡◌, ℕ, ◌%◌, List, Option, None, true, false, refl}
 use Rattle.imago_storage.specs.Powers.{IsAlignment, power_of_two}
 use Rattle.std.proofs.Math.Nat.{mod_self}

@@ -1,3 +1,4 @@
+-- SPDX-License-Identifier: MIT
 use Rattle.std.specs.Prelude.{ℕ, List, Bool, false, Option, None, option_map}
 use Rattle.std.specs.String.{string_bytes}
 use Rattle.imago_storage.specs.declared.options.PreallocateMode.{PreallocateMode}

@@ -1,3 +1,4 @@
+-- SPDX-License-Identifier: MIT
 use Rattle.std.specs.Prelude.{◌≡◌, ℕ, ◌+◌, ◌-◌, ◌%◌, ◌^◌, ◌<◌, ◌≤◌, ◌⊎◌, ◌↔◌}
 use Rattle.std.specs.Int.{next_multiple_of}
 use Rattle.imago_storage.specs.Features.{Features, AreLawful, IsAlignedRequest, IsAlignedTo}

@@ -1,4 +1,5 @@
 -- Of which calls a write is made, and in which order.
+-- SPDX-License-Identifier: MIT
 
 use Rattle.std.specs.Prelude.{◌≡◌, ℕ, ◌+◌, ◌-◌, ◌*◌, ◌/◌, ◌%◌, List, [], ◌∷◌, ◌++◌, length}
 use Rattle.std.specs.Prelude.{take, drop}

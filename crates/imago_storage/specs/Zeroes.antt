@@ -1,3 +1,4 @@
+-- SPDX-License-Identifier: MIT
 use Rattle.std.specs.Prelude.{◌≡◌, ◌≢◌, ℕ, ◌+◌, ◌-◌, ◌%◌, ◌<◌, ◌≤◌, ◌⊎◌, ◌^◌, List, ◌++◌, length}
 use Rattle.std.specs.Prelude.{min}
 use Rattle.std.specs.Prelude.{replicate, Result, Ok, Err, IsOk, IsErrOf}

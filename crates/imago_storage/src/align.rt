@@ -1,3 +1,4 @@
+// SPDX-License-Identifier: MIT
 //! The alignments of a storage, and the aligned ranges around and inside a range.
 ghost use Rattle.std.specs.Prelude.{◌≡◌, ℕ, ◌+◌, ◌-◌, ◌*◌, ◌/◌, ◌%◌, ◌^◌, ◌<◌, ◌≤◌, MatchOption};
 ghost use Rattle.std.specs.Int.{next_multiple_of, IsPowerOfTwo};

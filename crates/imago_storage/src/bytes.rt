@@ -1,3 +1,4 @@
+// SPDX-License-Identifier: MIT
 //! Bytes put into a slice.
 ghost use Rattle.std.specs.Prelude.{◌≡◌, ◌+◌, ◌≤◌, length};
 ghost use Rattle.imago_storage.specs.Bytes.{splice};

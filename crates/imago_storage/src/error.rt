@@ -1,3 +1,4 @@
+// SPDX-License-Identifier: MIT
 //! What a call is refused for.
 ghost use Rattle.std.specs.Prelude.{◌≡◌};
 ghost use Rattle.imago_storage.specs.Error.{kind_of};

@@ -1,3 +1,4 @@
+// SPDX-License-Identifier: MIT
 //! Calls on any range, for every storage.
 ghost use Rattle.std.specs.Prelude.{length};
 ghost use Rattle.imago_storage.specs.Calls.{IsRangeRead, IsRangeWrite, IsRangeZeroing};

@@ -1,3 +1,4 @@
+// SPDX-License-Identifier: MIT
 //! What the definitions imply, for readers and for proofs above this crate. The functions do
 //! nothing.
 ghost use Rattle.std.specs.Prelude.{◌≡◌, ℕ, slice_index};

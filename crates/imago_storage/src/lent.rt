@@ -1,3 +1,4 @@
+// SPDX-License-Identifier: MIT
 //! A storage that is lent: every call goes to the storage behind the borrow.
 ghost use Rattle.std.specs.Prelude.{◌≡◌, ℕ};
 ghost use Rattle.imago_storage.specs.Openings.{no_openings, IsMade};

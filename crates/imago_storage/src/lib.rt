@@ -1,3 +1,4 @@
+// SPDX-License-Identifier: MIT
 //! Storages, and requests of any alignment on them.
 //!
 //! A storage is a list of bytes behind an interface of aligned calls, [`storage::Storage`].

@@ -1,3 +1,4 @@
+// SPDX-License-Identifier: MIT
 //! A storage in memory.
 ghost use Rattle.std.specs.Prelude.{◌≡◌, ◌≢◌, ℕ, ◌≤◌, ◌<◌, ◌+◌, ◌-◌, ◌%◌, ◌^◌, Bool, true, false};
 ghost use Rattle.std.specs.Prelude.{IsTrue, replicate, length, List, ◌++◌, Option, None, Some};

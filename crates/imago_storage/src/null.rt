@@ -1,3 +1,4 @@
+// SPDX-License-Identifier: MIT
 //! A storage of zeroes.
 ghost use Rattle.std.specs.Prelude.{◌≡◌, ◌+◌, ℕ, Bool, Ok, true, false, replicate, length, max};
 ghost use Rattle.imago_storage.specs.Mem.{null_features, null_lawful};

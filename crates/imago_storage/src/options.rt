@@ -1,3 +1,4 @@
+// SPDX-License-Identifier: MIT
 //! What storages are asked for: options to open or create one with, and how bytes are allocated or
 //! zeroed.
 ghost use Rattle.std.specs.Prelude.{◌≡◌, Option, Some, IfSome, option_map};

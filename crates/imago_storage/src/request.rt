@@ -1,3 +1,4 @@
+// SPDX-License-Identifier: MIT
 //! Reads, writes and discards of any range.
 ghost use Rattle.std.specs.Prelude.{◌≡◌, ◌+◌, ◌-◌, ◌<◌, ◌≤◌, ◌*◌, length, min, false, OnOk, IfErr};
 ghost use Rattle.std.specs.Prelude.{IsErrOf, IsTrue};

@@ -1,3 +1,4 @@
+// SPDX-License-Identifier: MIT
 //! The interface of a storage: aligned calls on a list of bytes.
 ghost use Rattle.std.specs.Prelude.{◌≡◌, ◌≢◌, ℕ, ◌+◌, ◌%◌, ◌↔◌, List, length, replicate, max};
 ghost use Rattle.std.specs.Prelude.{false, IsTrue, OnOk, OnErr, IfOk, IfErr, IsErrOf};

@@ -1,3 +1,4 @@
+// SPDX-License-Identifier: MIT
 //! What no clause says: worked examples, printed text, each public function once, and what a
 //! refusal leaves.
 //!

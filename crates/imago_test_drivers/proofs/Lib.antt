@@ -1,3 +1,4 @@
+-- SPDX-License-Identifier: MIT
 pub mod Variants
 pub mod CopySteps
 pub mod ChoppySteps

@@ -1,3 +1,4 @@
+-- SPDX-License-Identifier: MIT
 use Rattle.std.specs.Prelude.{ℕ, ◌+◌, ◌≤◌, max, Bool, true, false, List, Option, Some, None}
 use Rattle.imago_storage.specs.Features.{Features}
 use Rattle.imago_drivers.specs.declared.raw.Raw.{Raw}

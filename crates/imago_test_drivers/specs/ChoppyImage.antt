@@ -1,3 +1,4 @@
+-- SPDX-License-Identifier: MIT
 use Rattle.std.specs.Prelude.{ℕ, Option}
 use Rattle.imago_drivers.specs.declared.raw.Raw.{Raw}
 use Rattle.imago_test_drivers.specs.Choppy.{told}

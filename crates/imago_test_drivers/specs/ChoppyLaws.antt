@@ -1,3 +1,4 @@
+-- SPDX-License-Identifier: MIT
 use Rattle.std.specs.Prelude.{◌≡◌, ◌≢◌, ℕ, max, Bool, true, false, List, Option, Some}
 use Rattle.std.proofs.Common.{arith}
 use Rattle.imago_storage.specs.declared.error.Error.{Error}

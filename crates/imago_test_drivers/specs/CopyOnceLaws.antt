@@ -1,3 +1,4 @@
+-- SPDX-License-Identifier: MIT
 use Rattle.std.specs.Prelude.{◌≡◌, ◌≢◌, max, ℕ, ◌<◌, ◌≤◌, Bool, true, false, List, nat_lt, refl}
 use Rattle.std.specs.Prelude.{Option}
 use Rattle.std.proofs.Common.{arith, sym, ◌∙◌, ⊎_elim}

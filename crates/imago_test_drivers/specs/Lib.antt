@@ -1,3 +1,4 @@
+-- SPDX-License-Identifier: MIT
 pub mod Pattern
 pub mod PatternLaws
 pub mod Making

@@ -1,3 +1,4 @@
+-- SPDX-License-Identifier: MIT
 use Rattle.std.specs.Prelude.{◌≡◌, ℕ, ◌+◌, ◌<◌, ◌≤◌, Bool, true, false, [], if◌then◌else◌, nat_lt}
 use Rattle.std.specs.Prelude.{None}
 use Rattle.imago_storage.specs.declared.error.Error.TheVariants as E

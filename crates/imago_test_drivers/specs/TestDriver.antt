@@ -1,3 +1,4 @@
+-- SPDX-License-Identifier: MIT
 use Rattle.std.specs.Prelude.{ℕ, List}
 use Rattle.imago_storage.specs.Features.{Features, AreLawful}
 use Rattle.imago_drivers.specs.Laws.{IsLawful, AreCauses}

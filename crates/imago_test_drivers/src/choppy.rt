@@ -1,3 +1,4 @@
+// SPDX-License-Identifier: MIT
 //! A driver that does little at once: a raw image whose calls on ranges do one block each.
 ghost use Rattle.std.specs.Prelude.{◌≡◌, ◌+◌, ◌^◌, ◌<◌, ◌≤◌, max, None, Some};
 ghost use Rattle.imago_drivers.specs.CallRelations.{any_calls};

@@ -1,3 +1,4 @@
+// SPDX-License-Identifier: MIT
 //! A driver with a real commit: a disk that shows the layer below until a first write is committed.
 ghost use Rattle.std.specs.Prelude.{◌≡◌, ℕ, ◌+◌, ◌^◌, ◌<◌, ◌≤◌, ◌↔◌, length, IsTrue, IfOk, IfErr};
 ghost use Rattle.std.specs.Prelude.{IsErrOf, true, false, max, slice_index, IsOk, OnOk, OnErr};

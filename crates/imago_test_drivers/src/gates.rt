@@ -1,3 +1,4 @@
+// SPDX-License-Identifier: MIT
 //! Gates for tests: one that keeps what it was asked, and one that refuses one of its openings.
 ghost use Rattle.std.specs.Prelude.{◌≡◌, [], IfOk, IfErr};
 

@@ -1,3 +1,4 @@
+// SPDX-License-Identifier: MIT
 //! Drivers for tests: patterns of places that no storage holds, special bytes in blocks, a raw
 //! image in blocks, a copy on the first write, and an enum of drivers; and gates.
 //!

@@ -1,3 +1,4 @@
+// SPDX-License-Identifier: MIT
 //! A read-only disk of special bytes that are made up in blocks, and one that leaves all of it to
 //! the layer below; they count the blocks that they make up.
 ghost use Rattle.std.specs.Prelude.{◌≡◌, false, IsErrOf, Err};

@@ -1,3 +1,4 @@
+// SPDX-License-Identifier: MIT
 //! A read-only disk of one kind of place: explicit zeroes, special bytes, or all that the layer
 //! below has.
 ghost use Rattle.std.specs.Prelude.{◌≡◌, false, IsErrOf, Err};

@@ -1,3 +1,4 @@
+// SPDX-License-Identifier: MIT
 //! One of several drivers, so that an image's layers can have different ones.
 ghost use Rattle.imago_drivers.specs.CallRelations.{any_calls};
 ghost use Rattle.imago_drivers.specs.Commit.{IsCommit, IsCancel};

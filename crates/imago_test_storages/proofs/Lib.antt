@@ -1,3 +1,4 @@
+-- SPDX-License-Identifier: MIT
 pub mod Torn
 pub mod Forgotten
 pub mod OwnZeroes

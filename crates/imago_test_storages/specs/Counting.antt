@@ -1,3 +1,4 @@
+-- SPDX-License-Identifier: MIT
 use Rattle.std.specs.Prelude.{ℕ, ◌+◌, ◌-◌, ◌^◌, max, min}
 use Rattle.imago_storage.specs.IoCount.{IoCount}
 use Rattle.imago_test_storages.specs.declared.counting.Counts.{Counts}

@@ -1,3 +1,4 @@
+-- SPDX-License-Identifier: MIT
 use Rattle.std.specs.Prelude.{◌≡◌, ℕ, ◌+◌, ◌-◌, ◌%◌, ◌<◌, ◌≤◌, Bool, true, false, cond, List}
 use Rattle.std.specs.Prelude.{length, slice_index, if◌then◌else◌, nat_eq, nat_lt, max, Option, Some}
 use Rattle.std.specs.Prelude.{None, Result, Err}

@@ -1,3 +1,4 @@
+-- SPDX-License-Identifier: MIT
 use Rattle.std.specs.Prelude.{ℕ, Bool, false, Some}
 use Rattle.imago_test_storages.specs.declared.faulty.Tear.{Tear}
 use Rattle.imago_test_storages.specs.declared.faulty.Plan.{Plan}

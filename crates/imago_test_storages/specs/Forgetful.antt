@@ -1,4 +1,5 @@
 -- What is seen of a storage that doesn't tell the bytes of the one inside.
+-- SPDX-License-Identifier: MIT
 use Rattle.std.specs.Prelude.{◌≡◌, ℕ, List, length, replicate, false}
 use Rattle.imago_storage.specs.Features.{Features, AreLawful}
 

@@ -1,3 +1,4 @@
+-- SPDX-License-Identifier: MIT
 pub mod Created
 pub mod Counting
 pub mod Faulty

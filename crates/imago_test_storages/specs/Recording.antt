@@ -1,3 +1,4 @@
+-- SPDX-License-Identifier: MIT
 use Rattle.std.specs.Prelude.{◌≡◌, ℕ, ◌++◌, Bool, cond, false, List, codes}
 use Rattle.imago_storage.specs.Features.{Features, AsData, AreLawful}
 

@@ -1,3 +1,4 @@
+-- SPDX-License-Identifier: MIT
 use Rattle.std.specs.Prelude.{refl}
 use Rattle.imago_storage.specs.Features.{Features, AreLawful}
 use Rattle.imago_storage.specs.Mem.{null_features}

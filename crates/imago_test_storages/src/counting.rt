@@ -1,3 +1,4 @@
+// SPDX-License-Identifier: MIT
 //! A storage that counts what goes through it.
 ghost use Rattle.std.specs.Prelude.{◌≡◌, ◌+◌, length, OnOk, OnErr, IfErr, IsErrOf, IsTrue};
 ghost use Rattle.imago_storage.specs.Bytes.{splice, IsReadAt, OldOrNew, WriteOutcome};

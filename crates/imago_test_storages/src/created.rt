@@ -1,3 +1,4 @@
+// SPDX-License-Identifier: MIT
 //! A storage that is created and opened by its name.
 ghost use Rattle.std.specs.Prelude.{◌≡◌};
 ghost use Rattle.imago_storage.specs.Maintenance.{no_maintenance};

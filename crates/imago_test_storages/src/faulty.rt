@@ -1,3 +1,4 @@
+// SPDX-License-Identifier: MIT
 //! A storage whose device fails when it is told to.
 ghost use Rattle.std.specs.Prelude.{◌≡◌, ◌+◌, ◌^◌, ◌<◌, ◌≤◌, ◌%◌, ◌∷◌, ℕ, [], List, length, max};
 ghost use Rattle.std.specs.Prelude.{slice_index, if◌then◌else◌, Bool, true, false, None, Some};

@@ -1,3 +1,4 @@
+// SPDX-License-Identifier: MIT
 //! A storage that doesn't tell its bytes.
 ghost use Rattle.std.specs.Prelude.{◌≡◌, length};
 ghost use Rattle.imago_storage.specs.Maintenance.{IsNoZeroing};

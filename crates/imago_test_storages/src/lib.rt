@@ -1,3 +1,4 @@
+// SPDX-License-Identifier: MIT
 //! Storages for tests: one that fails where a test says so, one that counts what reaches it, one
 //! that records it, one whose reads can't be relied on, one that can be created, and zeroes in
 //! blocks.

@@ -1,3 +1,4 @@
+// SPDX-License-Identifier: MIT
 //! A storage that records the calls that reach it.
 ghost use Rattle.std.specs.Prelude.{◌≡◌, false};
 ghost use Rattle.imago_storage.specs.IoCount.{no_work};

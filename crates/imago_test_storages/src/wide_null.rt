@@ -1,3 +1,4 @@
+// SPDX-License-Identifier: MIT
 //! Zeroes that are asked for in blocks.
 ghost use Rattle.std.specs.Prelude.{◌≡◌, ℕ, replicate};
 ghost use Rattle.imago_storage.specs.IoCount.{no_work};

@@ -1,3 +1,4 @@
+-- SPDX-License-Identifier: MIT
 use Rattle.std.proofs.Common.{◌≡◌, ℕ, ◌+◌, ◌<◌, ◌≤◌, ◌⊎◌, ◌&&◌, ⊎_elim, inl, inr, Bool, true, false, List, Option, Some, None, refl, sym, ap, ◌∙◌, arith, min, nat_lt, if◌then◌else◌, Ok}
 use Rattle.std.specs.Prelude.{slice_index, slice_get, is_none, IsTrue}
 use Rattle.std.proofs.lemmas.Bool.{cases_lt}

@@ -1,3 +1,4 @@
+-- SPDX-License-Identifier: MIT
 pub mod TableSteps
 pub mod PairSteps
 pub mod StaySteps

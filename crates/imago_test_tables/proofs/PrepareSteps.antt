@@ -1,3 +1,4 @@
+-- SPDX-License-Identifier: MIT
 use Rattle.std.proofs.Common.{◌≡◌, ℕ, zero, suc, ◌+◌, ◌-◌, ◌<◌, ◌≤◌, ◌⊎◌, ◌&&◌, ⊎_elim, inl, inr, Bool, true, false, List, length, Option, Some, None, Result, Ok, Err, max, refl, ap, ◌∙◌, arith}
 use Rattle.std.specs.Prelude.{slice_index, slice_get, IsTrue, IsErrOf, IfErr}
 use Rattle.std.proofs.lemmas.Bool.{cases_lt}

@@ -1,3 +1,4 @@
+-- SPDX-License-Identifier: MIT
 use Rattle.std.proofs.Common.{◌≡◌, ◌≢◌, ℕ, ◌+◌, ◌-◌, ◌<◌, ◌≤◌, ◌⊎◌, ◌&&◌, ⊎_elim, inl, inr, Bool, true, false, List, length, Option, Some, None, refl, sym, ap, subst, ◌∙◌, arith, nat_lt, Result, Ok, Err}
 use Rattle.std.specs.Prelude.{slice_index, slice_get, is_none, IsTrue, IfErr}
 use Rattle.std.proofs.lemmas.Bool.{cases_lt, cases_eq}

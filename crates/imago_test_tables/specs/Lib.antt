@@ -1,3 +1,4 @@
+-- SPDX-License-Identifier: MIT
 pub mod Table
 pub mod Pair
 pub mod Sparse

@@ -1,3 +1,4 @@
+-- SPDX-License-Identifier: MIT
 use Rattle.std.specs.Prelude.{◌≡◌, ℕ, ◌+◌, ◌<◌, ◌≤◌, ◌⊎◌, ◌&&◌, Bool, true, false, List, length}
 use Rattle.std.specs.Prelude.{slice_index, slice_get, Option, Some, None, Result, Ok, Err, is_none}
 use Rattle.std.specs.Prelude.{if◌then◌else◌, nat_lt}

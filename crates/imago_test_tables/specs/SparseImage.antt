@@ -1,3 +1,4 @@
+-- SPDX-License-Identifier: MIT
 use Rattle.std.specs.Prelude.{ℕ, List}
 use Rattle.imago_test_tables.specs.declared.sparse.Settings.{Settings}
 use Rattle.imago_test_tables.specs.declared.sparse.Sparse.{Sparse}

@@ -1,3 +1,4 @@
+-- SPDX-License-Identifier: MIT
 use Rattle.std.specs.Prelude.{◌≡◌, ℕ, ◌+◌, ◌<◌, ◌≤◌, ◌⊎◌, Bool, true, false, List, length, Option}
 use Rattle.std.specs.Prelude.{Some, None, slice_get, Result, IfOk, OnOk, OnErr}
 use Rattle.imago_storage.specs.declared.error.Error.{Error}

@@ -1,3 +1,4 @@
+// SPDX-License-Identifier: MIT
 //! Two storages, each named by its index, and a count of what else failed.
 ghost use Rattle.std.specs.Prelude.{◌≡◌, ◌≢◌, ℕ, ◌+◌, ◌<◌, ◌≤◌, ◌&&◌, length, slice_index, IsTrue};
 ghost use Rattle.std.specs.Prelude.{IsOk, IfErr, OnOk, OnErr, IsErrOf, MatchOption, false, true};

@@ -1,3 +1,4 @@
+// SPDX-License-Identifier: MIT
 //! A disk held as a table with one entry for each byte, over two storages.
 ghost use Rattle.std.specs.Prelude.{◌≡◌, ℕ, ◌+◌, ◌^◌, ◌<◌, ◌≤◌, ◌⊎◌, ◌↔◌, ◌&&◌, max, length};
 ghost use Rattle.std.specs.Prelude.{slice_index, IsTrue, IfOk, IfErr, OnOk, IsErrOf, MatchOption};

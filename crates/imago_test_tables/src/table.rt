@@ -1,3 +1,4 @@
+// SPDX-License-Identifier: MIT
 //! The table of a sparse disk: where each byte of the disk comes from.
 ghost use Rattle.std.specs.Prelude.{◌≡◌, ℕ, ◌+◌, ◌^◌, ◌<◌, ◌≤◌, ◌⊎◌, ◌≢◌, length, Option, Some};
 ghost use Rattle.std.specs.Prelude.{None, IfOk, IfErr, OnOk, OnErr, IsOk, IsErrOf, MatchOption};

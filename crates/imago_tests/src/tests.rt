@@ -1,3 +1,4 @@
+// SPDX-License-Identifier: MIT
 //! The example that the README gives.
 mod compressed;
 mod copied;

@@ -1,4 +1,5 @@
 -- Cutting the first line off a text.
+-- SPDX-License-Identifier: MIT
 use Rattle.std.proofs.Common.{◌≡◌, ℕ, ◌+◌, ◌-◌, ◌<◌, Bool, true, false, List, [], ◌∷◌, Option, Some, None, option_map, IfSome, Bor, length, take, drop, slice_index, refl, sym, ap, ◌∙◌, arith, eqb}
 use Rattle.std.specs.List.{position_or_len}
 use Rattle.std.proofs.lemmas.List.{take_all, length-drop}

@@ -1,4 +1,5 @@
 -- The disk of an image, by the bytes of its storages alone.
+-- SPDX-License-Identifier: MIT
 use Rattle.std.proofs.Common.{◌≡◌, ℕ, ◌+◌, ◌-◌, ◌*◌, ◌^◌, Bool, true, false, List, [], ◌∷◌, map, nat_lt, if◌then◌else◌, slice_index, Result, Ok, Err, refl, ap}
 use Rattle.imago_drivers.specs.Place.{Place, Stored, Zeroed, Refused, Value, Byte, shown}
 use Rattle.imago_storage.specs.declared.error.Error.{Error}

@@ -1,4 +1,5 @@
 -- Extents one after the other, found by where each begins, and what a mapping of one names.
+-- SPDX-License-Identifier: MIT
 use Rattle.std.proofs.Common.{◌≡◌, ℕ, zero, suc, ◌+◌, ◌-◌, ◌*◌, ◌^◌, ◌<◌, ◌≤◌, ◌⊎◌, Bool, true, false, List, [], ◌∷◌, length, map, get_or, min, refl, sym, ap, ◌∙◌, arith, inl, ⊎_elim, nat_lt, slice_index, slice_index_or, Result, Ok, Err, IfOk, IfErr}
 use Rattle.std.specs.List.{sum_by}
 use Rattle.std.proofs.lemmas.Bool.{cases_lt}

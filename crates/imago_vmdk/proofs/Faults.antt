@@ -1,4 +1,5 @@
 -- What a descriptor's text is refused for.
+-- SPDX-License-Identifier: MIT
 use Rattle.std.proofs.Common.{◌≡◌, ℕ, Bool, true, false, ◌&&◌, ◌||◌, ◌==◌, nat_eq, codes, slice_index, length, cond, List, [], ◌∷◌, Option, Some, None, Result, Ok, Err, IfErr, ◌⊎◌, inl, inr, refl, ⊎_elim}
 use Rattle.std.specs.List.{sum_by, starts_with}
 use Rattle.std.specs.Str.{trim}

@@ -1,3 +1,4 @@
+-- SPDX-License-Identifier: MIT
 pub mod Words
 pub mod Numbers
 pub mod Quotes

@@ -1,4 +1,5 @@
 -- What accepting VMFS extents changes.
+-- SPDX-License-Identifier: MIT
 use Rattle.std.proofs.Common.{◌≡◌, ℕ, Bool, true, false, ◌&&◌, ◌||◌, ◌==◌, codes, slice_index, cond, if◌then◌else◌, List, [], ◌∷◌, length, Option, Some, None, Result, Ok, Err, refl, ap, subst}
 use Rattle.std.specs.Str.{trim}
 use Rattle.std.proofs.lemmas.Slice.Eq.{bytes_eq-Decides}

@@ -1,3 +1,4 @@
+-- SPDX-License-Identifier: MIT
 pub mod Text
 pub mod Line
 pub mod Vmfs

@@ -1,3 +1,4 @@
+-- SPDX-License-Identifier: MIT
 use Rattle.std.specs.Prelude.{◌≡◌, ℕ, ◌-◌, Bool, true, false, ◌&&◌, ◌||◌, List, [], ◌∷◌, length}
 use Rattle.std.specs.Prelude.{take, Option, Some, None, Result, Ok, Err, nat_lt, nat_eq, ◌==◌}
 use Rattle.std.specs.Prelude.{if◌then◌else◌, codes, slice_index}

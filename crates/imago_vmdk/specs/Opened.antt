@@ -1,3 +1,4 @@
+-- SPDX-License-Identifier: MIT
 use Rattle.std.specs.Prelude.{◌≡◌, ℕ, ◌*◌, ◌^◌, ◌<◌, ◌≤◌, ◌⊎◌, ◌++◌, Bool, false, List, [], ◌∷◌}
 use Rattle.std.specs.Prelude.{Some, Ok, Err}
 use Rattle.imago_storage.specs.declared.error.Error.{Error}

@@ -1,3 +1,4 @@
+-- SPDX-License-Identifier: MIT
 use Rattle.std.specs.Prelude.{◌≡◌, ℕ, ◌+◌, ◌*◌, ◌^◌, ◌⊎◌, Bool, ◌&&◌, List, [], ◌∷◌, map, length, take}
 use Rattle.std.specs.Prelude.{Option, Some, None, Result, Ok, Err, IsOk, nat_lt, if◌then◌else◌}
 use Rattle.std.specs.Prelude.{codes, IsTrue}

@@ -1,3 +1,4 @@
+-- SPDX-License-Identifier: MIT
 use Rattle.imago_drivers.specs.Builder.{OpenSettings}
 use Rattle.imago_drivers.specs.BuilderBase.{open_settings}
 use Rattle.imago_vmdk.specs.declared.line.Accepted.{Accepted}

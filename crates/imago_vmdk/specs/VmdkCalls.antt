@@ -1,3 +1,4 @@
+-- SPDX-License-Identifier: MIT
 use Rattle.std.specs.Prelude.{◌≡◌, ℕ, ◌+◌, ◌<◌, Bool, List, [], length, slice_index_or, Result, Ok}
 use Rattle.std.specs.Prelude.{Err, IsErrOf, refl}
 use Rattle.std.proofs.Common.{⊎_elim}

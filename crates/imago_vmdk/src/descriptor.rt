@@ -1,3 +1,4 @@
+// SPDX-License-Identifier: MIT
 //! What the text of a descriptor says, and whether bytes look like one.
 ghost use Rattle.std.specs.Prelude.{◌≡◌, ℕ, List, MatchOption, IfSome, option_map, length, ◌+◌};
 ghost use Rattle.std.specs.Prelude.{◌*◌, ◌++◌, ◌∷◌, [], map, Ok, MatchResult, OnOk, IfOk, IfErr};

@@ -1,3 +1,4 @@
+// SPDX-License-Identifier: MIT
 //! Laws of what descriptors say and of the disks that they describe, and what the definitions give
 //! for lines that are written out. The functions do nothing; their contracts are proved.
 ghost use Rattle.std.specs.Prelude.{◌≡◌, Bool, true, false, ℕ, List, ◌++◌, ◌∷◌, [], Ok, Err, IsOk};

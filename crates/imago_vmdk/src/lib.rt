@@ -1,3 +1,4 @@
+// SPDX-License-Identifier: MIT
 //! The driver of VMDK images that a text descriptor describes.
 //!
 //! [`line`] says what one line of a descriptor means, [`descriptor`] what all of them mean

@@ -1,3 +1,4 @@
+// SPDX-License-Identifier: MIT
 //! What one line of a descriptor says.
 ghost use Rattle.std.specs.Prelude.{◌≡◌, option_map, MatchOption, [], ◌∷◌, length, ◌==◌};
 ghost use Rattle.std.specs.Str.{IsUtf8};

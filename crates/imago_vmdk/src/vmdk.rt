@@ -1,3 +1,4 @@
+// SPDX-License-Identifier: MIT
 //! The driver of VMDK images.
 ghost use Rattle.std.specs.Prelude.{◌≡◌, ℕ, ◌+◌, ◌*◌, ◌^◌, ◌-◌, ◌<◌, ◌≤◌, ◌⊎◌, ◌++◌, length, map};
 ghost use Rattle.std.specs.Prelude.{slice_index_or, IfOk, IfErr, OnOk, OnErr, IsOk, IsTrue};

@@ -1,2 +1,3 @@
+-- SPDX-License-Identifier: MIT
 pub mod ReadingSteps
 pub mod LineLaws

@@ -1,3 +1,4 @@
+-- SPDX-License-Identifier: MIT
 use Rattle.std.proofs.Common.{◌≡◌, ◌<◌, ◌≤◌, ◌↔◌, ◌∷◌, Bool, true, false, List, [], length, take}
 use Rattle.std.proofs.Common.{drop, get_or, ap, refl, arith, lt-ltb, Bor}
 use Rattle.std.proofs.lemmas.Bool.{le-ltb}

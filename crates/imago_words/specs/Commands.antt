@@ -1,4 +1,5 @@
 -- What the words behind a command's name ask of it.
+-- SPDX-License-Identifier: MIT
 use Rattle.std.specs.Prelude.{◌≡◌, ◌∷◌, ◌&&◌, ◌||◌, ◌==◌, ℕ, Bool, true, false, not, []}
 use Rattle.std.specs.Prelude.{Option, Some, None, if◌then◌else◌, codes, is_some, length}
 use Rattle.std.specs.Prelude.{option_and_then, unwrap_or}

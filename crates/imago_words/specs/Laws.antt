@@ -1,4 +1,5 @@
 -- Two command lines, what one of them asks for, and what holds of the options of each command.
+-- SPDX-License-Identifier: MIT
 use Rattle.std.specs.Prelude.{◌≡◌, ◌∷◌, ◌^◌, ◌&&◌, ◌||◌, Bool, true, false, List, [], Some, codes}
 use Rattle.std.specs.Prelude.{map, not}
 use Rattle.std.specs.List.{list_any}

@@ -1,3 +1,4 @@
+-- SPDX-License-Identifier: MIT
 pub mod Reading
 pub mod Sizes
 pub mod Options

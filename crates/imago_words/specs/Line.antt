@@ -1,4 +1,5 @@
 -- What a whole command line asks for, behind the program's name.
+-- SPDX-License-Identifier: MIT
 use Rattle.std.specs.Prelude.{◌≡◌, ◌∷◌, ◌||◌, ℕ, Bool, false, List, [], Option, Some, None}
 use Rattle.std.specs.Prelude.{if◌then◌else◌, MatchOption, codes, is_some}
 use Rattle.std.specs.Str.{bytes_eq}

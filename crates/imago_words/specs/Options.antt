@@ -1,5 +1,6 @@
 -- The options of each command. What an option is for, its key says; that of one that changes
 -- nothing is read nowhere.
+-- SPDX-License-Identifier: MIT
 use Rattle.std.specs.Prelude.{◌∷◌, true, false, List, [], codes}
 use Rattle.imago_words.specs.declared.kind.Kind.{Kind}
 use Rattle.imago_words.specs.declared.kind.Kind.TheVariants.{Info, Map, Check, Compare, Convert}

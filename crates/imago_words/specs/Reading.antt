@@ -1,4 +1,5 @@
 -- What the words behind a command's name are, by the options of the command.
+-- SPDX-License-Identifier: MIT
 use Rattle.std.specs.Prelude.{◌∷◌, ◌++◌, ℕ, Bool, true, false, List, [], Option, Some, None, map}
 use Rattle.std.specs.Prelude.{if◌then◌else◌, ◌==◌, ◌&&◌, ◌||◌, codes, nat_lt, not, find, length}
 use Rattle.std.specs.Prelude.{option_and_then, option_map, is_some}

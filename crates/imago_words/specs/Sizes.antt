@@ -1,4 +1,5 @@
 -- What texts of sizes are.
+-- SPDX-License-Identifier: MIT
 use Rattle.std.specs.Prelude.{◌∷◌, ◌+◌, ◌-◌, ◌*◌, ◌^◌, ◌==◌, ◌||◌, ℕ, []}
 use Rattle.std.specs.Prelude.{Option, Some, None, if◌then◌else◌, nat_lt, option_and_then}
 use Rattle.imago_words.specs.Reading.{Text, begins_number}

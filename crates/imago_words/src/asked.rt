@@ -1,3 +1,4 @@
+// SPDX-License-Identifier: MIT
 //! What the words behind a command's name ask of it: a function for each command.
 ghost use Rattle.std.specs.Prelude.{◌≡◌, IfOk, codes, is_ok};
 ghost use Rattle.imago_words.specs.declared.format.Format.TheVariants.{Raw};

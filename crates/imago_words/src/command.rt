@@ -1,3 +1,4 @@
+// SPDX-License-Identifier: MIT
 //! What a command line asks for.
 use crate::format::Format;
 use crate::kind::Kind;

@@ -1,3 +1,4 @@
+// SPDX-License-Identifier: MIT
 //! Where a word is cut: at its dashes, its equals sign, its first letter.
 ghost use Rattle.std.specs.Prelude.{◌≡◌, ◌+◌, length, IfSome, option_map};
 ghost use Rattle.imago_words.specs.Reading.{begins_number, behind_dash, cut_at, first_letter};

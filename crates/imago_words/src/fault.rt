@@ -1,3 +1,4 @@
+// SPDX-License-Identifier: MIT
 //! Why the words of a command line are no command.
 ghost use Rattle.std.specs.Prelude.{◌≡◌};
 ghost use Rattle.imago_words.specs.declared.fault.Fault.TheVariants.{Memory};

@@ -1,3 +1,4 @@
+// SPDX-License-Identifier: MIT
 //! The formats of images.
 ghost use Rattle.std.specs.Prelude.{◌≡◌};
 ghost use Rattle.imago_words.specs.Commands.{format_named};

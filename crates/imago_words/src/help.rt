@@ -1,3 +1,4 @@
+// SPDX-License-Identifier: MIT
 //! What help prints.
 use crate::kind::{KINDS, Kind};
 use crate::page::Page;

@@ -1,3 +1,4 @@
+// SPDX-License-Identifier: MIT
 //! What may help if a word isn't known.
 use crate::fault::Fault;
 use crate::kind::{KINDS, Kind};

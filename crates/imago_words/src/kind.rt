@@ -1,3 +1,4 @@
+// SPDX-License-Identifier: MIT
 //! Which command it is.
 ghost use Rattle.std.specs.Prelude.{◌≡◌, map};
 ghost use Rattle.imago_words.specs.Line.{kind_named};

@@ -1,3 +1,4 @@
+// SPDX-License-Identifier: MIT
 //! Command lines, computed from their words on. Nothing calls these functions: their contracts are
 //! what is proved.
 ghost use Rattle.std.specs.Prelude.{◌≡◌, ◌∷◌, [], IfErr, IfOk, IsErr, codes, map, string_bytes};

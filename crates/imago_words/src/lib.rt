@@ -1,3 +1,4 @@
+// SPDX-License-Identifier: MIT
 //! The command line of `imago-img`: its options as a table, and the command that its words ask for.
 #![tactic(auto)]
 

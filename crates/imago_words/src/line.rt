@@ -1,3 +1,4 @@
+// SPDX-License-Identifier: MIT
 //! A whole command line.
 ghost use Rattle.std.specs.Prelude.{◌≡◌, ◌⊎◌, Some, IfErr, IfOk, is_ok, map, string_bytes};
 ghost use Rattle.std.specs.Prelude.{true, false};

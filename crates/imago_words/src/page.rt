@@ -1,3 +1,4 @@
+// SPDX-License-Identifier: MIT
 //! The pages of the table: a command each.
 use crate::row::Row;
 

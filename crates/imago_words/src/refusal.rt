@@ -1,3 +1,4 @@
+// SPDX-License-Identifier: MIT
 //! What is told if the words of a command line are no command.
 ghost use Rattle.std.specs.Prelude.{◌≡◌};
 ghost use Rattle.imago_words.specs.Line.{status_of};

@@ -1,3 +1,4 @@
+// SPDX-License-Identifier: MIT
 //! The rows of the table: an option of a command each.
 ghost use Rattle.std.specs.Prelude.{◌≡◌, map, option_map};
 ghost use Rattle.imago_words.specs.Reading.{known, option_named, option_of_letter, same_name};

@@ -1,3 +1,4 @@
+// SPDX-License-Identifier: MIT
 //! Sizes.
 ghost use Rattle.std.specs.Prelude.{◌≡◌, ◌<◌, ◌≤◌, ◌^◌};
 ghost use Rattle.imago_words.specs.Sizes.{bounded, size_of, unit_of, with_digit, with_unit};

@@ -1,3 +1,4 @@
+// SPDX-License-Identifier: MIT
 //! The table: the commands and their options, as they are typed and as help tells them.
 use crate::page::{Absent, Page, Table};
 use crate::row::Row;

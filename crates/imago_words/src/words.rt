@@ -1,3 +1,4 @@
+// SPDX-License-Identifier: MIT
 //! The words behind a command's name, read by the table of its options.
 ghost use Rattle.std.specs.Prelude.{◌≡◌, ◌∷◌, ◌⊎◌, [], if◌then◌else◌, Some, None, IfErr, IfOk};
 ghost use Rattle.std.specs.Prelude.{OnOk, is_ok};

@@ -1,3 +1,4 @@
+// SPDX-License-Identifier: MIT
 //! Command lines, and what comes of each.
 
 mod accepted;

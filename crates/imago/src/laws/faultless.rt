@@ -1,3 +1,4 @@
+// SPDX-License-Identifier: MIT
 //! Which calls of raw images succeed over storages whose devices never fail. Each function makes
 //! the call of [`FormatAccess`] that it is named for; what lies below the image doesn't matter. The
 //! modules beside this one say it of their own storages.

@@ -1,3 +1,4 @@
+// SPDX-License-Identifier: MIT
 //! Which calls of raw images in memory succeed. Each function makes the call of [`FormatAccess`]
 //! that it is named for, and its contract says it in words of the call alone. What lies below the
 //! image doesn't matter: a raw driver refers to no layer below.

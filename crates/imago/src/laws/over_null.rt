@@ -1,3 +1,4 @@
+// SPDX-License-Identifier: MIT
 //! Which calls of raw images over a [`Null`] storage succeed: those inside the disk, and a mapping
 //! and a flush always. Each function makes the call of [`FormatAccess`] that it is named for.
 ghost use Rattle.std.specs.Prelude.{◌≡◌, ◌+◌, ◌≤◌, true, length, IsOk};

@@ -1,3 +1,4 @@
+// SPDX-License-Identifier: MIT
 //! What is written is what is read.
 ghost use Rattle.std.specs.Prelude.{◌≡◌, length, IsTrue, OnOk, None};
 ghost use Rattle.imago_access.specs.Chain.{driver, keeps_data};

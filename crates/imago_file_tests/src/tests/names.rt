@@ -1,3 +1,4 @@
+// SPDX-License-Identifier: MIT
 //! Which names lead out of a folder, and which stand beside a file.
 use imago_file::name::{lies_below, path_beside, stays_below};
 use std::alloc::Global;

@@ -1,3 +1,4 @@
+// SPDX-License-Identifier: MIT
 //! Files that are opened and created by options, and by a gate.
 use super::set_up::{kind_of, owned};
 use crate::mute_file::{MuteFile, MuteFiles};

@@ -1,3 +1,4 @@
+// SPDX-License-Identifier: MIT
 //! What the tests share.
 use std::alloc::Global;
 use std::io::{self, ErrorKind};

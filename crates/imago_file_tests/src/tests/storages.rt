@@ -1,3 +1,4 @@
+// SPDX-License-Identifier: MIT
 //! Storages over files in memory, whole and torn.
 use super::set_up::{bytes, kind_of, owned};
 use crate::torn_file::TornFile;

@@ -1,3 +1,4 @@
+// SPDX-License-Identifier: MIT
 //! Copy-on-write disks: here their table, where there is memory enough, and in the modules the
 //! disks.
 mod call;

@@ -1,3 +1,4 @@
+// SPDX-License-Identifier: MIT
 //! Builders and gates: what is opened and created, by which options, and what a refusal leaves.
 //!
 //! A test's run refuses one request for memory at most. So what is refused is tried again, and has

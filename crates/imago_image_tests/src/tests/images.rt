@@ -1,3 +1,4 @@
+// SPDX-License-Identifier: MIT
 //! Drivers, and images of them: tables of calls and what each answers.
 //!
 //! A table is made on a driver or an image by one generic function, which is named once for each

@@ -1,3 +1,4 @@
+// SPDX-License-Identifier: MIT
 //! What stands below a qcow2 image: of which format it is taken, and whether there is anything.
 
 use super::set_up::{Case, PartsRow, VERSION_2, VERSION_3, check_cases_over};

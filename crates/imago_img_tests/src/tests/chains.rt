@@ -1,3 +1,4 @@
+// SPDX-License-Identifier: MIT
 //! Long chains of qcow2 images, and chains that lead back.
 
 use super::set_up::{VERSION_2, check_line, expected};

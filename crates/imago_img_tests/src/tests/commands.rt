@@ -1,3 +1,4 @@
+// SPDX-License-Identifier: MIT
 //! What each command prints, and the file that it makes.
 
 use super::set_up::{Case, check_cases};

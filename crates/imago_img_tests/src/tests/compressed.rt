@@ -1,3 +1,4 @@
+// SPDX-License-Identifier: MIT
 //! qcow2 images with compressed clusters, alone and below others.
 //!
 //! The streams are those that zlib 1.2.13 makes at level 6 with a window of 4 KiB, as `qemu-img`

@@ -1,3 +1,4 @@
+// SPDX-License-Identifier: MIT
 //! Files that are there, and that a disk is written into, or can't be.
 
 use super::set_up::{check_line, words_of};

@@ -1,3 +1,4 @@
+// SPDX-License-Identifier: MIT
 //! Formats that are recognised, and refused where they aren't said.
 
 use super::set_up::{PartsRow, VERSION_2, check_line, expected};

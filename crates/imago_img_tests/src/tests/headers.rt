@@ -1,3 +1,4 @@
+// SPDX-License-Identifier: MIT
 //! What headers of qcow2 files say, and what `check` tells of files that aren't supported or can't
 //! be meant, and `info` as an error.
 

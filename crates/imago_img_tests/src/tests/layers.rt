@@ -1,3 +1,4 @@
+// SPDX-License-Identifier: MIT
 //! Which layer has what, in chains of images that `qemu-img` 7.2 made.
 //!
 //! The files are those of these commands, and the lines those of `qemu-img map --output=json`, with

@@ -1,3 +1,4 @@
+// SPDX-License-Identifier: MIT
 //! Command lines: what is read of their words, and the line that tells why one is refused.
 
 use super::set_up::{Case, check_cases, files, words_of};

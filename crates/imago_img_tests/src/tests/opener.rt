@@ -1,3 +1,4 @@
+// SPDX-License-Identifier: MIT
 //! Images opened by their paths: what they show, and why others aren't opened.
 ghost use Rattle.std.specs.Prelude.{◌≡◌, None};
 ghost use Rattle.imago_access.specs.Chain.{driver};

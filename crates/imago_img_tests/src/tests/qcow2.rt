@@ -1,3 +1,4 @@
+// SPDX-License-Identifier: MIT
 //! qcow2 images, alone and above others: what each command prints, and what is refused.
 
 use super::set_up::{Case, check_cases};

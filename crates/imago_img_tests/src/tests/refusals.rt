@@ -1,3 +1,4 @@
+// SPDX-License-Identifier: MIT
 //! What is refused: the line that tells why, the status, and that no file is left or changed.
 
 use super::set_up::{Case, check_cases};

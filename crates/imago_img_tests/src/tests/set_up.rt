@@ -1,3 +1,4 @@
+// SPDX-License-Identifier: MIT
 //! The files that the tests have, and how a command line is tried on them.
 
 use crate::memory_host::{MemoryHost, Nature};

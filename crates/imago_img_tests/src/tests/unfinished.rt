@@ -1,3 +1,4 @@
+// SPDX-License-Identifier: MIT
 //! New files that aren't finished: what an interrupted copy leaves, and what is done about it.
 
 use super::set_up::check_line;

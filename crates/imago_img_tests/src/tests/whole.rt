@@ -1,3 +1,4 @@
+// SPDX-License-Identifier: MIT
 //! Whole disks, converted and compared.
 
 use crate::memory_host::{MemoryHost, Nature};

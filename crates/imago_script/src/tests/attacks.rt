@@ -1,3 +1,4 @@
+// SPDX-License-Identifier: MIT
 //! Scripts that end anywhere, have a wrong byte, or are long.
 
 use super::outcome;

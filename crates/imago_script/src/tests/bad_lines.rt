@@ -1,3 +1,4 @@
+// SPDX-License-Identifier: MIT
 //! Lines that are no commands.
 
 use super::check;

@@ -1,3 +1,4 @@
+// SPDX-License-Identifier: MIT
 //! Bytes are read from digits, and printed as digits, as the crate `hex` does both.
 
 use super::check;

@@ -1,3 +1,4 @@
+// SPDX-License-Identifier: MIT
 //! Inputs and outputs that fail.
 
 use imago_script_parts::script::script;

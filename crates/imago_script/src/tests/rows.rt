@@ -1,3 +1,4 @@
+// SPDX-License-Identifier: MIT
 //! Scripts that were worked out by hand.
 
 use super::check;

@@ -1,3 +1,4 @@
+// SPDX-License-Identifier: MIT
 //! Storages, and requests of any alignment on them.
 mod calls;
 mod faults;

@@ -1,3 +1,4 @@
+// SPDX-License-Identifier: MIT
 //! Compressed clusters of qcow2 images, alone and beside others.
 //!
 //! The streams are those of Python's zlib, without a frame and with a window of 12 bits:

@@ -1,3 +1,4 @@
+// SPDX-License-Identifier: MIT
 //! Disks in memory: what they are made of, how they are copied, and where two differ first.
 ghost use Rattle.std.specs.Prelude.{None};
 

@@ -1,3 +1,4 @@
+// SPDX-License-Identifier: MIT
 //! Storages and drivers that the tests have in common.
 ghost use Rattle.std.specs.Prelude.{◌≡◌, true, IfOk};
 ghost use Rattle.imago_vmdk.specs.Image.{is_opened};

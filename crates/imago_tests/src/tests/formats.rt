@@ -1,3 +1,4 @@
+// SPDX-License-Identifier: MIT
 //! Images of each format: what their bytes tell, and one driver for all of them.
 ghost use Rattle.std.specs.Prelude.{◌≡◌, IsTrue, None};
 ghost use Rattle.imago_access.specs.Chain.{driver};

@@ -1,3 +1,4 @@
+// SPDX-License-Identifier: MIT
 //! Each law is called at types that it is for: a premise that none of them meets would be seen
 //! here.
 ghost use Rattle.std.specs.Prelude.{◌≡◌, ℕ, ◌+◌, ◌≤◌, true, None, length};

@@ -1,3 +1,4 @@
+// SPDX-License-Identifier: MIT
 //! qcow2 images whose tables are limited, or can't be read; and what a refused opening leaves of
 //! the storage that was lent to it.
 ghost use Rattle.std.specs.Prelude.{None};

@@ -1,3 +1,4 @@
+// SPDX-License-Identifier: MIT
 //! Command lines that are commands.
 
 use super::set_up::{Case, check_cases};

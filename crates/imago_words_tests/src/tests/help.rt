@@ -1,3 +1,4 @@
+// SPDX-License-Identifier: MIT
 //! What help prints.
 
 use super::set_up::{Case, check_cases};

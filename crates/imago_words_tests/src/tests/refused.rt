@@ -1,3 +1,4 @@
+// SPDX-License-Identifier: MIT
 //! Command lines that are refused: each in one line, which quotes words and ends with help.
 
 use super::set_up::{Case, check_cases};

@@ -1,3 +1,4 @@
+// SPDX-License-Identifier: MIT
 //! How a command line is tried.
 
 use imago_words::command::{Command, Opening, Output};

@@ -1,3 +1,4 @@
+-- SPDX-License-Identifier: MIT
 use Rattle.imago_access.proofs.Weaker.{and_both}
 use Rattle.imago.proofs.laws.runs_of_cow.Goals as goal
 

@@ -1,3 +1,4 @@
+-- SPDX-License-Identifier: MIT
 use Rattle.std.proofs.Common.{◌≡◌, ℕ, IsTrue, ap, sym, ◌∙◌, subst}
 use Rattle.imago_drivers.specs.Place.{Value, shown}
 use Rattle.imago_drivers.specs.View.{View}

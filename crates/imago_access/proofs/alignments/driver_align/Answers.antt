@@ -1,3 +1,4 @@
+-- SPDX-License-Identifier: MIT
 use Rattle.imago_access.specs.Alignments.{align_of}
 use Rattle.imago_access.proofs.Greatest.{no_storage, next_storage}
 use Rattle.imago_access.proofs.alignments.driver_align.Goals as goal

@@ -1,3 +1,4 @@
+-- SPDX-License-Identifier: MIT
 use Rattle.imago_access.specs.Alignments.{IsGreatest, HasStorage, align_of}
 use Rattle.imago_access.proofs.alignments.driver_align.Given as goal
 

@@ -1,3 +1,4 @@
+-- SPDX-License-Identifier: MIT
 use Rattle.imago_drivers.specs.Commit.{commit_reasons}
 use Rattle.imago_access.specs.Chain.{driver}
 use Rattle.imago_access.proofs.Successes.{driver_succeeds}

@@ -1,3 +1,4 @@
+-- SPDX-License-Identifier: MIT
 use Rattle.imago_access.proofs.Successes.{cut_succeeds}
 use Rattle.imago_access.proofs.laws.cuts_succeed.Goals as goal
 

@@ -1,3 +1,4 @@
+-- SPDX-License-Identifier: MIT
 use Rattle.imago_access.proofs.Successes.{counts_faults, mapped_succeeds}
 use Rattle.imago_access.proofs.laws.data_mappings_succeed.Goals as goal
 

@@ -1,3 +1,4 @@
+-- SPDX-License-Identifier: MIT
 use Rattle.imago_access.proofs.Successes.{discard_succeeds}
 use Rattle.imago_access.proofs.laws.discards_succeed.Goals as goal
 

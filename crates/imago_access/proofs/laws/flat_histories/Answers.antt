@@ -1,3 +1,4 @@
+-- SPDX-License-Identifier: MIT
 use Rattle.imago_access.proofs.Flat.{flat_history}
 use Rattle.imago_access.proofs.laws.flat_histories.Goals as goal
 

@@ -1,3 +1,4 @@
+-- SPDX-License-Identifier: MIT
 use Rattle.imago_access.proofs.Determined.{flat_run}
 use Rattle.imago_access.proofs.laws.flat_runs.Goals as goal
 

@@ -1,3 +1,4 @@
+-- SPDX-License-Identifier: MIT
 use Rattle.imago_access.proofs.Successes.{flush_succeeds}
 use Rattle.imago_access.proofs.laws.flushes_succeed.Goals as goal
 

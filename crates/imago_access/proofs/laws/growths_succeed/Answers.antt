@@ -1,3 +1,4 @@
+-- SPDX-License-Identifier: MIT
 use Rattle.imago_access.proofs.Successes.{growth_succeeds}
 use Rattle.imago_access.proofs.laws.growths_succeed.Goals as goal
 

@@ -1,3 +1,4 @@
+-- SPDX-License-Identifier: MIT
 use Rattle.imago_access.proofs.Successes.{mapping_succeeds}
 use Rattle.imago_access.proofs.laws.mappings_succeed.Goals as goal
 

@@ -1,3 +1,4 @@
+-- SPDX-License-Identifier: MIT
 use Rattle.imago_access.proofs.Successes.{mapped_succeeds}
 use Rattle.imago_access.proofs.laws.prepares_succeed.Goals as goal
 

@@ -1,3 +1,4 @@
+-- SPDX-License-Identifier: MIT
 use Rattle.imago_access.proofs.Successes.{readable_is_read}
 use Rattle.imago_access.proofs.laws.readable_ranges_are_read.Goals as goal
 

@@ -1,3 +1,4 @@
+-- SPDX-License-Identifier: MIT
 use Rattle.imago_access.proofs.Targets.{target_shows}
 use Rattle.imago_access.proofs.laws.reads_show_targets.Goals as goal
 

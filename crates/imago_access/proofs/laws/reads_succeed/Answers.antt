@@ -1,3 +1,4 @@
+-- SPDX-License-Identifier: MIT
 use Rattle.imago_access.proofs.Successes.{read_succeeds}
 use Rattle.imago_access.proofs.laws.reads_succeed.Goals as goal
 

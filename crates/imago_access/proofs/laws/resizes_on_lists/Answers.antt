@@ -1,3 +1,4 @@
+-- SPDX-License-Identifier: MIT
 use Rattle.imago_access.proofs.Resizes.{same_resize}
 use Rattle.imago_access.proofs.laws.resizes_on_lists.Goals as goal
 

@@ -1,3 +1,4 @@
+-- SPDX-License-Identifier: MIT
 use Rattle.imago_access.proofs.Flat.{run_kept}
 use Rattle.imago_access.proofs.laws.runs_keep_layers_below.Goals as goal
 

@@ -1,3 +1,4 @@
+-- SPDX-License-Identifier: MIT
 use Rattle.imago_access.proofs.Flat.{same_write}
 use Rattle.imago_access.proofs.laws.writes_on_lists.Goals as goal
 

@@ -1,3 +1,4 @@
+-- SPDX-License-Identifier: MIT
 use Rattle.imago_access.proofs.Successes.{write_succeeds}
 use Rattle.imago_access.proofs.laws.writes_succeed.Goals as goal
 

@@ -1,3 +1,4 @@
+-- SPDX-License-Identifier: MIT
 use Rattle.imago_access.proofs.Successes.{zero_write_succeeds}
 use Rattle.imago_access.proofs.laws.zero_writes_succeed.Goals as goal
 

@@ -1,3 +1,4 @@
+-- SPDX-License-Identifier: MIT
 use Rattle.std.proofs.Common.{length}
 use Rattle.imago_access.proofs.Weaker.{refused_more}
 use Rattle.imago_access.proofs.ReadSteps.{stored_refused, special_refused}

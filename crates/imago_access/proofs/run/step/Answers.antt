@@ -1,3 +1,4 @@
+-- SPDX-License-Identifier: MIT
 use Rattle.std.proofs.Common.{ℕ, List, subst}
 use Rattle.imago_access.specs.Calls.{IsWrite, IsMappedWrite}
 use Rattle.imago_access.specs.Performed.{IsWrittenBy, IsMappedBy}

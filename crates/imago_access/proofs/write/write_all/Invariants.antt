@@ -1,3 +1,4 @@
+-- SPDX-License-Identifier: MIT
 use Rattle.std.proofs.Common.{◌≡◌, ◌-◌, length}
 use Rattle.imago_drivers.specs.LayerBelow.{lent}
 use Rattle.imago_access.specs.Performed.{rest_by}

@@ -1,3 +1,4 @@
+-- SPDX-License-Identifier: MIT
 use Rattle.std.proofs.Common.{rules, refl, ap, sym, ◌∙◌, Ok}
 use Rattle.imago_access.specs.Chain.{driver}
 use Rattle.imago_vmdk.specs.declared.line.Accepted.{Accepted}

@@ -1,3 +1,4 @@
+-- SPDX-License-Identifier: MIT
 use Rattle.std.proofs.Common.{◌≡◌, map, take}
 use Rattle.imago_c.specs.Plan.{piece_record}
 use Rattle.imago_c.proofs.plan.records.Given as goal

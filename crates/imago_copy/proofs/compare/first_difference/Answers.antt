@@ -1,3 +1,4 @@
+-- SPDX-License-Identifier: MIT
 use Rattle.std.proofs.Common.{arith, ◌≤◌, ◌≡◌, ◌-◌, ◌∙◌, None, ℕ}
 use Rattle.imago_access.specs.Chain.{driver}
 use Rattle.std.proofs.lemmas.Grind.{common_steps}

@@ -1,3 +1,4 @@
+-- SPDX-License-Identifier: MIT
 use Rattle.std.proofs.Common.{◌≡◌, ◌-◌, ◌≤◌, IsTrue}
 use Rattle.imago_access.specs.Chain.{tells_bytes}
 use Rattle.imago_access.specs.Disk.{disk}

@@ -1,3 +1,4 @@
+-- SPDX-License-Identifier: MIT
 use Rattle.imago_copy.specs.Differences.{AreSameBefore}
 use Rattle.imago_copy.proofs.compare.first_unlike.Given as goal
 

@@ -1,3 +1,4 @@
+-- SPDX-License-Identifier: MIT
 use Rattle.imago_access.specs.Disk.{disk}
 use Rattle.imago_access.specs.ReaderOf.{image_of}
 use Rattle.imago_copy.proofs.Compared.{alike, unlike}

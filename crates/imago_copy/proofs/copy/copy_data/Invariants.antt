@@ -1,3 +1,4 @@
+-- SPDX-License-Identifier: MIT
 use Rattle.std.proofs.Common.{◌≡◌, ◌-◌, ◌≤◌, IsTrue}
 use Rattle.imago_access.specs.Chain.{disk_value, tells_bytes}
 use Rattle.imago_access.specs.ReaderOf.{image_of, IsKeeping}

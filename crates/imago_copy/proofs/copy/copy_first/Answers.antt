@@ -1,3 +1,4 @@
+-- SPDX-License-Identifier: MIT
 use Rattle.std.proofs.Common.{arith, ◌≡◌, ◌≤◌, length, take}
 use Rattle.std.proofs.lemmas.List.{length-take}
 use Rattle.imago_access.specs.Chain.{disk_value}

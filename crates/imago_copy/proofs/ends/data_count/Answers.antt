@@ -1,3 +1,4 @@
+-- SPDX-License-Identifier: MIT
 use Rattle.std.proofs.Common.{arith, ◌-◌, ◌≤◌, min}
 use Rattle.imago_access.specs.Chain.{disk_value}
 use Rattle.imago_copy.proofs.EndSteps.{zero_kind, zero_stored, behind_more}

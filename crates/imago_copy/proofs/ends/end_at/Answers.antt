@@ -1,3 +1,4 @@
+-- SPDX-License-Identifier: MIT
 use Rattle.imago_copy.proofs.EndSteps.{told_at}
 use Rattle.imago_copy.proofs.ends.end_at.Goals as goal
 

@@ -1,3 +1,4 @@
+-- SPDX-License-Identifier: MIT
 use Rattle.std.proofs.Common.{◌-◌, ◌≤◌}
 use Rattle.imago_copy.proofs.EndSteps.{LiesBelow}
 use Rattle.imago_copy.proofs.ends.layer_at.Given as goal

@@ -1,3 +1,4 @@
+-- SPDX-License-Identifier: MIT
 use Rattle.std.proofs.Common.{arith, ◌≤◌}
 use Rattle.imago_copy.proofs.EndSteps.{told_here}
 use Rattle.imago_copy.proofs.ends.storage_end.Goals as goal

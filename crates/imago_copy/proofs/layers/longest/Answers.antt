@@ -1,3 +1,4 @@
+-- SPDX-License-Identifier: MIT
 use Rattle.std.proofs.Common.{arith, ◌+◌, ◌≤◌, sym, subst}
 use Rattle.imago_access.specs.Target.{target}
 use Rattle.imago_copy.specs.LayerRuns.{IsLayerRunAt}

@@ -1,3 +1,4 @@
+-- SPDX-License-Identifier: MIT
 use Rattle.std.proofs.Common.{◌≡◌, ◌+◌, ◌-◌, ◌≤◌}
 use Rattle.imago_access.specs.Chain.{driver}
 use Rattle.imago_access.specs.Target.{target}

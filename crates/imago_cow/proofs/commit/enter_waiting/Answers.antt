@@ -1,3 +1,4 @@
+-- SPDX-License-Identifier: MIT
 use Rattle.std.proofs.Common.{◌/◌, []}
 use Rattle.imago_cow.specs.TableView.{entries_of}
 use Rattle.imago_cow.proofs.CommitSteps.{set_entered, in_disk, committed, commit_reaches, commit_framed, commit_settled, commit_outside}

@@ -1,3 +1,4 @@
+-- SPDX-License-Identifier: MIT
 use Rattle.std.proofs.Common.{◌≡◌}
 use Rattle.imago_cow.specs.Table.{without_data}
 use Rattle.imago_cow.specs.TableView.{entries_of, held_of, count_of}

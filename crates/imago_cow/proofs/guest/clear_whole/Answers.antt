@@ -1,3 +1,4 @@
+-- SPDX-License-Identifier: MIT
 use Rattle.std.proofs.Common.{length, refl, arith}
 use Rattle.imago_cow.specs.TableView.{entries_of}
 use Rattle.imago_cow.proofs.WholeSteps.{WholeRange, no_part, cut_part, last_part, whole_cleared, none_cleared}

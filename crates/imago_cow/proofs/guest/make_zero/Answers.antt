@@ -1,3 +1,4 @@
+-- SPDX-License-Identifier: MIT
 use Rattle.std.proofs.Common.{refl}
 use Rattle.imago_drivers.specs.Operation.{Zero, DiscardToZero, DiscardToAny}
 use Rattle.imago_cow.proofs.ZeroSteps.{zero_call, discard}

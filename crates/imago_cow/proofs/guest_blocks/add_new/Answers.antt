@@ -1,3 +1,4 @@
+-- SPDX-License-Identifier: MIT
 use Rattle.std.proofs.Common.{◌≡◌, ◌+◌, ◌-◌, ◌*◌, ◌≤◌, true, false, length, min, sym, subst, ap, ◌∙◌, inl, inr, arith}
 use Rattle.imago_drivers.specs.LayerBelow.{lent}
 use Rattle.imago_cow.specs.Table.{named_count}

@@ -1,3 +1,4 @@
+-- SPDX-License-Identifier: MIT
 use Rattle.std.proofs.Common.{◌≡◌, ◌+◌, ◌*◌, ◌<◌, ◌≤◌, ◌++◌, ◌∷◌, [], Some, Err, ⊎_elim, inl, inr, ap, ◌∙◌, length, arith}
 use Rattle.std.specs.Prelude.{slice_get}
 use Rattle.imago_drivers.specs.LayerBelow.{lent}

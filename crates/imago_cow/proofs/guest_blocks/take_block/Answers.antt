@@ -1,3 +1,4 @@
+-- SPDX-License-Identifier: MIT
 use Rattle.std.proofs.Common.{◌≡◌, ◌+◌, ◌*◌, ⊎_elim, None, ap, arith}
 use Rattle.std.proofs.lemmas.Bool.{cases_lt}
 use Rattle.std.proofs.lemmas.Result.{IfOk-weaker, on_err_weaker}

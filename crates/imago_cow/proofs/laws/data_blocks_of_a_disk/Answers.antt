@@ -1,3 +1,4 @@
+-- SPDX-License-Identifier: MIT
 use Rattle.imago_cow.proofs.laws.data_blocks_of_a_disk.Goals as goal
 
 pub returns : goal.returns

@@ -1,3 +1,4 @@
+-- SPDX-License-Identifier: MIT
 use Rattle.imago_cow.specs.TableLaws.{named_once, named_below, held_below, held_apart}
 use Rattle.imago_cow.proofs.laws.each_data_block_is_used_once.Goals as goal
 

@@ -1,3 +1,4 @@
+-- SPDX-License-Identifier: MIT
 use Rattle.std.proofs.Common.{ap, Some, ◌∙◌, arith}
 use Rattle.imago_cow.specs.TableLaws.{named_below}
 use Rattle.imago_cow.specs.TableView.{count_of}

@@ -1,3 +1,4 @@
+-- SPDX-License-Identifier: MIT
 use Rattle.std.proofs.Common.{◌*◌, ap, arith, inr}
 use Rattle.imago_cow.specs.TableView.{count_of}
 use Rattle.imago_cow.specs.TableLaws.{named_below}

@@ -1,3 +1,4 @@
+-- SPDX-License-Identifier: MIT
 use Rattle.std.proofs.Common.{ℕ, List}
 use Rattle.imago_cow.specs.TableView.{entries_of}
 use Rattle.imago_cow.proofs.NamedSteps.{ShownBefore}

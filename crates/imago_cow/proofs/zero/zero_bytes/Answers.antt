@@ -1,3 +1,4 @@
+-- SPDX-License-Identifier: MIT
 use Rattle.std.proofs.Common.{arith}
 use Rattle.imago_drivers.proofs.StorageBytes.{zeroed_bytes, torn_zeroes}
 use Rattle.imago_drivers.proofs.Lengths.{near_end, longest_zeroes}

@@ -1,3 +1,4 @@
+-- SPDX-License-Identifier: MIT
 use Rattle.std.proofs.Common.{arith, ◌<◌, true}
 use Rattle.imago_drivers.specs.RawLaws.{raw_stored}
 use Rattle.imago_drivers.proofs.laws.mapping_past_a_raw_image.Goals as goal

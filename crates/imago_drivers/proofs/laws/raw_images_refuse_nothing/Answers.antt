@@ -1,3 +1,4 @@
+-- SPDX-License-Identifier: MIT
 use Rattle.imago_drivers.proofs.Room.{not_offered_alone}
 use Rattle.imago_drivers.proofs.laws.raw_images_refuse_nothing.Goals as goal
 

@@ -1,3 +1,4 @@
+-- SPDX-License-Identifier: MIT
 use Rattle.std.proofs.Common.{◌≡◌, ℕ, ◌+◌, List, Option, Some, None, Result, Ok, Err, IfSome, IsTrue, IsErr, OnOk, MatchResult, sym, ◌∙◌, subst}
 use Rattle.imago.specs.Place.{HasValues}
 use Rattle.imago.specs.View.{View}

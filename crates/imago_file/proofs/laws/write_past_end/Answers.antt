@@ -1,3 +1,4 @@
+-- SPDX-License-Identifier: MIT
 use Rattle.std.proofs.Common.{refl, inr}
 use Rattle.imago_storage.specs.declared.error.Error.{Error}
 use Rattle.imago_file.proofs.laws.write_past_end.Goals as goal

@@ -1,3 +1,4 @@
+-- SPDX-License-Identifier: MIT
 use Rattle.std.proofs.Common.{◌∙◌}
 use Rattle.imago_file.proofs.RoundTrips.{round_trip}
 use Rattle.imago_file.proofs.laws.write_then_read.Goals as goal

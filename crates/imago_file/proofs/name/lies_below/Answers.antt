@@ -1,3 +1,4 @@
+-- SPDX-License-Identifier: MIT
 use Rattle.std.proofs.Common.{◌≡◌, false, true, ◌++◌, ap, sym, ◌∙◌}
 use Rattle.std.specs.Path.{path_components, path_bytes}
 use Rattle.imago_file.specs.Names.{stays_below, parts_lie_below}

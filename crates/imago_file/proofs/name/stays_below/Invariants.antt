@@ -1,3 +1,4 @@
+-- SPDX-License-Identifier: MIT
 use Rattle.std.proofs.Common.{◌≡◌}
 use Rattle.std.specs.Path.{path_components, components_remaining}
 use Rattle.imago_file.specs.Names.{none_leads_out}

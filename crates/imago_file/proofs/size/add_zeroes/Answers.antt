@@ -1,3 +1,4 @@
+-- SPDX-License-Identifier: MIT
 use Rattle.imago_file.proofs.Files.{refused_restores}
 use Rattle.imago_file.proofs.size.add_zeroes.Goals as goal
 

@@ -1,3 +1,4 @@
+-- SPDX-License-Identifier: MIT
 use Rattle.std.proofs.Common.{arith, ap, ◌∙◌}
 use Rattle.imago_file.specs.Contents.{spliced}
 use Rattle.imago_file.specs.FileCalls.{Nothing}

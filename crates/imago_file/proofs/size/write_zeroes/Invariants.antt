@@ -1,3 +1,4 @@
+-- SPDX-License-Identifier: MIT
 use Rattle.std.proofs.Common.{◌-◌, ◌≡◌, ◌≤◌}
 use Rattle.imago_file.specs.Contents.{resized}
 use Rattle.imago_file.specs.FileCalls.{IsZeroed}

@@ -1,3 +1,4 @@
+// SPDX-License-Identifier: MIT
 //! Changing calls, made on an image or on its driver, and what each answers.
 ghost use Rattle.std.specs.Prelude.{◌≡◌, ◌+◌, ◌≤◌, IsTrue, None, true};
 ghost use Rattle.imago_access.specs.Chain.{driver};

@@ -1,3 +1,4 @@
+// SPDX-License-Identifier: MIT
 //! A disk whose end cuts a guest block, grown in each mode.
 use super::call::{Answer, Call, Level};
 use super::set_up::byte_at;

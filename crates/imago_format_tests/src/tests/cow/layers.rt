@@ -1,3 +1,4 @@
+// SPDX-License-Identifier: MIT
 //! Three copy-on-write disks above one another.
 use super::call::{Call, on, shown, told_mapping};
 use super::subject::{Disk, Fault, PLAIN, above, created};

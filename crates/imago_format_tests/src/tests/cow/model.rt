@@ -1,3 +1,4 @@
+// SPDX-License-Identifier: MIT
 //! What a disk shows: a list of bytes and a table of guest blocks that the test keeps, and what
 //! each call makes of them.
 use super::call::{Answer, Call, InSteps, Kind, Level, Step};

@@ -1,3 +1,4 @@
+// SPDX-License-Identifier: MIT
 //! What a copy-on-write disk does with its data blocks, which mappings it refuses, and the sizes
 //! that it can have.
 use super::call::{

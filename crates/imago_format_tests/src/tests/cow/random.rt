@@ -1,3 +1,4 @@
+// SPDX-License-Identifier: MIT
 //! A thousand calls beside a table that the test keeps.
 use super::call::{Call, InSteps, Level, Step};
 use super::model::in_block;

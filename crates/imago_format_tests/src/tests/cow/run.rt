@@ -1,3 +1,4 @@
+// SPDX-License-Identifier: MIT
 //! A disk beside what it has to show.
 use super::call::{Answer, Call, Level, Step};
 use super::model::Model;

@@ -1,3 +1,4 @@
+// SPDX-License-Identifier: MIT
 //! Bytes to start from.
 //!
 //! A test's run refuses one request for memory at most. So what is refused is tried again, and has

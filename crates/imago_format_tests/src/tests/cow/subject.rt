@@ -1,3 +1,4 @@
+// SPDX-License-Identifier: MIT
 //! The disks that the tests are made on.
 use super::call::{Answer, Call, Kind, Level, Step, kinds, make_lent, on, shown};
 use super::model::{BLOCK, Model};

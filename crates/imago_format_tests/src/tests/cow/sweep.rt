@@ -1,3 +1,4 @@
+// SPDX-License-Identifier: MIT
 //! A failure at each call that a change makes of the disk's storage, with each tear, and of the
 //! layer below: what it leaves, byte for byte, and that the disk goes on from there.
 //!

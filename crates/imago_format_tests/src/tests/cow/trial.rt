@@ -1,3 +1,4 @@
+// SPDX-License-Identifier: MIT
 //! What is tried of copy-on-write disks.
 use super::call::Level;
 use super::growth::grow_each;

@@ -1,3 +1,4 @@
+// SPDX-License-Identifier: MIT
 //! What builders keep, and which options they open storages with.
 use super::set_up::{size_of, stored, text};
 use imago_drivers::builder::{

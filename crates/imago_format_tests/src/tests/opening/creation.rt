@@ -1,3 +1,4 @@
+// SPDX-License-Identifier: MIT
 //! New images, and what a refused creation leaves of a storage that was lent.
 use super::set_up::{size_of, stored};
 use imago_drivers::builder::{FormatCreateBuilder, FormatDriverBuilder};

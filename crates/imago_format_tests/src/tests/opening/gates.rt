@@ -1,3 +1,4 @@
+// SPDX-License-Identifier: MIT
 //! What gates open.
 use super::set_up::{named, size_of, stored, text};
 use imago_drivers::builder::FormatDriverBuilder;

@@ -1,3 +1,4 @@
+// SPDX-License-Identifier: MIT
 //! Images of storages that are opened by their names.
 use super::set_up::text;
 use imago_drivers::builder::FormatDriverBuilder;

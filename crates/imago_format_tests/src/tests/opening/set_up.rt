@@ -1,3 +1,4 @@
+// SPDX-License-Identifier: MIT
 //! Names, storages and gates to start from.
 use imago_drivers::drivers::FormatDriverInstance;
 use imago_drivers::gate::NamedGate;

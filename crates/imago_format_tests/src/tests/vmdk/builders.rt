@@ -1,3 +1,4 @@
+// SPDX-License-Identifier: MIT
 //! Builders of VMDK images: what they keep, what they ask of a gate, and what they open.
 use super::set_up::{Gate, add, name, recorded, storage_of};
 use imago_drivers::builder::FormatDriverBuilder;

@@ -1,3 +1,4 @@
+// SPDX-License-Identifier: MIT
 //! Descriptors, what opening them answers, and what is told of them.
 use super::set_up::storage_of;
 use imago_drivers::drivers::FormatDriverInstance;

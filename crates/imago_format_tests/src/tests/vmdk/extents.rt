@@ -1,3 +1,4 @@
+// SPDX-License-Identifier: MIT
 //! What images answer once their extents are opened.
 use super::set_up::{Gate, Runs, bytes_of, gate_of, storage_of};
 use imago_access::access::FormatAccess;

@@ -1,3 +1,4 @@
+// SPDX-License-Identifier: MIT
 //! Descriptors, storages and gates to start from.
 use imago_drivers::gate::NamedGate;
 use imago_storage::error::Error;

@@ -1,3 +1,4 @@
+// SPDX-License-Identifier: MIT
 //! What calls on drivers and images answer.
 use imago_drivers::drivers::ShallowMapping;
 use imago_storage::error::Error;

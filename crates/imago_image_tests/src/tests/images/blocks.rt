@@ -1,3 +1,4 @@
+// SPDX-License-Identifier: MIT
 //! Images over a driver that does one block at a time.
 use super::answer::Answer;
 use super::driver;

@@ -1,3 +1,4 @@
+// SPDX-License-Identifier: MIT
 //! Images whose layers have different drivers.
 use super::answer::Answer;
 use super::image::{Call, above, alone, on_driver, script};

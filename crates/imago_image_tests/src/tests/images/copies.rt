@@ -1,3 +1,4 @@
+// SPDX-License-Identifier: MIT
 //! Images over a driver whose writes wait for a commit, each layer copying the one below it at its
 //! first write.
 use super::answer::Answer;

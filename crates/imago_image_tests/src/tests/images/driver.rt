@@ -1,3 +1,4 @@
+// SPDX-License-Identifier: MIT
 //! Calls on a driver with nothing below it, and what each answers.
 ghost use Rattle.std.specs.Prelude.{◌≡◌, ◌+◌, ◌≤◌, IsTrue, None, true};
 

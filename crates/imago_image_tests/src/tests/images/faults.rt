@@ -1,3 +1,4 @@
+// SPDX-License-Identifier: MIT
 //! Images over a storage that fails at one call.
 use super::answer::Answer;
 use super::driver;

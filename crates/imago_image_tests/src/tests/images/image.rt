@@ -1,3 +1,4 @@
+// SPDX-License-Identifier: MIT
 //! Calls on an image, and what each answers.
 ghost use Rattle.std.specs.Prelude.{◌≡◌, IsTrue, None};
 ghost use Rattle.imago_access.specs.Chain.{driver};

@@ -1,3 +1,4 @@
+// SPDX-License-Identifier: MIT
 //! Images of raw drivers in memory.
 use super::answer::Answer;
 use super::driver;

@@ -1,3 +1,4 @@
+// SPDX-License-Identifier: MIT
 //! Drivers of raw images in memory.
 use super::answer::Answer;
 use super::driver::{Call, Give, on_raw};

@@ -1,3 +1,4 @@
+// SPDX-License-Identifier: MIT
 //! What of an image's and a driver's calls reaches the storage.
 use super::answer::Answer;
 use super::driver::Give;

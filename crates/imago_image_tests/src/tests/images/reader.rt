@@ -1,3 +1,4 @@
+// SPDX-License-Identifier: MIT
 //! Readers: what they read, and how often a driver makes up blocks of special bytes for it.
 //!
 //! Where a request for memory is refused a reader reads as the image does, which makes up more: so

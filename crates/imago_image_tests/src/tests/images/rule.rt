@@ -1,3 +1,4 @@
+// SPDX-License-Identifier: MIT
 //! What a call may leave of a disk: a list that the test keeps, and a rule for each byte.
 use super::answer::Answer;
 use super::set_up::number;

@@ -1,3 +1,4 @@
+// SPDX-License-Identifier: MIT
 //! The same calls as a list for `run`, and the replies.
 use super::answer::{Answer, data, is_answered, prepared};
 use super::driver::Give;

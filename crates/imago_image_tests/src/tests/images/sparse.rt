@@ -1,3 +1,4 @@
+// SPDX-License-Identifier: MIT
 //! Disks held as tables, alone and one above another. The first storage has ones, the second twos.
 use super::answer::Answer;
 use super::driver;

@@ -1,3 +1,4 @@
+// SPDX-License-Identifier: MIT
 //! The images that a sweep is made on. What is done with them is generic, and named once for each
 //! type, so that the proofs of the tests stay short.
 use super::answer::Answer;

@@ -1,3 +1,4 @@
+// SPDX-License-Identifier: MIT
 //! A failure at each call that a change makes of its storages, with each tear, over each driver:
 //! what it leaves, byte for byte, and that the image goes on from there.
 //!

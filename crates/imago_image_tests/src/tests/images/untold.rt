@@ -1,3 +1,4 @@
+// SPDX-License-Identifier: MIT
 //! An image over a storage that doesn't tell its bytes: the first byte that each pure read gives is
 //! the complement of the one that stands there. Its calls, refusals, sizes and positions are those
 //! of an image over the same bytes in memory.

@@ -1,3 +1,4 @@
+// SPDX-License-Identifier: MIT
 //! Images of zeroes of any length.
 use super::answer::Answer;
 use super::driver;

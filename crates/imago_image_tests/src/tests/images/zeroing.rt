@@ -1,3 +1,4 @@
+// SPDX-License-Identifier: MIT
 //! Zero writes and discards of images.
 use super::answer::Answer;
 use super::driver;

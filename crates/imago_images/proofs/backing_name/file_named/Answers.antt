@@ -1,3 +1,4 @@
+-- SPDX-License-Identifier: MIT
 use Rattle.std.proofs.Common.{true, false, sym, ◌∙◌}
 use Rattle.imago_images.proofs.BackingSteps.{behind_file, without_file}
 use Rattle.imago_images.proofs.backing_name.file_named.Goals as goal

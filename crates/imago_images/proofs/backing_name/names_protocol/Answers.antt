@@ -1,3 +1,4 @@
+-- SPDX-License-Identifier: MIT
 use Rattle.std.proofs.Common.{arith, ◌≡◌, ◌∙◌, sym, ap}
 use Rattle.imago_images.specs.BackingNames.{names_protocol}
 use Rattle.imago_images.proofs.BackingSteps.{at_slash, at_colon, at_other, at_end}

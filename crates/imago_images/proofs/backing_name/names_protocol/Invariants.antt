@@ -1,3 +1,4 @@
+-- SPDX-License-Identifier: MIT
 use Rattle.std.proofs.Common.{◌≡◌, drop}
 use Rattle.imago_images.specs.BackingNames.{names_protocol}
 use Rattle.imago_images.proofs.backing_name.names_protocol.Given as goal

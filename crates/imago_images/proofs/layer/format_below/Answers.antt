@@ -1,3 +1,4 @@
+-- SPDX-License-Identifier: MIT
 use Rattle.std.proofs.Common.{rules, ◌≡◌, ◌∙◌, sym, ap, Ok, Some, None}
 use Rattle.std.specs.String.{string_bytes}
 use Rattle.imago_qcow2.specs.Qcow2Image.{storage_in}

@@ -1,3 +1,4 @@
+-- SPDX-License-Identifier: MIT
 use Rattle.std.proofs.Common.{rules, ◌≡◌, length, sym}
 use Rattle.imago_images.proofs.RefusalSteps.{header_out}
 use Rattle.imago_images.proofs.layer.not_opened.Goals as goal

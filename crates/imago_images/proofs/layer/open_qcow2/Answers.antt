@@ -1,3 +1,4 @@
+-- SPDX-License-Identifier: MIT
 use Rattle.std.proofs.Common.{None}
 use Rattle.imago_images.proofs.layer.open_qcow2.Goals as goal
 

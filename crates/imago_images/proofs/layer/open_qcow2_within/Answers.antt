@@ -1,3 +1,4 @@
+-- SPDX-License-Identifier: MIT
 use Rattle.std.proofs.Common.{Some}
 use Rattle.imago_images.specs.HostBytes.{HasBytes}
 use Rattle.imago_images.specs.Refusals.{IsRefused, IsUnopened}

@@ -1,3 +1,4 @@
+-- SPDX-License-Identifier: MIT
 use Rattle.std.proofs.Common.{◌≡◌, ◌⊎◌, None, option_map, refl, sym, ap, ◌∙◌, inr}
 use Rattle.imago_images.specs.declared.failure.Reason.TheVariants as Reason
 use Rattle.imago_images.specs.BackingNames.{file_named}

@@ -1,3 +1,4 @@
+-- SPDX-License-Identifier: MIT
 use Rattle.imago_images.proofs.PartSteps.{told_same}
 use Rattle.imago_images.proofs.RefusalSteps.{layer_refused}
 use Rattle.imago_images.proofs.layer.qcow2_layer.Goals as goal

@@ -1,3 +1,4 @@
+-- SPDX-License-Identifier: MIT
 use Rattle.std.proofs.Common.{refl}
 use Rattle.imago_storage.specs.declared.error.Error.TheVariants as Error
 use Rattle.imago_images.specs.declared.failure.Reason.TheVariants as Reason

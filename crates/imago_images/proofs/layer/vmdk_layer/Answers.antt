@@ -1,3 +1,4 @@
+-- SPDX-License-Identifier: MIT
 use Rattle.std.proofs.Common.{◌≡◌, ◌∙◌, ap, refl, IfSome}
 use Rattle.std.specs.String.{string_bytes}
 use Rattle.imago_vmdk.specs.declared.line.Accepted.{Accepted}

@@ -1,3 +1,4 @@
+-- SPDX-License-Identifier: MIT
 use Rattle.imago_images.proofs.opener.open_format.Goals as goal
 
 pub returns-then-how-clause-image : goal.returns-then-how-clause-image

@@ -1,3 +1,4 @@
+-- SPDX-License-Identifier: MIT
 use Rattle.std.proofs.Common.{sym, subst, IfOk, IfSome}
 use Rattle.imago_any_driver.specs.AnyDriver.{view_over}
 use Rattle.imago_file.specs.StorageParts.{faults_of}

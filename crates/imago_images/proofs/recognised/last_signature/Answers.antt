@@ -1,3 +1,4 @@
+-- SPDX-License-Identifier: MIT
 use Rattle.std.proofs.Common.{arith, refl, ◌<◌, ◌≤◌, length}
 use Rattle.imago_images.proofs.SignatureSteps.{no_last, last_told}
 use Rattle.imago_images.proofs.recognised.last_signature.Goals as goal

@@ -1,3 +1,4 @@
+-- SPDX-License-Identifier: MIT
 use Rattle.std.proofs.Common.{rules, ◌≡◌, length}
 use Rattle.std.specs.Prelude.{is_some}
 use Rattle.imago_storage.specs.Bytes.{IsReadAt}

@@ -1,3 +1,4 @@
+-- SPDX-License-Identifier: MIT
 use Rattle.std.proofs.Common.{◌≡◌}
 use Rattle.imago_images.specs.Signatures.{told_by_last, last_block, signature_of}
 use Rattle.imago_images.proofs.SignatureSteps.{by_last, each_ok}

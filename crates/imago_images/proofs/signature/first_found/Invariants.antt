@@ -1,3 +1,4 @@
+-- SPDX-License-Identifier: MIT
 use Rattle.std.proofs.Common.{◌≡◌, length, map}
 use Rattle.imago_images.specs.Signatures.{known, found_first}
 use Rattle.imago_images.proofs.signature.first_found.Given as goal

@@ -1,3 +1,4 @@
+-- SPDX-License-Identifier: MIT
 use Rattle.std.proofs.Common.{◌≡◌, IfSome, map, length}
 use Rattle.std.specs.String.{string_bytes}
 use Rattle.imago_vmdk.specs.Line.{extent_with}

@@ -1,3 +1,4 @@
+-- SPDX-License-Identifier: MIT
 use Rattle.std.proofs.Common.{ap, ◌∙◌}
 use Rattle.imago_qcow2.specs.Entry.{cluster_length, cluster_of, disk_size, qcow2_place}
 use Rattle.imago_access.specs.Chain.{driver}

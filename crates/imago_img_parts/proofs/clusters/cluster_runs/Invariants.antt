@@ -1,3 +1,4 @@
+-- SPDX-License-Identifier: MIT
 use Rattle.std.proofs.Common.{◌-◌, ◌≤◌, IsTrue}
 use Rattle.imago_qcow2.specs.Entry.{cluster_length, cluster_of}
 use Rattle.imago_qcow2.specs.Qcow2Image.{storage_in}

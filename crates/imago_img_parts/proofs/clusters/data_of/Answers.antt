@@ -1,3 +1,4 @@
+-- SPDX-License-Identifier: MIT
 use Rattle.std.proofs.Common.{List, subst, sym}
 use Rattle.imago_img_parts.specs.declared.clusters.Held.{Held}
 use Rattle.imago_img_parts.proofs.ClusterSteps.{AreHeldOrLeft, held_more}

@@ -1,3 +1,4 @@
+-- SPDX-License-Identifier: MIT
 use Rattle.std.proofs.Common.{length}
 use Rattle.imago_img_parts.proofs.ClusterSteps.{AreHeldOrLeft}
 use Rattle.imago_img_parts.proofs.clusters.data_of.Given as goal

@@ -1,3 +1,4 @@
+-- SPDX-License-Identifier: MIT
 use Rattle.imago_img_parts.proofs.ClusterSteps.{among_permuted}
 use Rattle.imago_img_parts.proofs.clusters.held_by_offset.Goals as goal
 

@@ -1,3 +1,4 @@
+-- SPDX-License-Identifier: MIT
 use Rattle.std.proofs.Common.{sym, subst}
 use Rattle.imago_access.specs.Chain.{driver}
 use Rattle.imago_img_parts.specs.declared.clusters.ClusterKind.{ClusterKind}

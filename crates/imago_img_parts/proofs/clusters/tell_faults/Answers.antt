@@ -1,3 +1,4 @@
+-- SPDX-License-Identifier: MIT
 use Rattle.std.proofs.Common.{◌≡◌, List, subst, arith}
 use Rattle.imago_images.proofs.NameSteps.{passed_on}
 use Rattle.imago_img_parts.specs.declared.clusters.Held.{Held}

@@ -1,3 +1,4 @@
+-- SPDX-License-Identifier: MIT
 use Rattle.std.proofs.Common.{◌≡◌, length}
 use Rattle.imago_img_parts.specs.ClusterRuns.{AreBehind, end_of}
 use Rattle.imago_img_parts.proofs.clusters.tell_twice.Given as goal

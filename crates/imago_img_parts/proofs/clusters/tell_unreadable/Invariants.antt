@@ -1,3 +1,4 @@
+-- SPDX-License-Identifier: MIT
 use Rattle.std.proofs.Common.{◌≡◌, length}
 use Rattle.imago_img_parts.specs.ClusterRuns.{AreInFile}
 use Rattle.imago_img_parts.proofs.clusters.tell_unreadable.Given as goal

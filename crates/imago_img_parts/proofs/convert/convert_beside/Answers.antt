@@ -1,3 +1,4 @@
+-- SPDX-License-Identifier: MIT
 use Rattle.imago_img_parts.proofs.Disks.{whole_file, converted_file}
 use Rattle.imago_img_parts.proofs.convert.convert_beside.Goals as goal
 

@@ -1,3 +1,4 @@
+-- SPDX-License-Identifier: MIT
 use Rattle.imago_img_parts.specs.Disks.{IsConverted}
 use Rattle.imago_img_parts.proofs.Cleared.{err_then, ok_then}
 use Rattle.imago_img_parts.proofs.convert.convert_image.Goals as goal

@@ -1,3 +1,4 @@
+-- SPDX-License-Identifier: MIT
 use Rattle.imago_any_driver.specs.AnyDriver.{view_over}
 use Rattle.imago_file.specs.StorageParts.{faults_of}
 use Rattle.imago_images.proofs.PathSteps.{features_of, bytes_of}

@@ -1,3 +1,4 @@
+-- SPDX-License-Identifier: MIT
 use Rattle.std.proofs.Common.{◌≡◌, ◌+◌, ◌<◌, ◌≤◌, ◌++◌, length, drop}
 use Rattle.std.specs.Fmt.{decimal}
 use Rattle.imago_img_parts.proofs.digits.put_digits.Given as goal

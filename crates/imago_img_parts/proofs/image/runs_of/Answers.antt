@@ -1,3 +1,4 @@
+-- SPDX-License-Identifier: MIT
 use Rattle.std.proofs.Common.{◌∙◌, List, Option, Some, sym, subst}
 use Rattle.imago_access.specs.declared.access.FormatAccess.{FormatAccess}
 use Rattle.imago_access.specs.Target.{target}

@@ -1,3 +1,4 @@
+-- SPDX-License-Identifier: MIT
 use Rattle.std.proofs.Common.{◌≡◌, List, ℕ, true, length}
 use Rattle.imago_img_parts.specs.Files.{Around}
 use Rattle.imago_img_parts.proofs.Overwritten.{partly_over, still_there, written_over}

@@ -1,3 +1,4 @@
+-- SPDX-License-Identifier: MIT
 use Rattle.imago_img_parts.proofs.Told.{found_faults}
 use Rattle.imago_img_parts.proofs.run.look_for_faults.Goals as goal
 

@@ -1,3 +1,4 @@
+-- SPDX-License-Identifier: MIT
 use Rattle.std.proofs.Common.{◌-◌}
 use Rattle.imago_img_parts.proofs.streams.fault_in.Given as goal
 

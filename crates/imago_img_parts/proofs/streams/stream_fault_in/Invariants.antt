@@ -1,3 +1,4 @@
+-- SPDX-License-Identifier: MIT
 use Rattle.std.proofs.Common.{◌≡◌, ◌-◌}
 use Rattle.imago_access.specs.Chain.{driver}
 use Rattle.imago_copy.specs.RunsOf.{image_of, at_of, IsReady}

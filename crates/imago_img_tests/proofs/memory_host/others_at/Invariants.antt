@@ -1,3 +1,4 @@
+-- SPDX-License-Identifier: MIT
 use Rattle.std.proofs.Common.{◌-◌, ◌≤◌}
 use Rattle.imago_img_tests.proofs.memory_host.others_at.Given as goal
 

@@ -1,3 +1,4 @@
+-- SPDX-License-Identifier: MIT
 use Rattle.imago_img_tests.proofs.Zeroes.{zeroes, zeroes_to_end}
 use Rattle.imago_img_tests.proofs.memory_host.zeroes_at.Goals as goal
 

@@ -1,3 +1,4 @@
+-- SPDX-License-Identifier: MIT
 use Rattle.std.proofs.Common.{◌-◌, ◌≤◌, length}
 use Rattle.imago_length_tests.proofs.attributes.read_padded.Given as goal
 

@@ -1,3 +1,4 @@
+-- SPDX-License-Identifier: MIT
 use Rattle.std.proofs.Common.{refl, ◌∙◌}
 use Rattle.imago_access.proofs.DiskLists.{same_listed}
 use Rattle.imago_vmdk.specs.Image.{accepted_in}

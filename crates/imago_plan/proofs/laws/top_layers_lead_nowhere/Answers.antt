@@ -1,3 +1,4 @@
+-- SPDX-License-Identifier: MIT
 use Rattle.imago_plan.proofs.Layers.{top_target}
 use Rattle.imago_plan.proofs.laws.top_layers_lead_nowhere.Goals as goal
 

@@ -1,3 +1,4 @@
+-- SPDX-License-Identifier: MIT
 use Rattle.std.proofs.Common.{refl}
 use Rattle.imago_plan.proofs.Mapped.{mapped_piece}
 use Rattle.imago_plan.proofs.plan.next_piece.Goals as goal

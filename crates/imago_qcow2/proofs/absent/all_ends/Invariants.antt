@@ -1,3 +1,4 @@
+-- SPDX-License-Identifier: MIT
 use Rattle.std.proofs.Common.{◌≡◌, length}
 use Rattle.imago_qcow2.specs.Absent.{AreEndsOf}
 use Rattle.imago_qcow2.proofs.absent.all_ends.Given as goal

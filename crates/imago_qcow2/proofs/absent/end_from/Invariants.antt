@@ -1,3 +1,4 @@
+-- SPDX-License-Identifier: MIT
 use Rattle.std.proofs.Common.{◌*◌}
 use Rattle.imago_qcow2.specs.Absent.{AreAbsentEntries}
 use Rattle.imago_qcow2.proofs.absent.end_from.Given as goal

@@ -1,3 +1,4 @@
+-- SPDX-License-Identifier: MIT
 use Rattle.std.proofs.Common.{◌≡◌, ◌+◌, ◌*◌, length}
 use Rattle.imago_qcow2.specs.Absent.{AreAbsentEntries, AreEnds}
 use Rattle.imago_qcow2.proofs.absent.ends_of.Given as goal

@@ -1,3 +1,4 @@
+-- SPDX-License-Identifier: MIT
 use Rattle.std.proofs.Common.{◌%◌, ◌/◌, slice_get}
 use Rattle.imago_qcow2.specs.Tables.{loaded_of}
 use Rattle.imago_qcow2.specs.Absent.{IsAbsentEntry}

@@ -1,3 +1,4 @@
+-- SPDX-License-Identifier: MIT
 use Rattle.std.proofs.Common.{◌≡◌, ℕ, suc, ◌+◌, ◌-◌, ◌/◌, ◌<◌, ◌++◌, ◌∷◌, [], Some, ap, length, length-append, slice_get, arith}
 use Rattle.imago_qcow2.specs.declared.header.Header.{Header}
 use Rattle.imago_qcow2.specs.declared.entry.GuestCluster.{GuestCluster}

@@ -1,3 +1,4 @@
+-- SPDX-License-Identifier: MIT
 use Rattle.std.proofs.Common.{rules, ◌≡◌, ◌+◌, ◌≤◌, arith, ap, ◌∙◌, length}
 use Rattle.std.specs.Prelude.{IsTrue}
 use Rattle.imago_storage.specs.Bytes.{IsReadAt}

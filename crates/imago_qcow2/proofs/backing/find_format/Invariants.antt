@@ -1,3 +1,4 @@
+-- SPDX-License-Identifier: MIT
 use Rattle.std.proofs.Common.{◌-◌, ◌≡◌}
 use Rattle.std.specs.Prelude.{IsTrue}
 use Rattle.imago_qcow2.specs.Backing.{format_from}

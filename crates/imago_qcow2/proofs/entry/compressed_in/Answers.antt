@@ -1,3 +1,4 @@
+-- SPDX-License-Identifier: MIT
 use Rattle.std.proofs.Common.{refl}
 use Rattle.imago_qcow2.specs.Entry.{compressed_in_entry}
 use Rattle.imago_qcow2.proofs.entry.compressed_in.Goals as goal

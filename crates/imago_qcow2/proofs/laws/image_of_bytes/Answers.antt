@@ -1,3 +1,4 @@
+-- SPDX-License-Identifier: MIT
 use Rattle.std.proofs.Math.Path.{fun_ext}
 use Rattle.imago_qcow2.proofs.ToldSteps.{places_told, size_told, header_told, name_start_told, name_length_told, header_cluster_told}
 use Rattle.imago_qcow2.proofs.laws.image_of_bytes.Goals as goal

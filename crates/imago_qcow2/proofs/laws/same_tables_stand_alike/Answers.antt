@@ -1,3 +1,4 @@
+-- SPDX-License-Identifier: MIT
 use Rattle.imago_qcow2.proofs.DiskSteps.{same_header, stand_alike, streams_alike}
 use Rattle.imago_qcow2.proofs.laws.same_tables_stand_alike.Goals as goal
 

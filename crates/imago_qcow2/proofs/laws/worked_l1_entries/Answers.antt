@@ -1,3 +1,4 @@
+-- SPDX-License-Identifier: MIT
 use Rattle.std.proofs.Common.{refl}
 use Rattle.imago_qcow2.specs.Entry.{table_in_entry}
 use Rattle.imago_qcow2.proofs.laws.worked_l1_entries.Goals as goal

@@ -1,3 +1,4 @@
+-- SPDX-License-Identifier: MIT
 use Rattle.std.proofs.Common.{refl}
 use Rattle.std.specs.Int.Count.{count_trailing_zeros}
 use Rattle.imago_qcow2.specs.Entry.{cluster_in_entry, compressed_in_entry}

@@ -1,3 +1,4 @@
+-- SPDX-License-Identifier: MIT
 use Rattle.std.proofs.Common.{◌*◌, ◌/◌, ◌≤◌, arith}
 use Rattle.imago_qcow2.proofs.HeldSteps.{enough, span_positive}
 use Rattle.imago_qcow2.proofs.layout.l1_table.Goals as goal

@@ -1,3 +1,4 @@
+-- SPDX-License-Identifier: MIT
 use Rattle.std.proofs.Common.{◌≡◌, ◌+◌, slice_index, refl, arith}
 use Rattle.imago_qcow2.proofs.map.mapping_of.Goals as goal
 

@@ -1,3 +1,4 @@
+-- SPDX-License-Identifier: MIT
 use Rattle.std.proofs.Common.{rules, ◌≡◌, ◌∙◌, sym, ap, inl, length, Ok, Err}
 use Rattle.imago_qcow2.specs.Header.{header_of, IsSound}
 use Rattle.imago_qcow2.specs.Tables.{IsHeadRead}

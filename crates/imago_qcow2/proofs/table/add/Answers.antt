@@ -1,3 +1,4 @@
+-- SPDX-License-Identifier: MIT
 use Rattle.std.proofs.Common.{◌≡◌, length, arith}
 use Rattle.imago_qcow2.proofs.TableSteps.{there_kept, loaded_last, known_more}
 use Rattle.imago_qcow2.proofs.table.add.Goals as goal

@@ -1,3 +1,4 @@
+-- SPDX-License-Identifier: MIT
 use Rattle.std.proofs.Common.{◌≡◌, length}
 use Rattle.imago_qcow2.specs.Limit.{IsAccount, table_offsets}
 use Rattle.imago_qcow2.specs.Tables.{AreHeld, AreKnown}

@@ -1,3 +1,4 @@
+-- SPDX-License-Identifier: MIT
 use Rattle.std.specs.Prelude.{slice_index}
 use Rattle.imago_qcow2_check.specs.Compared.{IsCompared}
 use Rattle.imago_qcow2_check.proofs.blocks.compare.Given as goal

@@ -1,3 +1,4 @@
+-- SPDX-License-Identifier: MIT
 use Rattle.std.proofs.Common.{◌<◌, ◌*◌, sym, ◌∙◌, arith, []}
 use Rattle.std.proofs.lemmas.Nat.{div_below}
 use Rattle.imago_qcow2_check.specs.Tallies.{setting_of}

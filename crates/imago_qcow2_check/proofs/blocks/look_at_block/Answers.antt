@@ -1,3 +1,4 @@
+-- SPDX-License-Identifier: MIT
 use Rattle.imago_qcow2_check.specs.Tallies.{setting_of}
 use Rattle.imago_qcow2_check.proofs.BlockSteps.{block_adds}
 use Rattle.imago_qcow2_check.proofs.blocks.look_at_block.Goals as goal

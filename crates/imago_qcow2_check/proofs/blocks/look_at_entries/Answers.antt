@@ -1,3 +1,4 @@
+-- SPDX-License-Identifier: MIT
 use Rattle.std.proofs.Common.{◌≡◌, ◌*◌, ◌/◌, length, [], arith}
 use Rattle.imago_qcow2_check.specs.Sums.{total}
 use Rattle.imago_qcow2.specs.Numbers.{be64}

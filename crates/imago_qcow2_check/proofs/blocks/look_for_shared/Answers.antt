@@ -1,3 +1,4 @@
+-- SPDX-License-Identifier: MIT
 use Rattle.std.proofs.Common.{◌≡◌, ℕ, ◌+◌, ◌*◌, ◌/◌, length, refl, ◌∙◌, arith}
 use Rattle.std.specs.Prelude.{slice_index}
 use Rattle.imago_qcow2.specs.Numbers.{be64}

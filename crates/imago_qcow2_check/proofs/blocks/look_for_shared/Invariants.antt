@@ -1,3 +1,4 @@
+-- SPDX-License-Identifier: MIT
 use Rattle.std.proofs.Common.{◌≡◌, ◌+◌, ◌*◌, ℕ, List}
 use Rattle.std.specs.Prelude.{slice_index}
 use Rattle.imago_qcow2.specs.Numbers.{be64}

@@ -1,3 +1,4 @@
+-- SPDX-License-Identifier: MIT
 use Rattle.imago_qcow2_check.proofs.VerdictSteps.{verdict_is}
 use Rattle.imago_qcow2_check.proofs.check.check.Goals as goal
 

@@ -1,3 +1,4 @@
+-- SPDX-License-Identifier: MIT
 use Rattle.std.proofs.Common.{◌≡◌, ◌<◌, length, min, sym, ap, ◌∙◌, arith, [], ℕ}
 use Rattle.std.specs.Prelude.{IsTrue, slice_index}
 use Rattle.std.specs.Int.{div_ceil}

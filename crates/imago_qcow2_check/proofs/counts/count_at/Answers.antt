@@ -1,3 +1,4 @@
+-- SPDX-License-Identifier: MIT
 use Rattle.std.proofs.Common.{◌≡◌, ◌*◌, ◌/◌, ◌%◌, length, ◌∙◌, arith}
 use Rattle.imago_qcow2_check.specs.Counts.{count_in}
 use Rattle.imago_qcow2_check.proofs.CountSteps.{count_8, count_16, count_32, count_64, first, inside_0, inside_1, inside_2, inside_3, inside_4, inside_5, inside_6}

@@ -1,3 +1,4 @@
+-- SPDX-License-Identifier: MIT
 use Rattle.std.proofs.Common.{rules, ◌≡◌, ◌+◌, ◌-◌, ◌*◌, ◌<◌, min, length, refl, arith, ℕ}
 use Rattle.imago_qcow2_check.specs.Counts.{per_block}
 use Rattle.imago_qcow2_check.proofs.CountSteps.{times_more, blocks_more}

@@ -1,3 +1,4 @@
+-- SPDX-License-Identifier: MIT
 use Rattle.std.proofs.Common.{◌≡◌, ◌-◌, ◌*◌, ◌<◌, ℕ, min, length}
 use Rattle.std.specs.Prelude.{IsTrue, slice_index}
 use Rattle.imago_qcow2_check.specs.Counts.{per_block}

@@ -1,3 +1,4 @@
+-- SPDX-License-Identifier: MIT
 use Rattle.imago_qcow2_check.specs.CountParts.{AppendsCounts}
 use Rattle.imago_qcow2_check.proofs.counts.put_zeroes.Given as goal
 

@@ -1,3 +1,4 @@
+-- SPDX-License-Identifier: MIT
 use Rattle.imago_qcow2_check.specs.Tallies.{setting_of}
 use Rattle.imago_qcow2_check.proofs.EntrySteps.{cluster_adds}
 use Rattle.imago_qcow2_check.proofs.entry.look_at_cluster.Goals as goal

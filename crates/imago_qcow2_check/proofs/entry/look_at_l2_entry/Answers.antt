@@ -1,3 +1,4 @@
+-- SPDX-License-Identifier: MIT
 use Rattle.std.proofs.Common.{◌<◌, arith}
 use Rattle.imago_qcow2_check.specs.Tallies.{setting_of}
 use Rattle.imago_qcow2_check.proofs.EntrySteps.{l2_entry_adds, zero_adds}

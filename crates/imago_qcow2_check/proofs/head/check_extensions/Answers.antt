@@ -1,3 +1,4 @@
+-- SPDX-License-Identifier: MIT
 use Rattle.std.proofs.Common.{◌+◌, sym, ap, ◌∙◌, arith}
 use Rattle.imago_qcow2_check.proofs.KnownSteps.{known_past, known_end, known_goes_on}
 use Rattle.imago_qcow2_check.proofs.head.check_extensions.Goals as goal

@@ -1,3 +1,4 @@
+-- SPDX-License-Identifier: MIT
 use Rattle.std.proofs.Common.{◌*◌, ◌∙◌, ap}
 use Rattle.imago_qcow2.specs.Numbers.{be32}
 use Rattle.imago_qcow2_check.proofs.head.head_by.Goals as goal

@@ -1,3 +1,4 @@
+-- SPDX-License-Identifier: MIT
 use Rattle.imago_qcow2_check.specs.Tallies.{setting_of}
 use Rattle.imago_qcow2_check.proofs.SnapshotSteps.{invalid_adds, snapshot_adds}
 use Rattle.imago_qcow2_check.proofs.snapshots.look_at_tables.Goals as goal

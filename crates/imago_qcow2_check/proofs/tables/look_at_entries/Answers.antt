@@ -1,3 +1,4 @@
+-- SPDX-License-Identifier: MIT
 use Rattle.std.proofs.Common.{rules, ◌*◌}
 use Rattle.imago_qcow2.specs.Numbers.{be64}
 use Rattle.imago_qcow2_check.specs.Entries.{table_use, table_faults, named_use, named_faults}

@@ -1,3 +1,4 @@
+-- SPDX-License-Identifier: MIT
 use Rattle.imago_qcow2_check.specs.TallyParts.{between}
 use Rattle.imago_qcow2_check.specs.Tallies.{AddsUses}
 use Rattle.imago_qcow2_check.proofs.tally.count_uses.Given as goal

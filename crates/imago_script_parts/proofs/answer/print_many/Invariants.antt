@@ -1,3 +1,4 @@
+-- SPDX-License-Identifier: MIT
 use Rattle.std.proofs.Common.{length}
 use Rattle.imago_script_parts.proofs.answer.print_many.Given as goal
 

@@ -1,3 +1,4 @@
+-- SPDX-License-Identifier: MIT
 use Rattle.std.proofs.Common.{length, refl, arith}
 use Rattle.imago_script_parts.specs.Digits.{AreRead}
 use Rattle.imago_script_parts.proofs.Reading.{decode_of-read, other_refused}

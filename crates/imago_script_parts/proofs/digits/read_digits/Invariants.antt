@@ -1,3 +1,4 @@
+-- SPDX-License-Identifier: MIT
 use Rattle.std.proofs.Common.{length, ◌-◌}
 use Rattle.imago_script_parts.specs.Digits.{AreRead}
 use Rattle.imago_script_parts.proofs.digits.read_digits.Given as goal

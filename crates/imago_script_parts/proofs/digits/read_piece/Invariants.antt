@@ -1,3 +1,4 @@
+-- SPDX-License-Identifier: MIT
 use Rattle.std.proofs.Common.{◌<◌, ◌≤◌}
 use Rattle.imago_script_parts.specs.Digits.{AreRead, HasOther}
 use Rattle.imago_script_parts.proofs.digits.read_piece.Given as goal

@@ -1,3 +1,4 @@
+-- SPDX-License-Identifier: MIT
 use Rattle.std.proofs.Common.{arith, refl, ◌+◌, ◌-◌, ◌/◌, ◌<◌, ◌≤◌, ℕ, sym, subst}
 use Rattle.imago_loaded.specs.Loaded.{IsThere}
 use Rattle.imago_loaded.proofs.LoadedSteps.{blocks_there}

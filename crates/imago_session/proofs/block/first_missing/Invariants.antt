@@ -1,3 +1,4 @@
+-- SPDX-License-Identifier: MIT
 use Rattle.std.proofs.Common.{ℕ, ◌-◌, ◌/◌, ◌<◌, ◌≤◌}
 use Rattle.imago_loaded.specs.Loaded.{IsThere}
 use Rattle.imago_session.proofs.block.first_missing.Given as goal

@@ -1,3 +1,4 @@
+-- SPDX-License-Identifier: MIT
 use Rattle.std.proofs.Common.{refl, sym, ◌∙◌, ◌+◌}
 use Rattle.imago_access.specs.Target.{target}
 use Rattle.imago_plan.proofs.Disks.{stands_shown}

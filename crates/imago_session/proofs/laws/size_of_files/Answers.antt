@@ -1,3 +1,4 @@
+-- SPDX-License-Identifier: MIT
 use Rattle.imago_session.proofs.LayerSteps.{image_size}
 use Rattle.imago_session.proofs.laws.size_of_files.Goals as goal
 

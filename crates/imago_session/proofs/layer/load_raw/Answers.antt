@@ -1,3 +1,4 @@
+-- SPDX-License-Identifier: MIT
 use Rattle.std.proofs.Common.{◌∙◌, sym, ap, map}
 use Rattle.std.specs.String.{string_bytes}
 use Rattle.imago_loaded.proofs.LoadedSteps.{loaded_length}

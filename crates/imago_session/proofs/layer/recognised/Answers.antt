@@ -1,3 +1,4 @@
+-- SPDX-License-Identifier: MIT
 use Rattle.std.proofs.Common.{◌∙◌, refl, sym, arith}
 use Rattle.imago_session.proofs.ReadSteps.{there_part}
 use Rattle.imago_session.proofs.FormatSteps.{qcow2_alike, vmdk_alike, as_qcow2, as_vmdk, as_raw}

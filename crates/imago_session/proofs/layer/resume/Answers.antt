@@ -1,3 +1,4 @@
+-- SPDX-License-Identifier: MIT
 use Rattle.std.proofs.Common.{◌∙◌, sym}
 use Rattle.imago_session.proofs.ReadSteps.{if_ok_more}
 use Rattle.imago_session.proofs.KnownSteps.{known_kept, block_given}

@@ -1,3 +1,4 @@
+-- SPDX-License-Identifier: MIT
 use Rattle.std.proofs.Common.{◌≡◌, ◌<◌, ◌∙◌, ℕ, Option, Vec, Global, inl, inr, refl, sym, subst, length, arith}
 use Rattle.imago_qcow2.specs.Backing.{IsBackingName}
 use Rattle.imago_qcow2.proofs.NumberSteps.{range32, range64}

@@ -1,3 +1,4 @@
+-- SPDX-License-Identifier: MIT
 use Rattle.std.proofs.Common.{sym, ap, Some, ◌∙◌, ◌∷◌, ◌+◌, ◌≡◌, ℕ, [], subst, List, length, length-append, arith}
 use Rattle.imago_session.specs.Files.{Layer, AreAbove, AreLayersOf, names_in}
 use Rattle.imago_session.proofs.LaidSteps.{above_last, laid_first, laid_more, laid_all, nil_of, names_first, names_more, names_all, layers_first, layers_more}

@@ -1,3 +1,4 @@
+-- SPDX-License-Identifier: MIT
 use Rattle.std.proofs.Common.{◌≡◌, ℕ, ◌+◌, length}
 use Rattle.imago_vmdk.specs.declared.line.Accepted.{Accepted}
 use Rattle.imago_session.specs.Files.{File, IsLayerOf, IsLowest, AreAbove, AreLayersOf, extent_names, names_in, layers_in}

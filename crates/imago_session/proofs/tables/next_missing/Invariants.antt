@@ -1,3 +1,4 @@
+-- SPDX-License-Identifier: MIT
 use Rattle.std.proofs.Common.{◌-◌, List, ℕ}
 use Rattle.imago_session.specs.Blocks.{IsPartOf}
 use Rattle.imago_session.specs.Known.{AreTablesOf}

@@ -1,3 +1,4 @@
+-- SPDX-License-Identifier: MIT
 use Rattle.std.proofs.Common.{◌≡◌, ◌≢◌, ◌-◌, ◌%◌, min}
 use Rattle.imago_storage.proofs.ZeroWraps.{is_head}
 use Rattle.imago_storage.proofs.align.head_length.Goals as goal

@@ -1,3 +1,4 @@
+-- SPDX-License-Identifier: MIT
 use Rattle.std.proofs.Common.{◌≡◌, max}
 use Rattle.imago_storage.proofs.Alignment.{max_power}
 use Rattle.imago_storage.proofs.align.length_align.Goals as goal

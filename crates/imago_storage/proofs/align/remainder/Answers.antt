@@ -1,3 +1,4 @@
+-- SPDX-License-Identifier: MIT
 use Rattle.std.proofs.lemmas.Nat.{and_mask}
 use Rattle.imago_storage.proofs.align.remainder.Goals as goal
 

@@ -1,3 +1,4 @@
+-- SPDX-License-Identifier: MIT
 use Rattle.std.proofs.Common.{arith}
 use Rattle.std.proofs.Math.Nat.{div-add-mod'}
 use Rattle.imago_storage.proofs.align.whole_blocks.Goals as goal

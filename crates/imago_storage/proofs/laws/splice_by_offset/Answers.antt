@@ -1,3 +1,4 @@
+-- SPDX-License-Identifier: MIT
 use Rattle.imago_storage.proofs.Splices.{splice_inside, splice_before, splice_after, length-splice}
 use Rattle.imago_storage.proofs.laws.splice_by_offset.Goals as goal
 

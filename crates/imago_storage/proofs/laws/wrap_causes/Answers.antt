@@ -1,3 +1,4 @@
+-- SPDX-License-Identifier: MIT
 use Rattle.imago_storage.proofs.Padding.{wrap_causes}
 use Rattle.imago_storage.proofs.laws.wrap_causes.Goals as goal
 

@@ -1,3 +1,4 @@
+-- SPDX-License-Identifier: MIT
 use Rattle.std.proofs.Common.{arith, ◌≡◌, ◌+◌, ◌∙◌}
 use Rattle.imago_storage.proofs.Blocks.{block_facts}
 use Rattle.imago_storage.proofs.ReadParts.{read_then}

@@ -1,3 +1,4 @@
+-- SPDX-License-Identifier: MIT
 use Rattle.std.proofs.Common.{arith, ◌≡◌, ◌+◌, ◌-◌, ◌∙◌, length}
 use Rattle.imago_storage.proofs.Blocks.{part_facts}
 use Rattle.imago_storage.proofs.ReadParts.{first_is_part, read_then}

@@ -1,3 +1,4 @@
+-- SPDX-License-Identifier: MIT
 use Rattle.std.proofs.Common.{arith, ◌≡◌, ◌+◌, ◌≤◌, length, IsTrue}
 use Rattle.imago_storage.specs.Bytes.{splice, zero_extended}
 use Rattle.imago_storage.proofs.Outcomes.{WriteOutcome_towards}

@@ -1,3 +1,4 @@
+-- SPDX-License-Identifier: MIT
 use Rattle.std.proofs.Common.{rules, arith, inl, inr, ◌≡◌, ◌+◌, length, refl, ap, ◌∙◌}
 use Rattle.std.proofs.lemmas.List.{length-replicate}
 use Rattle.imago_storage.specs.Features.{IsAlignedRequest, len_align}

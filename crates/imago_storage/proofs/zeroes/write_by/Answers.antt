@@ -1,3 +1,4 @@
+-- SPDX-License-Identifier: MIT
 use Rattle.std.proofs.Common.{arith, inl, inr, ◌≡◌, ◌+◌, ◌<◌, length, refl}
 use Rattle.imago_storage.specs.Padding.{padded_end, IsPaddedRequest}
 use Rattle.imago_storage.proofs.Outcomes.{WriteOutcome_unchanged}

@@ -1,3 +1,4 @@
+-- SPDX-License-Identifier: MIT
 use Rattle.imago_storage.proofs.Padding.{len_positive}
 use Rattle.imago_storage.proofs.ZeroRanges.{HasZeroed_pure}
 use Rattle.imago_storage.proofs.zeroes.zero_aligned.Goals as goal

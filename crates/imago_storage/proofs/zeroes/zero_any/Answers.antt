@@ -1,3 +1,4 @@
+-- SPDX-License-Identifier: MIT
 use Rattle.std.proofs.Common.{rules, refl}
 use Rattle.imago_storage.proofs.Outcomes.{shows_same}
 use Rattle.imago_storage.proofs.Padding.{len_positive}

@@ -1,3 +1,4 @@
+-- SPDX-License-Identifier: MIT
 use Rattle.std.proofs.Common.{rules, arith, ap, Err, inl, inr, refl, ◌∙◌}
 use Rattle.imago_storage.proofs.Alignment.{power_positive}
 use Rattle.imago_storage.proofs.Outcomes.{OnOk_map, CountsFaults_then, not_wrapped, not_done, shows_same, shows_still}

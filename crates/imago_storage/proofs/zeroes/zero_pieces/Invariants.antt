@@ -1,3 +1,4 @@
+-- SPDX-License-Identifier: MIT
 use Rattle.std.proofs.Common.{◌-◌, ◌≡◌, ◌≤◌, ◌%◌, ◌⊎◌, Ok}
 use Rattle.imago_storage.specs.Faults.{CountsFaults}
 use Rattle.imago_storage.specs.Features.{len_align}

@@ -1,3 +1,4 @@
+// SPDX-License-Identifier: MIT
 //! Each call of the storages, once, where it succeeds.
 use super::script::{Call, Script, Step, check_all};
 use super::subject::Kind;

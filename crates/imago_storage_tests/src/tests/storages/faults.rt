@@ -1,3 +1,4 @@
+// SPDX-License-Identifier: MIT
 //! What a failing device leaves.
 use super::script::{Call, Script, Step, check_all};
 use super::subject::Kind;

@@ -1,3 +1,4 @@
+// SPDX-License-Identifier: MIT
 //! One call on any storage.
 ghost use Rattle.std.specs.Prelude.{◌≡◌, true};
 ghost use Rattle.imago_storage.specs.Features.{IsAlignedRequest, IsAlignedTo};

@@ -1,3 +1,4 @@
+// SPDX-License-Identifier: MIT
 //! Opening and creating of storages, their names, and their bytes.
 use super::set_up::{owned, runs, same};
 use imago_storage::error::Error;

@@ -1,3 +1,4 @@
+// SPDX-License-Identifier: MIT
 //! Options to open and create storages with.
 use super::set_up::{owned, same};
 use imago_storage::storage::{PreallocateMode, StorageCreateOptions, StorageOpenOptions};

@@ -1,3 +1,4 @@
+// SPDX-License-Identifier: MIT
 //! Scripts: calls on a storage, with what each has to answer and to leave.
 //!
 //! A test's run refuses one request for memory at most. So what is refused is made again, and has

@@ -1,3 +1,4 @@
+// SPDX-License-Identifier: MIT
 //! What the tests share: bytes, texts and names, each made again where memory is refused once.
 use std::alloc::Global;
 use std::fmt::Debug;

@@ -1,3 +1,4 @@
+// SPDX-License-Identifier: MIT
 //! The storages that scripts are made on. Each function names the types of one, so that the proofs
 //! of the tests stay short.
 use super::make::{Told, make};

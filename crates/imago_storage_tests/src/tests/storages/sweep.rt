@@ -1,3 +1,4 @@
+// SPDX-License-Identifier: MIT
 //! A failure at each call of a change, with each tear, over several alignments.
 use super::script::{Call, NAME};
 use super::set_up::{copied, is_old_or_new, offsets, owned, runs, same};

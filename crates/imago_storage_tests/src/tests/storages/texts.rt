@@ -1,3 +1,4 @@
+// SPDX-License-Identifier: MIT
 //! Printed texts, and what is shown of refusals.
 use super::set_up::{owned, runs, same};
 use imago_storage::error::{Error, ErrorKind};

@@ -1,3 +1,4 @@
+// SPDX-License-Identifier: MIT
 //! A storage that doesn't tell its bytes: the first byte that each pure read gives is the complement
 //! of the one that stands there. Its calls, refusals and lengths are those of the storage inside.
 //!

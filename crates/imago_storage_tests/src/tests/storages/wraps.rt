@@ -1,3 +1,4 @@
+// SPDX-License-Identifier: MIT
 //! Requests that wrap around at the greatest offset, and the greatest lengths.
 use super::script::{Call, Script, Step, check_all};
 use super::subject::Kind;

@@ -1,3 +1,4 @@
+// SPDX-License-Identifier: MIT
 //! Writes of any alignment.
 use super::script::{Call, Script, Step, check_all};
 use super::subject::Kind;

@@ -1,3 +1,4 @@
+// SPDX-License-Identifier: MIT
 //! Zero writes and discards of any alignment.
 use super::script::{Call, Script, Step, check_all};
 use super::subject::Kind;

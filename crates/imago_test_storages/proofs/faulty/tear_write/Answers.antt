@@ -1,3 +1,4 @@
+-- SPDX-License-Identifier: MIT
 use Rattle.std.proofs.Common.{◌∙◌, refl, length, slice_index}
 use Rattle.imago_test_storages.proofs.Torn.{torn_next, still_plain}
 use Rattle.imago_test_storages.proofs.faulty.tear_write.Goals as goal

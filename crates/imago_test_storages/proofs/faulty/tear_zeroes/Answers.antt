@@ -1,3 +1,4 @@
+-- SPDX-License-Identifier: MIT
 use Rattle.std.proofs.Common.{◌∙◌, refl}
 use Rattle.imago_test_storages.proofs.Torn.{torn_next, still_plain}
 use Rattle.imago_test_storages.proofs.faulty.tear_zeroes.Goals as goal

@@ -1,3 +1,4 @@
+-- SPDX-License-Identifier: MIT
 use Rattle.std.proofs.Common.{◌≡◌}
 use Rattle.imago_storage.specs.MemParts.{features_of}
 use Rattle.imago_test_storages.specs.Faulty.{IsPlain}

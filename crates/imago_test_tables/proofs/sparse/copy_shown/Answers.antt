@@ -1,3 +1,4 @@
+-- SPDX-License-Identifier: MIT
 use Rattle.imago_drivers.proofs.RawSteps.{if_ok, ok_of}
 use Rattle.imago_drivers.specs.LayerBelow.{lent}
 use Rattle.imago_test_tables.proofs.PrepareSteps.{copied_bytes, ext_refused}

@@ -1,3 +1,4 @@
+-- SPDX-License-Identifier: MIT
 use Rattle.std.proofs.Common.{ℕ, ◌+◌, ◌<◌}
 use Rattle.std.specs.Prelude.{slice_get}
 use Rattle.imago_test_tables.specs.Table.{IsClear}

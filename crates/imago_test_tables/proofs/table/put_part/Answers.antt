@@ -1,3 +1,4 @@
+-- SPDX-License-Identifier: MIT
 use Rattle.imago_test_tables.proofs.TableSteps.{filled_part}
 use Rattle.imago_test_tables.proofs.table.put_part.Goals as goal
 

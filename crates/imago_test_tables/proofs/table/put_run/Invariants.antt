@@ -1,3 +1,4 @@
+-- SPDX-License-Identifier: MIT
 use Rattle.imago_test_tables.specs.Table.{IsFilled}
 use Rattle.imago_test_tables.proofs.table.put_run.Given as goal
 

@@ -1,3 +1,4 @@
+-- SPDX-License-Identifier: MIT
 use Rattle.std.proofs.Common.{arith}
 use Rattle.imago_vmdk.proofs.Cuts.{not_true, first_line, one_line}
 use Rattle.imago_vmdk.proofs.descriptor.cut_line.Goals as goal

@@ -1,3 +1,4 @@
+-- SPDX-License-Identifier: MIT
 use Rattle.std.proofs.Common.{◌≡◌, true, false, ◌∙◌, refl, rules}
 use Rattle.imago_vmdk.specs.Reading.{is_version}
 use Rattle.imago_vmdk.proofs.Lines.{size_by_survey, gives_size}

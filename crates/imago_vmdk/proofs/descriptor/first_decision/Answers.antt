@@ -1,3 +1,4 @@
+-- SPDX-License-Identifier: MIT
 use Rattle.std.proofs.Common.{◌≡◌, ℕ, Bool, false, Option, Some, None, option_map, map, List, [], ◌∷◌, refl, sym, ◌∙◌}
 use Rattle.imago_vmdk.specs.Text.{lines_left}
 use Rattle.imago_vmdk.specs.Probe.{line_decides, first_answer, probe_lines}

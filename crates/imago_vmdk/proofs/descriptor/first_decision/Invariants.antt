@@ -1,3 +1,4 @@
+-- SPDX-License-Identifier: MIT
 use Rattle.std.proofs.Common.{◌≡◌, option_map}
 use Rattle.imago_vmdk.specs.Text.{lines_of, lines_left}
 use Rattle.imago_vmdk.specs.Probe.{probe_lines}

@@ -1,3 +1,4 @@
+-- SPDX-License-Identifier: MIT
 use Rattle.std.proofs.Common.{◌≡◌, Some, map, length, true, false, rules, ◌∙◌}
 use Rattle.std.specs.String.{string_bytes}
 use Rattle.imago_vmdk.specs.Text.{lines_of}

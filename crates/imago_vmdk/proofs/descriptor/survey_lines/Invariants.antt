@@ -1,3 +1,4 @@
+-- SPDX-License-Identifier: MIT
 use Rattle.std.proofs.Common.{◌≡◌, ℕ, List, map, option_map, ◌++◌}
 use Rattle.std.specs.String.{string_bytes}
 use Rattle.imago_vmdk.specs.declared.line.Extent.{Extent}

@@ -1,3 +1,4 @@
+-- SPDX-License-Identifier: MIT
 use Rattle.std.proofs.Common.{ap, ◌∙◌}
 use Rattle.imago_drivers.specs.Place.{shown}
 use Rattle.imago_vmdk.proofs.Disk.{read_alone}

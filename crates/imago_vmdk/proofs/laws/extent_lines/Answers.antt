@@ -1,3 +1,4 @@
+-- SPDX-License-Identifier: MIT
 use Rattle.std.proofs.Common.{refl}
 use Rattle.std.specs.Str.{chars, is_utf8, trim_start, trim_end}
 use Rattle.imago_vmdk.specs.Text.{utf8_of, words_of, number_of}

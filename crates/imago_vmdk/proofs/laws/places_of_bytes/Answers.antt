@@ -1,3 +1,4 @@
+-- SPDX-License-Identifier: MIT
 use Rattle.std.proofs.Common.{ℕ, List, ◌∷◌, [], map, slice_index_or, Result, sym, ap, ◌∙◌}
 use Rattle.imago_storage.specs.declared.error.Error.{Error}
 use Rattle.imago_vmdk.specs.declared.line.Extent.{Extent}

@@ -1,3 +1,4 @@
+-- SPDX-License-Identifier: MIT
 use Rattle.std.proofs.Common.{ℕ, List, ap, ◌∙◌}
 use Rattle.imago_vmdk.specs.Reading.{reading_of}
 use Rattle.imago_vmdk.specs.Disk.{places_read}

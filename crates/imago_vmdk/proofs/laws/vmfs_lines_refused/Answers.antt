@@ -1,3 +1,4 @@
+-- SPDX-License-Identifier: MIT
 use Rattle.std.proofs.Common.{ap, ◌∙◌}
 use Rattle.imago_storage.specs.declared.error.Error.TheVariants.{Unsupported}
 use Rattle.imago_vmdk.specs.Reading.{lines_say}

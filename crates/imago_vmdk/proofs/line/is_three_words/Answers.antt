@@ -1,3 +1,4 @@
+-- SPDX-License-Identifier: MIT
 use Rattle.std.proofs.Common.{refl}
 use Rattle.std.proofs.lemmas.Iterator.Consumers.{count_from_yields_List}
 use Rattle.imago_vmdk.proofs.Words.{yields_words}

@@ -1,3 +1,4 @@
+-- SPDX-License-Identifier: MIT
 use Rattle.imago_vmdk.proofs.Words.{word_step}
 use Rattle.imago_vmdk.proofs.line.next_word.Goals as goal
 

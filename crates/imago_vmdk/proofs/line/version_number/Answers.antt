@@ -1,3 +1,4 @@
+-- SPDX-License-Identifier: MIT
 use Rattle.std.proofs.Common.{◌∙◌}
 use Rattle.imago_vmdk.proofs.Numbers.{number_from_parse}
 use Rattle.imago_vmdk.proofs.line.version_number.Goals as goal

@@ -1,3 +1,4 @@
+-- SPDX-License-Identifier: MIT
 use Rattle.std.proofs.Common.{ℕ, List, [], get_or, arith}
 use Rattle.imago_vmdk.specs.declared.vmdk.Start.{Start}
 use Rattle.imago_vmdk.proofs.Extents.{found_at, some_start, first_start, names_on_disk, rest_on_disk, refusal_on_disk}

@@ -1,3 +1,4 @@
+-- SPDX-License-Identifier: MIT
 use Rattle.imago_vmdk.proofs.Extents.{flat_names}
 use Rattle.imago_vmdk.proofs.vmdk.extent_mapping.Goals as goal
 

@@ -1,3 +1,4 @@
+-- SPDX-License-Identifier: MIT
 use Rattle.std.proofs.Common.{◌-◌, ◌<◌, ◌≤◌, length, get_or}
 use Rattle.imago_vmdk.specs.declared.vmdk.Start.{Start}
 use Rattle.imago_vmdk.proofs.vmdk.find.Given as goal

@@ -1,3 +1,4 @@
+-- SPDX-License-Identifier: MIT
 use Rattle.std.proofs.Common.{◌*◌, ◌^◌, ◌<◌, ◌∷◌, [], inr, rules}
 use Rattle.std.proofs.lemmas.Result.{err_from_is_err_and}
 use Rattle.imago_vmdk.proofs.vmdk.open_extent.Goals as goal

@@ -1,3 +1,4 @@
+-- SPDX-License-Identifier: MIT
 use Rattle.std.proofs.Common.{take}
 use Rattle.std.specs.String.{string_bytes}
 use Rattle.imago_vmdk.specs.Opened.{AreOpened}

@@ -1,3 +1,4 @@
+-- SPDX-License-Identifier: MIT
 use Rattle.std.proofs.Common.{rules}
 use Rattle.imago_vmdk.proofs.vmdk.open_storage.Goals as goal
 

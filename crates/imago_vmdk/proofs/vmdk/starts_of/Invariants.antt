@@ -1,3 +1,4 @@
+-- SPDX-License-Identifier: MIT
 use Rattle.std.proofs.Common.{◌≡◌, ◌+◌, ◌++◌, ◌≤◌, drop}
 use Rattle.std.specs.List.{sum_by}
 use Rattle.imago_vmdk.specs.Reading.{size_of}

@@ -1,3 +1,4 @@
+-- SPDX-License-Identifier: MIT
 use Rattle.imago_words.proofs.ReadingSteps.{cut_is}
 use Rattle.imago_words.proofs.cut.cut_letter.Goals as goal
 use Rattle.std.proofs.Common.{rules}

@@ -1,3 +1,4 @@
+-- SPDX-License-Identifier: MIT
 use Rattle.imago_words.proofs.LineLaws.{differ}
 use Rattle.imago_words.proofs.laws.options_differ.Goals as goal
 

@@ -1,3 +1,4 @@
+-- SPDX-License-Identifier: MIT
 use Rattle.std.proofs.Common.{◌≡◌, length, map}
 use Rattle.imago_words.specs.Reading.{known, option_of_letter}
 use Rattle.imago_words.proofs.row.find_letter.Given as goal

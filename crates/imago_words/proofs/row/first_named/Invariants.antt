@@ -1,3 +1,4 @@
+-- SPDX-License-Identifier: MIT
 use Rattle.std.proofs.Common.{◌≡◌, length, map}
 use Rattle.imago_words.specs.Reading.{known, same_name}
 use Rattle.imago_words.proofs.row.first_named.Given as goal

@@ -1,3 +1,4 @@
+-- SPDX-License-Identifier: MIT
 use Rattle.std.proofs.Common.{◌≡◌, length}
 use Rattle.imago_words.specs.Sizes.{size_from}
 use Rattle.imago_words.proofs.size.size_named.Given as goal

@@ -1,3 +1,4 @@
+-- SPDX-License-Identifier: MIT
 use Rattle.std.proofs.Common.{◌∙◌, ◌+◌, ap, sym, drop, map, option_map}
 use Rattle.std.proofs.lemmas.List.{at_drop_more}
 use Rattle.imago_words.specs.Reading.{last_of, shown}

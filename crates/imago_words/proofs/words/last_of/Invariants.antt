@@ -1,3 +1,4 @@
+-- SPDX-License-Identifier: MIT
 use Rattle.std.proofs.Common.{◌≡◌, None, drop, map, option_map}
 use Rattle.imago_words.specs.Reading.{last_of, shown}
 use Rattle.imago_words.proofs.words.last_of.Given as goal

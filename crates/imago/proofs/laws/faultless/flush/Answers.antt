@@ -1,3 +1,4 @@
+-- SPDX-License-Identifier: MIT
 use Rattle.imago_drivers.specs.RawImage.{storage_in}
 use Rattle.imago.proofs.RawImages.{flush_of_all}
 use Rattle.imago.proofs.laws.faultless.flush.Goals as goal

@@ -1,3 +1,4 @@
+-- SPDX-License-Identifier: MIT
 use Rattle.imago_drivers.specs.RawImage.{storage_in}
 use Rattle.imago.proofs.RawImages.{mapping_of_range}
 use Rattle.imago.proofs.laws.faultless.get_mapping.Goals as goal

@@ -1,3 +1,4 @@
+-- SPDX-License-Identifier: MIT
 use Rattle.std.proofs.Common.{◌<◌, ◌≤◌, ◌^◌, length, subst}
 use Rattle.imago_drivers.specs.RawImage.{storage_in, size_of}
 use Rattle.imago.proofs.RawImages.{zero_write_inside}

@@ -1,3 +1,4 @@
+-- SPDX-License-Identifier: MIT
 use Rattle.std.proofs.Common.{refl}
 use Rattle.imago_access.specs.Chain.{driver}
 use Rattle.imago_drivers.specs.RawImage.{size_of}

@@ -1,3 +1,4 @@
+-- SPDX-License-Identifier: MIT
 use Rattle.imago_access.proofs.Shown.{commit_shown}
 use Rattle.imago_access.proofs.access.FormatAccess.commit_data_mapping.Goals as goal
 

@@ -1,3 +1,4 @@
+-- SPDX-License-Identifier: MIT
 use Rattle.std.proofs.Common.{◌≡◌, ℕ}
 use Rattle.imago_access.specs.Target.{told_depth}
 use Rattle.imago_access.specs.Ways.{LeadsDown}

@@ -1,3 +1,4 @@
+-- SPDX-License-Identifier: MIT
 use Rattle.std.proofs.lemmas.Result.{err_from_is_err_and}
 use Rattle.imago_access.specs.Chain.{driver}
 use Rattle.imago_access.proofs.PartSteps.{discard_call, failed_discard, is_loose, never_overflows, same_tests}

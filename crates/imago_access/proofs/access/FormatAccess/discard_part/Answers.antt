@@ -1,3 +1,4 @@
+-- SPDX-License-Identifier: MIT
 use Rattle.std.proofs.Common.{sym, subst}
 use Rattle.imago_access.specs.Lending.{with_driver}
 use Rattle.imago_access.specs.Chain.{backing, lent_image}

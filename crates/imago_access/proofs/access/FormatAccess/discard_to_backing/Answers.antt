@@ -1,3 +1,4 @@
+-- SPDX-License-Identifier: MIT
 use Rattle.imago_access.proofs.Flat.{backing_listed}
 use Rattle.imago_access.proofs.access.FormatAccess.discard_to_backing.Goals as goal
 

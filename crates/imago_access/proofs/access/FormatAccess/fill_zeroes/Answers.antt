@@ -1,3 +1,4 @@
+-- SPDX-License-Identifier: MIT
 use Rattle.imago_access.proofs.ZeroLoops.{filled}
 use Rattle.imago_access.proofs.access.FormatAccess.fill_zeroes.Goals as goal
 

@@ -1,3 +1,4 @@
+-- SPDX-License-Identifier: MIT
 use Rattle.imago_access.proofs.SizeSteps.{flushed_image}
 use Rattle.imago_access.proofs.access.FormatAccess.flush.Goals as goal
 

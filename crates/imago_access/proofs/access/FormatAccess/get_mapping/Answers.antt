@@ -1,3 +1,4 @@
+-- SPDX-License-Identifier: MIT
 use Rattle.std.proofs.lemmas.Result.{err_from_is_err_and}
 use Rattle.imago_access.proofs.Weaker.{allowed_more}
 use Rattle.imago_access.proofs.Landed.{landed_mapping, whole_mapping, asked_refused}

@@ -1,3 +1,4 @@
+-- SPDX-License-Identifier: MIT
 use Rattle.std.proofs.Common.{sym, ap, ◌∙◌, ◌≡◌, Some, None}
 use Rattle.imago_access.specs.Chain.{backing, unboxed}
 use Rattle.imago_access.specs.Alignments.{has_align, align_of}

@@ -1,3 +1,4 @@
+-- SPDX-License-Identifier: MIT
 use Rattle.imago_access.specs.Alignments.{has_align, align_of}
 use Rattle.imago_access.proofs.Greatest.{IsGreatestSoFar}
 use Rattle.imago_access.proofs.access.FormatAccess.greatest_align.Given as goal

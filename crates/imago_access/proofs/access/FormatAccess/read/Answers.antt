@@ -1,3 +1,4 @@
+-- SPDX-License-Identifier: MIT
 use Rattle.imago_access.proofs.Flat.{read_listed}
 use Rattle.imago_access.proofs.access.FormatAccess.read.Goals as goal
 

@@ -1,3 +1,4 @@
+-- SPDX-License-Identifier: MIT
 use Rattle.imago_access.proofs.access.FormatAccess.readv.Goals as goal
 
 pub returns-clause-disk : goal.returns-clause-disk

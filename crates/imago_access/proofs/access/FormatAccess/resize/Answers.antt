@@ -1,3 +1,4 @@
+-- SPDX-License-Identifier: MIT
 use Rattle.std.proofs.Common.{arith}
 use Rattle.imago_access.proofs.Flat.{resize_listed}
 use Rattle.imago_access.proofs.access.FormatAccess.resize.Goals as goal

@@ -1,3 +1,4 @@
+-- SPDX-License-Identifier: MIT
 use Rattle.std.proofs.Common.{sym, ◌∙◌}
 use Rattle.imago_access.proofs.ZeroLoops.{granules_done}
 use Rattle.imago_access.proofs.access.FormatAccess.try_granules.Goals as goal

@@ -1,3 +1,4 @@
+-- SPDX-License-Identifier: MIT
 use Rattle.std.proofs.lemmas.Result.{err_from_is_err_and}
 use Rattle.imago_access.specs.Chain.{backing}
 use Rattle.imago_access.specs.Performed.{IsThroughBy}

@@ -1,3 +1,4 @@
+-- SPDX-License-Identifier: MIT
 use Rattle.imago_access.specs.Chain.{driver, backing, lent_image}
 use Rattle.imago_access.proofs.Shown.{write_shown}
 use Rattle.imago_access.proofs.SizeSteps.{round_image}

@@ -1,3 +1,4 @@
+-- SPDX-License-Identifier: MIT
 use Rattle.imago_access.specs.Chain.{backing}
 use Rattle.imago_access.proofs.Images.{lent_is}
 use Rattle.imago_access.proofs.ZeroSteps.{piece_written}

@@ -1,3 +1,4 @@
+-- SPDX-License-Identifier: MIT
 use Rattle.imago_access.proofs.access.FormatAccess.writev.Goals as goal
 
 pub returns-clause-written : goal.returns-clause-written

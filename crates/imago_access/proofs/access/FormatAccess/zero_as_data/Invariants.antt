@@ -1,3 +1,4 @@
+-- SPDX-License-Identifier: MIT
 use Rattle.std.proofs.Common.{◌-◌, ◌≡◌, length}
 use Rattle.imago_access.proofs.ZeroLoops.{IsZeroingOn}
 use Rattle.imago_access.specs.ZeroCalls.{behind, IsZeroPiece, AreNull}

@@ -1,3 +1,4 @@
+-- SPDX-License-Identifier: MIT
 use Rattle.std.proofs.Common.{arith, ◌-◌, ⊎_elim}
 use Rattle.imago_drivers.specs.Operation.{Zero}
 use Rattle.imago_access.proofs.ZeroLoops.{driver_next}

@@ -1,3 +1,4 @@
+-- SPDX-License-Identifier: MIT
 use Rattle.std.proofs.Common.{◌-◌, ◌≤◌}
 use Rattle.imago_access.specs.Zeroing.{IsZeroedByDriver}
 use Rattle.imago_access.specs.declared.zero.ZeroCall.TheVariants as Call

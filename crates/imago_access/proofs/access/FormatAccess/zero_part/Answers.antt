@@ -1,3 +1,4 @@
+-- SPDX-License-Identifier: MIT
 use Rattle.std.proofs.Common.{sym, subst}
 use Rattle.imago_drivers.specs.Operation.{Zero, DiscardToZero}
 use Rattle.imago_access.specs.Lending.{with_driver}

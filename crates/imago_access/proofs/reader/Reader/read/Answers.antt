@@ -1,3 +1,4 @@
+-- SPDX-License-Identifier: MIT
 use Rattle.imago_access.specs.ReaderOf.{image_of}
 use Rattle.imago_access.proofs.Flat.{read_listed}
 use Rattle.imago_access.proofs.reader.Reader.read.Goals as goal

@@ -1,3 +1,4 @@
+-- SPDX-License-Identifier: MIT
 use Rattle.std.proofs.Common.{length, ◌-◌, ◌≡◌, ◌≤◌}
 use Rattle.imago_access.specs.Specials.{IsMade}
 use Rattle.imago_access.specs.ReaderOf.{image_of, IsKeeping}

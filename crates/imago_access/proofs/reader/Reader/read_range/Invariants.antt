@@ -1,3 +1,4 @@
+-- SPDX-License-Identifier: MIT
 use Rattle.std.proofs.Common.{◌≡◌, ◌-◌, ◌≤◌, ◌⊎◌, length, take}
 use Rattle.std.specs.Prelude.{IsTrue}
 use Rattle.imago_drivers.specs.Place.{HasValues}

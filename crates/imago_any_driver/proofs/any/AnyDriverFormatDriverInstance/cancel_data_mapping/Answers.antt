@@ -1,3 +1,4 @@
+-- SPDX-License-Identifier: MIT
 use Rattle.std.proofs.Common.{sym, refl, ◌∙◌}
 use Rattle.imago_any_driver.specs.declared.any.AnyDriver.TheVariants as T
 use Rattle.imago_any_driver.proofs.Variants.{cancel_of}

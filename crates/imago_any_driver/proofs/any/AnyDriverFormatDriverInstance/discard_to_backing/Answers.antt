@@ -1,3 +1,4 @@
+-- SPDX-License-Identifier: MIT
 use Rattle.imago_any_driver.proofs.Restated.{discard_restated}
 use Rattle.imago_any_driver.proofs.any.AnyDriverFormatDriverInstance.discard_to_backing.Goals as goal
 

@@ -1,3 +1,4 @@
+-- SPDX-License-Identifier: MIT
 use Rattle.imago_any_driver.proofs.Restated.{ensuring_restated}
 use Rattle.imago_any_driver.proofs.any.AnyDriverFormatDriverInstance.ensure_data_mapping.Goals as goal
 

@@ -1,3 +1,4 @@
+-- SPDX-License-Identifier: MIT
 use Rattle.imago_any_driver.proofs.Restated.{zero_call_restated}
 use Rattle.imago_any_driver.proofs.any.AnyDriverFormatDriverInstance.ensure_zero_mapping.Goals as goal
 

@@ -1,3 +1,4 @@
+-- SPDX-License-Identifier: MIT
 use Rattle.imago_any_driver.specs.declared.any.AnyDriver.TheVariants as T
 use Rattle.imago_any_driver.proofs.Variants.{flush_of}
 use Rattle.imago_any_driver.proofs.Restated.{flush_restated}

@@ -1,3 +1,4 @@
+-- SPDX-License-Identifier: MIT
 use Rattle.std.proofs.Common.{refl}
 use Rattle.imago_any_driver.proofs.Restated.{prepared_restated}
 use Rattle.imago_any_driver.proofs.any.AnyDriverFormatDriverInstance.prepare_data_mapping.Goals as goal

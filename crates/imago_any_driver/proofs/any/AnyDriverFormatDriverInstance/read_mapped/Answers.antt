@@ -1,3 +1,4 @@
+-- SPDX-License-Identifier: MIT
 use Rattle.imago_any_driver.proofs.any.AnyDriverFormatDriverInstance.read_mapped.Goals as goal
 
 pub returns-in-Raw-clause-refusals : goal.returns-in-Raw-clause-refusals

@@ -1,3 +1,4 @@
+-- SPDX-License-Identifier: MIT
 use Rattle.imago_any_driver.proofs.Restated.{growth_restated}
 use Rattle.imago_any_driver.proofs.any.AnyDriverFormatDriverInstance.resize_grow.Goals as goal
 

@@ -1,3 +1,4 @@
+-- SPDX-License-Identifier: MIT
 use Rattle.imago_any_driver.proofs.Restated.{stored_write_restated}
 use Rattle.imago_any_driver.proofs.any.AnyDriverFormatDriverInstance.write_mapped.Goals as goal
 

@@ -1,3 +1,4 @@
+-- SPDX-License-Identifier: MIT
 use Rattle.std.proofs.Common.{sym, refl, ◌≡◌, None, Err}
 use Rattle.imago_storage.specs.declared.error.Error.{Error}
 use Rattle.imago_any_driver.specs.declared.any.AnyDriver.TheVariants as T

@@ -1,3 +1,4 @@
+-- SPDX-License-Identifier: MIT
 use Rattle.imago_cow.proofs.BlockSteps.{power_at}
 use Rattle.imago_cow.proofs.block.BlockSize.new.Goals as goal
 

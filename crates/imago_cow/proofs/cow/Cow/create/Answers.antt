@@ -1,3 +1,4 @@
+-- SPDX-License-Identifier: MIT
 use Rattle.std.proofs.Common.{◌≡◌, replicate}
 use Rattle.imago_cow.specs.TableView.{entries_of}
 use Rattle.imago_cow.specs.declared.table.GuestBlock.{GuestBlock}

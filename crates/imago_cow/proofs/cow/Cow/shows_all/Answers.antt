@@ -1,3 +1,4 @@
+-- SPDX-License-Identifier: MIT
 use Rattle.imago_cow.proofs.cow.Cow.shows_all.Goals as goal
 
 pub returns-clause-shown : goal.returns-clause-shown

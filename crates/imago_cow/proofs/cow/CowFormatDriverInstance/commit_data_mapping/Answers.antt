@@ -1,3 +1,4 @@
+-- SPDX-License-Identifier: MIT
 use Rattle.std.proofs.Common.{◌+◌, Some, arith, refl, sym, ◌∙◌}
 use Rattle.imago_drivers.specs.Pending.{IsOwn}
 use Rattle.imago_cow.specs.TableView.{entries_of, count_of}

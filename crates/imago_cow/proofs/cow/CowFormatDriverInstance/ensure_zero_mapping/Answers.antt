@@ -1,3 +1,4 @@
+-- SPDX-License-Identifier: MIT
 use Rattle.std.proofs.Common.{◌≡◌, ◌+◌, None, refl}
 use Rattle.imago_cow.proofs.DriverSteps.{none_waits}
 use Rattle.imago_cow.proofs.cow.CowFormatDriverInstance.ensure_zero_mapping.Goals as goal

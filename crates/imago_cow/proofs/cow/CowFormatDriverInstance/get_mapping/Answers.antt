@@ -1,3 +1,4 @@
+-- SPDX-License-Identifier: MIT
 use Rattle.imago_cow.proofs.cow.CowFormatDriverInstance.get_mapping.Goals as goal
 
 pub returns-clause-right : goal.returns-clause-right

@@ -1,3 +1,4 @@
+-- SPDX-License-Identifier: MIT
 use Rattle.std.proofs.Common.{rules, inr, ◌≡◌, ◌+◌, ◌*◌, ◌≤◌, Some, true, false, arith, refl, sym, length}
 use Rattle.std.specs.Prelude.{is_none}
 use Rattle.imago_storage.specs.declared.error.Error.{Error}

@@ -1,3 +1,4 @@
+-- SPDX-License-Identifier: MIT
 use Rattle.imago_cow.specs.Packed.{unpacked}
 use Rattle.imago_cow.specs.Entries.{listed}
 use Rattle.imago_cow.proofs.EntrySteps.{map_replaced}

@@ -1,3 +1,4 @@
+-- SPDX-License-Identifier: MIT
 use Rattle.std.proofs.Common.{◌≡◌, ◌≤◌, ◌-◌, ap, ◌∙◌, length, arith}
 use Rattle.std.specs.Prelude.{vec_len}
 use Rattle.imago_cow.specs.Packed.{unpacked}

@@ -1,3 +1,4 @@
+-- SPDX-License-Identifier: MIT
 use Rattle.std.proofs.Common.{ap, ◌∙◌, map, replicate}
 use Rattle.imago_cow.specs.Packed.{unpacked}
 use Rattle.imago_cow.specs.Entries.{listed}

@@ -1,3 +1,4 @@
+-- SPDX-License-Identifier: MIT
 use Rattle.std.proofs.Common.{arith}
 use Rattle.imago_cow.proofs.FreeSteps.{top_is_lowest, empty}
 use Rattle.imago_cow.proofs.free.FreeBlocks.lowest.Goals as goal

@@ -1,3 +1,4 @@
+-- SPDX-License-Identifier: MIT
 use Rattle.std.proofs.Common.{arith}
 use Rattle.imago_cow.proofs.FreeSteps.{empty}
 use Rattle.imago_cow.proofs.free.FreeBlocks.new.Goals as goal

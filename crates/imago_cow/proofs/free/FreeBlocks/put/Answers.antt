@@ -1,3 +1,4 @@
+-- SPDX-License-Identifier: MIT
 use Rattle.std.proofs.Common.{◌≡◌, ◌+◌, ◌-◌, ◌^◌, IsOk, arith}
 use Rattle.imago_cow.proofs.FreeSteps.{without_pushed, on_ok}
 use Rattle.imago_cow.proofs.free.FreeBlocks.put.Goals as goal

@@ -1,3 +1,4 @@
+-- SPDX-License-Identifier: MIT
 use Rattle.std.proofs.Common.{arith}
 use Rattle.imago_cow.proofs.FreeSteps.{without, top_is_lowest, empty}
 use Rattle.imago_cow.proofs.free.FreeBlocks.take_lowest.Goals as goal

@@ -1,3 +1,4 @@
+-- SPDX-License-Identifier: MIT
 use Rattle.std.proofs.Common.{Some, ap, ◌∙◌, arith}
 use Rattle.imago_cow.specs.Entries.{listed}
 use Rattle.imago_cow.proofs.TableSteps.{cleared, cleared_count, still_empty, still_empty_count}

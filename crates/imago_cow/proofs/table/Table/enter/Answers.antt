@@ -1,3 +1,4 @@
+-- SPDX-License-Identifier: MIT
 use Rattle.std.proofs.Common.{◌≡◌, ◌+◌, Some, sym, subst, ap, ◌∙◌, arith}
 use Rattle.imago_cow.specs.Entries.{listed}
 use Rattle.imago_cow.specs.Table.{IsEachOnce, held_count}

@@ -1,3 +1,4 @@
+-- SPDX-License-Identifier: MIT
 use Rattle.std.proofs.Common.{arith}
 use Rattle.imago_cow.specs.Entries.{listed}
 use Rattle.imago_cow.proofs.TableSteps.{free_is_lowest, count_is_lowest, free_is_below}

@@ -1,3 +1,4 @@
+-- SPDX-License-Identifier: MIT
 use Rattle.imago_cow.proofs.HeldSteps.{held_small}
 use Rattle.imago_cow.proofs.table.Table.push_held.Goals as goal
 

@@ -1,3 +1,4 @@
+-- SPDX-License-Identifier: MIT
 use Rattle.std.proofs.Common.{None, subst}
 use Rattle.imago_cow.specs.Entries.{listed}
 use Rattle.imago_cow.specs.Table.{IsEachOnce}

@@ -1,3 +1,4 @@
+-- SPDX-License-Identifier: MIT
 use Rattle.std.proofs.Common.{◌≡◌, ◌+◌, length, take}
 use Rattle.imago_cow.specs.TableView.{entries_of, held_of, count_of, KeepsRoom}
 use Rattle.imago_cow.proofs.table.Table.truncate.Given as goal

@@ -1,3 +1,4 @@
+-- SPDX-License-Identifier: MIT
 use Rattle.std.proofs.Common.{length}
 use Rattle.imago_drivers.proofs.RawSteps.{read_refused}
 use Rattle.imago_drivers.proofs.raw.RawFormatDriverInstance.read_mapped.Goals as goal

@@ -1,3 +1,4 @@
+-- SPDX-License-Identifier: MIT
 use Rattle.std.proofs.Common.{rules, ◌≡◌, arith, length, true}
 use Rattle.std.specs.Prelude.{IsTrue}
 use Rattle.imago_drivers.specs.Operation.{Write}

@@ -1,3 +1,4 @@
+-- SPDX-License-Identifier: MIT
 use Rattle.std.proofs.Common.{arith, sym, inl, inr, ◌≡◌, ◌+◌}
 use Rattle.std.specs.Prelude.{slice_index}
 use Rattle.imago_examples.specs.BehindHeaderLaws.{behind_in}

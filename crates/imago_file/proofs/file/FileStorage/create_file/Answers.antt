@@ -1,3 +1,4 @@
+-- SPDX-License-Identifier: MIT
 use Rattle.imago_file.proofs.Openings.{created_and_sized}
 use Rattle.imago_file.proofs.file.FileStorage.create_file.Goals as goal
 

@@ -1,3 +1,4 @@
+-- SPDX-License-Identifier: MIT
 use Rattle.std.proofs.Common.{refl, ◌≤◌, arith}
 use Rattle.imago_file.proofs.Files.{long_spliced, file_written, file_refused, file_kept, same_length}
 use Rattle.imago_file.proofs.file.FileStorageStorage.pure_writev.Goals as goal

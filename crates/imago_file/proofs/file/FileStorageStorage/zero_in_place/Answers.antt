@@ -1,3 +1,4 @@
+-- SPDX-License-Identifier: MIT
 use Rattle.std.proofs.Common.{refl, replicate, ℕ, ◌≤◌, arith}
 use Rattle.imago_storage.specs.declared.error.Error.{Error}
 use Rattle.imago_file.proofs.Files.{file_refused, file_kept, same_length}

@@ -1,3 +1,4 @@
+-- SPDX-License-Identifier: MIT
 use Rattle.std.proofs.Common.{◌≡◌, ◌≤◌, length}
 use Rattle.imago_file.proofs.host.FileHostFile.read_at.Given as goal
 

@@ -1,3 +1,4 @@
+-- SPDX-License-Identifier: MIT
 use Rattle.std.proofs.Common.{refl, arith}
 use Rattle.imago_storage.proofs.Splices.{length-splice}
 use Rattle.imago_file.proofs.host.MemoryFileHostFile.write_at.Goals as goal

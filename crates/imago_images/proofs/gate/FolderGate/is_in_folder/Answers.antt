@@ -1,3 +1,4 @@
+-- SPDX-License-Identifier: MIT
 use Rattle.std.proofs.Common.{◌≡◌, Bool, true, inr}
 use Rattle.imago_images.specs.FolderParts.{IsBeyond}
 use Rattle.imago_images.specs.GateParts.{gate_host, gate_image, gate_bounds}

@@ -1,3 +1,4 @@
+-- SPDX-License-Identifier: MIT
 use Rattle.std.proofs.Common.{◌∙◌, sym}
 use Rattle.imago_images.proofs.SignatureSteps.{told_by_mark, told_unmarked}
 use Rattle.imago_images.proofs.signature.Signature.of_first.Goals as goal

@@ -1,3 +1,4 @@
+-- SPDX-License-Identifier: MIT
 use Rattle.std.proofs.Common.{◌≡◌, ◌∙◌, ℕ, List, true, sym, ap}
 use Rattle.imago_images.specs.declared.files.FileStatus.{FileStatus}
 use Rattle.imago_images.specs.PathFile.{file_path, file_status}

@@ -1,3 +1,4 @@
+-- SPDX-License-Identifier: MIT
 use Rattle.std.proofs.Common.{◌≡◌, drop}
 use Rattle.imago_img_tests.specs.MemoryFiles.{file_bytes, first_of, has_file}
 use Rattle.imago_img_tests.proofs.memory_host.MemoryHost.file.Given as goal

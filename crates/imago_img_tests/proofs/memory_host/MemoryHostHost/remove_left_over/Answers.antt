@@ -1,3 +1,4 @@
+-- SPDX-License-Identifier: MIT
 use Rattle.std.proofs.Common.{◌∙◌}
 use Rattle.imago_img_tests.proofs.LeftOver.{left_gone}
 use Rattle.imago_img_tests.proofs.memory_host.MemoryHostHost.remove_left_over.Goals as goal

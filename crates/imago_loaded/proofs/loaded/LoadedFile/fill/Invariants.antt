@@ -1,3 +1,4 @@
+-- SPDX-License-Identifier: MIT
 use Rattle.std.proofs.Common.{◌≡◌, ℕ, ◌+◌, ◌-◌, ◌<◌, ◌≤◌, length}
 use Rattle.std.specs.Prelude.{slice_index}
 use Rattle.imago_loaded.specs.Loaded.{loaded_bytes}

@@ -1,3 +1,4 @@
+-- SPDX-License-Identifier: MIT
 use Rattle.std.proofs.Common.{◌≡◌, length, arith}
 use Rattle.std.proofs.lemmas.List.{places}
 use Rattle.imago_loaded.proofs.LoadedSteps.{in_block, in_none}

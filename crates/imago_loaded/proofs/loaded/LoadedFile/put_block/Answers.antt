@@ -1,3 +1,4 @@
+-- SPDX-License-Identifier: MIT
 use Rattle.std.proofs.Common.{refl}
 use Rattle.imago_loaded.proofs.LoadedSteps.{has_more}
 use Rattle.imago_loaded.proofs.loaded.LoadedFile.put_block.Goals as goal

@@ -1,3 +1,4 @@
+-- SPDX-License-Identifier: MIT
 use Rattle.imago_loaded.proofs.LoadedSteps.{raised}
 use Rattle.imago_loaded.proofs.loaded.LoadedFileStorage.pure_writev.Goals as goal
 

@@ -1,3 +1,4 @@
+-- SPDX-License-Identifier: MIT
 use Rattle.imago_loaded.proofs.LoadedSteps.{torn, refused}
 use Rattle.imago_loaded.proofs.loaded.LoadedFileStorage.zero_in_place.Goals as goal
 

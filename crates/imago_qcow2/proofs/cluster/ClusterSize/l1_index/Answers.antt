@@ -1,3 +1,4 @@
+-- SPDX-License-Identifier: MIT
 use Rattle.std.proofs.Common.{◌/◌, ap, sym}
 use Rattle.imago_qcow2.proofs.ClusterSteps.{span_power}
 use Rattle.imago_qcow2.proofs.cluster.ClusterSize.l1_index.Goals as goal

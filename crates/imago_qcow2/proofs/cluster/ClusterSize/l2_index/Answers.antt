@@ -1,3 +1,4 @@
+-- SPDX-License-Identifier: MIT
 use Rattle.std.proofs.Common.{◌-◌, ◌/◌, ◌%◌, ◌^◌, ◌<◌, ap, ◌∙◌, sym, arith}
 use Rattle.std.proofs.Math.Nat.{mod-lt}
 use Rattle.imago_qcow2.proofs.ClusterSteps.{masked, eighth}

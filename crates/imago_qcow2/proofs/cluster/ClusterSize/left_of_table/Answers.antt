@@ -1,3 +1,4 @@
+-- SPDX-License-Identifier: MIT
 use Rattle.std.proofs.Common.{◌-◌, ◌*◌, ◌/◌, ap, ◌∙◌, bit_and}
 use Rattle.imago_qcow2.proofs.ClusterSteps.{masked, span_power}
 use Rattle.imago_qcow2.proofs.cluster.ClusterSize.left_of_table.Goals as goal

@@ -1,3 +1,4 @@
+-- SPDX-License-Identifier: MIT
 use Rattle.std.proofs.Common.{refl}
 use Rattle.imago_qcow2.proofs.ClusterSteps.{size_exponent}
 use Rattle.imago_qcow2.proofs.cluster.ClusterSize.of_length.Goals as goal

@@ -1,3 +1,4 @@
+-- SPDX-License-Identifier: MIT
 use Rattle.std.proofs.Common.{◌+◌, ◌*◌, ◌/◌, ◌%◌, ◌≤◌, sym, ap, ◌∙◌, Some, arith}
 use Rattle.imago_qcow2.specs.Tables.{loaded_of, header_cluster}
 use Rattle.imago_qcow2.proofs.HeldSteps.{held_there, all_absent, all_invalid, by_entry, index_fits, loaded_there, table_there, within_there}

@@ -1,3 +1,4 @@
+-- SPDX-License-Identifier: MIT
 use Rattle.imago_qcow2.proofs.BackingSteps.{end_unnamed, end_named}
 use Rattle.imago_qcow2.proofs.ToldSteps.{name_start_told, cluster_told}
 use Rattle.imago_qcow2.proofs.qcow2.Qcow2.extensions_end.Goals as goal

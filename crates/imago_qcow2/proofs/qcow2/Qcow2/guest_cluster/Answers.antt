@@ -1,3 +1,4 @@
+-- SPDX-License-Identifier: MIT
 use Rattle.std.proofs.Common.{Some, ap, sym, ◌∙◌, arith}
 use Rattle.imago_qcow2.specs.Tables.{loaded_of}
 use Rattle.imago_qcow2.proofs.CompressedSteps.{first_cluster}

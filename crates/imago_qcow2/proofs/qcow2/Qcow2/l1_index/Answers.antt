@@ -1,3 +1,4 @@
+-- SPDX-License-Identifier: MIT
 use Rattle.std.proofs.Common.{◌*◌, ◌/◌, ◌<◌, length}
 use Rattle.imago_qcow2.proofs.HeldSteps.{entry_within, span_positive}
 use Rattle.imago_qcow2.proofs.qcow2.Qcow2.l1_index.Goals as goal

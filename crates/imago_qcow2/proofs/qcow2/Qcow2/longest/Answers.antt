@@ -1,3 +1,4 @@
+-- SPDX-License-Identifier: MIT
 use Rattle.std.proofs.Common.{◌+◌, inr, arith}
 use Rattle.imago_qcow2.specs.Tables.{loaded_of, loaded_place}
 use Rattle.imago_qcow2.proofs.MapSteps.{names_more, names_first}

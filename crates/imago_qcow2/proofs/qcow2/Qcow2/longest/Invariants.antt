@@ -1,3 +1,4 @@
+-- SPDX-License-Identifier: MIT
 use Rattle.std.proofs.Common.{◌-◌, ℕ, ◌+◌, ◌<◌, ◌≤◌}
 use Rattle.imago_drivers.specs.Mapping.{Names}
 use Rattle.imago_qcow2.specs.Tables.{loaded_of, loaded_place}

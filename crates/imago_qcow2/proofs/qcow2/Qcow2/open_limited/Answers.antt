@@ -1,3 +1,4 @@
+-- SPDX-License-Identifier: MIT
 use Rattle.std.proofs.Common.{rules, ◌*◌, ◌/◌, ◌≤◌, ◌∙◌, ◌≡◌, false, ap, refl, inl, inr, length, arith}
 use Rattle.std.specs.Prelude.{IfErr, ◌⊎◌}
 use Rattle.std.specs.Int.{div_ceil}

@@ -1,3 +1,4 @@
+-- SPDX-License-Identifier: MIT
 use Rattle.std.proofs.Common.{sym, ◌∙◌}
 use Rattle.imago_qcow2.specs.Tables.{loaded_of}
 use Rattle.imago_qcow2.specs.Qcow2Laws.{qcow2_causes}

@@ -1,3 +1,4 @@
+-- SPDX-License-Identifier: MIT
 use Rattle.std.proofs.Common.{◌<◌, arith}
 use Rattle.imago_qcow2.specs.Tables.{loaded_of, loaded_place}
 use Rattle.imago_qcow2.proofs.MapSteps.{right_inside, right_end, longest_of, whole_longest, asked_for}

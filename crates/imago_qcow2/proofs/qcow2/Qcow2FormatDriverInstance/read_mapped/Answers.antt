@@ -1,3 +1,4 @@
+-- SPDX-License-Identifier: MIT
 use Rattle.std.proofs.Common.{length}
 use Rattle.imago_qcow2.specs.Tables.{loaded_of, loaded_disk, loaded_place}
 use Rattle.imago_qcow2.proofs.ReadSteps.{read_refused}

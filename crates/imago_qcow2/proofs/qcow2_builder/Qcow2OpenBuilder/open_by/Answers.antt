@@ -1,3 +1,4 @@
+-- SPDX-License-Identifier: MIT
 use Rattle.std.proofs.Common.{sym, ◌∙◌, Ok}
 use Rattle.imago_qcow2.proofs.OpenSteps.{image_of, never_both}
 use Rattle.imago_qcow2.proofs.qcow2_builder.Qcow2OpenBuilder.open_by.Goals as goal

@@ -1,3 +1,4 @@
+-- SPDX-License-Identifier: MIT
 use Rattle.std.proofs.Common.{rules, refl, arith}
 use Rattle.imago_qcow2.proofs.ClusterSteps.{size_exponent}
 use Rattle.imago_qcow2_check.proofs.shape.Shape.new.Goals as goal

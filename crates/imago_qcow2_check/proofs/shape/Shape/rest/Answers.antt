@@ -1,3 +1,4 @@
+-- SPDX-License-Identifier: MIT
 use Rattle.imago_qcow2.proofs.ClusterSteps.{masked}
 use Rattle.imago_qcow2_check.proofs.shape.Shape.rest.Goals as goal
 

@@ -1,3 +1,4 @@
+-- SPDX-License-Identifier: MIT
 use Rattle.std.proofs.Common.{ap, arith}
 use Rattle.imago_qcow2_check.specs.Sums.{one_if}
 use Rattle.imago_qcow2_check.specs.Clusters.{use_of, past_fault}

@@ -1,3 +1,4 @@
+-- SPDX-License-Identifier: MIT
 use Rattle.std.proofs.Common.{refl, sym, ◌∙◌, arith, []}
 use Rattle.imago_qcow2_check.specs.Clusters.{use_of}
 use Rattle.imago_qcow2_check.specs.Tallies.{setting_of}

@@ -1,3 +1,4 @@
+-- SPDX-License-Identifier: MIT
 use Rattle.std.proofs.Common.{◌∙◌, length, sym, subst}
 use Rattle.imago_session.specs.declared.session.State.{State}
 use Rattle.imago_session.specs.Opening.{IsStateOf}

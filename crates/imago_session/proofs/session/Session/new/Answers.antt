@@ -1,3 +1,4 @@
+-- SPDX-License-Identifier: MIT
 use Rattle.std.proofs.Common.{List, length, sym, subst}
 use Rattle.imago_session.specs.Files.{Layer, AreAbove}
 use Rattle.imago_session.specs.Found.{IsFoundOf}

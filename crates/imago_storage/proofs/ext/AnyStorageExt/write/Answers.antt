@@ -1,3 +1,4 @@
+-- SPDX-License-Identifier: MIT
 use Rattle.imago_storage.proofs.ext.AnyStorageExt.write.Goals as goal
 
 pub returns : goal.returns

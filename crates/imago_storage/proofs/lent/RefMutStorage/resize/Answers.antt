@@ -1,3 +1,4 @@
+-- SPDX-License-Identifier: MIT
 use Rattle.imago_storage.proofs.lent.RefMutStorage.resize.Goals as goal
 
 pub returns-clause-unchanged : goal.returns-clause-unchanged

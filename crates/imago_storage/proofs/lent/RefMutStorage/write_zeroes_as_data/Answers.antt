@@ -1,3 +1,4 @@
+-- SPDX-License-Identifier: MIT
 use Rattle.imago_storage.proofs.Borrowed.{zeroed_behind}
 use Rattle.imago_storage.proofs.lent.RefMutStorage.write_zeroes_as_data.Goals as goal
 

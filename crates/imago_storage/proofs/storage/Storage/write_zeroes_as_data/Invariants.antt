@@ -1,3 +1,4 @@
+-- SPDX-License-Identifier: MIT
 use Rattle.std.proofs.Common.{◌-◌, ◌≡◌, ◌%◌, ◌<◌, ◌≤◌, ◌⊎◌, ℕ, replicate, Ok}
 use Rattle.imago_storage.specs.Bytes.{splice, WriteOutcome}
 use Rattle.imago_storage.specs.Faults.{CountsFaults}

@@ -1,3 +1,4 @@
+-- SPDX-License-Identifier: MIT
 use Rattle.std.proofs.Common.{arith, refl}
 use Rattle.imago_drivers.specs.Operation.{DiscardToAny}
 use Rattle.imago_drivers.specs.RawImage.{storage_in, size_of, writability_of}

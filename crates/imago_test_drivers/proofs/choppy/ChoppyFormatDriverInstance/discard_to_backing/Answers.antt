@@ -1,3 +1,4 @@
+-- SPDX-License-Identifier: MIT
 use Rattle.std.proofs.Common.{refl}
 use Rattle.std.specs.Prelude.{◌≡◌, ◌⊎◌}
 use Rattle.imago_drivers.specs.Operation.{DiscardToBacking}

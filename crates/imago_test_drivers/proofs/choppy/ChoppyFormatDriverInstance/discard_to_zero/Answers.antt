@@ -1,3 +1,4 @@
+-- SPDX-License-Identifier: MIT
 use Rattle.imago_drivers.specs.Operation.{DiscardToZero}
 use Rattle.imago_drivers.specs.RawImage.{storage_in, size_of, writability_of}
 use Rattle.imago_drivers.specs.RawLaws.{raw_causes}

@@ -1,3 +1,4 @@
+-- SPDX-License-Identifier: MIT
 use Rattle.std.proofs.Common.{refl}
 use Rattle.imago_test_drivers.specs.Choppy.{told, raw_over}
 use Rattle.imago_test_drivers.proofs.Variants.{flush_of}

@@ -1,3 +1,4 @@
+-- SPDX-License-Identifier: MIT
 use Rattle.imago_drivers.specs.LayerBelow.{lent}
 use Rattle.imago_test_drivers.specs.Choppy.{told, raw_over}
 use Rattle.imago_test_drivers.proofs.ChoppySteps.{grown}

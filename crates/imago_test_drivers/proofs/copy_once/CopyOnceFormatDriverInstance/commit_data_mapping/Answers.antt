@@ -1,3 +1,4 @@
+-- SPDX-License-Identifier: MIT
 use Rattle.std.proofs.Common.{◌+◌, arith, refl}
 use Rattle.imago_test_drivers.specs.CopyOnce.{copy_view}
 use Rattle.imago_test_drivers.proofs.CopySteps.{copy_done, copy_stays, own_is_known, own_has_state, copy_reaches, copy_framed, copy_settled}

@@ -1,3 +1,4 @@
+-- SPDX-License-Identifier: MIT
 use Rattle.std.proofs.Common.{arith, inr, ◌+◌, ◌≡◌, true}
 use Rattle.std.specs.Prelude.{slice_index}
 use Rattle.imago_drivers.specs.RawLaws.{raw_in, raw_refused}

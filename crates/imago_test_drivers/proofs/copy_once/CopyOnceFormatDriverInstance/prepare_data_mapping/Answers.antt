@@ -1,3 +1,4 @@
+-- SPDX-License-Identifier: MIT
 use Rattle.std.proofs.Common.{◌≡◌, ℕ, arith, refl, ◌+◌, ◌<◌, true}
 use Rattle.std.specs.Prelude.{slice_index, IsTrue}
 use Rattle.imago_drivers.specs.Place.{Byte, values}

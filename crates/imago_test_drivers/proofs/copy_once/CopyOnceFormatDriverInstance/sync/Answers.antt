@@ -1,3 +1,4 @@
+-- SPDX-License-Identifier: MIT
 use Rattle.std.proofs.Common.{◌+◌, arith, refl}
 use Rattle.imago_test_drivers.specs.CopyOnce.{copy_view}
 use Rattle.imago_test_drivers.proofs.CopySteps.{same_bytes, copy_faults, copy_flush_refused}

@@ -1,3 +1,4 @@
+-- SPDX-License-Identifier: MIT
 use Rattle.std.proofs.Common.{rules, ◌≡◌, arith}
 use Rattle.imago_test_drivers.proofs.CopySteps.{copy_put_on_ok, copy_put_on_err}
 use Rattle.imago_test_drivers.proofs.copy_once.CopyOnceFormatDriverInstance.write_mapped.Goals as goal

@@ -1,3 +1,4 @@
+-- SPDX-License-Identifier: MIT
 use Rattle.std.proofs.Common.{rules, arith, inr, refl, sym, ◌≡◌, ◌+◌, ◌<◌, ◌≤◌, true, false}
 use Rattle.std.specs.Prelude.{is_none}
 use Rattle.std.proofs.lemmas.Result.{on_err_weaker, on_ok_weaker}

@@ -1,3 +1,4 @@
+-- SPDX-License-Identifier: MIT
 use Rattle.std.proofs.Common.{◌≡◌, ◌+◌, ◌∙◌, ap, arith}
 use Rattle.imago_drivers.specs.Place.{Byte}
 use Rattle.imago_test_drivers.specs.declared.pattern.Kind.{Kind}

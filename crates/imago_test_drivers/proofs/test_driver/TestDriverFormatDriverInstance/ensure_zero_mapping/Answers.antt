@@ -1,3 +1,4 @@
+-- SPDX-License-Identifier: MIT
 use Rattle.imago_test_drivers.proofs.test_driver.TestDriverFormatDriverInstance.ensure_zero_mapping.Goals as goal
 
 pub returns-in-Raw-clause-call : goal.returns-in-Raw-clause-call

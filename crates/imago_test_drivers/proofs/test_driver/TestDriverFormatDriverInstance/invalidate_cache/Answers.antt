@@ -1,3 +1,4 @@
+-- SPDX-License-Identifier: MIT
 use Rattle.imago_test_drivers.specs.declared.test_driver.TestDriver.TheVariants as T
 use Rattle.imago_test_drivers.proofs.Variants.{flush_of}
 use Rattle.imago_test_drivers.proofs.test_driver.TestDriverFormatDriverInstance.invalidate_cache.Goals as goal

@@ -1,3 +1,4 @@
+-- SPDX-License-Identifier: MIT
 use Rattle.std.proofs.Common.{rules}
 use Rattle.imago_test_drivers.proofs.test_driver.TestDriverFormatDriverInstance.write_mapped.Goals as goal
 

@@ -1,3 +1,4 @@
+-- SPDX-License-Identifier: MIT
 use Rattle.std.proofs.Common.{rules}
 use Rattle.std.specs.Prelude.{length}
 use Rattle.imago_test_drivers.specs.declared.test_driver.TestDriver.TheVariants as T

@@ -1,3 +1,4 @@
+-- SPDX-License-Identifier: MIT
 use Rattle.std.proofs.Common.{inl, inr, refl, ⊎_elim, rules}
 use Rattle.imago_test_storages.proofs.OwnZeroes.{unsupported_or_not}
 use Rattle.imago_test_storages.proofs.faulty.FaultyStorage.pure_write_zeroes.Goals as goal

@@ -1,3 +1,4 @@
+-- SPDX-License-Identifier: MIT
 use Rattle.imago_test_storages.proofs.Forgotten.{untold_outcome, untold_torn}
 use Rattle.imago_test_storages.proofs.forgetful.ForgetfulStorage.zero_in_place.Goals as goal
 

@@ -1,3 +1,4 @@
+-- SPDX-License-Identifier: MIT
 use Rattle.std.proofs.Common.{ℕ, replicate, true, refl}
 use Rattle.imago_storage.specs.Bytes.{splice}
 use Rattle.imago_test_storages.proofs.Torn.{refused_outcome, unchanged_write}

@@ -1,3 +1,4 @@
+-- SPDX-License-Identifier: MIT
 use Rattle.std.proofs.Common.{inl, inr, refl}
 use Rattle.imago_test_tables.proofs.pair.Pair.invalidate_cache.Goals as goal
 

@@ -1,3 +1,4 @@
+-- SPDX-License-Identifier: MIT
 use Rattle.std.proofs.Common.{◌≡◌, arith}
 use Rattle.imago_test_tables.proofs.PairSteps.{of_first, of_second, first_stays, grow_first, grow_second}
 use Rattle.imago_test_tables.proofs.pair.Pair.write.Goals as goal

@@ -1,3 +1,4 @@
+-- SPDX-License-Identifier: MIT
 use Rattle.std.proofs.Common.{refl, arith}
 use Rattle.imago_test_tables.proofs.CommitSteps.{own_is_known, own_has_state}
 use Rattle.imago_test_tables.proofs.sparse.SparseFormatDriverInstance.cancel_data_mapping.Goals as goal

@@ -1,3 +1,4 @@
+-- SPDX-License-Identifier: MIT
 use Rattle.std.proofs.Common.{rules, ◌+◌, ◌&&◌, arith, refl, sym, ◌∙◌, None, true, false}
 use Rattle.imago_drivers.proofs.Stays.{stays_itself}
 use Rattle.imago_test_tables.specs.Pair.{at_index}

@@ -1,3 +1,4 @@
+-- SPDX-License-Identifier: MIT
 use Rattle.std.proofs.Common.{refl, inr, true, ◌+◌}
 use Rattle.imago_drivers.specs.Operation.{DiscardToBacking}
 use Rattle.imago_drivers.specs.Changes.{to_backing}

@@ -1,3 +1,4 @@
+-- SPDX-License-Identifier: MIT
 use Rattle.std.proofs.Common.{refl, ◌+◌}
 use Rattle.imago_drivers.specs.Operation.{DiscardToZero}
 use Rattle.imago_test_tables.proofs.ZeroSteps.{zeroed}

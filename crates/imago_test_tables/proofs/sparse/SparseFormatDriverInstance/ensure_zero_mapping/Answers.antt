@@ -1,3 +1,4 @@
+-- SPDX-License-Identifier: MIT
 use Rattle.std.proofs.Common.{rules, refl, ◌+◌}
 use Rattle.imago_drivers.specs.Operation.{Zero}
 use Rattle.imago_drivers.proofs.Stays.{stays_itself}

@@ -1,3 +1,4 @@
+-- SPDX-License-Identifier: MIT
 use Rattle.std.proofs.Common.{◌+◌, arith, refl}
 use Rattle.imago_test_tables.specs.Sparse.{sparse_view, never_fails}
 use Rattle.imago_test_tables.proofs.SparseSteps.{same_stores, sparse_faults, sparse_flush_refused}

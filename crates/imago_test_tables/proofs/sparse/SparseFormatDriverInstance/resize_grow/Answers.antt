@@ -1,3 +1,4 @@
+-- SPDX-License-Identifier: MIT
 use Rattle.std.proofs.Common.{◌+◌, arith, refl, sym, ◌∙◌, inl, inr}
 use Rattle.imago_drivers.specs.LayerBelow.{lent}
 use Rattle.imago_test_tables.specs.Sparse.{sparse_view}

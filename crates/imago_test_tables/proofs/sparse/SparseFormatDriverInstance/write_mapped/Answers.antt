@@ -1,3 +1,4 @@
+-- SPDX-License-Identifier: MIT
 use Rattle.std.proofs.Common.{rules}
 use Rattle.imago_drivers.proofs.RawSteps.{if_ok, if_err, ok_of, err_of}
 use Rattle.imago_test_tables.proofs.SparseSteps.{sparse_put}

@@ -1,3 +1,4 @@
+-- SPDX-License-Identifier: MIT
 use Rattle.std.proofs.Common.{rules, arith, ◌&&◌, ℕ, refl, sym, ◌≡◌, ◌+◌, ◌<◌, true, false}
 use Rattle.std.specs.Prelude.{is_none}
 use Rattle.imago_drivers.proofs.RawSteps.{if_ok, if_err, ok_of, err_of, foreign_stateless, foreign_not, written_stateless}

@@ -1,3 +1,4 @@
+-- SPDX-License-Identifier: MIT
 use Rattle.imago.specs.RunsLeft.{IsReady}
 use Rattle.imago_tests.proofs.tests.copied.is_made_of.Given as goal
 

@@ -1,3 +1,4 @@
+-- SPDX-License-Identifier: MIT
 use Rattle.std.proofs.Common.{refl}
 use Rattle.imago_tests.proofs.tests.formats.cow_driver.Goals as goal
 

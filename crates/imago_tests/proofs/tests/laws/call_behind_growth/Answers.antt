@@ -1,3 +1,4 @@
+-- SPDX-License-Identifier: MIT
 use Rattle.std.proofs.Common.{arith}
 use Rattle.imago_tests.proofs.tests.laws.call_behind_growth.Goals as goal
 

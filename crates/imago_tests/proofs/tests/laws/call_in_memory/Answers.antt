@@ -1,3 +1,4 @@
+-- SPDX-License-Identifier: MIT
 use Rattle.std.proofs.Common.{arith, refl}
 use Rattle.imago_tests.proofs.tests.laws.call_in_memory.Goals as goal
 

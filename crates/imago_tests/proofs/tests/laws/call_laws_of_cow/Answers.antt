@@ -1,3 +1,4 @@
+-- SPDX-License-Identifier: MIT
 use Rattle.std.proofs.Common.{refl}
 use Rattle.imago_tests.proofs.tests.laws.call_laws_of_cow.Goals as goal
 

@@ -1,3 +1,4 @@
+-- SPDX-License-Identifier: MIT
 use Rattle.std.proofs.Common.{sym, subst, length}
 use Rattle.imago_storage.specs.Features.{Features, IsAlignedRequest}
 use Rattle.imago_drivers.specs.Room.{HasRoom}

@@ -1,3 +1,4 @@
+-- SPDX-License-Identifier: MIT
 use Rattle.std.proofs.Common.{◌≡◌, ℕ, refl, ap, sym, ◌∙◌, map, Ok, rules}
 use Rattle.std.specs.List.{sum_by}
 use Rattle.std.specs.String.{string_bytes}

@@ -1,3 +1,4 @@
+-- SPDX-License-Identifier: MIT
 use Rattle.std.specs.String.{string_bytes}
 use Rattle.imago_vmdk.proofs.Opened.{answer_opened, answer_counted, answer_refused}
 use Rattle.imago_vmdk.proofs.vmdk.Vmdk.opened_storages.Goals as goal

@@ -1,3 +1,4 @@
+-- SPDX-License-Identifier: MIT
 use Rattle.std.proofs.Common.{◌≤◌, [], length, arith}
 use Rattle.std.proofs.lemmas.List.{take_all}
 use Rattle.imago_storage.specs.Mem.{null_features}

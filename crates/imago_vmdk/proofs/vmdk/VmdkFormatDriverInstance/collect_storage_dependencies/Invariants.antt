@@ -1,3 +1,4 @@
+-- SPDX-License-Identifier: MIT
 use Rattle.std.proofs.Common.{◌≡◌, ◌∷◌, map, take}
 use Rattle.imago_vmdk.proofs.vmdk.VmdkFormatDriverInstance.collect_storage_dependencies.Given as goal
 

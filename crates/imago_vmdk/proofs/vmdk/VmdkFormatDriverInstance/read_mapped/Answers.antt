@@ -1,3 +1,4 @@
+-- SPDX-License-Identifier: MIT
 use Rattle.std.proofs.Common.{◌<◌, ◌≤◌, [], ◌∷◌, map, length, arith, refl}
 use Rattle.imago_storage.specs.Mem.{null_features}
 use Rattle.imago_vmdk.proofs.Storages.{behind_first, length_mapped, read_allowed, each_tells}

@@ -1,3 +1,4 @@
+-- SPDX-License-Identifier: MIT
 use Rattle.std.proofs.Common.{◌<◌, ◌+◌, length, inl, inr, refl, rules}
 use Rattle.imago_vmdk.proofs.Extents.{image_never_special}
 use Rattle.imago_vmdk.proofs.vmdk.VmdkFormatDriverInstance.readv_special.Goals as goal

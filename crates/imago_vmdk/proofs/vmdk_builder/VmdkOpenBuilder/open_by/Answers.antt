@@ -1,3 +1,4 @@
+-- SPDX-License-Identifier: MIT
 use Rattle.std.proofs.Common.{Ok}
 use Rattle.imago_vmdk.proofs.vmdk_builder.VmdkOpenBuilder.open_by.Goals as goal
 

@@ -1,3 +1,4 @@
+-- SPDX-License-Identifier: MIT
 use Rattle.imago_vmdk.proofs.vmdk_builder.VmdkOpenBuilderFormatDriverBuilder.open.Goals as goal
 
 pub returns-clause-opened : goal.returns-clause-opened

@@ -1,3 +1,4 @@
+-- SPDX-License-Identifier: MIT
 use Rattle.std.proofs.Common.{rules}
 use Rattle.imago_words.proofs.kind.Kind.page.Goals as goal
 

@@ -1,3 +1,4 @@
+-- SPDX-License-Identifier: MIT
 use Rattle.std.proofs.Common.{◌∙◌, ap, map}
 use Rattle.std.specs.List.{list_any}
 use Rattle.imago_words.specs.Reading.{is_key, shown}

@@ -1,3 +1,4 @@
+-- SPDX-License-Identifier: MIT
 use Rattle.std.proofs.Common.{◌≡◌, length, map}
 use Rattle.std.specs.String.{string_bytes}
 use Rattle.imago_words.specs.Reading.{known, nothing_read, state_of, steps}

@@ -1,3 +1,4 @@
+-- SPDX-License-Identifier: MIT
 use Rattle.std.proofs.Common.{◌≡◌, length, map}
 use denote.Text.{Utf8}
 use denote.Shadow.{shadow}

@@ -1,3 +1,4 @@
+-- SPDX-License-Identifier: MIT
 use Rattle.std.proofs.Common.{arith, ◌+◌, ◌≤◌, length, subst}
 use Rattle.std.proofs.lemmas.List.{length-take}
 use Rattle.imago_format_tests.proofs.tests.cow.call.write_mapped.Goals as goal

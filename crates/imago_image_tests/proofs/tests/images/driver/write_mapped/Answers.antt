@@ -1,3 +1,4 @@
+-- SPDX-License-Identifier: MIT
 use Rattle.std.proofs.Common.{arith, ◌+◌}
 use Rattle.imago_image_tests.proofs.tests.images.driver.write_mapped.Goals as goal
 

@@ -1,3 +1,4 @@
+-- SPDX-License-Identifier: MIT
 use Rattle.imago_access.specs.ReaderOf.{IsKeeping}
 use Rattle.imago_test_drivers.specs.Making.{view_of}
 use Rattle.imago_image_tests.proofs.tests.images.reader.backward.Given as goal
