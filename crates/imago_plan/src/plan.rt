@@ -37,7 +37,10 @@ fn source_of(mapping: Mapping) -> Result<Source, Error>
 }
 
 /// The piece that begins at an offset inside the disk, of at most that many bytes.
-fn next_piece<D: FormatDriverInstance>(
+///
+/// [`Error::Unsupported`] is the end of the image, and bytes that a driver makes up; all else is
+/// what the image's mapping is refused for.
+pub fn next_piece<D: FormatDriverInstance>(
     image: &FormatAccess<D>,
     at: u64,
     most: u64,

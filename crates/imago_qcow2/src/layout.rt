@@ -1,13 +1,17 @@
 // SPDX-License-Identifier: MIT
-//! Where the tables of an image lie in its file: for who keeps these alone in memory.
+//! Where the tables of an image lie in its file, and what their entries say: for who keeps these
+//! alone in memory.
 ghost use Rattle.std.specs.Prelude.{◌≡◌, ℕ, ◌+◌, ◌*◌, ◌^◌, ◌<◌, ◌≤◌, length, IfOk, IfErr, Err};
 ghost use Rattle.imago_qcow2.specs.Numbers.{be64};
 ghost use Rattle.imago_qcow2.specs.Fault.{error_of};
 ghost use Rattle.imago_qcow2.specs.Header.{header_of};
 ghost use Rattle.imago_qcow2.specs.Entry.{cluster_length, l1_start, table_in_entry};
+ghost use Rattle.imago_qcow2.specs.Entry.{cluster_in_entry};
+ghost use Rattle.imago_qcow2.specs.Header.{IsClusterSize};
 ghost use Rattle.imago_qcow2.specs.Opening.{table_count};
 
-use crate::entry::{L2Table, table_in};
+use crate::cluster::ClusterSize;
+use crate::entry::{GuestCluster, L2Table, cluster_in, table_in};
 use crate::fault::HeaderFault;
 use crate::header;
 use crate::number::number64;
@@ -55,4 +59,14 @@ pub fn l2_table(entries: &[u8], index: u64, cluster: u64, file: u64) -> L2Table
     ensures small { (at : ℕ) → result ≡ L2Table.Stored at → at < 2 ^ 56 }
 {
     table_in(file, cluster, number64(entries, (8 * index) as usize))
+}
+
+/// What an entry of an L2 table says of its guest cluster, in an image of that version whose
+/// clusters have that length in bytes.
+pub fn guest_cluster(entry: u64, cluster: u64, version: u32) -> GuestCluster
+    requires { IsClusterSize cluster }
+    ensures says { result ≡ cluster_in_entry version cluster entry }
+    ensures small { (at : ℕ) → result ≡ GuestCluster.Stored at → at < 2 ^ 56 }
+{
+    cluster_in(version, ClusterSize::of_length(cluster), entry)
 }
