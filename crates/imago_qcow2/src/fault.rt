@@ -13,7 +13,7 @@ use thiserror::Error;
 #[derive(Clone, Copy, Debug, PartialEq, Eq, Error)]
 pub enum HeaderFault {
     /// The file is too short for one, or begins otherwise.
-    #[error("no qcow2 image begins so")]
+    #[error("it isn't a qcow2 image, or ends within its header")]
     NoImage,
     /// Another version than 2 and 3.
     #[error("the header says version {0}, which isn't supported")]

@@ -237,7 +237,7 @@ static FORMATS: [Row; 8] = [
         "map says_qcow2.qcow2",
         1,
         "",
-        "imago-img: \"plain.raw\": no qcow2 image begins so\n",
+        "imago-img: \"plain.raw\": it isn't a qcow2 image, or ends within its header\n",
     ),
     (
         "compare says_none.qcow2 one.raw",

@@ -81,8 +81,8 @@ static ROWS: [Row; 19] = [
     // What can't be meant.
     (
         &[(3, b"X")],
-        "\"a\": no qcow2 image begins so\n1 fault was found.\n",
-        "imago-img: \"a\": no qcow2 image begins so\n",
+        "\"a\": it isn't a qcow2 image, or ends within its header\n1 fault was found.\n",
+        "imago-img: \"a\": it isn't a qcow2 image, or ends within its header\n",
     ),
     (
         &[(23, b"\x08")],

@@ -88,7 +88,7 @@ static MEANT: [Row; 23] = [
         "compare -F qcow2 one.raw one.raw",
         2,
         "",
-        "imago-img: \"one.raw\": no qcow2 image begins so\n",
+        "imago-img: \"one.raw\": it isn't a qcow2 image, or ends within its header\n",
     ),
     // Whether sizes count.
     (

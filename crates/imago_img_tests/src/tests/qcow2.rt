@@ -88,7 +88,7 @@ static ROWS: [Row; 21] = [
         "map -f qcow2 one.raw",
         1,
         "",
-        "imago-img: \"one.raw\": no qcow2 image begins so\n",
+        "imago-img: \"one.raw\": it isn't a qcow2 image, or ends within its header\n",
     ),
     (
         "map outside.qcow2",
@@ -162,7 +162,7 @@ static ROWS: [Row; 21] = [
     (
         "check -f qcow2 one.raw",
         1,
-        "\"one.raw\": no qcow2 image begins so\n1 fault was found.\n",
+        "\"one.raw\": it isn't a qcow2 image, or ends within its header\n1 fault was found.\n",
         "",
     ),
 ];
