@@ -49,7 +49,7 @@ pub fn compare_images<H: Host>(
         first.now second.now found.sizes.0 found.sizes.1 found.difference)) }
 {
     let alloc = host.alloc();
-    let (format, left) = open_image(host, first, how)?;
+    let (format, left) = Failure::or_opened(alloc, first, open_image(host, first, how))?;
     let (size, _) = readable_size(alloc, first, &left)?;
     if are_said_alike(how.format, other, first, second)
         && are_paths_of_one(host, first, second, format)
@@ -59,7 +59,8 @@ pub fn compare_images<H: Host>(
             difference: None,
         });
     }
-    let (_, right) = open_image(host, second, said_of_second(how, other))?;
+    let opened = open_image(host, second, said_of_second(how, other));
+    let (_, right) = Failure::or_opened(alloc, second, opened)?;
     let (other_size, _) = readable_size(alloc, second, &right)?;
     match compared(
         alloc,

@@ -125,7 +125,7 @@ fn tested_size<H: Host, E: Write>(
     ensures { IfOk result (λ size. IfSome (H.contents host.now)
         (λ files. HasSize how.accepted how.format files from.now size)) }
 {
-    let (_, image) = open_image(host, from, how)?;
+    let (_, image) = Failure::or_opened(host.alloc(), from, open_image(host, from, how))?;
     let (size, short) = readable_size(host.alloc(), from, &image)?;
     test_target(host, &image, to, replace)?;
     test_left_over(host, &image, to, replace)?;
@@ -170,7 +170,7 @@ fn fill<H: Host, T: Target>(
         (H.contents host.now) from.now (T.contents target.old) (T.contents target.new)) }
 {
     let alloc = host.alloc();
-    let (_, image) = open_image(host, from, how)?;
+    let (_, image) = Failure::or_opened(host.alloc(), from, open_image(host, from, how))?;
     let mut buf = vec![in alloc; 0u8; CHUNK]?;
     match copy_disk(alloc, &image, target, &mut buf) {
         Ok(()) => Ok(()),

@@ -17,6 +17,14 @@ pub enum Failure {
     /// line.
     #[error("{0}{advice}", advice = advice_on(.0))]
     NotOpened(OpenError),
+    /// An image can't be opened, since a file that it needs can't be used.
+    #[error("{image:?} needs {cause}{advice}", advice = advice_on_needed(.cause))]
+    Needed {
+        /// The image, as the program was given it.
+        image: String,
+        /// Which file, and why.
+        cause: OpenError,
+    },
     /// A file isn't begun, or written over, because of what has its path, or hasn't.
     #[error("{path:?}: {refusal}")]
     NotMade {
@@ -91,8 +99,23 @@ pub enum ClusterFault {
 /// What to do about a file that can't be used, as the end of its line.
 fn advice_on(cause: &OpenError) -> &'static str {
     match cause {
+        OpenError::OfFile {
+            path,
+            reason: Reason::BackingOutside(named) | Reason::Outside(named),
+        } => advice_for_outside(path.as_str(), named.as_str()),
         OpenError::OfFile { reason, .. } => advice_for(reason),
         OpenError::Memory => "",
+    }
+}
+
+/// The same where another image needs the file, so that no option of the command says its format.
+fn advice_on_needed(cause: &OpenError) -> &'static str {
+    match cause {
+        OpenError::OfFile {
+            reason: Reason::Sparse | Reason::Recognised(_),
+            ..
+        } => "",
+        cause => advice_on(cause),
     }
 }
 
@@ -104,10 +127,18 @@ fn advice_for(reason: &Reason) -> &'static str {
         }
         Reason::Sparse => "; -f raw takes its bytes as they are",
         Reason::Recognised(signature) => advice_for_signature(*signature),
-        Reason::BackingOutside(_) | Reason::Outside(_) => "; --allow-outside permits it",
         Reason::TablesTooLarge(_) => "; --tables raises it",
         _ => "",
     }
+}
+
+/// The same where the file of that path names another, which lies elsewhere than in its folder. Of
+/// names that stand from the root on and of those that don't, only the text is compared.
+fn advice_for_outside(path: &str, named: &str) -> &'static str {
+    if named.starts_with("/") && !path.starts_with("/") {
+        return "; --allow-outside permits it, or name the image by its absolute path";
+    }
+    "; --allow-outside permits it"
 }
 
 /// The same, by what the file is recognised as.
@@ -122,6 +153,14 @@ fn advice_for_signature(signature: Signature) -> &'static str {
         | Signature::Zstd
         | Signature::Zip => "; unpack it, or say -f raw for its bytes as they are",
         _ => "; convert it with qemu-img, or say -f raw for its bytes as they are",
+    }
+}
+
+/// Whether no other file than that of an image's path is named.
+fn is_of(image: &str, cause: &OpenError) -> bool {
+    match cause {
+        OpenError::OfFile { path, .. } => path.as_str() == image,
+        OpenError::Memory => true,
     }
 }
 
@@ -147,6 +186,32 @@ impl Failure {
         match answer {
             Ok(found) => Ok(found),
             Err(cause) => Err(Failure::of_file(alloc, path, Reason::Image(cause))),
+        }
+    }
+
+    /// What the opening of the image of that path answers, or why it isn't opened. A file that it
+    /// needs and that can't be used is named with it.
+    pub fn or_opened<T>(
+        alloc: Global,
+        image: &str,
+        answer: Result<T, OpenError>,
+    ) -> Result<T, Failure>
+        ensures { MatchResult answer (λ x. result ≡ Ok x) (λ _. IsErr result) }
+    {
+        match answer {
+            Ok(found) => Ok(found),
+            Err(cause) => Err(Failure::of_image(alloc, image, cause)),
+        }
+    }
+
+    /// The image of that path isn't opened, for that cause.
+    fn of_image(alloc: Global, image: &str, cause: OpenError) -> Failure {
+        if is_of(image, &cause) {
+            return Failure::from(cause);
+        }
+        match String::from_str(alloc, image) {
+            Ok(image) => Failure::Needed { image, cause },
+            Err(_) => Failure::Memory,
         }
     }
 

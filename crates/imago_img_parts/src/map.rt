@@ -77,7 +77,7 @@ pub fn map_image<H: Host, W: Write>(
     json: bool,
     output: &mut W,
 ) -> Result<(), Failure> {
-    let (_, image) = open_image(host, path, how)?;
+    let (_, image) = Failure::or_opened(host.alloc(), path, open_image(host, path, how))?;
     map(host, path, &image, json, output)
 }
 

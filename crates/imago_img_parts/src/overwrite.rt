@@ -59,7 +59,7 @@ fn fitting_size<H: Host, E: Write>(
     ensures fits { IfOk result (λ size. IfSome (H.contents host.now)
         (λ files. size ≤ length (files to.now))) }
 {
-    let (_, image) = open_image(host, from, how)?;
+    let (_, image) = Failure::or_opened(host.alloc(), from, open_image(host, from, how))?;
     let (size, short) = readable_size(host.alloc(), from, &image)?;
     let there = existing(host, to)?;
     if has_file(&image, there) {
