@@ -132,11 +132,12 @@ fn advice_for(reason: &Reason) -> &'static str {
     }
 }
 
-/// The same where the file of that path names another, which lies elsewhere than in its folder. Of
-/// names that stand from the root on and of those that don't, only the text is compared.
+/// The same where the file of that path names another, which isn't in its folder by the texts of
+/// both. So an absolute name isn't in the folder of a relative path, whatever that stands for.
 fn advice_for_outside(path: &str, named: &str) -> &'static str {
     if named.starts_with("/") && !path.starts_with("/") {
-        return "; --allow-outside permits it, or name the image by its absolute path";
+        return "; --allow-outside permits it, as does the image's absolute path if the file lies \
+                there";
     }
     "; --allow-outside permits it"
 }

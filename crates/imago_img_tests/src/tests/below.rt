@@ -237,7 +237,8 @@ static FORMATS: [Row; 8] = [
         "map says_qcow2.qcow2",
         1,
         "",
-        "imago-img: \"plain.raw\": it isn't a qcow2 image, or ends within its header\n",
+        "imago-img: \"says_qcow2.qcow2\" needs \"plain.raw\": it isn't a qcow2 image, or ends \
+         within its header\n",
     ),
     (
         "compare says_none.qcow2 one.raw",
@@ -267,8 +268,8 @@ static FORMATS: [Row; 8] = [
         "map says_none_of_sparse.qcow2",
         1,
         "",
-        "imago-img: \"sparse.raw\": a sparse VMDK image, which isn't supported; -f raw takes its \
-         bytes as they are\n",
+        "imago-img: \"says_none_of_sparse.qcow2\" needs \"sparse.raw\": a sparse VMDK image, which \
+         isn't supported\n",
     ),
     (
         "compare -f qcow2 says_none_of_raw.qcow2 says_raw.qcow2",
@@ -349,28 +350,29 @@ static ABOVE_VMDK: [Row; 11] = [
         "map says_vmdk_of_raw.qcow2",
         1,
         "",
-        "imago-img: \"plain.raw\": the driver or storage does not support this operation; \
-         imago-img check tells where\n",
+        "imago-img: \"says_vmdk_of_raw.qcow2\" needs \"plain.raw\": the driver or storage does not \
+         support this operation; imago-img check tells where\n",
     ),
     (
         "map above_outside.qcow2",
         1,
         "",
-        "imago-img: \"outside.vmdk\": its extent \"/etc/secret\" isn't in the descriptor's folder; \
-         --allow-outside permits it\n",
+        "imago-img: \"above_outside.qcow2\" needs \"outside.vmdk\": its extent \"/etc/secret\" \
+         isn't in the descriptor's folder; --allow-outside permits it, as does the image's \
+         absolute path if the file lies there\n",
     ),
     (
         "map above_linked.qcow2",
         1,
         "",
-        "imago-img: \"linked.vmdk\": its extent \"link.bin\" isn't in the descriptor's folder; \
-         --allow-outside permits it\n",
+        "imago-img: \"above_linked.qcow2\" needs \"linked.vmdk\": its extent \"link.bin\" isn't in \
+         the descriptor's folder; --allow-outside permits it\n",
     ),
     (
         "convert above_missing.qcow2 out.raw",
         1,
         "",
-        "imago-img: \"nowhere.bin\": entity not found\n",
+        "imago-img: \"above_missing.qcow2\" needs \"nowhere.bin\": entity not found\n",
     ),
     (
         "convert above_barred.qcow2 out.raw",
@@ -394,8 +396,8 @@ static CONVERTED: [Case; 2] = [
         finishes: true,
         status: 0,
         output: "",
-        errors: "imago-img: warning: \"parts/b.bin\": 515 bytes, and the image uses it up to 1024: what \
-            lacks reads as 0\n",
+        errors: "imago-img: warning: \"parts/b.bin\": 515 bytes, and the image uses it up to \
+            1024: what lacks reads as 0\n",
         written: Some((2048, &[(0, b"t"), (1536, b"xyz")])),
     },
     Case {
@@ -404,8 +406,8 @@ static CONVERTED: [Case; 2] = [
         finishes: true,
         status: 0,
         output: "",
-        errors: "imago-img: warning: \"/etc/secret\": 3 bytes, and the image uses it up to 512: what lacks \
-            reads as 0\n",
+        errors: "imago-img: warning: \"/etc/secret\": 3 bytes, and the image uses it up to 512: \
+            what lacks reads as 0\n",
         written: Some((2048, &[(0, b"top")])),
     },
 ];

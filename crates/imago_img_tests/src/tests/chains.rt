@@ -69,7 +69,10 @@ fn way(alloc: Global, count: u64) -> Result<String, AllocError> {
 /// What is told of a chain of too many files.
 fn too_many(alloc: Global) -> Result<String, AllocError> {
     let told = way(alloc, 200)?;
-    format!(in alloc; "imago-img: \"199\": more than 200 files stand one below the other: {told}\n")
+    format!(
+        in alloc;
+        "imago-img: \"0\" needs \"199\": more than 200 files stand one below the other: {told}\n"
+    )
 }
 
 /// Tries a command line on a chain.

@@ -45,8 +45,8 @@ static CASES: [Case; 13] = [
         finishes: true,
         status: 0,
         output: "",
-        errors: "imago-img: warning: \"a.bin\": 6 bytes, and the image uses it up to 512: what lacks reads as \
-            0\n\
+        errors: "imago-img: warning: \"a.bin\": 6 bytes, and the image uses it up to 512: what \
+            lacks reads as 0\n\
             imago-img: warning: \"parts/b.bin\": 515 bytes, and the image uses it up to 1024: what \
             lacks reads as 0\n",
         written: Some((2048, &[(3, b"abc"), (1536, b"xyz")])),
@@ -82,8 +82,8 @@ static CASES: [Case; 13] = [
         finishes: true,
         status: 0,
         output: "",
-        errors: "imago-img: warning: \"a.bin\": 6 bytes, and the image uses it up to 512: what lacks reads as \
-            0\n\
+        errors: "imago-img: warning: \"a.bin\": 6 bytes, and the image uses it up to 512: what \
+            lacks reads as 0\n\
             imago-img: warning: \"parts/b.bin\": 515 bytes, and the image uses it up to 1024: what \
             lacks reads as 0\n",
         written: Some((2048, &[(3, b"abc"), (1536, b"xyz")])),
@@ -94,8 +94,8 @@ static CASES: [Case; 13] = [
         finishes: true,
         status: 0,
         output: "",
-        errors: "imago-img: warning: \"/etc/secret\": 3 bytes, and the image uses it up to 512: what lacks \
-            reads as 0\n",
+        errors: "imago-img: warning: \"/etc/secret\": 3 bytes, and the image uses it up to 512: \
+            what lacks reads as 0\n",
         written: Some((512, &[(0, b"top")])),
     },
     Case {

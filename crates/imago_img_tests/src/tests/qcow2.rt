@@ -95,7 +95,7 @@ static ROWS: [Row; 21] = [
         1,
         "",
         "imago-img: \"outside.qcow2\": its backing file \"/etc/secret\" isn't in its folder; \
-        --allow-outside permits it\n",
+        --allow-outside permits it, as does the image's absolute path if the file lies there\n",
     ),
     (
         "map linked.qcow2",
@@ -115,7 +115,7 @@ static ROWS: [Row; 21] = [
         "map lost.qcow2",
         1,
         "",
-        "imago-img: \"nowhere.raw\": entity not found\n",
+        "imago-img: \"lost.qcow2\" needs \"nowhere.raw\": entity not found\n",
     ),
     (
         "map other.qcow2",
@@ -142,7 +142,8 @@ static ROWS: [Row; 21] = [
         "map --strict above.qcow2",
         1,
         "",
-        "imago-img: \"disk.vmdk\": the image's data is invalid; imago-img check tells where\n",
+        "imago-img: \"above.qcow2\" needs \"disk.vmdk\": the image's data is invalid; imago-img \
+         check tells where\n",
     ),
     (
         "convert faulty.qcow2 out.raw",

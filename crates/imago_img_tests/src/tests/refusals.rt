@@ -67,7 +67,7 @@ static ROWS: [Row; 28] = [
         1,
         "",
         "imago-img: \"outside.vmdk\": its extent \"/etc/secret\" isn't in the descriptor's folder; \
-         --allow-outside permits it\n",
+         --allow-outside permits it, as does the image's absolute path if the file lies there\n",
     ),
     (
         "map above.vmdk",
@@ -87,13 +87,13 @@ static ROWS: [Row; 28] = [
         "convert missing.vmdk out.raw",
         1,
         "",
-        "imago-img: \"nowhere.bin\": entity not found\n",
+        "imago-img: \"missing.vmdk\" needs \"nowhere.bin\": entity not found\n",
     ),
     (
         "map folder.vmdk",
         1,
         "",
-        "imago-img: \"parts\": neither a regular file nor a block device\n",
+        "imago-img: \"folder.vmdk\" needs \"parts\": neither a regular file nor a block device\n",
     ),
     (
         "convert secret.vmdk out.raw",
