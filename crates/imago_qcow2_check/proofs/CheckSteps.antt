@@ -29,7 +29,7 @@ use Rattle.imago_qcow2_check.specs.declared.shape.Shape.{Shape}
 use Rattle.imago_qcow2_check.specs.Sums.{total, one_if}
 use Rattle.imago_qcow2_check.specs.Clusters.{cluster_count, passes}
 use Rattle.imago_qcow2_check.specs.Counts.{blocks_count, block_entry, count_by, count_of, count_order, per_block}
-use Rattle.imago_qcow2_check.specs.CountParts.{count_from}
+use Rattle.imago_qcow2_check.specs.CountParts.{count_from, most_counted}
 use Rattle.imago_qcow2_check.specs.Uses.{is_once, block_length}
 use Rattle.imago_qcow2_check.specs.Faults.{shared_fault, is_overused, is_leaked, entry_faults, overused, leaks_of, corruptions_of}
 use Rattle.imago_qcow2_check.specs.Tallies.{setting_of}
@@ -82,34 +82,34 @@ count_same order cluster bytes table n is_order is_cluster r len =
     (cases_lt i (blocks_count bytes)))
 
 -- what a count of 32 bits tells
-min_once : (x : ℕ) → nat_eq (min x 4294967295) 1 ≡ nat_eq x 1
+min_once : (x : ℕ) → nat_eq (min x most_counted) 1 ≡ nat_eq x 1
 min_once x = ⊎_elim
-    (λ (h : x < 4294967295). let e : min x 4294967295 ≡ x = omega (arith, h) in ap (λ y. nat_eq y 1) e)
-    (λ (h : 4294967295 ≤ x).
-    let a : nat_eq (min x 4294967295) 1 ≡ false = (let e : min x 4294967295 ≡ 4294967295 = omega (arith, h) in rw e refl) in
+    (λ (h : x < most_counted). let e : min x most_counted ≡ x = omega (arith, h) in ap (λ y. nat_eq y 1) e)
+    (λ (h : most_counted ≤ x).
+    let a : nat_eq (min x most_counted) 1 ≡ false = (let e : min x most_counted ≡ most_counted = omega (arith, h) in rw e refl) in
     let b : nat_eq x 1 ≡ false = grind (arith, nat_tests) in a ∙ sym b)
-    (cases_lt x 4294967295)
+    (cases_lt x most_counted)
 
-min_less : (x u : ℕ) → u < 4294967295 → nat_lt (min x 4294967295) u ≡ nat_lt x u
+min_less : (x u : ℕ) → u < most_counted → nat_lt (min x most_counted) u ≡ nat_lt x u
 min_less x u small = ⊎_elim
-    (λ (h : x < 4294967295). let e : min x 4294967295 ≡ x = omega (arith, h) in ap (λ y. nat_lt y u) e)
-    (λ (h : 4294967295 ≤ x).
-    let e : min x 4294967295 ≡ 4294967295 = omega (arith, h) in
-    let a : nat_lt 4294967295 u ≡ false = grind (arith, nat_tests) in
+    (λ (h : x < most_counted). let e : min x most_counted ≡ x = omega (arith, h) in ap (λ y. nat_lt y u) e)
+    (λ (h : most_counted ≤ x).
+    let e : min x most_counted ≡ most_counted = omega (arith, h) in
+    let a : nat_lt most_counted u ≡ false = grind (arith, nat_tests) in
     let b : nat_lt x u ≡ false = grind (arith, nat_tests) in ap (λ y. nat_lt y u) e ∙ a ∙ sym b)
-    (cases_lt x 4294967295)
+    (cases_lt x most_counted)
 
-min_more : (x u : ℕ) → u < 4294967295 → nat_lt u (min x 4294967295) ≡ nat_lt u x
+min_more : (x u : ℕ) → u < most_counted → nat_lt u (min x most_counted) ≡ nat_lt u x
 min_more x u small = ⊎_elim
-    (λ (h : x < 4294967295). let e : min x 4294967295 ≡ x = omega (arith, h) in ap (λ y. nat_lt u y) e)
-    (λ (h : 4294967295 ≤ x).
-    let e : min x 4294967295 ≡ 4294967295 = omega (arith, h) in
-    let a : nat_lt u 4294967295 ≡ true = grind (arith, nat_tests) in
+    (λ (h : x < most_counted). let e : min x most_counted ≡ x = omega (arith, h) in ap (λ y. nat_lt u y) e)
+    (λ (h : most_counted ≤ x).
+    let e : min x most_counted ≡ most_counted = omega (arith, h) in
+    let a : nat_lt u most_counted ≡ true = grind (arith, nat_tests) in
     let b : nat_lt u x ≡ true = grind (arith, nat_tests) in ap (λ y. nat_lt u y) e ∙ a ∙ sym b)
-    (cases_lt x 4294967295)
+    (cases_lt x most_counted)
 
 once_same : (bytes counts : List ℕ) (clusters n : ℕ) → clusters ≡ div_ceil (length bytes) (cluster_length bytes) → length counts ≡ clusters
-    → ((n : ℕ) → n < clusters → slice_index counts n ≡ min (count_of bytes n) 4294967295) → nat_eq (slice_index counts n) 1 ≡ is_once bytes n
+    → ((n : ℕ) → n < clusters → slice_index counts n ≡ min (count_of bytes n) most_counted) → nat_eq (slice_index counts n) 1 ≡ is_once bytes n
 once_same bytes counts clusters n is len each = ⊎_elim
     (λ (h : n < clusters).
     let t : nat_lt n (div_ceil (length bytes) (cluster_length bytes)) ≡ true = rw (← is) (grind (arith, nat_tests)) in
@@ -123,7 +123,7 @@ once_same bytes counts clusters n is len each = ⊎_elim
 
 -- so what entries are looked at by is that of the file
 pub setting_same : (shape : Shape) (bytes counts : List ℕ) → shape.file ≡ length bytes → shape.cluster ≡ cluster_length bytes → shape.version ≡ version_of bytes → length counts ≡ shape.clusters
-    → ((n : ℕ) → n < shape.clusters → slice_index counts n ≡ min (count_of bytes n) 4294967295) → setting_of shape counts ≡ setting bytes
+    → ((n : ℕ) → n < shape.clusters → slice_index counts n ≡ min (count_of bytes n) most_counted) → setting_of shape counts ≡ setting bytes
 setting_same shape bytes counts f c v len each =
     let is : shape.clusters ≡ div_ceil (length bytes) (cluster_length bytes) = shape.all ∙ ap (λ x. div_ceil x shape.cluster) f ∙ ap (div_ceil (length bytes)) c in
     let o : (λ n. nat_eq (slice_index counts n) 1) ≡ is_once bytes = fun_ext (λ n. once_same bytes counts shape.clusters n is len each) in
@@ -148,7 +148,7 @@ shared_same s u v entry some h = ⊎_elim
 
 -- what was counted in the end
 module _ (bytes : List ℕ) (s : Setting) (same : s ≡ setting bytes) (counts table : List ℕ) (t0 t1 t2 t3 : Tally) (clusters : ℕ) (is : clusters ≡ cluster_count s) (some : 0 < s.cluster)
-    (len : length counts ≡ clusters) (each : (n : ℕ) → n < clusters → slice_index counts n ≡ min (count_of bytes n) 4294967295)
+    (len : length counts ≡ clusters) (each : (n : ℕ) → n < clusters → slice_index counts n ≡ min (count_of bytes n) most_counted)
     (fresh : t0.uses.items ≡ replicate clusters 0) (no_faults : t0.corruptions ≡ 0) (no_leaks : t0.leaks ≡ 0)
     (p : Adds t0 t1 (uses_of bytes) (table_faults_of bytes))
     (r : IsReadAt bytes (blocks_start bytes) table) (whole : length table ≡ blocks_length bytes)
@@ -183,7 +183,7 @@ module _ (bytes : List ℕ) (s : Setting) (same : s ≡ setting bytes) (counts t
       let a = total_same (is_overused (slice_index counts) (slice_index t2.uses.items)) (is_overused (count_of bytes) (uses_of bytes)) (length counts)
       (λ n h.
       let u = uses2 n (omega (arith, h, len)) in
-      let small : uses_of bytes n < 4294967295 = (let k = x.counted n h in omega (arith, k, u)) in
+      let small : uses_of bytes n < most_counted = (let k = x.counted n h in omega (arith, k, u)) in
       ap (λ y. one_if (nat_lt (slice_index counts n) y)) u ∙ ap (λ y. one_if (nat_lt y (uses_of bytes n))) (each n (omega (arith, h, len))) ∙ ap one_if (min_less (count_of bytes n) (uses_of bytes n) small)) in
       a ∙ ap (total (is_overused (count_of bytes) (uses_of bytes))) (len ∙ is ∙ ap cluster_count same)
 
@@ -193,7 +193,7 @@ module _ (bytes : List ℕ) (s : Setting) (same : s ≡ setting bytes) (counts t
       let a = total_same (is_leaked (slice_index counts) (slice_index t2.uses.items)) (is_leaked (count_of bytes) (uses_of bytes)) (length counts)
       (λ n h.
       let u = uses2 n (omega (arith, h, len)) in
-      let small : uses_of bytes n < 4294967295 = (let k = x.counted n h in omega (arith, k, u)) in
+      let small : uses_of bytes n < most_counted = (let k = x.counted n h in omega (arith, k, u)) in
       ap (λ y. one_if (nat_lt y (slice_index counts n))) u ∙ ap (λ y. one_if (nat_lt (uses_of bytes n) y)) (each n (omega (arith, h, len))) ∙ ap one_if (min_more (count_of bytes n) (uses_of bytes n) small)) in
       a ∙ ap (total (is_leaked (count_of bytes) (uses_of bytes))) (len ∙ is ∙ ap cluster_count same)
 

@@ -8,7 +8,7 @@ use Rattle.std.proofs.lemmas.Nat.{div-mul-add, mod-mul-add}
 use Rattle.imago_storage.specs.Bytes.{IsReadAt}
 use Rattle.imago_qcow2.specs.Numbers.{be32, be64}
 use Rattle.imago_qcow2_check.specs.Counts.{be_number, count_in, per_block, count_by}
-use Rattle.imago_qcow2_check.specs.CountParts.{AppendsCounts, block_in, count_from}
+use Rattle.imago_qcow2_check.specs.CountParts.{AppendsCounts, block_in, count_from, most_counted}
 
 pub number_32 : (bytes : List ℕ) (at : ℕ) → be_number bytes at 4 ≡ be32 bytes at
 unfolding be32
@@ -125,24 +125,24 @@ appends_same f g n old new h x = record {
 
 -- a count of one more block
 more_at : (order cluster : ℕ) (bytes table old new : List ℕ) (index per count entry n i : ℕ) → per ≡ per_block order cluster → length old ≡ index * per → count ≤ per → entry ≡ block_in table index
-    → AppendsCounts (count_by order cluster bytes entry) count old new → n ≡ length old + i → i < count → slice_index new n ≡ min (count_from order cluster bytes table n) 4294967295
+    → AppendsCounts (count_by order cluster bytes entry) count old new → n ≡ length old + i → i < count → slice_index new n ≡ min (count_from order cluster bytes table n) most_counted
 more_at order cluster bytes table old new index per count entry n i is len few is_entry x at inside =
     let small : i < per = omega (arith, inside, few) in
     let place : n ≡ index * per + i = omega (arith, at, len) in
     let q : n / per ≡ index = ap (λ m. m / per) place ∙ div-mul-add index per i small in
     let m : n % per ≡ i = ap (λ m. m % per) place ∙ mod-mul-add index per i small in
-    let e : slice_index new n ≡ min (count_by order cluster bytes entry i) 4294967295 = ap (slice_index new) at ∙ x.added i inside in
+    let e : slice_index new n ≡ min (count_by order cluster bytes entry i) most_counted = ap (slice_index new) at ∙ x.added i inside in
     let c : count_from order cluster bytes table n ≡ count_by order cluster bytes (block_in table (n / per)) (n % per) = rw is refl in
     let d : count_by order cluster bytes (block_in table (n / per)) (n % per) ≡ count_by order cluster bytes entry i =
     ap (λ k. count_by order cluster bytes (block_in table k) (n % per)) q ∙ ap (count_by order cluster bytes (block_in table index)) m ∙ ap (λ y. count_by order cluster bytes y i) (sym is_entry) in
-    e ∙ ap (λ y. min y 4294967295) (sym (c ∙ d))
+    e ∙ ap (λ y. min y most_counted) (sym (c ∙ d))
 
 -- the counts of one more block
 pub blocks_more : (order cluster : ℕ) (bytes table old new : List ℕ) (index per count entry : ℕ) → per ≡ per_block order cluster → length old ≡ index * per → count ≤ per → entry ≡ block_in table index
-    → AppendsCounts (count_by order cluster bytes entry) count old new → ((n : ℕ) → n < length old → slice_index old n ≡ min (count_from order cluster bytes table n) 4294967295)
-    → (n : ℕ) → n < length new → slice_index new n ≡ min (count_from order cluster bytes table n) 4294967295
+    → AppendsCounts (count_by order cluster bytes entry) count old new → ((n : ℕ) → n < length old → slice_index old n ≡ min (count_from order cluster bytes table n) most_counted)
+    → (n : ℕ) → n < length new → slice_index new n ≡ min (count_from order cluster bytes table n) most_counted
 blocks_more order cluster bytes table old new index per count entry is len few is_entry x h n below =
-    let block_at : (n i : ℕ) → n ≡ length old + i → i < count → slice_index new n ≡ min (count_from order cluster bytes table n) 4294967295 = λ n i at inside. more_at order cluster bytes table old new index per count entry n i is len few is_entry x at inside in
+    let block_at : (n i : ℕ) → n ≡ length old + i → i < count → slice_index new n ≡ min (count_from order cluster bytes table n) most_counted = λ n i at inside. more_at order cluster bytes table old new index per count entry n i is len few is_entry x at inside in
     ⊎_elim
     (λ (l : n < length old). x.kept n l ∙ h n l)
     (λ (l : length old ≤ n).

@@ -6,6 +6,7 @@ ghost use Rattle.imago_qcow2.specs.Numbers.{be64};
 ghost use Rattle.imago_qcow2_check.specs.Counts.{be_number, count_in, per_block, count_by};
 ghost use Rattle.imago_qcow2_check.specs.Counts.{block_start};
 ghost use Rattle.imago_qcow2_check.specs.CountParts.{AppendsCounts, block_in, count_from};
+ghost use Rattle.imago_qcow2_check.specs.CountParts.{most_counted};
 
 use crate::fault::CheckError;
 use crate::shape::Shape;
@@ -172,7 +173,7 @@ fn put_blocks<S: Storage>(
     ensures all { OnOk result (length counts.new.items ≡ shape.clusters) }
     ensures told { IsTrue (S.features storage.now).tells_bytes → OnOk result
         ((n : ℕ) → n < shape.clusters → slice_index counts.new.items n
-        ≡ min (count_from order shape.cluster (S.bytes storage.now) table.now n) 4294967295) }
+        ≡ min (count_from order shape.cluster (S.bytes storage.now) table.now n) most_counted) }
 {
     let mut index: usize = 0;
     'each: while counts.len() < shape.clusters {
@@ -195,7 +196,7 @@ pub(crate) fn read_counts<S: Storage>(
     ensures all { IfOk result (λ v. length v.items ≡ shape.clusters) }
     ensures told { IsTrue (S.features storage.now).tells_bytes → IfOk result
         (λ v. (n : ℕ) → n < shape.clusters → slice_index v.items n
-        ≡ min (count_from order shape.cluster (S.bytes storage.now) table.now n) 4294967295) }
+        ≡ min (count_from order shape.cluster (S.bytes storage.now) table.now n) most_counted) }
 {
     let mut block = read_bytes(storage, alloc, 0, shape.cluster as usize)?;
     let mut counts = Vec::new(alloc);

@@ -3,8 +3,6 @@
 ghost use Rattle.std.specs.Prelude.{◌≡◌, ℕ, List, ◌+◌, ◌-◌, ◌*◌, ◌/◌, ◌%◌, ◌^◌, ◌<◌, ◌≤◌, length};
 ghost use Rattle.std.specs.Prelude.{OnOk};
 ghost use Rattle.imago_qcow2.specs.Numbers.{be64};
-ghost use Rattle.imago_qcow2.specs.Entry.{cluster_in_entry, compressed_in_entry, cluster_bits};
-ghost use Rattle.imago_qcow2.specs.Entry.{offset_bits};
 ghost use Rattle.imago_qcow2_check.specs.Sums.{total, one_if};
 ghost use Rattle.imago_qcow2_check.specs.Entries.{offset_of, is_copied, length_at, data_start};
 ghost use Rattle.imago_qcow2_check.specs.Entries.{data_length};
@@ -18,7 +16,7 @@ use crate::fault::{CheckError, Fault, Table};
 use crate::shape::Shape;
 use crate::tally::Tally;
 use imago_qcow2::entry::{GuestCluster, L2Table};
-use imago_qcow2::layout::l2_table;
+use imago_qcow2::layout::{guest_cluster, l2_table};
 use imago_qcow2::number::number64;
 
 /// The bits of an entry below those that say other things than an offset.
@@ -26,9 +24,6 @@ const OFFSETS: u64 = 1 << 56;
 
 /// The bit that says that what the entry names has the reference count 1.
 const COPIED: u64 = 1 << 63;
-
-/// The bit of an L2 entry that is set for a compressed cluster.
-const COMPRESSED: u64 = 1 << 62;
 
 /// What is looked at where an entry of a table stands.
 #[derive(Clone, Copy)]
@@ -53,53 +48,6 @@ pub(crate) fn offset_in(entry: u64) -> u64
 {
     let low = entry % OFFSETS;
     low - low % 512
-}
-
-/// How many bytes of a compressed cluster's entry are the offset of its stream.
-fn stream_offsets(shape: Shape) -> u64
-    ensures value { result ≡ 2 ^ offset_bits (cluster_bits shape.cluster) }
-    ensures least { 2 ^ 49 ≤ result }
-{
-    2u64.pow(62 - (shape.bits - 8))
-}
-
-/// What an L2 entry says of a compressed cluster.
-fn compressed_by(shape: Shape, entry: u64) -> GuestCluster
-    ensures { result ≡ compressed_in_entry (cluster_bits shape.cluster) entry }
-{
-    let offsets = stream_offsets(shape);
-    let at = entry % offsets;
-    let sectors = entry % COMPRESSED / offsets;
-    GuestCluster::Compressed {
-        at,
-        length: (sectors + 1) * 512 - at % 512,
-    }
-}
-
-/// What an L2 entry says of its guest cluster.
-#[tactic(auto, unfolding(imago_qcow2::specs::Entry::cluster_in_entry))]
-fn cluster_by(shape: Shape, entry: u64) -> GuestCluster
-    ensures { result ≡ cluster_in_entry shape.version shape.cluster entry }
-{
-    let low = entry % OFFSETS;
-    let high = entry / OFFSETS;
-    if high / 64 % 2 == 1 {
-        return compressed_by(shape, entry);
-    }
-    if high % 64 != 0 || shape.rest(low - low % 2) != 0 {
-        return GuestCluster::Invalid;
-    }
-    if low % 2 == 1 {
-        return if shape.version < 3 {
-            GuestCluster::Invalid
-        } else {
-            GuestCluster::Zero
-        };
-    }
-    if low == 0 {
-        return GuestCluster::Absent;
-    }
-    GuestCluster::Stored(low)
 }
 
 /// How many bytes stand at an offset that an entry has.
@@ -225,7 +173,7 @@ fn look_at_l2_entry(
     if entry == 0 {
         return Ok(());
     }
-    let says = cluster_by(shape, entry);
+    let says = guest_cluster(entry, shape.cluster, shape.version);
     look_at_cluster(shape, counts, place, index, entry, says, tally)?;
     Ok(())
 }

@@ -2,6 +2,7 @@
 use Rattle.std.proofs.Common.{◌≡◌, ℕ, List, ◌+◌, ◌<◌, nat_lt, ⊎_elim, ◌≤◌, refl, ap, ◌∙◌, arith}
 use Rattle.std.proofs.lemmas.Bool.{cases_lt}
 use Rattle.std.specs.Prelude.{slice_index}
+use Rattle.imago_qcow2_check.specs.CountParts.{most_counted}
 use Rattle.imago_qcow2_check.specs.Sums.{total, one_if}
 use Rattle.imago_qcow2_check.specs.Faults.{is_overused, is_leaked}
 use Rattle.imago_qcow2_check.proofs.SumSteps.{total_none, total_more}
@@ -23,7 +24,7 @@ loop-index-preserved c =
     let u = c.uses_of-uses.result in
     let is : u ≡ uses i = c.uses_of-uses.ensures ∙ ap (λ (l : List ℕ). slice_index l i) c.loop-index.invariant.same in
     let small : u < 4294967296 = c.uses_of-uses.type_inv in
-    let least : uses i < 4294967295 = omega (arith, is, small, c.if-uses.false) in
+    let least : uses i < most_counted = omega (arith, is, small, c.if-uses.false) in
     let t = c.in_ok-tell.ensures.adds in
     let a : c.tell.new.self.corruptions ≡ c.loop-index.tally.corruptions + one_if (nat_lt (counts i) u) = t.faults in
     let k : c.tell.new.self.leaks ≡ c.loop-index.tally.leaks = t.leaks in

@@ -4,6 +4,7 @@ use Rattle.std.specs.Prelude.{IsTrue, slice_index}
 use Rattle.std.specs.Int.{div_ceil}
 use Rattle.imago_qcow2.specs.Entry.{cluster_length}
 use Rattle.imago_storage.specs.Bytes.{IsReadAt}
+use Rattle.imago_qcow2_check.specs.CountParts.{most_counted}
 use Rattle.imago_qcow2_check.specs.Counts.{count_of, blocks_start}
 use Rattle.imago_qcow2_check.specs.Uses.{setting}
 use Rattle.imago_qcow2_check.specs.Tallies.{setting_of}
@@ -28,8 +29,8 @@ returns-clause-corruptions g c = λ (told : IsTrue (g.S.Storage.features c.args.
     let cluster = c.in_ok-shape.ensures.cluster ∙ is.cluster in
     let file = c.in_ok-shape.ensures.file ∙ c.in_ok-head.ensures.file in
     let version = c.in_ok-shape.ensures.version ∙ is.version in
-    let each : (n : ℕ) → n < shape.clusters → slice_index counts n ≡ min (count_of B n) 4294967295 = λ n below.
-    rw c.deref.ensures.value at (c.in_ok-counts.ensures.told told n below) ∙ ap (λ x. min x 4294967295) (count_same h.order shape.cluster B table n is.order cluster r whole) in
+    let each : (n : ℕ) → n < shape.clusters → slice_index counts n ≡ min (count_of B n) most_counted = λ n below.
+    rw c.deref.ensures.value at (c.in_ok-counts.ensures.told told n below) ∙ ap (λ x. min x most_counted) (count_same h.order shape.cluster B table n is.order cluster r whole) in
     let same : setting_of shape counts ≡ setting B = setting_same shape B counts file cluster version c.in_ok-counts.ensures.all each in
     let e2 = c.deref-2.ensures.value in
     let e3 = c.deref-3.ensures.value in
@@ -56,8 +57,8 @@ returns-clause-leaks g c = λ (told : IsTrue (g.S.Storage.features c.args.storag
     let cluster = c.in_ok-shape.ensures.cluster ∙ is.cluster in
     let file = c.in_ok-shape.ensures.file ∙ c.in_ok-head.ensures.file in
     let version = c.in_ok-shape.ensures.version ∙ is.version in
-    let each : (n : ℕ) → n < shape.clusters → slice_index counts n ≡ min (count_of B n) 4294967295 = λ n below.
-    rw c.deref.ensures.value at (c.in_ok-counts.ensures.told told n below) ∙ ap (λ x. min x 4294967295) (count_same h.order shape.cluster B table n is.order cluster r whole) in
+    let each : (n : ℕ) → n < shape.clusters → slice_index counts n ≡ min (count_of B n) most_counted = λ n below.
+    rw c.deref.ensures.value at (c.in_ok-counts.ensures.told told n below) ∙ ap (λ x. min x most_counted) (count_same h.order shape.cluster B table n is.order cluster r whole) in
     let same : setting_of shape counts ≡ setting B = setting_same shape B counts file cluster version c.in_ok-counts.ensures.all each in
     let e2 = c.deref-2.ensures.value in
     let e3 = c.deref-3.ensures.value in

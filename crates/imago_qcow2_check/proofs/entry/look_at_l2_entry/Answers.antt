@@ -10,7 +10,11 @@ returns-then-entry-eq0 c =
     let some : 0 < c.args.shape.cluster = omega (arith, c.args.shape.shortest) in
     zero_adds s c.args.place.active c.args.tally.now c.args.entry c.if-entry-eq0.true some
 
+pub guest_cluster-says-requires : goal.guest_cluster-says-requires
+guest_cluster-says-requires c =
+    (c.args.shape.bits, c.args.shape.least, c.args.shape.most, c.args.shape.power)
+
 pub returns : goal.returns
 returns c =
     let s = setting_of c.args.shape c.args.counts.now in
-    l2_entry_adds s c.args.place.active c.args.tally.now c.look_at_cluster.new.tally c.args.entry c.cluster_by-says.result c.cluster_by-says.ensures c.in_ok-look_at_cluster.ensures
+    l2_entry_adds s c.args.place.active c.args.tally.now c.look_at_cluster.new.tally c.args.entry c.guest_cluster-says.result c.guest_cluster-says.ensures.says c.in_ok-look_at_cluster.ensures
