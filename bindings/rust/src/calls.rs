@@ -120,3 +120,105 @@ pub fn vmdk_plan(text: &[u8], accept: bool, pieces: &mut [Piece], count: &mut u6
         )
     }
 }
+
+/// `struct imago_image`.
+#[repr(C)]
+#[derive(Debug)]
+pub struct RawImage {
+    is_open: bool,
+    at: *mut u8,
+}
+
+impl RawImage {
+    pub const CLOSED: RawImage = RawImage { is_open: false, at: std::ptr::null_mut() };
+}
+
+/// `struct imago_want`.
+#[repr(C)]
+#[derive(Clone, Copy, Debug, Default)]
+pub struct Want {
+    pub file: u64,
+    pub offset: u64,
+    pub count: u64,
+    pub kind: u32,
+    pub unused: u32,
+}
+
+/// `struct imago_place`.
+#[repr(C)]
+#[derive(Clone, Copy, Debug, Default)]
+pub struct Place {
+    pub at: u64,
+    pub count: u64,
+    pub file: u64,
+    pub offset: u64,
+}
+
+unsafe extern "C" {
+    fn imago_image_open(image: *mut RawImage, length: u64, format: u32, strict: bool) -> u32;
+    fn imago_image_want(image: *mut RawImage, want: *mut Want) -> u32;
+    fn imago_image_give(image: *mut RawImage, bytes: *const u8, count: usize) -> u32;
+    fn imago_image_name(
+        image: *mut RawImage,
+        name: *mut u8,
+        room: usize,
+        length: *mut usize,
+    ) -> u32;
+    fn imago_image_format_name(
+        image: *mut RawImage,
+        name: *mut u8,
+        room: usize,
+        length: *mut usize,
+    ) -> u32;
+    fn imago_image_give_file(image: *mut RawImage, length: u64, format: u32) -> u32;
+    fn imago_image_size(image: *mut RawImage, size: *mut u64) -> u32;
+    fn imago_image_map(image: *mut RawImage, offset: u64, most: u64, place: *mut Place) -> u32;
+    fn imago_image_close(image: *mut RawImage);
+}
+
+pub fn image_open(image: &mut RawImage, length: u64, format: u32, strict: bool) -> u32 {
+    // SAFETY: a `RawImage` is made of zeroes and is changed by these calls alone, to which it is
+    // lent for as long as they take. It can't be copied, and isn't `Send`. The calls below are
+    // called in the same way.
+    unsafe { imago_image_open(image, length, format, strict) }
+}
+
+pub fn image_want(image: &mut RawImage, want: &mut Want) -> u32 {
+    // SAFETY: as above.
+    unsafe { imago_image_want(image, want) }
+}
+
+pub fn image_give(image: &mut RawImage, bytes: &[u8]) -> u32 {
+    // SAFETY: as above.
+    unsafe { imago_image_give(image, bytes.as_ptr(), bytes.len()) }
+}
+
+pub fn image_name(image: &mut RawImage, name: &mut [u8], length: &mut usize) -> u32 {
+    // SAFETY: as above.
+    unsafe { imago_image_name(image, name.as_mut_ptr(), name.len(), length) }
+}
+
+pub fn image_format_name(image: &mut RawImage, name: &mut [u8], length: &mut usize) -> u32 {
+    // SAFETY: as above.
+    unsafe { imago_image_format_name(image, name.as_mut_ptr(), name.len(), length) }
+}
+
+pub fn image_give_file(image: &mut RawImage, length: u64, format: u32) -> u32 {
+    // SAFETY: as above.
+    unsafe { imago_image_give_file(image, length, format) }
+}
+
+pub fn image_size(image: &mut RawImage, size: &mut u64) -> u32 {
+    // SAFETY: as above.
+    unsafe { imago_image_size(image, size) }
+}
+
+pub fn image_map(image: &mut RawImage, offset: u64, most: u64, place: &mut Place) -> u32 {
+    // SAFETY: as above.
+    unsafe { imago_image_map(image, offset, most, place) }
+}
+
+pub fn image_close(image: &mut RawImage) {
+    // SAFETY: as above.
+    unsafe { imago_image_close(image) }
+}

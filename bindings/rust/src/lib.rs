@@ -1,10 +1,11 @@
 // SPDX-License-Identifier: MIT
-//! Scripts on disk images in memory, and what the descriptors of VMDK images say.
+//! Disks of images, scripts on images in memory, and what the descriptors of VMDK images say.
 //!
-//! This is safe Rust over the static library of `crates/imago_c`, which is proved. What each call does
-//! stands in `include/imago.h`.
+//! This is safe Rust over the static library of `crates/imago_c`, which is proved. What each call
+//! does stands in `include/imago.h`.
 
 mod calls;
+pub mod image;
 
 use calls::{Counts, Record};
 use std::error::Error;

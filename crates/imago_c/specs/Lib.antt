@@ -1,4 +1,6 @@
 -- SPDX-License-Identifier: MIT
 pub mod Answer
+pub mod Held
+pub mod Images
 pub mod Plan
 pub mod Records

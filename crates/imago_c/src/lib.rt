@@ -1,5 +1,6 @@
 // SPDX-License-Identifier: MIT
-//! The layer for C, and for Rust by way of C: numbers and slices of bytes cross, nothing else.
+//! The layer for C, and for Rust by way of C: numbers, slices of bytes and the handles of images
+//! cross, nothing else.
 //!
 //! `include/imago.h` declares what is exported here, and says who owns what. A result is
 //! [`DONE`](code::DONE), or the number of a refusal.
@@ -7,7 +8,11 @@
 
 pub mod code;
 mod front;
+pub mod handle;
+pub mod image;
+pub mod opening;
 pub mod plan;
+pub mod reading;
 mod record;
 pub mod script;
 pub mod vmdk;

@@ -1,0 +1,66 @@
+-- What a caller in C is told of an image, and tells.
+-- SPDX-License-Identifier: MIT
+use Rattle.std.specs.Prelude.{ℕ, ◌+◌, ◌-◌, ◌^◌, min, Bool, not, true, Option, Some, None}
+use Rattle.std.specs.Prelude.{nat_eq, if◌then◌else◌}
+use Rattle.imago_drivers.specs.declared.format.Format.{Format}
+use Rattle.imago_vmdk.specs.declared.line.Accepted.{Accepted}
+use Rattle.imago_plan.specs.declared.piece.Piece.{Piece}
+use Rattle.imago_plan.specs.declared.piece.Source.{Source}
+use Rattle.imago_plan.specs.declared.piece.Source.TheVariants as From
+use Rattle.imago_session.specs.declared.session.Session.{Session}
+use Rattle.imago_session.specs.declared.session.Want.{Want}
+use Rattle.imago_session.specs.declared.session.Want.TheVariants as W
+use Rattle.imago_c.specs.declared.opening.WantRecord.{WantRecord}
+use Rattle.imago_c.specs.declared.reading.PlaceRecord.{PlaceRecord}
+
+-- a handle has a session of which this holds
+abbrev pub Has : Option Session → (Session → Type 0) → Type 0
+Has None P = ⊥
+Has (Some s) P = P s
+
+-- the format of a number: 0 leaves it open
+abbrev pub format_of : ℕ → Option Format
+format_of n =
+    if nat_eq n 1 then Some Format.Raw
+    else (if nat_eq n 2 then Some Format.Vmdk
+    else (if nat_eq n 3 then Some Format.Qcow2 else None))
+
+-- what a descriptor may contain: VMFS extents, and keys that aren't known unless it is strict
+abbrev pub accepted_by : Bool → Accepted
+accepted_by strict = record { unknown_keys = not strict; vmfs = true }
+
+-- what is asked for as a record
+abbrev pub record_of : ℕ → ℕ → ℕ → ℕ → WantRecord
+record_of kind file offset count = record {
+  file = file;
+  offset = offset;
+  count = count;
+  kind = kind;
+  unused = 0;
+}
+
+abbrev pub want_record : Want → WantRecord
+want_record W.Nothing = record_of 0 0 0 0
+want_record (W.Bytes file offset count) = record_of 1 file offset count
+want_record (W.Backing file) = record_of 2 file 0 0
+want_record (W.Extent file) = record_of 3 file 0 0
+want_record W.Refused = record_of 0 0 0 0
+
+-- which file a source is in, counted from 1 as files are numbered, and from where on; 0 and 0 for
+-- zeroes
+abbrev pub source_file : Source → ℕ
+source_file From.Zero = 0
+source_file (From.Stored from) = min (from.layer + from.storage + 1) (2 ^ 64 - 1)
+
+abbrev pub source_offset : Source → ℕ
+source_offset From.Zero = 0
+source_offset (From.Stored from) = from.offset
+
+-- a piece as a record
+abbrev pub place_record : Piece → PlaceRecord
+place_record p = record {
+  at = p.at;
+  count = p.count;
+  file = source_file p.source;
+  offset = source_offset p.source;
+}
