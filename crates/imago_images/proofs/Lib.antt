@@ -14,3 +14,4 @@ pub mod NameAlike
 pub mod WriteSteps
 pub mod BackingSteps
 pub mod SignatureSteps
+pub mod AloneSteps

@@ -15,3 +15,5 @@ pub mod Images
 pub mod Way
 pub mod Refusals
 pub mod Chains
+pub mod Alone
+pub mod Reach

@@ -297,7 +297,7 @@ fn reason_of<H: Files>(host: &H, path: &str, cause: Error) -> Reason
 
 /// The name that a qcow2 image has of the file below it, if there is one. A name without bytes is
 /// none.
-fn name_below<S: Storage>(
+pub(crate) fn name_below<S: Storage>(
     alloc: Global,
     path: &str,
     qcow2: &Qcow2<S>,
@@ -328,7 +328,7 @@ pub fn text_of(alloc: Global, path: &str, name: Vec<u8>) -> Result<String, OpenE
 }
 
 /// The path that a name stands for which the file of that path has.
-fn path_below(alloc: Global, path: &str, name: Vec<u8>) -> Result<String, OpenError>
+pub(crate) fn path_below(alloc: Global, path: &str, name: Vec<u8>) -> Result<String, OpenError>
     ensures path { IfOk result (λ next. (file : List ℕ) × (file_named_by name.items ≡ Some file)
         × (string_bytes next ≡ path_beside_file path.now file)) }
     ensures refused { IfErr result (IsRefused path.now

@@ -22,16 +22,20 @@
 //! Where it states what its files hold, the contract of `open_image` says what each byte of the
 //! disk is. Images are only read, unless a raw one is opened for writing. Which of the files that
 //! an image names are looked at is said by [`OtherFiles`](opening::OtherFiles): none, those in its
-//! folder and below, or any.
+//! folder and below, or any. A host by way of [`Confined`](confined::Confined) is asked for no other
+//! paths than those that it is confined to, whatever is done with it.
 #![tactic(auto)]
 
+pub mod alone;
 mod backing_name;
+pub mod confined;
 pub mod failure;
 pub mod file;
 pub mod files;
 mod folder;
 pub mod format;
 pub mod gate;
+pub mod guarded;
 pub mod layer;
 pub mod opener;
 pub mod opening;

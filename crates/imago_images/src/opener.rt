@@ -7,6 +7,8 @@ ghost use Rattle.std.specs.String.{string_bytes};
 ghost use Rattle.imago_images.specs.declared.format.ImageFormat.TheVariants as Of;
 ghost use Rattle.imago_vmdk.specs.declared.line.Accepted.{Accepted};
 ghost use Rattle.imago_images.specs.declared.opening.OtherFiles.{OtherFiles};
+ghost use Rattle.imago_images.specs.declared.opening.OtherFiles.TheVariants as Others;
+ghost use Rattle.imago_images.specs.Alone.{IsImageOf};
 ghost use Rattle.imago_images.specs.Formats.{IsFormatBy, SaysFormat};
 ghost use Rattle.imago_images.specs.Gate.{IsLetThrough};
 ghost use Rattle.imago_images.specs.Images.{IsImageIn, IsToWrite, IsReadOnly};
@@ -68,6 +70,9 @@ pub fn open_image<'a, H: Files>(
     ensures image { IfOk result (λ r. IfSome (H.contents host.now)
         (λ files. IsImageIn ⟦<AnyDriver<PathStorage<'a, H>> as FormatDriverInstance>⟧.view
         how.accepted how.other_files files path.now r.0 r.1)) }
+    ensures alone { IfOk result (λ r. how.other_files ≡ Others.None → IfSome (H.contents host.now)
+        (λ files. IsImageOf ⟦<AnyDriver<PathStorage<'a, H>> as FormatDriverInstance>⟧.view
+        how.accepted (files path.now) path.now r.0 r.1)) }
     ensures end { IfOk result (λ r. IfSome (H.contents host.now)
         (λ files. HasEnd files (H.statuses host.now) path.now r.0)) }
     ensures writable { IfOk result (λ r. how.writable ≡ true

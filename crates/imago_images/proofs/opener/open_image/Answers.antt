@@ -3,6 +3,7 @@ use Rattle.std.proofs.Common.{◌∙◌, ◌++◌, ◌∷◌, [], ℕ, List, ap,
 use Rattle.std.proofs.lemmas.Result.{err_from_is_err_and}
 use Rattle.imago_images.specs.PathFile.{file_status}
 use Rattle.imago_images.specs.Way.{entered, identity}
+use Rattle.imago_images.proofs.AloneSteps.{image_alone_told}
 use Rattle.imago_images.proofs.PathSteps.{held_by, features_of, bytes_of}
 use Rattle.imago_images.proofs.ImageSteps.{refused_with, identity_told, image_unknown, image_out, has_end}
 use Rattle.imago_images.proofs.opener.open_image.Goals as goal
@@ -47,3 +48,8 @@ returns-clause-end g c =
     (identity_told (g.H.Files.statuses host) c.args.path.now status c.in_ok-file.ensures.status)
     (c.in_ok-enter.ensures.entered ∙ ap (λ (xs : List (ℕ × ℕ)). xs ++ identity status ∷ []) c.new-way.ensures)
     c.in_ok-image.ensures.end
+
+pub returns-clause-alone : goal.returns-clause-alone
+returns-clause-alone g c = λ none.
+    image_alone_told _ c.args.how.accepted c.args.how.other_files (g.H.Files.contents c.args.host.now)
+    c.args.path.now c.in_ok-format.format c.in_ok-image.image none c.in_ok-image.ensures.image
