@@ -1,0 +1,12 @@
+-- SPDX-License-Identifier: MIT
+pub mod Whole
+pub mod ExtentSteps
+pub mod Appends
+pub mod WordSteps
+pub mod SpaceSteps
+pub mod FileSteps
+pub mod TableSteps
+pub mod DiskSteps
+pub mod EntrySteps
+pub mod Reading
+pub mod Images
