@@ -45,3 +45,9 @@ zero_cluster version c h =
     (λ (old : version < 3). let t : nat_lt version 3 ≡ true = grind (arith, nat_tests) in inr (rw (z, t) refl))
     (λ (new : 3 ≤ version). let t : nat_lt version 3 ≡ false = grind (arith, nat_tests) in inl (rw (z, t) refl))
     (cases_lt version 3)
+
+pub zero_known : (version c : ℕ) → 512 ≤ c → 3 ≤ version → cluster_in_entry version c 1 ≡ GuestCluster.Zero
+unfolding cluster_in_entry
+zero_known version c h new =
+    let z : 0 % c ≡ 0 = zero_mod c (omega (arith, h)) in
+    let t : nat_lt version 3 ≡ false = grind (arith, nat_tests) in rw (z, t) refl

@@ -9,6 +9,7 @@ use Rattle.imago_qcow2_new.specs.Layout.{entry_value}
 use Rattle.imago_qcow2_new.specs.Image.{IsWritten, IsNewFile, IsNewFileIn}
 use Rattle.imago_qcow2_new.proofs.FileSteps.{heads, file_in}
 use Rattle.imago_qcow2_new.proofs.Reading.{opens, size_is, shown_byte}
+use Rattle.imago_qcow2_new.proofs.Valid.{faultless, used_once}
 
 pub new_file : (l : Layout) (values : ℕ → Value) (file : List ℕ) → IsWritten l values file → IsNewFile l values file
 new_file l values file is = record {
@@ -18,6 +19,8 @@ new_file l values file is = record {
     size_is = size_is l values file is;
     bytes = λ p inside. shown_byte l values file is none p inside;
   };
+  once = used_once l values file is;
+  faultless = faultless l values file is;
 }
 
 pub image_in : (l : Layout) (values : ℕ → Value) (old one two new : Option (List ℕ)) → IfSome old (λ there. there ≡ []) → IsAppended old one (heads l)

@@ -9,4 +9,8 @@ pub mod TableSteps
 pub mod DiskSteps
 pub mod EntrySteps
 pub mod Reading
+pub mod Sums
+pub mod Counting
+pub mod Uses
+pub mod Valid
 pub mod Images

@@ -32,7 +32,7 @@ nine : (v : Version) (w : ℕ) → w < 9 → nat_lt w (words_of v) ≡ true
 nine V.Two w h = grind (arith, nat_tests)
 nine V.Three w h = grind (arith, nat_tests)
 
-either : (b : Bool) → (b ≡ true) ⊎ (b ≡ false)
+pub either : (b : Bool) → (b ≡ true) ⊎ (b ≡ false)
 either true = inl refl
 either false = inr refl
 
@@ -53,7 +53,7 @@ words_most V.Three = omega arith
 
 module _ (l : Layout) (values : ℕ → Value) (file : List ℕ) (is : IsWritten l values file) where
   -- the backing file's name stands in the first cluster
-  name_start_most : name_start l.header + l.header.names.count ≤ l.cluster
+  pub name_start_most : name_start l.header + l.header.names.count ≤ l.cluster
   name_start_most =
       let w = words_most l.header.version in
       ⊎_elim
@@ -91,7 +91,7 @@ module _ (l : Layout) (values : ℕ → Value) (file : List ℕ) (is : IsWritten
       let e : head_word l 3 ≡ l.header.size = is_field 3 (omega arith) in
       word_whole file 24 (head_word l 3) (head_at 3 (let x = behind in omega (arith, x))) (omega (arith, e, l.size_small)) ∙ e
 
-  start_is : l1_start file ≡ l.header.l1_start
+  pub start_is : l1_start file ≡ l.header.l1_start
   unfolding field_word
   start_is =
       let e : head_word l 5 ≡ l.header.l1_start = is_field 5 (omega arith) in
@@ -124,14 +124,14 @@ module _ (l : Layout) (values : ℕ → Value) (file : List ℕ) (is : IsWritten
       let h = word_halves file 0 (head_word l 0) (head_at 0 (let x = behind in omega (arith, x))) (omega (arith, e, n)) in
       (h.0 ∙ omega (arith, e, n), h.1 ∙ omega (arith, e, n))
 
-  name_start_is : be64 file 8 ≡ name_start l.header
+  pub name_start_is : be64 file 8 ≡ name_start l.header
   unfolding field_word
   name_start_is =
       let e : head_word l 1 ≡ name_start l.header = is_field 1 (omega arith) in
       let n = name_start_small in
       word_whole file 8 (head_word l 1) (head_at 1 (let x = behind in omega (arith, x))) (omega (arith, e, n)) ∙ e
   
-  name_length_is : be32 file 16 ≡ l.header.names.count
+  pub name_length_is : be32 file 16 ≡ l.header.names.count
   unfolding field_word
   name_length_is =
       let e : head_word l 2 ≡ l.header.names.count * 4294967296 + l.header.cluster_bits = is_field 2 (omega arith) in
@@ -139,7 +139,7 @@ module _ (l : Layout) (values : ℕ → Value) (file : List ℕ) (is : IsWritten
       let h = word_halves file 16 (head_word l 2) (head_at 2 (let x = behind in omega (arith, x))) small in
       h.0 ∙ omega (arith, e, l.most)
 
-  fourth_word : (be32 file 32 ≡ 0) × (be32 file 36 ≡ l.header.l1_count)
+  pub fourth_word : (be32 file 32 ≡ 0) × (be32 file 36 ≡ l.header.l1_count)
   unfolding field_word
   fourth_word =
       let e : head_word l 4 ≡ l.header.l1_count = is_field 4 (omega arith) in
@@ -147,7 +147,7 @@ module _ (l : Layout) (values : ℕ → Value) (file : List ℕ) (is : IsWritten
       (h.0 ∙ omega (arith, e, l.few), h.1 ∙ omega (arith, e, l.few))
 
   module _ (third : l.header.version ≡ V.Three) where
-    later_field : (w : ℕ) → w < 14 → head_word l w ≡ field_word l.header w
+    pub later_field : (w : ℕ) → w < 14 → head_word l w ≡ field_word l.header w
     unfolding head_word
     later_field w h =
         let wide = least in
@@ -156,7 +156,7 @@ module _ (l : Layout) (values : ℕ → Value) (file : List ℕ) (is : IsWritten
         let b : nat_lt w 14 ≡ true = grind (arith, nat_tests) in
         rw (a, c, b) refl
 
-    no_features : be64 file 72 ≡ 0
+    pub no_features : be64 file 72 ≡ 0
     unfolding field_word
     no_features =
         let e : head_word l 9 ≡ 0 = later_field 9 (omega arith) in
@@ -291,7 +291,7 @@ module _ (l : Layout) (values : ℕ → Value) (file : List ℕ) (is : IsWritten
       let d : l.header.l1_start / 8 + i - l.header.l1_start / 8 ≡ i = omega arith in
       rw (a, b, c, d) refl
 
-  l1_is : (i : ℕ) → i < l.header.l1_count → l1_entry file i ≡ l1_word l i
+  pub l1_is : (i : ℕ) → i < l.header.l1_count → l1_entry file i ≡ l1_word l i
   l1_is i lt =
       let w : ℕ = l.header.l1_start / 8 + i in
       let x = starts in
@@ -300,7 +300,7 @@ module _ (l : Layout) (values : ℕ → Value) (file : List ℕ) (is : IsWritten
       let small : head_word l (l.header.l1_start / 8 + i) < 2 ^ 64 = (let z = l1_small i in omega (arith, e, z)) in
       ap (be64 file) place ∙ word_whole file (8 * w) (head_word l w) (head_at w (omega (arith, x, lt, l.tables_behind))) small ∙ e
 
-  table_says : (i : ℕ) → i < l.header.l1_count → table_of file i ≡ table_in_entry l.end l.cluster (l1_word l i)
+  pub table_says : (i : ℕ) → i < l.header.l1_count → table_of file i ≡ table_in_entry l.end l.cluster (l1_word l i)
   table_says i lt =
       ap (λ x. table_in_entry x (cluster_length file) (l1_entry file i)) is.len ∙ ap (λ x. table_in_entry l.end x (l1_entry file i)) cluster_is ∙ ap (table_in_entry l.end l.cluster) (l1_is i lt)
 
@@ -373,7 +373,7 @@ module _ (l : Layout) (values : ℕ → Value) (file : List ℕ) (is : IsWritten
     spot_is : (b : ℕ) → spot l.tables.stored l.tables.extents.items (k / (l.cluster / 8) * l.cluster + (8 * (k % (l.cluster / 8)) + b)) ≡ spot l.tables.stored l.tables.extents.items (8 * k + b)
     spot_is b = ap (spot l.tables.stored l.tables.extents.items) (entry_place b)
 
-    entry_there : (spot l.tables.stored l.tables.extents.items (k / (l.cluster / 8) * l.cluster)).stored ≡ true
+    pub entry_there : (spot l.tables.stored l.tables.extents.items (k / (l.cluster / 8) * l.cluster)).stored ≡ true
         → be64 file (l.tables_start + (spot l.tables.stored l.tables.extents.items (k / (l.cluster / 8) * l.cluster)).before + 8 * (k % (l.cluster / 8))) ≡ table_word l k
     entry_there st =
         let t : ℕ = (spot l.tables.stored l.tables.extents.items (k / (l.cluster / 8) * l.cluster)).before in
@@ -388,7 +388,7 @@ module _ (l : Layout) (values : ℕ → Value) (file : List ℕ) (is : IsWritten
             ap (slice_index file) place ∙ moved in
         word_whole file at (table_word l k) (word_bytes (table_word l) file k at bytes) (entry_fits k)
 
-    entry_gone : (spot l.tables.stored l.tables.extents.items (k / (l.cluster / 8) * l.cluster)).stored ≡ false → table_word l k ≡ 0
+    pub entry_gone : (spot l.tables.stored l.tables.extents.items (k / (l.cluster / 8) * l.cluster)).stored ≡ false → table_word l k ≡ 0
     unfolding be64 be32
     entry_gone st =
         let positive : 0 < l.tables.unit = (let x = least in omega (arith, x, l.tables_unit)) in

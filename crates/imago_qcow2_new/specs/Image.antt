@@ -4,6 +4,10 @@ use Rattle.std.specs.Prelude.{◌≡◌, ℕ, ◌*◌, ◌<◌, List, length, sl
 use Rattle.imago_drivers.specs.Place.{Value, Byte, shown}
 use Rattle.imago_qcow2.specs.Header.{header_of}
 use Rattle.imago_qcow2.specs.Entry.{disk_size, qcow2_place}
+use Rattle.imago_qcow2_check.specs.Clusters.{cluster_count}
+use Rattle.imago_qcow2_check.specs.Counts.{count_of}
+use Rattle.imago_qcow2_check.specs.Uses.{setting, uses_of}
+use Rattle.imago_qcow2_check.specs.Verdicts.{IsFaultless}
 use Rattle.imago_qcow2_new.specs.declared.layout.Layout.{Layout}
 use Rattle.imago_qcow2_new.specs.Words.{byte_of}
 use Rattle.imago_qcow2_new.specs.Space.{spot_of, byte_at}
@@ -27,12 +31,20 @@ pub record ShowsDisk (size : ℕ) (values : ℕ → Value) (file : List ℕ) : T
   pub bytes : (p : ℕ) → p < size
       → shown (λ (q : ℕ). Byte 0) (qcow2_place file p) ≡ values p
 
+-- each cluster of a file is used once, and its reference count says so
+abbrev pub IsUsedOnce : List ℕ → Type 0
+IsUsedOnce file = (n : ℕ) → n < cluster_count (setting file)
+    → (uses_of file n ≡ 1) × (count_of file n ≡ 1)
+
 -- A new file of a disk: what it has, and what its reader makes of it. Its header has no fault, and
--- it shows the disk, where clusters that aren't stored are left to the layer below.
+-- it shows the disk, where clusters that aren't stored are left to the layer below. Each of its
+-- clusters is used once and has the reference count 1, and no entry of its tables has a fault.
 pub record IsNewFile (l : Layout) (values : ℕ → Value) (file : List ℕ) : Type 0 where
   pub written : IsWritten l values file
   pub opens : IsOk (header_of file (length file))
   pub shows : l.gap ≡ 0 → ShowsDisk l.header.size values file
+  pub once : IsUsedOnce file
+  pub faultless : IsFaultless file
 
 -- a target that was empty has such a file, where that is known
 abbrev pub IsNewFileIn : Layout → (ℕ → Value) → Option (List ℕ) → Option (List ℕ) → Type 0

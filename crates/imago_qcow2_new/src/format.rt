@@ -80,7 +80,7 @@ impl<T: Drop> From<AllocFailed<T>> for FormatError {
 }
 
 impl Version {
-    ghost use Rattle.std.specs.Prelude.{◌≡◌};
+    ghost use Rattle.std.specs.Prelude.{◌≡◌, ◌≤◌};
     ghost use Rattle.imago_qcow2_new.specs.Header.{words_of, number_of};
 
     /// How many words of 8 bytes the header has.
@@ -95,7 +95,8 @@ impl Version {
 
     /// Its number.
     pub(crate) fn number(self) -> u64
-        ensures { result ≡ number_of self }
+        ensures value { result ≡ number_of self }
+        ensures least { 2 ≤ result }
     {
         match self {
             Version::Two => 2,
@@ -105,12 +106,13 @@ impl Version {
 }
 
 impl Gaps {
-    ghost use Rattle.std.specs.Prelude.{◌≡◌};
+    ghost use Rattle.std.specs.Prelude.{◌≡◌, ◌≤◌};
     ghost use Rattle.imago_qcow2_new.specs.Layout.{gap_entry};
 
     /// The L2 entry of a cluster that isn't stored.
     pub(crate) fn entry(self) -> u64
-        ensures { result ≡ gap_entry self }
+        ensures value { result ≡ gap_entry self }
+        ensures most { result ≤ 1 }
     {
         match self {
             Gaps::Absent => 0,

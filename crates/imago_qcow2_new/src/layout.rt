@@ -2,9 +2,10 @@
 //! Where everything stands in a new file.
 ghost use Rattle.std.specs.Prelude.{◌≡◌, ◌+◌, ◌*◌, ◌/◌, ◌%◌, ◌^◌, ◌<◌, ◌≤◌, IfOk};
 ghost use Rattle.std.specs.Int.{next_multiple_of};
+ghost use Rattle.imago_qcow2_new.specs.Header.{number_of};
 
 use crate::extents::{Extents, rounded_up};
-use crate::format::{Backing, Format, FormatError, Gaps, Version};
+use crate::format::{Backing, Format, FormatError, Gaps};
 use crate::header::NewHeader;
 use crate::names::names_of;
 use std::alloc::Global;
@@ -42,6 +43,7 @@ pub struct Layout {
     ghost few: { header.l1_count ≤ 4194304 },
     ghost covers: { header.size ≤ header.l1_count * (cluster / 8 * cluster) },
     ghost gap_is: { gap ≤ 1 },
+    ghost gap_known: { gap + 2 ≤ number_of header.version },
     ghost blocks_behind: { cluster ≤ blocks_start },
     ghost blocks_whole: { blocks_start % cluster ≡ 0 },
     ghost l1_at: { header.l1_start ≡ blocks_start + blocks * cluster },
@@ -271,7 +273,8 @@ impl Layout {
     ) -> Result<Layout, FormatError>
         ensures { IfOk result (IsLayoutOf format size) }
     {
-        if format.gaps == Gaps::Zero && format.version == Version::Two {
+        let gap = format.gaps.entry();
+        if gap > 0 && format.version.number() < 3 {
             return Err(FormatError::NoZeroes);
         }
         let size = rounded_size(size)?;
@@ -309,7 +312,7 @@ impl Layout {
                 names,
             },
             cluster,
-            gap: format.gaps.entry(),
+            gap,
             blocks: starts.blocks,
             blocks_start: starts.blocks_start,
             tables_start: starts.tables_start,
