@@ -1,0 +1,16 @@
+-- SPDX-License-Identifier: MIT
+pub mod Whole
+pub mod ExtentSteps
+pub mod Appends
+pub mod WordSteps
+pub mod SpaceSteps
+pub mod FileSteps
+pub mod TableSteps
+pub mod DiskSteps
+pub mod EntrySteps
+pub mod Reading
+pub mod Sums
+pub mod Counting
+pub mod Uses
+pub mod Valid
+pub mod Images

@@ -1,0 +1,53 @@
+-- What a new file has, and what its reader makes of it.
+-- SPDX-License-Identifier: MIT
+use Rattle.std.specs.Prelude.{◌≡◌, ℕ, ◌*◌, ◌<◌, List, length, slice_index, Option, Some, None, IsOk}
+use Rattle.imago_drivers.specs.Place.{Value, Byte, shown}
+use Rattle.imago_qcow2.specs.Header.{header_of}
+use Rattle.imago_qcow2.specs.Entry.{disk_size, qcow2_place}
+use Rattle.imago_qcow2_check.specs.Clusters.{cluster_count}
+use Rattle.imago_qcow2_check.specs.Counts.{count_of}
+use Rattle.imago_qcow2_check.specs.Uses.{setting, uses_of}
+use Rattle.imago_qcow2_check.specs.Verdicts.{IsFaultless}
+use Rattle.imago_qcow2_new.specs.declared.layout.Layout.{Layout}
+use Rattle.imago_qcow2_new.specs.Words.{byte_of}
+use Rattle.imago_qcow2_new.specs.Space.{spot_of, byte_at}
+use Rattle.imago_qcow2_new.specs.Layout.{head_word, table_word}
+
+-- What a file has, by the words of its tables and the values of a disk: before the L2 tables; in
+-- the space of all L2 tables, of which some are stored; and on the disk, of which some clusters
+-- are.
+pub record IsWritten (l : Layout) (values : ℕ → Value) (file : List ℕ) : Type 0 where
+  pub len : length file ≡ l.end
+  pub head : (p : ℕ) → p < l.tables_start → slice_index file p ≡ byte_of (head_word l) p
+  pub tables : (p : ℕ) → p < l.header.l1_count * l.cluster
+      → byte_at l.tables_start file (spot_of l.tables p) ≡ byte_of (table_word l) p
+  pub clusters : (p : ℕ) → p < l.length
+      → values p ≡ Byte (byte_at l.data_start file (spot_of l.clusters p))
+
+-- A file whose disk has that size by the reader's definition, and shows these values, where the
+-- layer below shows 0, or there is none.
+pub record ShowsDisk (size : ℕ) (values : ℕ → Value) (file : List ℕ) : Type 0 where
+  pub size_is : disk_size file ≡ size
+  pub bytes : (p : ℕ) → p < size
+      → shown (λ (q : ℕ). Byte 0) (qcow2_place file p) ≡ values p
+
+-- each cluster of a file is used once, and its reference count says so
+abbrev pub IsUsedOnce : List ℕ → Type 0
+IsUsedOnce file = (n : ℕ) → n < cluster_count (setting file)
+    → (uses_of file n ≡ 1) × (count_of file n ≡ 1)
+
+-- A new file of a disk: what it has, and what its reader makes of it. Its header has no fault, and
+-- it shows the disk, where clusters that aren't stored are left to the layer below. Each of its
+-- clusters is used once and has the reference count 1, and no entry of its tables has a fault.
+pub record IsNewFile (l : Layout) (values : ℕ → Value) (file : List ℕ) : Type 0 where
+  pub written : IsWritten l values file
+  pub opens : IsOk (header_of file (length file))
+  pub shows : l.gap ≡ 0 → ShowsDisk l.header.size values file
+  pub once : IsUsedOnce file
+  pub faultless : IsFaultless file
+
+-- a target that was empty has such a file, where that is known
+abbrev pub IsNewFileIn : Layout → (ℕ → Value) → Option (List ℕ) → Option (List ℕ) → Type 0
+IsNewFileIn l values None new = Unit {0}
+IsNewFileIn l values (Some old) new =
+    (file : List ℕ) × (new ≡ Some file) × IsNewFile l values file

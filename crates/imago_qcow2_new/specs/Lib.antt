@@ -1,0 +1,7 @@
+-- SPDX-License-Identifier: MIT
+pub mod Extents
+pub mod Space
+pub mod Words
+pub mod Header
+pub mod Layout
+pub mod Image

@@ -1,0 +1,34 @@
+// SPDX-License-Identifier: MIT
+//! Laws of new files. The functions do nothing; their contracts are proved.
+ghost use Rattle.std.specs.Prelude.{◌≡◌, ℕ, List, length, IsOk};
+ghost use Rattle.imago_drivers.specs.Place.{Value};
+ghost use Rattle.imago_qcow2.specs.Header.{header_of};
+ghost use Rattle.imago_qcow2_check.specs.Verdicts.{IsFaultless};
+ghost use Rattle.imago_qcow2_new.specs.declared.layout.Layout.{Layout};
+ghost use Rattle.imago_qcow2_new.specs.Image.{IsWritten, ShowsDisk, IsUsedOnce};
+
+/// The header of a new file has no fault.
+pub fn new_files_open()
+    ensures { (l : Layout) (values : ℕ → Value) (file : List ℕ) → IsWritten l values file
+        → IsOk (header_of file (length file)) }
+{}
+
+/// What a new file shows by its reader's definition, where clusters that aren't stored are left to
+/// the layer below.
+pub fn new_files_show_disks()
+    ensures { (l : Layout) (values : ℕ → Value) (file : List ℕ) → IsWritten l values file
+        → l.gap ≡ 0 → ShowsDisk l.header.size values file }
+{}
+
+/// No entry of a new file has a fault, and each of its clusters is used as often as its reference
+/// count says.
+pub fn new_files_are_faultless()
+    ensures { (l : Layout) (values : ℕ → Value) (file : List ℕ) → IsWritten l values file
+        → IsFaultless file }
+{}
+
+/// Each cluster of a new file is used once, and has the reference count 1.
+pub fn new_files_use_clusters_once()
+    ensures { (l : Layout) (values : ℕ → Value) (file : List ℕ) → IsWritten l values file
+        → IsUsedOnce file }
+{}

@@ -1,0 +1,20 @@
+// SPDX-License-Identifier: MIT
+//! New qcow2 files, written from their first byte to their last one.
+//!
+//! [`scan`] finds which clusters of a disk have to be stored, [`layout`] decides where everything
+//! stands in the file, and [`write`](mod@write) puts it into a target.
+#![tactic(auto)]
+
+mod entries;
+pub mod extent;
+pub mod extents;
+pub mod format;
+mod header;
+pub mod laws;
+pub mod layout;
+mod names;
+pub mod scan;
+mod words;
+pub mod write;
+mod zero;
+
