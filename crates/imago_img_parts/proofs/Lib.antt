@@ -4,6 +4,5 @@ mod Overwritten
 mod Told
 mod Printed
 mod Decimals
-mod ClusterSteps
 mod FaultSteps
 mod Cleared

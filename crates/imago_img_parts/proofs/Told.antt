@@ -1,14 +1,17 @@
 -- The answers to questions, from what the functions that find them say.
 -- SPDX-License-Identifier: MIT
-use Rattle.std.proofs.Common.{◌≡◌, ◌≢◌, ◌&&◌, ◌==◌, inl, inr, ℕ, Bool, true, false, not, is_some, List, Option, Some, None, IfSome, refl, sym, ap, subst, ◌∙◌}
+use Rattle.std.proofs.Common.{◌≡◌, ◌≢◌, ◌≤◌, ◌&&◌, ◌==◌, arith, inl, inr, ℕ, Bool, true, false, not, is_some, List, Option, Some, None, IfSome, refl, sym, ap, subst, ◌∙◌}
 use Rattle.std.proofs.lemmas.Bool.{eqb-true, eqb-false, false≢true, not-false, not-true}
 use Rattle.std.proofs.lemmas.Option.{IfSome_then}
 use Rattle.imago_images.specs.declared.format.ImageFormat.{ImageFormat}
 use Rattle.imago_images.specs.declared.opening.Opening.{Opening}
-use Rattle.imago_img_parts.specs.declared.run.Outcome.{Outcome}
 use Rattle.imago_img_parts.specs.Disks.{AreCompared, is_left_out}
-use Rattle.imago_img_parts.specs.Faultless.{IsFaultless}
-use Rattle.imago_img_parts.specs.Commands.{AreToldApart, IsChecked, outcome_when}
+use Rattle.imago_qcow2_check.specs.declared.fault.Verdict.{Verdict}
+use Rattle.imago_qcow2_check.specs.declared.fault.Verdict.TheVariants as V
+use Rattle.imago_img_parts.specs.declared.run.Outcome.{Outcome}
+use Rattle.imago_img_parts.specs.declared.run.Outcome.TheVariants.{Fine, Unlike, Checked}
+use Rattle.imago_img_parts.specs.Checked.{IsChecked}
+use Rattle.imago_img_parts.specs.Commands.{AreToldApart, IsStatus, outcome_status}
 
 -- two disks have to have the same size, and haven't
 must_differ : (same_size : Bool) (m n : ℕ) → is_left_out same_size m n ≡ true
@@ -28,8 +31,7 @@ told : (how : Opening) (other : Option ImageFormat) (same_size : Bool) (files : 
     → is_left_out same_size size other_size ≡ skips
     → AreCompared how.accepted how.other_files how.format other same_size files first second size
     other_size found
-    → AreToldApart how other same_size files first second
-    (outcome_when (not skips && not (is_some found)))
+    → AreToldApart how other same_size files first second (not skips && not (is_some found))
 told how other same_size files first second size other_size found true e (x, y, a, b, l, m, h) =
     let (is, differ) = must_differ same_size size other_size e in
     (x, y, a, b, inr (is, λ s. differ (l ∙ s ∙ sym m)))
@@ -40,48 +42,45 @@ told how other same_size files first second size other_size (Some at) false e (x
 
 pub told_apart : (how : Opening) (other : Option ImageFormat) (same_size : Bool)
     (contents : Option (List ℕ → List ℕ)) (first second : List ℕ) (size other_size : ℕ)
-    (found : Option ℕ) (alike : Bool) (outcome : Outcome)
+    (found : Option ℕ) (alike : Bool)
     → alike ≡ (not (is_left_out same_size size other_size) && not (is_some found))
-    → outcome ≡ outcome_when alike
     → IfSome contents (λ files. AreCompared how.accepted how.other_files how.format other same_size
     files first second size other_size found)
-    → IfSome contents (λ files. AreToldApart how other same_size files first second outcome)
-told_apart how other same_size contents first second size other_size found alike outcome is of_alike h =
-    subst (λ (o : Outcome).
-    IfSome contents (λ files. AreToldApart how other same_size files first second o))
-    (sym (of_alike ∙ ap outcome_when is)) (IfSome_then contents h
+    → IfSome contents (λ files. AreToldApart how other same_size files first second alike)
+told_apart how other same_size contents first second size other_size found alike is h =
+    subst (λ (b : Bool).
+    IfSome contents (λ files. AreToldApart how other same_size files first second b))
+    (sym is) (IfSome_then contents h
     (λ files. told how other same_size files first second size other_size found _ refl))
 
 -- the same by how the first image is opened
 pub told_by : (how said : Opening) (other named : Option ImageFormat) → how ≡ said → other ≡ named
     → (same_size : Bool) (contents : Option (List ℕ → List ℕ)) (first second : List ℕ)
-    (outcome : Outcome)
-    → IfSome contents (λ files. AreToldApart how other same_size files first second outcome)
-    → IfSome contents (λ files. AreToldApart said named same_size files first second outcome)
-told_by how said other named e n same_size contents first second outcome h =
-    let one : IfSome contents (λ files. AreToldApart said other same_size files first second outcome) =
-    subst (λ (w : Opening). IfSome contents (λ files. AreToldApart w other same_size files first second outcome)) e h in
-    subst (λ (o : Option ImageFormat). IfSome contents (λ files. AreToldApart said o same_size files first second outcome)) n one
+    (alike : Bool)
+    → IfSome contents (λ files. AreToldApart how other same_size files first second alike)
+    → IfSome contents (λ files. AreToldApart said named same_size files first second alike)
+told_by how said other named e n same_size contents first second alike h =
+    let one : IfSome contents (λ files. AreToldApart said other same_size files first second alike) =
+    subst (λ (w : Opening). IfSome contents (λ files. AreToldApart w other same_size files first second alike)) e h in
+    subst (λ (o : Option ImageFormat). IfSome contents (λ files. AreToldApart said o same_size files first second alike)) n one
 
-nothing : {F : Type 0} (contents : Option F) → IfSome contents (λ files. Unit {0})
-nothing None = tt
-nothing (Some files) = tt
+-- the same of a check
+pub checked_as_said : (how said : Opening) → how ≡ said → (contents : Option (List ℕ → List ℕ))
+    (path : List ℕ) (verdict : Option Verdict)
+    → IfSome contents (λ files. IsChecked how files path verdict)
+    → IfSome contents (λ files. IsChecked said files path verdict)
+checked_as_said how said e contents path verdict h =
+    subst (λ (w : Opening). IfSome contents (λ files. IsChecked w files path verdict)) e h
 
--- whether faults were found tells whether an image is in order
-found : (how : Opening) (contents : Option (List ℕ → List ℕ)) (path : List ℕ)
-    (fine : Bool) → (fine ≡ true → IfSome contents
-    (λ files. IsFaultless how.accepted how.other_files how.format files path))
-    → IfSome contents (λ files. IsChecked how files path (outcome_when fine))
-found how contents path true h = h refl
-found how contents path false h = nothing contents
+-- each outcome has one of the statuses that there are
+pub outcome_has_status : (outcome : Outcome) → IsStatus (outcome_status outcome)
+outcome_has_status Fine = inl (omega arith)
+outcome_has_status Unlike = inl (omega arith)
+outcome_has_status (Checked None) = inr refl
+outcome_has_status (Checked (Some V.Faultless)) = inl (omega arith)
+outcome_has_status (Checked (Some V.Corrupt)) = inl (omega arith)
+outcome_has_status (Checked (Some V.Leaks)) = inl (omega arith)
 
-pub found_faults : (how said : Opening) → how ≡ said → (contents : Option (List ℕ → List ℕ))
-    (path : List ℕ) (fine : Bool) (outcome : Outcome) → outcome ≡ outcome_when fine
-    → (fine ≡ true → IfSome contents
-    (λ files. IsFaultless how.accepted how.other_files how.format files path))
-    → IfSome contents (λ files. IsChecked said files path outcome)
-found_faults how said e contents path fine outcome is h =
-    let one : IfSome contents (λ files. IsChecked how files path outcome) =
-    subst (λ (o : Outcome). IfSome contents (λ files. IsChecked how files path o)) (sym is)
-    (found how contents path fine h) in
-    subst (λ (w : Opening). IfSome contents (λ files. IsChecked w files path outcome)) e one
+-- a status that says little is one of these too
+pub small_status : (status most : ℕ) → status ≤ most → most ≤ 2 → IsStatus status
+small_status status most h k = inl (omega (arith, h, k))

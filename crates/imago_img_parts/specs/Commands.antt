@@ -1,21 +1,23 @@
 -- What the commands of `imago-img` do, by the status that each gives.
 -- SPDX-License-Identifier: MIT
-use Rattle.std.specs.Prelude.{◌≡◌, ◌⊎◌, ℕ, Bool, true, false, List, Option, IfSome}
-use Rattle.std.specs.Prelude.{option_map}
+use Rattle.std.specs.Prelude.{◌≡◌, ◌≤◌, ◌⊎◌, ℕ, Bool, true, false, List, Option, None, Some}
+use Rattle.std.specs.Prelude.{IfSome, option_map}
 use Rattle.imago_words.specs.declared.command.Command.{Command}
 use Rattle.imago_words.specs.declared.command.Command.TheVariants as Asked
 use Rattle.imago_words.specs.declared.command.Convert.{Convert}
 use Rattle.imago_words.specs.Line.{Asks, kind_typed, line_is_meant, status_for}
+use Rattle.imago_qcow2_check.specs.declared.fault.Verdict.{Verdict}
+use Rattle.imago_qcow2_check.specs.Verdicts.{status_of}
 use Rattle.imago_images.specs.declared.format.ImageFormat.{ImageFormat}
 use Rattle.imago_images.specs.declared.opening.Opening.{Opening}
 use Rattle.imago_img_parts.specs.declared.question.Question.{Question}
 use Rattle.imago_img_parts.specs.declared.question.Question.TheVariants as Q
 use Rattle.imago_img_parts.specs.declared.run.Outcome.{Outcome}
-use Rattle.imago_img_parts.specs.declared.run.Outcome.TheVariants.{Fine, Unlike}
+use Rattle.imago_img_parts.specs.declared.run.Outcome.TheVariants.{Fine, Unlike, Checked}
 use Rattle.imago_img_parts.specs.Files.{Around, IsSoOnceCleared}
 use Rattle.imago_img_parts.specs.Disks.{IsConverted, IsConvertedOver, IsPartlyConvertedOver}
 use Rattle.imago_img_parts.specs.Disks.{AreAlike, AreUnlike}
-use Rattle.imago_img_parts.specs.Faultless.{IsFaultless}
+use Rattle.imago_img_parts.specs.Checked.{IsChecked}
 use Rattle.imago_img_parts.specs.Openings.{how_by, image_format}
 
 -- fine or not
@@ -23,21 +25,29 @@ abbrev pub outcome_when : Bool → Outcome
 outcome_when true = Fine
 outcome_when false = Unlike
 
+-- The status of a check: that of the verdict, or 63 where there is nothing to check.
+abbrev pub check_status : Option Verdict → ℕ
+check_status None = 63
+check_status (Some verdict) = status_of verdict
+
+-- the status of what a question comes to
+abbrev pub outcome_status : Outcome → ℕ
+outcome_status Fine = 0
+outcome_status Unlike = 1
+outcome_status (Checked verdict) = check_status verdict
+
+-- the statuses that there are
+abbrev pub IsStatus : ℕ → Type 0
+IsStatus status = (status ≤ 3) ⊎ (status ≡ 63)
+
 -- the disks of two images are alike or not, by how the first is opened, the format that was said of
 -- the second, and whether they have to have the same size
 abbrev pub AreToldApart :
-    Opening → Option ImageFormat → Bool → (List ℕ → List ℕ) → List ℕ → List ℕ → Outcome → Type 0
-AreToldApart how other same_size files first second Fine =
+    Opening → Option ImageFormat → Bool → (List ℕ → List ℕ) → List ℕ → List ℕ → Bool → Type 0
+AreToldApart how other same_size files first second true =
     AreAlike how.accepted how.other_files how.format other same_size files first second
-AreToldApart how other same_size files first second Unlike =
+AreToldApart how other same_size files first second false =
     AreUnlike how.accepted how.other_files how.format other same_size files first second
-
--- The file of an image has no fault that a check looks for. What it says where it finds one isn't
--- told here.
-abbrev pub IsChecked : Opening → (List ℕ → List ℕ) → List ℕ → Outcome → Type 0
-IsChecked how files path Fine =
-    IsFaultless how.accepted how.other_files how.format files path
-IsChecked how files path Unlike = Unit {0}
 
 -- what the answer to a question says of files, where it is told what they have
 abbrev pub IsAnswered : Question → Option (List ℕ → List ℕ) → Outcome → Type 0
@@ -45,27 +55,29 @@ IsAnswered (Q.Help kind) contents outcome = outcome ≡ Fine
 IsAnswered Q.Version contents outcome = outcome ≡ Fine
 IsAnswered (Q.Info c) contents outcome = outcome ≡ Fine
 IsAnswered (Q.Map c) contents outcome = outcome ≡ Fine
-IsAnswered (Q.Check c) contents outcome = IfSome contents
-    (λ files. IsChecked (how_by c.format c.opening) files c.file.now outcome)
-IsAnswered (Q.Compare c) contents outcome = IfSome contents
+IsAnswered (Q.Check c) contents outcome =
+    (verdict : Option Verdict) × (outcome ≡ Checked verdict) × IfSome contents
+    (λ files. IsChecked (how_by c.format c.opening) files c.file.now verdict)
+IsAnswered (Q.Compare c) contents outcome =
+    (alike : Bool) × (outcome ≡ outcome_when alike) × IfSome contents
     (λ files. AreToldApart (how_by c.first_format c.opening)
-    (option_map image_format c.second_format) c.same_size files c.first.now c.second.now outcome)
+    (option_map image_format c.second_format) c.same_size files c.first.now c.second.now alike)
 
--- The status where a question isn't answered: for help and the version that of a refused line, for
--- a question that has two answers neither of theirs.
+-- The status where a question isn't answered: for help and the version that of a refused line, and
+-- else one that no answer has.
 abbrev pub untold : ℕ → Question → ℕ
 untold refused (Q.Help kind) = refused
 untold refused Q.Version = refused
 untold refused (Q.Info c) = 1
 untold refused (Q.Map c) = 1
-untold refused (Q.Check c) = 2
+untold refused (Q.Check c) = 1
 untold refused (Q.Compare c) = 2
 
--- The status says what was answered: 0 that it is fine, and 1 that it isn't; or nothing was.
+-- the status says what was answered, or that nothing was
 abbrev pub IsConcluded : ℕ → Question → Option (List ℕ → List ℕ) → ℕ → Type 0
 IsConcluded refused question contents status =
-    ((status ≡ 0) × IsAnswered question contents Fine)
-    ⊎ (((status ≡ 1) × IsAnswered question contents Unlike) ⊎ (status ≡ untold refused question))
+    ((outcome : Outcome) × (status ≡ outcome_status outcome) × IsAnswered question contents outcome)
+    ⊎ (status ≡ untold refused question)
 
 -- the same, and the files of a host are as they were
 abbrev pub IsAsked :

@@ -2,8 +2,7 @@
 pub mod Files
 pub mod Disks
 pub mod Lines
-pub mod Faultless
+pub mod Checked
 pub mod Extents
-pub mod ClusterRuns
 pub mod Openings
 pub mod Commands

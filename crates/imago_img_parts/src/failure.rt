@@ -5,6 +5,7 @@ ghost use Rattle.std.specs.Prelude.{◌≡◌, MatchResult, IsErr};
 pub use imago_images::failure::{OpenError, Reason};
 use imago_images::signature::Signature;
 use imago_inflate::fault::InflateError;
+use imago_qcow2_check::fault::CheckError;
 use imago_storage::error;
 use std::alloc::{AllocError, AllocFailed, Global};
 use std::io;
@@ -33,6 +34,14 @@ pub enum Failure {
         /// Why.
         refusal: Refusal,
     },
+    /// A file can't be checked. What can be done about it, if anything, ends the line.
+    #[error("{path:?} can't be checked: {cause}{advice}", advice = advice_on_check(.cause))]
+    NotChecked {
+        /// The file, as the program was given it.
+        path: String,
+        /// Why.
+        cause: Unchecked,
+    },
     /// A compressed cluster of an image can't be read.
     #[error("{path:?}: the cluster at {offset} of the disk {fault}")]
     Compressed {
@@ -49,6 +58,20 @@ pub enum Failure {
     /// Memory was refused.
     #[error("out of memory")]
     Memory,
+}
+
+/// Why a file can't be checked.
+#[derive(Clone, Copy, Debug, Error)]
+pub enum Unchecked {
+    /// A qcow2 file.
+    #[error("{0}")]
+    Qcow2(CheckError),
+    /// A descriptor with lines that aren't supported.
+    #[error("not all of its lines are supported")]
+    Lines,
+    /// A descriptor of another version, or a file that begins as a sparse image.
+    #[error("no line says one of the versions 1 to 3, or the file begins as a sparse image")]
+    Version,
 }
 
 /// Why a file isn't made, or written over.
@@ -116,6 +139,14 @@ fn advice_on_needed(cause: &OpenError) -> &'static str {
             ..
         } => "",
         cause => advice_on(cause),
+    }
+}
+
+/// What to do about a file that can't be checked.
+fn advice_on_check(cause: &Unchecked) -> &'static str {
+    match cause {
+        Unchecked::Qcow2(CheckError::TooLarge) => "; --tables raises it",
+        _ => "",
     }
 }
 
@@ -229,6 +260,14 @@ impl Failure {
                 offset,
                 fault,
             },
+            Err(_) => Failure::Memory,
+        }
+    }
+
+    /// That file can't be checked, for that reason.
+    pub fn of_check(alloc: Global, path: &str, cause: Unchecked) -> Failure {
+        match String::from_str(alloc, path) {
+            Ok(path) => Failure::NotChecked { path, cause },
             Err(_) => Failure::Memory,
         }
     }

@@ -49,6 +49,10 @@ pub trait Host: Files {
         ensures zero { IfSome (Self.contents self.now) (λ files. result.1 ≡ false
             → bytes_at (files path.now) «offset» result.0 ≡ replicate result.0 0) };
 
+    /// How many bytes of its file system a file takes, which are fewer than its length where it has
+    /// holes, if that can be told.
+    fn size_on_disk(&self, path: &str) -> Option<u64>;
+
     /// Shows how many bytes of a copy are done, of how many, and how many hundredths that is.
     fn show_progress(&self, done: u64, total: u64, hundredths: u64);
 

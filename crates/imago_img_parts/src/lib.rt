@@ -7,6 +7,8 @@
 #![tactic(auto)]
 
 mod check;
+mod check_qcow2;
+mod check_vmdk;
 mod clusters;
 pub mod commands;
 mod compare;

@@ -1,13 +1,16 @@
 // SPDX-License-Identifier: MIT
 //! The program, over any host.
 ghost use Rattle.std.specs.Prelude.{◌≡◌, ◌≤◌, ◌&&◌, OnOk, OnErr, IfOk, IfSome, is_some, map};
-ghost use Rattle.std.specs.Prelude.{not, option_map};
+ghost use Rattle.std.specs.Prelude.{not, option_map, Bool, Option};
 ghost use Rattle.std.specs.Prelude.{string_bytes};
 ghost use Rattle.imago_words.specs.Line.{kind_named, status_for, status_of};
-ghost use Rattle.imago_img_parts.specs.declared.run.Outcome.TheVariants.{Fine};
-ghost use Rattle.imago_img_parts.specs.Commands.{AreToldApart, IsAnswered, IsChecked};
-ghost use Rattle.imago_img_parts.specs.Commands.{IsConcluded, IsConvertedBy, IsPerformed, IsRun};
-ghost use Rattle.imago_img_parts.specs.Commands.{outcome_when, refused_status, untold};
+ghost use Rattle.imago_img_parts.specs.declared.run.Outcome.TheVariants.{Fine, Checked};
+ghost use Rattle.imago_qcow2_check.specs.declared.fault.Verdict.{Verdict};
+ghost use Rattle.imago_img_parts.specs.Checked.{IsChecked};
+ghost use Rattle.imago_img_parts.specs.Commands.{AreToldApart, IsAnswered, IsConcluded};
+ghost use Rattle.imago_img_parts.specs.Commands.{IsConvertedBy, IsPerformed, IsRun, IsStatus};
+ghost use Rattle.imago_img_parts.specs.Commands.{outcome_status, outcome_when, refused_status};
+ghost use Rattle.imago_img_parts.specs.Commands.{check_status, untold};
 ghost use Rattle.imago_img_parts.specs.Disks.{is_left_out};
 ghost use Rattle.imago_img_parts.specs.Openings.{how_by, image_format};
 
@@ -20,19 +23,39 @@ use crate::info::info;
 use crate::map::map_image;
 use crate::opening::{how_to_open, said_format};
 use crate::question::Question;
+use imago_qcow2_check::fault::Verdict;
 use imago_words::command::{Check, Command, Compare, Convert, Info, Map, Output};
 use imago_words::help::{Help, VERSION};
 use imago_words::kind::Kind;
 use imago_words::refusal::Refusal;
 use std::io::{self, BufWriter, Write};
 
+/// The exit status where the format of a file has nothing to check.
+const NOTHING_TO_CHECK: u8 = 63;
+
 /// What a question comes to.
 #[derive(Clone, Copy)]
 enum Outcome {
-    /// Done, the same, in order.
+    /// Done, or the same.
     Fine,
-    /// Different, or faulty.
+    /// Different.
     Unlike,
+    /// What is said of a file that was checked, if its format has something to check.
+    Checked(Option<Verdict>),
+}
+
+impl Outcome {
+    /// The exit status for it.
+    fn status(self) -> u8
+        ensures { result ≡ outcome_status self }
+    {
+        match self {
+            Outcome::Fine => 0,
+            Outcome::Unlike => 1,
+            Outcome::Checked(Some(verdict)) => verdict.status(),
+            Outcome::Checked(None) => NOTHING_TO_CHECK,
+        }
+    }
 }
 
 /// Does what the words of a command line ask for, which don't include the program's name, and gives
@@ -43,7 +66,7 @@ pub fn run<H: Host, W: Write, E: Write>(
     output: &mut W,
     errors: &mut E,
 ) -> u8
-    ensures most { result ≤ 2 }
+    ensures status { IsStatus result }
     ensures done { IsRun (map string_bytes words.now) (H.contents host.old) (H.contents host.new)
         (H.around host.old) (H.around host.new) result }
 {
@@ -100,7 +123,7 @@ pub fn perform<H: Host, W: Write, E: Write>(
     output: &mut W,
     errors: &mut E,
 ) -> u8
-    ensures most { refused ≤ 2 → result ≤ 2 }
+    ensures status { refused ≤ 2 → IsStatus result }
     ensures performed { IsPerformed refused command.entry (H.contents host.old)
         (H.contents host.new) (H.around host.old) (H.around host.new) result }
 {
@@ -196,12 +219,11 @@ fn ask<H: Host, W: Write, E: Write>(
     output: &mut W,
     errors: &mut E,
 ) -> u8
-    ensures most { refused ≤ 2 → result ≤ 2 }
+    ensures status { refused ≤ 2 → IsStatus result }
     ensures concluded { IsConcluded refused question.entry (H.contents host.now) result }
 {
     match buffered(host, question, output, errors) {
-        Ok(Outcome::Fine) => 0,
-        Ok(Outcome::Unlike) => 1,
+        Ok(outcome) => outcome.status(),
         Err(failure) => tell(failure, errors, untold(refused, question)),
     }
 }
@@ -213,8 +235,8 @@ fn untold(refused: u8, question: Question<'_>) -> u8
 {
     match question {
         Question::Help(_) | Question::Version => refused,
-        Question::Info(_) | Question::Map(_) => 1,
-        Question::Check(_) | Question::Compare(_) => 2,
+        Question::Info(_) | Question::Map(_) | Question::Check(_) => 1,
+        Question::Compare(_) => 2,
     }
 }
 
@@ -250,7 +272,7 @@ fn answer<H: Host, W: Write, E: Write>(
         Question::Version => printed(writeln!(output, "imago-img {VERSION}")),
         Question::Info(asked) => describe(host, asked, output, errors),
         Question::Map(asked) => list(host, asked, output),
-        Question::Check(asked) => look_for_faults(host, asked, output),
+        Question::Check(asked) => look_for_faults(host, asked, output, errors),
         Question::Compare(asked) => compare(host, asked, output),
     }
 }
@@ -306,19 +328,22 @@ fn outcome_of(is_fine: bool) -> Outcome
     }
 }
 
-/// Tells whether an image is in order.
-fn look_for_faults<H: Host, W: Write>(
+/// Tells whether an image's file is in order.
+fn look_for_faults<H: Host, W: Write, E: Write>(
     host: &H,
     asked: Check<'_>,
     output: &mut W,
+    errors: &mut E,
 ) -> Result<Outcome, Failure>
-    ensures { IfOk result (λ outcome. IfSome (H.contents host.now) (λ files.
+    ensures { IfOk result (λ outcome. (verdict : Option Verdict) × (outcome ≡ Checked verdict)
+        × IfSome (H.contents host.now) (λ files.
         IsChecked (how_by asked.entry.format asked.entry.opening) files asked.entry.file.now
-        outcome)) }
+        verdict)) }
 {
     let how = how_to_open(asked.format, asked.opening);
-    let is_fine = check(host, asked.file, how, output)?;
-    Ok(outcome_of(is_fine))
+    let json = asked.output == Output::Json;
+    let verdict = check(host, asked.file, how, json, output, errors)?;
+    Ok(Outcome::Checked(verdict))
 }
 
 /// Tells whether two images show the same.
@@ -327,10 +352,11 @@ fn compare<H: Host, W: Write>(
     asked: Compare<'_>,
     output: &mut W,
 ) -> Result<Outcome, Failure>
-    ensures { IfOk result (λ outcome. IfSome (H.contents host.now) (λ files.
+    ensures { IfOk result (λ outcome. (alike : Bool) × (outcome ≡ outcome_when alike)
+        × IfSome (H.contents host.now) (λ files.
         AreToldApart (how_by asked.entry.first_format asked.entry.opening)
         (option_map image_format asked.entry.second_format) asked.entry.same_size files
-        asked.entry.first.now asked.entry.second.now outcome)) }
+        asked.entry.first.now asked.entry.second.now alike)) }
 {
     let how = how_to_open(asked.first_format, asked.opening);
     let other = said_format(asked.second_format);

@@ -15,6 +15,9 @@ use std::os::unix::fs::{
     FileExt, FileTypeExt, MetadataExt, OpenOptionsExt, PermissionsExt, fchown,
 };
 
+/// How many bytes the blocks have in which a file's status tells what it takes.
+const BLOCK_OF_STATUS: u64 = 512;
+
 /// The least run of zeroes that stays a hole, in bytes.
 const BLOCK: usize = 4096;
 
@@ -350,6 +353,14 @@ impl<'a> Host for System<'a> {
         let run = run_in(open.length(), offset, most);
         self.keep(open);
         run
+    }
+
+    fn size_on_disk(&self, path: &str) -> Option<u64> {
+        let metadata = fs::metadata(self.runtime, path).ok()?;
+        if kind_of(&metadata) != FileKind::Regular {
+            return None;
+        }
+        metadata.blocks().checked_mul(BLOCK_OF_STATUS)
     }
 
     // That something can't be shown is no failure of the copy.

@@ -344,6 +344,11 @@ impl Host for MemoryHost {
         (others_at(bytes, offset, most).max(1), true)
     }
 
+    fn size_on_disk(&self, path: &str) -> Option<u64> {
+        let file = self.file(path).ok()?;
+        Some(file.bytes.len() as u64)
+    }
+
     fn show_progress(&self, done: u64, _total: u64, _hundredths: u64) {
         self.shown.set(done);
     }

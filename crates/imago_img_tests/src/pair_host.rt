@@ -152,6 +152,10 @@ impl Host for PairHost {
         (most, true)
     }
 
+    fn size_on_disk(&self, _path: &str) -> Option<u64> {
+        None
+    }
+
     fn show_progress(&self, _done: u64, _total: u64, _hundredths: u64) {}
 
     fn end_progress(&self) {}

@@ -3,6 +3,7 @@
 
 mod below;
 mod chains;
+mod checks;
 mod commands;
 mod compressed;
 mod existing;

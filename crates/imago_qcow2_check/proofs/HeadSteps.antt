@@ -1,11 +1,14 @@
 -- What the header says.
 -- SPDX-License-Identifier: MIT
-use Rattle.std.proofs.Common.{◌≡◌, ℕ, ◌*◌, ◌^◌, ◌<◌, ◌≤◌, List, length, refl, ap, ◌∙◌, arith}
+use Rattle.std.proofs.Common.{◌≡◌, ℕ, ◌*◌, ◌^◌, ◌<◌, ◌≤◌, List, length, refl, ap, ◌∙◌, subst, arith, Result}
+use Rattle.std.specs.Prelude.{IsOk}
 use Rattle.std.proofs.Math.Nat.{pow-le-pow_right}
 use Rattle.imago_storage.specs.Bytes.{IsReadAt}
-use Rattle.imago_qcow2.specs.Header.{IsClusterSize}
+use Rattle.imago_storage.specs.declared.error.Error.{Error}
+use Rattle.imago_qcow2.specs.declared.header.Header.{Header}
+use Rattle.imago_qcow2.specs.Header.{IsClusterSize, header_of}
 use Rattle.imago_qcow2.specs.Numbers.{be32}
-use Rattle.imago_qcow2.proofs.HeaderSteps.{same32, same64, head_same}
+use Rattle.imago_qcow2.proofs.HeaderSteps.{same32, same64, head_same, header_same}
 use Rattle.imago_qcow2_check.specs.declared.head.Head.{Head}
 use Rattle.imago_qcow2_check.specs.HeadParts.{IsHead}
 use Rattle.imago_qcow2_check.specs.Counts.{count_order}
@@ -19,6 +22,13 @@ longest n (k, least, most, is) =
 order_same : (bytes head : List ℕ) → be32 head 4 ≡ be32 bytes 4 → be32 head 96 ≡ be32 bytes 96 → count_order head ≡ count_order bytes
 unfolding count_order
 order_same bytes head a b = rw (a, b) refl
+
+-- a header is accepted by its first bytes
+pub header_accepted : (bytes head : List ℕ) (file : ℕ) → IsReadAt bytes 0 head → 112 ≤ length head → file ≡ length bytes → IsOk (header_of head file) → IsOk (header_of bytes (length bytes))
+header_accepted bytes head file r len is ok =
+    let same = head_same bytes head r len in
+    let e : header_of head file ≡ header_of bytes (length bytes) = header_same bytes head same file ∙ ap (header_of bytes) is in
+    subst (λ (x : Result Header Error). IsOk x) e ok
 
 -- what the first bytes say, the file does
 pub head_moved : (bytes head : List ℕ) (h : Head) → IsReadAt bytes 0 head → 112 ≤ length head → IsHead head h → IsHead bytes h

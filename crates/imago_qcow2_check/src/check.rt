@@ -1,9 +1,9 @@
 // SPDX-License-Identifier: MIT
 //! The check of a file.
 ghost use Rattle.std.specs.Prelude.{◌≡◌, ℕ, List, ◌+◌, ◌*◌, ◌/◌, ◌^◌, ◌<◌, ◌≤◌, length};
-ghost use Rattle.std.specs.Prelude.{slice_index, min, OnOk, IfOk, IsTrue};
+ghost use Rattle.std.specs.Prelude.{slice_index, min, OnOk, IfOk, IsOk, IsTrue};
 ghost use Rattle.imago_storage.specs.Bytes.{IsReadAt};
-ghost use Rattle.imago_qcow2.specs.Header.{IsClusterSize};
+ghost use Rattle.imago_qcow2.specs.Header.{IsClusterSize, header_of};
 ghost use Rattle.imago_qcow2_check.specs.Tallies.{setting_of, Adds};
 ghost use Rattle.imago_qcow2_check.specs.HeadParts.{IsHead};
 ghost use Rattle.imago_qcow2_check.specs.CountParts.{count_from};
@@ -130,6 +130,8 @@ fn count<S: Storage>(storage: &S, alloc: Global, limits: Limits) -> Result<Repor
         → IfOk result (λ r. r.corruptions ≡ corruptions_of (S.bytes storage.now)) }
     ensures leaks { IsTrue (S.features storage.now).tells_bytes
         → IfOk result (λ r. r.leaks ≡ leaks_of (S.bytes storage.now)) }
+    ensures header { IsTrue (S.features storage.now).tells_bytes → OnOk result
+        (IsOk (header_of (S.bytes storage.now) (length (S.bytes storage.now)))) }
     ensures known { IsTrue (S.features storage.now).tells_bytes
         → OnOk result (IsKnown (S.bytes storage.now)) }
     ensures within { IsTrue (S.features storage.now).tells_bytes → OnOk result
@@ -163,6 +165,8 @@ pub fn check<S: Storage>(storage: &S, alloc: Global, limits: Limits) -> Result<R
         → IfOk result (λ r. r.leaks ≡ leaks_of (S.bytes storage.now)) }
     ensures verdict { IsTrue (S.features storage.now).tells_bytes → IfOk result
         (λ r. IsVerdict (S.bytes storage.now) (verdict_of r.corruptions r.leaks)) }
+    ensures header { IsTrue (S.features storage.now).tells_bytes → OnOk result
+        (IsOk (header_of (S.bytes storage.now) (length (S.bytes storage.now)))) }
     ensures known { IsTrue (S.features storage.now).tells_bytes
         → OnOk result (IsKnown (S.bytes storage.now)) }
     ensures within { IsTrue (S.features storage.now).tells_bytes → OnOk result

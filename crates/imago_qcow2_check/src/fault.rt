@@ -6,6 +6,7 @@ ghost use Rattle.imago_qcow2_check.specs.Verdicts.{status_of};
 use imago_qcow2::fault::HeaderFault;
 use imago_storage::error;
 use std::alloc::{AllocError, AllocFailed};
+use std::fmt::{self, Display};
 use thiserror::Error;
 
 /// A part of a file whose entries name other parts.
@@ -79,6 +80,92 @@ pub enum Fault {
         /// How often it is used.
         uses: u32,
     },
+}
+
+impl Display for Table {
+    fn fmt<W: fmt::Write>(&self, f: &mut fmt::Formatter<W>) -> fmt::Result {
+        f.write_str(match self {
+            Table::L1 => "an L1 table",
+            Table::L2 => "an L2 table",
+            Table::Snapshots => "the snapshot table",
+            Table::CountBlocks => "the refcount table",
+            Table::Header => "the header",
+        })
+    }
+}
+
+/// How often a cluster is used, in words.
+#[derive(Clone, Copy)]
+struct Uses(u32);
+
+impl Display for Uses {
+    fn fmt<W: fmt::Write>(&self, f: &mut fmt::Formatter<W>) -> fmt::Result {
+        match self.0 {
+            0 => f.write_str("isn't used"),
+            1 => f.write_str("is used once"),
+            2 => f.write_str("is used twice"),
+            count => write!(f, "is used {count} times"),
+        }
+    }
+}
+
+/// A fault is told without a full stop, and its offsets are in bytes of the file.
+impl Display for Fault {
+    fn fmt<W: fmt::Write>(&self, f: &mut fmt::Formatter<W>) -> fmt::Result {
+        match *self {
+            Fault::InvalidEntry { table, at } => {
+                write!(f, "the entry of {table} at {at} is invalid")
+            }
+            Fault::PastEnd {
+                table,
+                at,
+                start,
+                length,
+            } => fmt_past_end(f, table, at, start, length),
+            Fault::CopiedBit { table, at } => write!(
+                f,
+                "the copied bit of the entry of {table} at {at} disagrees with the refcount"
+            ),
+            Fault::SharedBlock { at, start } => write!(
+                f,
+                "the refcount block at {start}, which the refcount table names at {at}, is used \
+                more than once"
+            ),
+            Fault::Overused { at, count, uses } => {
+                let uses = Uses(uses);
+                write!(f, "the cluster at {at} {uses}, and its refcount is only {count}")
+            }
+            Fault::Leaked { at, count, uses } => {
+                let uses = Uses(uses);
+                write!(f, "the cluster at {at} {uses}, and its refcount is {count}: a leak")
+            }
+        }
+    }
+}
+
+/// Tells that what an entry names passes the end of the file. Of an L1 table its own place is told.
+fn fmt_past_end<W: fmt::Write>(
+    f: &mut fmt::Formatter<W>,
+    table: Table,
+    at: u64,
+    start: u64,
+    length: u64,
+) -> fmt::Result {
+    match table {
+        Table::L1 => write!(
+            f,
+            "the L1 table of {length} bytes at {start} passes the file's end"
+        ),
+        Table::Header => write!(
+            f,
+            "the header names at {at} a table of {length} bytes at {start}, which passes the file's \
+            end"
+        ),
+        _ => write!(
+            f,
+            "the entry of {table} at {at} names {length} bytes at {start}, which pass the file's end"
+        ),
+    }
 }
 
 /// What is said of a file that was checked.

@@ -1,8 +1,8 @@
 // SPDX-License-Identifier: MIT
 //! What the header of a file says of the parts that use clusters.
 ghost use Rattle.std.specs.Prelude.{◌≡◌, ℕ, List, ◌+◌, ◌*◌, ◌/◌, ◌%◌, ◌^◌, ◌<◌, ◌≤◌, length, IfOk};
-ghost use Rattle.std.specs.Prelude.{OnOk, IsTrue};
-ghost use Rattle.imago_qcow2.specs.Header.{IsClusterSize, own_length, features_at};
+ghost use Rattle.std.specs.Prelude.{OnOk, IsOk, IsTrue};
+ghost use Rattle.imago_qcow2.specs.Header.{IsClusterSize, header_of, own_length, features_at};
 ghost use Rattle.std.specs.Prelude.{true};
 ghost use Rattle.imago_qcow2.specs.Numbers.{be32};
 ghost use Rattle.imago_qcow2.specs.Entry.{cluster_length};
@@ -114,6 +114,7 @@ fn order_of(head: &[u8]) -> u32
 /// What the first bytes of a file of that length say.
 fn head_by(head: &[u8], file: u64) -> Result<Head, CheckError>
     requires { 112 ≤ length head.now }
+    ensures header { OnOk result (IsOk (header_of head.now file)) }
     ensures says { IfOk result (IsHead head.now) }
     ensures file { IfOk result (λ h. h.file ≡ file) }
     ensures size { IfOk result (λ h. IsClusterSize h.cluster) }
@@ -219,6 +220,8 @@ fn check_known<S: Storage>(
 /// Reads the header of a file. Refused are a header that has a fault, tables that are too long, and
 /// an image with something that may use clusters and isn't known.
 pub(crate) fn read_head<S: Storage>(storage: &S, alloc: Global) -> Result<Head, CheckError>
+    ensures header { IsTrue (S.features storage.now).tells_bytes → OnOk result
+        (IsOk (header_of (S.bytes storage.now) (length (S.bytes storage.now)))) }
     ensures says { IsTrue (S.features storage.now).tells_bytes
         → IfOk result (IsHead (S.bytes storage.now)) }
     ensures known { IsTrue (S.features storage.now).tells_bytes

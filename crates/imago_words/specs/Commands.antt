@@ -54,10 +54,6 @@ abbrev pub output_is_meant : State → Bool
 output_is_meant s =
     passes (λ value. is_some (output_named value)) (value_given (codes "output") s)
 
--- a command that prints nothing for programs yet
-abbrev pub human_is_meant : State → Bool
-human_is_meant s = passes (λ value. bytes_eq value (codes "human")) (value_given (codes "output") s)
-
 -- `convert` writes raw images
 abbrev pub target_is_meant : State → Bool
 target_is_meant s =
@@ -96,6 +92,7 @@ pub record IsMap (s : State) (m : Map) : Type 0 where
 pub record IsCheck (s : State) (c : Check) : Type 0 where
   pub files : s.files ≡ c.file.now ∷ []
   pub format : c.format ≡ format_given (codes "format") s
+  pub output : c.output ≡ output_given s
   pub opening : IsOpening s c.opening
 
 pub record IsCompare (s : State) (c : Compare) : Type 0 where
@@ -126,10 +123,6 @@ are_files count s = length s.files == count
 abbrev pub info_is_meant : State → Bool
 info_is_meant s = are_files 1 s && (format_is_meant (codes "format") s
     && (output_is_meant s && size_is_meant (codes "tables") s))
-
-abbrev pub check_is_meant : State → Bool
-check_is_meant s = are_files 1 s && (format_is_meant (codes "format") s
-    && (human_is_meant s && size_is_meant (codes "tables") s))
 
 abbrev pub compare_is_meant : State → Bool
 compare_is_meant s = are_files 2 s && (format_is_meant (codes "format") s

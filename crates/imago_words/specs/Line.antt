@@ -9,8 +9,7 @@ use Rattle.imago_words.specs.declared.kind.Kind.{Kind}
 use Rattle.imago_words.specs.declared.kind.Kind.TheVariants.{Info, Map, Check, Compare, Convert}
 use Rattle.imago_words.specs.declared.refusal.Refusal.{Refusal}
 use Rattle.imago_words.specs.Commands.{IsCheck, IsCompare, IsConvert, IsInfo, IsMap}
-use Rattle.imago_words.specs.Commands.{info_is_meant, check_is_meant, compare_is_meant}
-use Rattle.imago_words.specs.Commands.{convert_is_meant}
+use Rattle.imago_words.specs.Commands.{info_is_meant, compare_is_meant, convert_is_meant}
 use Rattle.imago_words.specs.Options.{options_of}
 use Rattle.imago_words.specs.Reading.{State, Text, read_of, was_given}
 
@@ -49,7 +48,7 @@ IsBehind kind s c = MatchOption (answer_given kind s) (IsOf kind s c) (λ answer
 abbrev pub of_is_meant : Kind → State → Bool
 of_is_meant Info s = info_is_meant s
 of_is_meant Map s = info_is_meant s
-of_is_meant Check s = check_is_meant s
+of_is_meant Check s = info_is_meant s
 of_is_meant Compare s = compare_is_meant s
 of_is_meant Convert s = convert_is_meant s
 

@@ -44,6 +44,7 @@ abbrev pub check_options : List Known
 check_options =
     valued (codes "format") (codes "f") (codes "format")
     ∷ valued (codes "output") [] (codes "output")
+    ∷ flag (codes "json") [] (codes "json")
     ∷ flag (codes "force-share") (codes "U") (codes "force-share")
     ∷ valued (codes "source-cache") (codes "T") []
     ∷ valued (codes "tables") [] (codes "tables")

@@ -7,9 +7,9 @@ ghost use Rattle.imago_words.specs.Commands.{IsCheck, IsCompare, IsConvert, IsIn
 ghost use Rattle.imago_words.specs.Commands.{IsOpening};
 ghost use Rattle.imago_words.specs.Commands.{format_given, output_given, size_given};
 ghost use Rattle.imago_words.specs.Commands.{format_is_meant, size_is_meant};
-ghost use Rattle.imago_words.specs.Commands.{output_is_meant, human_is_meant, target_is_meant};
-ghost use Rattle.imago_words.specs.Commands.{info_is_meant, check_is_meant, compare_is_meant};
-ghost use Rattle.imago_words.specs.Commands.{convert_is_meant, leaves_holes, sparse_is_meant};
+ghost use Rattle.imago_words.specs.Commands.{output_is_meant, target_is_meant};
+ghost use Rattle.imago_words.specs.Commands.{info_is_meant, compare_is_meant, convert_is_meant};
+ghost use Rattle.imago_words.specs.Commands.{leaves_holes, sparse_is_meant};
 
 use crate::command::{Check, Compare, Convert, Info, Map, Opening, Output};
 use crate::fault::Fault;
@@ -46,14 +46,12 @@ pub fn map_of<'a>(words: &Words<'a>) -> Result<Map<'a>, Fault<'a>>
 /// What words ask of `check`.
 pub fn check_of<'a>(words: &Words<'a>) -> Result<Check<'a>, Fault<'a>>
     ensures ok { IfOk result (λ check. IsCheck (state_of words.now) check) }
-    ensures exact { is_ok result ≡ check_is_meant (state_of words.now) }
+    ensures exact { is_ok result ≡ info_is_meant (state_of words.now) }
 {
-    let file = words.one_file()?;
-    let format = format(words, "format")?;
-    human(words)?;
     Ok(Check {
-        file,
-        format,
+        file: words.one_file()?,
+        format: format(words, "format")?,
+        output: output(words)?,
         opening: opening(words)?,
     })
 }
@@ -164,16 +162,6 @@ fn output<'a>(words: &Words<'a>) -> Result<Output, Fault<'a>>
         Ok(Output::Json)
     } else {
         Ok(given)
-    }
-}
-
-/// Refuses to print for programs.
-fn human<'a>(words: &Words<'a>) -> Result<(), Fault<'a>>
-    ensures exact { is_ok result ≡ human_is_meant (state_of words.now) }
-{
-    match words.last("output") {
-        Some(given) if given.value != "human" => Err(Fault::Value(given.row, given.value)),
-        _ => Ok(()),
     }
 }
 

@@ -92,6 +92,8 @@ pub struct Check<'a> {
     pub file: &'a str,
     /// The format of the image, if it was said.
     pub format: Option<Format>,
+    /// How it is printed.
+    pub output: Output,
     /// What holds of each image.
     pub opening: Opening,
 }

@@ -170,7 +170,8 @@ pub static TABLE: Table = Table {
         files: "FILE",
         rows: &[
             FORMAT,
-            valued!("output", "", "output", "OFMT", "human", "What is printed"),
+            OUTPUT,
+            JSON,
             SHARE,
             SOURCE_CACHE,
             TABLES,

@@ -120,10 +120,11 @@ static CASES: [Case; 13] = [
         words: "check disk.vmdk",
         appends: 0,
         finishes: true,
-        status: 1,
+        status: 2,
         output: "\"a.bin\": 6 bytes, and its extent ends at 512: what lacks reads as 0\n\
             \"parts/b.bin\": 515 bytes, and its extent ends at 1024: what lacks reads as 0\n\
-            2 faults were found.\n",
+            \n2 errors were found on the image.\n\
+            Data may be corrupted, or further writes to the image may corrupt it.\n",
         errors: "",
         written: None,
     },

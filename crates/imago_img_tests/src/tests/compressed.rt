@@ -183,7 +183,7 @@ static PARTS: [PartsRow; 10] = [
 ];
 
 /// Compressed clusters that are read, and told of.
-static READ: [Row; 9] = [
+static READ: [Row; 6] = [
     (
         "info packed.qcow2",
         0,
@@ -230,21 +230,10 @@ static READ: [Row; 9] = [
         "Content mismatch at offset 512!\n",
         "",
     ),
-    ("check packed.qcow2", 0, "No faults were found.\n", ""),
     (
         "compare hides.qcow2 over.qcow2",
         0,
         "Images are identical.\n",
-        "",
-    ),
-    // What streams hold isn't looked at.
-    ("check torn.qcow2", 0, "No faults were found.\n", ""),
-    (
-        "check behind.qcow2",
-        1,
-        "\"behind.qcow2\": the compressed data of 512 to 1024 of the disk passes the file's end\n\
-        \"behind.qcow2\": the compressed data of 1024 to 1536 of the disk passes the file's end\n\
-        2 faults were found.\n",
         "",
     ),
 ];
@@ -302,7 +291,7 @@ static FAULTY: [Row; 6] = [
 ];
 
 /// Clusters that zstd compressed are told of, and aren't read.
-static ZSTD: [Row; 7] = [
+static ZSTD: [Row; 6] = [
     (
         "info zstd.qcow2",
         0,
@@ -329,7 +318,6 @@ static ZSTD: [Row; 7] = [
         1024                 1024                 absent\n",
         "",
     ),
-    ("check zstd.qcow2", 0, "No faults were found.\n", ""),
     (
         "convert zstd.qcow2 out.raw",
         1,

@@ -1,6 +1,6 @@
 // SPDX-License-Identifier: MIT
-//! What headers of qcow2 files say, and what `check` tells of files that aren't supported or can't
-//! be meant, and `info` as an error.
+//! What headers of qcow2 files say, and what is told of files that aren't supported or can't be
+//! meant.
 
 use super::set_up::{VERSION_3, check_line, expected};
 use crate::memory_host::{MemoryHost, Nature};
@@ -11,8 +11,8 @@ use std::process::Abort;
 /// Parts of a file, from the lowest offset on.
 type Parts = &'static [(usize, &'static [u8])];
 
-/// What is changed in a file that is in order, what `check` prints of it, and what `info` tells.
-type Row = (Parts, &'static str, &'static str);
+/// What is changed in a file that is in order, and the fault of its header.
+type Row = (Parts, &'static str);
 
 /// A header of version 3: clusters of 512 bytes, a disk of 2048, the L1 table at 512.
 const HEADER: Parts = &[
@@ -24,124 +24,34 @@ const HEADER: Parts = &[
     (99, b"\x04\0\0\0\x68"),
 ];
 
-/// The L1 table's entry for the L2 table at 1024, whose clusters 0, 1 and 3 are compressed.
-const COMPRESSED: Parts = &[
-    (518, b"\x04"),
-    (1024, b"\x40\0\0\0\0\0\x06\0\x40\0\0\0\0\0\x07"),
-    (1046, b"\x06\0\x40\0\0\0\0\0\x07\x80"),
-];
-
 /// Headers that are refused.
 static ROWS: [Row; 19] = [
     // What isn't supported.
-    (
-        &[(79, b"\x02")],
-        "\"a\": the header says corrupt, which isn't supported\n1 fault was found.\n",
-        "imago-img: \"a\": the header says corrupt, which isn't supported\n",
-    ),
-    (
-        &[(79, b"\x04")],
-        "\"a\": the header says external data file, which isn't supported\n1 fault was found.\n",
-        "imago-img: \"a\": the header says external data file, which isn't supported\n",
-    ),
-    (
-        &[(79, b"\x10")],
-        "\"a\": the header says extended L2 entries, which isn't supported\n1 fault was found.\n",
-        "imago-img: \"a\": the header says extended L2 entries, which isn't supported\n",
-    ),
-    (
-        &[(72, b"\x80")],
-        "\"a\": the header says unknown bit 63, which isn't supported\n1 fault was found.\n",
-        "imago-img: \"a\": the header says unknown bit 63, which isn't supported\n",
-    ),
+    (&[(79, b"\x02")], "the header says corrupt, which isn't supported"),
+    (&[(79, b"\x04")], "the header says external data file, which isn't supported"),
+    (&[(79, b"\x10")], "the header says extended L2 entries, which isn't supported"),
+    (&[(72, b"\x80")], "the header says unknown bit 63, which isn't supported"),
     // Left open, corrupt, with extended L2 entries, and bit 9.
-    (
-        &[(78, b"\x02\x13")],
-        "\"a\": the header says corrupt, which isn't supported\n\
-        \"a\": the header says extended L2 entries, which isn't supported\n\
-        \"a\": the header says unknown bit 9, which isn't supported\n\
-        3 faults were found.\n",
-        "imago-img: \"a\": the header says corrupt, which isn't supported\n",
-    ),
-    (
-        &[(35, b"\x01")],
-        "\"a\": the header says encryption, which isn't supported\n1 fault was found.\n",
-        "imago-img: \"a\": the header says encryption, which isn't supported\n",
-    ),
-    (
-        &[(7, b"\x04")],
-        "\"a\": the header says version 4, which isn't supported\n1 fault was found.\n",
-        "imago-img: \"a\": the header says version 4, which isn't supported\n",
-    ),
-    (
-        &[(7, b"\x01")],
-        "\"a\": the header says version 1, which isn't supported\n1 fault was found.\n",
-        "imago-img: \"a\": the header says version 1, which isn't supported\n",
-    ),
+    (&[(78, b"\x02\x13")], "the header says corrupt, which isn't supported"),
+    (&[(35, b"\x01")], "the header says encryption, which isn't supported"),
+    (&[(7, b"\x04")], "the header says version 4, which isn't supported"),
+    (&[(7, b"\x01")], "the header says version 1, which isn't supported"),
     // What can't be meant.
-    (
-        &[(3, b"X")],
-        "\"a\": it isn't a qcow2 image, or ends within its header\n1 fault was found.\n",
-        "imago-img: \"a\": it isn't a qcow2 image, or ends within its header\n",
-    ),
-    (
-        &[(23, b"\x08")],
-        "\"a\": the header says clusters of 2^8 bytes, which can't be meant\n1 fault was found.\n",
-        "imago-img: \"a\": the header says clusters of 2^8 bytes, which can't be meant\n",
-    ),
-    (
-        &[(23, b"\x16")],
-        "\"a\": the header says clusters of 2^22 bytes, which can't be meant\n1 fault was found.\n",
-        "imago-img: \"a\": the header says clusters of 2^22 bytes, which can't be meant\n",
-    ),
-    (
-        &[(103, b"\x60")],
-        "\"a\": the header's own length can't be meant\n1 fault was found.\n",
-        "imago-img: \"a\": the header's own length can't be meant\n",
-    ),
-    (
-        &[(99, b"\x07")],
-        "\"a\": the header's width of reference counts can't be meant\n1 fault was found.\n",
-        "imago-img: \"a\": the header's width of reference counts can't be meant\n",
-    ),
-    (
-        &[(103, b"\x70\x01")],
-        "\"a\": the header's kind of compression can't be meant\n1 fault was found.\n",
-        "imago-img: \"a\": the header's kind of compression can't be meant\n",
-    ),
+    (&[(3, b"X")], "it isn't a qcow2 image, or ends within its header"),
+    (&[(23, b"\x08")], "the header says clusters of 2^8 bytes, which can't be meant"),
+    (&[(23, b"\x16")], "the header says clusters of 2^22 bytes, which can't be meant"),
+    (&[(103, b"\x60")], "the header's own length can't be meant"),
+    (&[(99, b"\x07")], "the header's width of reference counts can't be meant"),
+    (&[(103, b"\x70\x01")], "the header's kind of compression can't be meant"),
     (
         &[(79, b"\x08"), (103, b"\x70\x02")],
-        "\"a\": the header says compression type 2, which isn't supported\n1 fault was found.\n",
-        "imago-img: \"a\": the header says compression type 2, which isn't supported\n",
+        "the header says compression type 2, which isn't supported",
     ),
     // A name that begins behind the first cluster.
-    (
-        &[(14, b"\x02\x01")],
-        "\"a\": the header's name of a backing file passes its room\n1 fault was found.\n",
-        "imago-img: \"a\": the header's name of a backing file passes its room\n",
-    ),
-    (
-        &[(39, b"\0")],
-        "\"a\": the header says an L1 table that is too short for the disk\n1 fault was found.\n",
-        "imago-img: \"a\": the header says an L1 table that is too short for the disk\n",
-    ),
-    (
-        &[(46, b"\x02\x08")],
-        "\"a\": the header says an L1 table that doesn't begin at a cluster's start\n\
-        1 fault was found.\n",
-        "imago-img: \"a\": the header says an L1 table that doesn't begin at a cluster's start\n",
-    ),
-    (
-        &[(46, b"\x08")],
-        "\"a\": the header says an L1 table that passes the file's end\n1 fault was found.\n",
-        "imago-img: \"a\": the header says an L1 table that passes the file's end\n",
-    ),
-];
-
-/// Files that are in order, and what `check` says of them: left open, and with compressed clusters.
-static OPENED: [(Parts, u8, &str); 2] = [
-    (&[(79, b"\x01")], 0, "No faults were found.\n"),
-    (COMPRESSED, 0, "No faults were found.\n"),
+    (&[(14, b"\x02\x01")], "the header's name of a backing file passes its room"),
+    (&[(39, b"\0")], "the header says an L1 table that is too short for the disk"),
+    (&[(46, b"\x02\x08")], "the header says an L1 table that doesn't begin at a cluster's start"),
+    (&[(46, b"\x08")], "the header says an L1 table that passes the file's end"),
 ];
 
 /// What is changed in a header, the version, the lengths of the disk and of a cluster that it then
@@ -270,27 +180,37 @@ fn headers_tell_versions_sizes_and_features(rt: HostRuntime) {
     }
 }
 
-#[test]
-fn faults_of_headers_are_named(rt: HostRuntime) {
-    for (parts, output, errors) in &ROWS {
-        check_changed(&rt, rt.alloc(), parts, "check -f qcow2 a", (1, output, ""));
-        check_changed(&rt, rt.alloc(), parts, "info -f qcow2 a", (1, "", errors));
-        check_changed(&rt, rt.alloc(), parts, "map -f qcow2 a", (1, "", errors));
+/// Tries each command on a changed file, whose header has that fault.
+fn check_refused(rt: &impl Abort, alloc: Global, parts: Parts, fault: &str) {
+    let unchecked = format!(in alloc; "imago-img: \"a\" can't be checked: {fault}\n");
+    let refused = format!(in alloc; "imago-img: \"a\": {fault}\n");
+    assert!(rt; unchecked.is_ok() && refused.is_ok(), "{fault}");
+    if let (Ok(unchecked), Ok(refused)) = (&unchecked, &refused) {
+        check_changed(rt, alloc, parts, "check -f qcow2 a", (1, "", unchecked));
+        check_changed(rt, alloc, parts, "info -f qcow2 a", (1, "", refused));
+        check_changed(rt, alloc, parts, "map -f qcow2 a", (1, "", refused));
     }
 }
 
-/// Offsets whose byte can't be read, with a command line that then is refused, and its status: in
-/// the first bytes, the header, the L1 table, the L2 table, and the name of the file below.
-static TORN: [(u64, &str, u8); 9] = [
-    (0, "info a", 1),
-    (0, "check a", 2),
-    (100, "info a", 1),
-    (100, "check a", 2),
-    (512, "info a", 1),
-    (512, "check a", 2),
-    (1024, "info a", 1),
-    (1024, "check a", 2),
-    (400, "info a", 1),
+#[test]
+fn faults_of_headers_are_named(rt: HostRuntime) {
+    for (parts, fault) in &ROWS {
+        check_refused(&rt, rt.alloc(), parts, fault);
+    }
+}
+
+/// Offsets whose byte can't be read, with a command line that then is refused: in the first bytes,
+/// the header, the L1 table, the L2 table, and the name of the file below.
+static TORN: [(u64, &str); 9] = [
+    (0, "info a"),
+    (0, "check a"),
+    (100, "info a"),
+    (100, "check a"),
+    (512, "info a"),
+    (512, "check a"),
+    (1024, "info a"),
+    (1024, "check a"),
+    (400, "info a"),
 ];
 
 /// A name at 400 and an L2 table at 1024.
@@ -299,17 +219,10 @@ const NAMED: Parts = &[(14, b"\x01\x90\0\0\0\x01"), (400, b"b"), (518, b"\x04")]
 #[test]
 fn refused_reads_are_told_by_the_host(rt: HostRuntime) {
     let refused = "imago-img: \"a\": permission denied\n";
-    for (at, line, status) in &TORN {
+    for (at, line) in &TORN {
         let made = changed(rt.alloc(), NAMED, Nature::Torn(*at));
         assert!(rt; made.is_ok(), "{line}");
         let Ok(mut host) = made else { continue };
-        check_line(&rt, rt.alloc(), &mut host, line, (*status, "", refused));
-    }
-}
-
-#[test]
-fn dirty_and_compressed_images_are_in_order(rt: HostRuntime) {
-    for (parts, status, output) in &OPENED {
-        check_changed(&rt, rt.alloc(), parts, "check a", (*status, output, ""));
+        check_line(&rt, rt.alloc(), &mut host, line, (1, "", refused));
     }
 }

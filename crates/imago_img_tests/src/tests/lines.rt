@@ -80,7 +80,7 @@ static MEANT: [Row; 23] = [
     (
         "compare -f raw one.qcow2 one.qcow2",
         1,
-        "The sizes differ: 2560 and 2048 bytes; what lacks is taken as 0.\n\
+        "The sizes differ: 3584 and 2048 bytes; what lacks is taken as 0.\n\
          Content mismatch at offset 0!\n",
         "",
     ),
@@ -181,10 +181,10 @@ static REFUSED: [Row; 22] = [
          info --help\n",
     ),
     (
-        "check --json a.bin",
-        1,
+        "compare --json a.bin b.bin",
+        2,
         "",
-        "imago-img: check has no option \"--json\"; see imago-img check --help\n",
+        "imago-img: compare has no option \"--json\"; see imago-img compare --help\n",
     ),
     (
         "map --verbose a.bin",
@@ -212,10 +212,10 @@ static REFUSED: [Row; 22] = [
         "imago-img: -f takes raw, vmdk or qcow2, which is missing; see imago-img info --help\n",
     ),
     (
-        "check --output=json plain.raw",
+        "check --output=qcow2 plain.raw",
         1,
         "",
-        "imago-img: --output takes human, not \"json\"; see imago-img check --help\n",
+        "imago-img: --output takes human or json, not \"qcow2\"; see imago-img check --help\n",
     ),
     (
         "convert -O qcow2 plain.raw out.raw",

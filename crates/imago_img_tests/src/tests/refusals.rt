@@ -37,7 +37,7 @@ static ROWS: [Row; 28] = [
     ),
     (
         "check sparse.vmdk",
-        2,
+        1,
         "",
         "imago-img: \"sparse.vmdk\": a sparse VMDK image, which isn't supported; -f raw takes its \
          bytes as they are\n",
@@ -147,7 +147,12 @@ static ROWS: [Row; 28] = [
         "",
     ),
     ("compare --quiet other.raw longer.raw", 1, "", ""),
-    ("check plain.raw", 0, "No faults were found.\n", ""),
+    (
+        "check plain.raw",
+        63,
+        "",
+        "imago-img: \"plain.raw\": a raw file has nothing to check\n",
+    ),
     ("check /vm/disk.vmdk", 0, "No faults were found.\n", ""),
     (
         "info /vm/disk.vmdk",
@@ -158,24 +163,28 @@ static ROWS: [Row; 28] = [
     ),
     (
         "check --strict disk.vmdk",
-        1,
-        "\"disk.vmdk\", line 3: \"encoding=\\\"UTF-8\\\"\" can't be meant\n1 fault was found.\n",
+        2,
+        "\"disk.vmdk\", line 3: \"encoding=\\\"UTF-8\\\"\" can't be meant\n\n\
+         1 errors were found on the image.\n\
+         Data may be corrupted, or further writes to the image may corrupt it.\n",
         "",
     ),
     (
         "check faulty.vmdk",
-        1,
+        2,
         "\"faulty.vmdk\", line 3: \"RW x FLAT \\\"a.bin\\\" 0\" can't be meant\n\
          \"faulty.vmdk\", line 4: \"RW 1 SPARSE \\\"a.bin\\\"\" isn't supported\n\
-         \"faulty.vmdk\", line 5: isn't UTF-8\n3 faults were found.\n",
+         \"faulty.vmdk\", line 5: isn't UTF-8\n\n\
+         2 errors were found on the image.\n\
+         Data may be corrupted, or further writes to the image may corrupt it.\n",
         "",
     ),
     (
         "check later.vmdk",
         1,
-        "\"later.vmdk\": no line says one of the versions 1 to 3, or the file begins as a sparse \
-         image\n1 fault was found.\n",
         "",
+        "imago-img: \"later.vmdk\" can't be checked: no line says one of the versions 1 to 3, or \
+         the file begins as a sparse image\n",
     ),
 ];
 

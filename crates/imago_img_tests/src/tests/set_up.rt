@@ -129,20 +129,23 @@ pub const VERSION_3: &[u8] = b"QFI\xfb\0\0\0\x03";
 
 /// qcow2 images, and what they stand above or show. A name of a backing file stands at 200.
 static PARTS: [PartsRow; 19] = [
+    // Its reference counts stand at 3072, and their table at 2560.
     (
         "one.qcow2",
-        2560,
+        3584,
         &[
             (0, VERSION_2),
             (23, b"\x09"),
             (30, b"\x08"),
             (39, b"\x01"),
             (46, b"\x02"),
-            (518, b"\x04"),
-            (1038, b"\x08"),
-            (1046, b"\x06"),
+            (54, b"\x0a\0\0\0\0\x01"),
+            (512, b"\x80\0\0\0\0\0\x04"),
+            (1032, b"\x80\0\0\0\0\0\x08\0\x80\0\0\0\0\0\x06"),
             (1536, b"1"),
             (2048, b"2"),
+            (2566, b"\x0c"),
+            (3073, b"\x01\0\x01\0\x01\0\x01\0\x01\0\x01\0\x01"),
         ],
     ),
     ("one.raw", 2048, &[(512, b"2"), (1024, b"1")]),

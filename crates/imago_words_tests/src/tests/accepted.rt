@@ -3,7 +3,7 @@
 
 use super::set_up::{Case, check_cases};
 
-static CASES: [Case; 23] = [
+static CASES: [Case; 24] = [
     Case {
         words: &["info", "disk.vmdk"],
         status: 0,
@@ -46,12 +46,17 @@ static CASES: [Case; 23] = [
     Case {
         words: &["check", "--output=human", "-T", "none", "--", "-h"],
         status: 0,
-        text: "check \"-h\" any",
+        text: "check \"-h\" any human",
     },
     Case {
         words: &["check", "-", "--force-share"],
         status: 0,
-        text: "check \"-\" any",
+        text: "check \"-\" any human",
+    },
+    Case {
+        words: &["check", "--output=json", "x"],
+        status: 0,
+        text: "check \"x\" any json",
     },
     Case {
         words: &["compare", "a", "b"],

@@ -91,12 +91,14 @@ Options:
 
 const CHECK: &str = "Look for errors in an image
 
-usage: imago-img check [-f FMT] [--output OFMT] [-U] [-T CACHE] [--tables SIZE]
-                       [--strict] [--allow-outside] [-h] [-V] FILE
+usage: imago-img check [-f FMT] [--output OFMT] [--json] [-U] [-T CACHE]
+                       [--tables SIZE] [--strict] [--allow-outside] [-h] [-V]
+                       FILE
 
 Options:
   -f, --format FMT      The image's format: raw, vmdk or qcow2
-      --output OFMT     What is printed: human
+      --output OFMT     What is printed: human or json
+      --json            The same as --output=json
   -U, --force-share     Accepted and ignored: no file is locked
   -T CACHE              Accepted and ignored
       --tables SIZE     The most memory for tables: a size such as 64M

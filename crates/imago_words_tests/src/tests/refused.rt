@@ -99,9 +99,9 @@ static CASES: [Case; 36] = [
         text: "check has no -r: errors are reported, not repaired; see imago-img check --help",
     },
     Case {
-        words: &["check", "--output=json", "x"],
+        words: &["check", "--output=qcow2", "x"],
         status: 1,
-        text: "--output takes human, not \"json\"; see imago-img check --help",
+        text: "--output takes human or json, not \"qcow2\"; see imago-img check --help",
     },
     Case {
         words: &["map", "--object=secret,id=0", "x"],

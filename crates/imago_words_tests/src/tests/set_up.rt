@@ -74,7 +74,8 @@ fn shown(alloc: Global, command: Command<'_>) -> Result<String, AllocError> {
         }
         Command::Check(check) => {
             let rules = opening(alloc, check.opening)?;
-            format!(in alloc; "check {:?} {}{rules}", check.file, format(check.format))
+            let (format, output) = (format(check.format), output(check.output));
+            format!(in alloc; "check {:?} {format} {output}{rules}", check.file)
         }
         Command::Compare(compare) => {
             let rules = opening(alloc, compare.opening)?;

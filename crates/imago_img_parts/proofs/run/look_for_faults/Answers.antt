@@ -1,9 +1,14 @@
 -- SPDX-License-Identifier: MIT
-use Rattle.imago_img_parts.proofs.Told.{found_faults}
+use Rattle.std.proofs.Common.{refl}
+use Rattle.imago_img_parts.specs.Openings.{how_by}
+use Rattle.imago_img_parts.proofs.Told.{checked_as_said}
 use Rattle.imago_img_parts.proofs.run.look_for_faults.Goals as goal
 
 pub returns : goal.returns
-returns g c =
-    found_faults c.how_to_open-how.result _ c.how_to_open-how.ensures (g.H.Files.contents c.args.host.now)
-    c.args.asked.file.now c.in_ok-is_fine.is_fine c.outcome_of.result c.outcome_of.ensures
-    c.in_ok-is_fine.ensures
+returns g c = (
+  c.in_ok-verdict.verdict,
+  refl,
+  checked_as_said c.how_to_open-how.result (how_by c.args.asked.format c.args.asked.opening)
+      c.how_to_open-how.ensures (g.H.Files.contents c.args.host.now) c.args.asked.file.now
+      c.in_ok-verdict.verdict c.in_ok-verdict.ensures,
+)

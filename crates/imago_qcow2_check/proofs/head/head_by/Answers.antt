@@ -1,5 +1,8 @@
 -- SPDX-License-Identifier: MIT
-use Rattle.std.proofs.Common.{◌*◌, ◌∙◌, ap}
+use Rattle.std.proofs.Common.{◌*◌, ◌∙◌, ap, refl, subst, Result}
+use Rattle.std.specs.Prelude.{IsOk}
+use Rattle.imago_storage.specs.declared.error.Error.{Error}
+use Rattle.imago_qcow2.specs.declared.header.Header.{Header}
 use Rattle.imago_qcow2.specs.Numbers.{be32}
 use Rattle.imago_qcow2_check.proofs.head.head_by.Goals as goal
 
@@ -18,3 +21,7 @@ returns-clause-says c =
       snapshots_start = c.number64-snapshots_start.ensures;
       snapshots_count = c.number32-snapshots_count.ensures;
     }
+
+pub returns-clause-header : goal.returns-clause-header
+returns-clause-header c =
+    subst (λ (x : Result Header Error). IsOk x) c.in-Ok.ensures.header refl

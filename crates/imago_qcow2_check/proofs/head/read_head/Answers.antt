@@ -3,7 +3,7 @@ use Rattle.std.proofs.Common.{rules, ◌≤◌, length}
 use Rattle.std.specs.Prelude.{IsTrue}
 use Rattle.imago_storage.specs.Bytes.{IsReadAt}
 use Rattle.imago_qcow2_check.proofs.KnownSteps.{known_moved}
-use Rattle.imago_qcow2_check.proofs.HeadSteps.{longest, head_moved}
+use Rattle.imago_qcow2_check.proofs.HeadSteps.{longest, head_moved, header_accepted}
 use Rattle.imago_qcow2_check.proofs.head.read_head.Goals as goal
 
 pub check_known-requires-clause-most : goal.check_known-requires-clause-most
@@ -23,3 +23,10 @@ returns-clause-known g c = λ (told : IsTrue (g.S.Storage.features c.args.storag
     let l : 112 ≤ length c.read.new.buf = search rules in
     let k = c.in_ok-check_known.ensures in
     known_moved B c.read.new.buf r l k.features (k.extensions told c.in_ok-says.ensures.says.cluster)
+
+pub returns-clause-header : goal.returns-clause-header
+returns-clause-header g c = λ (told : IsTrue (g.S.Storage.features c.args.storage.now).tells_bytes).
+    let B = g.S.Storage.bytes c.args.storage.now in
+    let r : IsReadAt B 0 c.read.new.buf = search rules in
+    let l : 112 ≤ length c.read.new.buf = search rules in
+    header_accepted B c.read.new.buf c.in_ok-file.file r l c.in_ok-file.ensures.value c.in_ok-says.ensures.header

@@ -4,11 +4,10 @@ use Rattle.std.specs.String.{string_bytes}
 use Rattle.std.proofs.lemmas.Result.{IfOk-weaker}
 use Rattle.imago_vmdk.specs.Line.{extent_with}
 use Rattle.imago_vmdk.specs.Reading.{reading_of}
-use Rattle.imago_images.specs.declared.format.ImageFormat.TheVariants as Of
 use Rattle.imago_images.proofs.PathSteps.{features_of, bytes_of}
-use Rattle.imago_img_parts.specs.Faultless.{AreHeld, IsFaultlessAs}
-use Rattle.imago_img_parts.proofs.FaultSteps.{of_file, vmdk_faultless}
-use Rattle.imago_img_parts.proofs.check.check_vmdk.Goals as goal
+use Rattle.imago_img_parts.specs.Checked.{AreHeld, HasSoundExtents}
+use Rattle.imago_img_parts.proofs.FaultSteps.{of_file, sound_extents}
+use Rattle.imago_img_parts.proofs.check_vmdk.check_vmdk.Goals as goal
 
 pub returns-in-Ok : goal.returns-in-Ok
 returns-in-Ok g c =
@@ -26,8 +25,7 @@ returns-in-Ok g c =
     IfOk-weaker c.check_extents.result
     (λ n. n ≡ 0 → IfSome known
     (λ files. AreHeld c.args.how.other_files files c.args.path.now extents))
-    (λ n. n ≡ 0 → IfSome known (λ files. IsFaultlessAs c.args.how.accepted c.args.how.other_files
-    files c.args.path.now Of.Vmdk))
-    (λ n held zero. vmdk_faultless c.args.how.accepted c.args.how.other_files known c.args.path.now
-    c.in_ok-text.text.items extents c.in-Ok.described.size says same (held zero))
+    (λ n. n ≡ 0 → IfSome known (λ files. HasSoundExtents c.args.how files c.args.path.now))
+    (λ n held zero. sound_extents c.args.how known c.args.path.now c.in_ok-text.text.items extents
+    c.in-Ok.described.size says same (held zero))
     c.check_extents.ensures

@@ -1,0 +1,89 @@
+// SPDX-License-Identifier: MIT
+//! Whether a qcow2 file is in order: its entries, and the reference counts of its clusters.
+ghost use Rattle.std.specs.Prelude.{◌≡◌, ℕ, List, IfOk, IfSome};
+ghost use Rattle.imago_qcow2_check.specs.Faults.{verdict_of};
+ghost use Rattle.imago_images.specs.HostBytes.{HasBytes};
+ghost use Rattle.imago_img_parts.specs.Checked.{IsQcow2Checked, most_memory};
+
+use crate::failure::{Failure, Reason, Unchecked};
+use crate::host::Host;
+use imago_file::file::FileStorage;
+use imago_file::host::HostFile;
+use imago_images::file::PathStorage;
+use imago_images::opening::Opening;
+use imago_qcow2_check::check::{Limits, Report, check};
+use imago_qcow2_check::fault::CheckError;
+use imago_storage::error::Error;
+use imago_storage::storage::Storage;
+use std::alloc::Global;
+use std::io::{self, Write};
+
+/// How many faults are told; the rest are only counted.
+const MOST_FAULTS: usize = 500;
+
+/// How many bytes of memory reference counts and uses may take, if nothing else is said: 256 MiB.
+const MOST_MEMORY: u64 = 256 << 20;
+
+/// Tells the faults of a qcow2 file, and how many corruptions and leaks there are.
+pub fn check_qcow2<'a, H: Host, W: Write>(
+    host: &'a H,
+    path: &str,
+    file: &PathStorage<'a, H>,
+    how: Opening,
+    output: &mut W,
+) -> Result<(u64, u64), Failure>
+    requires { IfSome (H.contents host.now)
+        (λ files. HasBytes ⟦<PathStorage<'a, H> as Storage>⟧.features
+        ⟦<PathStorage<'a, H> as Storage>⟧.bytes (files path.now) file.now) }
+    ensures { IfOk result (λ r. IfSome (H.contents host.now)
+        (λ files. IsQcow2Checked (most_memory how.tables) (files path.now)
+        (verdict_of r.0 r.1))) }
+{
+    match report_on(host.alloc(), file, how.tables.unwrap_or(MOST_MEMORY)) {
+        Ok(report) => {
+            tell_faults(path, &report, output).map_err(Failure::Output)?;
+            Ok((report.corruptions, report.leaks))
+        }
+        Err(cause) => Err(not_checked(host.alloc(), path, file, cause)),
+    }
+}
+
+/// What a check of a qcow2 file finds, in so many bytes of memory.
+fn report_on<S: Storage>(alloc: Global, file: &S, memory: u64) -> Result<Report, CheckError>
+    ensures { (bytes : List ℕ) → HasBytes S.features S.bytes bytes file.now → IfOk result
+        (λ r. IsQcow2Checked memory bytes (verdict_of r.corruptions r.leaks)) }
+{
+    let limits = Limits {
+        memory,
+        faults: MOST_FAULTS,
+    };
+    let report = check(file, alloc, limits)?;
+    Ok(report)
+}
+
+/// Why a file can't be checked: by what the host answered, where it refused to read it.
+fn not_checked<F: HostFile>(
+    alloc: Global,
+    path: &str,
+    file: &FileStorage<F>,
+    cause: CheckError,
+) -> Failure {
+    if let Some(answer) = file.last_error() {
+        return Failure::of_file(alloc, path, Reason::System(answer));
+    }
+    if cause == CheckError::Storage(Error::Memory) {
+        return Failure::Memory;
+    }
+    Failure::of_check(alloc, path, Unchecked::Qcow2(cause))
+}
+
+/// Tells the first faults of a report, each in a line.
+fn tell_faults<W: Write>(path: &str, report: &Report, output: &mut W) -> io::Result<()> {
+    for fault in &report.faults {
+        writeln!(output, "{path:?}: {fault}")?;
+    }
+    if report.faults.len() == MOST_FAULTS {
+        writeln!(output, "{path:?}: only the first {MOST_FAULTS} faults are listed")?;
+    }
+    Ok(())
+}
