@@ -142,14 +142,6 @@ fn advice_on_needed(cause: &OpenError) -> &'static str {
     }
 }
 
-/// What to do about a file that can't be checked.
-fn advice_on_check(cause: &Unchecked) -> &'static str {
-    match cause {
-        Unchecked::Qcow2(CheckError::TooLarge) => "; --tables raises it",
-        _ => "",
-    }
-}
-
 /// The same, by the reason.
 fn advice_for(reason: &Reason) -> &'static str {
     match reason {
@@ -173,7 +165,15 @@ fn advice_for_outside(path: &str, named: &str) -> &'static str {
     "; --allow-outside permits it"
 }
 
-/// The same, by what the file is recognised as.
+/// What to do about a file that can't be checked.
+fn advice_on_check(cause: &Unchecked) -> &'static str {
+    match cause {
+        Unchecked::Qcow2(CheckError::TooLarge) => "; --tables raises it",
+        _ => "",
+    }
+}
+
+/// What to do about a file of another format, by what it is recognised as.
 fn advice_for_signature(signature: Signature) -> &'static str {
     match signature {
         Signature::Qcow2 => "; say -f qcow2 or -f raw",
