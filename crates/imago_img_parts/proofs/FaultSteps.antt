@@ -21,6 +21,7 @@ use Rattle.imago_qcow2.specs.Header.{header_of}
 use Rattle.imago_qcow2.specs.Entry.{cluster_length, cluster_of, disk_size, qcow2_place}
 use Rattle.imago_images.specs.declared.format.ImageFormat.{ImageFormat}
 use Rattle.imago_images.specs.declared.opening.OtherFiles.{OtherFiles}
+use Rattle.imago_images.specs.Alone.{NamesNoOther}
 use Rattle.imago_images.specs.Formats.{IsFormatBy}
 use Rattle.imago_images.specs.HostBytes.{HasBytes}
 use Rattle.imago_img_parts.specs.declared.clusters.ClusterKind.{ClusterKind}
@@ -193,20 +194,23 @@ module _ {S : Type 0} (features : S → Features) (stored : S → List ℕ)
       each None has = tt
       each (Some files) has = h (files path) has
 
-  pub qcow2_faultless : (count : ℕ) (runs : List ClusterRun) → count ≡ length (stored file)
+  pub qcow2_faultless : (others : OtherFiles) (count : ℕ) (runs : List ClusterRun)
+      → count ≡ length (stored file)
       → ((bytes : List ℕ) → HasBytes features stored bytes file
       → (header : Header) × (header_of bytes (length bytes) ≡ Ok header))
       → ((bytes : List ℕ) → HasBytes features stored bytes file
       → AreTold (qcow2_place bytes) (disk_size bytes) runs)
       → ((bytes : List ℕ) → HasBytes features stored bytes file
       → HoldStreams (cluster_of bytes) (cluster_length bytes) count (disk_size bytes) runs)
+      → ((bytes : List ℕ) → HasBytes features stored bytes file → NamesNoOther others bytes)
       → AreFaultless count runs
       → IfSome known (λ files. HasBytes features stored (files path) file)
       → IfSome known (λ files. (header : Header)
-      × (header_of (files path) (length (files path)) ≡ Ok header) × HasSoundTables (files path))
-  qcow2_faultless count runs is accepted told held none =
+      × (header_of (files path) (length (files path)) ≡ Ok header) × HasSoundTables (files path)
+      × NamesNoOther others (files path))
+  qcow2_faultless others count runs is accepted told held names none =
       of_file (λ bytes. (header : Header) × (header_of bytes (length bytes) ≡ Ok header)
-      × HasSoundTables bytes)
+      × HasSoundTables bytes × NamesNoOther others bytes)
       (λ bytes has. let (header, says) = accepted bytes has in (
         header,
         says,
@@ -214,6 +218,7 @@ module _ {S : Type 0} (features : S → Features) (stored : S → List ℕ)
             (subst (λ (n : ℕ). HoldStreams (cluster_of bytes) (cluster_length bytes) n
             (disk_size bytes) runs) (is ∙ ap length has.1) (held bytes has))
             (subst (λ (n : ℕ). AreFaultless n runs) (is ∙ ap length has.1) none),
+        names bytes has,
       ))
 
 -- the extents of a descriptor that was read, and that are held

@@ -16,6 +16,7 @@ use Rattle.imago_images.specs.declared.format.ImageFormat.{ImageFormat}
 use Rattle.imago_images.specs.declared.format.ImageFormat.TheVariants.{Raw, Vmdk, Qcow2}
 use Rattle.imago_images.specs.declared.opening.OtherFiles.{OtherFiles}
 use Rattle.imago_images.specs.Formats.{IsFormatBy}
+use Rattle.imago_images.specs.Alone.{NamesNoOther}
 use Rattle.imago_images.specs.Gate.{IsLetThrough}
 
 -- The file of an extent may be opened, and holds all of its bytes: a sector has 512 of them. Only a
@@ -76,7 +77,8 @@ pub record HasSoundTables (bytes : List ℕ) : Type 0 where
 
 -- The file of a path has no fault as an image of that format. In a raw file there is none to find.
 -- The descriptor of a VMDK image can be read, and its extents are held. The header of a qcow2 file
--- is accepted, and its tables have no fault; what is below it isn't looked at.
+-- is accepted, and its tables have no fault; what is below it isn't looked at, and where no other
+-- files are opened it names none.
 abbrev pub IsFaultlessAs : Accepted → OtherFiles → (List ℕ → List ℕ) → List ℕ → ImageFormat → Type 0
 IsFaultlessAs accepted others files path Raw = Unit {0}
 IsFaultlessAs accepted others files path Vmdk =
@@ -85,7 +87,7 @@ IsFaultlessAs accepted others files path Vmdk =
     × AreHeld others files path extents
 IsFaultlessAs accepted others files path Qcow2 =
     (header : Header) × (header_of (files path) (length (files path)) ≡ Ok header)
-    × HasSoundTables (files path)
+    × HasSoundTables (files path) × NamesNoOther others (files path)
 
 -- The same as an image of the format that was said, or else of the one that its file is taken to
 -- have.

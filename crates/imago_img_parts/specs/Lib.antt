@@ -6,4 +6,5 @@ pub mod Faultless
 pub mod Extents
 pub mod ClusterRuns
 pub mod Openings
+pub mod Reaches
 pub mod Commands

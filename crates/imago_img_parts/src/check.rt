@@ -10,6 +10,7 @@ ghost use Rattle.imago_qcow2.specs.declared.header.Header.{Header};
 ghost use Rattle.imago_images.specs.declared.format.ImageFormat.TheVariants as Of;
 ghost use Rattle.imago_images.specs.GateParts.{gate_host, gate_image, gate_files};
 ghost use Rattle.imago_images.specs.HostBytes.{HasBytes};
+ghost use Rattle.imago_images.specs.Alone.{NamesNoOther};
 ghost use Rattle.imago_img_parts.specs.ClusterRuns.{AreTold, HoldStreams};
 ghost use Rattle.imago_img_parts.specs.Faultless.{IsHeld, AreHeld, IsFaultless, IsFaultlessAs};
 
@@ -19,11 +20,12 @@ use crate::failure::{Failure, OpenError, Reason};
 use crate::host::{Files, Host};
 use crate::looked::{descriptor_text, try_file};
 use imago_access::access::FormatAccess;
+use imago_images::alone::refuse_below;
 use imago_images::file::{PathStorage, look_at};
 use imago_images::format::ImageFormat;
 use imago_images::gate::{FolderGate, Named};
 use imago_images::layer::{format_of, open_qcow2, told_by_host};
-use imago_images::opening::Opening;
+use imago_images::opening::{Opening, OtherFiles};
 use imago_qcow2::fault::HeaderFault;
 use imago_qcow2::laws::image_of_bytes;
 use imago_storage::error::Error;
@@ -98,7 +100,7 @@ fn check_qcow2<'a, H: Host, W: Write>(
         (λ files. IsFaultlessAs how.accepted how.other_files files path.now Of.Qcow2)) }
 {
     let length = Failure::or_image(host.alloc(), path, file.size())?;
-    let found = runs_of(host, path, &mut file, length);
+    let found = runs_of(host, path, &mut file, length, how.other_files);
     match told_by_host(host.alloc(), path, &file, found) {
         Ok(runs) => tell_faults(host.alloc(), path, &runs, length, output),
         Err(
@@ -112,12 +114,13 @@ fn check_qcow2<'a, H: Host, W: Write>(
 }
 
 /// The clusters of a qcow2 file that was looked at, and has that length, as [`cluster_runs`] tells
-/// them.
+/// them. Where no other files are opened, it may name none below it.
 fn runs_of<H: Files, S: Storage>(
     host: &H,
     path: &str,
     file: S,
     length: u64,
+    others: OtherFiles,
 ) -> Result<Vec<ClusterRun>, OpenError>
     ensures header { (bytes : List ℕ) → HasBytes S.features S.bytes bytes file → IfOk result
         (λ _. (header : Header) × (header_of bytes (count_of bytes) ≡ Ok header)) }
@@ -126,8 +129,11 @@ fn runs_of<H: Files, S: Storage>(
     ensures streams { (bytes : List ℕ) → HasBytes S.features S.bytes bytes file → IfOk result
         (λ runs. HoldStreams (cluster_of bytes) (cluster_length bytes) length (disk_size bytes)
         runs.items) }
+    ensures alone { (bytes : List ℕ) → HasBytes S.features S.bytes bytes file → IfOk result
+        (λ _. NamesNoOther others bytes) }
 {
     let qcow2 = open_qcow2(host, path, file)?;
+    refuse_below(host.alloc(), path, &qcow2, others)?;
     image_of_bytes(&qcow2);
     let image = FormatAccess::new(qcow2);
     let runs = cluster_runs(host.alloc(), &image, length);

@@ -23,6 +23,7 @@ info_options =
     ∷ valued (codes "tables") [] (codes "tables")
     ∷ flag (codes "strict") [] (codes "strict")
     ∷ flag (codes "allow-outside") [] (codes "allow-outside")
+    ∷ flag (codes "alone") [] (codes "alone")
     ∷ flag (codes "help") (codes "h") (codes "help")
     ∷ flag (codes "version") (codes "V") (codes "version")
     ∷ []
@@ -36,6 +37,7 @@ map_options =
     ∷ valued (codes "tables") [] (codes "tables")
     ∷ flag (codes "strict") [] (codes "strict")
     ∷ flag (codes "allow-outside") [] (codes "allow-outside")
+    ∷ flag (codes "alone") [] (codes "alone")
     ∷ flag (codes "help") (codes "h") (codes "help")
     ∷ flag (codes "version") (codes "V") (codes "version")
     ∷ []
@@ -49,6 +51,7 @@ check_options =
     ∷ valued (codes "tables") [] (codes "tables")
     ∷ flag (codes "strict") [] (codes "strict")
     ∷ flag (codes "allow-outside") [] (codes "allow-outside")
+    ∷ flag (codes "alone") [] (codes "alone")
     ∷ flag (codes "help") (codes "h") (codes "help")
     ∷ flag (codes "version") (codes "V") (codes "version")
     ∷ []
@@ -65,6 +68,7 @@ compare_options =
     ∷ valued (codes "tables") [] (codes "tables")
     ∷ flag (codes "strict") [] (codes "strict")
     ∷ flag (codes "allow-outside") [] (codes "allow-outside")
+    ∷ flag (codes "alone") [] (codes "alone")
     ∷ flag (codes "help") (codes "h") (codes "help")
     ∷ flag (codes "version") (codes "V") (codes "version")
     ∷ []
@@ -88,6 +92,7 @@ convert_options =
     ∷ valued (codes "tables") [] (codes "tables")
     ∷ flag (codes "strict") [] (codes "strict")
     ∷ flag (codes "allow-outside") [] (codes "allow-outside")
+    ∷ flag (codes "alone") [] (codes "alone")
     ∷ flag (codes "help") (codes "h") (codes "help")
     ∷ flag (codes "version") (codes "V") (codes "version")
     ∷ []

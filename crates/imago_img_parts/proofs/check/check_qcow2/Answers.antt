@@ -5,6 +5,7 @@ use Rattle.imago_qcow2.specs.declared.header.Header.{Header}
 use Rattle.imago_qcow2.specs.Header.{header_of}
 use Rattle.imago_qcow2.specs.Entry.{cluster_length, cluster_of, disk_size, qcow2_place}
 use Rattle.imago_images.specs.declared.format.ImageFormat.TheVariants as Of
+use Rattle.imago_images.specs.Alone.{NamesNoOther}
 use Rattle.imago_images.proofs.NameSteps.{passed_on}
 use Rattle.imago_images.proofs.PathSteps.{features_of, bytes_of}
 use Rattle.imago_img_parts.specs.declared.clusters.ClusterRun.{ClusterRun}
@@ -26,7 +27,7 @@ returns-in-Ok g c =
     (λ n. n ≡ 0 → IfSome known (λ files. IsFaultlessAs c.args.how.accepted c.args.how.other_files
     files c.args.path.now Of.Qcow2))
     (λ n found zero. qcow2_faultless (features_of contents opened) (bytes_of contents opened) known
-    c.args.path.now c.args.file c.in_ok-length.length c.in-Ok.runs.items length_is
+    c.args.path.now c.args.file c.args.how.other_files c.in_ok-length.length c.in-Ok.runs.items length_is
     (λ bytes has. passed_on c.runs_of-found.result c.told_by_host.result c.in-Ok.runs
     (λ runs. (header : Header) × (header_of bytes (length bytes) ≡ Ok header))
     (c.runs_of-found.ensures.header bytes has) c.told_by_host.ensures c.in-Ok.is)
@@ -37,6 +38,9 @@ returns-in-Ok g c =
     (λ runs. HoldStreams (cluster_of bytes) (cluster_length bytes) c.in_ok-length.length
     (disk_size bytes) runs.items)
     (c.runs_of-found.ensures.streams bytes has) c.told_by_host.ensures c.in-Ok.is)
+    (λ bytes has. passed_on c.runs_of-found.result c.told_by_host.result c.in-Ok.runs
+    (λ runs. NamesNoOther c.args.how.other_files bytes)
+    (c.runs_of-found.ensures.alone bytes has) c.told_by_host.ensures c.in-Ok.is)
     (subst (λ (runs : List ClusterRun). AreFaultless c.in_ok-length.length runs)
     c.deref.ensures.value (found zero))
     c.requires)
