@@ -6,8 +6,10 @@ use crate::digest::Digest;
 use crate::files::Files;
 use crate::qcow2::{Pattern, Qcow2File, Shape, qcow2_file};
 use crate::random::Random;
+use imago_img_parts::guarded::Confined;
 use imago_img_parts::run::run;
 use std::alloc::Global;
+use std::mem;
 
 /// The length of a cluster is this power of two.
 const CLUSTER_BITS: u32 = 16;
@@ -23,7 +25,9 @@ pub fn obey(alloc: Global, files: &mut Files, line: &str, digest: &mut Digest) -
     }
     let mut output = Vec::new(alloc);
     let mut errors = Vec::new(alloc);
-    let status = run(files, &words, &mut output, &mut errors);
+    let mut confined = Confined::new(mem::replace(files, Files::new(alloc)));
+    let status = run(&mut confined, &words, &mut output, &mut errors);
+    *files = confined.host;
     digest.add(u64::from(status));
     digest.add_bytes(&output);
     digest.add_bytes(&errors);

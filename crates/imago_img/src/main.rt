@@ -3,6 +3,7 @@
 //! into raw files.
 #![tactic(auto)]
 
+use imago_img_parts::guarded::Confined;
 use imago_img_parts::run::{run, unread_status};
 use imago_img_parts::system::System;
 use std::env::{self, Env};
@@ -19,7 +20,7 @@ fn main(rt: HostRuntime) -> ExitCode {
             return ExitCode::from(refused_status(&rt));
         }
     };
-    let mut host = System::new(&rt);
+    let mut host = Confined::new(System::new(&rt));
     ExitCode::from(run(&mut host, &words, &mut output, &mut errors))
 }
 

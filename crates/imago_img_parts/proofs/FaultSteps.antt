@@ -10,6 +10,7 @@ use Rattle.imago_images.specs.declared.format.ImageFormat.{ImageFormat}
 use Rattle.imago_images.specs.declared.format.ImageFormat.TheVariants as Of
 use Rattle.imago_images.specs.declared.opening.Opening.{Opening}
 use Rattle.imago_images.specs.declared.opening.OtherFiles.{OtherFiles}
+use Rattle.imago_images.specs.Alone.{NamesNoOther}
 use Rattle.imago_images.specs.Formats.{IsFormatBy}
 use Rattle.imago_images.specs.HostBytes.{HasBytes}
 use Rattle.imago_qcow2_check.specs.declared.fault.Verdict.{Verdict}
@@ -87,10 +88,11 @@ pub vmdk_checked : (how : Opening) (known : Option (List ℕ → List ℕ)) (pat
 vmdk_checked how None path faults sound = tt
 vmdk_checked how (Some files) path faults sound = vmdk_checked_in how files path faults sound
 
--- a qcow2 file with that verdict
+-- a qcow2 file with that verdict, which names no other file where none is opened
 pub qcow2_checked : (how : Opening) (known : Option (List ℕ → List ℕ)) (path : List ℕ)
     (verdict : Verdict)
     → IfSome known (λ files. IsQcow2Checked (most_memory how.tables) (files path) verdict)
+    → IfSome known (λ files. NamesNoOther how.other_files (files path))
     → IfSome known (λ files. IsCheckedAs how files path Of.Qcow2 (Some verdict))
-qcow2_checked how None path verdict checked = tt
-qcow2_checked how (Some files) path verdict checked = checked
+qcow2_checked how None path verdict checked names = tt
+qcow2_checked how (Some files) path verdict checked names = (checked, names)

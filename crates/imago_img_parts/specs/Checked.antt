@@ -17,6 +17,7 @@ use Rattle.imago_images.specs.declared.format.ImageFormat.{ImageFormat}
 use Rattle.imago_images.specs.declared.format.ImageFormat.TheVariants.{Raw, Vmdk, Qcow2}
 use Rattle.imago_images.specs.declared.opening.Opening.{Opening}
 use Rattle.imago_images.specs.declared.opening.OtherFiles.{OtherFiles}
+use Rattle.imago_images.specs.Alone.{NamesNoOther}
 use Rattle.imago_images.specs.Formats.{IsFormatBy}
 use Rattle.imago_images.specs.Gate.{IsLetThrough}
 use Rattle.imago_img_parts.specs.declared.check.Found.{Found}
@@ -62,7 +63,7 @@ verdict_in found = verdict_of found.corruptions found.leaks
 
 -- The file of a path was checked as an image of that format. In a raw file there is nothing to
 -- check. A VMDK image without a fault has sound extents; which faults it may have isn't said here.
--- What is below a qcow2 file isn't looked at.
+-- What is below a qcow2 file isn't looked at, and where no other files are opened it names none.
 abbrev pub IsCheckedAs :
     Opening → (List ℕ → List ℕ) → List ℕ → ImageFormat → Option Verdict → Type 0
 IsCheckedAs how files path Raw verdict = verdict ≡ None
@@ -73,6 +74,7 @@ IsCheckedAs how files path Vmdk (Some Leaks) = ⊥
 IsCheckedAs how files path Qcow2 None = ⊥
 IsCheckedAs how files path Qcow2 (Some verdict) =
     IsQcow2Checked (most_memory how.tables) (files path) verdict
+    × NamesNoOther how.other_files (files path)
 
 -- The same as an image of the format that was said, or else of the one that its file is taken to
 -- have.

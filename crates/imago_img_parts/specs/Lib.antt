@@ -5,4 +5,5 @@ pub mod Lines
 pub mod Checked
 pub mod Extents
 pub mod Openings
+pub mod Reaches
 pub mod Commands

@@ -16,10 +16,11 @@ image_format Named.Raw = Raw
 image_format Named.Vmdk = Vmdk
 image_format Named.Qcow2 = Qcow2
 
--- which other files are opened
-abbrev pub others_by : Bool → OtherFiles
-others_by true = Others.Any
-others_by false = Others.InFolder
+-- which other files are opened: none, or all that an image names, or those in its folder
+abbrev pub others_by : Bool → Bool → OtherFiles
+others_by true outside = Others.None
+others_by false true = Others.Any
+others_by false false = Others.InFolder
 
 -- How an image is opened, by its format, if it was said, and by what is said of all images of the
 -- command. No command writes to an image, and all commands accept VMFS extents.
@@ -27,7 +28,7 @@ abbrev pub how_by : Option Format → Said.Opening → Opening
 how_by format said = record {
   format = option_map image_format format;
   accepted = record { unknown_keys = not said.strict; vmfs = true };
-  other_files = others_by said.allow_outside;
+  other_files = others_by said.alone said.allow_outside;
   tables = said.tables;
   writable = false;
 }

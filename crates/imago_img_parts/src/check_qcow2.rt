@@ -2,15 +2,18 @@
 //! Whether a qcow2 file is in order: its entries, and the reference counts of its clusters.
 ghost use Rattle.std.specs.Prelude.{◌≡◌, ℕ, List, IfOk, IfSome};
 ghost use Rattle.imago_qcow2_check.specs.Faults.{verdict_of};
+ghost use Rattle.imago_images.specs.Alone.{NamesNoOther};
 ghost use Rattle.imago_images.specs.HostBytes.{HasBytes};
 ghost use Rattle.imago_img_parts.specs.Checked.{IsQcow2Checked, most_memory};
 
-use crate::failure::{Failure, Reason, Unchecked};
-use crate::host::Host;
+use crate::failure::{Failure, OpenError, Reason, Unchecked};
+use crate::host::{Files, Host};
 use imago_file::file::FileStorage;
 use imago_file::host::HostFile;
+use imago_images::alone::refuse_below;
 use imago_images::file::PathStorage;
-use imago_images::opening::Opening;
+use imago_images::layer::open_qcow2_within;
+use imago_images::opening::{Opening, OtherFiles};
 use imago_qcow2_check::check::{Limits, Report, check};
 use imago_qcow2_check::fault::CheckError;
 use imago_storage::error::Error;
@@ -35,17 +38,41 @@ pub fn check_qcow2<'a, H: Host, W: Write>(
     requires { IfSome (H.contents host.now)
         (λ files. HasBytes ⟦<PathStorage<'a, H> as Storage>⟧.features
         ⟦<PathStorage<'a, H> as Storage>⟧.bytes (files path.now) file.now) }
-    ensures { IfOk result (λ r. IfSome (H.contents host.now)
+    ensures says { IfOk result (λ r. IfSome (H.contents host.now)
         (λ files. IsQcow2Checked (most_memory how.tables) (files path.now)
         (verdict_of r.0 r.1))) }
+    ensures alone { IfOk result (λ _. IfSome (H.contents host.now)
+        (λ files. NamesNoOther how.other_files (files path.now))) }
 {
-    match report_on(host.alloc(), file, how.tables.unwrap_or(MOST_MEMORY)) {
+    let most = how.tables.unwrap_or(MOST_MEMORY);
+    refuse_others(host, path, file, most, how.other_files)?;
+    match report_on(host.alloc(), file, most) {
         Ok(report) => {
             tell_faults(path, &report, output).map_err(Failure::Output)?;
             Ok((report.corruptions, report.leaks))
         }
         Err(cause) => Err(not_checked(host.alloc(), path, file, cause)),
     }
+}
+
+/// Refuses a qcow2 file that names another, where no other files are opened. Its tables may take so
+/// many bytes of memory.
+fn refuse_others<H: Files, S: Storage>(
+    host: &H,
+    path: &str,
+    file: S,
+    most_tables: u64,
+    others: OtherFiles,
+) -> Result<(), OpenError>
+    ensures { (bytes : List ℕ) → HasBytes S.features S.bytes bytes file → IfOk result
+        (λ _. NamesNoOther others bytes) }
+{
+    if others != OtherFiles::None {
+        return Ok(());
+    }
+    let qcow2 = open_qcow2_within(host, path, file, most_tables)?;
+    refuse_below(host.alloc(), path, &qcow2, others)?;
+    Ok(())
 }
 
 /// What a check of a qcow2 file finds, in so many bytes of memory.

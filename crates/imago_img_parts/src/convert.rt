@@ -235,11 +235,10 @@ fn test_left_over<H: Host>(
         return Ok(());
     };
     if !replace {
-        return Err(Failure::of_target(alloc, &left, Refusal::LeftOver));
+        return Err(Failure::of_target(alloc, &left.path, Refusal::LeftOver));
     }
-    let there = Failure::or_system(alloc, &left, host.status(&left))?;
-    if has_file(image, there) {
-        return Err(Failure::of_target(alloc, &left, Refusal::IsSource));
+    if has_file(image, left.status) {
+        return Err(Failure::of_target(alloc, &left.path, Refusal::IsSource));
     }
     Ok(())
 }

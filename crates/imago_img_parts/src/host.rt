@@ -23,6 +23,15 @@ pub struct Making {
     pub sparse: bool,
 }
 
+/// The unfinished file that a copy left when it was killed.
+#[derive(Drop)]
+pub struct LeftOver {
+    /// Its path.
+    pub path: String,
+    /// What it is. A link is looked at itself.
+    pub status: FileStatus,
+}
+
 /// Where the commands find files by their paths, and make them.
 ///
 /// A file is made under an unfinished path, beside the one that it is to have, and gets that one
@@ -59,11 +68,10 @@ pub trait Host: Files {
     /// Ends what was shown of a copy.
     fn end_progress(&self);
 
-    /// The path of the unfinished file that a copy to a path left when it was killed, if there is
-    /// one.
-    fn left_over(&self, path: &str) -> io::Result<Option<String>>
+    /// The unfinished file that a copy to a path left when it was killed, if there is one.
+    fn left_over(&self, path: &str) -> io::Result<Option<LeftOver>>
         ensures beside { IfOk result (λ found. IfSome found (λ left. IfSome (around self.now)
-            (λ a. string_bytes left ≡ a.beside path.now))) };
+            (λ a. string_bytes left.path ≡ a.beside path.now))) };
 
     /// Removes the unfinished file that a copy to a path left. It is never emptied, since it may be
     /// a second name of a finished file. Refused, it is still there.

@@ -63,7 +63,7 @@ fn report_on<H: Host>(host: &H, path: &str, how: Opening) -> Result<Report, Fail
         }),
         ImageFormat::Vmdk => report_on_vmdk(host, path, &file, how),
         ImageFormat::Qcow2 => {
-            let found = report_on_qcow2(host, path, file)?;
+            let found = report_on_qcow2(host, path, file, how.other_files)?;
             Ok(Report {
                 format: ImageFormat::Qcow2,
                 size: found.header.disk_size(),

@@ -3,7 +3,8 @@
 //! stand, and their way into a raw file.
 //!
 //! The commands find files by a [`Host`](host::Host): the program takes [`System`](system::System),
-//! tests have one in memory.
+//! tests have one in memory. They have it as a [`Confined`](guarded::Confined) one,
+//! which is asked for the paths alone that a command may ask for.
 #![tactic(auto)]
 
 mod check;
@@ -16,6 +17,7 @@ mod convert;
 mod digits;
 mod extents;
 mod failure;
+pub mod guarded;
 pub mod host;
 mod image;
 mod info;
@@ -27,6 +29,7 @@ mod overwrite;
 mod progress;
 mod qcow2_info;
 mod question;
+mod reach;
 pub mod run;
 mod short;
 mod streams;

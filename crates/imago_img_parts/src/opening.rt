@@ -20,7 +20,7 @@ pub fn how_to_open(format: Option<Format>, said: Said) -> Opening
             unknown_keys: !said.strict,
             vmfs: true,
         },
-        other_files: other_files(said.allow_outside),
+        other_files: other_files(said.alone, said.allow_outside),
         tables: said.tables,
         // No command writes to an image.
         writable: false,
@@ -40,12 +40,12 @@ pub fn said_format(format: Option<Format>) -> Option<ImageFormat>
 }
 
 /// Which other files are opened.
-fn other_files(allow_outside: bool) -> OtherFiles
-    ensures { result ≡ others_by allow_outside }
+fn other_files(alone: bool, allow_outside: bool) -> OtherFiles
+    ensures { result ≡ others_by alone allow_outside }
 {
-    if allow_outside {
-        OtherFiles::Any
-    } else {
-        OtherFiles::InFolder
+    match (alone, allow_outside) {
+        (true, _) => OtherFiles::None,
+        (false, true) => OtherFiles::Any,
+        (false, false) => OtherFiles::InFolder,
     }
 }

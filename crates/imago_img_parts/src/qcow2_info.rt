@@ -6,8 +6,10 @@ use crate::failure::{Failure, OpenError};
 use crate::host::{Files, Host};
 use crate::json::quoted;
 use imago_access::access::FormatAccess;
+use imago_images::alone::refuse_below;
 use imago_images::file::PathStorage;
 use imago_images::layer::{open_qcow2, text_of, told_by_host};
+use imago_images::opening::OtherFiles;
 use imago_qcow2::header::{Compression, Header};
 use imago_qcow2::qcow2::Qcow2;
 use imago_storage::storage::Storage;
@@ -51,13 +53,15 @@ fn named(alloc: Global, path: &str, name: Option<Vec<u8>>) -> Result<Option<Stri
     }
 }
 
-/// Tells what a qcow2 file is, and what it says of the one below it.
+/// Tells what a qcow2 file is, and what it says of the one below it. Where no other files are
+/// opened, it may name none.
 pub fn report_on_qcow2<H: Host>(
     host: &H,
     path: &str,
     mut file: PathStorage<'_, H>,
+    others: OtherFiles,
 ) -> Result<Qcow2Report, Failure> {
-    let found = report_of(host, path, &mut file);
+    let found = report_of(host, path, &mut file, others);
     Ok(told_by_host(host.alloc(), path, &file, found)?)
 }
 
@@ -98,9 +102,11 @@ fn report_of<H: Files, S: Storage>(
     host: &H,
     path: &str,
     file: S,
+    others: OtherFiles,
 ) -> Result<Qcow2Report, OpenError> {
     let alloc = host.alloc();
     let image = FormatAccess::new(open_qcow2(host, path, file)?);
+    refuse_below(alloc, path, image.inner(), others)?;
     let header = image.inner().header();
     let counts = count_clusters(&image, header.cluster_size());
     Ok(Qcow2Report {

@@ -3,7 +3,9 @@
 ghost use Rattle.std.specs.Prelude.{◌≡◌, ◌≤◌, ◌&&◌, OnOk, OnErr, IfOk, IfSome, is_some, map};
 ghost use Rattle.std.specs.Prelude.{not, option_map, Bool, Option};
 ghost use Rattle.std.specs.Prelude.{string_bytes};
-ghost use Rattle.imago_words.specs.Line.{kind_named, status_for, status_of};
+ghost use Rattle.imago_words.specs.declared.command.Command.{Command};
+ghost use Rattle.imago_words.specs.Line.{Asks, kind_named, status_for, status_of};
+ghost use Rattle.imago_images.specs.Reach.{AreAmong, is_made, is_read, is_seen};
 ghost use Rattle.imago_img_parts.specs.declared.run.Outcome.TheVariants.{Fine, Checked};
 ghost use Rattle.imago_qcow2_check.specs.declared.fault.Verdict.{Verdict};
 ghost use Rattle.imago_img_parts.specs.Checked.{IsChecked};
@@ -13,16 +15,20 @@ ghost use Rattle.imago_img_parts.specs.Commands.{outcome_status, outcome_when, r
 ghost use Rattle.imago_img_parts.specs.Commands.{check_status, untold};
 ghost use Rattle.imago_img_parts.specs.Disks.{is_left_out};
 ghost use Rattle.imago_img_parts.specs.Openings.{how_by, image_format};
+ghost use Rattle.imago_img_parts.specs.Reaches.{reach_by};
 
 use crate::check::check;
 use crate::commands::{Comparison, compare_images, convert_image, overwrite};
 use crate::compare::leaves_out;
 use crate::failure::Failure;
-use crate::host::{Host, Making};
+use crate::guarded::GuardedHost;
+use crate::host::{Files, Host, Making};
 use crate::info::info;
 use crate::map::map_image;
 use crate::opening::{how_to_open, said_format};
 use crate::question::Question;
+use crate::reach::reach_of;
+use imago_images::confined::Confined;
 use imago_qcow2_check::fault::Verdict;
 use imago_words::command::{Check, Command, Compare, Convert, Info, Map, Output};
 use imago_words::help::{Help, VERSION};
@@ -60,18 +66,31 @@ impl Outcome {
 
 /// Does what the words of a command line ask for, which don't include the program's name, and gives
 /// the exit status. What it is refused for is told in one line of the errors.
-pub fn run<H: Host, W: Write, E: Write>(
-    host: &mut H,
-    words: &[String],
+///
+/// The host is asked for those paths alone which the command that the words ask for may ask for:
+/// with `--alone` those that the command line names. What has to be permitted is said of no others,
+/// so this holds of whatever is asked of any host, and whatever comes of it.
+pub fn run<'w, G: GuardedHost, W: Write, E: Write>(
+    host: &mut Confined<'w, G>,
+    words: &'w [String],
     output: &mut W,
     errors: &mut E,
 ) -> u8
+    requires reads { (command : Command) → Asks (map string_bytes words.now) command
+        → AreAmong (is_read (reach_by command)) G.may_read }
+    requires looks { (command : Command) → Asks (map string_bytes words.now) command
+        → AreAmong (is_seen (reach_by command)) G.may_look }
+    requires makes { (command : Command) → Asks (map string_bytes words.now) command
+        → AreAmong (is_made (reach_by command)) G.may_make }
     ensures status { IsStatus result }
-    ensures done { IsRun (map string_bytes words.now) (H.contents host.old) (H.contents host.new)
-        (H.around host.old) (H.around host.new) result }
+    ensures done { IsRun (map string_bytes words.entry.now) (G.contents host.old.host)
+        (G.contents host.new.host) (G.around host.old.host) (G.around host.new.host) result }
 {
     match Command::read(host.alloc(), words) {
-        Ok(command) => perform(host, command, refused_status(words), output, errors),
+        Ok(command) => {
+            host.confine(reach_of(&command));
+            perform(host, command, refused_status(words), output, errors)
+        }
         Err(refusal) => refuse(refusal, errors),
     }
 }

@@ -4,7 +4,7 @@ ghost use Rattle.std.specs.Prelude.{◌≡◌, ◌+◌, ◌-◌, ◌<◌, ◌≤
 ghost use Rattle.std.specs.Prelude.{false, length, drop, option_to_list};
 ghost use Rattle.std.specs.String.{string_bytes};
 
-use crate::host::{FileKind, FileStatus, Files, Host, Making, UNFINISHED};
+use crate::host::{FileKind, FileStatus, Files, Host, LeftOver, Making, UNFINISHED};
 use imago_copy::target::Target;
 use imago_file::host::HostFile;
 use std::alloc::Global;
@@ -372,10 +372,18 @@ impl<'a> Host for System<'a> {
         let _ = eprintln!(self.runtime);
     }
 
-    fn left_over(&self, path: &str) -> io::Result<Option<String>> {
-        let left = self.unfinished(&self.final_path(path)?)?;
-        let found = self.there(&left)?;
-        Ok(found.map(|_| left))
+    fn left_over(&self, path: &str) -> io::Result<Option<LeftOver>> {
+        let path = self.unfinished(&self.final_path(path)?)?;
+        let Some(found) = self.there(&path)? else {
+            return Ok(None);
+        };
+        let status = FileStatus {
+            kind: kind_of(&found),
+            length: found.len(),
+            device: found.dev(),
+            inode: found.ino(),
+        };
+        Ok(Some(LeftOver { path, status }))
     }
 
     fn remove_left_over(&mut self, path: &str) -> io::Result<()> {

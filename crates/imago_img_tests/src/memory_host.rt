@@ -8,7 +8,7 @@ ghost use Rattle.imago_img_tests.specs.MemoryFiles.{files_without, unfinished_pa
 
 use imago_copy::target::Target;
 use imago_file::host::MemoryFile as OpenFile;
-use imago_img_parts::host::{FileKind, FileStatus, Files, Host, Making};
+use imago_img_parts::host::{FileKind, FileStatus, Files, Host, LeftOver, Making};
 use std::alloc::{AllocError, Global};
 use std::cell::Cell;
 use std::io::{self, ErrorKind};
@@ -355,12 +355,12 @@ impl Host for MemoryHost {
 
     fn end_progress(&self) {}
 
-    fn left_over(&self, path: &str) -> io::Result<Option<String>> {
-        let left = unfinished_path(self.alloc, path)?;
-        if self.file(&left).is_err() {
-            return Ok(None);
+    fn left_over(&self, path: &str) -> io::Result<Option<LeftOver>> {
+        let path = unfinished_path(self.alloc, path)?;
+        match self.status(&path) {
+            Ok(status) => Ok(Some(LeftOver { path, status })),
+            Err(_) => Ok(None),
         }
-        Ok(Some(left))
     }
 
     fn remove_left_over(&mut self, path: &str) -> io::Result<()> {

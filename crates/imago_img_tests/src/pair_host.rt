@@ -8,7 +8,7 @@ ghost use Rattle.imago_img_tests.specs.Pairs.{pair_bytes, has_path};
 use crate::memory_host::{read_padded, take_append};
 use imago_copy::target::Target;
 use imago_file::host::MemoryFile as OpenFile;
-use imago_img_parts::host::{FileKind, FileStatus, Files, Host, Making};
+use imago_img_parts::host::{FileKind, FileStatus, Files, Host, LeftOver, Making};
 use std::alloc::{AllocError, Global};
 use std::io::{self, ErrorKind};
 
@@ -160,7 +160,7 @@ impl Host for PairHost {
 
     fn end_progress(&self) {}
 
-    fn left_over(&self, _path: &str) -> io::Result<Option<String>> {
+    fn left_over(&self, _path: &str) -> io::Result<Option<LeftOver>> {
         Ok(None)
     }
 

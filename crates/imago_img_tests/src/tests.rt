@@ -1,6 +1,7 @@
 // SPDX-License-Identifier: MIT
 //! Command lines over files in memory: what each prints, its status, and the file that it makes.
 
+mod alone;
 mod below;
 mod chains;
 mod checks;

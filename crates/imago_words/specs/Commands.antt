@@ -75,6 +75,7 @@ leaves_holes s = not (unwrap_or (size_given (codes "sparse") s) 4096 == 0)
 pub record IsOpening (s : State) (o : Opening) : Type 0 where
   pub strict : o.strict ≡ was_given (codes "strict") s
   pub allow_outside : o.allow_outside ≡ was_given (codes "allow-outside") s
+  pub alone : o.alone ≡ was_given (codes "alone") s
   pub tables : o.tables ≡ size_given (codes "tables") s
 
 pub record IsInfo (s : State) (i : Info) : Type 0 where

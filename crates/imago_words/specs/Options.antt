@@ -23,6 +23,7 @@ info_options =
     ∷ valued (codes "tables") [] (codes "tables")
     ∷ flag (codes "strict") [] (codes "strict")
     ∷ flag (codes "allow-outside") [] (codes "allow-outside")
+    ∷ flag (codes "alone") [] (codes "alone")
     ∷ flag (codes "help") (codes "h") (codes "help")
     ∷ flag (codes "version") (codes "V") (codes "version")
     ∷ []
@@ -36,6 +37,7 @@ map_options =
     ∷ valued (codes "tables") [] (codes "tables")
     ∷ flag (codes "strict") [] (codes "strict")
     ∷ flag (codes "allow-outside") [] (codes "allow-outside")
+    ∷ flag (codes "alone") [] (codes "alone")
     ∷ flag (codes "help") (codes "h") (codes "help")
     ∷ flag (codes "version") (codes "V") (codes "version")
     ∷ []
@@ -50,6 +52,7 @@ check_options =
     ∷ valued (codes "tables") [] (codes "tables")
     ∷ flag (codes "strict") [] (codes "strict")
     ∷ flag (codes "allow-outside") [] (codes "allow-outside")
+    ∷ flag (codes "alone") [] (codes "alone")
     ∷ flag (codes "help") (codes "h") (codes "help")
     ∷ flag (codes "version") (codes "V") (codes "version")
     ∷ []
@@ -66,6 +69,7 @@ compare_options =
     ∷ valued (codes "tables") [] (codes "tables")
     ∷ flag (codes "strict") [] (codes "strict")
     ∷ flag (codes "allow-outside") [] (codes "allow-outside")
+    ∷ flag (codes "alone") [] (codes "alone")
     ∷ flag (codes "help") (codes "h") (codes "help")
     ∷ flag (codes "version") (codes "V") (codes "version")
     ∷ []
@@ -89,6 +93,7 @@ convert_options =
     ∷ valued (codes "tables") [] (codes "tables")
     ∷ flag (codes "strict") [] (codes "strict")
     ∷ flag (codes "allow-outside") [] (codes "allow-outside")
+    ∷ flag (codes "alone") [] (codes "alone")
     ∷ flag (codes "help") (codes "h") (codes "help")
     ∷ flag (codes "version") (codes "V") (codes "version")
     ∷ []

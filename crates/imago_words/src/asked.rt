@@ -102,6 +102,7 @@ fn opening<'a>(words: &Words<'a>) -> Result<Opening, Fault<'a>>
     Ok(Opening {
         strict: words.has("strict"),
         allow_outside: words.has("allow-outside"),
+        alone: words.has("alone"),
         tables: size(words, "tables")?,
     })
 }

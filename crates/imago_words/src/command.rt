@@ -29,6 +29,9 @@ pub struct Opening {
     pub strict: bool,
     /// Whether files outside the image's folder are permitted.
     pub allow_outside: bool,
+    /// Whether no files are opened but those that the command line names. This beats
+    /// `allow_outside`.
+    pub alone: bool,
     /// The most bytes of memory that tables may take, if it was said.
     pub tables: Option<u64>,
 }

@@ -6,7 +6,7 @@ ghost use Rattle.imago_words.specs.Options.{options_of};
 ghost use Rattle.imago_words.specs.Reading.{known};
 
 use crate::page::Page;
-use crate::table::TABLE;
+use crate::table::{CHECK, COMPARE, CONVERT, INFO, MAP};
 
 /// Which command it is.
 #[derive(Clone, Copy, PartialEq, Eq)]
@@ -53,11 +53,11 @@ impl Kind {
         ensures { map known result.rows.now ≡ options_of self }
     {
         match self {
-            Kind::Info => TABLE.info,
-            Kind::Map => TABLE.map,
-            Kind::Check => TABLE.check,
-            Kind::Compare => TABLE.compare,
-            Kind::Convert => TABLE.convert,
+            Kind::Info => INFO,
+            Kind::Map => MAP,
+            Kind::Check => CHECK,
+            Kind::Compare => COMPARE,
+            Kind::Convert => CONVERT,
         }
     }
 }

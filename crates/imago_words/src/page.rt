@@ -25,18 +25,3 @@ pub struct Absent {
     /// What there is in its place.
     pub instead: &'static str,
 }
-
-/// The commands, each with its page.
-#[derive(Clone, Copy)]
-pub struct Table {
-    /// That of `info`.
-    pub info: Page,
-    /// That of `map`.
-    pub map: Page,
-    /// That of `check`.
-    pub check: Page,
-    /// That of `compare`.
-    pub compare: Page,
-    /// That of `convert`.
-    pub convert: Page,
-}

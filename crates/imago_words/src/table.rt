@@ -1,6 +1,6 @@
 // SPDX-License-Identifier: MIT
 //! The table: the commands and their options, as they are typed and as help tells them.
-use crate::page::{Absent, Page, Table};
+use crate::page::{Absent, Page};
 use crate::row::Row;
 
 /// An option without a value: its key, letter and name, and what help says of it.
@@ -101,6 +101,13 @@ const OUTSIDE: Row = flag!(
     "Permit files outside the image's folder"
 );
 
+const ALONE: Row = flag!(
+    "alone",
+    "",
+    "alone",
+    "Open no other file, whatever an image names"
+);
+
 const TABLES: Row = valued!(
     "tables",
     "",
@@ -130,155 +137,164 @@ const IMAGE_OPTS: Absent = absent!(
     "name the file by its path, and its format by -f"
 );
 
-/// The commands that work.
-pub static TABLE: Table = Table {
-    info: Page {
-        name: "info",
-        about: "Describe an image",
-        files: "FILE",
-        rows: &[
-            FORMAT, OUTPUT, JSON, SHARE, TABLES, STRICT, OUTSIDE, HELP, VERSION,
-        ],
-        absent: &[
-            absent!(
-                "--backing-chain",
-                "not yet; info describes one image at a time"
-            ),
-            OBJECT,
-            IMAGE_OPTS,
-        ],
-    },
-    map: Page {
-        name: "map",
-        about: "List where the bytes of an image's disk are stored",
-        files: "FILE",
-        rows: &[
-            FORMAT, OUTPUT, JSON, SHARE, TABLES, STRICT, OUTSIDE, HELP, VERSION,
-        ],
-        absent: &[
-            absent!("-s", "the whole disk is listed"),
-            absent!("--start-offset", "the whole disk is listed"),
-            absent!("-l", "the whole disk is listed"),
-            absent!("--max-length", "the whole disk is listed"),
-            OBJECT,
-            IMAGE_OPTS,
-        ],
-    },
-    check: Page {
-        name: "check",
-        about: "Look for errors in an image",
-        files: "FILE",
-        rows: &[
-            FORMAT,
-            OUTPUT,
-            JSON,
-            SHARE,
-            SOURCE_CACHE,
-            TABLES,
-            STRICT,
-            OUTSIDE,
-            HELP,
-            VERSION,
-        ],
-        absent: &[
-            absent!("-r", "errors are reported, not repaired"),
-            absent!("--repair", "errors are reported, not repaired"),
-            absent!("-q", "its exit status says whether there are errors"),
-            OBJECT,
-            IMAGE_OPTS,
-        ],
-    },
-    compare: Page {
-        name: "compare",
-        about: "Compare the disks of two images",
-        files: "A B",
-        rows: &[
-            EITHER_FORMAT,
-            valued!(
-                "second-format",
-                "F",
-                "",
-                "FMT",
-                "raw, vmdk or qcow2",
-                "The format of the second image"
-            ),
-            flag!(
-                "same-size",
-                "s",
-                "",
-                "Disks of different sizes are different"
-            ),
-            PROGRESS,
-            QUIET,
-            SHARE,
-            SOURCE_CACHE,
-            TABLES,
-            STRICT,
-            OUTSIDE,
-            HELP,
-            VERSION,
-        ],
-        absent: &[
-            absent!("--format", "-f takes the format of A, and -F that of B"),
-            OBJECT,
-            IMAGE_OPTS,
-        ],
-    },
-    convert: Page {
-        name: "convert",
-        about: "Write an image's disk to another image",
-        files: "FILE OUT",
-        rows: &[
-            SOURCE_FORMAT,
-            valued!("target-format", "O", "", "FMT", "raw", "The format of OUT"),
-            flag!("force", "", "force", "Replace OUT if it exists"),
-            flag!("existing", "n", "", "Write into OUT, which exists"),
-            valued!(
-                "sparse",
-                "S",
-                "",
-                "SIZE",
-                "0 or 4k",
-                "How many zeroes make a hole, 0 for none"
-            ),
-            PROGRESS,
-            QUIET,
-            SHARE,
-            valued!("cache", "t", "", "CACHE", "", "Accepted and ignored"),
-            SOURCE_CACHE,
-            valued!("requests", "m", "", "N", "", "Accepted and ignored"),
-            flag!("out-of-order", "W", "", "Accepted and ignored"),
-            flag!("copy-range", "C", "", "Accepted and ignored"),
-            valued!("rate", "r", "", "RATE", "", "Accepted and ignored"),
-            TABLES,
-            STRICT,
-            OUTSIDE,
-            HELP,
-            VERSION,
-        ],
-        absent: &[
-            absent!("-c", "OUT is raw, which isn't compressed"),
-            absent!("-o", "OUT is raw, which has no options"),
-            absent!("-l", "snapshots aren't read; the disk is read as it is now"),
-            absent!("-B", "OUT is raw, and holds the whole disk"),
-            absent!("-b", "OUT is raw, and holds the whole disk"),
-            absent!("-F", "OUT is raw, and holds the whole disk"),
-            absent!(
-                "--format",
-                "-f takes the format of FILE, and -O that of OUT"
-            ),
-            absent!(
-                "--target-image-opts",
-                "name OUT by its path, and its format by -O"
-            ),
-            absent!("--target-is-zero", "every byte of OUT gets its value"),
-            absent!("--salvage", "a byte that can't be read ends convert"),
-            absent!("--bitmaps", "OUT is raw, which has no bitmaps"),
-            absent!("--skip-broken-bitmaps", "OUT is raw, which has no bitmaps"),
-            OBJECT,
-            IMAGE_OPTS,
-        ],
-    },
+/// The page of `info`.
+pub static INFO: Page = Page {
+    name: "info",
+    about: "Describe an image",
+    files: "FILE",
+    rows: &[
+        FORMAT, OUTPUT, JSON, SHARE, TABLES, STRICT, OUTSIDE, ALONE, HELP, VERSION,
+    ],
+    absent: &[
+        absent!(
+            "--backing-chain",
+            "not yet; info describes one image at a time"
+        ),
+        OBJECT,
+        IMAGE_OPTS,
+    ],
+};
+
+/// The page of `map`.
+pub static MAP: Page = Page {
+    name: "map",
+    about: "List where the bytes of an image's disk are stored",
+    files: "FILE",
+    rows: &[
+        FORMAT, OUTPUT, JSON, SHARE, TABLES, STRICT, OUTSIDE, ALONE, HELP, VERSION,
+    ],
+    absent: &[
+        absent!("-s", "the whole disk is listed"),
+        absent!("--start-offset", "the whole disk is listed"),
+        absent!("-l", "the whole disk is listed"),
+        absent!("--max-length", "the whole disk is listed"),
+        OBJECT,
+        IMAGE_OPTS,
+    ],
+};
+
+/// The page of `check`.
+pub static CHECK: Page = Page {
+    name: "check",
+    about: "Look for errors in an image",
+    files: "FILE",
+    rows: &[
+        FORMAT,
+        OUTPUT,
+        JSON,
+        SHARE,
+        SOURCE_CACHE,
+        TABLES,
+        STRICT,
+        OUTSIDE,
+        ALONE,
+        HELP,
+        VERSION,
+    ],
+    absent: &[
+        absent!("-r", "errors are reported, not repaired"),
+        absent!("--repair", "errors are reported, not repaired"),
+        absent!("-q", "its exit status says whether there are errors"),
+        OBJECT,
+        IMAGE_OPTS,
+    ],
+};
+
+/// The page of `compare`.
+pub static COMPARE: Page = Page {
+    name: "compare",
+    about: "Compare the disks of two images",
+    files: "A B",
+    rows: &[
+        EITHER_FORMAT,
+        valued!(
+            "second-format",
+            "F",
+            "",
+            "FMT",
+            "raw, vmdk or qcow2",
+            "The format of the second image"
+        ),
+        flag!(
+            "same-size",
+            "s",
+            "",
+            "Disks of different sizes are different"
+        ),
+        PROGRESS,
+        QUIET,
+        SHARE,
+        SOURCE_CACHE,
+        TABLES,
+        STRICT,
+        OUTSIDE,
+        ALONE,
+        HELP,
+        VERSION,
+    ],
+    absent: &[
+        absent!("--format", "-f takes the format of A, and -F that of B"),
+        OBJECT,
+        IMAGE_OPTS,
+    ],
+};
+
+/// The page of `convert`.
+pub static CONVERT: Page = Page {
+    name: "convert",
+    about: "Write an image's disk to another image",
+    files: "FILE OUT",
+    rows: &[
+        SOURCE_FORMAT,
+        valued!("target-format", "O", "", "FMT", "raw", "The format of OUT"),
+        flag!("force", "", "force", "Replace OUT if it exists"),
+        flag!("existing", "n", "", "Write into OUT, which exists"),
+        valued!(
+            "sparse",
+            "S",
+            "",
+            "SIZE",
+            "0 or 4k",
+            "How many zeroes make a hole, 0 for none"
+        ),
+        PROGRESS,
+        QUIET,
+        SHARE,
+        valued!("cache", "t", "", "CACHE", "", "Accepted and ignored"),
+        SOURCE_CACHE,
+        valued!("requests", "m", "", "N", "", "Accepted and ignored"),
+        flag!("out-of-order", "W", "", "Accepted and ignored"),
+        flag!("copy-range", "C", "", "Accepted and ignored"),
+        valued!("rate", "r", "", "RATE", "", "Accepted and ignored"),
+        TABLES,
+        STRICT,
+        OUTSIDE,
+        ALONE,
+        HELP,
+        VERSION,
+    ],
+    absent: &[
+        absent!("-c", "OUT is raw, which isn't compressed"),
+        absent!("-o", "OUT is raw, which has no options"),
+        absent!("-l", "snapshots aren't read; the disk is read as it is now"),
+        absent!("-B", "OUT is raw, and holds the whole disk"),
+        absent!("-b", "OUT is raw, and holds the whole disk"),
+        absent!("-F", "OUT is raw, and holds the whole disk"),
+        absent!(
+            "--format",
+            "-f takes the format of FILE, and -O that of OUT"
+        ),
+        absent!(
+            "--target-image-opts",
+            "name OUT by its path, and its format by -O"
+        ),
+        absent!("--target-is-zero", "every byte of OUT gets its value"),
+        absent!("--salvage", "a byte that can't be read ends convert"),
+        absent!("--bitmaps", "OUT is raw, which has no bitmaps"),
+        absent!("--skip-broken-bitmaps", "OUT is raw, which has no bitmaps"),
+        OBJECT,
+        IMAGE_OPTS,
+    ],
 };
 
 /// The commands that only qemu-img has.

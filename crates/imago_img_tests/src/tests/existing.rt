@@ -4,6 +4,7 @@
 use super::set_up::{check_line, words_of};
 use crate::memory_host::{MemoryHost, Nature};
 use crate::pair_host::PairHost;
+use imago_img_parts::guarded::Confined;
 use imago_img_parts::run::run;
 use std::alloc::{AllocError, Global};
 use std::process::Abort;
@@ -66,8 +67,9 @@ fn a_disk_is_written_into_what_can_hold_it(rt: HostRuntime) {
 /// file, the status, and how many bytes of the file are those of the image then.
 type Row = (&'static str, u64, u8, usize);
 
-static WRITTEN: [Row; 4] = [
+static WRITTEN: [Row; 5] = [
     ("convert -n disk.raw out.bin", 9, 0, IMAGE),
+    ("convert -n --alone disk.raw out.bin", 9, 0, IMAGE),
     ("convert -n --force disk.raw -fraw out.bin", 2, 0, IMAGE),
     // What was written before a refusal stays.
     ("convert -n disk.raw out.bin", 1, 1, 1 << 20),
@@ -106,9 +108,10 @@ fn check_written(rt: &impl Abort, alloc: Global, row: &Row) {
     let &(words, appends, status, count) = row;
     let (made, list) = (pair(alloc, appends), words_of(alloc, words));
     assert!(rt; made.is_ok() && list.is_ok(), "{words}");
-    let (Ok(mut host), Ok(list)) = (made, list) else {
+    let (Ok(host), Ok(list)) = (made, list) else {
         return
     };
+    let mut host = Confined::new(host);
     let mut output = Vec::new(alloc);
     let mut errors = Vec::new(alloc);
     assert_eq!(rt;
@@ -116,6 +119,7 @@ fn check_written(rt: &impl Abort, alloc: Global, row: &Row) {
         status,
         "{words}"
     );
+    let host = host.host;
     let (Some(image), Some(out)) = (host.bytes("disk.raw"), host.bytes("out.bin")) else {
         panic!(rt; "{words}");
     };

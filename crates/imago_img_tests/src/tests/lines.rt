@@ -1,8 +1,7 @@
 // SPDX-License-Identifier: MIT
 //! Command lines: what is read of their words, and the line that tells why one is refused.
 
-use super::set_up::{Case, check_cases, files, words_of};
-use imago_img_parts::run::run;
+use super::set_up::{Case, check_cases, files, run_on, words_of};
 use std::alloc::Global;
 use std::io::{self, ErrorKind, Write};
 use std::process::Abort;
@@ -18,7 +17,7 @@ const PLAIN: &str =
 const INFO: &str = "Describe an image
 
 usage: imago-img info [-f FMT] [--output OFMT] [--json] [-U] [--tables SIZE]
-                      [--strict] [--allow-outside] [-h] [-V] FILE
+                      [--strict] [--allow-outside] [--alone] [-h] [-V] FILE
 
 Options:
   -f, --format FMT      The image's format: raw, vmdk or qcow2
@@ -28,6 +27,7 @@ Options:
       --tables SIZE     The most memory for tables: a size such as 64M
       --strict          Refuse unknown keys of VMDK descriptors
       --allow-outside   Permit files outside the image's folder
+      --alone           Open no other file, whatever an image names
   -h, --help            Print this help
   -V, --version         Print the version
 ";
@@ -317,7 +317,7 @@ fn check_unwritten(rt: &impl Abort, alloc: Global, line: &str, wanted: u8) {
         return
     };
     let mut errors = Vec::new(alloc);
-    let status = run(&mut host, &list, &mut Broken, &mut errors);
+    let status = run_on(&mut host, &list, &mut Broken, &mut errors);
     assert_eq!(rt; status, wanted, "{line}");
     let told = errors.starts_with(b"imago-img: the output can't be written: ");
     assert!(rt; told, "{line}");

@@ -2,8 +2,12 @@
 //! The files that the tests have, and how a command line is tried on them.
 
 use crate::memory_host::{MemoryHost, Nature};
+use imago_img_parts::guarded::Confined;
+use imago_img_parts::host::Files;
 use imago_img_parts::run::run;
 use std::alloc::{AllocError, Global};
+use std::io::Write;
+use std::mem;
 use std::process::Abort;
 
 /// A file: zeroes, and bytes behind them.
@@ -456,10 +460,24 @@ pub fn check_line(
     let Ok(list) = made else { return };
     let mut output = Vec::new(alloc);
     let mut errors = Vec::new(alloc);
-    let status = run(host, &list, &mut output, &mut errors);
+    let status = run_on(host, &list, &mut output, &mut errors);
     check_text(rt, line, &output, wanted.1);
     check_text(rt, line, &errors, wanted.2);
     assert_eq!(rt; status, wanted.0, "{line}");
+}
+
+/// Does what words ask for on files.
+pub fn run_on<W: Write>(
+    host: &mut MemoryHost,
+    words: &[String],
+    output: &mut W,
+    errors: &mut Vec<u8>,
+) -> u8 {
+    let nothing = MemoryHost::new(host.alloc(), 0, false);
+    let mut confined = Confined::new(mem::replace(host, nothing));
+    let status = run(&mut confined, words, output, errors);
+    *host = confined.host;
+    status
 }
 
 /// What is printed is that text.

@@ -58,7 +58,7 @@ imago-img COMMAND --help prints the options of a command.
 const INFO: &str = "Describe an image
 
 usage: imago-img info [-f FMT] [--output OFMT] [--json] [-U] [--tables SIZE]
-                      [--strict] [--allow-outside] [-h] [-V] FILE
+                      [--strict] [--allow-outside] [--alone] [-h] [-V] FILE
 
 Options:
   -f, --format FMT      The image's format: raw, vmdk or qcow2
@@ -68,6 +68,7 @@ Options:
       --tables SIZE     The most memory for tables: a size such as 64M
       --strict          Refuse unknown keys of VMDK descriptors
       --allow-outside   Permit files outside the image's folder
+      --alone           Open no other file, whatever an image names
   -h, --help            Print this help
   -V, --version         Print the version
 ";
@@ -75,7 +76,7 @@ Options:
 const MAP: &str = "List where the bytes of an image's disk are stored
 
 usage: imago-img map [-f FMT] [--output OFMT] [--json] [-U] [--tables SIZE]
-                     [--strict] [--allow-outside] [-h] [-V] FILE
+                     [--strict] [--allow-outside] [--alone] [-h] [-V] FILE
 
 Options:
   -f, --format FMT      The image's format: raw, vmdk or qcow2
@@ -85,6 +86,7 @@ Options:
       --tables SIZE     The most memory for tables: a size such as 64M
       --strict          Refuse unknown keys of VMDK descriptors
       --allow-outside   Permit files outside the image's folder
+      --alone           Open no other file, whatever an image names
   -h, --help            Print this help
   -V, --version         Print the version
 ";
@@ -92,8 +94,8 @@ Options:
 const CHECK: &str = "Look for errors in an image
 
 usage: imago-img check [-f FMT] [--output OFMT] [--json] [-U] [-T CACHE]
-                       [--tables SIZE] [--strict] [--allow-outside] [-h] [-V]
-                       FILE
+                       [--tables SIZE] [--strict] [--allow-outside] [--alone]
+                       [-h] [-V] FILE
 
 Options:
   -f, --format FMT      The image's format: raw, vmdk or qcow2
@@ -104,6 +106,7 @@ Options:
       --tables SIZE     The most memory for tables: a size such as 64M
       --strict          Refuse unknown keys of VMDK descriptors
       --allow-outside   Permit files outside the image's folder
+      --alone           Open no other file, whatever an image names
   -h, --help            Print this help
   -V, --version         Print the version
 ";
@@ -111,8 +114,8 @@ Options:
 const COMPARE: &str = "Compare the disks of two images
 
 usage: imago-img compare [-f FMT] [-F FMT] [-s] [-p] [-q] [-U] [-T CACHE]
-                         [--tables SIZE] [--strict] [--allow-outside] [-h] [-V]
-                         A B
+                         [--tables SIZE] [--strict] [--allow-outside] [--alone]
+                         [-h] [-V] A B
 
 Options:
   -f FMT                The format of the first image: raw, vmdk or qcow2
@@ -125,6 +128,7 @@ Options:
       --tables SIZE     The most memory for tables: a size such as 64M
       --strict          Refuse unknown keys of VMDK descriptors
       --allow-outside   Permit files outside the image's folder
+      --alone           Open no other file, whatever an image names
   -h, --help            Print this help
   -V, --version         Print the version
 ";
@@ -133,8 +137,8 @@ const CONVERT: &str = "Write an image's disk to another image
 
 usage: imago-img convert [-f FMT] [-O FMT] [--force] [-n] [-S SIZE] [-p] [-q]
                          [-U] [-t CACHE] [-T CACHE] [-m N] [-W] [-C] [-r RATE]
-                         [--tables SIZE] [--strict] [--allow-outside] [-h] [-V]
-                         FILE OUT
+                         [--tables SIZE] [--strict] [--allow-outside] [--alone]
+                         [-h] [-V] FILE OUT
 
 Options:
   -f FMT                The format of FILE: raw, vmdk or qcow2
@@ -154,6 +158,7 @@ Options:
       --tables SIZE     The most memory for tables: a size such as 64M
       --strict          Refuse unknown keys of VMDK descriptors
       --allow-outside   Permit files outside the image's folder
+      --alone           Open no other file, whatever an image names
   -h, --help            Print this help
   -V, --version         Print the version
 ";
