@@ -112,7 +112,7 @@ fn check_format<H: Host, W: Write>(
             }))
         }
         ImageFormat::Qcow2 => {
-            let (corruptions, leaks) = check_qcow2(host, path, &file, how, lines)?;
+            let (corruptions, leaks) = check_qcow2(host, path, file, how, lines)?;
             Ok(Some(Found {
                 format: ImageFormat::Qcow2,
                 corruptions,

@@ -31,13 +31,13 @@ const MOST_MEMORY: u64 = 256 << 20;
 pub fn check_qcow2<'a, H: Host, W: Write>(
     host: &'a H,
     path: &str,
-    file: &PathStorage<'a, H>,
+    file: PathStorage<'a, H>,
     how: Opening,
     output: &mut W,
 ) -> Result<(u64, u64), Failure>
     requires { IfSome (H.contents host.now)
         (λ files. HasBytes ⟦<PathStorage<'a, H> as Storage>⟧.features
-        ⟦<PathStorage<'a, H> as Storage>⟧.bytes (files path.now) file.now) }
+        ⟦<PathStorage<'a, H> as Storage>⟧.bytes (files path.now) file) }
     ensures says { IfOk result (λ r. IfSome (H.contents host.now)
         (λ files. IsQcow2Checked (most_memory how.tables) (files path.now)
         (verdict_of r.0 r.1))) }
@@ -45,14 +45,13 @@ pub fn check_qcow2<'a, H: Host, W: Write>(
         (λ files. NamesNoOther how.other_files (files path.now))) }
 {
     let most = how.tables.unwrap_or(MOST_MEMORY);
+    let report = match report_on(host.alloc(), &file, most) {
+        Ok(report) => report,
+        Err(cause) => return Err(not_checked(host.alloc(), path, &file, cause)),
+    };
     refuse_others(host, path, file, most, how.other_files)?;
-    match report_on(host.alloc(), file, most) {
-        Ok(report) => {
-            tell_faults(path, &report, output).map_err(Failure::Output)?;
-            Ok((report.corruptions, report.leaks))
-        }
-        Err(cause) => Err(not_checked(host.alloc(), path, file, cause)),
-    }
+    tell_faults(path, &report, output).map_err(Failure::Output)?;
+    Ok((report.corruptions, report.leaks))
 }
 
 /// Refuses a qcow2 file that names another, where no other files are opened. Its tables may take so

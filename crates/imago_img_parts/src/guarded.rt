@@ -36,6 +36,10 @@ pub trait GuardedHost: GuardedFiles {
         ensures zero { IfSome (Self.contents self.now) (λ files. result.1 ≡ false
             → bytes_at (files path.now) «offset» result.0 ≡ replicate result.0 0) };
 
+    /// As [`Host::size_on_disk`], of a path that may be looked at.
+    fn size_on_disk(&self, path: &str) -> Option<u64>
+        requires asked { Self.may_look path.now ≡ true };
+
     /// As [`Host::show_progress`].
     fn show_progress(&self, done: u64, total: u64, hundredths: u64);
 
@@ -119,6 +123,10 @@ impl<H: Host> GuardedHost for H {
         Host::run_at(self, path, offset, most)
     }
 
+    fn size_on_disk(&self, path: &str) -> Option<u64> {
+        Host::size_on_disk(self, path)
+    }
+
     fn show_progress(&self, done: u64, total: u64, hundredths: u64) {
         Host::show_progress(self, done, total, hundredths)
     }
@@ -169,6 +177,13 @@ impl<'a, G: GuardedHost> Host for Confined<'a, G> {
             return (most, true);
         }
         self.host.run_at(path, offset, most)
+    }
+
+    fn size_on_disk(&self, path: &str) -> Option<u64> {
+        if !self.reach.sees(path) {
+            return None;
+        }
+        self.host.size_on_disk(path)
     }
 
     fn show_progress(&self, done: u64, total: u64, hundredths: u64) {
