@@ -221,7 +221,7 @@ pub static COMPARE: Page = Page {
             "",
             "Disks of different sizes are different"
         ),
-        PROGRESS,
+        flag!("progress", "p", "", "Accepted and ignored"),
         QUIET,
         SHARE,
         SOURCE_CACHE,

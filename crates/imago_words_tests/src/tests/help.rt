@@ -121,7 +121,7 @@ Options:
   -f FMT                The format of the first image: raw, vmdk or qcow2
   -F FMT                The format of the second image: raw, vmdk or qcow2
   -s                    Disks of different sizes are different
-  -p                    Show the progress
+  -p                    Accepted and ignored
   -q, --quiet           Print nothing but errors
   -U, --force-share     Accepted and ignored: no file is locked
   -T CACHE              Accepted and ignored
