@@ -140,7 +140,7 @@ fn print_sums<W: Write>(
 fn print_text<W: Write>(found: Found, output: &mut W) -> io::Result<()> {
     let (corruptions, leaks) = (found.corruptions, found.leaks);
     if corruptions == 0 && leaks == 0 {
-        return writeln!(output, "No faults were found.");
+        return writeln!(output, "No errors were found on the image.");
     }
     if corruptions > 0 {
         writeln!(

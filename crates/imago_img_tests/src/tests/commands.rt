@@ -143,7 +143,7 @@ static CASES: [Case; 13] = [
         appends: 0,
         finishes: true,
         status: 0,
-        output: "No faults were found.\n",
+        output: "No errors were found on the image.\n",
         errors: "",
         written: None,
     },

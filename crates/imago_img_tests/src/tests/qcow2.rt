@@ -54,7 +54,7 @@ static ROWS: [Row; 20] = [
         "Content mismatch at offset 0!\n",
         "",
     ),
-    ("check one.qcow2", 0, "No faults were found.\n", ""),
+    ("check one.qcow2", 0, "No errors were found on the image.\n", ""),
     // One above two others.
     (
         "info top.qcow2",
