@@ -9,7 +9,6 @@
 mod check;
 mod check_qcow2;
 mod check_vmdk;
-mod clusters;
 pub mod commands;
 mod compare;
 mod convert;
@@ -29,5 +28,7 @@ mod qcow2_info;
 mod question;
 pub mod run;
 mod short;
+mod sizes;
+mod snapshots;
 mod streams;
 pub mod system;
