@@ -42,6 +42,14 @@ pub enum Failure {
         /// Why.
         cause: Unchecked,
     },
+    /// The snapshots of a file can't be told.
+    #[error("{path:?}: the table of snapshots {fault}")]
+    OfSnapshots {
+        /// The file, as the program was given it.
+        path: String,
+        /// Why.
+        fault: SnapshotFault,
+    },
     /// A compressed cluster of an image can't be read.
     #[error("{path:?}: the cluster at {offset} of the disk {fault}")]
     Compressed {
@@ -72,6 +80,39 @@ pub enum Unchecked {
     /// A descriptor of another version, or a file that begins as a sparse image.
     #[error("no line says one of the versions 1 to 3, or the file begins as a sparse image")]
     Version,
+}
+
+/// Why the snapshots of a file can't be told.
+#[derive(Clone, Copy, Debug, Error)]
+pub enum SnapshotFault {
+    /// The storage refused to read it, or memory was refused.
+    #[error("isn't read: {0}")]
+    Storage(error::Error),
+    /// It isn't all in the file.
+    #[error("passes the file's end")]
+    PastEnd,
+    /// It has more than 8 MiB.
+    #[error("has more than 8 MiB, which is the limit")]
+    TooLong,
+}
+
+impl From<error::Error> for SnapshotFault {
+    fn from(error: error::Error) -> SnapshotFault {
+        SnapshotFault::Storage(error)
+    }
+}
+
+impl From<AllocError> for SnapshotFault {
+    fn from(_refused: AllocError) -> SnapshotFault {
+        SnapshotFault::Storage(error::Error::Memory)
+    }
+}
+
+impl<T: Drop> From<AllocFailed<T>> for SnapshotFault {
+    fn from(refused: AllocFailed<T>) -> SnapshotFault {
+        let _ = refused;
+        SnapshotFault::Storage(error::Error::Memory)
+    }
 }
 
 /// Why a file isn't made, or written over.
@@ -268,6 +309,14 @@ impl Failure {
     pub fn of_check(alloc: Global, path: &str, cause: Unchecked) -> Failure {
         match String::from_str(alloc, path) {
             Ok(path) => Failure::NotChecked { path, cause },
+            Err(_) => Failure::Memory,
+        }
+    }
+
+    /// The snapshots of that file can't be told, for that reason.
+    pub fn of_snapshots(alloc: Global, path: &str, fault: SnapshotFault) -> Failure {
+        match String::from_str(alloc, path) {
+            Ok(path) => Failure::OfSnapshots { path, fault },
             Err(_) => Failure::Memory,
         }
     }

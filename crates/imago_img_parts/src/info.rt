@@ -7,12 +7,13 @@ use crate::host::Host;
 use crate::json::quoted;
 use crate::looked::descriptor_text;
 use crate::qcow2_info::{Qcow2Report, print_qcow2, print_qcow2_json, report_on_qcow2};
+use crate::sizes::Size;
 use imago_images::file::{PathStorage, look_at};
 use imago_images::format::ImageFormat;
 use imago_images::gate::{FolderGate, Named};
 use imago_images::layer::format_of;
 use imago_images::opening::Opening;
-use imago_vmdk::descriptor;
+use imago_vmdk::descriptor::{self, Descriptor};
 use imago_vmdk::line::Extent;
 use std::alloc::Global;
 use std::io::{self, Write};
@@ -26,6 +27,8 @@ struct Report {
     format: ImageFormat,
     /// The disk's size in bytes.
     size: u64,
+    /// How many bytes the file takes, if that can be told.
+    on_disk: Option<u64>,
     extents: Vec<Found>,
     /// What else is told of a qcow2 image.
     qcow2: Option<Qcow2Report>,
@@ -54,42 +57,40 @@ pub fn info<H: Host, W: Write, E: Write>(
 /// Looks at an image, and for the files of its extents.
 fn report_on<H: Host>(host: &H, path: &str, how: Opening) -> Result<Report, Failure> {
     let file = look_at(host, path)?;
-    match format_of(host.alloc(), path, &file, how.format)? {
-        ImageFormat::Raw => Ok(Report {
-            format: ImageFormat::Raw,
-            size: file.file().status().length,
-            extents: Vec::new(host.alloc()),
-            qcow2: None,
-        }),
-        ImageFormat::Vmdk => report_on_vmdk(host, path, &file, how),
+    let format = format_of(host.alloc(), path, &file, how.format)?;
+    let mut report = Report {
+        format,
+        size: file.file().status().length,
+        on_disk: host.size_on_disk(path),
+        extents: Vec::new(host.alloc()),
+        qcow2: None,
+    };
+    match format {
+        ImageFormat::Raw => {}
+        ImageFormat::Vmdk => {
+            let described = describe(host, path, &file, how)?;
+            report.size = described.size;
+            report.extents = found_extents(host, path, described.extents, how)?;
+        }
         ImageFormat::Qcow2 => {
-            let found = report_on_qcow2(host, path, file, how.other_files)?;
-            Ok(Report {
-                format: ImageFormat::Qcow2,
-                size: found.header.disk_size(),
-                extents: Vec::new(host.alloc()),
-                qcow2: Some(found),
-            })
+            let found = report_on_qcow2(host, path, &file, how.other_files)?;
+            report.size = found.header.disk_size();
+            report.qcow2 = Some(found);
         }
     }
+    Ok(report)
 }
 
-/// Looks at a descriptor, and for the files of its extents.
-fn report_on_vmdk<H: Host>(
+/// What a descriptor says.
+fn describe<H: Host>(
     host: &H,
     path: &str,
     file: &PathStorage<'_, H>,
     how: Opening,
-) -> Result<Report, Failure> {
+) -> Result<Descriptor, Failure> {
     let text = descriptor_text(host.alloc(), path, file)?;
     let said = descriptor::read(host.alloc(), how.accepted, &text);
-    let described = Failure::or_image(host.alloc(), path, said)?;
-    Ok(Report {
-        format: ImageFormat::Vmdk,
-        size: described.size,
-        extents: found_extents(host, path, described.extents, how)?,
-        qcow2: None,
-    })
+    Failure::or_image(host.alloc(), path, said)
 }
 
 /// The extents of a descriptor, and what is found under their names.
@@ -142,8 +143,13 @@ fn warn<E: Write>(report: &Report, warnings: &mut E) {
 /// Prints it as lines.
 fn print_text<W: Write>(path: &str, report: &Report, output: &mut W) -> io::Result<()> {
     writeln!(output, "image: {path:?}")?;
-    writeln!(output, "format: {}", report.format.name())?;
-    writeln!(output, "size: {} bytes", report.size)?;
+    writeln!(output, "file format: {}", report.format.name())?;
+    let size = report.size;
+    writeln!(output, "virtual size: {} ({size} bytes)", Size(size))?;
+    match report.on_disk {
+        Some(taken) => writeln!(output, "disk size: {}", Size(taken))?,
+        None => writeln!(output, "disk size: unavailable")?,
+    }
     if let Some(found) = &report.qcow2 {
         print_qcow2(found, output)?;
     }
@@ -185,6 +191,9 @@ fn print_json<H: Host, W: Write>(
     let (format, size) = (report.format.name(), report.size);
     write!(output, "{{ \"filename\": {path}, \"format\": \"{format}\"")?;
     write!(output, ", \"virtual-size\": {size}")?;
+    if let Some(taken) = report.on_disk {
+        write!(output, ", \"actual-size\": {taken}")?;
+    }
     if let Some(found) = &report.qcow2 {
         print_qcow2_json(host.alloc(), found, output)?;
         return writeln!(output, " }}");

@@ -10,7 +10,6 @@
 mod check;
 mod check_qcow2;
 mod check_vmdk;
-mod clusters;
 pub mod commands;
 mod compare;
 mod convert;
@@ -32,5 +31,7 @@ mod question;
 mod reach;
 pub mod run;
 mod short;
+mod sizes;
+mod snapshots;
 mod streams;
 pub mod system;

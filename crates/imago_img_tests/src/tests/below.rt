@@ -291,9 +291,12 @@ static NAMELESS: [Row; 2] = [
     (
         "info nameless.qcow2",
         0,
-        "image: \"nameless.qcow2\"\nformat: qcow2\nsize: 2048 bytes\nversion: 2\n\
-         cluster: 512 bytes\n\
-        data: 0 of 4 clusters\n",
+        "image: \"nameless.qcow2\"\nfile format: qcow2\nvirtual size: 2 KiB (2048 bytes)\n\
+        disk size: 1 KiB\ncluster_size: 512\n\
+        Format specific information:\n\
+        \x20   compat: 0.10\n\
+        \x20   compression type: zlib\n\
+        \x20   refcount bits: 16\n",
         "",
     ),
 ];
@@ -342,8 +345,13 @@ static ABOVE_VMDK: [Row; 11] = [
     (
         "info above.qcow2",
         0,
-        "image: \"above.qcow2\"\nformat: qcow2\nsize: 2048 bytes\nversion: 2\ncluster: 512 bytes\n\
-        backing file: \"disk.vmdk\"\ndata: 0 of 4 clusters\n",
+        "image: \"above.qcow2\"\nfile format: qcow2\nvirtual size: 2 KiB (2048 bytes)\n\
+        disk size: 1 KiB\ncluster_size: 512\n\
+        backing file: \"disk.vmdk\"\n\
+        Format specific information:\n\
+        \x20   compat: 0.10\n\
+        \x20   compression type: zlib\n\
+        \x20   refcount bits: 16\n",
         "",
     ),
     (

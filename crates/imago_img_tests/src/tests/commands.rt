@@ -10,7 +10,8 @@ static CASES: [Case; 13] = [
         appends: 0,
         finishes: true,
         status: 0,
-        output: "image: \"disk.vmdk\"\nformat: vmdk\nsize: 2048 bytes\n\
+        output: "image: \"disk.vmdk\"\nfile format: vmdk\nvirtual size: 2 KiB (2048 bytes)\n\
+            disk size: 105 B\n\
             extent: FLAT, 512 bytes from 0 of \"a.bin\"\nextent: ZERO, 1024 bytes\n\
             extent: FLAT, 512 bytes from 512 of \"parts/b.bin\"\n",
         errors: "imago-img: warning: \"a.bin\": 6 bytes, and its extent ends at 512: what lacks \
@@ -133,7 +134,8 @@ static CASES: [Case; 13] = [
         appends: 0,
         finishes: true,
         status: 0,
-        output: "image: \"esx.vmdk\"\nformat: vmdk\nsize: 512 bytes\n\
+        output: "image: \"esx.vmdk\"\nfile format: vmdk\nvirtual size: 512 B (512 bytes)\n\
+            disk size: 76 B\n\
             extent: VMFS, 512 bytes from 0 of \"esx-flat.vmdk\"\n",
         errors: "",
         written: None,

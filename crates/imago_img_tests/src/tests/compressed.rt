@@ -187,8 +187,12 @@ static READ: [Row; 6] = [
     (
         "info packed.qcow2",
         0,
-        "image: \"packed.qcow2\"\nformat: qcow2\nsize: 2048 bytes\nversion: 2\n\
-        cluster: 512 bytes\ndata: 1 of 4 clusters\ncompressed: 2 clusters\n",
+        "image: \"packed.qcow2\"\nfile format: qcow2\nvirtual size: 2 KiB (2048 bytes)\n\
+        disk size: 2.03 KiB\ncluster_size: 512\n\
+        Format specific information:\n\
+        \x20   compat: 0.10\n\
+        \x20   compression type: zlib\n\
+        \x20   refcount bits: 16\n",
         "",
     ),
     (
@@ -295,18 +299,25 @@ static ZSTD: [Row; 6] = [
     (
         "info zstd.qcow2",
         0,
-        "image: \"zstd.qcow2\"\nformat: qcow2\nsize: 2048 bytes\nversion: 3\n\
-        cluster: 512 bytes\ncompression: zstd\nfeature: compression type\n\
-        data: 0 of 4 clusters\ncompressed: 1 clusters\n",
+        "image: \"zstd.qcow2\"\nfile format: qcow2\nvirtual size: 2 KiB (2048 bytes)\n\
+        disk size: 2 KiB\ncluster_size: 512\n\
+        Format specific information:\n\
+        \x20   compat: 1.1\n\
+        \x20   compression type: zstd\n\
+        \x20   lazy refcounts: false\n\
+        \x20   refcount bits: 16\n\
+        \x20   corrupt: false\n\
+        \x20   extended l2: false\n",
         "",
     ),
     (
         "info --json zstd.qcow2",
         0,
         "{ \"filename\": \"zstd.qcow2\", \"format\": \"qcow2\", \"virtual-size\": 2048, \
-         \"version\": 3, \"cluster-size\": 512, \"compression-type\": \"zstd\", \"clusters\": 4, \
-         \"data-clusters\": 0, \"compressed-clusters\": 1, \
-         \"features\": [\"compression type\"] }\n",
+        \"actual-size\": 2048, \"cluster-size\": 512, \"dirty-flag\": false, \
+        \"format-specific\": { \"type\": \"qcow2\", \"data\": { \"compat\": \"1.1\", \
+        \"compression-type\": \"zstd\", \"refcount-bits\": 16, \"lazy-refcounts\": false, \
+        \"corrupt\": false, \"extended-l2\": false } } }\n",
         "",
     ),
     (

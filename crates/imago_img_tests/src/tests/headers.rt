@@ -24,9 +24,8 @@ const HEADER: Parts = &[
     (99, b"\x04\0\0\0\x68"),
 ];
 
-/// Headers that are refused.
-static ROWS: [Row; 19] = [
-    // What isn't supported.
+/// Headers that are refused, and yet told by `info`.
+static UNOPENED: [Row; 6] = [
     (&[(79, b"\x02")], "the header says corrupt, which isn't supported"),
     (&[(79, b"\x04")], "the header says external data file, which isn't supported"),
     (&[(79, b"\x10")], "the header says extended L2 entries, which isn't supported"),
@@ -34,6 +33,11 @@ static ROWS: [Row; 19] = [
     // Left open, corrupt, with extended L2 entries, and bit 9.
     (&[(78, b"\x02\x13")], "the header says corrupt, which isn't supported"),
     (&[(35, b"\x01")], "the header says encryption, which isn't supported"),
+];
+
+/// Headers that are refused.
+static ROWS: [Row; 13] = [
+    // Versions.
     (&[(7, b"\x04")], "the header says version 4, which isn't supported"),
     (&[(7, b"\x01")], "the header says version 1, which isn't supported"),
     // What can't be meant.
@@ -180,15 +184,23 @@ fn headers_tell_versions_sizes_and_features(rt: HostRuntime) {
     }
 }
 
-/// Tries each command on a changed file, whose header has that fault.
+/// Tries commands on a changed file, whose header has that fault.
 fn check_refused(rt: &impl Abort, alloc: Global, parts: Parts, fault: &str) {
     let unchecked = format!(in alloc; "imago-img: \"a\" can't be checked: {fault}\n");
     let refused = format!(in alloc; "imago-img: \"a\": {fault}\n");
     assert!(rt; unchecked.is_ok() && refused.is_ok(), "{fault}");
     if let (Ok(unchecked), Ok(refused)) = (&unchecked, &refused) {
         check_changed(rt, alloc, parts, "check -f qcow2 a", (1, "", unchecked));
-        check_changed(rt, alloc, parts, "info -f qcow2 a", (1, "", refused));
         check_changed(rt, alloc, parts, "map -f qcow2 a", (1, "", refused));
+    }
+}
+
+/// Tries `info` on a changed file, whose header has that fault.
+fn check_untold(rt: &impl Abort, alloc: Global, parts: Parts, fault: &str) {
+    let refused = format!(in alloc; "imago-img: \"a\": {fault}\n");
+    assert!(rt; refused.is_ok(), "{fault}");
+    if let Ok(refused) = &refused {
+        check_changed(rt, alloc, parts, "info -f qcow2 a", (1, "", refused));
     }
 }
 
@@ -196,22 +208,107 @@ fn check_refused(rt: &impl Abort, alloc: Global, parts: Parts, fault: &str) {
 fn faults_of_headers_are_named(rt: HostRuntime) {
     for (parts, fault) in &ROWS {
         check_refused(&rt, rt.alloc(), parts, fault);
+        check_untold(&rt, rt.alloc(), parts, fault);
+    }
+    for (parts, fault) in &UNOPENED {
+        check_refused(&rt, rt.alloc(), parts, fault);
+    }
+}
+
+/// What `info` prints of files that aren't opened: one that was left open, is corrupt, and has
+/// extended L2 entries and bit 9, and one that is encrypted and corrupt.
+static TOLD_UNOPENED: [(Parts, &str); 2] = [
+    (
+        &[(78, b"\x02\x13")],
+        "image: \"a\"\nfile format: qcow2\nvirtual size: 2 KiB (2048 bytes)\ndisk size: 2 KiB\n\
+        cluster_size: 512\nFormat specific information:\n\x20   compat: 1.1\n\
+        \x20   compression type: zlib\n\x20   lazy refcounts: false\n\x20   refcount bits: 16\n\
+        \x20   corrupt: true\n\x20   extended l2: true\ncleanly shut down: no\n\
+        can't be opened: the header says corrupt, which isn't supported\n\
+        can't be opened: the header says extended L2 entries, which isn't supported\n\
+        can't be opened: the header says unknown bit 9, which isn't supported\n",
+    ),
+    (
+        &[(35, b"\x01"), (79, b"\x02")],
+        "image: \"a\"\nfile format: qcow2\nvirtual size: 2 KiB (2048 bytes)\ndisk size: 2 KiB\n\
+        cluster_size: 512\nFormat specific information:\n\x20   compat: 1.1\n\
+        \x20   compression type: zlib\n\x20   lazy refcounts: false\n\x20   refcount bits: 16\n\
+        \x20   corrupt: true\n\x20   extended l2: false\n\
+        can't be opened: the header says encryption, which isn't supported\n\
+        can't be opened: the header says corrupt, which isn't supported\n",
+    ),
+];
+
+/// What `info --json` prints of an encrypted file with snapshots.
+const TOLD_JSON: &str = "{ \"filename\": \"a\", \"format\": \"qcow2\", \"virtual-size\": 2048, \
+    \"actual-size\": 2048, \"cluster-size\": 512, \"snapshots\": [\
+    { \"id\": \"1\", \"name\": \"a\u{fffd}\", \"vm-state-size\": 256, \"date-sec\": 1, \
+    \"date-nsec\": 2, \"vm-clock-sec\": 1, \"vm-clock-nsec\": 3 }, \
+    { \"id\": \"2\", \"name\": \"\", \"vm-state-size\": 4, \"date-sec\": 0, \"date-nsec\": 0, \
+    \"vm-clock-sec\": 0, \"vm-clock-nsec\": 0 }], \"dirty-flag\": false, \"encrypted\": true, \
+    \"format-specific\": { \"type\": \"qcow2\", \"data\": { \"compat\": \"1.1\", \
+    \"compression-type\": \"zlib\", \"refcount-bits\": 16, \"lazy-refcounts\": false, \
+    \"corrupt\": false, \"extended-l2\": false } }, \"unsupported\": \
+    [\"the header says encryption, which isn't supported\"] }\n";
+
+/// Two snapshots in a table at 1024. The first one has 8 bytes besides, and its name isn't UTF-8.
+const SNAPSHOTS: Parts = &[
+    (35, b"\x02"),
+    (63, b"\x02"),
+    (70, b"\x04"),
+    (1037, b"\x01\0\x02\0\0\0\x01\0\0\0\x02\0\0\0\0\x3b\x9a\xca\x03\0\0\0\x09\0\0\0\x08"),
+    (1070, b"\x01\0"),
+    (1072, b"1a\xff"),
+    (1093, b"\x01"),
+    (1115, b"\x04"),
+    (1120, b"2"),
+];
+
+#[test]
+fn images_that_arent_opened_are_told(rt: HostRuntime) {
+    for (parts, output) in &TOLD_UNOPENED {
+        check_changed(&rt, rt.alloc(), parts, "info -f qcow2 a", (0, output, ""));
+    }
+    let line = "info --json -f qcow2 a";
+    check_changed(&rt, rt.alloc(), SNAPSHOTS, line, (0, TOLD_JSON, ""));
+}
+
+/// Tables of snapshots that can't be told.
+static LOST: [(Parts, &str); 2] = [
+    (
+        &[(63, b"\x01"), (70, b"\x08")],
+        "imago-img: \"a\": the table of snapshots passes the file's end\n",
+    ),
+    (
+        &[(63, b"\x01"), (70, b"\x04"), (1061, b"\xff")],
+        "imago-img: \"a\": the table of snapshots passes the file's end\n",
+    ),
+];
+
+#[test]
+fn tables_of_snapshots_are_in_the_file(rt: HostRuntime) {
+    for (parts, errors) in &LOST {
+        check_changed(&rt, rt.alloc(), parts, "info a", (1, "", errors));
     }
 }
 
 /// Offsets whose byte can't be read, with a command line that then is refused: in the first bytes,
 /// the header, the L1 table, the L2 table, and the name of the file below.
-static TORN: [(u64, &str); 9] = [
+static TORN: [(u64, &str); 7] = [
     (0, "info a"),
     (0, "check a"),
     (100, "info a"),
     (100, "check a"),
-    (512, "info a"),
     (512, "check a"),
-    (1024, "info a"),
     (1024, "check a"),
     (400, "info a"),
 ];
+
+/// What `info` prints of a file whose L1 table and L2 table can't be read: it reads neither.
+const UNREAD: &str = "image: \"a\"\nfile format: qcow2\nvirtual size: 2 KiB (2048 bytes)\n\
+    disk size: 2 KiB\ncluster_size: 512\nbacking file: \"b\"\nFormat specific information:\n\
+    \x20   compat: 1.1\n\x20   compression type: zlib\n\x20   lazy refcounts: false\n\
+    \x20   refcount bits: 16\n\x20   corrupt: false\n\x20   extended l2: false\n";
 
 /// A name at 400 and an L2 table at 1024.
 const NAMED: Parts = &[(14, b"\x01\x90\0\0\0\x01"), (400, b"b"), (518, b"\x04")];
@@ -224,5 +321,15 @@ fn refused_reads_are_told_by_the_host(rt: HostRuntime) {
         assert!(rt; made.is_ok(), "{line}");
         let Ok(mut host) = made else { continue };
         check_line(&rt, rt.alloc(), &mut host, line, (1, "", refused));
+    }
+}
+
+#[test]
+fn info_reads_no_table(rt: HostRuntime) {
+    for at in [512, 1024] {
+        let made = changed(rt.alloc(), NAMED, Nature::Torn(at));
+        assert!(rt; made.is_ok(), "{at}");
+        let Ok(mut host) = made else { continue };
+        check_line(&rt, rt.alloc(), &mut host, "info a", (0, UNREAD, ""));
     }
 }

@@ -10,8 +10,8 @@ use std::process::Abort;
 type Row = (&'static str, u8, &'static str, &'static str);
 
 /// What `info --json plain.raw` prints.
-const PLAIN: &str =
-    "{ \"filename\": \"plain.raw\", \"format\": \"raw\", \"virtual-size\": 7, \"extents\": [] }\n";
+const PLAIN: &str = "{ \"filename\": \"plain.raw\", \"format\": \"raw\", \"virtual-size\": 7, \
+    \"actual-size\": 7, \"extents\": [] }\n";
 
 /// What `info --help` prints.
 const INFO: &str = "Describe an image

@@ -12,17 +12,21 @@ static ROWS: [Row; 20] = [
     (
         "info one.qcow2",
         0,
-        "image: \"one.qcow2\"\nformat: qcow2\nsize: 2048 bytes\nversion: 2\ncluster: 512 bytes\n\
-        data: 2 of 4 clusters\n",
+        "image: \"one.qcow2\"\nfile format: qcow2\nvirtual size: 2 KiB (2048 bytes)\n\
+        disk size: 3.5 KiB\ncluster_size: 512\n\
+        Format specific information:\n\
+        \x20   compat: 0.10\n\
+        \x20   compression type: zlib\n\
+        \x20   refcount bits: 16\n",
         "",
     ),
     (
         "info --json one.qcow2",
         0,
         "{ \"filename\": \"one.qcow2\", \"format\": \"qcow2\", \"virtual-size\": 2048, \
-         \"version\": 2, \
-        \"cluster-size\": 512, \"clusters\": 4, \"data-clusters\": 2, \"compressed-clusters\": 0, \
-        \"features\": [] }\n",
+        \"actual-size\": 3584, \"cluster-size\": 512, \"dirty-flag\": false, \
+        \"format-specific\": { \"type\": \"qcow2\", \"data\": { \"compat\": \"0.10\", \
+        \"compression-type\": \"zlib\", \"refcount-bits\": 16 } } }\n",
         "",
     ),
     (
@@ -59,9 +63,16 @@ static ROWS: [Row; 20] = [
     (
         "info top.qcow2",
         0,
-        "image: \"top.qcow2\"\nformat: qcow2\nsize: 2048 bytes\nversion: 3\ncluster: 512 bytes\n\
-        backing file: \"mid.qcow2\"\nbacking format: qcow2\nfeature: lazy refcounts\n\
-        data: 1 of 4 clusters\n",
+        "image: \"top.qcow2\"\nfile format: qcow2\nvirtual size: 2 KiB (2048 bytes)\n\
+        disk size: 2 KiB\ncluster_size: 512\n\
+        backing file: \"mid.qcow2\"\nbacking file format: \"qcow2\"\n\
+        Format specific information:\n\
+        \x20   compat: 1.1\n\
+        \x20   compression type: zlib\n\
+        \x20   lazy refcounts: true\n\
+        \x20   refcount bits: 16\n\
+        \x20   corrupt: false\n\
+        \x20   extended l2: false\n",
         "",
     ),
     (

@@ -157,7 +157,8 @@ static ROWS: [Row; 28] = [
     (
         "info /vm/disk.vmdk",
         0,
-        "image: \"/vm/disk.vmdk\"\nformat: vmdk\nsize: 512 bytes\n\
+        "image: \"/vm/disk.vmdk\"\nfile format: vmdk\nvirtual size: 512 B (512 bytes)\n\
+        disk size: 59 B\n\
         extent: FLAT, 512 bytes from 0 of \"/vm/flat.bin\"\n",
         "",
     ),
