@@ -51,7 +51,11 @@ fn show(rt: &HostRuntime, disk: &Disk) -> Result<(), OpenError> {
     OpenError::or_image(rt.alloc(), disk.path, read)?;
     let text = str::from_utf8(&buf).unwrap_or("no text");
     let size = disk.image.size();
-    let _ = println!(rt; "{}: {}, {size} bytes, {text:?}", disk.path, disk.format.name());
+    let _ = println!(rt;
+        "{}: {}, {size} bytes, {text:?}",
+        disk.path,
+        disk.format.name()
+    );
     Ok(())
 }
 
@@ -114,8 +118,7 @@ fn change<D: FormatDriverInstance>(
     Ok(())
 }
 
-/// Lays a copy-on-write disk above the image of a path, whose data stands in a new file, and changes
-/// it.
+/// Lays a copy-on-write disk above an image, with its data in a new file, and changes it.
 fn use_overlay<'a>(rt: &HostRuntime, host: &'a SystemFiles<'a>) -> Result<(), OpenError> {
     let below = open(host, "overlay.qcow2")?;
     let data = new_file(rt, host, "changes.raw")?;
