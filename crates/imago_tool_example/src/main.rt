@@ -12,9 +12,9 @@ use imago::images::{
     open_image,
 };
 use imago::run::{Call, Reply, run};
-use imago::{FormatAccess, FormatDriverInstance, error};
+use imago::{FormatAccess, FormatDriverInstance, Storage, error};
 use imago_examples::by_path::SystemFiles;
-use imago_examples::files::{copy_on_write, write_and_read};
+use imago_examples::files::{Image, copy_on_write, write_and_read};
 use imago_images::file::storage_of;
 use std::fs::File;
 use std::process::ExitCode;
@@ -44,19 +44,23 @@ fn open<'a>(host: &'a SystemFiles<'a>, path: &'a str) -> Result<Disk<'a>, OpenEr
     })
 }
 
-/// Prints the format, the size and the first nine bytes of an image.
-fn show(rt: &HostRuntime, disk: &Disk) -> Result<(), OpenError> {
+/// Prints the name, the size and the first nine bytes of an image of any driver.
+fn show<D: FormatDriverInstance>(
+    rt: &HostRuntime,
+    name: &str,
+    image: &FormatAccess<D>,
+) -> Result<(), error::Error> {
     let mut buf = [0; 9];
-    let read = disk.image.read(rt.alloc(), &mut buf, 0);
-    OpenError::or_image(rt.alloc(), disk.path, read)?;
+    image.read(rt.alloc(), &mut buf, 0)?;
     let text = str::from_utf8(&buf).unwrap_or("no text");
-    let size = disk.image.size();
-    let _ = println!(rt;
-        "{}: {}, {size} bytes, {text:?}",
-        disk.path,
-        disk.format.name()
-    );
+    let _ = println!(rt; "{name}: {} bytes, {text:?}", image.size());
     Ok(())
+}
+
+/// Prints the format of an image that was opened by its path, and what it begins with.
+fn show_disk(rt: &HostRuntime, disk: &Disk) -> Result<(), OpenError> {
+    let _ = print!(rt; "{} ", disk.format.name());
+    OpenError::or_image(rt.alloc(), disk.path, show(rt, disk.path, &disk.image))
 }
 
 /// A new file of that path, empty, as a storage that is written.
@@ -118,27 +122,34 @@ fn change<D: FormatDriverInstance>(
     Ok(())
 }
 
-/// Lays a copy-on-write disk above an image, with its data in a new file, and changes it.
+/// Lays a copy-on-write disk above an image, with its data in that storage, and changes it.
+fn change_above<S: Storage>(
+    rt: &HostRuntime,
+    data: S,
+    below: Image<S>,
+) -> Result<(), error::Error> {
+    let mut image = copy_on_write(rt.alloc(), data, below)?;
+    let _ = println!(rt; "{}", image.chain_text());
+    change(rt, &mut image)?;
+    show(rt, "changed", &image)
+}
+
+/// Changes a disk above the overlay, whose data stands in a new file.
 fn use_overlay<'a>(rt: &HostRuntime, host: &'a SystemFiles<'a>) -> Result<(), OpenError> {
     let below = open(host, "overlay.qcow2")?;
     let data = new_file(rt, host, "changes.raw")?;
-    let mut image = OpenError::or_image(
-        rt.alloc(),
-        below.path,
-        copy_on_write(rt.alloc(), data, below.image),
-    )?;
-    let _ = println!(rt; "{}", image.chain_text());
-    OpenError::or_image(rt.alloc(), "changes.raw", change(rt, &mut image))
+    let changed = change_above(rt, data, below.image);
+    OpenError::or_image(rt.alloc(), "changes.raw", changed)
 }
 
 /// All that the tool does.
 fn use_images(rt: &HostRuntime) -> Result<(), OpenError> {
     let host = SystemFiles::new(rt);
-    show(rt, &open(&host, "disk.raw")?)?;
-    show(rt, &open(&host, "overlay.qcow2")?)?;
-    show(rt, &open(&host, "disk.vmdk")?)?;
+    show_disk(rt, &open(&host, "disk.raw")?)?;
+    show_disk(rt, &open(&host, "overlay.qcow2")?)?;
+    show_disk(rt, &open(&host, "disk.vmdk")?)?;
     use_overlay(rt, &host)?;
-    show(rt, &open(&host, "overlay.qcow2")?)
+    show_disk(rt, &open(&host, "overlay.qcow2")?)
 }
 
 fn main(rt: HostRuntime) -> ExitCode {
