@@ -47,7 +47,7 @@ pub versions : (v : Version) → (v ≡ V.Two) ⊎ (v ≡ V.Three)
 versions V.Two = inl refl
 versions V.Three = inr refl
 
-words_most : (v : Version) → words_of v ≤ 14
+pub words_most : (v : Version) → words_of v ≤ 14
 words_most V.Two = omega arith
 words_most V.Three = omega arith
 

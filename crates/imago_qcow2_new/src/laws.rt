@@ -1,10 +1,12 @@
 // SPDX-License-Identifier: MIT
 //! Laws of new files. The functions do nothing; their contracts are proved.
-ghost use Rattle.std.specs.Prelude.{ℕ, List, length, IsOk};
+ghost use Rattle.std.specs.Prelude.{ℕ, ◌<◌, List, length, IsOk};
 ghost use Rattle.imago_drivers.specs.Place.{Value};
 ghost use Rattle.imago_qcow2.specs.Header.{header_of};
+ghost use Rattle.imago_qcow2_check.specs.Known.{IsKnown};
 ghost use Rattle.imago_qcow2_check.specs.Verdicts.{IsFaultless};
 ghost use Rattle.imago_qcow2_new.specs.declared.layout.Layout.{Layout};
+ghost use Rattle.imago_qcow2_new.specs.Names.{HasNames, HasNoNames, IsNamed};
 ghost use Rattle.imago_qcow2_new.specs.Image.{IsWritten, ShowsOver, IsUsedOnce};
 
 /// The header of a new file has no fault.
@@ -30,4 +32,18 @@ pub fn new_files_are_faultless()
 pub fn new_files_use_clusters_once()
     ensures { (l : Layout) (values : ℕ → Value) (file : List ℕ) → IsWritten l values file
         → IsUsedOnce file }
+{}
+
+/// What a new file says of the layer below, where it has these names: the file's, which isn't
+/// empty, and the format's. Everything in it that may use clusters is known.
+pub fn new_files_name_the_layer_below()
+    ensures { (l : Layout) (values : ℕ → Value) (file name format : List ℕ)
+        → IsWritten l values file → HasNames l name format → 0 < length name
+        → IsNamed name format file }
+{}
+
+/// Everything in a new file without a layer below that may use clusters is known.
+pub fn new_files_are_known()
+    ensures { (l : Layout) (values : ℕ → Value) (file : List ℕ) → IsWritten l values file
+        → HasNoNames l → IsKnown file }
 {}

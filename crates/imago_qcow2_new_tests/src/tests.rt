@@ -158,7 +158,7 @@ impl Target for Limited {
 }
 
 /// What is said of a write of that image into such a target.
-fn limited(
+fn write_limited(
     alloc: Global,
     image: &FormatAccess<Raw<MemStorage>>,
     layout: &Layout,
@@ -201,9 +201,9 @@ fn calls_until_full(rt: &impl Abort, alloc: Global) -> Result<usize, NewFileErro
     let mut buf = [0u8; 512];
     let layout = layout_of(alloc, &image, wanted, None, &mut buf)?;
     for left in 0..6 {
-        assert!(rt; is_full(&limited(alloc, &image, &layout, left)));
+        assert!(rt; is_full(&write_limited(alloc, &image, &layout, left)));
     }
-    let file = limited(alloc, &image, &layout, 6)?;
+    let file = write_limited(alloc, &image, &layout, 6)?;
     assert_eq!(rt; file.len(), 3072);
     Ok(file.len())
 }
