@@ -6,7 +6,9 @@
 //! be, in words: the disk's length in bytes; the version, 2 or 3; the base 2 logarithm of a
 //! cluster's length; `absent` or `zero` for what clusters show that aren't stored; and then, where
 //! there is a layer below, the name of its file and that of its format. For each record the file's
-//! length is printed, in a line, and the file; or the refusal, in a line.
+//! length is printed, in a line, and the file, by its sectors of 512 bytes: a line with `z` and how
+//! many there are that are zero, or with `b`, and the sector. Where there is no file, the refusal is
+//! printed, in a line.
 #![tactic(auto)]
 
 #[cfg(test)]
@@ -24,6 +26,9 @@ use std::process::ExitCode;
 
 /// How many bytes are read at a time.
 const ROOM: usize = 65536;
+
+/// How many bytes a sector has.
+const SECTOR: usize = 512;
 
 /// What is asked for.
 #[derive(Clone, Copy)]
@@ -80,6 +85,37 @@ fn file_of(
     Ok(file)
 }
 
+/// How many sectors from an offset on are zero.
+fn zero_sectors(file: &[u8], at: usize) -> usize {
+    let mut count = 0;
+    for sector in file.chunks(SECTOR).skip(at / SECTOR) {
+        if sector.iter().any(|byte| *byte != 0) {
+            break;
+        }
+        count += 1;
+    }
+    count
+}
+
+/// Prints a file.
+fn print_file<W: Write>(output: &mut W, file: &[u8]) -> io::Result<()> {
+    writeln!(output, "{}", file.len())?;
+    let mut at = 0;
+    while at < file.len() {
+        let zero = zero_sectors(file, at);
+        if zero > 0 {
+            writeln!(output, "z {zero}")?;
+            at = at.saturating_add(zero.saturating_mul(SECTOR));
+        } else {
+            let end = file.len().min(at.saturating_add(SECTOR));
+            writeln!(output, "b")?;
+            output.write_all(&file[at..end])?;
+            at = end;
+        }
+    }
+    Ok(())
+}
+
 /// Prints the file of a disk, or why there is none.
 fn answer<W: Write>(
     alloc: Global,
@@ -90,10 +126,7 @@ fn answer<W: Write>(
     let mut disk = Vec::new(alloc);
     disk.extend_from_slice(bytes)?;
     match file_of(alloc, disk, order.format, order.backing) {
-        Ok(file) => {
-            writeln!(output, "{}", file.len())?;
-            output.write_all(&file)
-        }
+        Ok(file) => print_file(output, &file),
         Err(error) => writeln!(output, "{error}"),
     }
 }
