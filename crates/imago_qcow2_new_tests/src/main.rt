@@ -6,9 +6,9 @@
 //! be, in words: the disk's length in bytes; the version, 2 or 3; the base 2 logarithm of a
 //! cluster's length; `absent` or `zero` for what clusters show that aren't stored; and then, where
 //! there is a layer below, the name of its file and that of its format. For each record the file's
-//! length is printed, in a line, and the file, by its sectors of 512 bytes: a line with `z` and how
-//! many there are that are zero, or with `b`, and the sector. Where there is no file, the refusal is
-//! printed, in a line.
+//! length is printed, in a line, and the file, by its sectors of 512 bytes: a line with `z` and
+//! how many there are that are zero, or with `b`, and the sector. Where there is no file, the
+//! refusal is printed, in a line.
 #![tactic(auto)]
 
 #[cfg(test)]
@@ -87,12 +87,12 @@ fn file_of(
 
 /// How many sectors from an offset on are zero.
 fn zero_sectors(file: &[u8], at: usize) -> usize {
-    let mut count = 0;
+    let mut count: usize = 0;
     for sector in file.chunks(SECTOR).skip(at / SECTOR) {
         if sector.iter().any(|byte| *byte != 0) {
             break;
         }
-        count += 1;
+        count = count.saturating_add(1);
     }
     count
 }

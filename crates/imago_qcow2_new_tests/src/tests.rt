@@ -1,5 +1,7 @@
 // SPDX-License-Identifier: MIT
 //! New files.
+ghost use Rattle.std.specs.Prelude.{None};
+
 use crate::file_of;
 use imago_access::access::FormatAccess;
 use imago_copy::target::Target;
