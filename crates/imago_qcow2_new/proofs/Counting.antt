@@ -1,19 +1,19 @@
 -- The reference counts of a new file.
 -- SPDX-License-Identifier: MIT
-use Rattle.std.proofs.Common.{◌≡◌, ℕ, zero, suc, ◌+◌, ◌-◌, ◌*◌, ◌/◌, ◌%◌, ◌<◌, ◌≤◌, ◌^◌, ⊎_elim, true, false, nat_eq, nat_lt, List, length, get_or, refl, sym, ap, subst, ◌∙◌, arith}
+use Rattle.std.proofs.Common.{◌≡◌, ℕ, zero, suc, ◌+◌, ◌-◌, ◌*◌, ◌/◌, ◌%◌, ◌<◌, ◌≤◌, ◌^◌, ⊎_elim, true, false, nat_eq, nat_lt, List, get_or, refl, sym, ap, subst, ◌∙◌, arith}
 use Rattle.std.specs.Prelude.{slice_index}
 use Rattle.std.specs.Int.{w64, to_be_bytes}
-use Rattle.std.proofs.lemmas.Bool.{cases_lt, cases_eq}
+use Rattle.std.proofs.lemmas.Bool.{cases_eq}
 use Rattle.std.proofs.lemmas.Bool.Decides.{nat_tests}
 use Rattle.std.proofs.lemmas.Nat.{div-add-mod', mul-le, div_below}
 use Rattle.imago_drivers.specs.Place.{Value}
 use Rattle.imago_qcow2.specs.Numbers.{be32, be64}
 use Rattle.imago_qcow2.specs.Entry.{cluster_length}
-use Rattle.imago_qcow2_check.specs.Counts.{be_number, count_order, count_in, per_block, blocks_start, blocks_length, blocks_count, block_entry, block_start, count_by, count_of}
+use Rattle.imago_qcow2_check.specs.Counts.{be_number, count_order, count_in, per_block, blocks_length, block_entry, count_of}
 use Rattle.imago_qcow2_new.specs.declared.layout.Layout.{Layout}
 use Rattle.imago_qcow2_new.specs.declared.format.Version.TheVariants as V
 use Rattle.imago_qcow2_new.specs.Header.{number_of, field_word}
-use Rattle.imago_qcow2_new.specs.Layout.{ones, count_word, block_word, head_word}
+use Rattle.imago_qcow2_new.specs.Layout.{ones, head_word}
 use Rattle.imago_qcow2_new.specs.Image.{IsWritten}
 use Rattle.imago_qcow2_new.proofs.Whole.{whole_eight, times_eight, whole_sector, sum_whole, times_whole}
 use Rattle.imago_qcow2_new.proofs.FileSteps.{per_cluster}

@@ -1,12 +1,12 @@
 -- Extents, and the spots of a space.
-use Rattle.std.proofs.Common.{◌≡◌, ℕ, zero, suc, ◌+◌, ◌-◌, ◌*◌, ◌%◌, ◌/◌, ◌<◌, ◌≤◌, ◌⊎◌, ⊎_elim, Bool, true, false, nat_lt, List, [], ◌∷◌, ◌++◌, length, drop, set, get_or, refl, sym, ap, subst, ◌∙◌, arith}
+-- SPDX-License-Identifier: MIT
+use Rattle.std.proofs.Common.{◌≡◌, ℕ, zero, suc, ◌+◌, ◌-◌, ◌%◌, ◌<◌, ◌≤◌, ⊎_elim, true, false, nat_lt, List, [], ◌∷◌, ◌++◌, length, drop, set, get_or, refl, sym, ap, subst, ◌∙◌, arith}
 use Rattle.std.specs.Prelude.{if◌then◌else◌}
 use Rattle.std.proofs.lemmas.List.{drop_all}
 use Rattle.std.proofs.lemmas.Bool.{cases_lt}
 use Rattle.std.proofs.lemmas.Bool.Decides.{nat_tests}
 use Rattle.imago_qcow2_new.proofs.Whole.{sum_whole, rest_whole, apart}
 use Rattle.imago_qcow2_new.specs.declared.extent.Extent.{Extent}
-use Rattle.imago_qcow2_new.specs.declared.extent.Part.{Part}
 use Rattle.imago_qcow2_new.specs.Extents.{IsExtentAt, AreExtents, Spot, spot, IsPart}
 
 module _ (all : ℕ) (r : Extent) (rs : List Extent) (p : ℕ) where

@@ -1,8 +1,7 @@
 -- What a file has, from what was put into it.
-use Rattle.std.proofs.Common.{◌≡◌, ℕ, ◌+◌, ◌-◌, ◌*◌, ◌/◌, ◌<◌, ◌≤◌, ⊎_elim, true, List, [], ◌++◌, length, get_or, replicate, Option, Some, None, IfSome, refl, sym, ap, subst, ◌∙◌, arith}
+-- SPDX-License-Identifier: MIT
+use Rattle.std.proofs.Common.{◌≡◌, ℕ, ◌+◌, ◌*◌, ◌/◌, ◌<◌, true, List, [], ◌++◌, length, Option, Some, None, IfSome, sym, ap, subst, ◌∙◌, arith}
 use Rattle.std.specs.Prelude.{slice_index}
-use Rattle.std.proofs.lemmas.Bool.{cases_lt}
-use Rattle.std.proofs.lemmas.List.{get_or_append_left, get_or-append_right, get_or_past, get_or-replicate, length-append, length-replicate}
 use Rattle.std.proofs.lemmas.List.FromFn.{length-map-range_with_len, get_or-map-range_with_len}
 use Rattle.imago_drivers.specs.Place.{Value, Byte}
 use Rattle.imago_copy.specs.Appended.{IsAppended}
@@ -11,10 +10,10 @@ use Rattle.imago_qcow2_new.specs.declared.layout.Layout.{Layout}
 use Rattle.imago_qcow2_new.specs.Extents.{AreExtents, Spot, spot}
 use Rattle.imago_qcow2_new.specs.Words.{byte_of, words_from}
 use Rattle.imago_qcow2_new.specs.Space.{byte_at, IsFilled, Fills}
-use Rattle.imago_qcow2_new.specs.Layout.{entry_value, head_word, table_word}
+use Rattle.imago_qcow2_new.specs.Layout.{entry_value, head_word}
 use Rattle.imago_qcow2_new.specs.Image.{IsWritten}
 use Rattle.imago_qcow2_new.proofs.ExtentSteps.{grows, at_end}
-use Rattle.imago_qcow2_new.proofs.Whole.{eight, whole_eight, times_eight}
+use Rattle.imago_qcow2_new.proofs.Whole.{eight, whole_eight}
 use Rattle.imago_qcow2_new.proofs.Appends.{same_if}
 
 -- a stored byte is one of all that are

@@ -8,17 +8,18 @@ use Rattle.imago_qcow2_new.specs.Space.{Fills}
 use Rattle.imago_qcow2_new.specs.Layout.{entry_value}
 use Rattle.imago_qcow2_new.specs.Image.{IsWritten, IsNewFile, IsNewFileIn}
 use Rattle.imago_qcow2_new.proofs.FileSteps.{heads, file_in}
-use Rattle.imago_qcow2_new.proofs.Reading.{opens, size_is, shown_byte}
+use Rattle.imago_qcow2_new.proofs.Reading.{opens, size_is, shown_byte, lower_place}
 use Rattle.imago_qcow2_new.proofs.Valid.{faultless, used_once}
 
 pub new_file : (l : Layout) (values : ℕ → Value) (file : List ℕ) → IsWritten l values file → IsNewFile l values file
 new_file l values file is = record {
   written = is;
   opens = opens l values file is;
-  shows = λ none. record {
+  shows = λ below none. record {
     size_is = size_is l values file is;
-    bytes = λ p inside. shown_byte l values file is none p inside;
+    bytes = λ p inside. shown_byte l values file is p inside below none;
   };
+  left = λ none p inside out. lower_place l values file is p inside none out;
   once = used_once l values file is;
   faultless = faultless l values file is;
 }

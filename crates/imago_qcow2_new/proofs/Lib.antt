@@ -13,4 +13,5 @@ pub mod Sums
 pub mod Counting
 pub mod Uses
 pub mod Valid
+pub mod NameSteps
 pub mod Images

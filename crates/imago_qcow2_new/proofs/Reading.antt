@@ -1,32 +1,32 @@
 -- What the reader makes of a new file.
+-- SPDX-License-Identifier: MIT
 use Rattle.std.proofs.Common.{◌≡◌, ℕ, ◌+◌, ◌-◌, ◌*◌, ◌/◌, ◌%◌, ◌<◌, ◌≤◌, ◌^◌, ◌⊎◌, inl, inr, ⊎_elim, Bool, true, false, nat_eq, nat_lt, List, [], length, get_or, refl, sym, ap, subst, ◌∙◌, arith}
-use Rattle.std.specs.Prelude.{if◌then◌else◌, slice_index, Result, Ok, Err, IsOk}
+use Rattle.std.specs.Prelude.{slice_index, Ok, IsOk}
+use Rattle.std.proofs.lemmas.Bool.{cases_lt}
 use Rattle.std.proofs.lemmas.Bool.Decides.{nat_tests}
 use Rattle.std.proofs.lemmas.Nat.{div-add-mod', div_below, mul-le}
-use Rattle.std.proofs.Math.Nat.{mod-lt, mul-pos}
+use Rattle.std.proofs.Math.Nat.{mod-lt}
 use Rattle.std.specs.Int.{w64, to_be_bytes}
-use Rattle.imago_drivers.specs.Place.{Value, Byte, shown, Lower, Stored}
+use Rattle.imago_drivers.specs.Place.{Value, Byte, shown, Lower}
 use Rattle.imago_qcow2.specs.declared.entry.L2Table.{L2Table}
-use Rattle.imago_qcow2.specs.declared.entry.GuestCluster.{GuestCluster}
 use Rattle.imago_qcow2.specs.Numbers.{be32, be64}
-use Rattle.imago_qcow2.specs.Entry.{version_of, disk_size, l1_start, cluster_length, per_table, table_in_entry, cluster_in_entry, l1_entry, table_of, cluster_by, cluster_of, place_by, disk_of, qcow2_place}
+use Rattle.imago_qcow2.specs.Entry.{version_of, disk_size, l1_start, cluster_length, table_in_entry, cluster_in_entry, l1_entry, table_of, cluster_by, cluster_of, place_by, disk_of, qcow2_place}
 use Rattle.imago_qcow2.specs.Qcow2Laws.{in_disk, packed_of}
-use Rattle.imago_qcow2.specs.Header.{magic_fault, features_at, compression_type, support_fault, bounds_fault, added_fault, name_fault, size_fault, table_fault, header_of}
-use Rattle.imago_qcow2_new.specs.declared.extent.Extent.{Extent}
+use Rattle.imago_qcow2.specs.Header.{magic_fault, features_at, support_fault, bounds_fault, added_fault, name_fault, size_fault, table_fault, header_of}
 use Rattle.imago_qcow2_new.specs.declared.format.Version.{Version}
 use Rattle.imago_qcow2_new.specs.declared.format.Version.TheVariants as V
 use Rattle.imago_qcow2_new.specs.declared.layout.Layout.{Layout}
 use Rattle.imago_qcow2_new.specs.Extents.{Spot, spot}
 use Rattle.imago_qcow2_new.specs.Words.{byte_of}
-use Rattle.imago_qcow2_new.specs.Space.{spot_of, byte_at}
-use Rattle.imago_qcow2_new.specs.Header.{words_of, number_of, name_start, field_word, header_word}
+use Rattle.imago_qcow2_new.specs.Space.{byte_at}
+use Rattle.imago_qcow2_new.specs.Header.{words_of, number_of, name_start, field_word}
 use Rattle.imago_qcow2_new.specs.Layout.{entry_at, table_word, l1_word, head_word}
 use Rattle.imago_qcow2_new.specs.Image.{IsWritten}
-use Rattle.imago_qcow2_new.proofs.Whole.{power_least, power_most, whole_eight, times_eight, as_product, sum_whole, times_whole, zero_whole, apart}
+use Rattle.imago_qcow2_new.proofs.Whole.{power_least, power_most, whole_eight, times_eight, sum_whole, times_whole, zero_whole, apart}
 use Rattle.imago_qcow2_new.proofs.ExtentSteps.{before_most, block_in, block_out, stored_whole}
 use Rattle.imago_qcow2_new.proofs.FileSteps.{per_cluster, below_all}
 use Rattle.imago_qcow2_new.proofs.WordSteps.{word_whole, word_halves, word_bytes}
-use Rattle.imago_qcow2_new.proofs.EntrySteps.{table_entry, no_table, cluster_entry, no_cluster}
+use Rattle.imago_qcow2_new.proofs.EntrySteps.{table_entry, no_table, cluster_entry, no_cluster, zero_known}
 
 nine : (v : Version) (w : ℕ) → w < 9 → nat_lt w (words_of v) ≡ true
 nine V.Two w h = grind (arith, nat_tests)
@@ -47,7 +47,7 @@ pub versions : (v : Version) → (v ≡ V.Two) ⊎ (v ≡ V.Three)
 versions V.Two = inl refl
 versions V.Three = inr refl
 
-words_most : (v : Version) → words_of v ≤ 14
+pub words_most : (v : Version) → words_of v ≤ 14
 words_most V.Two = omega arith
 words_most V.Three = omega arith
 
@@ -420,7 +420,13 @@ module _ (l : Layout) (values : ℕ → Value) (file : List ℕ) (is : IsWritten
         (either (spot l.tables.stored l.tables.extents.items (k / (l.cluster / 8) * l.cluster)).stored)
 
   -- a byte of the disk
-  module _ (none : l.gap ≡ 0) (p : ℕ) (inside : p < l.header.size) where
+  -- zero clusters are known to the version
+  pub version_three : l.gap ≡ 1 → 3 ≤ version_of file
+  version_three one =
+      let v = first_word.1 in
+      omega (arith, v, one, l.gap_known)
+
+  module _ (p : ℕ) (inside : p < l.header.size) where
     rest_is : p / l.cluster * l.cluster + p % l.cluster ≡ p
     rest_is = div-add-mod' p l.cluster
 
@@ -446,8 +452,9 @@ module _ (l : Layout) (values : ℕ → Value) (file : List ℕ) (is : IsWritten
     told : values p ≡ Byte (byte_at l.data_start file (spot l.clusters.stored l.clusters.extents.items p))
     told = is.clusters p (omega (arith, inside, l.size_inside))
 
-    pub shown_byte : shown (λ (q : ℕ). Byte 0) (qcow2_place file p) ≡ values p
-    shown_byte = ⊎_elim
+    -- it is the disk's, over a layer below that is zero where clusters that aren't stored are left to it
+    pub shown_byte : (lower : ℕ → Value) → (l.gap ≡ 0 → (q : ℕ) → lower q ≡ Byte 0) → shown lower (qcow2_place file p) ≡ values p
+    shown_byte lower none = ⊎_elim
         (λ (st : (spot l.clusters.stored l.clusters.extents.items (p / l.cluster * l.cluster)).stored ≡ true).
         let d : ℕ = l.data_start + (spot l.clusters.stored l.clusters.extents.items (p / l.cluster * l.cluster)).before in
         let x = least in
@@ -466,7 +473,7 @@ module _ (l : Layout) (values : ℕ → Value) (file : List ℕ) (is : IsWritten
         let here : spot l.clusters.stored l.clusters.extents.items p ≡ record { stored = true; before = (spot l.clusters.stored l.clusters.extents.items (p / l.cluster * l.cluster)).before + p % l.cluster } = ap (spot l.clusters.stored l.clusters.extents.items) (sym rest_is) ∙ b.1 in
         let byte : values p ≡ Byte (slice_index file (l.data_start + ((spot l.clusters.stored l.clusters.extents.items (p / l.cluster * l.cluster)).before + p % l.cluster))) = subst (λ (s : Spot). values p ≡ Byte (byte_at l.data_start file s)) here told in
         let place : d + p % l.cluster ≡ l.data_start + ((spot l.clusters.stored l.clusters.extents.items (p / l.cluster * l.cluster)).before + p % l.cluster) = omega arith in
-        ap (shown (λ (q : ℕ). Byte 0)) (opened ∙ ap (λ z. place_by (packed_of true file (disk_of file)) file (p % l.cluster) p (cluster_in_entry (version_of file) l.cluster z)) e ∙ ap (place_by (packed_of true file (disk_of file)) file (p % l.cluster) p) c)
+        ap (shown lower) (opened ∙ ap (λ z. place_by (packed_of true file (disk_of file)) file (p % l.cluster) p (cluster_in_entry (version_of file) l.cluster z)) e ∙ ap (place_by (packed_of true file (disk_of file)) file (p % l.cluster) p) c)
         ∙ ap Byte (ap (slice_index file) place) ∙ sym byte)
         (λ (st : (spot l.clusters.stored l.clusters.extents.items (p / l.cluster * l.cluster)).stored ≡ false).
         let x = least in
@@ -474,7 +481,34 @@ module _ (l : Layout) (values : ℕ → Value) (file : List ℕ) (is : IsWritten
         let out : (spot l.clusters.stored l.clusters.extents.items p).stored ≡ false = ap (λ z. (spot l.clusters.stored l.clusters.extents.items z).stored) (sym rest_is)
         ∙ block_out l.clusters.unit l.clusters.end l.clusters.stored 0 0 l.clusters.extents.items l.clusters.ordered (p / l.cluster * l.cluster) (p % l.cluster) data_whole (omega (arith, less, l.clusters_unit)) st in
         let zero : byte_at l.data_start file (spot l.clusters.stored l.clusters.extents.items p) ≡ 0 = rw out refl in
-        let e : table_word l (p / l.cluster) ≡ 0 = (let z : table_word l (p / l.cluster) ≡ l.gap = rw st refl in z ∙ none) in
-        ap (shown (λ (q : ℕ). Byte 0)) (opened ∙ ap (λ z. place_by (packed_of true file (disk_of file)) file (p % l.cluster) p (cluster_in_entry (version_of file) l.cluster z)) e ∙ ap (place_by (packed_of true file (disk_of file)) file (p % l.cluster) p) (no_cluster (version_of file) l.cluster (omega (arith, x))))
-        ∙ ap Byte (sym zero) ∙ sym told)
+        let e : table_word l (p / l.cluster) ≡ l.gap = rw st refl in
+        let shows : shown lower (place_by (packed_of true file (disk_of file)) file (p % l.cluster) p (cluster_in_entry (version_of file) l.cluster l.gap)) ≡ Byte 0 = ⊎_elim
+        (λ (absent : l.gap < 1).
+        let g : l.gap ≡ 0 = omega (arith, absent) in
+        ap (λ z. shown lower (place_by (packed_of true file (disk_of file)) file (p % l.cluster) p (cluster_in_entry (version_of file) l.cluster z))) g
+        ∙ ap (λ z. shown lower (place_by (packed_of true file (disk_of file)) file (p % l.cluster) p z)) (no_cluster (version_of file) l.cluster (omega (arith, x))) ∙ none g p)
+        (λ (some : 1 ≤ l.gap).
+        let g : l.gap ≡ 1 = (let most = l.gap_is in omega (arith, some, most)) in
+        ap (λ z. shown lower (place_by (packed_of true file (disk_of file)) file (p % l.cluster) p (cluster_in_entry (version_of file) l.cluster z))) g
+        ∙ ap (λ z. shown lower (place_by (packed_of true file (disk_of file)) file (p % l.cluster) p z)) (zero_known (version_of file) l.cluster x (version_three g)))
+        (cases_lt l.gap 1) in
+        ap (shown lower) (opened ∙ ap (λ z. place_by (packed_of true file (disk_of file)) file (p % l.cluster) p (cluster_in_entry (version_of file) l.cluster z)) e)
+        ∙ shows ∙ ap Byte (sym zero) ∙ sym told)
+        (either (spot l.clusters.stored l.clusters.extents.items (p / l.cluster * l.cluster)).stored)
+
+    -- where it isn't stored, it is left to the layer below
+    pub lower_place : l.gap ≡ 0 → (spot l.clusters.stored l.clusters.extents.items p).stored ≡ false → qcow2_place file p ≡ Lower p false
+    lower_place none out = ⊎_elim
+        (λ (st : (spot l.clusters.stored l.clusters.extents.items (p / l.cluster * l.cluster)).stored ≡ true).
+        let x = least in
+        let less = rest_lt in
+        let b = block_in l.clusters.unit l.clusters.end l.clusters.stored 0 0 l.clusters.extents.items l.clusters.ordered (zero_whole l.clusters.unit (omega (arith, x, l.clusters_unit))) (p / l.cluster * l.cluster) (p % l.cluster) data_whole (omega (arith, less, l.clusters_unit)) st in
+        let here : (spot l.clusters.stored l.clusters.extents.items p).stored ≡ true = ap (λ z. (spot l.clusters.stored l.clusters.extents.items z).stored) (sym rest_is) ∙ ap (λ (s : Spot). s.stored) b.1 in
+        let both : false ≡ true = sym out ∙ here in
+        let z : ⊥ = cc both in absurd z)
+        (λ (st : (spot l.clusters.stored l.clusters.extents.items (p / l.cluster * l.cluster)).stored ≡ false).
+        let x = least in
+        let e : table_word l (p / l.cluster) ≡ l.gap = rw st refl in
+        opened ∙ ap (λ z. place_by (packed_of true file (disk_of file)) file (p % l.cluster) p (cluster_in_entry (version_of file) l.cluster z)) (e ∙ none)
+        ∙ ap (place_by (packed_of true file (disk_of file)) file (p % l.cluster) p) (no_cluster (version_of file) l.cluster (omega (arith, x))))
         (either (spot l.clusters.stored l.clusters.extents.items (p / l.cluster * l.cluster)).stored)

@@ -1,6 +1,6 @@
 -- What is put into a space of which some parts are stored.
 -- SPDX-License-Identifier: MIT
-use Rattle.std.proofs.Common.{◌≡◌, ℕ, ◌+◌, ◌-◌, ◌*◌, ◌/◌, ◌<◌, ◌≤◌, ⊎_elim, Bool, true, false, List, [], ◌++◌, length, get_or, Option, Some, None, refl, sym, ap, ◌∙◌, subst, arith}
+use Rattle.std.proofs.Common.{◌≡◌, ℕ, ◌+◌, ◌-◌, ◌<◌, ◌≤◌, ⊎_elim, true, false, List, ◌++◌, length, Option, Some, None, refl, sym, ap, ◌∙◌, subst, arith}
 use Rattle.std.specs.Prelude.{if◌then◌else◌, slice_index}
 use Rattle.std.proofs.lemmas.Bool.{cases_lt}
 use Rattle.std.proofs.lemmas.List.{get_or_append_left, get_or-append_right, length-append}
@@ -8,7 +8,7 @@ use Rattle.imago_drivers.specs.Place.{Value, Byte, HasValues}
 use Rattle.imago_copy.specs.Copies.{IsPut}
 use Rattle.imago_qcow2_new.specs.declared.extent.Part.{Part}
 use Rattle.imago_qcow2_new.specs.declared.extents.Extents.{Extents}
-use Rattle.imago_qcow2_new.specs.Extents.{Spot, spot, IsPart}
+use Rattle.imago_qcow2_new.specs.Extents.{spot, IsPart}
 use Rattle.imago_qcow2_new.specs.Space.{byte_at, spot_of, IsFilled, Fills, AreZero}
 use Rattle.imago_qcow2_new.proofs.ExtentSteps.{grows, at_start}
 use Rattle.imago_qcow2_new.proofs.Appends.{same_if}

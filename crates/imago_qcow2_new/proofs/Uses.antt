@@ -1,20 +1,19 @@
 -- How often each cluster of a new file is used.
 -- SPDX-License-Identifier: MIT
-use Rattle.std.proofs.Common.{◌≡◌, ℕ, zero, suc, ◌+◌, ◌-◌, ◌*◌, ◌/◌, ◌%◌, ◌<◌, ◌≤◌, ◌^◌, ⊎_elim, Bool, true, false, nat_eq, nat_lt, List, length, refl, sym, ap, subst, ◌∙◌, arith}
+use Rattle.std.proofs.Common.{◌≡◌, ℕ, ◌+◌, ◌-◌, ◌*◌, ◌/◌, ◌%◌, ◌<◌, ◌≤◌, ◌^◌, ⊎_elim, true, false, nat_eq, nat_lt, List, refl, sym, ap, subst, ◌∙◌, arith}
 use Rattle.std.specs.Prelude.{if◌then◌else◌}
 use Rattle.std.proofs.lemmas.Bool.{cases_lt}
 use Rattle.std.proofs.lemmas.Bool.Decides.{nat_tests}
-use Rattle.std.proofs.lemmas.Nat.{div-add-mod', div_below, mul-le}
-use Rattle.std.proofs.Math.Nat.{mod-lt}
+use Rattle.std.proofs.lemmas.Nat.{div-add-mod', mul-le}
 use Rattle.imago_drivers.specs.Place.{Value}
 use Rattle.imago_qcow2.specs.declared.entry.GuestCluster.{GuestCluster}
-use Rattle.imago_qcow2.specs.Numbers.{be32, be64}
-use Rattle.imago_qcow2.specs.Entry.{version_of, cluster_length, l1_start, l1_entry, cluster_in_entry}
+use Rattle.imago_qcow2.specs.Numbers.{be64}
+use Rattle.imago_qcow2.specs.Entry.{version_of, cluster_length, l1_start, cluster_in_entry}
 use Rattle.imago_qcow2_check.specs.Sums.{total}
 use Rattle.imago_qcow2_check.specs.TallyParts.{between}
 use Rattle.imago_qcow2_check.specs.Clusters.{Setting, cluster_count, use_of}
 use Rattle.imago_qcow2_check.specs.Entries.{offset_of, length_at, l1_entry_use, names_table, named_use, table_use, l1_uses, l2_uses, l2_entry_use, cluster_use}
-use Rattle.imago_qcow2_check.specs.Counts.{blocks_start, blocks_length, count_of}
+use Rattle.imago_qcow2_check.specs.Counts.{blocks_start, blocks_length}
 use Rattle.imago_qcow2_check.specs.Snapshots.{snapshot_count, snapshots_start, snapshots_end}
 use Rattle.imago_qcow2_check.specs.Uses.{setting, is_once, l1_count, header_use, snapshots_uses, blocks_uses, block_use, block_length, uses_of}
 use Rattle.imago_qcow2_check.proofs.RangeSteps.{use_zero}
@@ -22,14 +21,14 @@ use Rattle.imago_qcow2_check.proofs.SumSteps.{total_same}
 use Rattle.imago_qcow2_new.specs.declared.layout.Layout.{Layout}
 use Rattle.imago_qcow2_new.specs.Extents.{Spot, spot}
 use Rattle.imago_qcow2_new.specs.Header.{field_word}
-use Rattle.imago_qcow2_new.specs.Layout.{entry_at, table_word, l1_word, head_word}
+use Rattle.imago_qcow2_new.specs.Layout.{table_word, l1_word, head_word}
 use Rattle.imago_qcow2_new.specs.Image.{IsWritten}
-use Rattle.imago_qcow2_new.proofs.Whole.{as_product, sum_whole, times_whole, times_eight, whole_sector, zero_whole}
+use Rattle.imago_qcow2_new.proofs.Whole.{as_product, sum_whole, times_whole, whole_sector, zero_whole}
 use Rattle.imago_qcow2_new.proofs.ExtentSteps.{stored_whole}
-use Rattle.imago_qcow2_new.proofs.FileSteps.{per_cluster, below_all}
-use Rattle.imago_qcow2_new.proofs.WordSteps.{word_whole, word_halves}
+use Rattle.imago_qcow2_new.proofs.FileSteps.{below_all}
+use Rattle.imago_qcow2_new.proofs.WordSteps.{word_halves}
 use Rattle.imago_qcow2_new.proofs.EntrySteps.{cluster_entry, no_cluster, zero_cluster}
-use Rattle.imago_qcow2_new.proofs.Reading.{either, least, behind, starts, head_at, is_field, start_is, cluster_is, fourth_word, l1_is, entry_there, entry_gone}
+use Rattle.imago_qcow2_new.proofs.Reading.{either, least, behind, head_at, is_field, start_is, cluster_is, fourth_word, l1_is, entry_there, entry_gone}
 use Rattle.imago_qcow2_new.proofs.Counting.{counts_is, counts_length_is, count_entries, block_there, block_none}
 use Rattle.imago_qcow2_new.proofs.Sums.{product_is, quotient_is, between_in, between_none, between_both, total_zero, total_sum, total_part, total_ranges, total_between, rank, before_is, rank_next, rank_grows, rank_first, rank_all, use_range}
 

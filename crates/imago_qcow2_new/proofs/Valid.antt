@@ -1,6 +1,6 @@
 -- The entries of a new file are valid.
 -- SPDX-License-Identifier: MIT
-use Rattle.std.proofs.Common.{◌≡◌, ℕ, ◌+◌, ◌-◌, ◌*◌, ◌/◌, ◌%◌, ◌<◌, ◌≤◌, ◌^◌, ⊎_elim, Bool, true, false, nat_eq, nat_lt, List, length, refl, sym, ap, subst, ◌∙◌, arith}
+use Rattle.std.proofs.Common.{◌≡◌, ℕ, ◌+◌, ◌*◌, ◌/◌, ◌%◌, ◌<◌, ◌≤◌, ⊎_elim, true, false, nat_eq, nat_lt, List, length, refl, sym, ap, subst, ◌∙◌, arith}
 use Rattle.std.specs.Int.{div_ceil}
 use Rattle.std.proofs.lemmas.Bool.{cases_lt}
 use Rattle.std.proofs.lemmas.Nat.{div-add-mod', mul-le}
@@ -9,26 +9,22 @@ use Rattle.imago_drivers.specs.Place.{Value}
 use Rattle.imago_qcow2.specs.declared.entry.L2Table.{L2Table}
 use Rattle.imago_qcow2.specs.declared.entry.GuestCluster.{GuestCluster}
 use Rattle.imago_qcow2.specs.Numbers.{be64}
-use Rattle.imago_qcow2.specs.Entry.{version_of, cluster_length, l1_entry, table_in_entry, cluster_in_entry}
+use Rattle.imago_qcow2.specs.Entry.{version_of, cluster_length, l1_entry, table_in_entry}
 use Rattle.imago_qcow2_check.specs.Sums.{one_if}
-use Rattle.imago_qcow2_check.specs.Clusters.{Setting, cluster_count, passes, past_fault}
-use Rattle.imago_qcow2_check.specs.Entries.{offset_of, is_copied, copied_fault, cluster_copied_fault, cluster_faults, invalid_table, l1_entry_faults, l2_entry_faults, names_table}
-use Rattle.imago_qcow2_check.specs.Counts.{blocks_start, blocks_count, block_entry, count_of}
-use Rattle.imago_qcow2_check.specs.Snapshots.{snapshot_count}
+use Rattle.imago_qcow2_check.specs.Clusters.{Setting, cluster_count, passes}
+use Rattle.imago_qcow2_check.specs.Entries.{offset_of, copied_fault, cluster_faults, invalid_table, l1_entry_faults, l2_entry_faults, names_table}
+use Rattle.imago_qcow2_check.specs.Counts.{block_entry, count_of}
 use Rattle.imago_qcow2_check.specs.Faults.{shared_fault}
-use Rattle.imago_qcow2_check.specs.Uses.{setting, is_once, l1_count, block_length, block_faults, uses_of}
-use Rattle.imago_qcow2_check.specs.Verdicts.{HasValidEntries, IsFaultless}
-use Rattle.imago_qcow2_new.specs.declared.format.Version.TheVariants as V
+use Rattle.imago_qcow2_check.specs.Uses.{setting, is_once, block_faults, uses_of}
+use Rattle.imago_qcow2_check.specs.Verdicts.{IsFaultless}
 use Rattle.imago_qcow2_new.specs.declared.layout.Layout.{Layout}
-use Rattle.imago_qcow2_new.specs.Header.{number_of}
 use Rattle.imago_qcow2_new.specs.Layout.{table_word, l1_word}
 use Rattle.imago_qcow2_new.specs.Image.{IsWritten}
 use Rattle.imago_qcow2_new.proofs.Whole.{zero_whole}
 use Rattle.imago_qcow2_new.proofs.EntrySteps.{no_table, no_cluster, zero_known}
-use Rattle.imago_qcow2_new.proofs.Reading.{either, least, cluster_is, versions, first_word, fourth_word, l1_is, table_says, table_there}
+use Rattle.imago_qcow2_new.proofs.Reading.{either, version_three, least, cluster_is, fourth_word, l1_is, table_says, table_there}
 use Rattle.imago_qcow2_new.proofs.Counting.{counts_is, count_entries, block_there, block_none, counted}
-use Rattle.imago_qcow2_new.proofs.Sums.{quotient_is}
-use Rattle.imago_qcow2_new.proofs.Uses.{by, setting_is, positive, end_at, end_is, clusters_are, count_is, blocks_at, block_whole, block_some, block_inside, no_snapshots, table_spot, cluster_spot, table_inside, table_offset, table_some, data_inside, data_some, data_says, data_offset, entry_read, names_none, used}
+use Rattle.imago_qcow2_new.proofs.Uses.{by, setting_is, positive, end_at, end_is, clusters_are, count_is, block_whole, block_some, block_inside, no_snapshots, table_spot, cluster_spot, table_inside, table_offset, table_some, data_inside, data_some, data_says, data_offset, entry_read, names_none, used}
 
 product_below : (unit x : ℕ) → x / unit * unit ≤ x
 product_below unit x = let f : x / unit * unit + x % unit ≡ x = div-add-mod' x unit in omega (arith, f)
@@ -100,11 +96,6 @@ module _ (l : Layout) (values : ℕ → Value) (file : List ℕ) (is : IsWritten
       ap (λ x. l1_entry_faults (by l values file is) true x) e ∙ omega (arith, a, b))
       (either (table_spot l values file is i).stored)
 
-  version_three : l.gap ≡ 1 → 3 ≤ version_of file
-  version_three one =
-      let v = (first_word l values file is).1 in
-      omega (arith, v, one, l.gap_known)
-
   -- a cluster that isn't stored
   gap_sound : l2_entry_faults (by l values file is) true l.gap ≡ 0
   unfolding l2_entry_faults passes copied_fault
@@ -115,7 +106,7 @@ module _ (l : Layout) (values : ℕ → Value) (file : List ℕ) (is : IsWritten
       ap (λ x. l2_entry_faults (by l values file is) true x) e ∙ ap (λ x. cluster_faults (by l values file is) true 0 x) says)
       (λ (some : 1 ≤ l.gap).
       let e : l.gap ≡ 1 = (let g = l.gap_is in omega (arith, some, g)) in
-      let says = zero_known (version_of file) l.cluster (least l values file is) (version_three e) in
+      let says = zero_known (version_of file) l.cluster (least l values file is) (version_three l values file is e) in
       ap (λ x. l2_entry_faults (by l values file is) true x) e ∙ ap (λ x. cluster_faults (by l values file is) true 1 x) says)
       (cases_lt l.gap 1)
 

@@ -1,7 +1,8 @@
 -- Multiples of a unit.
+-- SPDX-License-Identifier: MIT
 use Rattle.std.proofs.lemmas.Bool.{cases_lt}
 use Rattle.std.specs.Prelude.{max}
-use Rattle.std.proofs.Common.{◌≡◌, ℕ, ◌+◌, ◌-◌, ◌*◌, ◌%◌, ◌/◌, ◌<◌, ◌≤◌, ◌^◌, ⊎_elim, refl, sym, ap, ◌∙◌, arith, mul_assoc}
+use Rattle.std.proofs.Common.{◌≡◌, ℕ, ◌+◌, ◌-◌, ◌*◌, ◌%◌, ◌/◌, ◌<◌, ◌≤◌, ◌^◌, ⊎_elim, sym, ap, ◌∙◌, arith, mul_assoc}
 use Rattle.std.proofs.lemmas.Nat.{div-add-mod', mul-le, pow-add}
 use Rattle.std.proofs.Math.Nat.{add-mul, add-mul-mod_self_right, mod-eq_of_lt, mul-mod_left, pow-le-pow_right}
 

@@ -1,25 +1,26 @@
 -- Which parts of a space of bytes are stored.
 -- SPDX-License-Identifier: MIT
-use Rattle.std.specs.Prelude.{◌≡◌, ℕ, ◌+◌, ◌-◌, ◌*◌, ◌%◌, ◌<◌, ◌≤◌, Bool, true, false, List, [], ◌∷◌}
+use Rattle.std.specs.Prelude.{◌≡◌, ℕ, ◌+◌, ◌-◌, ◌%◌, ◌<◌, ◌≤◌, Bool, true, false, List, [], ◌∷◌}
 use Rattle.std.specs.Prelude.{if◌then◌else◌, nat_lt}
 use Rattle.std.specs.Coded.{×_prop, le_prop}
 use Rattle.std.proofs.Math.Nat.{ℕ_set}
 use Rattle.imago_qcow2_new.specs.declared.extent.Extent.{Extent}
 use Rattle.imago_qcow2_new.specs.declared.extent.Part.{Part}
 
--- an extent that begins there or behind, before which so many bytes are stored: it isn't empty, and
--- consists of whole units
+-- an extent that begins there or behind, before which so many bytes are stored: it isn't empty,
+-- and consists of whole units
 abbrev pub IsExtentAt : ℕ → ℕ → ℕ → Extent → Type 0
 IsExtentAt unit from before r =
     (from ≤ r.start) × ((0 < r.count) × ((r.before ≡ before)
     × ((r.start % unit ≡ 0) × (r.count % unit ≡ 0))))
 
--- extents in order from an offset on, which end at another one, before and behind which so many bytes
--- are stored
+-- extents in order from an offset on, which end at another one, before and behind which so many
+-- bytes are stored
 abbrev pub AreExtents : ℕ → ℕ → ℕ → ℕ → ℕ → List Extent → Type 0
 AreExtents unit end stored from before [] = (from ≡ end) × (before ≡ stored)
 AreExtents unit end stored from before (r ∷ rs) =
-    IsExtentAt unit from before r × AreExtents unit end stored (r.start + r.count) (before + r.count) rs
+    IsExtentAt unit from before r
+    × AreExtents unit end stored (r.start + r.count) (before + r.count) rs
 
 extent-prop : (unit from before : ℕ) (r : Extent) → IsProp (IsExtentAt unit from before r)
 extent-prop unit from before r =

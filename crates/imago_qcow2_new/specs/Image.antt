@@ -1,7 +1,8 @@
 -- What a new file has, and what its reader makes of it.
 -- SPDX-License-Identifier: MIT
-use Rattle.std.specs.Prelude.{◌≡◌, ℕ, ◌*◌, ◌<◌, List, length, slice_index, Option, Some, None, IsOk}
-use Rattle.imago_drivers.specs.Place.{Value, Byte, shown}
+use Rattle.std.specs.Prelude.{◌≡◌, ℕ, ◌*◌, ◌<◌, List, length, slice_index, false, Option, Some}
+use Rattle.std.specs.Prelude.{None, IsOk}
+use Rattle.imago_drivers.specs.Place.{Value, Byte, Lower, shown}
 use Rattle.imago_qcow2.specs.Header.{header_of}
 use Rattle.imago_qcow2.specs.Entry.{disk_size, qcow2_place}
 use Rattle.imago_qcow2_check.specs.Clusters.{cluster_count}
@@ -24,12 +25,23 @@ pub record IsWritten (l : Layout) (values : ℕ → Value) (file : List ℕ) : T
   pub clusters : (p : ℕ) → p < l.length
       → values p ≡ Byte (byte_at l.data_start file (spot_of l.clusters p))
 
--- A file whose disk has that size by the reader's definition, and shows these values, where the
--- layer below shows 0, or there is none.
-pub record ShowsDisk (size : ℕ) (values : ℕ → Value) (file : List ℕ) : Type 0 where
-  pub size_is : disk_size file ≡ size
-  pub bytes : (p : ℕ) → p < size
-      → shown (λ (q : ℕ). Byte 0) (qcow2_place file p) ≡ values p
+-- A file whose disk has that size by the reader's definition, and shows these values over that
+-- layer below.
+pub record ShowsDisk (below : ℕ → Value) (size : ℕ) (values : ℕ → Value) (file : List ℕ) : Type 0
+  where
+    pub size_is : disk_size file ≡ size
+    pub bytes : (p : ℕ) → p < size → shown below (qcow2_place file p) ≡ values p
+
+-- It shows them over each layer below, or, where clusters that aren't stored are left to the layer
+-- below, over each that is zero; and none is one that is zero.
+abbrev pub ShowsOver : Layout → (ℕ → Value) → List ℕ → Type 0
+ShowsOver l values file = (below : ℕ → Value) → (l.gap ≡ 0 → (q : ℕ) → below q ≡ Byte 0)
+    → ShowsDisk below l.header.size values file
+
+-- where clusters that aren't stored are left to the layer below, their bytes are those there
+abbrev pub IsLeftBelow : Layout → List ℕ → Type 0
+IsLeftBelow l file = l.gap ≡ 0 → (p : ℕ) → p < l.header.size
+    → (spot_of l.clusters p).stored ≡ false → qcow2_place file p ≡ Lower p false
 
 -- each cluster of a file is used once, and its reference count says so
 abbrev pub IsUsedOnce : List ℕ → Type 0
@@ -37,12 +49,13 @@ IsUsedOnce file = (n : ℕ) → n < cluster_count (setting file)
     → (uses_of file n ≡ 1) × (count_of file n ≡ 1)
 
 -- A new file of a disk: what it has, and what its reader makes of it. Its header has no fault, and
--- it shows the disk, where clusters that aren't stored are left to the layer below. Each of its
--- clusters is used once and has the reference count 1, and no entry of its tables has a fault.
+-- it shows the disk. Each of its clusters is used once and has the reference count 1, and no entry
+-- of its tables has a fault.
 pub record IsNewFile (l : Layout) (values : ℕ → Value) (file : List ℕ) : Type 0 where
   pub written : IsWritten l values file
   pub opens : IsOk (header_of file (length file))
-  pub shows : l.gap ≡ 0 → ShowsDisk l.header.size values file
+  pub shows : ShowsOver l values file
+  pub left : IsLeftBelow l file
   pub once : IsUsedOnce file
   pub faultless : IsFaultless file
 

@@ -2,6 +2,7 @@
 pub mod Extents
 pub mod Space
 pub mod Words
+pub mod Names
 pub mod Header
 pub mod Layout
 pub mod Image

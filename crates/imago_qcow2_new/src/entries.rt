@@ -2,8 +2,8 @@
 //! The words of a new file's tables.
 ghost use Rattle.std.specs.Prelude.{◌≡◌, ℕ, true, ◌+◌, ◌*◌, ◌/◌, ◌^◌, ◌<◌, ◌≤◌};
 ghost use Rattle.imago_qcow2_new.specs.Extents.{spot};
-ghost use Rattle.imago_qcow2_new.specs.Layout.{entry_at, count_word, block_word, l1_word, head_word};
-ghost use Rattle.imago_qcow2_new.specs.Layout.{ones, table_word};
+ghost use Rattle.imago_qcow2_new.specs.Layout.{entry_at, count_word, block_word, ones};
+ghost use Rattle.imago_qcow2_new.specs.Layout.{l1_word, head_word, table_word};
 
 use crate::extents::Extents;
 use crate::layout::Layout;
@@ -16,7 +16,8 @@ const COPIED: u64 = 1 << 63;
 /// one.
 fn entry(stored: &Extents, start: u64, offset: u64, gap: u64) -> u64
     requires { start + stored.now.stored ≤ 2 ^ 56 }
-    ensures { result ≡ entry_at start gap (spot stored.now.stored stored.now.extents.items «offset») }
+    ensures { result
+        ≡ entry_at start gap (spot stored.now.stored stored.now.extents.items «offset») }
 {
     let part = stored.part_at(offset);
     if part.is_stored {

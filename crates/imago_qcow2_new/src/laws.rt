@@ -1,11 +1,13 @@
 // SPDX-License-Identifier: MIT
 //! Laws of new files. The functions do nothing; their contracts are proved.
-ghost use Rattle.std.specs.Prelude.{◌≡◌, ℕ, List, length, IsOk};
+ghost use Rattle.std.specs.Prelude.{ℕ, ◌<◌, List, length, IsOk};
 ghost use Rattle.imago_drivers.specs.Place.{Value};
 ghost use Rattle.imago_qcow2.specs.Header.{header_of};
+ghost use Rattle.imago_qcow2_check.specs.Known.{IsKnown};
 ghost use Rattle.imago_qcow2_check.specs.Verdicts.{IsFaultless};
 ghost use Rattle.imago_qcow2_new.specs.declared.layout.Layout.{Layout};
-ghost use Rattle.imago_qcow2_new.specs.Image.{IsWritten, ShowsDisk, IsUsedOnce};
+ghost use Rattle.imago_qcow2_new.specs.Names.{HasNames, HasNoNames, IsNamed};
+ghost use Rattle.imago_qcow2_new.specs.Image.{IsWritten, ShowsOver, IsUsedOnce};
 
 /// The header of a new file has no fault.
 pub fn new_files_open()
@@ -13,11 +15,10 @@ pub fn new_files_open()
         → IsOk (header_of file (length file)) }
 {}
 
-/// What a new file shows by its reader's definition, where clusters that aren't stored are left to
-/// the layer below.
+/// What a new file shows by its reader's definition, over a layer below.
 pub fn new_files_show_disks()
     ensures { (l : Layout) (values : ℕ → Value) (file : List ℕ) → IsWritten l values file
-        → l.gap ≡ 0 → ShowsDisk l.header.size values file }
+        → ShowsOver l values file }
 {}
 
 /// No entry of a new file has a fault, and each of its clusters is used as often as its reference
@@ -31,4 +32,18 @@ pub fn new_files_are_faultless()
 pub fn new_files_use_clusters_once()
     ensures { (l : Layout) (values : ℕ → Value) (file : List ℕ) → IsWritten l values file
         → IsUsedOnce file }
+{}
+
+/// What a new file says of the layer below, where it has these names: the file's, which isn't
+/// empty, and the format's. Everything in it that may use clusters is known.
+pub fn new_files_name_the_layer_below()
+    ensures { (l : Layout) (values : ℕ → Value) (file name format : List ℕ)
+        → IsWritten l values file → HasNames l name format → 0 < length name
+        → IsNamed name format file }
+{}
+
+/// Everything in a new file without a layer below that may use clusters is known.
+pub fn new_files_are_known()
+    ensures { (l : Layout) (values : ℕ → Value) (file : List ℕ) → IsWritten l values file
+        → HasNoNames l → IsKnown file }
 {}

@@ -257,7 +257,7 @@ impl Layout {
     ghost use Rattle.imago_qcow2_new.specs.Layout.{IsLayoutOf, file_length, size_of};
 
     /// Where everything stands in a file of a disk of that size, of which these clusters are
-    /// stored, in the units of [`cluster_length`]. The disk's size is rounded up to whole sectors of
+    /// stored, in units of [`cluster_length`]. The disk's size is rounded up to whole sectors of
     /// 512 bytes.
     ///
     /// # Errors

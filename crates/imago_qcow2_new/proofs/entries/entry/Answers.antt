@@ -1,6 +1,6 @@
-use Rattle.std.proofs.Common.{◌≡◌, ℕ, ◌+◌, ◌≤◌, true, false, refl, sym, ap, ◌∙◌, arith}
+-- SPDX-License-Identifier: MIT
+use Rattle.std.proofs.Common.{◌≡◌, refl, ap, arith}
 use Rattle.imago_qcow2_new.specs.Extents.{Spot, spot}
-use Rattle.imago_qcow2_new.specs.Layout.{entry_at}
 use Rattle.imago_qcow2_new.proofs.ExtentSteps.{before_most}
 use Rattle.imago_qcow2_new.proofs.entries.entry.Goals as goal
 

@@ -1,6 +1,7 @@
-use Rattle.std.proofs.Common.{◌≡◌, ℕ, ◌+◌, ◌*◌, ◌/◌, ◌<◌, ◌≤◌, false, ap, ◌∙◌, refl, arith}
+-- SPDX-License-Identifier: MIT
+use Rattle.std.proofs.Common.{◌≡◌, ℕ, ◌+◌, ◌*◌, ◌/◌, ◌<◌, ◌≤◌, false, ◌∙◌, refl, arith}
 use Rattle.std.proofs.lemmas.Bool.Decides.{nat_tests}
-use Rattle.imago_qcow2_new.specs.Extents.{Spot, spot}
+use Rattle.imago_qcow2_new.specs.Extents.{spot}
 use Rattle.imago_qcow2_new.proofs.Whole.{power_most, table_fits, entry_place, entry_near}
 use Rattle.imago_qcow2_new.proofs.entries.is_empty.Goals as goal
 

@@ -1,4 +1,5 @@
-use Rattle.std.proofs.Common.{◌≡◌, ℕ, ◌+◌, ◌*◌, ◌%◌, ap, ◌∙◌, arith}
+-- SPDX-License-Identifier: MIT
+use Rattle.std.proofs.Common.{ℕ, ◌+◌, ◌*◌, ◌%◌, ap, ◌∙◌}
 use Rattle.std.proofs.Math.Nat.{mod_self}
 use Rattle.imago_qcow2_new.proofs.Whole.{sum_whole, times_whole}
 use Rattle.imago_qcow2_new.proofs.layout.starts_of.Goals as goal

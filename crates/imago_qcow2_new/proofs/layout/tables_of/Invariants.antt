@@ -1,3 +1,4 @@
+-- SPDX-License-Identifier: MIT
 use Rattle.std.proofs.Common.{◌≡◌}
 use Rattle.imago_qcow2_new.proofs.layout.tables_of.Given as goal
 

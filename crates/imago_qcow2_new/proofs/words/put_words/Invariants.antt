@@ -1,3 +1,4 @@
+-- SPDX-License-Identifier: MIT
 use Rattle.std.proofs.Common.{◌≡◌, ◌-◌, ◌≤◌}
 use Rattle.imago_copy.specs.Appended.{IsAppended}
 use Rattle.imago_qcow2_new.specs.Words.{words_from}

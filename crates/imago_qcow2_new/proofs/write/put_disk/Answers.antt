@@ -1,9 +1,8 @@
 -- SPDX-License-Identifier: MIT
-use Rattle.std.proofs.Common.{◌≡◌, ℕ, ◌+◌, ◌≤◌, IsTrue, refl, subst, ◌∙◌, arith}
+use Rattle.std.proofs.Common.{◌≡◌, ℕ, ◌+◌, IsTrue, refl, subst, ◌∙◌, arith}
 use Rattle.imago_access.specs.declared.access.FormatAccess.{FormatAccess}
 use Rattle.imago_access.specs.Chain.{tells_bytes}
 use Rattle.imago_access.specs.Disk.{disk, value_at}
-use Rattle.imago_access.specs.ReaderOf.{image_of}
 use Rattle.imago_qcow2_new.specs.Space.{Fills}
 use Rattle.imago_qcow2_new.proofs.SpaceSteps.{begun}
 use Rattle.imago_qcow2_new.proofs.write.put_disk.Goals as goal

@@ -1,5 +1,5 @@
 -- SPDX-License-Identifier: MIT
-use Rattle.std.proofs.Common.{◌≡◌, ℕ, ◌+◌, ◌*◌, refl, sym, subst, ◌∙◌, arith}
+use Rattle.std.proofs.Common.{◌≡◌, ℕ, ◌+◌, ◌*◌, refl, subst, ◌∙◌, arith}
 use Rattle.imago_qcow2_new.specs.Space.{Fills}
 use Rattle.imago_qcow2_new.specs.Layout.{entry_value}
 use Rattle.imago_qcow2_new.proofs.SpaceSteps.{begun}

@@ -1,4 +1,5 @@
-use Rattle.std.proofs.Common.{◌≡◌, ℕ, ◌<◌, ◌≤◌, length, get_or, bit_or, nat_eq, true, arith, below_more}
+-- SPDX-License-Identifier: MIT
+use Rattle.std.proofs.Common.{◌≡◌, ℕ, get_or, arith, below_more}
 use Rattle.std.proofs.lemmas.Nat.{le_or_l, le_or_r}
 use Rattle.std.proofs.lemmas.Bool.Decides.{nat_tests}
 use Rattle.imago_qcow2_new.proofs.Appends.{all_zero}

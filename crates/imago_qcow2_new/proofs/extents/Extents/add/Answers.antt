@@ -1,4 +1,5 @@
-use Rattle.std.proofs.Common.{◌≡◌, ◌+◌, ◌≤◌, ℕ, arith, refl}
+-- SPDX-License-Identifier: MIT
+use Rattle.std.proofs.Common.{◌≤◌, arith, refl}
 use Rattle.imago_qcow2_new.proofs.ExtentSteps.{runs_more, stored_most}
 use Rattle.imago_qcow2_new.proofs.extents.Extents.add.Goals as goal
 

@@ -1,4 +1,5 @@
-use Rattle.std.proofs.Common.{◌≡◌, ◌+◌, ◌-◌, ◌%◌, ◌≤◌, ◌<◌, ℕ, arith, refl, subst, sym}
+-- SPDX-License-Identifier: MIT
+use Rattle.std.proofs.Common.{◌-◌, ◌%◌, arith}
 use Rattle.imago_qcow2_new.proofs.Whole.{zero_whole, mod_le, floor_whole, rest_whole, either_whole}
 use Rattle.imago_qcow2_new.proofs.ExtentSteps.{end_whole}
 use Rattle.imago_qcow2_new.proofs.extents.Extents.cover.Goals as goal

@@ -1,6 +1,6 @@
-use Rattle.std.proofs.Common.{◌≡◌, ◌+◌, ◌≤◌, ◌<◌, ℕ, suc, length, get_or, arith, refl, subst, sym}
+-- SPDX-License-Identifier: MIT
+use Rattle.std.proofs.Common.{◌≡◌, ◌+◌, ◌≤◌, ◌<◌, suc, length, arith, subst, sym}
 use Rattle.imago_qcow2_new.specs.declared.extent.Extent.{Extent}
-use Rattle.imago_qcow2_new.specs.Extents.{AreExtents}
 use Rattle.imago_qcow2_new.proofs.ExtentSteps.{runs_longer, stored_most, within}
 use Rattle.imago_qcow2_new.proofs.extents.Extents.lengthen.Goals as goal
 

@@ -1,4 +1,5 @@
-use Rattle.std.proofs.Common.{◌≡◌, ℕ, ◌+◌, ◌-◌, ◌<◌, ◌≤◌, length, get_or, subst, sym, arith}
+-- SPDX-License-Identifier: MIT
+use Rattle.std.proofs.Common.{◌+◌, ◌-◌, ◌<◌, ◌≤◌, length, subst, sym, arith}
 use Rattle.imago_qcow2_new.specs.declared.extent.Extent.{Extent}
 use Rattle.imago_qcow2_new.proofs.ExtentSteps.{none_left, ahead_left, inside_left, none_here, ahead_here, inside_here, within, stored_most}
 use Rattle.imago_qcow2_new.proofs.extents.Extents.part_at.Goals as goal

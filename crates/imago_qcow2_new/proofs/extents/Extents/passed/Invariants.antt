@@ -1,3 +1,4 @@
+-- SPDX-License-Identifier: MIT
 use Rattle.std.proofs.Common.{◌-◌, ◌+◌, ◌≡◌, ℕ, ◌<◌, ◌≤◌, length, drop, get_or}
 use Rattle.imago_qcow2_new.specs.declared.extent.Extent.{Extent}
 use Rattle.imago_qcow2_new.specs.Extents.{spot}
