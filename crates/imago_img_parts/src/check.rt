@@ -18,9 +18,9 @@ use crate::clusters::{ClusterRun, cluster_runs, tell_faults};
 use crate::extents::{find, tell_fault};
 use crate::failure::{Failure, OpenError, Reason};
 use crate::host::{Files, Host};
-use crate::looked::{descriptor_text, try_file};
+use crate::looked::{descriptor_text, refuse_long_disk, try_file};
 use imago_access::access::FormatAccess;
-use imago_images::alone::refuse_below;
+use imago_images::alone::{refuse_another, refuse_below};
 use imago_images::file::{PathStorage, look_at};
 use imago_images::format::ImageFormat;
 use imago_images::gate::{FolderGate, Named};
@@ -75,7 +75,10 @@ fn check_format<H: Host, W: Write>(
         (λ files. IsFaultless how.accepted how.other_files how.format files path.now)) }
 {
     let file = look_at(host, path)?;
-    match format_of(host.alloc(), path, &file, how.format)? {
+    refuse_another(host.alloc(), path, &file, how.format, how.other_files)?;
+    let format = format_of(host.alloc(), path, &file, how.format)?;
+    refuse_long_disk(host.alloc(), path, &file, format, how)?;
+    match format {
         ImageFormat::Raw => {
             try_file(host.alloc(), path, &file)?;
             Ok(0)

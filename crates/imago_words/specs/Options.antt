@@ -21,6 +21,7 @@ info_options =
     ∷ flag (codes "json") [] (codes "json")
     ∷ flag (codes "force-share") (codes "U") (codes "force-share")
     ∷ valued (codes "tables") [] (codes "tables")
+    ∷ valued (codes "max-size") [] (codes "max-size")
     ∷ flag (codes "strict") [] (codes "strict")
     ∷ flag (codes "allow-outside") [] (codes "allow-outside")
     ∷ flag (codes "alone") [] (codes "alone")
@@ -35,6 +36,7 @@ map_options =
     ∷ flag (codes "json") [] (codes "json")
     ∷ flag (codes "force-share") (codes "U") (codes "force-share")
     ∷ valued (codes "tables") [] (codes "tables")
+    ∷ valued (codes "max-size") [] (codes "max-size")
     ∷ flag (codes "strict") [] (codes "strict")
     ∷ flag (codes "allow-outside") [] (codes "allow-outside")
     ∷ flag (codes "alone") [] (codes "alone")
@@ -49,6 +51,7 @@ check_options =
     ∷ flag (codes "force-share") (codes "U") (codes "force-share")
     ∷ valued (codes "source-cache") (codes "T") []
     ∷ valued (codes "tables") [] (codes "tables")
+    ∷ valued (codes "max-size") [] (codes "max-size")
     ∷ flag (codes "strict") [] (codes "strict")
     ∷ flag (codes "allow-outside") [] (codes "allow-outside")
     ∷ flag (codes "alone") [] (codes "alone")
@@ -66,6 +69,7 @@ compare_options =
     ∷ flag (codes "force-share") (codes "U") (codes "force-share")
     ∷ valued (codes "source-cache") (codes "T") []
     ∷ valued (codes "tables") [] (codes "tables")
+    ∷ valued (codes "max-size") [] (codes "max-size")
     ∷ flag (codes "strict") [] (codes "strict")
     ∷ flag (codes "allow-outside") [] (codes "allow-outside")
     ∷ flag (codes "alone") [] (codes "alone")
@@ -90,6 +94,7 @@ convert_options =
     ∷ flag (codes "copy-range") (codes "C") []
     ∷ valued (codes "rate") (codes "r") []
     ∷ valued (codes "tables") [] (codes "tables")
+    ∷ valued (codes "max-size") [] (codes "max-size")
     ∷ flag (codes "strict") [] (codes "strict")
     ∷ flag (codes "allow-outside") [] (codes "allow-outside")
     ∷ flag (codes "alone") [] (codes "alone")

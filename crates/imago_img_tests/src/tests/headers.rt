@@ -32,7 +32,7 @@ const COMPRESSED: Parts = &[
 ];
 
 /// Headers that are refused.
-static ROWS: [Row; 19] = [
+static ROWS: [Row; 18] = [
     // What isn't supported.
     (
         &[(79, b"\x02")],
@@ -72,11 +72,6 @@ static ROWS: [Row; 19] = [
         &[(7, b"\x04")],
         "\"a\": the header says version 4, which isn't supported\n1 fault was found.\n",
         "imago-img: \"a\": the header says version 4, which isn't supported\n",
-    ),
-    (
-        &[(7, b"\x01")],
-        "\"a\": the header says version 1, which isn't supported\n1 fault was found.\n",
-        "imago-img: \"a\": the header says version 1, which isn't supported\n",
     ),
     // What can't be meant.
     (
