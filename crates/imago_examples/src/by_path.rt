@@ -107,6 +107,7 @@ pub fn open_disk<'a, H: Files>(host: &'a H, path: &str) -> Result<FileImage<'a, 
         accepted: Accepted::EVERYTHING,
         other_files: OtherFiles::InFolder,
         tables: None,
+        longest: None,
         writable: false,
     };
     let (_format, image) = open_image(host, path, how)?;

@@ -18,6 +18,7 @@ use Rattle.imago_images.specs.declared.format.ImageFormat.TheVariants.{Raw, Vmdk
 use Rattle.imago_images.specs.Refusals.{IsRefused, IsTooDeep}
 use Rattle.imago_images.specs.Chains.{HasIdentity, GoesDown, IsLayerRefused, IsNextRefused, IsChainRefused, IsWayDown, IsEndingWay}
 use Rattle.imago_images.specs.declared.opening.OtherFiles.{OtherFiles}
+use Rattle.imago_images.specs.declared.opening.Opening.{Opening}
 
 one_more : (down : List (List ℕ)) (next : List ℕ) (less most : ℕ) → less + 1 ≤ most → length down ≤ less → length (next ∷ down) ≤ most
 one_more down next less most n h = grind (arith, n, h)
@@ -61,15 +62,15 @@ module _ {D St : Type 0} (view : D → View St) (accepted : Accepted) (others : 
   goes_down files path next Qcow2 inner h = (refl, h.1.1)
   goes_down files path next Vmdk inner h = let none : ⊥ = cc h.1.5 in absurd none
 
-  module _ (limit : Option ℕ) (statuses : Option (List ℕ → FileStatus)) (reals : Option (List ℕ → List ℕ)) (above : List (ℕ × ℕ))
+  module _ (how : Opening) (statuses : Option (List ℕ → FileStatus)) (reals : Option (List ℕ → List ℕ)) (above : List (ℕ × ℕ))
       (path : List ℕ) (format : ImageFormat) (e : OpenError) where
     -- what is shown of a chain that isn't opened from here on
     abbrev pub IsChainOut : (List ℕ → List ℕ) → Type 0
-    IsChainOut files = (down : List (List ℕ)) × IsChainRefused files statuses reals others limit above path format down e
+    IsChainOut files = (down : List (List ℕ)) × IsChainRefused files statuses reals others how above path format down e
 
     pub layer_out :
         (known : Option (List ℕ → List ℕ))
-        → IfSome known (λ files. IsLayerRefused files statuses reals others limit path format e)
+        → IfSome known (λ files. IsLayerRefused files statuses reals others how.tables path format e)
         → IfSome known IsChainOut
     layer_out None h = tt
     layer_out (Some files) h = ([], inl h)
@@ -87,7 +88,7 @@ module _ {D St : Type 0} (view : D → View St) (accepted : Accepted) (others : 
         → IfSome known (λ files. IsLayerOf view accepted others files path format inner (Some next))
         → IfSome known (λ files. SaysFormat (files path) said)
         → IfSome known (λ files. SaysFormat (files path) said
-        → IsNextRefused files statuses reals others above path next e)
+        → IsNextRefused files statuses reals others how above path next e)
         → IfSome known IsChainOut
     next_out None next said inner h s r = tt
     next_out (Some files) next said inner h s r =
@@ -101,7 +102,7 @@ module _ {D St : Type 0} (view : D → View St) (accepted : Accepted) (others : 
         → IfSome known (λ files. IsFormatBy said next (files next) lower)
         → IsLetThrough others path next → HasIdentity statuses next file → now ≡ above ++ file ∷ []
         → IfSome known (λ files. (down : List (List ℕ))
-        × IsChainRefused files statuses reals others limit now next lower down e)
+        × IsChainRefused files statuses reals others how now next lower down e)
         → IfSome known IsChainOut
     below_out None next said lower inner file now h s f t i is r = tt
     below_out (Some files) next said lower inner file now h s f t i is r = (
@@ -115,7 +116,7 @@ module _ {D St : Type 0} (view : D → View St) (accepted : Accepted) (others : 
           (
             file,
             i,
-            subst (λ (xs : List (ℕ × ℕ)). IsChainRefused files statuses reals others limit xs next lower r.0 e) is r.1,
+            subst (λ (xs : List (ℕ × ℕ)). IsChainRefused files statuses reals others how xs next lower r.0 e) is r.1,
           ),
         ),
       ),

@@ -1,7 +1,7 @@
 -- Why an image, or the file below one, isn't opened, where its host tells what files have.
 -- SPDX-License-Identifier: MIT
 use Rattle.std.proofs.Common.{◌≡◌, ℕ, Bool, List, [], ◌∷◌, Option, Some, None, Result, Err, IfErr, IfSome}
-use Rattle.std.proofs.Common.{sym, ap, subst, inl, inr}
+use Rattle.std.proofs.Common.{sym, ap, subst, inl, inr, ◌∙◌}
 use Rattle.imago_storage.specs.Features.{Features}
 use Rattle.imago_images.specs.declared.failure.OpenError.{OpenError}
 use Rattle.imago_images.specs.declared.files.FileStatus.{FileStatus}
@@ -9,11 +9,18 @@ use Rattle.imago_images.specs.declared.format.ImageFormat.{ImageFormat}
 use Rattle.imago_images.specs.declared.format.ImageFormat.TheVariants as Format
 use Rattle.imago_images.specs.declared.opening.OtherFiles.{OtherFiles}
 use Rattle.imago_images.specs.Formats.{SaysFormat, IsFormatBy}
+use Rattle.imago_images.specs.Images.{IsImageIn}
+use Rattle.imago_access.specs.declared.access.FormatAccess.{FormatAccess}
+use Rattle.imago_access.specs.Chain.{driver}
+use Rattle.imago_drivers.specs.View.{View}
 use Rattle.imago_images.specs.HostBytes.{HasBytes}
+use Rattle.imago_images.specs.Alone.{IsOfAnother, IsOfOneFormat}
+use Rattle.imago_images.specs.Longest.{IsNoLonger, IsOverLimit, IsTooLong}
+use Rattle.imago_images.specs.declared.opening.Opening.{Opening}
 use Rattle.imago_images.specs.Way.{identity}
 use Rattle.imago_images.specs.Refusals.{IsRefused, IsUnknown}
 use Rattle.imago_images.specs.Chains.{HasIdentity, IsLayerRefused, IsNextRefused, IsChainRefused, IsOpeningRefused, IsImageRefused, IsEndingWay, HasEnd}
-use Rattle.imago_images.proofs.RefusalSteps.{where_held, both_held}
+use Rattle.imago_images.proofs.RefusalSteps.{where_held, both_held, weaker}
 
 -- what holds of a refusal
 pub refused_with :
@@ -43,55 +50,173 @@ module _ {S : Type 0} (features : S → Features) (bytes : S → List ℕ)
     (told : (held : List ℕ) → shown ≡ Some held → HasBytes features bytes held s) where
   -- the format of the file below isn't told
   pub next_unknown :
-      (asked : Option (List ℕ → List ℕ)) (above : List (ℕ × ℕ)) (next from named : List ℕ)
+      (how : Opening) (asked : Option (List ℕ → List ℕ)) (above : List (ℕ × ℕ)) (next from named : List ℕ)
       → asked ≡ known → from ≡ next → named ≡ next
       → IfSome asked (λ files. shown ≡ Some (files from))
       → ((held : List ℕ) → HasBytes features bytes held s → IsRefused named (IsUnknown said named held) e)
       → IfSome known (λ files. SaysFormat (files path) said
-      → IsNextRefused files statuses reals others above path next e)
-  next_unknown asked above next from named same is called held refused =
+      → IsNextRefused files statuses reals others how above path next e)
+  next_unknown how asked above next from named same is called held refused =
       where_held known (λ files. shown ≡ Some (files from))
-      (λ files. SaysFormat (files path) said → IsNextRefused files statuses reals others above path next e)
+      (λ files. SaysFormat (files path) said → IsNextRefused files statuses reals others how above path next e)
       (subst (λ (k : Option (List ℕ → List ℕ)). IfSome k (λ files. shown ≡ Some (files from))) same held)
-      (λ files h says. inr (inr (
+      (λ files h says. inr (inr (inl (
         said,
         says,
         subst (λ (p : List ℕ). IsRefused p (IsUnknown said p (files next)) e) called
             (subst (λ (p : List ℕ). IsRefused named (IsUnknown said named (files p)) e) is
             (refused (files from) (told (files from) h))),
-      )))
+      ))))
+
+  -- the disk of the file below is too long
+  pub next_long :
+      (how : Opening) (asked : Option (List ℕ → List ℕ)) (above : List (ℕ × ℕ)) (next from told_by named : List ℕ)
+      (lower : ImageFormat)
+      → asked ≡ known → from ≡ next → told_by ≡ next → named ≡ next
+      → IfSome asked (λ files. shown ≡ Some (files from))
+      → ((held : List ℕ) → HasBytes features bytes held s → IsFormatBy said told_by held lower)
+      → ((held : List ℕ) → HasBytes features bytes held s
+      → IsRefused named (IsTooLong how.longest how.accepted lower held) e)
+      → IfSome known (λ files. SaysFormat (files path) said
+      → IsNextRefused files statuses reals others how above path next e)
+  next_long how asked above next from told_by named lower same is spelled called held by refused =
+      where_held known (λ files. shown ≡ Some (files from))
+      (λ files. SaysFormat (files path) said → IsNextRefused files statuses reals others how above path next e)
+      (subst (λ (k : Option (List ℕ → List ℕ)). IfSome k (λ files. shown ≡ Some (files from))) same held)
+      (λ files h says. inr (inr (inr (
+        lower,
+        (
+          said,
+          says,
+          subst (λ (p : List ℕ). IsFormatBy said p (files next) lower) spelled
+              (subst (λ (p : List ℕ). IsFormatBy said told_by (files p) lower) is
+              (by (files from) (told (files from) h))),
+        ),
+        subst (λ (p : List ℕ). IsRefused p (IsTooLong how.longest how.accepted lower (files next)) e) called
+            (subst (λ (p : List ℕ). IsRefused named (IsTooLong how.longest how.accepted lower (files p)) e) is
+            (refused (files from) (told (files from) h))),
+      ))))
+
+  -- it isn't
+  pub next_within :
+      (how : Opening) (asked : Option (List ℕ → List ℕ)) (next from : List ℕ) (lower : ImageFormat)
+      → asked ≡ known → from ≡ next
+      → IfSome asked (λ files. shown ≡ Some (files from))
+      → ((held : List ℕ) → HasBytes features bytes held s → IsNoLonger how.longest how.accepted lower held)
+      → IfSome known (λ files. IsNoLonger how.longest how.accepted lower (files next))
+  next_within how asked next from lower same is held within =
+      where_held known (λ files. shown ≡ Some (files from))
+      (λ files. IsNoLonger how.longest how.accepted lower (files next))
+      (subst (λ (k : Option (List ℕ → List ℕ)). IfSome k (λ files. shown ≡ Some (files from))) same held)
+      (λ files h. subst (λ (p : List ℕ). IsNoLonger how.longest how.accepted lower (files p)) is
+      (within (files from) (told (files from) h)))
 
   -- the format of the image's own file isn't told
   pub image_unknown :
-      (writable : Bool) (limit : Option ℕ) → IfSome known (λ files. shown ≡ Some (files path))
+      (writable : Bool) (how : Opening) → IfSome known (λ files. shown ≡ Some (files path))
       → ((held : List ℕ) → HasBytes features bytes held s → IsRefused path (IsUnknown said path held) e)
-      → IfSome known (λ files. IsImageRefused writable files statuses reals others limit said path e)
-  image_unknown writable limit held refused =
+      → IfSome known (λ files. IsImageRefused writable files statuses reals others how said path e)
+  image_unknown writable how held refused =
       where_held known (λ files. shown ≡ Some (files path))
-      (λ files. IsImageRefused writable files statuses reals others limit said path e) held
+      (λ files. IsImageRefused writable files statuses reals others how said path e) held
       (λ files h. inr (inl (refused (files path) (told (files path) h))))
 
   -- the file isn't opened, for writing or with those below it
   pub image_out :
-      (writable : Bool) (limit : Option ℕ) (format : ImageFormat) (file : ℕ × ℕ) (now : List (ℕ × ℕ))
+      (writable : Bool) (how : Opening) (format : ImageFormat) (file : ℕ × ℕ) (now : List (ℕ × ℕ))
       → IfSome known (λ files. shown ≡ Some (files path))
       → ((held : List ℕ) → HasBytes features bytes held s → IsFormatBy said path held format)
       → HasIdentity statuses path file → now ≡ file ∷ []
-      → IfSome known (λ files. IsOpeningRefused writable files statuses reals others limit now path format e)
-      → IfSome known (λ files. IsImageRefused writable files statuses reals others limit said path e)
-  image_out writable limit format file now held by has is out =
+      → IfSome known (λ files. IsOpeningRefused writable files statuses reals others how now path format e)
+      → IfSome known (λ files. IsImageRefused writable files statuses reals others how said path e)
+  image_out writable how format file now held by has is out =
       both_held known (λ files. shown ≡ Some (files path))
-      (λ files. IsOpeningRefused writable files statuses reals others limit now path format e)
-      (λ files. IsImageRefused writable files statuses reals others limit said path e) held out
-      (λ files h o. inr (inr (
+      (λ files. IsOpeningRefused writable files statuses reals others how now path format e)
+      (λ files. IsImageRefused writable files statuses reals others how said path e) held out
+      (λ files h o. inr (inr (inl (
         format,
         by (files path) (told (files path) h),
         (
           file,
           has,
-          subst (λ (xs : List (ℕ × ℕ)). IsOpeningRefused writable files statuses reals others limit xs path format e) is o,
+          subst (λ (xs : List (ℕ × ℕ)). IsOpeningRefused writable files statuses reals others how xs path format e) is o,
         ),
-      )))
+      ))))
+
+  -- the image's own file is of another format too
+  pub image_another :
+      (writable : Bool) (how : Opening) → IfSome known (λ files. shown ≡ Some (files path))
+      → ((held : List ℕ) → HasBytes features bytes held s → IsRefused path (IsOfAnother others said held) e)
+      → IfSome known (λ files. IsImageRefused writable files statuses reals others how said path e)
+  image_another writable how held refused =
+      where_held known (λ files. shown ≡ Some (files path))
+      (λ files. IsImageRefused writable files statuses reals others how said path e) held
+      (λ files h. inr (inr (inr (inl (refused (files path) (told (files path) h))))))
+
+  -- its disk is too long
+  pub image_long :
+      (writable : Bool) (how : Opening) (format : ImageFormat) → IfSome known (λ files. shown ≡ Some (files path))
+      → ((held : List ℕ) → HasBytes features bytes held s → IsFormatBy said path held format)
+      → ((held : List ℕ) → HasBytes features bytes held s
+      → IsRefused path (IsTooLong how.longest how.accepted format held) e)
+      → IfSome known (λ files. IsImageRefused writable files statuses reals others how said path e)
+  image_long writable how format held by refused =
+      where_held known (λ files. shown ≡ Some (files path))
+      (λ files. IsImageRefused writable files statuses reals others how said path e) held
+      (λ files h. inr (inr (inr (inr (
+        format,
+        by (files path) (told (files path) h),
+        refused (files path) (told (files path) h),
+      )))))
+
+  -- it isn't
+  pub image_within :
+      (how : Opening) (format : ImageFormat) → IfSome known (λ files. shown ≡ Some (files path))
+      → ((held : List ℕ) → HasBytes features bytes held s → IsNoLonger how.longest how.accepted format held)
+      → IfSome known (λ files. IsNoLonger how.longest how.accepted format (files path))
+  image_within how format held within =
+      where_held known (λ files. shown ≡ Some (files path))
+      (λ files. IsNoLonger how.longest how.accepted format (files path)) held
+      (λ files h. within (files path) (told (files path) h))
+
+  -- its format is told
+  pub image_format :
+      (format : ImageFormat) → IfSome known (λ files. shown ≡ Some (files path))
+      → ((held : List ℕ) → HasBytes features bytes held s → IsFormatBy said path held format)
+      → IfSome known (λ files. IsFormatBy said path (files path) format)
+  image_format format held by =
+      where_held known (λ files. shown ≡ Some (files path))
+      (λ files. IsFormatBy said path (files path) format) held
+      (λ files h. by (files path) (told (files path) h))
+
+  -- it is of one format
+  pub image_one :
+      IfSome known (λ files. shown ≡ Some (files path))
+      → ((held : List ℕ) → HasBytes features bytes held s → IsOfOneFormat others said held)
+      → IfSome known (λ files. IsOfOneFormat others said (files path))
+  image_one held one =
+      where_held known (λ files. shown ≡ Some (files path))
+      (λ files. IsOfOneFormat others said (files path)) held
+      (λ files h. one (files path) (told (files path) h))
+
+-- the disk of an image that was opened is too long
+pub image_over :
+    {D St : Type 0} (view : D → View St) (x : FormatAccess D) (known : Option (List ℕ → List ℕ))
+    (statuses : Option (List ℕ → FileStatus)) (reals : Option (List ℕ → List ℕ)) (others : OtherFiles)
+    (path : List ℕ) (said : Option ImageFormat) (e : OpenError) (writable : Bool) (how : Opening)
+    (format : ImageFormat) (size : ℕ) → size ≡ (view (driver x)).size
+    → IfSome known (λ files. IsFormatBy said path (files path) format)
+    → IfSome known (λ files. IsImageIn view how.accepted others files path format x)
+    → IsRefused path (IsOverLimit how.longest size) e
+    → IfSome known (λ files. IsImageRefused writable files statuses reals others how said path e)
+image_over view x None statuses reals others path said e writable how format size is by image out = tt
+image_over view x (Some files) statuses reals others path said e writable how format size is by image out =
+    inr (inr (inr (inr (
+      format,
+      by,
+      weaker path (IsOverLimit how.longest size) (IsTooLong how.longest how.accepted format (files path))
+          (λ r o. inl (subst (λ (n : ℕ). IsOverLimit how.longest n r) (is ∙ image.2.1) o)) e out,
+    ))))
 
 -- a layer isn't opened where memory is refused
 layer_memory :
@@ -105,13 +230,13 @@ layer_memory files statuses reals others limit path Format.Vmdk = inl tt
 -- nor is a chain that begins with it
 pub chain_memory :
     (known : Option (List ℕ → List ℕ)) (statuses : Option (List ℕ → FileStatus))
-    (reals : Option (List ℕ → List ℕ)) (others : OtherFiles) (limit : Option ℕ) (above : List (ℕ × ℕ)) (path : List ℕ)
+    (reals : Option (List ℕ → List ℕ)) (others : OtherFiles) (how : Opening) (above : List (ℕ × ℕ)) (path : List ℕ)
     (format : ImageFormat) (e : OpenError) → e ≡ OpenError.Memory
     → IfSome known (λ files. (down : List (List ℕ))
-    × IsChainRefused files statuses reals others limit above path format down e)
-chain_memory None statuses reals others limit above path format e is = tt
-chain_memory (Some files) statuses reals others limit above path format e is = (
+    × IsChainRefused files statuses reals others how above path format down e)
+chain_memory None statuses reals others how above path format e is = tt
+chain_memory (Some files) statuses reals others how above path format e is = (
   [],
-  subst (λ (x : OpenError). IsChainRefused files statuses reals others limit above path format [] x) (sym is)
-      (inl (layer_memory files statuses reals others limit path format)),
+  subst (λ (x : OpenError). IsChainRefused files statuses reals others how above path format [] x) (sym is)
+      (inl (layer_memory files statuses reals others how.tables path format)),
 )

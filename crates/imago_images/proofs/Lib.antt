@@ -15,3 +15,4 @@ pub mod WriteSteps
 pub mod BackingSteps
 pub mod SignatureSteps
 pub mod AloneSteps
+pub mod LongestSteps

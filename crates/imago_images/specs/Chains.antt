@@ -16,6 +16,9 @@ use Rattle.imago_images.specs.Way.{identity, is_among}
 use Rattle.imago_images.specs.Refusals.{IsRefused, IsBySystem, IsByDriver, IsByEither, IsUnseen}
 use Rattle.imago_images.specs.Refusals.{IsUnknown, IsInCircle, IsTooDeep, IsUnopened, folder_asked}
 use Rattle.imago_images.specs.Refusals.{IsNotHandedOut, IsUnwritten}
+use Rattle.imago_images.specs.Alone.{IsOfAnother}
+use Rattle.imago_images.specs.Longest.{IsTooLong}
+use Rattle.imago_images.specs.declared.opening.Opening.{Opening}
 
 -- a file has that device and number, where the host tells what its files are
 abbrev pub HasIdentity : Option (List ℕ → FileStatus) → List ℕ → ℕ × ℕ → Type 0
@@ -46,56 +49,62 @@ IsLayerRefused files statuses reals others limit path Vmdk e = IsRefused path Is
     ⊎ ((extent : List ℕ) × IsNamedRefused Extents statuses reals others path extent e)
 
 -- The file of the next path, which is below that of a path, isn't opened: it isn't handed out, it
--- is one of those above, or its format isn't told.
+-- is one of those above, its format isn't told, or its disk is too long.
 abbrev pub IsNextRefused :
-    (List ℕ → List ℕ) → Option (List ℕ → FileStatus) → Option (List ℕ → List ℕ) → OtherFiles
+    (List ℕ → List ℕ) → Option (List ℕ → FileStatus) → Option (List ℕ → List ℕ) → OtherFiles → Opening
     → List (ℕ × ℕ) → List ℕ → List ℕ → OpenError → Type 0
-IsNextRefused files statuses reals others above path next e =
+IsNextRefused files statuses reals others how above path next e =
     IsNamedRefused Backing statuses reals others path next e
     ⊎ ((file : ℕ × ℕ) × HasIdentity statuses next file
     × IsRefused next (IsInCircle above file) e)
     ⊎ ((said : Option ImageFormat) × SaysFormat (files path) said
     × IsRefused next (IsUnknown said next (files next)) e)
+    ⊎ ((lower : ImageFormat) × IsFormatBelow (files path) next (files next) lower
+    × IsRefused next (IsTooLong how.longest how.accepted lower (files next)) e)
 
 -- A chain isn't opened from the file of a path on, which has that format and is the last one of
 -- those that are given by device and number. The way goes down by these paths to a file, and it
 -- isn't opened as a layer, or what is below it isn't opened: it would be one more than 200 files,
 -- or that file is refused.
 abbrev pub IsChainRefused :
-    (List ℕ → List ℕ) → Option (List ℕ → FileStatus) → Option (List ℕ → List ℕ) → OtherFiles → Option ℕ
+    (List ℕ → List ℕ) → Option (List ℕ → FileStatus) → Option (List ℕ → List ℕ) → OtherFiles → Opening
     → List (ℕ × ℕ) → List ℕ → ImageFormat → List (List ℕ) → OpenError → Type 0
-IsChainRefused files statuses reals others limit above path format [] e =
-    IsLayerRefused files statuses reals others limit path format e
+IsChainRefused files statuses reals others how above path format [] e =
+    IsLayerRefused files statuses reals others how.tables path format e
     ⊎ ((next : List ℕ) × GoesDown files path format next
     × (((length above ≡ 200) × IsRefused path IsTooDeep e)
-    ⊎ IsNextRefused files statuses reals others above path next e))
-IsChainRefused files statuses reals others limit above path format (next ∷ down) e =
+    ⊎ IsNextRefused files statuses reals others how above path next e))
+IsChainRefused files statuses reals others how above path format (next ∷ down) e =
     GoesDown files path format next × IsLetThrough others path next
     × ((lower : ImageFormat) × IsFormatBelow (files path) next (files next) lower
     × ((file : ℕ × ℕ) × HasIdentity statuses next file
-    × IsChainRefused files statuses reals others limit (above ++ file ∷ []) next lower down e))
+    × IsChainRefused files statuses reals others how (above ++ file ∷ []) next lower down e))
 
 -- The file of a path, which has that format, isn't opened for writing where it is to be; or else
 -- the chain isn't that begins with it, the last one of those that are given.
 abbrev pub IsOpeningRefused :
-    Bool → (List ℕ → List ℕ) → Option (List ℕ → FileStatus) → Option (List ℕ → List ℕ) → OtherFiles → Option ℕ
+    Bool → (List ℕ → List ℕ) → Option (List ℕ → FileStatus) → Option (List ℕ → List ℕ) → OtherFiles → Opening
     → List (ℕ × ℕ) → List ℕ → ImageFormat → OpenError → Type 0
-IsOpeningRefused true files statuses reals others limit above path format e =
+IsOpeningRefused true files statuses reals others how above path format e =
     IsRefused path (IsUnwritten statuses path format) e
-IsOpeningRefused false files statuses reals others limit above path format e =
-    (down : List (List ℕ)) × IsChainRefused files statuses reals others limit above path format down e
+IsOpeningRefused false files statuses reals others how above path format e =
+    (down : List (List ℕ)) × IsChainRefused files statuses reals others how above path format down e
 
 -- The image of the file of a path isn't opened, for writing or not, whose format is said or isn't:
--- the file isn't looked at, its format isn't told, or it isn't opened with what is below it.
+-- the file isn't looked at, its format isn't told, it isn't opened with what is below it, it is of
+-- another format too, or its disk is too long.
 abbrev pub IsImageRefused :
-    Bool → (List ℕ → List ℕ) → Option (List ℕ → FileStatus) → Option (List ℕ → List ℕ) → OtherFiles → Option ℕ
+    Bool → (List ℕ → List ℕ) → Option (List ℕ → FileStatus) → Option (List ℕ → List ℕ) → OtherFiles → Opening
     → Option ImageFormat → List ℕ → OpenError → Type 0
-IsImageRefused writable files statuses reals others limit said path e =
+IsImageRefused writable files statuses reals others how said path e =
     IsRefused path (IsUnseen statuses path) e
     ⊎ IsRefused path (IsUnknown said path (files path)) e
     ⊎ ((format : ImageFormat) × IsFormatBy said path (files path) format
     × ((file : ℕ × ℕ) × HasIdentity statuses path file
-    × IsOpeningRefused writable files statuses reals others limit (file ∷ []) path format e))
+    × IsOpeningRefused writable files statuses reals others how (file ∷ []) path format e))
+    ⊎ IsRefused path (IsOfAnother others said (files path)) e
+    ⊎ ((format : ImageFormat) × IsFormatBy said path (files path) format
+    × IsRefused path (IsTooLong how.longest how.accepted format (files path)) e)
 
 -- The files below that of a path, which has that format, down to the last one, which leads to none:
 -- none of them is one of those that are given, nor of those above it.

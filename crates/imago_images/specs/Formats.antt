@@ -10,7 +10,7 @@ use Rattle.imago_images.specs.declared.format.ImageFormat.{ImageFormat}
 use Rattle.imago_images.specs.declared.format.ImageFormat.TheVariants.{Raw, Vmdk, Qcow2}
 use Rattle.imago_images.specs.declared.signature.Signature.{Signature}
 use Rattle.imago_images.specs.declared.signature.Signature.TheVariants as Of
-use Rattle.imago_images.specs.Signatures.{signature_of, told_by_first, first_block}
+use Rattle.imago_images.specs.Signatures.{signature_of}
 
 -- the format of that name, if one has it
 unfoldable pub format_named : List ℕ → Option ImageFormat
@@ -44,22 +44,30 @@ taken_for name (Some Of.Qcow2) = qcow2_by_name name
 taken_for name (Some Of.Descriptor) = descriptor_by_name name
 taken_for name (Some other) = Err other
 
--- a format, unless a file is a sparse VMDK image by its first block
-abbrev pub unless_sparse : ImageFormat → Option Signature → Result ImageFormat Signature
-unless_sparse said (Some Of.Sparse) = Err Of.Sparse
-unless_sparse said found = Ok said
+-- What a file is that is said to be a descriptor: one that is recognised as something else isn't.
+abbrev pub vmdk_unless : Option Signature → Result ImageFormat Signature
+vmdk_unless None = Ok Vmdk
+vmdk_unless (Some Of.Descriptor) = Ok Vmdk
+vmdk_unless (Some Of.OtherDescriptor) = Ok Vmdk
+vmdk_unless (Some other) = Err other
 
--- What a file is that is said to have a format, by its first block: any file is raw where that is
--- said.
+-- the same of a qcow2 image
+abbrev pub qcow2_unless : Option Signature → Result ImageFormat Signature
+qcow2_unless None = Ok Qcow2
+qcow2_unless (Some Of.Qcow2) = Ok Qcow2
+qcow2_unless (Some other) = Err other
+
+-- What a file is that is said to have a format, by what it is recognised as: any file is raw where
+-- that is said.
 abbrev pub said_for : ImageFormat → Option Signature → Result ImageFormat Signature
 said_for Raw found = Ok Raw
-said_for Vmdk found = unless_sparse Vmdk found
-said_for Qcow2 found = unless_sparse Qcow2 found
+said_for Vmdk found = vmdk_unless found
+said_for Qcow2 found = qcow2_unless found
 
 -- The format of the file of a path with these bytes, or what it is recognised as instead: the one
 -- that is said, or else the one that it is taken for.
 abbrev pub told_format : Option ImageFormat → List ℕ → List ℕ → Result ImageFormat Signature
-told_format (Some said) path bytes = said_for said (told_by_first (first_block bytes))
+told_format (Some said) path bytes = said_for said (signature_of bytes)
 told_format None path bytes = taken_for (format_by_name path) (signature_of bytes)
 
 -- the file of a path has that format

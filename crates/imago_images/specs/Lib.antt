@@ -15,5 +15,6 @@ pub mod Images
 pub mod Way
 pub mod Refusals
 pub mod Chains
+pub mod Longest
 pub mod Alone
 pub mod Reach

@@ -65,17 +65,20 @@ IsUnwritten statuses path format Reason.OnlyRead = format ≢ Format.Raw
 IsUnwritten statuses path format (Reason.Image error) = Unit {0}
 IsUnwritten statuses path format reason = IsUnseen statuses path reason
 
--- why a file isn't opened that is recognised as that: a sparse VMDK image has its own reason
-abbrev pub reason_for : Signature → Reason
-reason_for Of.Sparse = Reason.Sparse
-reason_for found = Reason.Recognised found
+-- Why a file isn't opened that is said to have that format, or isn't, and is recognised as that: a
+-- sparse VMDK image has its own reason.
+abbrev pub reason_for : Option ImageFormat → Signature → Reason
+reason_for None Of.Sparse = Reason.Sparse
+reason_for (Some Format.Vmdk) Of.Sparse = Reason.Sparse
+reason_for None found = Reason.Recognised found
+reason_for (Some said) found = Reason.Another said found
 
 -- The format of the file of a path isn't told: the file isn't read, or it is recognised as
 -- something that it isn't opened as.
 abbrev pub IsUnknown : Option ImageFormat → List ℕ → List ℕ → Reason → Type 0
 IsUnknown said path bytes reason = IsByEither reason
     ⊎ ((found : Signature) × (told_format said path bytes ≡ Err found)
-    × (reason ≡ reason_for found))
+    × (reason ≡ reason_for said found))
 
 -- a file stands among those above it
 abbrev pub IsInCircle : List (ℕ × ℕ) → ℕ × ℕ → Reason → Type 0

@@ -1,7 +1,9 @@
 -- What the files of each format begin or end with, and what a file is recognised as by that.
 -- SPDX-License-Identifier: MIT
 use Rattle.std.specs.Prelude.{ℕ, ◌-◌, Bool, true, false, List, [], ◌∷◌, length, take, drop, min}
-use Rattle.std.specs.Prelude.{Option, Some, None, option_map, codes, nat_lt, if◌then◌else◌}
+use Rattle.std.specs.Prelude.{Option, Some, None, option_map, codes, nat_eq, nat_lt, not}
+use Rattle.std.specs.Prelude.{◌&&◌, ◌||◌}
+use Rattle.std.specs.Prelude.{if◌then◌else◌}
 use Rattle.std.specs.List.{find}
 use Rattle.std.specs.Option.{option_or}
 use Rattle.std.specs.Str.{bytes_eq, str_eq_ignore_ascii_case}
@@ -78,21 +80,54 @@ is_text_of mark text =
 abbrev pub stands : List ℕ → Known → Bool
 stands block mark = is_text_of mark (take (length mark.text) (drop mark.offset block))
 
--- what the first of these marks tells that stands in a block
-abbrev pub found_first : List Known → List ℕ → Option Signature
-found_first marks block = option_map (λ m. m.signature) (find (stands block) marks)
+-- The number of the format that a signature is of: two of one format have the same.
+abbrev pub format_number : Signature → ℕ
+format_number Of.Qcow2 = 0
+format_number Of.Qcow1 = 0
+format_number Of.Descriptor = 1
+format_number Of.OtherDescriptor = 1
+format_number Of.Sparse = 1
+format_number Of.Qed = 2
+format_number Of.Vdi = 3
+format_number Of.Vhd = 4
+format_number Of.Vhdx = 5
+format_number Of.Parallels = 6
+format_number Of.Luks = 7
+format_number Of.Dmg = 8
+format_number Of.Tar = 9
+format_number Of.Gzip = 10
+format_number Of.Bzip2 = 11
+format_number Of.Xz = 12
+format_number Of.Zstd = 13
+format_number Of.Zip = 14
+format_number Of.Iso = 15
+
+-- whether a signature is of another format than that one, if there is one
+abbrev pub is_beside : Option Signature → Signature → Bool
+is_beside None found = true
+is_beside (Some other) found = not (nat_eq (format_number other) (format_number found))
+
+-- whether a mark stands in a block, and isn't of the format that is passed over
+abbrev pub counts : Option Signature → List ℕ → Known → Bool
+counts besides block mark = stands block mark && is_beside besides mark.signature
+
+-- what the first of these marks tells that counts in a block
+abbrev pub found_first : Option Signature → List Known → List ℕ → Option Signature
+found_first besides marks block = option_map (λ m. m.signature) (find (counts besides block) marks)
 
 -- what a text tells without a mark: a descriptor, where a version of VMDK descriptors that is known
 -- stands in it
-abbrev pub told_by_text : List ℕ → Option Signature
-told_by_text block = if probe_of block then Some Of.OtherDescriptor else None
+abbrev pub told_by_text : Option Signature → List ℕ → Option Signature
+told_by_text besides block =
+    if is_beside besides Of.OtherDescriptor && probe_of block then Some Of.OtherDescriptor else None
 
--- what the first block of a file tells, and the last one
-unfoldable pub told_by_first : List ℕ → Option Signature
-told_by_first block = option_or (found_first first_marks block) (told_by_text block)
+-- what the first block of a file tells, and the last one, besides that one, if there is one
+unfoldable pub told_by_first : Option Signature → List ℕ → Option Signature
+told_by_first besides block =
+    option_or (found_first besides first_marks block) (told_by_text besides block)
 
-unfoldable pub told_by_last : List ℕ → Option Signature
-told_by_last block = found_first last_marks block
+unfoldable pub told_by_last : Option Signature → List ℕ → Option Signature
+told_by_last besides block = found_first besides last_marks block
 
 -- the first 512 bytes of a file, or all of them where it is shorter
 abbrev pub first_block : List ℕ → List ℕ
@@ -105,4 +140,23 @@ last_block bytes =
 
 -- what a file is recognised as: by its first block, or else by its last one
 abbrev pub signature_of : List ℕ → Option Signature
-signature_of bytes = option_or (told_by_first (first_block bytes)) (told_by_last (last_block bytes))
+signature_of bytes =
+    option_or (told_by_first None (first_block bytes)) (told_by_last None (last_block bytes))
+
+-- whether a file of that format may not be an ISO 9660 image too: one of qcow2 or of VMDK
+abbrev pub excludes_iso : Signature → Bool
+excludes_iso found = nat_eq (format_number found) 0 || nat_eq (format_number found) 1
+
+-- the mark of an ISO 9660 image stands behind the first byte of its sector 16, of 2048 bytes each
+abbrev pub has_iso_mark : List ℕ → Bool
+has_iso_mark bytes = bytes_eq (bytes_at bytes 32769 5) (codes "CD001")
+
+abbrev pub iso_beside : Signature → List ℕ → Option Signature
+iso_beside found bytes = if excludes_iso found && has_iso_mark bytes then Some Of.Iso else None
+
+-- What a file is recognised as besides that, as another format: by its first block, its last one, or
+-- where an ISO 9660 image has its mark.
+abbrev pub other_signature_of : Signature → List ℕ → Option Signature
+other_signature_of found bytes =
+    option_or (told_by_first (Some found) (first_block bytes))
+    (option_or (told_by_last (Some found) (last_block bytes)) (iso_beside found bytes))

@@ -4,6 +4,7 @@ ghost use Rattle.std.specs.Prelude.{◌≡◌, MatchResult, IsErr, IfErr};
 ghost use Rattle.imago_images.specs.declared.failure.OpenError.TheVariants.{Memory};
 ghost use Rattle.imago_images.specs.Refusals.{IsRefused, IsBySystem, IsByDriver};
 
+use crate::format::ImageFormat;
 use crate::signature::Signature;
 use imago_qcow2::fault::HeaderFault;
 use imago_storage::error;
@@ -42,13 +43,32 @@ pub enum Reason {
     /// A qcow2 image whose tables have more than so many bytes, which is the limit.
     #[error("its tables have more than {0} bytes, which is the limit")]
     TablesTooLarge(u64),
+    /// A file whose disk is longer than the limit.
+    #[error("its disk has {size} bytes, and the limit is {most}")]
+    DiskTooLong {
+        /// How many bytes the disk has.
+        size: u64,
+        /// How many it may have.
+        most: u64,
+    },
     /// A VMDK image of another kind than a text descriptor with extents.
     #[error("a sparse VMDK image, which isn't supported")]
     Sparse,
-    /// A file of a format that isn't supported, or whose name doesn't fit what it begins as. Where
-    /// its format is said, it is opened as that.
+    /// A file whose format isn't said, of a format that isn't supported, or whose name doesn't fit
+    /// what it begins as.
     #[error("{0}")]
     Recognised(Signature),
+    /// A file that is said to have a format, and is recognised as another.
+    #[error("said to be {said}, but it is {found}", said = .said.name(), found = .found.name())]
+    Another {
+        /// The format that is said.
+        said: ImageFormat,
+        /// What the file is recognised as.
+        found: Signature,
+    },
+    /// A file that is recognised as two formats, where no other files are opened.
+    #[error("it is {found}, and also {other}", found = .0.name(), other = .1.name())]
+    TwoFormats(Signature, Signature),
     /// A qcow2 image whose backing file of that name or path isn't beside it, nor below.
     #[error("its backing file {0:?} isn't in its folder")]
     BackingOutside(String),

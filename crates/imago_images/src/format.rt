@@ -2,11 +2,13 @@
 //! The formats of images in files, and which one a file is taken to have.
 ghost use Rattle.std.specs.Prelude.{◌≡◌};
 ghost use Rattle.imago_images.specs.Formats.{qcow2_by_name, descriptor_by_name};
+ghost use Rattle.imago_images.specs.Formats.{vmdk_unless as vmdk_unless_by};
+ghost use Rattle.imago_images.specs.Formats.{qcow2_unless as qcow2_unless_by};
 
 use crate::signature::Signature;
 
 /// The format of an image in files.
-#[derive(Clone, Copy, PartialEq, Eq)]
+#[derive(Clone, Copy, Debug, PartialEq, Eq)]
 pub enum ImageFormat {
     /// The file is the disk.
     Raw,
@@ -18,7 +20,7 @@ pub enum ImageFormat {
 
 impl ImageFormat {
     ghost use Rattle.imago_images.specs.Formats.{format_named, format_by_name, taken_for};
-    ghost use Rattle.imago_images.specs.Formats.{said_for, unless_sparse as unless_sparse_by};
+    ghost use Rattle.imago_images.specs.Formats.{said_for};
 
     /// The format of that name, if one has it.
     #[tactic(auto, unfolding(crate::specs::Formats::format_named))]
@@ -74,25 +76,36 @@ impl ImageFormat {
         }
     }
 
-    /// This format, which is said of a file, by what the beginning of the file is recognised as: a
-    /// sparse VMDK image is none, unless it is to be raw.
+    /// This format, which is said of a file, by what the file is recognised as: one that is
+    /// recognised as another format isn't of this one, unless it is to be raw.
     pub fn said(self, found: Option<Signature>) -> Result<ImageFormat, Signature>
         ensures { result ≡ said_for self found }
     {
         match self {
             ImageFormat::Raw => Ok(self),
-            _ => self.unless_sparse(found),
+            ImageFormat::Vmdk => vmdk_unless(found),
+            ImageFormat::Qcow2 => qcow2_unless(found),
         }
     }
+}
 
-    /// This format, unless a file begins as a sparse VMDK image.
-    fn unless_sparse(self, found: Option<Signature>) -> Result<ImageFormat, Signature>
-        ensures { result ≡ unless_sparse_by self found }
-    {
-        match found {
-            Some(Signature::Sparse) => Err(Signature::Sparse),
-            _ => Ok(self),
-        }
+/// What a file is that is said to be a VMDK descriptor.
+fn vmdk_unless(found: Option<Signature>) -> Result<ImageFormat, Signature>
+    ensures { result ≡ vmdk_unless_by found }
+{
+    match found {
+        None | Some(Signature::Descriptor | Signature::OtherDescriptor) => Ok(ImageFormat::Vmdk),
+        Some(other) => Err(other),
+    }
+}
+
+/// What a file is that is said to be a qcow2 image.
+fn qcow2_unless(found: Option<Signature>) -> Result<ImageFormat, Signature>
+    ensures { result ≡ qcow2_unless_by found }
+{
+    match found {
+        None | Some(Signature::Qcow2) => Ok(ImageFormat::Qcow2),
+        Some(other) => Err(other),
     }
 }
 

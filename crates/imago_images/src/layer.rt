@@ -9,6 +9,7 @@ ghost use Rattle.imago_images.specs.HostBytes.{HasBytes};
 ghost use Rattle.imago_images.specs.Layers.{IsDriverOf, NeverWrites, tables_in};
 ghost use Rattle.imago_images.specs.Images.{IsLayerOf, LeadsTo};
 ghost use Rattle.imago_images.specs.Layers.{SaysBacking};
+ghost use Rattle.imago_images.specs.Longest.{IsNoLonger};
 ghost use Rattle.imago_file.specs.Names.{path_beside as path_beside_file};
 ghost use Rattle.imago_qcow2.specs.Opening.{IsOpened};
 ghost use Rattle.imago_qcow2.specs.Limit.{IsWithin, loaded_length};
@@ -29,7 +30,7 @@ use crate::files::Files;
 use crate::format::ImageFormat;
 use crate::gate::{FolderGate, Named};
 use crate::opening::Opening;
-use crate::recognised::{first_signature, signature_of, unread};
+use crate::recognised::{signature_of, unread};
 use crate::signature::Signature;
 use imago_any_driver::any::AnyDriver;
 use imago_drivers::builder::FormatDriverBuilder;
@@ -69,7 +70,7 @@ pub struct Layer<S: Storage> {
 
 /// Opens a file, which was looked at, as a layer of that format. The files of a descriptor's
 /// extents are looked at too. The file below a qcow2 image isn't: only what its header says of it
-/// is read.
+/// is read. That its disk isn't longer than the opening allows was tested before.
 pub fn open_layer<'a, H: Files>(
     host: &'a H,
     path: &str,
@@ -81,6 +82,8 @@ pub fn open_layer<'a, H: Files>(
         (λ files. HasBytes ⟦<PathStorage<'a, H> as Storage>⟧.features
         ⟦<PathStorage<'a, H> as Storage>⟧.bytes (files path.now) file) }
     requires path { (⟦<PathStorage<'a, H> as Storage>⟧.features file).filename ≡ Some path.now }
+    requires longest { IfSome (H.contents host.now)
+        (λ files. IsNoLonger how.longest how.accepted format (files path.now)) }
     ensures layer { IfOk result (λ l. IfSome (H.contents host.now)
         (λ files. IsLayerOf ⟦<AnyDriver<PathStorage<'a, H>> as FormatDriverInstance>⟧.view
         how.accepted how.other_files files path.now format l.driver
@@ -459,8 +462,9 @@ fn try_extent<H: Files>(host: &H, path: &str, extent: &str, how: Opening) -> Res
 /// The format of the file of that path: the one that is said, or else the one that the file is
 /// taken to have, by its name and by what it is recognised as ([`ImageFormat::taken`]). Where it
 /// isn't said, a file of a format that isn't supported, and one whose name doesn't fit what it
-/// begins as, is [`Reason::Recognised`]. A sparse VMDK image is [`Reason::Sparse`], unless it is
-/// said to be raw. Nothing is read of a file that is said to be raw.
+/// begins as, is [`Reason::Recognised`]. One that is recognised as another format than the one that
+/// is said is [`Reason::Another`]. A sparse VMDK image is [`Reason::Sparse`], unless it is said to
+/// be raw or qcow2. Nothing is read of a file that is said to be raw.
 pub fn format_of<F: HostFile>(
     alloc: Global,
     path: &str,
@@ -476,17 +480,18 @@ pub fn format_of<F: HostFile>(
 {
     match told_format(alloc, path, file, said)? {
         Ok(format) => Ok(format),
-        Err(found) => Err(OpenError::of_file(alloc, path, reason_for(found))),
+        Err(found) => Err(OpenError::of_file(alloc, path, reason_for(said, found))),
     }
 }
 
-/// Why a file isn't opened that is recognised as that.
-fn reason_for(found: Signature) -> Reason
-    ensures { result ≡ reason_by found }
+/// Why a file isn't opened that is said to have a format, or isn't, and is recognised as that.
+fn reason_for(said: Option<ImageFormat>, found: Signature) -> Reason
+    ensures { result ≡ reason_by said found }
 {
-    match found {
-        Signature::Sparse => Reason::Sparse,
-        other => Reason::Recognised(other),
+    match (said, found) {
+        (None | Some(ImageFormat::Vmdk), Signature::Sparse) => Reason::Sparse,
+        (None, found) => Reason::Recognised(found),
+        (Some(said), found) => Reason::Another { said, found },
     }
 }
 
@@ -505,7 +510,7 @@ fn told_format<F: HostFile>(
     match said {
         None => Ok(ImageFormat::taken(path, signature_of(alloc, path, file)?)),
         Some(ImageFormat::Raw) => Ok(Ok(ImageFormat::Raw)),
-        Some(format) => Ok(format.said(first_signature(alloc, path, file)?)),
+        Some(format) => Ok(format.said(signature_of(alloc, path, file)?)),
     }
 }
 

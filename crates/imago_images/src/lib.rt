@@ -11,6 +11,7 @@
 //!     accepted: Accepted::EVERYTHING,
 //!     other_files: OtherFiles::InFolder,
 //!     tables: None,
+//!     longest: None,
 //!     writable: false,
 //! };
 //! let (format, image) = open_image(&host, "disk.qcow2", how)?;
@@ -37,6 +38,7 @@ pub mod format;
 pub mod gate;
 pub mod guarded;
 pub mod layer;
+pub mod longest;
 pub mod opener;
 pub mod opening;
 pub mod over;

@@ -8,25 +8,28 @@ ghost use Rattle.imago_images.specs.declared.format.ImageFormat.TheVariants as O
 ghost use Rattle.imago_vmdk.specs.declared.line.Accepted.{Accepted};
 ghost use Rattle.imago_images.specs.declared.opening.OtherFiles.{OtherFiles};
 ghost use Rattle.imago_images.specs.declared.opening.OtherFiles.TheVariants as Others;
-ghost use Rattle.imago_images.specs.Alone.{IsImageOf};
+ghost use Rattle.imago_images.specs.Alone.{IsImageOf, IsOfOneFormat};
 ghost use Rattle.imago_images.specs.Formats.{IsFormatBy, SaysFormat};
 ghost use Rattle.imago_images.specs.Gate.{IsLetThrough};
 ghost use Rattle.imago_images.specs.Images.{IsImageIn, IsToWrite, IsReadOnly};
 ghost use Rattle.imago_access.specs.Chain.{driver as driver_of};
 ghost use Rattle.imago_qcow2.specs.Limit.{IsWithin};
 ghost use Rattle.imago_images.specs.Layers.{tables_in};
+ghost use Rattle.imago_images.specs.Longest.{IsNoLonger};
 ghost use Rattle.imago_images.specs.HostBytes.{HasBytes};
 ghost use Rattle.imago_images.specs.Way.{entered, is_among};
 ghost use Rattle.imago_images.specs.Chains.{HasIdentity, IsNextRefused, IsChainRefused};
 ghost use Rattle.imago_images.specs.Chains.{IsOpeningRefused, IsImageRefused, IsEndingWay, HasEnd};
 ghost use Rattle.imago_images.specs.Refusals.{IsRefused, IsUnwritten};
 
+use crate::alone::refuse_another;
 use crate::failure::{OpenError, Reason};
 use crate::file::{PathFile, PathStorage, storage_of};
 use crate::files::Files;
 use crate::format::ImageFormat;
 use crate::gate::{FolderGate, Named};
 use crate::layer::{Below, Layer, format_of, open_layer, raw_layer};
+use crate::longest::{refuse_longer, refuse_size};
 use crate::opening::Opening;
 use crate::over::{alone, over};
 use crate::way::Way;
@@ -45,9 +48,9 @@ pub type FileImage<'a, H> = FormatAccess<AnyDriver<PathStorage<'a, H>>>;
 /// chain of files below it. Tells the format of the file of that path too.
 ///
 /// Each file is looked at before it is read. The image holds none open; its host may. What is read
-/// are the first 512 bytes of a file whose format isn't said to be raw, the last 512 where no
-/// format is said and the first tell nothing, and headers, tables and descriptors; data is read
-/// when the image is.
+/// are the first 512 bytes of a file whose format isn't said to be raw, the last 512 where the first
+/// tell nothing, and headers, tables and descriptors; data is read when the image is. Where no other
+/// files are opened, both are read of each file, and 5 bytes at 32769.
 ///
 /// Unless the opening says `writable`, no file is written to, now or later. Otherwise the image has
 /// to be a raw one. Its file is opened for writing then, and the image is written like any other;
@@ -73,6 +76,8 @@ pub fn open_image<'a, H: Files>(
     ensures alone { IfOk result (λ r. how.other_files ≡ Others.None → IfSome (H.contents host.now)
         (λ files. IsImageOf ⟦<AnyDriver<PathStorage<'a, H>> as FormatDriverInstance>⟧.view
         how.accepted (files path.now) path.now r.0 r.1)) }
+    ensures one { IfOk result (λ r. IfSome (H.contents host.now)
+        (λ files. IsOfOneFormat how.other_files how.format (files path.now))) }
     ensures end { IfOk result (λ r. IfSome (H.contents host.now)
         (λ files. HasEnd files (H.statuses host.now) path.now r.0)) }
     ensures writable { IfOk result (λ r. how.writable ≡ true
@@ -80,16 +85,22 @@ pub fn open_image<'a, H: Files>(
     ensures read_only { IfOk result (λ r. how.writable ≡ false
         → IsReadOnly ⟦<AnyDriver<PathStorage<'a, H>> as FormatDriverInstance>⟧.view r.1) }
     ensures tables { IfOk result (λ r. IsWithin how.tables (tables_in (driver_of r.1))) }
+    ensures longest { IfOk result (λ r. IsWithin how.longest
+        (⟦<AnyDriver<PathStorage<'a, H>> as FormatDriverInstance>⟧.view (driver_of r.1)).size) }
     ensures refused { IfErr result (λ e. IfSome (H.contents host.now)
         (λ files. IsImageRefused how.writable files (H.statuses host.now) (H.real_paths host.now)
-        how.other_files how.tables how.format path.now e)) }
+        how.other_files how how.format path.now e)) }
 {
     let mut way = Way::new(host.alloc());
     let file = PathFile::look_at(host, path)?;
     way.enter(host.alloc(), &file)?;
     let file = storage_of(file, path)?;
+    refuse_another(host.alloc(), path, &file, how.format, how.other_files)?;
     let format = format_of(host.alloc(), path, &file, how.format)?;
+    refuse_longer(host.alloc(), path, &file, format, how)?;
     let image = open_format(host, path, file, format, how, &mut way)?;
+    // The file may have changed meanwhile.
+    refuse_size(host.alloc(), path, image.size(), how.longest)?;
     Ok((format, image))
 }
 
@@ -108,6 +119,8 @@ fn open_format<'a, H: Files>(
         ⟦<PathStorage<'a, H> as Storage>⟧.bytes (files path.now) file) }
     requires path { (⟦<PathStorage<'a, H> as Storage>⟧.features file).filename ≡ Some path.now }
     requires first { length (entered way.old) ≡ 1 }
+    requires longest { IfSome (H.contents host.now)
+        (λ files. IsNoLonger how.longest how.accepted format (files path.now)) }
     ensures image { IfOk result (λ x. IfSome (H.contents host.now)
         (λ files. IsImageIn ⟦<AnyDriver<PathStorage<'a, H>> as FormatDriverInstance>⟧.view
         how.accepted how.other_files files path.now format x)) }
@@ -121,7 +134,7 @@ fn open_format<'a, H: Files>(
     ensures tables { IfOk result (λ x. IsWithin how.tables (tables_in (driver_of x))) }
     ensures refused { IfErr result (λ e. IfSome (H.contents host.now)
         (λ files. IsOpeningRefused how.writable files (H.statuses host.now)
-        (H.real_paths host.now) how.other_files how.tables (entered way.old) path.now format e)) }
+        (H.real_paths host.now) how.other_files how (entered way.old) path.now format e)) }
 {
     if how.writable {
         return open_to_write(host, path, format);
@@ -185,6 +198,8 @@ fn open_chain<'a, H: Files>(
         ⟦<PathStorage<'a, H> as Storage>⟧.bytes (files path.now) file) }
     requires path { (⟦<PathStorage<'a, H> as Storage>⟧.features file).filename ≡ Some path.now }
     requires depth { length (entered way.old) + most ≡ 200 }
+    requires longest { IfSome (H.contents host.now)
+        (λ files. IsNoLonger how.longest how.accepted format (files path.now)) }
     ensures image { IfOk result (λ x. IfSome (H.contents host.now)
         (λ files. IsImageIn ⟦<AnyDriver<PathStorage<'a, H>> as FormatDriverInstance>⟧.view
         how.accepted how.other_files files path.now format x)) }
@@ -196,8 +211,7 @@ fn open_chain<'a, H: Files>(
         most)) }
     ensures refused { IfErr result (λ e. IfSome (H.contents host.now)
         (λ files. (down : List (List ℕ)) × IsChainRefused files (H.statuses host.now)
-        (H.real_paths host.now) how.other_files how.tables (entered way.old) path.now format
-        down e)) }
+        (H.real_paths host.now) how.other_files how (entered way.old) path.now format down e)) }
 {
     let alloc = host.alloc();
     let Layer { driver, below } = open_layer(host, path, file, format, how)?;
@@ -230,13 +244,15 @@ fn next_file<'a, H: Files>(
     ensures format { IfOk result (λ r. IfSome (H.contents host.now)
         (λ files. IsFormatBy next.now.format (string_bytes next.now.path)
         (files (string_bytes next.now.path)) r.1)) }
+    ensures longest { IfOk result (λ r. IfSome (H.contents host.now)
+        (λ files. IsNoLonger how.longest how.accepted r.1 (files (string_bytes next.now.path)))) }
     ensures anew { IfOk result (λ _. (id : ℕ × ℕ)
         × HasIdentity (H.statuses host.now) (string_bytes next.now.path) id
         × (is_among (entered way.old) id ≡ false)
         × (entered way.new ≡ entered way.old ++ id ∷ [])) }
     ensures refused { IfErr result (λ e. IfSome (H.contents host.now)
         (λ files. SaysFormat (files path.now) next.now.format
-        → IsNextRefused files (H.statuses host.now) (H.real_paths host.now) how.other_files
+        → IsNextRefused files (H.statuses host.now) (H.real_paths host.now) how.other_files how
         (entered way.old) path.now (string_bytes next.now.path) e)) }
 {
     let gate = FolderGate::of(host, path, Named::Backing, how.other_files)?;
@@ -244,5 +260,6 @@ fn next_file<'a, H: Files>(
     way.enter(host.alloc(), &file)?;
     let file = storage_of(file, &next.path)?;
     let format = format_of(host.alloc(), &next.path, &file, next.format)?;
+    refuse_longer(host.alloc(), &next.path, &file, format, how)?;
     Ok((file, format))
 }

@@ -31,6 +31,10 @@ pub struct Opening {
     /// 8 for each L1 entry that its disk needs, and a cluster for each L2 table. They stay in
     /// memory while the image is open. An image that needs more is refused.
     pub tables: Option<u64>,
+    /// The most bytes that the disk of each file of the image may have, if that is limited. A longer
+    /// one is refused by the header, the descriptor or a raw file's length alone, before any table
+    /// of that file is read.
+    pub longest: Option<u64>,
     /// Whether the image is opened for writing. Only raw images can be, and an image of another
     /// format is refused then.
     ///

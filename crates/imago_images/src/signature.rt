@@ -1,7 +1,9 @@
 // SPDX-License-Identifier: MIT
 //! What the files of each format begin or end with, by which a file is recognised.
 ghost use Rattle.std.specs.Prelude.{◌≡◌, map, take, drop};
-ghost use Rattle.imago_images.specs.Signatures.{known, stands, found_first};
+ghost use Rattle.imago_images.specs.Signatures.{known, stands, counts, found_first};
+ghost use Rattle.imago_images.specs.Signatures.{format_number, is_beside as is_beside_by};
+ghost use Rattle.imago_images.specs.Signatures.{excludes_iso as excludes_iso_by};
 ghost use Rattle.imago_images.specs.Signatures.{told_by_text as told_text};
 ghost use Rattle.imago_images.specs.Signatures.{told_by_first, told_by_last};
 
@@ -47,6 +49,9 @@ pub enum Signature {
     Zstd,
     /// A ZIP archive.
     Zip,
+    /// An ISO 9660 image, of an optical disc. It is told only of a file that is recognised as
+    /// something else too: by itself it is the disk of a guest that boots from it.
+    Iso,
 }
 
 /// What the files of a format have at an offset of their first or last 512 bytes.
@@ -89,6 +94,18 @@ macro_rules! text_mark {
 /// How long the first and the last block of a file are that are looked at, in bytes.
 pub const BLOCK: usize = 512;
 
+/// The numbers of the formats of QEMU and of VMware.
+const QCOW: u8 = 0;
+
+const VMDK: u8 = 1;
+
+/// Where an ISO 9660 image has its mark, in bytes: behind the first byte of its sector 16, of 2048
+/// bytes each.
+pub const ISO_OFFSET: u64 = 16 * 2048 + 1;
+
+/// The mark.
+pub const ISO_MARK: &[u8] = b"CD001";
+
 /// The marks in the first 512 bytes of a file. The first one that stands there counts.
 pub static FIRST_MARKS: [Mark; 20] = [
     mark!(Qcow1, 0, b"QFI\xfb\0\0\0\x01"),
@@ -128,6 +145,13 @@ impl Mark {
             text == self.bytes
         }
     }
+
+    /// Whether the mark stands in that block, and isn't one of the format that is passed over.
+    fn counts_in(&self, block: &[u8], besides: Option<Signature>) -> bool
+        ensures { result ≡ counts besides block.now (known self.now) }
+    {
+        self.stands_in(block) && self.signature.is_beside(besides)
+    }
 }
 
 /// So many bytes of a block from the offset on, as far as it has them.
@@ -139,13 +163,14 @@ fn part_of(block: &[u8], offset: usize, count: usize) -> &[u8]
     &rest[..count.min(rest.len())]
 }
 
-/// The signature of the first of these marks that stands in a block.
-fn first_found(marks: &[Mark], block: &[u8]) -> Option<Signature>
-    ensures { result ≡ found_first (map known marks.now) block.now }
+/// The signature of the first of these marks that stands in a block, where those of one format are
+/// passed over.
+fn first_found(marks: &[Mark], block: &[u8], besides: Option<Signature>) -> Option<Signature>
+    ensures { result ≡ found_first besides (map known marks.now) block.now }
 {
     let mut rest = marks;
     while let Some((mark, behind)) = rest.split_first() {
-        if mark.stands_in(block) {
+        if mark.counts_in(block, besides) {
             return Some(mark.signature);
         }
         rest = behind;
@@ -154,61 +179,111 @@ fn first_found(marks: &[Mark], block: &[u8]) -> Option<Signature>
 }
 
 /// What the text of a block tells without a mark.
-fn told_by_text(block: &[u8]) -> Option<Signature>
-    ensures { result ≡ told_text block.now }
+fn told_by_text(block: &[u8], besides: Option<Signature>) -> Option<Signature>
+    ensures { result ≡ told_text besides block.now }
 {
-    if descriptor::probe(block) {
+    if Signature::OtherDescriptor.is_beside(besides) && descriptor::probe(block) {
         return Some(Signature::OtherDescriptor);
     }
     None
 }
 
 impl Signature {
-    /// What a file is recognised as by its first 512 bytes, or by all of them if it is shorter.
-    pub fn of_first(block: &[u8]) -> Option<Signature>
-        ensures { result ≡ told_by_first block.now }
+    /// What a file is recognised as by its first 512 bytes, or by all of them if it is shorter:
+    /// besides the format that one signature is of, if one is given.
+    pub fn of_first(block: &[u8], besides: Option<Signature>) -> Option<Signature>
+        ensures { result ≡ told_by_first besides block.now }
     {
-        match first_found(&FIRST_MARKS, block) {
+        match first_found(&FIRST_MARKS, block, besides) {
             Some(found) => Some(found),
-            None => told_by_text(block),
+            None => told_by_text(block, besides),
         }
     }
 
-    /// What a file is recognised as by its last 512 bytes.
+    /// The same by its last 512 bytes.
     #[tactic(auto, unfolding(crate::specs::Signatures::told_by_last))]
-    pub fn of_last(block: &[u8]) -> Option<Signature>
-        ensures { result ≡ told_by_last block.now }
+    pub fn of_last(block: &[u8], besides: Option<Signature>) -> Option<Signature>
+        ensures { result ≡ told_by_last besides block.now }
     {
-        first_found(&LAST_MARKS, block)
+        first_found(&LAST_MARKS, block, besides)
+    }
+
+    /// The number of the format that it is of. Signatures of one format have the same.
+    pub fn format(self) -> u8
+        ensures { result ≡ format_number self }
+    {
+        match self {
+            Signature::Qcow2 | Signature::Qcow1 => QCOW,
+            Signature::Descriptor | Signature::OtherDescriptor | Signature::Sparse => VMDK,
+            Signature::Qed => 2,
+            Signature::Vdi => 3,
+            Signature::Vhd => 4,
+            Signature::Vhdx => 5,
+            Signature::Parallels => 6,
+            Signature::Luks => 7,
+            Signature::Dmg => 8,
+            Signature::Tar => 9,
+            Signature::Gzip => 10,
+            Signature::Bzip2 => 11,
+            Signature::Xz => 12,
+            Signature::Zstd => 13,
+            Signature::Zip => 14,
+            Signature::Iso => 15,
+        }
+    }
+
+    /// Whether it is of another format than that one, if there is one.
+    fn is_beside(self, besides: Option<Signature>) -> bool
+        ensures { result ≡ is_beside_by besides self }
+    {
+        match besides {
+            None => true,
+            Some(other) => other.format() != self.format(),
+        }
+    }
+
+    /// Whether it is of the formats whose files may be those of ISO 9660 images too: qcow2 and
+    /// VMDK. A mark of ISO 9660 in a file of another format is passed over.
+    pub fn excludes_iso(self) -> bool
+        ensures { result ≡ excludes_iso_by self }
+    {
+        self.format() == QCOW || self.format() == VMDK
+    }
+
+    /// What a file of its format is, with its article.
+    pub fn name(self) -> &'static str {
+        match self {
+            Signature::Qcow2 => "a qcow2 image",
+            Signature::Descriptor | Signature::OtherDescriptor => "a VMDK descriptor",
+            Signature::Sparse => "a sparse VMDK image",
+            Signature::Qcow1 => "a qcow image of version 1",
+            Signature::Qed => "a QED image",
+            Signature::Vdi => "a VDI image",
+            Signature::Vhd => "a VHD image",
+            Signature::Vhdx => "a VHDX image",
+            Signature::Parallels => "a Parallels image",
+            Signature::Luks => "a LUKS volume",
+            Signature::Dmg => "a DMG image",
+            Signature::Tar => "a tar archive",
+            Signature::Gzip => "a file compressed by gzip",
+            Signature::Bzip2 => "a file compressed by bzip2",
+            Signature::Xz => "a file compressed by xz",
+            Signature::Zstd => "a file compressed by zstd",
+            Signature::Zip => "a ZIP archive",
+            Signature::Iso => "an ISO 9660 image",
+        }
     }
 }
 
 /// Prints what such a file is, and why it isn't opened where its format isn't said.
 impl Display for Signature {
     fn fmt<W: fmt::Write>(&self, f: &mut fmt::Formatter<W>) -> fmt::Result {
+        f.write_str(self.name())?;
         f.write_str(match self {
-            Signature::Qcow2 => "a qcow2 image in a file whose name ends in .raw",
-            Signature::Descriptor => {
-                "a VMDK descriptor in a file whose name doesn't end in .vmdk"
-            }
-            Signature::Sparse => "a sparse VMDK image, which isn't supported",
-            Signature::OtherDescriptor => {
-                "a VMDK descriptor that doesn't begin with \"# Disk DescriptorFile\""
-            }
-            Signature::Qcow1 => "a qcow image of version 1, which isn't supported",
-            Signature::Qed => "a QED image, which isn't supported",
-            Signature::Vdi => "a VDI image, which isn't supported",
-            Signature::Vhd => "a VHD image, which isn't supported",
-            Signature::Vhdx => "a VHDX image, which isn't supported",
-            Signature::Parallels => "a Parallels image, which isn't supported",
-            Signature::Luks => "a LUKS volume, which isn't supported",
-            Signature::Dmg => "a DMG image, which isn't supported",
-            Signature::Tar => "a tar archive, which isn't supported",
-            Signature::Gzip => "a file compressed by gzip, which isn't supported",
-            Signature::Bzip2 => "a file compressed by bzip2, which isn't supported",
-            Signature::Xz => "a file compressed by xz, which isn't supported",
-            Signature::Zstd => "a file compressed by zstd, which isn't supported",
-            Signature::Zip => "a ZIP archive, which isn't supported",
+            Signature::Qcow2 => " in a file whose name ends in .raw",
+            Signature::Descriptor => " in a file whose name doesn't end in .vmdk",
+            Signature::OtherDescriptor => " that doesn't begin with \"# Disk DescriptorFile\"",
+            _ => ", which isn't supported",
         })
     }
 }

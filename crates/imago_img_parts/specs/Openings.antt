@@ -30,5 +30,6 @@ how_by format said = record {
   accepted = record { unknown_keys = not said.strict; vmfs = true };
   other_files = others_by said.alone said.allow_outside;
   tables = said.tables;
+  longest = said.max_size;
   writable = false;
 }

@@ -8,7 +8,8 @@ use crate::check_vmdk::check_vmdk;
 use crate::failure::Failure;
 use crate::host::Host;
 use crate::json::quoted;
-use crate::looked::try_file;
+use crate::looked::{refuse_long_disk, try_file};
+use imago_images::alone::refuse_another;
 use imago_images::file::look_at;
 use imago_images::format::ImageFormat;
 use imago_images::layer::format_of;
@@ -98,7 +99,10 @@ fn check_format<H: Host, W: Write>(
         (λ files. IsChecked how files path.now (option_map verdict_in found))) }
 {
     let file = look_at(host, path)?;
-    match format_of(host.alloc(), path, &file, how.format)? {
+    refuse_another(host.alloc(), path, &file, how.format, how.other_files)?;
+    let format = format_of(host.alloc(), path, &file, how.format)?;
+    refuse_long_disk(host.alloc(), path, &file, format, how)?;
+    match format {
         ImageFormat::Raw => {
             try_file(host.alloc(), path, &file)?;
             Ok(None)

@@ -192,6 +192,17 @@ fn advice_for(reason: &Reason) -> &'static str {
         Reason::Sparse => "; -f raw takes its bytes as they are",
         Reason::Recognised(signature) => advice_for_signature(*signature),
         Reason::TablesTooLarge(_) => "; --tables raises it",
+        Reason::DiskTooLong { .. } => "; --max-size raises it",
+        Reason::Another { found, .. } => advice_for_another(*found),
+        _ => "",
+    }
+}
+
+/// The same, where another format was said than the one that the file is recognised as.
+fn advice_for_another(found: Signature) -> &'static str {
+    match found {
+        Signature::Qcow2 => "; say -f qcow2",
+        Signature::Descriptor | Signature::OtherDescriptor => "; say -f vmdk",
         _ => "",
     }
 }

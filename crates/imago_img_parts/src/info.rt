@@ -8,10 +8,12 @@ use crate::json::quoted;
 use crate::looked::descriptor_text;
 use crate::qcow2_info::{Qcow2Report, print_qcow2, print_qcow2_json, report_on_qcow2};
 use crate::sizes::Size;
+use imago_images::alone::refuse_another;
 use imago_images::file::{PathStorage, look_at};
 use imago_images::format::ImageFormat;
 use imago_images::gate::{FolderGate, Named};
 use imago_images::layer::format_of;
+use imago_images::longest::refuse_longer;
 use imago_images::opening::Opening;
 use imago_vmdk::descriptor::{self, Descriptor};
 use imago_vmdk::line::Extent;
@@ -57,7 +59,9 @@ pub fn info<H: Host, W: Write, E: Write>(
 /// Looks at an image, and for the files of its extents.
 fn report_on<H: Host>(host: &H, path: &str, how: Opening) -> Result<Report, Failure> {
     let file = look_at(host, path)?;
+    refuse_another(host.alloc(), path, &file, how.format, how.other_files)?;
     let format = format_of(host.alloc(), path, &file, how.format)?;
+    refuse_longer(host.alloc(), path, &file, format, how)?;
     let mut report = Report {
         format,
         size: file.file().status().length,

@@ -22,6 +22,7 @@ pub fn how_to_open(format: Option<Format>, said: Said) -> Opening
         },
         other_files: other_files(said.alone, said.allow_outside),
         tables: said.tables,
+        longest: said.max_size,
         // No command writes to an image.
         writable: false,
     }

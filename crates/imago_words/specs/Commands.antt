@@ -71,12 +71,17 @@ sparse_is_meant s = passes (λ value. is_hole_size (size_of value)) (value_given
 abbrev pub leaves_holes : State → Bool
 leaves_holes s = not (unwrap_or (size_given (codes "sparse") s) 4096 == 0)
 
+-- what is said of each image
+abbrev pub opening_is_meant : State → Bool
+opening_is_meant s = size_is_meant (codes "tables") s && size_is_meant (codes "max-size") s
+
 -- What each field of a command is.
 pub record IsOpening (s : State) (o : Opening) : Type 0 where
   pub strict : o.strict ≡ was_given (codes "strict") s
   pub allow_outside : o.allow_outside ≡ was_given (codes "allow-outside") s
   pub alone : o.alone ≡ was_given (codes "alone") s
   pub tables : o.tables ≡ size_given (codes "tables") s
+  pub max_size : o.max_size ≡ size_given (codes "max-size") s
 
 pub record IsInfo (s : State) (i : Info) : Type 0 where
   pub files : s.files ≡ i.file.now ∷ []
@@ -123,12 +128,12 @@ are_files count s = length s.files == count
 
 abbrev pub info_is_meant : State → Bool
 info_is_meant s = are_files 1 s && (format_is_meant (codes "format") s
-    && (output_is_meant s && size_is_meant (codes "tables") s))
+    && (output_is_meant s && opening_is_meant s))
 
 abbrev pub compare_is_meant : State → Bool
 compare_is_meant s = are_files 2 s && (format_is_meant (codes "format") s
-    && (format_is_meant (codes "second-format") s && size_is_meant (codes "tables") s))
+    && (format_is_meant (codes "second-format") s && opening_is_meant s))
 
 abbrev pub convert_is_meant : State → Bool
 convert_is_meant s = are_files 2 s && (format_is_meant (codes "format") s
-    && (target_is_meant s && (sparse_is_meant s && size_is_meant (codes "tables") s)))
+    && (target_is_meant s && (sparse_is_meant s && opening_is_meant s)))

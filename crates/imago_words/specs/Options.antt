@@ -21,6 +21,7 @@ info_options =
     ∷ flag (codes "json") [] (codes "json")
     ∷ flag (codes "force-share") (codes "U") (codes "force-share")
     ∷ valued (codes "tables") [] (codes "tables")
+    ∷ valued (codes "max-size") [] (codes "max-size")
     ∷ flag (codes "strict") [] (codes "strict")
     ∷ flag (codes "allow-outside") [] (codes "allow-outside")
     ∷ flag (codes "alone") [] (codes "alone")
@@ -35,6 +36,7 @@ map_options =
     ∷ flag (codes "json") [] (codes "json")
     ∷ flag (codes "force-share") (codes "U") (codes "force-share")
     ∷ valued (codes "tables") [] (codes "tables")
+    ∷ valued (codes "max-size") [] (codes "max-size")
     ∷ flag (codes "strict") [] (codes "strict")
     ∷ flag (codes "allow-outside") [] (codes "allow-outside")
     ∷ flag (codes "alone") [] (codes "alone")
@@ -50,6 +52,7 @@ check_options =
     ∷ flag (codes "force-share") (codes "U") (codes "force-share")
     ∷ valued (codes "source-cache") (codes "T") []
     ∷ valued (codes "tables") [] (codes "tables")
+    ∷ valued (codes "max-size") [] (codes "max-size")
     ∷ flag (codes "strict") [] (codes "strict")
     ∷ flag (codes "allow-outside") [] (codes "allow-outside")
     ∷ flag (codes "alone") [] (codes "alone")
@@ -67,6 +70,7 @@ compare_options =
     ∷ flag (codes "force-share") (codes "U") (codes "force-share")
     ∷ valued (codes "source-cache") (codes "T") []
     ∷ valued (codes "tables") [] (codes "tables")
+    ∷ valued (codes "max-size") [] (codes "max-size")
     ∷ flag (codes "strict") [] (codes "strict")
     ∷ flag (codes "allow-outside") [] (codes "allow-outside")
     ∷ flag (codes "alone") [] (codes "alone")
@@ -91,6 +95,7 @@ convert_options =
     ∷ flag (codes "copy-range") (codes "C") []
     ∷ valued (codes "rate") (codes "r") []
     ∷ valued (codes "tables") [] (codes "tables")
+    ∷ valued (codes "max-size") [] (codes "max-size")
     ∷ flag (codes "strict") [] (codes "strict")
     ∷ flag (codes "allow-outside") [] (codes "allow-outside")
     ∷ flag (codes "alone") [] (codes "alone")

@@ -6,7 +6,7 @@ ghost use Rattle.imago_words.specs.Reading.{state_of};
 ghost use Rattle.imago_words.specs.Commands.{IsCheck, IsCompare, IsConvert, IsInfo, IsMap};
 ghost use Rattle.imago_words.specs.Commands.{IsOpening};
 ghost use Rattle.imago_words.specs.Commands.{format_given, output_given, size_given};
-ghost use Rattle.imago_words.specs.Commands.{format_is_meant, size_is_meant};
+ghost use Rattle.imago_words.specs.Commands.{format_is_meant, size_is_meant, opening_is_meant};
 ghost use Rattle.imago_words.specs.Commands.{output_is_meant, target_is_meant};
 ghost use Rattle.imago_words.specs.Commands.{info_is_meant, compare_is_meant, convert_is_meant};
 ghost use Rattle.imago_words.specs.Commands.{leaves_holes, sparse_is_meant};
@@ -97,13 +97,14 @@ pub fn convert_of<'a>(words: &Words<'a>) -> Result<Convert<'a>, Fault<'a>>
 /// What is said of each image.
 fn opening<'a>(words: &Words<'a>) -> Result<Opening, Fault<'a>>
     ensures ok { IfOk result (λ opening. IsOpening (state_of words.now) opening) }
-    ensures exact { is_ok result ≡ size_is_meant (codes "tables") (state_of words.now) }
+    ensures exact { is_ok result ≡ opening_is_meant (state_of words.now) }
 {
     Ok(Opening {
         strict: words.has("strict"),
         allow_outside: words.has("allow-outside"),
         alone: words.has("alone"),
         tables: size(words, "tables")?,
+        max_size: size(words, "max-size")?,
     })
 }
 

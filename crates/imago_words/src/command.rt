@@ -34,6 +34,8 @@ pub struct Opening {
     pub alone: bool,
     /// The most bytes of memory that tables may take, if it was said.
     pub tables: Option<u64>,
+    /// The most bytes that a disk may have, if it was said.
+    pub max_size: Option<u64>,
 }
 
 /// How a command prints.

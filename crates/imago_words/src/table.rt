@@ -117,6 +117,15 @@ const TABLES: Row = valued!(
     "The most memory for tables"
 );
 
+const MAX_SIZE: Row = valued!(
+    "max-size",
+    "",
+    "max-size",
+    "SIZE",
+    "a size such as 2T",
+    "Refuse longer disks"
+);
+
 const SHARE: Row = flag!(
     "force-share",
     "U",
@@ -143,7 +152,7 @@ pub static INFO: Page = Page {
     about: "Describe an image",
     files: "FILE",
     rows: &[
-        FORMAT, OUTPUT, JSON, SHARE, TABLES, STRICT, OUTSIDE, ALONE, HELP, VERSION,
+        FORMAT, OUTPUT, JSON, SHARE, TABLES, MAX_SIZE, STRICT, OUTSIDE, ALONE, HELP, VERSION,
     ],
     absent: &[
         absent!(
@@ -161,7 +170,7 @@ pub static MAP: Page = Page {
     about: "List where the bytes of an image's disk are stored",
     files: "FILE",
     rows: &[
-        FORMAT, OUTPUT, JSON, SHARE, TABLES, STRICT, OUTSIDE, ALONE, HELP, VERSION,
+        FORMAT, OUTPUT, JSON, SHARE, TABLES, MAX_SIZE, STRICT, OUTSIDE, ALONE, HELP, VERSION,
     ],
     absent: &[
         absent!("-s", "the whole disk is listed"),
@@ -185,6 +194,7 @@ pub static CHECK: Page = Page {
         SHARE,
         SOURCE_CACHE,
         TABLES,
+        MAX_SIZE,
         STRICT,
         OUTSIDE,
         ALONE,
@@ -226,6 +236,7 @@ pub static COMPARE: Page = Page {
         SHARE,
         SOURCE_CACHE,
         TABLES,
+        MAX_SIZE,
         STRICT,
         OUTSIDE,
         ALONE,
@@ -267,6 +278,7 @@ pub static CONVERT: Page = Page {
         flag!("copy-range", "C", "", "Accepted and ignored"),
         valued!("rate", "r", "", "RATE", "", "Accepted and ignored"),
         TABLES,
+        MAX_SIZE,
         STRICT,
         OUTSIDE,
         ALONE,

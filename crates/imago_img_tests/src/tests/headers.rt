@@ -36,10 +36,9 @@ static UNOPENED: [Row; 6] = [
 ];
 
 /// Headers that are refused.
-static ROWS: [Row; 13] = [
+static ROWS: [Row; 12] = [
     // Versions.
     (&[(7, b"\x04")], "the header says version 4, which isn't supported"),
-    (&[(7, b"\x01")], "the header says version 1, which isn't supported"),
     // What can't be meant.
     (&[(3, b"X")], "it isn't a qcow2 image, or ends within its header"),
     (&[(23, b"\x08")], "the header says clusters of 2^8 bytes, which can't be meant"),

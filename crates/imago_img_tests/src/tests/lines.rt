@@ -17,7 +17,8 @@ const PLAIN: &str = "{ \"filename\": \"plain.raw\", \"format\": \"raw\", \"virtu
 const INFO: &str = "Describe an image
 
 usage: imago-img info [-f FMT] [--output OFMT] [--json] [-U] [--tables SIZE]
-                      [--strict] [--allow-outside] [--alone] [-h] [-V] FILE
+                      [--max-size SIZE] [--strict] [--allow-outside] [--alone]
+                      [-h] [-V] FILE
 
 Options:
   -f, --format FMT      The image's format: raw, vmdk or qcow2
@@ -25,6 +26,7 @@ Options:
       --json            The same as --output=json
   -U, --force-share     Accepted and ignored: no file is locked
       --tables SIZE     The most memory for tables: a size such as 64M
+      --max-size SIZE   Refuse longer disks: a size such as 2T
       --strict          Refuse unknown keys of VMDK descriptors
       --allow-outside   Permit files outside the image's folder
       --alone           Open no other file, whatever an image names

@@ -187,6 +187,7 @@ fn check_row<H: Files>(rt: &impl Abort, host: &H, row: &Row) {
         accepted: Accepted::EVERYTHING,
         other_files: *other_files,
         tables: None,
+        longest: None,
         writable: false,
     };
     match (open_image(host, path, how), opened) {
@@ -253,6 +254,7 @@ fn check_limited<H: Files>(rt: &impl Abort, host: &H) {
             accepted: Accepted::EVERYTHING,
             other_files: OtherFiles::InFolder,
             tables: Some(most),
+            longest: None,
             writable: false,
         };
         match (open_image(host, path, how), refused) {
@@ -302,6 +304,7 @@ const TO_WRITE: Opening = Opening {
     accepted: Accepted::EVERYTHING,
     other_files: OtherFiles::None,
     tables: None,
+    longest: None,
     writable: true,
 };
 

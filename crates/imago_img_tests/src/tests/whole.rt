@@ -18,6 +18,7 @@ const PLAIN: Opening = Opening {
     accepted: Accepted::EVERYTHING,
     other_files: OtherFiles::InFolder,
     tables: None,
+    longest: None,
     writable: false,
 };
 

@@ -58,7 +58,8 @@ imago-img COMMAND --help prints the options of a command.
 const INFO: &str = "Describe an image
 
 usage: imago-img info [-f FMT] [--output OFMT] [--json] [-U] [--tables SIZE]
-                      [--strict] [--allow-outside] [--alone] [-h] [-V] FILE
+                      [--max-size SIZE] [--strict] [--allow-outside] [--alone]
+                      [-h] [-V] FILE
 
 Options:
   -f, --format FMT      The image's format: raw, vmdk or qcow2
@@ -66,6 +67,7 @@ Options:
       --json            The same as --output=json
   -U, --force-share     Accepted and ignored: no file is locked
       --tables SIZE     The most memory for tables: a size such as 64M
+      --max-size SIZE   Refuse longer disks: a size such as 2T
       --strict          Refuse unknown keys of VMDK descriptors
       --allow-outside   Permit files outside the image's folder
       --alone           Open no other file, whatever an image names
@@ -76,7 +78,8 @@ Options:
 const MAP: &str = "List where the bytes of an image's disk are stored
 
 usage: imago-img map [-f FMT] [--output OFMT] [--json] [-U] [--tables SIZE]
-                     [--strict] [--allow-outside] [--alone] [-h] [-V] FILE
+                     [--max-size SIZE] [--strict] [--allow-outside] [--alone]
+                     [-h] [-V] FILE
 
 Options:
   -f, --format FMT      The image's format: raw, vmdk or qcow2
@@ -84,6 +87,7 @@ Options:
       --json            The same as --output=json
   -U, --force-share     Accepted and ignored: no file is locked
       --tables SIZE     The most memory for tables: a size such as 64M
+      --max-size SIZE   Refuse longer disks: a size such as 2T
       --strict          Refuse unknown keys of VMDK descriptors
       --allow-outside   Permit files outside the image's folder
       --alone           Open no other file, whatever an image names
@@ -94,8 +98,8 @@ Options:
 const CHECK: &str = "Look for errors in an image
 
 usage: imago-img check [-f FMT] [--output OFMT] [--json] [-U] [-T CACHE]
-                       [--tables SIZE] [--strict] [--allow-outside] [--alone]
-                       [-h] [-V] FILE
+                       [--tables SIZE] [--max-size SIZE] [--strict]
+                       [--allow-outside] [--alone] [-h] [-V] FILE
 
 Options:
   -f, --format FMT      The image's format: raw, vmdk or qcow2
@@ -104,6 +108,7 @@ Options:
   -U, --force-share     Accepted and ignored: no file is locked
   -T CACHE              Accepted and ignored
       --tables SIZE     The most memory for tables: a size such as 64M
+      --max-size SIZE   Refuse longer disks: a size such as 2T
       --strict          Refuse unknown keys of VMDK descriptors
       --allow-outside   Permit files outside the image's folder
       --alone           Open no other file, whatever an image names
@@ -114,8 +119,8 @@ Options:
 const COMPARE: &str = "Compare the disks of two images
 
 usage: imago-img compare [-f FMT] [-F FMT] [-s] [-p] [-q] [-U] [-T CACHE]
-                         [--tables SIZE] [--strict] [--allow-outside] [--alone]
-                         [-h] [-V] A B
+                         [--tables SIZE] [--max-size SIZE] [--strict]
+                         [--allow-outside] [--alone] [-h] [-V] A B
 
 Options:
   -f FMT                The format of the first image: raw, vmdk or qcow2
@@ -126,6 +131,7 @@ Options:
   -U, --force-share     Accepted and ignored: no file is locked
   -T CACHE              Accepted and ignored
       --tables SIZE     The most memory for tables: a size such as 64M
+      --max-size SIZE   Refuse longer disks: a size such as 2T
       --strict          Refuse unknown keys of VMDK descriptors
       --allow-outside   Permit files outside the image's folder
       --alone           Open no other file, whatever an image names
@@ -137,8 +143,8 @@ const CONVERT: &str = "Write an image's disk to another image
 
 usage: imago-img convert [-f FMT] [-O FMT] [--force] [-n] [-S SIZE] [-p] [-q]
                          [-U] [-t CACHE] [-T CACHE] [-m N] [-W] [-C] [-r RATE]
-                         [--tables SIZE] [--strict] [--allow-outside] [--alone]
-                         [-h] [-V] FILE OUT
+                         [--tables SIZE] [--max-size SIZE] [--strict]
+                         [--allow-outside] [--alone] [-h] [-V] FILE OUT
 
 Options:
   -f FMT                The format of FILE: raw, vmdk or qcow2
@@ -156,6 +162,7 @@ Options:
   -C                    Accepted and ignored
   -r RATE               Accepted and ignored
       --tables SIZE     The most memory for tables: a size such as 64M
+      --max-size SIZE   Refuse longer disks: a size such as 2T
       --strict          Refuse unknown keys of VMDK descriptors
       --allow-outside   Permit files outside the image's folder
       --alone           Open no other file, whatever an image names

@@ -67,7 +67,7 @@ returns-then-most-eq0-clause-refused g t c =
     (option_map path_in b)) in
     let deep : length (entered c.args.way.now) ≡ 200 = omega arith in
     too_deep_out (view_over (features_of contents opened) faults_of (bytes_of contents opened))
-    c.args.how.accepted c.args.how.other_files c.args.how.tables (g.H.Files.statuses host) (g.H.Files.real_paths host)
+    c.args.how.accepted c.args.how.other_files c.args.how (g.H.Files.statuses host) (g.H.Files.real_paths host)
     (entered c.args.way.now) c.args.path.now c.args.format c.too_many_below.result known (string_bytes next.path)
     layer.driver (subst says c.in-Some.is c.in_ok-driver.ensures.layer) deep c.too_many_below.ensures
 
@@ -87,7 +87,7 @@ returns-in_err-file-clause-refused g t c =
     let p = err_from_is_err_and c.from_residual-in_err-file.result c.from_residual-in_err-file.ensures.1 in
     refused_with c.from_residual-in_err-file.result e _ (p.1 ∙ ap (λ x. Err x) p.2)
     (next_out (view_over (features_of contents opened) faults_of (bytes_of contents opened))
-    c.args.how.accepted c.args.how.other_files c.args.how.tables (g.H.Files.statuses host) (g.H.Files.real_paths host)
+    c.args.how.accepted c.args.how.other_files c.args.how (g.H.Files.statuses host) (g.H.Files.real_paths host)
     (entered c.args.way.now) c.args.path.now c.args.format e known (string_bytes next.path) next.format
     layer.driver (subst says c.in-Some.is c.in_ok-driver.ensures.layer)
     (told_format known c.args.path.now Below format_in layer.below next c.in-Some.is c.in_ok-driver.ensures.format)
@@ -110,11 +110,11 @@ returns-in_err-below-clause-refused g t c =
     let anew = c.in_ok-file.ensures.anew in
     let now = entered c.next_file.new.way in
     let out : List ℕ → Type 0 = λ q. IfSome known (λ files. (down : List (List ℕ))
-    × IsChainRefused files (g.H.Files.statuses host) (g.H.Files.real_paths host) c.args.how.other_files c.args.how.tables now q
+    × IsChainRefused files (g.H.Files.statuses host) (g.H.Files.real_paths host) c.args.how.other_files c.args.how now q
     c.in_ok-file.format down e) in
     refused_with c.from_residual-in_err-below.result e _ (p.1 ∙ ap (λ x. Err x) p.2)
     (below_out (view_over (features_of contents opened) faults_of (bytes_of contents opened))
-    c.args.how.accepted c.args.how.other_files c.args.how.tables (g.H.Files.statuses host) (g.H.Files.real_paths host)
+    c.args.how.accepted c.args.how.other_files c.args.how (g.H.Files.statuses host) (g.H.Files.real_paths host)
     (entered c.args.way.now) c.args.path.now c.args.format e known (string_bytes next.path) next.format
     c.in_ok-file.format layer.driver anew.0 now (subst says c.in-Some.is c.in_ok-driver.ensures.layer)
     (told_format known c.args.path.now Below format_in layer.below next c.in-Some.is c.in_ok-driver.ensures.format)
@@ -169,4 +169,4 @@ returns-in_err-over-clause-refused g t c =
     let p = err_from_is_err_and c.from_residual-in_err-over.result c.from_residual-in_err-over.ensures.1 in
     refused_with c.from_residual-in_err-over.result p.0 _ p.1
     (chain_memory (g.H.Files.contents host) (g.H.Files.statuses host) (g.H.Files.real_paths host)
-    c.args.how.other_files c.args.how.tables (entered c.args.way.now) c.args.path.now c.args.format p.0 p.2)
+    c.args.how.other_files c.args.how (entered c.args.way.now) c.args.path.now c.args.format p.0 p.2)

@@ -5,7 +5,7 @@ use Rattle.imago_images.proofs.signature.first_found.Given as goal
 
 abbrev pub invariant-loop-mark : goal.invariant-loop-mark
 invariant-loop-mark l =
-    found_first (map known l.rest) l.fn.block ≡ found_first (map known l.fn.marks) l.fn.block
+    found_first l.fn.besides (map known l.rest) l.fn.block ≡ found_first l.fn.besides (map known l.fn.marks) l.fn.block
 
 abbrev pub decreases-loop-mark : goal.decreases-loop-mark
 decreases-loop-mark l = length l.rest

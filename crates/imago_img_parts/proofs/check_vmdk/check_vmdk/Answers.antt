@@ -17,7 +17,7 @@ returns-in-Ok g c =
     let extents = map (extent_with string_bytes) c.in-Ok.described.extents.items in
     let same : IfSome known (λ files. c.in_ok-text.text.items ≡ files c.args.path.now) =
     of_file (features_of contents opened) (bytes_of contents opened) known c.args.path.now c.args.file.now
-    (λ bytes. c.in_ok-text.text.items ≡ bytes) c.in_ok-text.ensures c.requires in
+    (λ bytes. c.in_ok-text.text.items ≡ bytes) c.in_ok-text.ensures.told c.requires in
     let says : reading_of c.args.how.accepted c.in_ok-text.text.items
     ≡ Ok (extents, c.in-Ok.described.size) =
     subst (λ (text : List ℕ). reading_of c.args.how.accepted text

@@ -1,0 +1,217 @@
+// SPDX-License-Identifier: MIT
+//! Files that are recognised as two formats, or as another than the one that is said, and disks that
+//! are longer than is permitted.
+
+use super::set_up::{Case, PartsRow, VERSION_2, VERSION_3, check_cases_over};
+
+/// A case of a command line that is refused: its words, its status and what it tells as an error.
+macro_rules! refused {
+    ($words:literal, $status:literal, $errors:expr) => {
+        Case {
+            words: $words,
+            appends: 99,
+            finishes: true,
+            status: $status,
+            output: "",
+            errors: $errors,
+            written: None,
+        }
+    };
+}
+
+/// A case of a command line that makes a file, of that length and with these parts.
+macro_rules! made {
+    ($words:literal, $length:literal, $parts:expr) => {
+        Case {
+            words: $words,
+            appends: 99,
+            finishes: true,
+            status: 0,
+            output: "",
+            errors: "",
+            written: Some(($length, $parts)),
+        }
+    };
+}
+
+/// The mark of an ISO 9660 image.
+const ISO: (usize, &[u8]) = (32769, b"CD001");
+
+static MORE: [PartsRow; 10] = [
+    ("old.qcow", 72, &[(0, b"QFI\xfb\0\0\0\x01")]),
+    // A disk of 2048 bytes above one of 2560.
+    (
+        "lower.qcow2",
+        1024,
+        &[
+            (0, VERSION_2),
+            (15, b"\xc8\0\0\0\x0c"),
+            (23, b"\x09"),
+            (30, b"\x08"),
+            (39, b"\x01"),
+            (46, b"\x02"),
+            (200, b"longer.qcow2"),
+        ],
+    ),
+    (
+        "longer.qcow2",
+        1024,
+        &[
+            (0, VERSION_2),
+            (23, b"\x09"),
+            (30, b"\x0a"),
+            (39, b"\x01"),
+            (46, b"\x02"),
+        ],
+    ),
+    ("iso.qcow2", 32774, &[(0, VERSION_3), ISO]),
+    ("vhd.qcow2", 1024, &[(0, VERSION_3), (512, b"conectix")]),
+    (
+        "vdi.qcow2",
+        512,
+        &[(0, VERSION_3), (64, b"\x7f\x10\xda\xbe")],
+    ),
+    (
+        "tar.vmdk",
+        512,
+        &[(0, b"# Disk DescriptorFile"), (257, b"ustar")],
+    ),
+    ("gzip.dmg", 1024, &[(0, b"\x1f\x8b"), (512, b"koly")]),
+    // Both marks are those of a VHD image.
+    ("dynamic.vhd", 1024, &[(0, b"conectix"), (512, b"conectix")]),
+    ("boot.iso", 32774, &[(510, b"\x55\xaa"), ISO]),
+];
+
+static CASES: [Case; 23] = [
+    refused!(
+        "info --alone iso.qcow2",
+        1,
+        "imago-img: \"iso.qcow2\": it is a qcow2 image, and also an ISO 9660 image\n"
+    ),
+    refused!(
+        "check --alone vhd.qcow2",
+        2,
+        "imago-img: \"vhd.qcow2\": it is a qcow2 image, and also a VHD image\n"
+    ),
+    refused!(
+        "convert --alone -f qcow2 vhd.qcow2 out.raw",
+        1,
+        "imago-img: \"vhd.qcow2\": it is a qcow2 image, and also a VHD image\n"
+    ),
+    refused!(
+        "map --alone vdi.qcow2",
+        1,
+        "imago-img: \"vdi.qcow2\": it is a qcow2 image, and also a VDI image\n"
+    ),
+    refused!(
+        "convert --alone tar.vmdk out.raw",
+        1,
+        "imago-img: \"tar.vmdk\": it is a VMDK descriptor, and also a tar archive\n"
+    ),
+    refused!(
+        "compare --alone gzip.dmg one.raw",
+        2,
+        "imago-img: \"gzip.dmg\": it is a file compressed by gzip, and also a DMG image\n"
+    ),
+    refused!(
+        "compare --alone one.raw gzip.dmg",
+        2,
+        "imago-img: \"gzip.dmg\": it is a file compressed by gzip, and also a DMG image\n"
+    ),
+    refused!(
+        "info --alone dynamic.vhd",
+        1,
+        "imago-img: \"dynamic.vhd\": a VHD image, which isn't supported; convert it with \
+         qemu-img, or say -f raw for its bytes as they are\n"
+    ),
+    // What is said to be raw isn't recognised as anything.
+    refused!(
+        "convert --alone -f raw one.qcow2 out.raw",
+        1,
+        "imago-img: \"one.qcow2\": said to be raw, but it is a qcow2 image; say -f qcow2\n"
+    ),
+    refused!(
+        "check --alone -f raw outside.vmdk",
+        2,
+        "imago-img: \"outside.vmdk\": said to be raw, but it is a VMDK descriptor; say -f vmdk\n"
+    ),
+    refused!(
+        "info --alone -f raw dynamic.vhd",
+        1,
+        "imago-img: \"dynamic.vhd\": said to be raw, but it is a VHD image\n"
+    ),
+    // An ISO image by itself is the disk of a guest that boots from it.
+    made!(
+        "convert --alone boot.iso out.raw",
+        32774,
+        &[(510, b"\x55\xaa"), ISO]
+    ),
+    // Another format than the one that is said.
+    refused!(
+        "map -f vmdk one.qcow2",
+        1,
+        "imago-img: \"one.qcow2\": said to be vmdk, but it is a qcow2 image; say -f qcow2\n"
+    ),
+    refused!(
+        "info -f qcow2 disk.vmdk",
+        1,
+        "imago-img: \"disk.vmdk\": said to be qcow2, but it is a VMDK descriptor; say -f vmdk\n"
+    ),
+    refused!(
+        "check -f qcow2 dynamic.vhd",
+        2,
+        "imago-img: \"dynamic.vhd\": said to be qcow2, but it is a VHD image\n"
+    ),
+    refused!(
+        "check -f qcow2 old.qcow",
+        2,
+        "imago-img: \"old.qcow\": said to be qcow2, but it is a qcow image of version 1\n"
+    ),
+    refused!(
+        "convert -f qcow2 sparse.vmdk out.raw",
+        1,
+        "imago-img: \"sparse.vmdk\": said to be qcow2, but it is a sparse VMDK image\n"
+    ),
+    // Disks that are longer than is permitted, and as long.
+    refused!(
+        "info --max-size 2047 one.qcow2",
+        1,
+        "imago-img: \"one.qcow2\": its disk has 2048 bytes, and the limit is 2047; --max-size \
+         raises it\n"
+    ),
+    refused!(
+        "check --max-size=1k disk.vmdk",
+        2,
+        "imago-img: \"disk.vmdk\": its disk has 2048 bytes, and the limit is 1024; --max-size \
+         raises it\n"
+    ),
+    refused!(
+        "convert --max-size 6 plain.raw out.raw",
+        1,
+        "imago-img: \"plain.raw\": its disk has 7 bytes, and the limit is 6; --max-size raises \
+         it\n"
+    ),
+    // A file below counts too.
+    refused!(
+        "map --max-size 2k lower.qcow2",
+        1,
+        "imago-img: \"longer.qcow2\": its disk has 2560 bytes, and the limit is 2048; \
+         --max-size raises it\n"
+    ),
+    refused!(
+        "compare --max-size 2k one.raw longer.qcow2",
+        2,
+        "imago-img: \"longer.qcow2\": its disk has 2560 bytes, and the limit is 2048; \
+         --max-size raises it\n"
+    ),
+    made!(
+        "convert --max-size 2k one.qcow2 out.raw",
+        2048,
+        &[(512, b"2"), (1024, b"1")]
+    ),
+];
+
+#[test]
+fn files_are_of_one_format_and_no_longer_than_permitted(rt: HostRuntime) {
+    check_cases_over(&rt, rt.alloc(), &MORE, &CASES);
+}
