@@ -181,22 +181,44 @@ uint32_t imago_image_give_file(struct imago_image *image, uint64_t length, uint3
  * *size is as it was. */
 uint32_t imago_image_size(struct imago_image *image, uint64_t *size);
 
-/* Bytes of the disk that stand in one place. Offsets and counts are in bytes. */
-struct imago_place {
-    uint64_t at;     /* the first byte's offset on the disk */
-    uint64_t count;  /* how many bytes there are, at least 1 */
-    uint64_t file;   /* the number of the file that has them, and 1; 0 for zeroes, in no file */
-    uint64_t offset; /* where they begin in that file, past whose end are zeroes; 0 for zeroes */
+/* What bytes of the disk are. */
+enum imago_place_kind {
+    IMAGO_PLACE_ZERO = 0,       /* zeroes, in no file */
+    IMAGO_PLACE_STORED = 1,     /* bytes of a file, as they are read there */
+    IMAGO_PLACE_COMPRESSED = 2, /* a part of a compressed cluster: see imago_unpack_cluster */
 };
 
-/* Tells where the bytes of the disk stand from that offset on: those that stand in one place, at
- * most as many as most says, and at least one. The same place may go on behind them.
+/* Bytes of the disk that stand in one place, or are a part of a compressed cluster. Offsets, counts
+ * and lengths are in bytes. Past the end of a file its bytes are zeroes. */
+struct imago_place {
+    uint64_t at;      /* the first byte's offset on the disk */
+    uint64_t count;   /* how many bytes there are, at least 1 */
+    uint64_t file;    /* the number of the file that has them, and 1; 0 for zeroes */
+    uint64_t offset;  /* where they begin in that file, or the cluster's stream; 0 for zeroes */
+    uint64_t stream;  /* how many bytes of the file the cluster's stream may have, else 0 */
+    uint64_t cluster; /* how many bytes the compressed cluster has, else 0 */
+    uint64_t skip;    /* how many bytes of that cluster come before the first one, else 0 */
+    uint32_t kind;    /* an imago_place_kind */
+    uint32_t unused;
+};
+
+/* Tells where the bytes of the disk are from that offset on: those that stand in one place, at most
+ * as many as most says, and at least one. The same place may go on behind them.
  *
  * IMAGO_NOT_FOUND is an image that isn't open yet. IMAGO_UNSUPPORTED is the disk's end, and a
- * compressed cluster; IMAGO_NO_ACCESS a part of a VMDK image that is barred from access, and
- * IMAGO_INVALID_DATA a part whose table entry can't be meant. Refused, *place is as it was. */
+ * cluster that is compressed by Zstandard. IMAGO_NO_ACCESS is a part of a VMDK image that may not
+ * be accessed, and IMAGO_INVALID_DATA a part whose table entry is invalid. Refused, *place is as it
+ * was. */
 uint32_t imago_image_map(struct imago_image *image, uint64_t offset, uint64_t most,
                          struct imago_place *place);
+
+/* Makes a compressed cluster: stream has the place.stream bytes of its file from place.offset on,
+ * and cluster has room for place.cluster bytes. The place's own bytes are then the place.count
+ * bytes from cluster + place.skip on. No image is needed for it, and no memory is taken.
+ *
+ * IMAGO_INVALID_DATA is a faulty stream; then cluster may hold anything. */
+uint32_t imago_unpack_cluster(const uint8_t *stream, size_t stream_length, uint8_t *cluster,
+                              size_t cluster_length);
 
 /* Closes the image, and frees what it has. A closed one stays so. */
 void imago_image_close(struct imago_image *image);

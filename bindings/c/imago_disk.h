@@ -31,6 +31,8 @@ struct imago_disk {
     uint64_t size; /* of the disk, in bytes */
     int *files;    /* by their numbers */
     size_t count;
+    uint8_t *bytes;              /* the compressed cluster that was made last, and its stream */
+    struct imago_place unpacked; /* its place; file is 0 if there is none */
 };
 
 /* Decides which file is opened for a name that an image has, and opens it: a descriptor that can be
@@ -132,7 +134,10 @@ static inline void imago_disk_close(struct imago_disk *disk)
     imago_image_close(&disk->image);
     while (disk->count > 0) close(disk->files[--disk->count]);
     free(disk->files);
+    free(disk->bytes);
     disk->files = NULL;
+    disk->bytes = NULL;
+    disk->unpacked.file = 0;
 }
 
 /* Gives an image all that it asks for. */
@@ -162,11 +167,17 @@ static inline uint32_t imago_disk_load(struct imago_disk *disk, char above[IMAGO
 static inline uint32_t imago_disk_open(struct imago_disk *disk, const char *path, uint32_t format,
                                        imago_gate gate, void *context)
 {
-    static const struct imago_disk closed = {IMAGO_CLOSED, 0, NULL, 0};
+    static const struct imago_place none = {0, 0, 0, 0, 0, 0, 0, 0, 0};
+    static const struct imago_image closed = IMAGO_CLOSED;
     char above[IMAGO_DISK_NAME];
     uint64_t length = 0;
     uint32_t code;
-    *disk = closed;
+    disk->image = closed;
+    disk->size = 0;
+    disk->files = NULL;
+    disk->count = 0;
+    disk->bytes = NULL;
+    disk->unpacked = none;
     if (strlen(path) >= sizeof above) return IMAGO_UNSUPPORTED;
     memcpy(above, path, strlen(path) + 1);
     code = imago_disk_add(disk, open(path, O_RDONLY | O_CLOEXEC | O_NONBLOCK), &length);
@@ -184,6 +195,24 @@ static inline uint32_t imago_disk_map(struct imago_disk *disk, uint64_t offset, 
     return imago_image_map(&disk->image, offset, most, place);
 }
 
+/* Makes the compressed cluster of a place, unless it is the one that was made last. */
+static inline uint32_t imago_disk_unpack(struct imago_disk *disk, const struct imago_place *place)
+{
+    size_t cluster = (size_t)place->cluster, stream = (size_t)place->stream;
+    uint8_t *bytes;
+    uint32_t code;
+    if (disk->unpacked.file == place->file && disk->unpacked.offset == place->offset)
+        return IMAGO_DONE;
+    disk->unpacked.file = 0;
+    bytes = (uint8_t *)realloc(disk->bytes, cluster + stream);
+    if (!bytes) return IMAGO_MEMORY;
+    disk->bytes = bytes;
+    code = imago_disk_fill(disk->files[place->file - 1], bytes + cluster, stream, place->offset);
+    if (code == IMAGO_DONE) code = imago_unpack_cluster(bytes + cluster, stream, bytes, cluster);
+    if (code == IMAGO_DONE) disk->unpacked = *place;
+    return code;
+}
+
 /* Reads bytes of the disk. A range that passes the disk's end is IMAGO_BEYOND_DISK. */
 static inline uint32_t imago_disk_pread(struct imago_disk *disk, void *buffer, size_t count,
                                         uint64_t offset)
@@ -195,9 +224,16 @@ static inline uint32_t imago_disk_pread(struct imago_disk *disk, void *buffer, s
         uint32_t code = imago_image_map(&disk->image, offset, count, &place);
         size_t part = (size_t)place.count;
         if (code != IMAGO_DONE) return code;
-        if (place.file == 0) memset(bytes, 0, part);
-        else if (place.file > disk->count) return IMAGO_DEVICE;
-        else code = imago_disk_fill(disk->files[place.file - 1], bytes, part, place.offset);
+        if (place.kind == IMAGO_PLACE_ZERO) {
+            memset(bytes, 0, part);
+        } else if (place.file > disk->count) {
+            return IMAGO_DEVICE;
+        } else if (place.kind == IMAGO_PLACE_STORED) {
+            code = imago_disk_fill(disk->files[place.file - 1], bytes, part, place.offset);
+        } else {
+            code = imago_disk_unpack(disk, &place);
+            if (code == IMAGO_DONE) memcpy(bytes, disk->bytes + place.skip, part);
+        }
         if (code != IMAGO_DONE) return code;
         bytes += part;
         offset += part;

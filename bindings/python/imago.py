@@ -21,6 +21,7 @@ import stat
 
 UNKNOWN, RAW, VMDK, QCOW2 = range(4)
 BACKING, EXTENT = 2, 3
+ZERO, STORED, COMPRESSED = range(3)
 _FORMATS = {b"raw": RAW, b"vmdk": VMDK, b"qcow2": QCOW2}
 _KINDS = (
     "done",
@@ -63,9 +64,10 @@ class _Want(ctypes.Structure):
 
 
 class Place(ctypes.Structure):
-    """Bytes of the disk that stand in one place.
+    """Bytes of the disk that stand in one place, or are a part of a compressed cluster.
 
-    `file` is the number of the file, and 1; it is 0 for zeroes.
+    `kind` is ZERO, STORED or COMPRESSED. `file` is the number of the file, and 1; it is 0 for
+    zeroes. The rest is as in include/imago.h.
     """
 
     _fields_ = [
@@ -73,11 +75,16 @@ class Place(ctypes.Structure):
         ("count", ctypes.c_uint64),
         ("file", ctypes.c_uint64),
         ("offset", ctypes.c_uint64),
+        ("stream", ctypes.c_uint64),
+        ("cluster", ctypes.c_uint64),
+        ("skip", ctypes.c_uint64),
+        ("kind", ctypes.c_uint32),
+        ("unused", ctypes.c_uint32),
     ]
 
     def __repr__(self):
-        fields = (self.at, self.count, self.file, self.offset)
-        return "Place(at=%d, count=%d, file=%d, offset=%d)" % fields
+        fields = (self.at, self.count, self.kind, self.file, self.offset)
+        return "Place(at=%d, count=%d, kind=%d, file=%d, offset=%d)" % fields
 
 
 _AT = ctypes.POINTER(_Image)
@@ -91,6 +98,7 @@ _SIGNATURES = {
     "imago_image_give_file": [_AT, ctypes.c_uint64, ctypes.c_uint32],
     "imago_image_size": [_AT, ctypes.POINTER(ctypes.c_uint64)],
     "imago_image_map": [_AT, ctypes.c_uint64, ctypes.c_uint64, ctypes.POINTER(Place)],
+    "imago_unpack_cluster": [ctypes.c_char_p, ctypes.c_size_t, ctypes.c_char_p, ctypes.c_size_t],
 }
 _library = None
 
@@ -121,6 +129,7 @@ class Disk(io.RawIOBase):
 
     def __init__(self, path, format=UNKNOWN, others=beside, strict=False):
         self._image, self._files, self._path, self._at, self.size = _Image(), [], path, 0, 0
+        self._unpacked = (None, b"")
         try:
             self._load(path, format, others, strict)
         except BaseException:
@@ -182,6 +191,15 @@ class Disk(io.RawIOBase):
             offset, count = offset + len(part), count - len(part)
         return b"".join(parts) + bytes(count)
 
+    def _cluster(self, place):
+        """The compressed cluster of a place. The one that was made last is kept."""
+        if self._unpacked[0] != (place.file, place.offset):
+            stream = self._bytes(place.file - 1, place.offset, place.stream)
+            cluster = ctypes.create_string_buffer(place.cluster)
+            self._done(_lib().imago_unpack_cluster(stream, len(stream), cluster, len(cluster)))
+            self._unpacked = ((place.file, place.offset), cluster.raw)
+        return self._unpacked[1]
+
     def place(self, offset, most):
         """Where the bytes of the disk stand from that offset on: at most that many."""
         place = Place()
@@ -201,10 +219,12 @@ class Disk(io.RawIOBase):
         count, parts = max(0, min(count, self.size - offset)), []
         while count > 0:
             place = self.place(offset, count)
-            if place.file == 0:
+            if place.kind == ZERO:
                 parts.append(bytes(place.count))
-            else:
+            elif place.kind == STORED:
                 parts.append(self._bytes(place.file - 1, place.offset, place.count))
+            else:
+                parts.append(self._cluster(place)[place.skip : place.skip + place.count])
             offset, count = offset + place.count, count - place.count
         return b"".join(parts)
 

@@ -3,8 +3,8 @@
  *
  *     read IMAGE RAW      compares all bytes of the disk with a raw file, in parts of random
  *                         lengths, and closes it twice
- *     map IMAGE           prints where the bytes of the disk stand, a line for each place: offset,
- *                         length, file, offset there
+ *     map IMAGE           prints where the bytes of the disk are, a line for each place: offset,
+ *                         length, kind, file, offset there
  *     try IMAGE           opens it, and reads all that can be read; only what the sanitizers and
  *                         valgrind see counts
  *     order IMAGE         calls in wrong order, with wrong counts and behind the close: each has
@@ -58,8 +58,8 @@ static int mapped(struct imago_disk *disk)
         if (imago_disk_map(disk, at, disk->size - at, &place) != IMAGO_DONE || place.at != at ||
             place.count == 0)
             return 0;
-        printf("%llu %llu %llu %llu\n", (unsigned long long)place.at,
-               (unsigned long long)place.count, (unsigned long long)place.file,
+        printf("%llu %llu %u %llu %llu\n", (unsigned long long)place.at,
+               (unsigned long long)place.count, place.kind, (unsigned long long)place.file,
                (unsigned long long)place.offset);
     }
     return 1;
@@ -87,7 +87,7 @@ static int ordered(const char *path)
 {
     struct imago_image image = IMAGO_CLOSED;
     struct imago_want want = {7, 7, 7, 7, 7};
-    struct imago_place place = {7, 7, 7, 7};
+    struct imago_place place = {7, 7, 7, 7, 7, 7, 7, 7, 7};
     static uint8_t bytes[65536];
     uint64_t size = 7, length;
     size_t told = 7;

@@ -152,6 +152,11 @@ pub struct Place {
     pub count: u64,
     pub file: u64,
     pub offset: u64,
+    pub stream: u64,
+    pub cluster: u64,
+    pub skip: u64,
+    pub kind: u32,
+    pub unused: u32,
 }
 
 unsafe extern "C" {
@@ -174,6 +179,12 @@ unsafe extern "C" {
     fn imago_image_size(image: *mut RawImage, size: *mut u64) -> u32;
     fn imago_image_map(image: *mut RawImage, offset: u64, most: u64, place: *mut Place) -> u32;
     fn imago_image_close(image: *mut RawImage);
+    fn imago_unpack_cluster(
+        stream: *const u8,
+        stream_length: usize,
+        cluster: *mut u8,
+        cluster_length: usize,
+    ) -> u32;
 }
 
 pub fn image_open(image: &mut RawImage, length: u64, format: u32, strict: bool) -> u32 {
@@ -216,6 +227,18 @@ pub fn image_size(image: &mut RawImage, size: &mut u64) -> u32 {
 pub fn image_map(image: &mut RawImage, offset: u64, most: u64, place: &mut Place) -> u32 {
     // SAFETY: as above.
     unsafe { imago_image_map(image, offset, most, place) }
+}
+
+pub fn unpack_cluster(stream: &[u8], cluster: &mut [u8]) -> u32 {
+    // SAFETY: each pointer and length are those of a slice that is borrowed for the call.
+    unsafe {
+        imago_unpack_cluster(
+            stream.as_ptr(),
+            stream.len(),
+            cluster.as_mut_ptr(),
+            cluster.len(),
+        )
+    }
 }
 
 pub fn image_close(image: &mut RawImage) {

@@ -50,15 +50,68 @@ pub enum Want {
     Extent,
 }
 
-/// Bytes of the disk that stand in one place.
+/// What bytes of the disk are. Files are named by their numbers.
+#[derive(Clone, Copy, Debug, PartialEq, Eq)]
+pub enum Source {
+    /// Zeroes, in no file.
+    Zero,
+    /// Bytes of a file from that offset on, as they are read there.
+    Stored { file: usize, offset: u64 },
+    /// A part of a compressed cluster.
+    Compressed(Compressed),
+}
+
+/// A part of a compressed cluster. [`Compressed::unpack`] makes the cluster of its stream.
+#[derive(Clone, Copy, Debug, PartialEq, Eq)]
+pub struct Compressed {
+    /// The number of the file that has the stream.
+    pub file: usize,
+    /// Where the stream begins in that file.
+    pub offset: u64,
+    /// How many bytes of the file the stream may have. Those past the file's end are zeroes.
+    pub stream: usize,
+    /// How many bytes the cluster has.
+    pub cluster: usize,
+    /// How many bytes of the cluster come before the first one.
+    pub skip: usize,
+}
+
+impl Compressed {
+    /// Makes the whole cluster of its stream. A faulty stream is [`Refusal::InvalidData`].
+    pub fn unpack(&self, stream: &[u8]) -> Result<Vec<u8>, Refusal> {
+        let mut cluster = vec![0; self.cluster];
+        answer(calls::unpack_cluster(stream, &mut cluster))?;
+        Ok(cluster)
+    }
+}
+
+/// Bytes of the disk that stand in one place, or are a part of a compressed cluster.
 #[derive(Clone, Copy, Debug, PartialEq, Eq)]
 pub struct Place {
     /// The first byte's offset on the disk.
     pub at: u64,
     /// How many bytes there are, at least 1.
     pub count: u64,
-    /// The number of the file that has them, and where they begin there; none for zeroes.
-    pub file: Option<(usize, u64)>,
+    /// What they are.
+    pub source: Source,
+}
+
+impl From<RawPlace> for Place {
+    fn from(place: RawPlace) -> Place {
+        let (file, offset) = (place.file.saturating_sub(1) as usize, place.offset);
+        let source = match place.kind {
+            0 => Source::Zero,
+            1 => Source::Stored { file, offset },
+            _ => Source::Compressed(Compressed {
+                file,
+                offset,
+                stream: place.stream as usize,
+                cluster: place.cluster as usize,
+                skip: place.skip as usize,
+            }),
+        };
+        Place { at: place.at, count: place.count, source }
+    }
 }
 
 /// An image that is being opened, or is open. It has no file: it asks for bytes, and is given them.
@@ -114,12 +167,11 @@ impl Image {
         Ok(size)
     }
 
-    /// Where the bytes of the disk stand from an offset on: at most that many, at least one.
+    /// Where the bytes of the disk are from an offset on: at most that many, at least one.
     pub fn map(&mut self, offset: u64, most: u64) -> Result<Place, Refusal> {
         let mut place = RawPlace::default();
         answer(calls::image_map(&mut self.raw, offset, most, &mut place))?;
-        let file = place.file.checked_sub(1).map(|number| (number as usize, place.offset));
-        Ok(Place { at: place.at, count: place.count, file })
+        Ok(place.into())
     }
 }
 
@@ -180,6 +232,8 @@ pub struct Disk<F = File> {
     files: Vec<F>,
     size: u64,
     at: u64,
+    /// The compressed cluster that was made last.
+    unpacked: Option<(Compressed, Vec<u8>)>,
 }
 
 fn refused(refusal: Refusal) -> io::Error {
@@ -279,7 +333,7 @@ impl<F: ReadAt> Disk<F> {
             above = if is_extent { above } else { files.len() - 1 };
         }
         let size = image.size().map_err(refused)?;
-        Ok(Disk { image, files, size, at: 0 })
+        Ok(Disk { image, files, size, at: 0, unpacked: None })
     }
 
     /// The size of the disk in bytes.
@@ -287,9 +341,22 @@ impl<F: ReadAt> Disk<F> {
         self.size
     }
 
-    /// Where the bytes of the disk stand from an offset on: at most that many, at least one.
+    /// Where the bytes of the disk are from an offset on: at most that many, at least one.
     pub fn map(&mut self, offset: u64, most: u64) -> io::Result<Place> {
         self.image.map(offset, most).map_err(refused)
+    }
+
+    /// The compressed cluster of a part, which is made unless it is the one that was made last.
+    fn unpacked(&mut self, part: &Compressed) -> io::Result<&[u8]> {
+        let is_there = |made: &(Compressed, Vec<u8>)| {
+            made.0.file == part.file && made.0.offset == part.offset
+        };
+        if !self.unpacked.as_ref().is_some_and(is_there) {
+            let mut stream = vec![0; part.stream];
+            fill(&self.files[part.file], &mut stream, part.offset)?;
+            self.unpacked = Some((*part, part.unpack(&stream).map_err(refused)?));
+        }
+        Ok(self.unpacked.as_ref().map_or(&[], |made| &made.1))
     }
 
     /// Reads bytes of the disk: fewer than the buffer has room for only at its end.
@@ -299,9 +366,13 @@ impl<F: ReadAt> Disk<F> {
         while done < count {
             let place = self.map(offset + done as u64, (count - done) as u64)?;
             let part = &mut buf[done..done + place.count as usize];
-            match place.file {
-                None => part.fill(0),
-                Some((file, from)) => fill(&self.files[file], part, from)?,
+            match &place.source {
+                Source::Zero => part.fill(0),
+                Source::Stored { file, offset } => fill(&self.files[*file], part, *offset)?,
+                Source::Compressed(of) => {
+                    let end = of.skip + part.len();
+                    part.copy_from_slice(&self.unpacked(of)?[of.skip..end]);
+                }
             }
             done += place.count as usize;
         }

@@ -22,6 +22,11 @@ code_of ForeignMapping = 10
 code_of Denied = 11
 code_of NotFound = 12
 
+-- the number of what a call answers that tells nothing else
+abbrev pub answer_code : Result (Unit {0}) Error → ℕ
+answer_code (Ok done) = 0
+answer_code (Err e) = code_of e
+
 -- What a call answers by a number: 0, and what is wanted was told; or the number of its refusal, or
 -- of another one that may be, and all was left so.
 abbrev pub IsAnswer :

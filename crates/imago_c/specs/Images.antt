@@ -8,6 +8,9 @@ use Rattle.imago_plan.specs.declared.piece.Piece.{Piece}
 use Rattle.imago_plan.specs.declared.piece.Source.{Source}
 use Rattle.imago_plan.specs.declared.piece.Source.TheVariants as From
 use Rattle.imago_session.specs.declared.session.Session.{Session}
+use Rattle.imago_session.specs.declared.compressed.Compressed.{Compressed}
+use Rattle.imago_session.specs.declared.session.Mapped.{Mapped}
+use Rattle.imago_session.specs.declared.session.Mapped.TheVariants as M
 use Rattle.imago_session.specs.declared.session.Want.{Want}
 use Rattle.imago_session.specs.declared.session.Want.TheVariants as W
 use Rattle.imago_c.specs.declared.opening.WantRecord.{WantRecord}
@@ -56,11 +59,40 @@ abbrev pub source_offset : Source → ℕ
 source_offset From.Zero = 0
 source_offset (From.Stored from) = from.offset
 
+-- zeroes, and bytes as they are read of their file, are of two kinds
+abbrev pub source_kind : Source → ℕ
+source_kind From.Zero = 0
+source_kind (From.Stored from) = 1
+
 -- a piece as a record
-abbrev pub place_record : Piece → PlaceRecord
-place_record p = record {
+abbrev pub piece_place : Piece → PlaceRecord
+piece_place p = record {
   at = p.at;
   count = p.count;
   file = source_file p.source;
   offset = source_offset p.source;
+  stream = 0;
+  cluster = 0;
+  skip = 0;
+  kind = source_kind p.source;
+  unused = 0;
 }
+
+-- a part of a compressed cluster as a record
+abbrev pub compressed_place : Compressed → PlaceRecord
+compressed_place c = record {
+  at = c.at;
+  count = c.count;
+  file = min (c.file + 1) (2 ^ 64 - 1);
+  offset = c.offset;
+  stream = c.length;
+  cluster = c.cluster;
+  skip = c.skip;
+  kind = 2;
+  unused = 0;
+}
+
+-- what is told of where bytes are as a record
+abbrev pub place_record : Mapped → PlaceRecord
+place_record (M.Plain p) = piece_place p
+place_record (M.Compressed c) = compressed_place c

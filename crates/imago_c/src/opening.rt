@@ -1,9 +1,11 @@
 // SPDX-License-Identifier: MIT
 //! How an image is opened: it asks for bytes and for files, and its caller gives them.
-ghost use Rattle.std.specs.Prelude.{◌≡◌, ◌≤◌, ◌<◌, ℕ, Option, None, Some, length, IfOk, OnOk, IsOk};
+ghost use Rattle.std.specs.Prelude.{◌≡◌, ◌<◌, ℕ, None, Some, length, Err, IfOk, OnOk, IfSome};
+ghost use Rattle.imago_storage.specs.declared.error.Error.{Error};
 ghost use Rattle.imago_session.specs.Files.{File};
 ghost use Rattle.imago_session.specs.Opening.{IsOf, wanted, IsAnswer, IsFileAnswer, IsNameWanted};
-ghost use Rattle.imago_c.specs.Answer.{IsFront};
+ghost use Rattle.imago_session.specs.Opening.{AsksNoBytes, AsksOtherCount, AsksNoFile};
+ghost use Rattle.imago_c.specs.Answer.{IsFront, code_of, answer_code};
 ghost use Rattle.imago_c.specs.Images.{Has, format_of as format_named, accepted_by, want_record};
 
 use crate::code::{DONE, code};
@@ -121,6 +123,7 @@ pub extern "C" fn imago_image_want(alloc: Global, image: &mut Image, want: &mut 
     ensures told { result ≡ 0
         → Has image.old.handle.value (λ s. want.new ≡ want_record (wanted s)) }
     ensures refused { 0 < result → want.new ≡ want.old }
+    ensures closed { image.old.handle.value ≡ None → result ≡ code_of Error.NotFound }
 {
     let Some(session) = image.take(alloc) else {
         return code(Error::NotFound);
@@ -138,7 +141,7 @@ pub extern "C" fn imago_image_want(alloc: Global, image: &mut Image, want: &mut 
 
 /// The number of an answer.
 fn answer(answer: Result<(), Error>) -> u32
-    ensures { result ≡ 0 → IsOk answer }
+    ensures { result ≡ answer_code answer }
 {
     match answer {
         Ok(()) => DONE,
@@ -149,9 +152,16 @@ fn answer(answer: Result<(), Error>) -> u32
 /// Gives the bytes that are asked for.
 #[unsafe(no_mangle)]
 pub extern "C" fn imago_image_give(alloc: Global, image: &mut Image, bytes: &[u8]) -> u32
-    ensures { result ≡ 0 → Has image.old.handle.value (λ a. Has image.new.handle.value
+    ensures agrees { result ≡ 0 → Has image.old.handle.value (λ a. Has image.new.handle.value
         (λ b. (files : ℕ → File) → IsAnswer files (wanted a) bytes.now → IsOf files a
         → IsOf files b)) }
+    ensures unasked { IfSome image.old.handle.value (λ s. AsksNoBytes (wanted s)
+        → (result ≡ code_of Error.Unsupported) × (image.new.handle.value ≡ Some s)) }
+    ensures miscounted { IfSome image.old.handle.value
+        (λ s. AsksOtherCount (wanted s) (length bytes.now)
+        → (result ≡ code_of Error.InvalidData) × (image.new.handle.value ≡ Some s)) }
+    ensures closed { image.old.handle.value ≡ None
+        → (result ≡ code_of Error.NotFound) × (image.new.handle.value ≡ None) }
 {
     let Some(mut session) = image.take(alloc) else {
         return code(Error::NotFound);
@@ -163,12 +173,16 @@ pub extern "C" fn imago_image_give(alloc: Global, image: &mut Image, bytes: &[u8
 
 /// Gives a session the file that is asked for.
 fn give_file(session: &mut Session, count: u64, format: u32) -> Result<(), Error>
-    ensures { OnOk result ((files : ℕ → File)
+    ensures agrees { OnOk result ((files : ℕ → File)
         → IsFileAnswer files (wanted session.old) count (format_named format)
         → IsOf files session.old → IsOf files session.new) }
+    ensures unasked { AsksNoFile (wanted session.old)
+        → (result ≡ Err Error.Unsupported) × (session.new ≡ session.old) }
 {
-    let format = format_of(format)?;
-    session.give_file(count, format)
+    match format_of(format) {
+        Ok(format) => session.give_file(count, format),
+        Err(_) => Err(Error::Unsupported),
+    }
 }
 
 /// Gives the file that is asked for, which has that many bytes, and is opened in the format of that
@@ -180,10 +194,14 @@ pub extern "C" fn imago_image_give_file(
     count: u64,
     format: u32,
 ) -> u32
-    ensures { result ≡ 0 → Has image.old.handle.value (λ a. Has image.new.handle.value
+    ensures agrees { result ≡ 0 → Has image.old.handle.value (λ a. Has image.new.handle.value
         (λ b. (files : ℕ → File)
         → IsFileAnswer files (wanted a) count (format_named format) → IsOf files a
         → IsOf files b)) }
+    ensures unasked { IfSome image.old.handle.value (λ s. AsksNoFile (wanted s)
+        → (result ≡ code_of Error.Unsupported) × (image.new.handle.value ≡ Some s)) }
+    ensures closed { image.old.handle.value ≡ None
+        → (result ≡ code_of Error.NotFound) × (image.new.handle.value ≡ None) }
 {
     let Some(mut session) = image.take(alloc) else {
         return code(Error::NotFound);
@@ -206,6 +224,7 @@ pub extern "C" fn imago_image_name(
         × IsFront name.old whole name.new × (told.new ≡ length whole)
         × ((files : ℕ → File) → IsOf files s → IsNameWanted files s whole)) }
     ensures refused { 0 < result → (name.new ≡ name.old) × (told.new ≡ told.old) }
+    ensures closed { image.old.handle.value ≡ None → result ≡ code_of Error.NotFound }
 {
     let Some(session) = image.take(alloc) else {
         return code(Error::NotFound);
@@ -233,6 +252,7 @@ pub extern "C" fn imago_image_format_name(
 ) -> u32
     ensures same { image.new.handle.value ≡ image.old.handle.value }
     ensures refused { 0 < result → (name.new ≡ name.old) × (told.new ≡ told.old) }
+    ensures closed { image.old.handle.value ≡ None → result ≡ code_of Error.NotFound }
 {
     let Some(session) = image.take(alloc) else {
         return code(Error::NotFound);

@@ -5,3 +5,5 @@ pub mod KnownSteps
 pub mod PlaceSteps
 pub mod LayerSteps
 pub mod LaidSteps
+pub mod StreamSteps
+pub mod AskSteps

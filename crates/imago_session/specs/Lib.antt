@@ -4,4 +4,6 @@ pub mod Blocks
 pub mod Known
 pub mod Files
 pub mod Found
+pub mod Streams
 pub mod Opening
+pub mod Mapping

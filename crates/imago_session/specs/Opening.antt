@@ -137,3 +137,35 @@ AsksOnce (S.Below named) = Unit {0}
 AsksOnce (S.Extents p) = Unit {0}
 AsksOnce (S.Open image) = Unit {0}
 AsksOnce S.Refused = Unit {0}
+
+-- bytes are asked for, so many
+abbrev pub AsksCount : Want → ℕ → Type 0
+AsksCount (W.Bytes k from count) n = n ≡ count
+AsksCount (W.Backing k) n = ⊥
+AsksCount (W.Extent k) n = ⊥
+AsksCount W.Nothing n = ⊥
+AsksCount W.Refused n = ⊥
+
+-- bytes are asked for, but not so many
+abbrev pub AsksOtherCount : Want → ℕ → Type 0
+AsksOtherCount (W.Bytes k from count) n = n ≡ count → ⊥
+AsksOtherCount (W.Backing k) n = ⊥
+AsksOtherCount (W.Extent k) n = ⊥
+AsksOtherCount W.Nothing n = ⊥
+AsksOtherCount W.Refused n = ⊥
+
+-- no bytes are asked for
+abbrev pub AsksNoBytes : Want → Type 0
+AsksNoBytes (W.Bytes k from count) = ⊥
+AsksNoBytes (W.Backing k) = Unit {0}
+AsksNoBytes (W.Extent k) = Unit {0}
+AsksNoBytes W.Nothing = Unit {0}
+AsksNoBytes W.Refused = Unit {0}
+
+-- no file is asked for
+abbrev pub AsksNoFile : Want → Type 0
+AsksNoFile (W.Bytes k from count) = Unit {0}
+AsksNoFile (W.Backing k) = ⊥
+AsksNoFile (W.Extent k) = ⊥
+AsksNoFile W.Nothing = Unit {0}
+AsksNoFile W.Refused = Unit {0}

@@ -7,6 +7,7 @@
 #![tactic(auto)]
 
 mod block;
+pub mod compressed;
 mod extents;
 pub mod laws;
 mod layer;

@@ -1,7 +1,8 @@
 // SPDX-License-Identifier: MIT
 //! An image that is opened by asking for bytes.
 ghost use Rattle.std.specs.Prelude.{◌≡◌, ◌+◌, ◌^◌, ◌≤◌, ◌<◌, ◌⊎◌, ℕ, List, [], length, Some, None};
-ghost use Rattle.std.specs.Prelude.{IfOk, OnOk, IfErr, IfSome, MatchOption, map, slice_index_or};
+ghost use Rattle.std.specs.Prelude.{IfOk, OnOk, IsOk, IfErr, OnErr, Err, IfSome, MatchOption, map};
+ghost use Rattle.std.specs.Prelude.{slice_index_or};
 ghost use Rattle.std.specs.String.{string_bytes};
 ghost use Rattle.imago_vmdk.specs.declared.line.Accepted.{Accepted};
 ghost use Rattle.imago_qcow2.specs.Disk.{HaveSameTables, AreSameBytes};
@@ -16,10 +17,14 @@ ghost use Rattle.imago_session.specs.Files.{HasBacking, HasNoBacking, extent_nam
 ghost use Rattle.imago_session.specs.Files.{layers_in};
 ghost use Rattle.imago_session.specs.Found.{IsFoundOf};
 ghost use Rattle.imago_session.specs.Opening.{IsStateOf, IsOf, IsOpenWith, wanted, wanted_in};
-ghost use Rattle.imago_session.specs.Opening.{IsAnswer, IsFileAnswer, IsNameWanted, ShowsBytes};
+ghost use Rattle.imago_session.specs.Opening.{IsAnswer, IsFileAnswer, IsNameWanted};
+ghost use Rattle.imago_session.specs.Mapping.{IsMappedAt, ShowsMapped};
 ghost use Rattle.imago_session.specs.Opening.{IsBehind, IsStateWith, IsBroughtOn, AsksOnce};
+ghost use Rattle.imago_session.specs.Opening.{AsksNoBytes, AsksOtherCount, AsksCount, AsksNoFile};
+ghost use Rattle.imago_session.specs.declared.session.Want.{Want};
 ghost use Rattle.imago_session.specs.declared.session.State.{State};
 
+use crate::compressed::{Compressed, compressed_at};
 use crate::extents::{Extents, following};
 use crate::laws::{pieces_of_files, size_of_files};
 pub use crate::layer::Layer;
@@ -232,6 +237,15 @@ fn after_extent(extents: Extents) -> State
     })
 }
 
+/// Where bytes of an image's disk are.
+#[derive(Clone, Copy, Debug, PartialEq, Eq)]
+pub enum Mapped {
+    /// They stand in one place, or are zeroes.
+    Plain(Piece),
+    /// They are a part of a compressed cluster.
+    Compressed(Compressed),
+}
+
 /// What a mapping names, as a piece's source. [`Error::Unsupported`] is the end of the image, and
 /// bytes that a driver makes up.
 fn source_of(mapping: Mapping) -> Result<Source, Error>
@@ -266,6 +280,25 @@ fn piece_at<D: FormatDriverInstance>(
     let (mapping, count) = image.get_mapping(at, most)?;
     let source = source_of(mapping)?;
     Ok(Piece { at, count, source })
+}
+
+/// Where the bytes of the disk are from an offset on: at most that many, at least one.
+fn mapped_at(image: &FormatAccess<Layer>, at: u64, most: u64) -> Result<Mapped, Error>
+    requires { 0 < most }
+    ensures at { let view = ⟦<Layer as FormatDriverInstance>⟧.view in
+        IfOk result (IsMappedAt (target view image.now) «at» most) }
+    ensures shows { IfOk result (λ m. (accepted : Accepted) (files : ℕ → File)
+        → AreLayersOf accepted files image.now → ShowsMapped files «at» m image.now) }
+{
+    pieces_of_files(image);
+    match piece_at(image, at, most) {
+        Ok(piece) => Ok(Mapped::Plain(piece)),
+        Err(Error::Unsupported) => match compressed_at(image, at, most) {
+            Some(part) => Ok(Mapped::Compressed(part)),
+            None => Err(Error::Unsupported),
+        },
+        Err(refusal) => Err(refusal),
+    }
 }
 
 impl Session {
@@ -315,11 +348,18 @@ impl Session {
     ///
     /// [`Error::Unsupported`] is where no bytes are asked for, and [`Error::InvalidData`] a count
     /// that isn't the one asked for. Nothing changed then. Any other refusal is the end of the
-    /// opening.
+    /// opening, unless it is [`Error::Memory`] for the bytes themselves: then nothing changed, and
+    /// they are asked for still.
     pub fn give(&mut self, bytes: &[u8]) -> Result<(), Error>
         ensures agrees { OnOk result ((files : ℕ → File) → IsAnswer files (wanted self.old) bytes.now
             → IsOf files self.old → IsOf files self.new) }
         ensures further { OnOk result (IsBroughtOn self.old.state self.new.state) }
+        ensures unasked { AsksNoBytes (wanted self.old)
+            → (result ≡ Err Error.Unsupported) × (self.new ≡ self.old) }
+        ensures miscounted { AsksOtherCount (wanted self.old) (length bytes.now)
+            → (result ≡ Err Error.InvalidData) × (self.new ≡ self.old) }
+        ensures refused { AsksCount (wanted self.old) (length bytes.now) → IfErr result
+            (λ e. (self.new.state ≡ State.Refused) ⊎ ((e ≡ Error.Memory) × (self.new ≡ self.old))) }
     {
         let Want::Bytes(_, _, count) = self.want() else {
             return Err(Error::Unsupported);
@@ -327,6 +367,17 @@ impl Session {
         if bytes.len() as u64 != count {
             return Err(Error::InvalidData);
         }
+        self.take_block(bytes)
+    }
+
+    /// Takes the bytes that are asked for.
+    fn take_block(&mut self, bytes: &[u8]) -> Result<(), Error>
+        ensures agrees { OnOk result ((files : ℕ → File) → IsAnswer files (wanted self.old) bytes.now
+            → IsOf files self.old → IsOf files self.new) }
+        ensures further { OnOk result (IsBroughtOn self.old.state self.new.state) }
+        ensures refused { IfErr result (λ e. (self.new.state ≡ State.Refused)
+            ⊎ ((e ≡ Error.Memory) × (self.new ≡ self.old))) }
+    {
         let block = Vec::from_slice(self.alloc, bytes)?;
         let State::Loading(loading) = mem::replace(&mut self.state, State::Refused) else {
             return Err(Error::Unsupported);
@@ -341,10 +392,15 @@ impl Session {
     /// needs neither.
     ///
     /// [`Error::Unsupported`] is where no file is asked for. Nothing changed then. Any other
-    /// refusal is the end of the opening.
+    /// refusal is the end of the opening. The file of an extent isn't refused.
     pub fn give_file(&mut self, count: u64, format: Option<Format>) -> Result<(), Error>
         ensures agrees { OnOk result ((files : ℕ → File) → IsFileAnswer files (wanted self.old) count format
             → IsOf files self.old → IsOf files self.new) }
+        ensures unasked { AsksNoFile (wanted self.old)
+            → (result ≡ Err Error.Unsupported) × (self.new ≡ self.old) }
+        ensures extent { (k : ℕ) → wanted self.old ≡ Want.Extent k → IsOk result }
+        ensures refused { (k : ℕ) → wanted self.old ≡ Want.Backing k
+            → OnErr result (self.new.state ≡ State.Refused) }
     {
         match mem::replace(&mut self.state, State::Refused) {
             State::Below(_) => {
@@ -402,21 +458,20 @@ impl Session {
         }
     }
 
-    /// Where the bytes of the disk stand from that offset on: at most that many.
+    /// Where the bytes of the disk are from that offset on: at most that many, at least one.
     ///
-    /// [`Error::NotFound`] is an image that isn't open.
-    pub fn map(&self, at: u64, most: u64) -> Result<Piece, Error>
+    /// [`Error::NotFound`] is an image that isn't open. [`Error::Unsupported`] is the disk's end,
+    /// and a cluster that is compressed otherwise than by deflate. What a driver refuses is passed
+    /// on: [`Error::NoAccess`] is a part of a VMDK image that may not be read, and
+    /// [`Error::InvalidData`] one whose entry is invalid.
+    pub fn map(&self, at: u64, most: u64) -> Result<Mapped, Error>
         requires { 0 < most }
         ensures { let view = ⟦<Layer as FormatDriverInstance>⟧.view in
-            IfOk result (λ p. IsOpenWith self.now.state (λ x. IsPieceAt (target view x) «at» p
-            × (p.count ≤ most) × ((files : ℕ → File) → IsOf files self.now
-            → ShowsBytes files «at» p x))) }
+            IfOk result (λ m. IsOpenWith self.now.state (λ x. IsMappedAt (target view x) «at» most m
+            × ((files : ℕ → File) → IsOf files self.now → ShowsMapped files «at» m x))) }
     {
         match &self.state {
-            State::Open(image) => {
-                pieces_of_files(image);
-                piece_at(image, at, most)
-            }
+            State::Open(image) => mapped_at(image, at, most),
             _ => Err(Error::NotFound),
         }
     }

@@ -1,0 +1,18 @@
+-- SPDX-License-Identifier: MIT
+use Rattle.std.proofs.Common.{◌≡◌, ℕ, ◌+◌, ◌<◌, ◌≤◌}
+use Rattle.imago_vmdk.specs.declared.line.Accepted.{Accepted}
+use Rattle.imago_session.specs.Files.{File, AreLayersOf, described_value, layers_in}
+use Rattle.imago_session.proofs.compressed.compressed_at.Given as goal
+
+abbrev pub invariant-loop-part : goal.invariant-loop-part
+invariant-loop-part l = record {
+  some : 0 < l.left;
+  within : l.left ≤ l.fn.most;
+  layers : (accepted : Accepted) (files : ℕ → File) → AreLayersOf accepted files l.fn.image
+      → AreLayersOf accepted (λ (k : ℕ). files (l.file + k)) l.layer;
+  shows : (accepted : Accepted) (files : ℕ → File) → AreLayersOf accepted files l.fn.image
+      → (i : ℕ) → i < l.left → described_value files l.fn.image (l.fn.at + i) ≡ described_value (λ (k : ℕ). files (l.file + k)) l.layer (l.fn.at + i);
+}
+
+abbrev pub decreases-loop-part : goal.decreases-loop-part
+decreases-loop-part l = layers_in l.layer
