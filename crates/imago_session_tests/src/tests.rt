@@ -1,0 +1,304 @@
+// SPDX-License-Identifier: MIT
+//! Sessions that are given the blocks of files in memory, beside images over the same files.
+
+use imago_access::access::FormatAccess;
+use imago_access::mapping::Mapping;
+use imago_inflate::inflate::inflate;
+use imago_plan::piece::{Piece, Source};
+use imago_qcow2::qcow2::Qcow2;
+use imago_session::compressed::Compressed;
+use imago_session::session::{Mapped, Session, Want};
+use imago_storage::error::Error;
+use imago_storage::mem::MemStorage;
+use imago_vmdk::line::Accepted;
+use std::alloc::Global;
+use std::process::Abort;
+use std::test::Fail;
+
+/// Bytes of a file, and where they stand.
+type Part = (usize, &'static [u8]);
+
+/// A file: the name that the image above it has for it, its length in bytes, and what stands in it.
+/// All else is zero.
+#[derive(Drop)]
+struct File {
+    name: &'static [u8],
+    length: usize,
+    parts: &'static [Part],
+}
+
+/// A qcow2 image of version 2, in clusters of 512 bytes. Its disk has three: "top!", and two without
+/// data, which lead to the image "base".
+static TOP: File = File {
+    name: b"",
+    length: 2048,
+    parts: &[
+        (0, b"QFI\xfb\0\0\0\x02"),
+        // Where the backing file's name is, and its length.
+        (15, &[120]),
+        (19, &[4]),
+        // The cluster's length, the disk's size, the number of L1 entries, and where their table is.
+        (23, &[9]),
+        (30, &[6]),
+        (39, &[1]),
+        (46, &[2]),
+        (120, b"base"),
+        // The L1 entry: the L2 table is at 1024. Its first entry: the cluster is at 1536.
+        (518, &[4]),
+        (1030, &[6]),
+        (1536, b"top!"),
+    ],
+};
+
+/// The same, with nothing below. Its disk has five clusters: "abcdefgh" again and again and
+/// "01234567", which are compressed, nothing, a stream that is faulty, and "end.".
+static PACKED: File = File {
+    name: b"base",
+    length: 2048,
+    parts: &[
+        (0, b"QFI\xfb\0\0\0\x02"),
+        (23, &[9]),
+        (30, &[10]),
+        (39, &[1]),
+        (46, &[2]),
+        (518, &[4]),
+        (1024, &[0x40, 0, 0, 0, 0, 0, 0x06, 0x05]),
+        (1032, &[0x40, 0, 0, 0, 0, 0, 0x06, 0x14]),
+        (1048, &[0x40, 0, 0, 0, 0, 0, 0x06, 0x30]),
+        (1056, &[0x60, 0, 0, 0, 0, 0, 0x07, 0xf5]),
+        (1541, b"KLJNIMK\xcfH\x1c\xa5G$\r\0304261537\x18\xa5G$\r\0"),
+        (1584, &[7]),
+        (2037, b"K\xcdK\xd1K\x1d\xc5#\x16\x03\x00"),
+    ],
+};
+
+/// A descriptor of three extents, and their files.
+static DESCRIPTOR: File = File {
+    name: b"base",
+    length: 89,
+    parts: &[
+        (0, b"# Disk DescriptorFile\nversion=1\n"),
+        (
+            32,
+            b"RW 1 ZERO\nRW 1 FLAT \"a.img\" 0\nRW 1 FLAT \"b.img\" 1\n\n\n\n\n\n\n\n",
+        ),
+    ],
+};
+
+static FIRST_EXTENT: File = File {
+    name: b"a.img",
+    length: 512,
+    parts: &[],
+};
+
+static SECOND_EXTENT: File = File {
+    name: b"b.img",
+    length: 1024,
+    parts: &[],
+};
+
+/// All bytes of a file.
+fn bytes_of(alloc: Global, file: &File) -> Result<Vec<u8>, Error> {
+    let mut bytes = vec![in alloc; 0u8; file.length]?;
+    for &(at, part) in file.parts {
+        for (to, &byte) in bytes.iter_mut().skip(at).zip(part) {
+            *to = byte;
+        }
+    }
+    Ok(bytes)
+}
+
+/// So many bytes of a file from an offset on, with zeroes past its end.
+fn part_of(alloc: Global, file: &File, offset: u64, count: u64) -> Result<Vec<u8>, Error> {
+    let whole = bytes_of(alloc, file)?;
+    let mut part = vec![in alloc; 0u8; count as usize]?;
+    for (to, &byte) in part.iter_mut().zip(whole.iter().skip(offset as usize)) {
+        *to = byte;
+    }
+    Ok(part)
+}
+
+/// The file of that number.
+fn numbered<'a>(files: &[&'a File], number: usize) -> Result<&'a File, Error> {
+    files.get(number).copied().ok_or(Error::NotFound)
+}
+
+/// Gives a session what it asks for, of these files. Whether it asked for something.
+fn answer(
+    rt: &impl Abort,
+    alloc: Global,
+    session: &mut Session,
+    files: &[&File],
+) -> Result<bool, Error> {
+    match session.want() {
+        Want::Bytes(number, offset, count) => {
+            let file = numbered(files, number)?;
+            let bytes = part_of(alloc, file, offset, count)?;
+            session.give(&bytes)?;
+            Ok(true)
+        }
+        Want::Backing(number) | Want::Extent(number) => {
+            let file = numbered(files, number)?;
+            assert_eq!(rt; session.name(), Some(file.name));
+            session.give_file(file.length as u64, None)?;
+            Ok(true)
+        }
+        Want::Nothing => Ok(false),
+        Want::Refused => Err(Error::InvalidData),
+    }
+}
+
+/// The session of an image of these files, the top one first.
+fn opened(rt: &impl Abort, alloc: Global, files: &[&File]) -> Result<Session, Error> {
+    let accepted = Accepted {
+        unknown_keys: false,
+        vmfs: false,
+    };
+    let top = numbered(files, 0)?;
+    let mut session = Session::new(alloc, accepted, top.length as u64, None)?;
+    // each file has one block, and is asked for once
+    for _ in 0..2 * files.len() {
+        if !answer(rt, alloc, &mut session, files)? {
+            return Ok(session);
+        }
+    }
+    assert_eq!(rt; session.want(), Want::Nothing);
+    Ok(session)
+}
+
+/// What is read of a part of a compressed cluster.
+fn unpacked(alloc: Global, files: &[&File], part: Compressed) -> Result<Vec<u8>, Error> {
+    let stream = part_of(alloc, numbered(files, part.file)?, part.offset, part.length)?;
+    let mut cluster = vec![in alloc; 0u8; part.cluster as usize]?;
+    if inflate(&stream, &mut cluster).is_err() {
+        return Err(Error::InvalidData);
+    }
+    let mut bytes = vec![in alloc; 0u8; part.count as usize]?;
+    for (to, &byte) in bytes
+        .iter_mut()
+        .zip(cluster.iter().skip(part.skip as usize))
+    {
+        *to = byte;
+    }
+    Ok(bytes)
+}
+
+/// Whether a session tells of bytes what an image's own mapping of them says.
+fn is_so(mapping: Mapping, count: u64, mapped: Mapped) -> bool {
+    match (mapping, mapped) {
+        (Mapping::Zero { .. }, Mapped::Plain(piece)) => {
+            piece.source == Source::Zero && piece.count == count
+        }
+        (
+            Mapping::Raw {
+                layer,
+                storage,
+                offset,
+                ..
+            },
+            Mapped::Plain(
+                Piece {
+                    count: told,
+                    source: Source::Stored(from),
+                    ..
+                },
+            ),
+        ) => {
+            told == count && from.layer == layer && from.storage == storage && from.offset == offset
+        }
+        (Mapping::Special { layer, .. }, Mapped::Compressed(part)) => part.file == layer,
+        _ => false,
+    }
+}
+
+/// An image over two of these files in memory.
+fn image_of(
+    alloc: Global,
+    top: &File,
+    base: &File,
+) -> Result<FormatAccess<Qcow2<MemStorage>>, Error> {
+    let lower = Qcow2::open_image(alloc, MemStorage::new(bytes_of(alloc, base)?), false)?;
+    let upper = Qcow2::open_image(alloc, MemStorage::new(bytes_of(alloc, top)?), false)?;
+    let below = Box::new(alloc, FormatAccess::new(lower))?;
+    Ok(FormatAccess::with_backing(upper, below))
+}
+
+/// At each of these offsets a session tells what the image's own mapping is, and what is unpacked is
+/// what the image reads.
+fn check_mapping(rt: &impl Abort, alloc: Global, offset: u64) -> Result<(), Error> {
+    let files = [&TOP, &PACKED];
+    let session = opened(rt, alloc, &files)?;
+    let image = image_of(alloc, &TOP, &PACKED)?;
+    assert_eq!(rt; session.size(), Some(image.size()));
+    let most = 512 - offset % 512;
+    let mapped = session.map(offset, most)?;
+    let (mapping, count) = image.get_mapping(offset, most)?;
+    assert!(rt; is_so(mapping, count, mapped), "{offset}");
+    if let Mapped::Compressed(part) = mapped {
+        let mut read = vec![in alloc; 0u8; part.count as usize]?;
+        image.read(alloc, &mut read, offset)?;
+        let bytes = unpacked(alloc, &files, part)?;
+        assert_eq!(rt; bytes.as_slice(), read.as_slice());
+    }
+    Ok(())
+}
+
+#[test]
+fn sessions_tell_the_mappings_of_images(rt: HostRuntime) -> Result<(), Fail> {
+    for offset in [0, 5, 511, 512, 517, 1023, 1024, 1535] {
+        check_mapping(&rt, rt.alloc(), offset)?;
+    }
+    Ok(())
+}
+
+/// The extents of a descriptor are the files behind it.
+fn check_extents(rt: &impl Abort, alloc: Global) -> Result<(), Error> {
+    let files = [&TOP, &DESCRIPTOR, &FIRST_EXTENT, &SECOND_EXTENT];
+    let session = opened(rt, alloc, &files)?;
+    let mut told = Vec::new(alloc);
+    for offset in [512u64, 1024] {
+        if let Mapped::Plain(
+            Piece {
+                source: Source::Stored(from),
+                ..
+            },
+        ) = session.map(offset, 512)?
+        {
+            told.push((from.layer.saturating_add(from.storage), from.offset))?;
+        }
+    }
+    assert_eq!(rt; told.as_slice(), [(2usize, 0u64), (3, 512)].as_slice());
+    Ok(())
+}
+
+#[test]
+fn extents_are_numbered_behind_the_layers(rt: HostRuntime) -> Result<(), Fail> {
+    check_extents(&rt, rt.alloc())?;
+    Ok(())
+}
+
+/// What isn't asked for is refused, and a session goes on as if nothing had been given.
+fn check_refusals(rt: &impl Abort, alloc: Global) -> Result<(), Error> {
+    let mut session = Session::new(
+        alloc,
+        Accepted {
+            unknown_keys: false,
+            vmfs: false,
+        },
+        2048,
+        None,
+    )?;
+    let wanted = session.want();
+    assert_eq!(rt; wanted, Want::Bytes(0, 0, 2048));
+    assert_eq!(rt; session.give(&[0; 5]), Err(Error::InvalidData));
+    assert_eq!(rt; session.give_file(5, None), Err(Error::Unsupported));
+    assert_eq!(rt; session.want(), wanted);
+    assert_eq!(rt; session.map(0, 1), Err(Error::NotFound));
+    Ok(())
+}
+
+#[test]
+fn what_is_not_asked_for_is_refused(rt: HostRuntime) -> Result<(), Fail> {
+    check_refusals(&rt, rt.alloc())?;
+    Ok(())
+}
