@@ -34,6 +34,7 @@ fn open<'a>(host: &'a SystemFiles<'a>, path: &'a str) -> Result<Disk<'a>, OpenEr
         accepted: Accepted::EVERYTHING,
         other_files: OtherFiles::InFolder,
         tables: Some(64 << 20),
+        longest: None,
         writable: false,
     };
     let (format, image) = open_image(host, path, how)?;
