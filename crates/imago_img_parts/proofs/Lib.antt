@@ -6,3 +6,4 @@ mod Printed
 mod Decimals
 mod FaultSteps
 mod Cleared
+mod Opened

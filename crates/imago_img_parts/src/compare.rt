@@ -10,14 +10,14 @@ ghost use Rattle.imago_img_parts.specs.Disks.{AreSaidAlike, is_left_out};
 
 use crate::failure::Failure;
 use crate::host::Host;
-use crate::image::{CHUNK, known_cause, not_read, readable_size};
+use crate::image::{CHUNK, known_cause, not_read, opened, readable_size};
 use imago_access::access::FormatAccess;
 use imago_copy::compare::first_difference;
 use imago_drivers::drivers::FormatDriverInstance;
 use imago_images::files::Files;
 use imago_images::format::ImageFormat;
 use imago_images::gate::folder_of;
-use imago_images::opener::{FileImage, open_image};
+use imago_images::opener::FileImage;
 use imago_images::opening::Opening;
 use imago_storage::error::Error;
 use std::alloc::Global;
@@ -49,7 +49,7 @@ pub fn compare_images<H: Host>(
         first.now second.now found.sizes.0 found.sizes.1 found.difference)) }
 {
     let alloc = host.alloc();
-    let (format, left) = Failure::or_opened(alloc, first, open_image(host, first, how))?;
+    let (format, left) = opened(host, first, how)?;
     let (size, _) = readable_size(alloc, first, &left)?;
     if are_said_alike(how.format, other, first, second)
         && are_paths_of_one(host, first, second, format)
@@ -59,8 +59,7 @@ pub fn compare_images<H: Host>(
             difference: None,
         });
     }
-    let opened = open_image(host, second, said_of_second(how, other));
-    let (_, right) = Failure::or_opened(alloc, second, opened)?;
+    let (_, right) = opened(host, second, said_of_second(how, other))?;
     let (other_size, _) = readable_size(alloc, second, &right)?;
     match compared(
         alloc,

@@ -8,11 +8,11 @@ ghost use Rattle.imago_img_parts.specs.Files.{IsWhole, IsWithoutLeftOver};
 
 use crate::failure::{Failure, Reason, Refusal};
 use crate::host::{FileKind, FileStatus, Host, Making};
-use crate::image::{CHUNK, has_file, not_read, readable_size};
+use crate::image::{CHUNK, has_file, not_read, opened, readable_size};
 use crate::progress::Progress;
 use imago_copy::copy::{CopyError, copy_disk};
 use imago_copy::target::Target;
-use imago_images::opener::{FileImage, open_image};
+use imago_images::opener::FileImage;
 use imago_images::opening::Opening;
 use std::io::{self, ErrorKind, Write};
 
@@ -125,7 +125,7 @@ fn tested_size<H: Host, E: Write>(
     ensures { IfOk result (λ size. IfSome (H.contents host.now)
         (λ files. HasSize how.accepted how.format files from.now size)) }
 {
-    let (_, image) = Failure::or_opened(host.alloc(), from, open_image(host, from, how))?;
+    let (_, image) = opened(host, from, how)?;
     let (size, short) = readable_size(host.alloc(), from, &image)?;
     test_target(host, &image, to, replace)?;
     test_left_over(host, &image, to, replace)?;
@@ -170,7 +170,7 @@ fn fill<H: Host, T: Target>(
         (H.contents host.now) from.now (T.contents target.old) (T.contents target.new)) }
 {
     let alloc = host.alloc();
-    let (_, image) = Failure::or_opened(host.alloc(), from, open_image(host, from, how))?;
+    let (_, image) = opened(host, from, how)?;
     let mut buf = vec![in alloc; 0u8; CHUNK]?;
     match copy_disk(alloc, &image, target, &mut buf) {
         Ok(()) => Ok(()),

@@ -1,9 +1,11 @@
 // SPDX-License-Identifier: MIT
 //! What the commands ask of an opened image: whether its disk can be read, and its files.
-ghost use Rattle.std.specs.Prelude.{◌≡◌, IfOk};
+ghost use Rattle.std.specs.Prelude.{◌≡◌, IfOk, IfSome};
 ghost use Rattle.imago_access.specs.Chain.{driver};
 ghost use Rattle.imago_access.specs.Target.{target};
 ghost use Rattle.imago_copy.specs.LayerRuns.{AreLayerRuns};
+ghost use Rattle.imago_images.specs.Formats.{IsFormatBy};
+ghost use Rattle.imago_images.specs.Images.{IsImageIn};
 
 use crate::failure::{ClusterFault, Failure, Reason};
 use crate::host::{FileStatus, Host};
@@ -14,13 +16,31 @@ use imago_any_driver::any::AnyDriver;
 use imago_copy::layers::{LayerRun, LayerRuns};
 use imago_drivers::drivers::FormatDriverInstance;
 use imago_images::file::PathStorage;
-use imago_images::opener::FileImage;
+use imago_images::format::ImageFormat;
+use imago_images::opener::{FileImage, open_image};
+use imago_images::opening::Opening;
 use imago_storage::error::Error;
 use std::alloc::Global;
 use std::io;
 
 /// How much of a disk is read at a time, in bytes.
 pub const CHUNK: usize = 1 << 20;
+
+/// Opens the image of a path, as [`open_image`] does. A file that the image needs and that can't be
+/// used is told with the image.
+pub fn opened<'a, H: Host>(
+    host: &'a H,
+    path: &str,
+    how: Opening,
+) -> Result<(ImageFormat, FileImage<'a, H>), Failure>
+    ensures format { IfOk result (λ r. IfSome (H.contents host.now)
+        (λ files. IsFormatBy how.format path.now (files path.now) r.0)) }
+    ensures image { IfOk result (λ r. IfSome (H.contents host.now)
+        (λ files. IsImageIn ⟦<AnyDriver<PathStorage<'a, H>> as FormatDriverInstance>⟧.view
+        how.accepted how.other_files files path.now r.0 r.1)) }
+{
+    Failure::or_opened(host.alloc(), path, open_image(host, path, how))
+}
 
 /// All runs of a disk, each of one layer.
 pub fn runs_of<D: FormatDriverInstance>(

@@ -12,13 +12,12 @@ ghost use Rattle.imago_img_parts.specs.declared.map.LineKind.TheVariants as Kind
 use crate::digits::digits_of;
 use crate::failure::Failure;
 use crate::host::Host;
-use crate::image::runs_of;
+use crate::image::{opened, runs_of};
 use crate::json::quoted;
 use imago_access::access::FormatAccess;
 use imago_copy::layers::LayerRun;
 use imago_copy::runs::{Kind, Run};
 use imago_drivers::drivers::FormatDriverInstance;
-use imago_images::opener::open_image;
 use imago_images::opening::Opening;
 use imago_storage::storage::Storage;
 use std::alloc::{AllocError, Global};
@@ -77,7 +76,7 @@ pub fn map_image<H: Host, W: Write>(
     json: bool,
     output: &mut W,
 ) -> Result<(), Failure> {
-    let (_, image) = Failure::or_opened(host.alloc(), path, open_image(host, path, how))?;
+    let (_, image) = opened(host, path, how)?;
     map(host, path, &image, json, output)
 }
 

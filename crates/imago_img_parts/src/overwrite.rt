@@ -6,8 +6,7 @@ ghost use Rattle.imago_img_parts.specs.Disks.{HasSize, IsConvertedOver, IsPartly
 use crate::convert::fill_shown;
 use crate::failure::{Failure, Reason, Refusal};
 use crate::host::{FileKind, FileStatus, Host};
-use crate::image::{has_file, readable_size};
-use imago_images::opener::open_image;
+use crate::image::{has_file, opened, readable_size};
 use imago_images::opening::Opening;
 use std::io::{ErrorKind, Write};
 
@@ -59,7 +58,7 @@ fn fitting_size<H: Host, E: Write>(
     ensures fits { IfOk result (λ size. IfSome (H.contents host.now)
         (λ files. size ≤ length (files to.now))) }
 {
-    let (_, image) = Failure::or_opened(host.alloc(), from, open_image(host, from, how))?;
+    let (_, image) = opened(host, from, how)?;
     let (size, short) = readable_size(host.alloc(), from, &image)?;
     let there = existing(host, to)?;
     if has_file(&image, there) {
