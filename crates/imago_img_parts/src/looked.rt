@@ -32,11 +32,22 @@ pub fn refuse_long_disk<F: HostFile>(
     format: ImageFormat,
     how: Opening,
 ) -> Result<(), OpenError> {
-    match refuse_longer(alloc, path, file, format, how) {
-        Err(OpenError::OfFile { path, reason: Reason::DiskTooLong { size, most } }) => {
-            let reason = Reason::DiskTooLong { size, most };
-            Err(OpenError::OfFile { path, reason })
-        }
-        _ => Ok(()),
+    let Err(refused) = refuse_longer(alloc, path, file, format, how) else {
+        return Ok(());
+    };
+    if is_too_long(&refused) {
+        return Err(refused);
     }
+    Ok(())
+}
+
+/// Whether a disk is longer than the opening allows.
+fn is_too_long(cause: &OpenError) -> bool {
+    matches!(
+        cause,
+        OpenError::OfFile {
+            reason: Reason::DiskTooLong { .. },
+            ..
+        }
+    )
 }
