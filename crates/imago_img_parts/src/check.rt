@@ -63,7 +63,10 @@ pub fn check<H: Host, W: Write, E: Write>(
         (λ files. IsChecked how files path.now verdict)) }
 {
     let Some(found) = find_faults(host, path, how, json, output, errors)? else {
-        let _ = writeln!(errors, "imago-img: {path:?}: a raw file has nothing to check");
+        let _ = writeln!(
+            errors,
+            "imago-img: {path:?}: a raw file has nothing to check"
+        );
         return Ok(None);
     };
     print_sums(host.alloc(), path, found, json, output).map_err(Failure::Output)?;
@@ -164,12 +167,7 @@ fn print_text<W: Write>(found: Found, output: &mut W) -> io::Result<()> {
 }
 
 /// Prints it as a JSON object. A sum that is 0 is left out.
-fn print_json<W: Write>(
-    alloc: Global,
-    path: &str,
-    found: Found,
-    output: &mut W,
-) -> io::Result<()> {
+fn print_json<W: Write>(alloc: Global, path: &str, found: Found, output: &mut W) -> io::Result<()> {
     let (path, format) = (quoted(alloc, path)?, found.format.name());
     write!(output, "{{ \"filename\": {path}, \"format\": \"{format}\"")?;
     write!(output, ", \"check-errors\": 0")?;

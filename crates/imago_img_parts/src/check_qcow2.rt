@@ -109,7 +109,10 @@ fn tell_faults<W: Write>(path: &str, report: &Report, output: &mut W) -> io::Res
         writeln!(output, "{path:?}: {fault}")?;
     }
     if report.faults.len() == MOST_FAULTS {
-        writeln!(output, "{path:?}: only the first {MOST_FAULTS} faults are listed")?;
+        writeln!(
+            output,
+            "{path:?}: only the first {MOST_FAULTS} faults are listed"
+        )?;
     }
     Ok(())
 }

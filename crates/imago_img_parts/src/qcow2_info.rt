@@ -241,13 +241,21 @@ pub fn print_qcow2<W: Write>(report: &Qcow2Report, output: &mut W) -> io::Result
     writeln!(output, "    compat: {}", compat(header))?;
     writeln!(output, "    compression type: {}", compression(header))?;
     if header.version() >= 3 {
-        writeln!(output, "    lazy refcounts: {}", header.has_lazy_refcounts())?;
+        writeln!(
+            output,
+            "    lazy refcounts: {}",
+            header.has_lazy_refcounts()
+        )?;
     }
     writeln!(output, "    refcount bits: {}", report.refcount_bits)?;
     if header.version() >= 3 {
         let unsupported = report.unsupported;
         writeln!(output, "    corrupt: {}", unsupported.has(CORRUPT))?;
-        writeln!(output, "    extended l2: {}", unsupported.has(EXTENDED_ENTRIES))?;
+        writeln!(
+            output,
+            "    extended l2: {}",
+            unsupported.has(EXTENDED_ENTRIES)
+        )?;
     }
     if header.has_bitmaps() {
         writeln!(output, "    bitmaps: valid")?;
@@ -268,7 +276,11 @@ fn print_unsupported<W: Write>(unsupported: Unsupported, output: &mut W) -> io::
     }
     for bit in 0..64u32 {
         if unsupported.has(bit) {
-            writeln!(output, "can't be opened: {}", HeaderFault::Features(1 << bit))?;
+            writeln!(
+                output,
+                "can't be opened: {}",
+                HeaderFault::Features(1 << bit)
+            )?;
         }
     }
     Ok(())
@@ -410,6 +422,12 @@ fn print_snapshot_json<W: Write>(
     write!(output, ", \"vm-state-size\": {}", snapshot.state)?;
     write!(output, ", \"date-sec\": {}", snapshot.seconds)?;
     write!(output, ", \"date-nsec\": {}", snapshot.nanoseconds)?;
-    let (seconds, rest) = (snapshot.clock / 1_000_000_000, snapshot.clock % 1_000_000_000);
-    write!(output, ", \"vm-clock-sec\": {seconds}, \"vm-clock-nsec\": {rest} }}")
+    let (seconds, rest) = (
+        snapshot.clock / 1_000_000_000,
+        snapshot.clock % 1_000_000_000,
+    );
+    write!(
+        output,
+        ", \"vm-clock-sec\": {seconds}, \"vm-clock-nsec\": {rest} }}"
+    )
 }

@@ -112,7 +112,9 @@ fn read_snapshot<S: Storage>(
     let names = behind.checked_add(more).ok_or(SnapshotFault::PastEnd)?;
     let (id, end) = read_text(alloc, file, table, names, number16(&fixed, 12))?;
     let (name, end) = read_text(alloc, file, table, end, number16(&fixed, 14))?;
-    let next = end.checked_next_multiple_of(8).ok_or(SnapshotFault::PastEnd)?;
+    let next = end
+        .checked_next_multiple_of(8)
+        .ok_or(SnapshotFault::PastEnd)?;
     let snapshot = Snapshot {
         id,
         name,

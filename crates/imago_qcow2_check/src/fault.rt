@@ -133,11 +133,17 @@ impl Display for Fault {
             ),
             Fault::Overused { at, count, uses } => {
                 let uses = Uses(uses);
-                write!(f, "the cluster at {at} {uses}, and its refcount is only {count}")
+                write!(
+                    f,
+                    "the cluster at {at} {uses}, and its refcount is only {count}"
+                )
             }
             Fault::Leaked { at, count, uses } => {
                 let uses = Uses(uses);
-                write!(f, "the cluster at {at} {uses}, and its refcount is {count}: a leak")
+                write!(
+                    f,
+                    "the cluster at {at} {uses}, and its refcount is {count}: a leak"
+                )
             }
         }
     }

@@ -211,13 +211,16 @@ module _ (l : Layout) (values : ℕ → Value) (file : List ℕ) (is : IsWritten
         let s = start_here in
         let w : 0 < 8 * words_of l.header.version = words_some l.header.version in
         let positive : 0 < be64 file 8 = omega (arith, s, w) in
-        let count : length n.items ≡ be32 file 16 = ap length same ∙ sym are.count ∙ sym (name_length_is l values file is) in
-        (positive, count, (λ i lt.
-            let a = all in
-            let m : length n.items ≡ length name = ap length same in
-            let there : l.header.names.start + i < length l.header.names.bytes.items = omega (arith, a, lt, m, are.count) in
-            let e : 8 * words_of l.header.version + (l.header.names.start + i) ≡ be64 file 8 + i = omega (arith, s) in
-            ap (λ (x : List ℕ). slice_index x i) same ∙ sym (in_name i) ∙ read (l.header.names.start + i) there ∙ ap (slice_index file) e))
+        let count : length n.items ≡ be32 file 16 = ap length same ∙ sym are.count ∙ sym (name_length_is l values file is) in (
+          positive,
+          count,
+          (λ i lt.
+              let a = all in
+              let m : length n.items ≡ length name = ap length same in
+              let there : l.header.names.start + i < length l.header.names.bytes.items = omega (arith, a, lt, m, are.count) in
+              let e : 8 * words_of l.header.version + (l.header.names.start + i) ≡ be64 file 8 + i = omega (arith, s) in
+              ap (λ (x : List ℕ). slice_index x i) same ∙ sym (in_name i) ∙ read (l.header.names.start + i) there ∙ ap (slice_index file) e),
+        )
 
     ends_here : extensions_end file ≡ 8 * words_of l.header.version + l.header.names.start
     ends_here =
@@ -258,13 +261,16 @@ module _ (l : Layout) (values : ℕ → Value) (file : List ℕ) (is : IsWritten
     format_there n same =
         let o = own_is in
         let w = words_long in
-        let f : format_of file ≡ Ok (Some (own_length file + 8, length n.items)) = format_found ∙ ap (λ x. Ok (Some (own_length file + 8, x))) (sym (ap length same)) in
-        (own_length file + 8, f, (λ i lt.
-            let m : length n.items ≡ length format = ap length same in
-            let less : i < length format = omega (arith, lt, m) in
-            let there : 8 + i < length l.header.names.bytes.items = omega (arith, w, less) in
-            let e : 8 * words_of l.header.version + (8 + i) ≡ own_length file + 8 + i = omega (arith, o) in
-            ap (λ (x : List ℕ). slice_index x i) same ∙ sym (in_format i less) ∙ read (8 + i) there ∙ ap (slice_index file) e))
+        let f : format_of file ≡ Ok (Some (own_length file + 8, length n.items)) = format_found ∙ ap (λ x. Ok (Some (own_length file + 8, x))) (sym (ap length same)) in (
+          own_length file + 8,
+          f,
+          (λ i lt.
+              let m : length n.items ≡ length format = ap length same in
+              let less : i < length format = omega (arith, lt, m) in
+              let there : 8 + i < length l.header.names.bytes.items = omega (arith, w, less) in
+              let e : 8 * words_of l.header.version + (8 + i) ≡ own_length file + 8 + i = omega (arith, o) in
+              ap (λ (x : List ℕ). slice_index x i) same ∙ sym (in_format i less) ∙ read (8 + i) there ∙ ap (slice_index file) e),
+        )
 
     -- all extensions are known
     pub known_here : known_from file (own_length file) (extensions_end file) ≡ true

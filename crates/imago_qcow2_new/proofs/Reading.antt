@@ -130,7 +130,7 @@ module _ (l : Layout) (values : ℕ → Value) (file : List ℕ) (is : IsWritten
       let e : head_word l 1 ≡ name_start l.header = is_field 1 (omega arith) in
       let n = name_start_small in
       word_whole file 8 (head_word l 1) (head_at 1 (let x = behind in omega (arith, x))) (omega (arith, e, n)) ∙ e
-  
+
   pub name_length_is : be32 file 16 ≡ l.header.names.count
   unfolding field_word
   name_length_is =
@@ -379,13 +379,13 @@ module _ (l : Layout) (values : ℕ → Value) (file : List ℕ) (is : IsWritten
         let t : ℕ = (spot l.tables.stored l.tables.extents.items (k / (l.cluster / 8) * l.cluster)).before in
         let at : ℕ = l.tables_start + t + 8 * (k % (l.cluster / 8)) in
         let bytes : (b : ℕ) → b < 8 → slice_index file (at + b) ≡ byte_of (table_word l) (8 * k + b) = λ b less.
-            let r = rest_small in
-            let inside = entry_inside in
-            let here : spot l.tables.stored l.tables.extents.items (8 * k + b) ≡ record { stored = true; before = t + (8 * (k % (l.cluster / 8)) + b) } = sym (spot_is b) ∙ (in_table (k / (l.cluster / 8)) lt st (8 * (k % (l.cluster / 8)) + b) (omega (arith, less, r))).1 in
-            let told : byte_at l.tables_start file (spot l.tables.stored l.tables.extents.items (8 * k + b)) ≡ byte_of (table_word l) (8 * k + b) = is.tables (8 * k + b) (omega (arith, less, inside)) in
-            let moved : slice_index file (l.tables_start + (t + (8 * (k % (l.cluster / 8)) + b))) ≡ byte_of (table_word l) (8 * k + b) = subst (λ (s : Spot). byte_at l.tables_start file s ≡ byte_of (table_word l) (8 * k + b)) here told in
-            let place : at + b ≡ l.tables_start + (t + (8 * (k % (l.cluster / 8)) + b)) = omega arith in
-            ap (slice_index file) place ∙ moved in
+        let r = rest_small in
+        let inside = entry_inside in
+        let here : spot l.tables.stored l.tables.extents.items (8 * k + b) ≡ record { stored = true; before = t + (8 * (k % (l.cluster / 8)) + b) } = sym (spot_is b) ∙ (in_table (k / (l.cluster / 8)) lt st (8 * (k % (l.cluster / 8)) + b) (omega (arith, less, r))).1 in
+        let told : byte_at l.tables_start file (spot l.tables.stored l.tables.extents.items (8 * k + b)) ≡ byte_of (table_word l) (8 * k + b) = is.tables (8 * k + b) (omega (arith, less, inside)) in
+        let moved : slice_index file (l.tables_start + (t + (8 * (k % (l.cluster / 8)) + b))) ≡ byte_of (table_word l) (8 * k + b) = subst (λ (s : Spot). byte_at l.tables_start file s ≡ byte_of (table_word l) (8 * k + b)) here told in
+        let place : at + b ≡ l.tables_start + (t + (8 * (k % (l.cluster / 8)) + b)) = omega arith in
+        ap (slice_index file) place ∙ moved in
         word_whole file at (table_word l k) (word_bytes (table_word l) file k at bytes) (entry_fits k)
 
     pub entry_gone : (spot l.tables.stored l.tables.extents.items (k / (l.cluster / 8) * l.cluster)).stored ≡ false → table_word l k ≡ 0
@@ -393,13 +393,13 @@ module _ (l : Layout) (values : ℕ → Value) (file : List ℕ) (is : IsWritten
     entry_gone st =
         let positive : 0 < l.tables.unit = (let x = least in omega (arith, x, l.tables_unit)) in
         let bytes : (b : ℕ) → b < 8 → slice_index [] (0 + b) ≡ byte_of (table_word l) (8 * k + b) = λ b less.
-            let r = rest_small in
-            let inside = entry_inside in
-            let out : (spot l.tables.stored l.tables.extents.items (8 * k + b)).stored ≡ false = ap (λ (s : Spot). s.stored) (sym (spot_is b))
-            ∙ block_out l.tables.unit l.tables.end l.tables.stored 0 0 l.tables.extents.items l.tables.ordered (k / (l.cluster / 8) * l.cluster) (8 * (k % (l.cluster / 8)) + b) (table_whole (k / (l.cluster / 8)) lt) (omega (arith, less, r, l.tables_unit)) st in
-            let told : byte_at l.tables_start file (spot l.tables.stored l.tables.extents.items (8 * k + b)) ≡ byte_of (table_word l) (8 * k + b) = is.tables (8 * k + b) (omega (arith, less, inside)) in
-            let none : byte_at l.tables_start file (spot l.tables.stored l.tables.extents.items (8 * k + b)) ≡ 0 = rw out refl in
-            sym none ∙ told in
+        let r = rest_small in
+        let inside = entry_inside in
+        let out : (spot l.tables.stored l.tables.extents.items (8 * k + b)).stored ≡ false = ap (λ (s : Spot). s.stored) (sym (spot_is b))
+        ∙ block_out l.tables.unit l.tables.end l.tables.stored 0 0 l.tables.extents.items l.tables.ordered (k / (l.cluster / 8) * l.cluster) (8 * (k % (l.cluster / 8)) + b) (table_whole (k / (l.cluster / 8)) lt) (omega (arith, less, r, l.tables_unit)) st in
+        let told : byte_at l.tables_start file (spot l.tables.stored l.tables.extents.items (8 * k + b)) ≡ byte_of (table_word l) (8 * k + b) = is.tables (8 * k + b) (omega (arith, less, inside)) in
+        let none : byte_at l.tables_start file (spot l.tables.stored l.tables.extents.items (8 * k + b)) ≡ 0 = rw out refl in
+        sym none ∙ told in
         sym (word_whole [] 0 (table_word l k) (word_bytes (table_word l) [] k 0 bytes) (entry_fits k))
 
     -- what a cluster of the disk is

@@ -17,11 +17,15 @@ module _ (e : Extents) (start : ℕ) (values : ℕ → Value) where
   -- a space that is begun
   pub begun : (first : Option (List ℕ)) → Fills e start values first first 0
   begun None = tt
-  begun (Some had) = λ long. (had, refl, record {
-    kept = λ p lt. refl;
-    inside = λ p lt. absurd (omega (arith, lt));
-    len = (let none : (spot e.stored e.extents.items 0).before ≡ 0 = at_start e.unit e.end e.stored 0 0 e.extents.items e.ordered in omega (arith, long, none));
-  })
+  begun (Some had) = λ long. (
+    had,
+    refl,
+    record {
+      kept = λ p lt. refl;
+      inside = λ p lt. absurd (omega (arith, lt));
+      len = (let none : (spot e.stored e.extents.items 0).before ≡ 0 = at_start e.unit e.end e.stored 0 0 e.extents.items e.ordered in omega (arith, long, none));
+    },
+  )
 
   module _ (at n : ℕ) (part : Part) (is : IsPart e.stored e.extents.items at part) (fits : n ≤ part.count) where
     -- where the next stored byte is to be, before and behind

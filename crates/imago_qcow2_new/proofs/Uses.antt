@@ -54,7 +54,6 @@ at_most unit a b positive h = ⊎_elim
     (cases_lt b a)
 
 module _ (l : Layout) (values : ℕ → Value) (file : List ℕ) (is : IsWritten l values file) where
-
   -- what entries are looked at by, in the layout's own words
   abbrev pub by : Setting
   by = record { file = l.end; cluster = l.cluster; version = version_of file; once = is_once file }

@@ -79,6 +79,7 @@ pub(crate) struct HeadWords<'a> {
 
 impl<'a> Words for HeadWords<'a> {
     ghost word = { λ s. head_word s.layout.now };
+
     ghost count = { λ s. s.layout.now.tables_start / 8 };
 
     #[tactic(auto, unfolding(crate::specs::Layout::head_word))]
@@ -108,6 +109,7 @@ pub(crate) struct TableWords<'a> {
 
 impl<'a> Words for TableWords<'a> {
     ghost word = { λ s. table_word s.layout.now };
+
     ghost count = { λ s. s.layout.now.header.l1_count * (s.layout.now.cluster / 8) };
 
     fn word(&self, index: u64) -> u64 {

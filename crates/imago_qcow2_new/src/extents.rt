@@ -30,8 +30,7 @@ pub struct Extents {
     pub(crate) end: u64,
     /// How many bytes are stored in all.
     pub(crate) stored: u64,
-    ghost ordered: { AreExtents unit end stored 0 0 extents.items }
-        by { AreExtents-prop unit end stored 0 0 extents.items },
+    ghost ordered: { AreExtents unit end stored 0 0 extents.items } by { AreExtents-prop unit end stored 0 0 extents.items },
     ghost small: { end < 2 ^ 64 },
 }
 

@@ -17,4 +17,3 @@ pub mod scan;
 mod words;
 pub mod write;
 mod zero;
-

@@ -69,8 +69,7 @@ fn way(alloc: Global, count: u64) -> Result<String, AllocError> {
 /// What is told of a chain of too many files.
 fn too_many(alloc: Global) -> Result<String, AllocError> {
     let told = way(alloc, 200)?;
-    format!(
-        in alloc;
+    format!(in alloc;
         "imago-img: \"0\" needs \"199\": more than 200 files stand one below the other: {told}\n"
     )
 }

@@ -117,8 +117,18 @@ static PARTS: [PartsRow; 6] = [
 
 /// Command lines that make no file.
 static ROWS: [Row; 10] = [
-    ("check shared.qcow2", 0, "No errors were found on the image.\n", ""),
-    ("check open.qcow2", 0, "No errors were found on the image.\n", ""),
+    (
+        "check shared.qcow2",
+        0,
+        "No errors were found on the image.\n",
+        "",
+    ),
+    (
+        "check open.qcow2",
+        0,
+        "No errors were found on the image.\n",
+        "",
+    ),
     (
         "check --json open.qcow2",
         0,
@@ -182,7 +192,12 @@ static ROWS: [Row; 10] = [
         "imago-img: \"one.qcow2\" can't be checked: the check needs more memory than the limit \
         allows; --tables raises it\n",
     ),
-    ("check --tables=56 one.qcow2", 0, "No errors were found on the image.\n", ""),
+    (
+        "check --tables=56 one.qcow2",
+        0,
+        "No errors were found on the image.\n",
+        "",
+    ),
 ];
 
 /// Tries command lines that make no file.

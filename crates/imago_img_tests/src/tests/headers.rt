@@ -26,35 +26,83 @@ const HEADER: Parts = &[
 
 /// Headers that are refused, and yet told by `info`.
 static UNOPENED: [Row; 6] = [
-    (&[(79, b"\x02")], "the header says corrupt, which isn't supported"),
-    (&[(79, b"\x04")], "the header says external data file, which isn't supported"),
-    (&[(79, b"\x10")], "the header says extended L2 entries, which isn't supported"),
-    (&[(72, b"\x80")], "the header says unknown bit 63, which isn't supported"),
+    (
+        &[(79, b"\x02")],
+        "the header says corrupt, which isn't supported",
+    ),
+    (
+        &[(79, b"\x04")],
+        "the header says external data file, which isn't supported",
+    ),
+    (
+        &[(79, b"\x10")],
+        "the header says extended L2 entries, which isn't supported",
+    ),
+    (
+        &[(72, b"\x80")],
+        "the header says unknown bit 63, which isn't supported",
+    ),
     // Left open, corrupt, with extended L2 entries, and bit 9.
-    (&[(78, b"\x02\x13")], "the header says corrupt, which isn't supported"),
-    (&[(35, b"\x01")], "the header says encryption, which isn't supported"),
+    (
+        &[(78, b"\x02\x13")],
+        "the header says corrupt, which isn't supported",
+    ),
+    (
+        &[(35, b"\x01")],
+        "the header says encryption, which isn't supported",
+    ),
 ];
 
 /// Headers that are refused.
 static ROWS: [Row; 12] = [
     // Versions.
-    (&[(7, b"\x04")], "the header says version 4, which isn't supported"),
+    (
+        &[(7, b"\x04")],
+        "the header says version 4, which isn't supported",
+    ),
     // What can't be meant.
-    (&[(3, b"X")], "it isn't a qcow2 image, or ends within its header"),
-    (&[(23, b"\x08")], "the header says clusters of 2^8 bytes, which can't be meant"),
-    (&[(23, b"\x16")], "the header says clusters of 2^22 bytes, which can't be meant"),
+    (
+        &[(3, b"X")],
+        "it isn't a qcow2 image, or ends within its header",
+    ),
+    (
+        &[(23, b"\x08")],
+        "the header says clusters of 2^8 bytes, which can't be meant",
+    ),
+    (
+        &[(23, b"\x16")],
+        "the header says clusters of 2^22 bytes, which can't be meant",
+    ),
     (&[(103, b"\x60")], "the header's own length can't be meant"),
-    (&[(99, b"\x07")], "the header's width of reference counts can't be meant"),
-    (&[(103, b"\x70\x01")], "the header's kind of compression can't be meant"),
+    (
+        &[(99, b"\x07")],
+        "the header's width of reference counts can't be meant",
+    ),
+    (
+        &[(103, b"\x70\x01")],
+        "the header's kind of compression can't be meant",
+    ),
     (
         &[(79, b"\x08"), (103, b"\x70\x02")],
         "the header says compression type 2, which isn't supported",
     ),
     // A name that begins behind the first cluster.
-    (&[(14, b"\x02\x01")], "the header's name of a backing file passes its room"),
-    (&[(39, b"\0")], "the header says an L1 table that is too short for the disk"),
-    (&[(46, b"\x02\x08")], "the header says an L1 table that doesn't begin at a cluster's start"),
-    (&[(46, b"\x08")], "the header says an L1 table that passes the file's end"),
+    (
+        &[(14, b"\x02\x01")],
+        "the header's name of a backing file passes its room",
+    ),
+    (
+        &[(39, b"\0")],
+        "the header says an L1 table that is too short for the disk",
+    ),
+    (
+        &[(46, b"\x02\x08")],
+        "the header says an L1 table that doesn't begin at a cluster's start",
+    ),
+    (
+        &[(46, b"\x08")],
+        "the header says an L1 table that passes the file's end",
+    ),
 ];
 
 /// What is changed in a header, the version, the lengths of the disk and of a cluster that it then
@@ -255,7 +303,10 @@ const SNAPSHOTS: Parts = &[
     (35, b"\x02"),
     (63, b"\x02"),
     (70, b"\x04"),
-    (1037, b"\x01\0\x02\0\0\0\x01\0\0\0\x02\0\0\0\0\x3b\x9a\xca\x03\0\0\0\x09\0\0\0\x08"),
+    (
+        1037,
+        b"\x01\0\x02\0\0\0\x01\0\0\0\x02\0\0\0\0\x3b\x9a\xca\x03\0\0\0\x09\0\0\0\x08",
+    ),
     (1070, b"\x01\0"),
     (1072, b"1a\xff"),
     (1093, b"\x01"),

@@ -56,7 +56,12 @@ static MEANT: [Row; 23] = [
     ("info --output=json plain.raw", 0, PLAIN, ""),
     ("info plain.raw --output json -fraw", 0, PLAIN, ""),
     ("info -U --output=human --json -- plain.raw", 0, PLAIN, ""),
-    ("check -fqcow2 one.qcow2", 0, "No errors were found on the image.\n", ""),
+    (
+        "check -fqcow2 one.qcow2",
+        0,
+        "No errors were found on the image.\n",
+        "",
+    ),
     (
         "check -T none --tables=64k one.qcow2",
         0,

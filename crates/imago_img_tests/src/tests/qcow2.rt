@@ -58,7 +58,12 @@ static ROWS: [Row; 20] = [
         "Content mismatch at offset 0!\n",
         "",
     ),
-    ("check one.qcow2", 0, "No errors were found on the image.\n", ""),
+    (
+        "check one.qcow2",
+        0,
+        "No errors were found on the image.\n",
+        "",
+    ),
     // One above two others.
     (
         "info top.qcow2",

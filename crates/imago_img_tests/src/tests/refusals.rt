@@ -153,7 +153,12 @@ static ROWS: [Row; 28] = [
         "",
         "imago-img: \"plain.raw\": a raw file has nothing to check\n",
     ),
-    ("check /vm/disk.vmdk", 0, "No errors were found on the image.\n", ""),
+    (
+        "check /vm/disk.vmdk",
+        0,
+        "No errors were found on the image.\n",
+        "",
+    ),
     (
         "info /vm/disk.vmdk",
         0,

@@ -7,8 +7,7 @@ use Rattle.imago_img_parts.proofs.run.compare.Goals as goal
 pub returns : goal.returns
 returns g c =
     let contents = g.H.Files.contents c.args.host.now in
-    let asked = c.args.asked in
-    (
+    let asked = c.args.asked in (
       c.are_alike.result,
       c.outcome_of.ensures,
       told_by c.how_to_open-how.result (how_by asked.first_format asked.opening)

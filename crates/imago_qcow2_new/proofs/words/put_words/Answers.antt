@@ -21,6 +21,6 @@ loop-done-preserved g c =
       within = omega (arith, c.min-next.ensures, c.loop-done-test.true);
       same = c.append.ensures.same ∙ c.loop-done.invariant.same;
       put = appended_both (g.T.Target.contents c.args.target.now) mid new (words_from f c.args.from done) (words_from f (c.args.from + done) next) (words_from f c.args.from (done + next))
-      (words_both f c.args.from done next) c.loop-done.invariant.put
-      (subst (λ (x : List ℕ). IsAppended mid new x) is c.in_ok-append.ensures.appended);
+          (words_both f c.args.from done next) c.loop-done.invariant.put
+          (subst (λ (x : List ℕ). IsAppended mid new x) is c.in_ok-append.ensures.appended);
     }
