@@ -24,7 +24,7 @@ static CASES: [Case; 12] = [
     case!(
         "check --alone one.qcow2",
         0,
-        "No faults were found.\n",
+        "No errors were found on the image.\n",
         "",
         None
     ),
@@ -61,7 +61,7 @@ static CASES: [Case; 12] = [
     ),
     case!(
         "check --alone top.qcow2",
-        2,
+        1,
         "",
         "imago-img: \"top.qcow2\": its backing file \"mid.qcow2\" isn't opened: other files \
          aren't permitted\n",
@@ -95,7 +95,7 @@ static CASES: [Case; 12] = [
     ),
     case!(
         "check --alone outside.vmdk",
-        2,
+        1,
         "",
         "imago-img: \"outside.vmdk\": its extent \"/etc/secret\" isn't opened: other files aren't \
          permitted\n",

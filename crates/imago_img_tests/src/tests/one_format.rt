@@ -90,7 +90,7 @@ static CASES: [Case; 23] = [
     ),
     refused!(
         "check --alone vhd.qcow2",
-        2,
+        1,
         "imago-img: \"vhd.qcow2\": it is a qcow2 image, and also a VHD image\n"
     ),
     refused!(
@@ -132,7 +132,7 @@ static CASES: [Case; 23] = [
     ),
     refused!(
         "check --alone -f raw outside.vmdk",
-        2,
+        1,
         "imago-img: \"outside.vmdk\": said to be raw, but it is a VMDK descriptor; say -f vmdk\n"
     ),
     refused!(
@@ -159,12 +159,12 @@ static CASES: [Case; 23] = [
     ),
     refused!(
         "check -f qcow2 dynamic.vhd",
-        2,
+        1,
         "imago-img: \"dynamic.vhd\": said to be qcow2, but it is a VHD image\n"
     ),
     refused!(
         "check -f qcow2 old.qcow",
-        2,
+        1,
         "imago-img: \"old.qcow\": said to be qcow2, but it is a qcow image of version 1\n"
     ),
     refused!(
@@ -181,7 +181,7 @@ static CASES: [Case; 23] = [
     ),
     refused!(
         "check --max-size=1k disk.vmdk",
-        2,
+        1,
         "imago-img: \"disk.vmdk\": its disk has 2048 bytes, and the limit is 1024; --max-size \
          raises it\n"
     ),
@@ -195,8 +195,8 @@ static CASES: [Case; 23] = [
     refused!(
         "map --max-size 2k lower.qcow2",
         1,
-        "imago-img: \"longer.qcow2\": its disk has 2560 bytes, and the limit is 2048; \
-         --max-size raises it\n"
+        "imago-img: \"lower.qcow2\" needs \"longer.qcow2\": its disk has 2560 bytes, and the limit \
+         is 2048; --max-size raises it\n"
     ),
     refused!(
         "compare --max-size 2k one.raw longer.qcow2",
