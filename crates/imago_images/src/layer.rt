@@ -331,7 +331,7 @@ pub fn text_of(alloc: Global, path: &str, name: Vec<u8>) -> Result<String, OpenE
 }
 
 /// The path that a name stands for which the file of that path has.
-pub(crate) fn path_below(alloc: Global, path: &str, name: Vec<u8>) -> Result<String, OpenError>
+pub fn path_below(alloc: Global, path: &str, name: Vec<u8>) -> Result<String, OpenError>
     ensures path { IfOk result (λ next. (file : List ℕ) × (file_named_by name.items ≡ Some file)
         × (string_bytes next ≡ path_beside_file path.now file)) }
     ensures refused { IfErr result (IsRefused path.now
