@@ -3,15 +3,15 @@
 ghost use Rattle.std.specs.Prelude.{◌≡◌, IfOk, codes, is_ok};
 ghost use Rattle.imago_words.specs.declared.format.Format.TheVariants.{Raw};
 ghost use Rattle.imago_words.specs.Reading.{state_of};
-ghost use Rattle.imago_words.specs.Commands.{IsCheck, IsCompare, IsConvert, IsInfo, IsMap};
-ghost use Rattle.imago_words.specs.Commands.{IsOpening};
+ghost use Rattle.imago_words.specs.Commands.{IsCheck, IsCompare, IsConvert, IsInfo, IsMap, IsVet};
+ghost use Rattle.imago_words.specs.Commands.{IsOpening, IsOpeningAlone};
 ghost use Rattle.imago_words.specs.Commands.{format_given, output_given, size_given};
 ghost use Rattle.imago_words.specs.Commands.{format_is_meant, size_is_meant, opening_is_meant};
 ghost use Rattle.imago_words.specs.Commands.{output_is_meant, target_is_meant};
 ghost use Rattle.imago_words.specs.Commands.{info_is_meant, compare_is_meant, convert_is_meant};
 ghost use Rattle.imago_words.specs.Commands.{leaves_holes, sparse_is_meant};
 
-use crate::command::{Check, Compare, Convert, Info, Map, Opening, Output};
+use crate::command::{Check, Compare, Convert, Info, Map, Opening, Output, Vet};
 use crate::fault::Fault;
 use crate::format::Format;
 use crate::size::size_named;
@@ -26,6 +26,7 @@ pub fn info_of<'a>(words: &Words<'a>) -> Result<Info<'a>, Fault<'a>>
         file: words.one_file()?,
         format: format(words, "format")?,
         output: output(words)?,
+        backing_chain: words.has("backing-chain"),
         opening: opening(words)?,
     })
 }
@@ -53,6 +54,19 @@ pub fn check_of<'a>(words: &Words<'a>) -> Result<Check<'a>, Fault<'a>>
         format: format(words, "format")?,
         output: output(words)?,
         opening: opening(words)?,
+    })
+}
+
+/// What words ask of `vet`.
+pub fn vet_of<'a>(words: &Words<'a>) -> Result<Vet<'a>, Fault<'a>>
+    ensures ok { IfOk result (λ vet. IsVet (state_of words.now) vet) }
+    ensures exact { is_ok result ≡ info_is_meant (state_of words.now) }
+{
+    Ok(Vet {
+        file: words.one_file()?,
+        format: format(words, "format")?,
+        output: output(words)?,
+        opening: opening_alone(words)?,
     })
 }
 
@@ -103,6 +117,20 @@ fn opening<'a>(words: &Words<'a>) -> Result<Opening, Fault<'a>>
         strict: words.has("strict"),
         allow_outside: words.has("allow-outside"),
         alone: words.has("alone"),
+        tables: size(words, "tables")?,
+        max_size: size(words, "max-size")?,
+    })
+}
+
+/// What is said of an image that is always alone.
+fn opening_alone<'a>(words: &Words<'a>) -> Result<Opening, Fault<'a>>
+    ensures ok { IfOk result (λ opening. IsOpeningAlone (state_of words.now) opening) }
+    ensures exact { is_ok result ≡ opening_is_meant (state_of words.now) }
+{
+    Ok(Opening {
+        strict: words.has("strict"),
+        allow_outside: false,
+        alone: true,
         tables: size(words, "tables")?,
         max_size: size(words, "max-size")?,
     })

@@ -9,7 +9,7 @@ ghost use Rattle.imago_words.specs.Line.{of_is_meant};
 ghost use Rattle.imago_words.specs.Line.{kind_typed, status_for, status_of};
 ghost use Rattle.imago_words.specs.Reading.{state_of};
 
-use crate::asked::{check_of, compare_of, convert_of, info_of, map_of};
+use crate::asked::{check_of, compare_of, convert_of, info_of, map_of, vet_of};
 use crate::command::Command;
 use crate::fault::Fault;
 use crate::kind::Kind;
@@ -99,6 +99,7 @@ fn asked_of<'a>(kind: Kind, words: &Words<'a>) -> Result<Command<'a>, Fault<'a>>
         Kind::Info => info_of(words).map(Command::Info),
         Kind::Map => map_of(words).map(Command::Map),
         Kind::Check => check_of(words).map(Command::Check),
+        Kind::Vet => vet_of(words).map(Command::Vet),
         Kind::Compare => compare_of(words).map(Command::Compare),
         Kind::Convert => convert_of(words).map(Command::Convert),
     }

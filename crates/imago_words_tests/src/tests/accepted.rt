@@ -3,7 +3,7 @@
 
 use super::set_up::{Case, check_cases};
 
-static CASES: [Case; 24] = [
+static CASES: [Case; 26] = [
     Case {
         words: &["info", "disk.vmdk"],
         status: 0,
@@ -18,6 +18,24 @@ static CASES: [Case; 24] = [
         words: &["info", "disk", "--json", "--strict", "--allow-outside"],
         status: 0,
         text: "info \"disk\" any json strict outside",
+    },
+    Case {
+        words: &["info", "--backing-chain", "disk"],
+        status: 0,
+        text: "info \"disk\" any human chain",
+    },
+    // No other file is opened, whatever is said.
+    Case {
+        words: &[
+            "vet",
+            "--max-size=2T",
+            "--alone",
+            "-fqcow2",
+            "--json",
+            "disk",
+        ],
+        status: 0,
+        text: "vet \"disk\" qcow2 json alone",
     },
     // The last of several values counts.
     Case {

@@ -3,7 +3,7 @@
 
 use super::set_up::{Case, check_cases};
 
-static CASES: [Case; 7] = [
+static CASES: [Case; 8] = [
     Case {
         words: &["--help"],
         status: 0,
@@ -30,6 +30,11 @@ static CASES: [Case; 7] = [
         text: CHECK,
     },
     Case {
+        words: &["vet", "-h"],
+        status: 0,
+        text: VET,
+    },
+    Case {
         words: &["compare", "-Vh"],
         status: 0,
         text: COMPARE,
@@ -49,6 +54,7 @@ Commands:
   info     Describe an image
   map      List where the bytes of an image's disk are stored
   check    Look for errors in an image
+  vet      Tell whether an image from a stranger is safe to hand on
   compare  Compare the disks of two images
   convert  Write an image's disk to another image
 
@@ -57,14 +63,15 @@ imago-img COMMAND --help prints the options of a command.
 
 const INFO: &str = "Describe an image
 
-usage: imago-img info [-f FMT] [--output OFMT] [--json] [-U] [--tables SIZE]
-                      [--max-size SIZE] [--strict] [--allow-outside] [--alone]
-                      [-h] [-V] FILE
+usage: imago-img info [-f FMT] [--output OFMT] [--json] [--backing-chain] [-U]
+                      [--tables SIZE] [--max-size SIZE] [--strict]
+                      [--allow-outside] [--alone] [-h] [-V] FILE
 
 Options:
   -f, --format FMT      The image's format: raw, vmdk or qcow2
       --output OFMT     What is printed: human or json
       --json            The same as --output=json
+      --backing-chain   Describe the backing files too
   -U, --force-share     Accepted and ignored: no file is locked
       --tables SIZE     The most memory for tables: a size such as 64M
       --max-size SIZE   Refuse longer disks: a size such as 2T
@@ -112,6 +119,24 @@ Options:
       --strict          Refuse unknown keys of VMDK descriptors
       --allow-outside   Permit files outside the image's folder
       --alone           Open no other file, whatever an image names
+  -h, --help            Print this help
+  -V, --version         Print the version
+";
+
+const VET: &str = "Tell whether an image from a stranger is safe to hand on
+
+usage: imago-img vet [-f FMT] [--output OFMT] [--json] [-U] [--tables SIZE]
+                     [--max-size SIZE] [--strict] [--alone] [-h] [-V] FILE
+
+Options:
+  -f, --format FMT      The image's format: raw, vmdk or qcow2
+      --output OFMT     What is printed: human or json
+      --json            The same as --output=json
+  -U, --force-share     Accepted and ignored: no file is locked
+      --tables SIZE     The most memory for tables: a size such as 64M
+      --max-size SIZE   Refuse longer disks: a size such as 2T
+      --strict          Refuse unknown keys of VMDK descriptors
+      --alone           Accepted and ignored: no other file is opened
   -h, --help            Print this help
   -V, --version         Print the version
 ";

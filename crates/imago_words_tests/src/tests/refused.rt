@@ -83,10 +83,9 @@ static CASES: [Case; 36] = [
             see imago-img info --help",
     },
     Case {
-        words: &["info", "--backing-chain", "x"],
+        words: &["vet", "--allow-outside", "x"],
         status: 1,
-        text: "info has no --backing-chain: not yet; info describes one image at a time; \
-            see imago-img info --help",
+        text: "vet has no option \"--allow-outside\"; see imago-img vet --help",
     },
     Case {
         words: &["check", "-r", "all", "x"],

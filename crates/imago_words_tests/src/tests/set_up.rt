@@ -65,7 +65,8 @@ fn shown(alloc: Global, command: Command<'_>) -> Result<String, AllocError> {
         Command::Info(info) => {
             let rules = opening(alloc, info.opening)?;
             let (format, output) = (format(info.format), output(info.output));
-            format!(in alloc; "info {:?} {format} {output}{rules}", info.file)
+            let chain = if info.backing_chain { " chain" } else { "" };
+            format!(in alloc; "info {:?} {format} {output}{chain}{rules}", info.file)
         }
         Command::Map(map) => {
             let rules = opening(alloc, map.opening)?;
@@ -76,6 +77,11 @@ fn shown(alloc: Global, command: Command<'_>) -> Result<String, AllocError> {
             let rules = opening(alloc, check.opening)?;
             let (format, output) = (format(check.format), output(check.output));
             format!(in alloc; "check {:?} {format} {output}{rules}", check.file)
+        }
+        Command::Vet(vet) => {
+            let rules = opening(alloc, vet.opening)?;
+            let (format, output) = (format(vet.format), output(vet.output));
+            format!(in alloc; "vet {:?} {format} {output}{rules}", vet.file)
         }
         Command::Compare(compare) => {
             let rules = opening(alloc, compare.opening)?;
@@ -137,8 +143,9 @@ fn opening(alloc: Global, opening: Opening) -> Result<String, AllocError> {
     } else {
         ""
     };
+    let alone = if opening.alone { " alone" } else { "" };
     match opening.tables {
-        None => format!(in alloc; "{strict}{outside}"),
-        Some(size) => format!(in alloc; "{strict}{outside} tables {size}"),
+        None => format!(in alloc; "{strict}{outside}{alone}"),
+        Some(size) => format!(in alloc; "{strict}{outside}{alone} tables {size}"),
     }
 }
