@@ -10,6 +10,7 @@ use Rattle.imago_qcow2.specs.Entry.{l1_start}
 use Rattle.imago_qcow2_check.specs.Counts.{blocks_start, blocks_length}
 use Rattle.imago_qcow2_check.specs.Snapshots.{snapshot_count, snapshots_start}
 use Rattle.imago_qcow2_check.specs.Uses.{setting, l1_count, header_use, snapshots_uses, snapshots_faults, blocks_uses, blocks_faults, uses_of}
+use Rattle.imago_qcow2_check.specs.Bitmaps.{bitmaps_extension, bitmaps_uses, bitmaps_faults}
 use Rattle.imago_qcow2_check.specs.Faults.{table_faults_of}
 use Rattle.imago_qcow2_check.specs.Tallies.{Adds}
 use Rattle.imago_qcow2_check.proofs.TallySteps.{adds_then}
@@ -37,28 +38,33 @@ use Rattle.imago_qcow2_check.specs.Compared.{IsCompared}
 use Rattle.imago_qcow2_check.proofs.SumSteps.{total_same}
 
 -- one part behind the other
-pub uses_adds : (s : Setting) (bytes : List ℕ) (h : Head) → s ≡ setting bytes → IsHead bytes h → (a b c d e : Tally) → Adds a b (use_of s 0 s.cluster) 0
+pub uses_adds : (s : Setting) (bytes : List ℕ) (h : Head) → s ≡ setting bytes → IsHead bytes h → h.bitmaps ≡ bitmaps_extension bytes → (a b c d e f : Tally) → Adds a b (use_of s 0 s.cluster) 0
     → Adds b c (l1_uses s bytes h.l1_start h.l1_count) (l1_faults s bytes true h.l1_start h.l1_count)
     → Adds c d (snapshots_uses s bytes h.snapshots_start h.snapshots_count) (snapshots_faults s bytes h.snapshots_start h.snapshots_count)
     → Adds d e (blocks_uses s bytes h.blocks_start h.blocks_length) (blocks_faults s bytes h.blocks_start h.blocks_length)
-    → Adds a e (uses_of bytes) (table_faults_of bytes)
+    → Adds e f (bitmaps_uses s bytes h.bitmaps) (bitmaps_faults s bytes h.bitmaps)
+    → Adds a f (uses_of bytes) (table_faults_of bytes)
 unfolding uses_of table_faults_of header_use
-uses_adds s bytes h same is a b c d e p q r t =
+uses_adds s bytes h same is place a b c d e f p q r t m =
     let z = setting bytes in
     let p2 : Adds a b (use_of z 0 z.cluster) 0 = rw same at p in
     let q2 : Adds b c (l1_uses z bytes (l1_start bytes) (l1_count bytes)) (l1_faults z bytes true (l1_start bytes) (l1_count bytes)) = rw same at (rw (is.l1_start, is.l1_count) at q) in
     let r2 : Adds c d (snapshots_uses z bytes (snapshots_start bytes) (snapshot_count bytes)) (snapshots_faults z bytes (snapshots_start bytes) (snapshot_count bytes)) = rw same at (rw (is.snapshots_start, is.snapshots_count) at r) in
     let t2 : Adds d e (blocks_uses z bytes (blocks_start bytes) (blocks_length bytes)) (blocks_faults z bytes (blocks_start bytes) (blocks_length bytes)) = rw same at (rw (is.blocks_start, is.blocks_length) at t) in
+    let m2 : Adds e f (bitmaps_uses z bytes (bitmaps_extension bytes)) (bitmaps_faults z bytes (bitmaps_extension bytes)) = rw same at (rw place at m) in
     let f1 = use_of z 0 z.cluster in
     let f2 = l1_uses z bytes (l1_start bytes) (l1_count bytes) in
     let f3 = snapshots_uses z bytes (snapshots_start bytes) (snapshot_count bytes) in
     let f4 = blocks_uses z bytes (blocks_start bytes) (blocks_length bytes) in
+    let f5 = bitmaps_uses z bytes (bitmaps_extension bytes) in
     let x2 = l1_faults z bytes true (l1_start bytes) (l1_count bytes) in
     let x3 = snapshots_faults z bytes (snapshots_start bytes) (snapshot_count bytes) in
     let x4 = blocks_faults z bytes (blocks_start bytes) (blocks_length bytes) in
+    let x5 = bitmaps_faults z bytes (bitmaps_extension bytes) in
     let u = adds_then a b c f1 f2 (λ n. f1 n + f2 n) 0 x2 x2 p2 q2 (λ n. refl) (omega arith) in
     let v = adds_then a c d (λ n. f1 n + f2 n) f3 (λ n. f1 n + f2 n + f3 n) x2 x3 (x2 + x3) u r2 (λ n. refl) refl in
-    adds_then a d e (λ n. f1 n + f2 n + f3 n) f4 (uses_of bytes) (x2 + x3) x4 (table_faults_of bytes) v t2 (λ n. refl) refl
+    let w = adds_then a d e (λ n. f1 n + f2 n + f3 n) f4 (λ n. f1 n + f2 n + f3 n + f4 n) (x2 + x3) x4 (x2 + x3 + x4) v t2 (λ n. refl) refl in
+    adds_then a e f (λ n. f1 n + f2 n + f3 n + f4 n) f5 (uses_of bytes) (x2 + x3 + x4) x5 (table_faults_of bytes) w m2 (λ n. refl) refl
 
 -- the counts that were read are those of the file
 pub count_same : (order cluster : ℕ) (bytes table : List ℕ) (n : ℕ) → order ≡ count_order bytes → cluster ≡ cluster_length bytes → IsReadAt bytes (blocks_start bytes) table → length table ≡ blocks_length bytes

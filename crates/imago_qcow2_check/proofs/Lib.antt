@@ -6,6 +6,7 @@ pub mod CountSteps
 pub mod BlockSteps
 pub mod EntrySteps
 pub mod SnapshotSteps
+pub mod BitmapSteps
 pub mod HeadSteps
 pub mod CheckSteps
 pub mod KnownSteps

@@ -10,6 +10,7 @@ use Rattle.imago_qcow2_check.specs.Clusters.{Setting, cluster_count}
 use Rattle.imago_qcow2_check.specs.Entries.{offset_of, names_table, l1_entry_faults, l2_entry_faults, l2_faults, named_faults, table_faults, l1_faults}
 use Rattle.imago_qcow2_check.specs.Counts.{blocks_start, blocks_length, blocks_count, block_entry, count_of}
 use Rattle.imago_qcow2_check.specs.Snapshots.{snapshot_count, snapshots_start, snapshot_at}
+use Rattle.imago_qcow2_check.specs.Bitmaps.{bitmaps_extension, bitmaps_faults}
 use Rattle.imago_qcow2_check.specs.Uses.{setting, l1_count, snapshot_faults, snapshots_faults, block_faults, blocks_faults, uses_of}
 use Rattle.imago_qcow2_check.specs.Faults.{shared_fault, is_overused, is_leaked, table_faults_of, entry_faults, overused, leaks_of, corruptions_of, verdict_of}
 use Rattle.imago_qcow2_check.specs.Verdicts.{HasValidEntries, IsFaultless, IsCorrupt, HasLeaksAlone, IsVerdict}
@@ -74,6 +75,10 @@ module _ (bytes : List ℕ) where
   unfolding table_faults_of
   snapshots_none e = omega (arith, e)
 
+  bitmaps_none : table_faults_of bytes ≡ 0 → bitmaps_faults (setting bytes) bytes (bitmaps_extension bytes) ≡ 0
+  unfolding table_faults_of
+  bitmaps_none e = omega (arith, e)
+
   blocks_none : table_faults_of bytes ≡ 0 → blocks_faults (setting bytes) bytes (blocks_start bytes) (blocks_length bytes) ≡ 0
   unfolding table_faults_of
   blocks_none e = omega (arith, e)
@@ -91,6 +96,7 @@ module _ (bytes : List ℕ) where
         l1 = λ i h. entry_valid s bytes true (l1_entry bytes i) (each i h);
         l2 = λ i j h named k. l2_valid s bytes true (offset_of (l1_entry bytes i)) j (named_valid s bytes true (l1_entry bytes i) (each i h) named) k;
         snapshots = λ i h. snapshots_valid s bytes (snapshots_start bytes) (snapshot_count bytes) i (snapshots_none t) h;
+        bitmaps = bitmaps_none t;
         blocks = λ i h. blocks_valid s bytes (blocks_start bytes) (blocks_length bytes) i (blocks_none t) h;
         apart = λ i h. shared_none i e h;
       }

@@ -10,6 +10,7 @@ use Rattle.imago_qcow2_check.specs.Entries.{l1_faults}
 use Rattle.imago_qcow2_check.specs.Counts.{blocks_start, blocks_length, blocks_count}
 use Rattle.imago_qcow2_check.specs.Counts.{block_entry, count_of}
 use Rattle.imago_qcow2_check.specs.Snapshots.{snapshot_count, snapshots_start}
+use Rattle.imago_qcow2_check.specs.Bitmaps.{bitmaps_extension, bitmaps_faults}
 use Rattle.imago_qcow2_check.specs.Uses.{setting, l1_count, snapshots_faults, blocks_faults}
 use Rattle.imago_qcow2_check.specs.Uses.{block_length, uses_of}
 
@@ -32,6 +33,7 @@ table_faults_of bytes =
     l1_faults (setting bytes) bytes true (l1_start bytes) (l1_count bytes)
     + snapshots_faults (setting bytes) bytes (snapshots_start bytes) (snapshot_count bytes)
     + blocks_faults (setting bytes) bytes (blocks_start bytes) (blocks_length bytes)
+    + bitmaps_faults (setting bytes) bytes (bitmaps_extension bytes)
 
 -- How many faults the entries of a file have.
 unfoldable pub entry_faults : List ℕ → ℕ

@@ -7,8 +7,10 @@ pub mod Counts
 pub mod CountParts
 pub mod Snapshots
 pub mod SnapshotParts
-pub mod Uses
 pub mod Known
+pub mod Bitmaps
+pub mod BitmapParts
+pub mod Uses
 pub mod HeadParts
 pub mod Faults
 pub mod Verdicts

@@ -12,6 +12,7 @@ use Rattle.imago_qcow2_check.specs.Counts.{blocks_start, blocks_length, count_of
 use Rattle.imago_qcow2_check.specs.Snapshots.{snapshot_count, snapshots_start, snapshot_at}
 use Rattle.imago_qcow2_check.specs.Snapshots.{snapshots_length, snapshot_l1, snapshot_l1_count}
 use Rattle.imago_qcow2_check.specs.Snapshots.{is_invalid_l1}
+use Rattle.imago_qcow2_check.specs.Bitmaps.{bitmaps_extension, bitmaps_uses}
 
 -- cluster n is one of the file's, and has the reference count 1
 abbrev pub is_once : List ℕ → ℕ → Bool
@@ -76,10 +77,12 @@ blocks_faults s bytes start size = past_fault s start size
     + total (λ i. block_faults s (be64 bytes (start + 8 * i))) (size / 8)
 
 -- How often cluster n of a file is used: by the header; by the L1 table, the L2 tables that it
--- names, and what these name; by the same of each snapshot, and by the table of snapshots; and by
--- the table of blocks of counts, and these blocks. Bitmaps use none here.
+-- names, and what these name; by the same of each snapshot, and by the table of snapshots; by the
+-- table of blocks of counts, and these blocks; and by the directory of bitmaps that are valid, their
+-- tables, and what these name.
 unfoldable pub uses_of : List ℕ → ℕ → ℕ
 uses_of bytes n = header_use (setting bytes) n
     + l1_uses (setting bytes) bytes (l1_start bytes) (l1_count bytes) n
     + snapshots_uses (setting bytes) bytes (snapshots_start bytes) (snapshot_count bytes) n
     + blocks_uses (setting bytes) bytes (blocks_start bytes) (blocks_length bytes) n
+    + bitmaps_uses (setting bytes) bytes (bitmaps_extension bytes) n

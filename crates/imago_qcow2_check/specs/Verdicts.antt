@@ -10,11 +10,13 @@ use Rattle.imago_qcow2_check.specs.Entries.{offset_of, names_table, l1_entry_fau
 use Rattle.imago_qcow2_check.specs.Entries.{l2_entry_faults}
 use Rattle.imago_qcow2_check.specs.Counts.{blocks_count, block_entry, count_of}
 use Rattle.imago_qcow2_check.specs.Snapshots.{snapshot_count, snapshots_start, snapshot_at}
+use Rattle.imago_qcow2_check.specs.Bitmaps.{bitmaps_extension, bitmaps_faults}
 use Rattle.imago_qcow2_check.specs.Uses.{setting, l1_count, snapshot_faults, block_faults, uses_of}
 use Rattle.imago_qcow2_check.specs.Faults.{shared_fault, entry_faults}
 
 -- Every entry is valid: those of the L1 table, and of each L2 table that it names; those of each
--- snapshot; and those of the table of blocks of counts, whose blocks are used for nothing else.
+-- snapshot; those of bitmaps that are valid; and those of the table of blocks of counts, whose blocks
+-- are used for nothing else.
 pub record HasValidEntries (bytes : List ℕ) : Type 0 where
   pub l1 : (i : ℕ) → i < l1_count bytes
       → l1_entry_faults (setting bytes) true (l1_entry bytes i) ≡ 0
@@ -24,6 +26,7 @@ pub record HasValidEntries (bytes : List ℕ) : Type 0 where
       ≡ 0
   pub snapshots : (i : ℕ) → i < snapshot_count bytes
       → snapshot_faults (setting bytes) bytes (snapshot_at bytes (snapshots_start bytes) i) ≡ 0
+  pub bitmaps : bitmaps_faults (setting bytes) bytes (bitmaps_extension bytes) ≡ 0
   pub blocks : (i : ℕ) → i < blocks_count bytes
       → block_faults (setting bytes) (block_entry bytes i) ≡ 0
   pub apart : (i : ℕ) → i < blocks_count bytes

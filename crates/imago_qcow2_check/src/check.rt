@@ -8,6 +8,7 @@ ghost use Rattle.imago_qcow2_check.specs.Tallies.{setting_of, Adds};
 ghost use Rattle.imago_qcow2_check.specs.HeadParts.{IsHead};
 ghost use Rattle.imago_qcow2_check.specs.CountParts.{count_from};
 ghost use Rattle.imago_qcow2_check.specs.Counts.{count_of, blocks_count, blocks_start};
+ghost use Rattle.imago_qcow2_check.specs.Bitmaps.{bitmaps_extension};
 ghost use Rattle.imago_qcow2_check.specs.Uses.{setting, uses_of};
 ghost use Rattle.imago_qcow2_check.specs.Faults.{corruptions_of, leaks_of, verdict_of};
 ghost use Rattle.imago_qcow2_check.specs.Faults.{entry_faults};
@@ -16,6 +17,7 @@ ghost use Rattle.imago_qcow2_check.specs.Clusters.{cluster_count};
 ghost use Rattle.imago_qcow2_check.specs.Known.{IsKnown};
 ghost use Rattle.imago_qcow2_check.specs.Verdicts.{IsVerdict};
 
+use crate::bitmaps::look_at_bitmaps;
 use crate::blocks::{compare, look_at_blocks, look_for_shared};
 use crate::counts::read_counts;
 use crate::entry::Place;
@@ -98,6 +100,7 @@ fn count_uses<S: Storage>(
     ensures all { OnOk result (length tally.new.uses.items ≡ shape.clusters) }
     ensures told { IsTrue (S.features storage.now).tells_bytes
         → IsHead (S.bytes storage.now) head
+        → head.bitmaps ≡ bitmaps_extension (S.bytes storage.now)
         → setting_of shape counts.now ≡ setting (S.bytes storage.now)
         → length table.now ≡ head.blocks_length
         → IsReadAt (S.bytes storage.now) head.blocks_start table.now
@@ -121,6 +124,7 @@ fn count_uses<S: Storage>(
         tally,
     )?;
     look_at_blocks(shape, table, head.blocks_start, tally)?;
+    look_at_bitmaps(storage, alloc, shape, head.bitmaps, tally)?;
     Ok(())
 }
 

@@ -20,7 +20,7 @@ use imago_qcow2::layout::{guest_cluster, l2_table};
 use imago_qcow2::number::number64;
 
 /// The bits of an entry below those that say other things than an offset.
-const OFFSETS: u64 = 1 << 56;
+pub(crate) const OFFSETS: u64 = 1 << 56;
 
 /// The bit that says that what the entry names has the reference count 1.
 const COPIED: u64 = 1 << 63;
@@ -51,7 +51,7 @@ pub(crate) fn offset_in(entry: u64) -> u64
 }
 
 /// How many bytes stand at an offset that an entry has.
-fn length_of(shape: Shape, offset: u64) -> u64
+pub(crate) fn length_of(shape: Shape, offset: u64) -> u64
     ensures { result ≡ length_at shape.cluster offset }
 {
     if offset == 0 { 0 } else { shape.cluster }

@@ -20,6 +20,10 @@ pub enum Table {
     Snapshots,
     /// The table of blocks of reference counts.
     CountBlocks,
+    /// The directory of bitmaps.
+    Bitmaps,
+    /// The table of a bitmap.
+    Bitmap,
     /// The header.
     Header,
 }
@@ -89,6 +93,8 @@ impl Display for Table {
             Table::L2 => "an L2 table",
             Table::Snapshots => "the snapshot table",
             Table::CountBlocks => "the refcount table",
+            Table::Bitmaps => "the bitmap directory",
+            Table::Bitmap => "a bitmap's table",
             Table::Header => "the header",
         })
     }
@@ -223,9 +229,17 @@ pub enum CheckError {
     /// A cluster is used more than 2^32 - 2 times.
     #[error("a cluster is used too often to count")]
     TooManyUses,
-    /// Bitmaps, which use clusters.
-    #[error("the image has bitmaps, whose clusters aren't counted")]
-    Bitmaps,
+    /// The directory of bitmaps isn't at a cluster's start, has no entry, more than 65535 of them or
+    /// more bytes than these may have, or its entries end before it or behind it.
+    #[error("the header says a directory of bitmaps that can't be meant")]
+    BitmapDirectory,
+    /// The entry of the directory of bitmaps at that offset, in bytes, says a bitmap that can't be
+    /// meant, or has flags or extra data that aren't known.
+    #[error("the entry of the bitmap directory at {0} can't be meant")]
+    InvalidBitmap(u64),
+    /// The tables of all bitmaps have more than 64 MiB.
+    #[error("the tables of the bitmaps have more than 64 MiB")]
+    BitmapTables,
     /// Autoclear features that aren't known, which may use clusters.
     #[error("the header says autoclear features that aren't known")]
     UnknownFeatures(u64),

@@ -3,11 +3,13 @@
 ghost use Rattle.std.specs.Prelude.{◌≡◌, ℕ, List, ◌+◌, ◌*◌, ◌/◌, ◌%◌, ◌^◌, ◌<◌, ◌≤◌, length, IfOk};
 ghost use Rattle.std.specs.Prelude.{OnOk, IsOk, IsTrue};
 ghost use Rattle.imago_qcow2.specs.Header.{IsClusterSize, header_of, own_length, features_at};
-ghost use Rattle.std.specs.Prelude.{true};
+ghost use Rattle.std.specs.Prelude.{true, nat_eq, if◌then◌else◌};
 ghost use Rattle.imago_qcow2.specs.Numbers.{be32};
 ghost use Rattle.imago_qcow2.specs.Entry.{cluster_length};
 ghost use Rattle.imago_qcow2.specs.Backing.{extensions_end};
-ghost use Rattle.imago_qcow2_check.specs.Known.{is_known_type, known_from, IsKnown};
+ghost use Rattle.imago_qcow2_check.specs.Known.{is_known_type, bitmaps_type, known_from};
+ghost use Rattle.imago_qcow2_check.specs.Known.{IsKnown};
+ghost use Rattle.imago_qcow2_check.specs.Bitmaps.{extension_from, bitmaps_extension};
 ghost use Rattle.imago_qcow2_check.specs.HeadParts.{IsHead};
 ghost use Rattle.imago_qcow2_check.specs.Counts.{count_order};
 
@@ -26,6 +28,12 @@ const LONGEST_COUNT_TABLE: u64 = 8 << 20;
 
 /// The most snapshots that there may be.
 const MOST_SNAPSHOTS: u32 = 65536;
+
+/// The type of the header extension that says where bitmaps are.
+const BITMAPS: u32 = 0x2385_2875;
+
+/// The autoclear feature that says that bitmaps are valid.
+const VALID_BITMAPS: u64 = 1;
 
 /// What the header says.
 #[derive(Clone, Copy)]
@@ -46,6 +54,8 @@ pub(crate) struct Head {
     /// Where the table of snapshots begins, in bytes, and how many there are.
     pub(crate) snapshots_start: u64,
     pub(crate) snapshots_count: u32,
+    /// Where the header extension of bitmaps begins that are valid, or 0.
+    pub(crate) bitmaps: u64,
 }
 
 /// Whether header extensions of that type are known, and use no cluster that isn't counted: the
@@ -54,7 +64,18 @@ pub(crate) struct Head {
 fn is_known(kind: u32) -> bool
     ensures { result ≡ is_known_type kind }
 {
-    kind == 0xe279_2aca || kind == 0x6803_f857 || kind == 0x2385_2875 || kind == 0x4441_5441
+    kind == 0xe279_2aca || kind == 0x6803_f857 || kind == BITMAPS || kind == 0x4441_5441
+}
+
+/// Where the last extension of bitmaps begins, behind one of that type: there, or where one was found
+/// before.
+fn bitmaps_by(kind: u32, at: u64, found: u64) -> u64
+    ensures { result ≡ (if nat_eq kind bitmaps_type then at else found) }
+{
+    if kind == BITMAPS {
+        return at;
+    }
+    found
 }
 
 /// The type of the header extension at that offset of the file, and the length of what it holds, in
@@ -71,22 +92,26 @@ fn extension_at<S: Storage>(storage: &S, alloc: Global, at: u64) -> Result<(u32,
     Ok((number32(&head, 0), number32(&head, 4) as u64))
 }
 
-/// Whether all header extensions are known. They stand from the offset on, and don't pass the end.
+/// Where the last header extension of bitmaps begins, or 0, if all extensions are known. They stand
+/// from the offset on, and don't pass the end.
 fn check_extensions<S: Storage>(
     storage: &S,
     alloc: Global,
     start: u64,
     end: u64,
-) -> Result<(), CheckError>
+) -> Result<u64, CheckError>
     requires { end ≤ 2 ^ 21 }
-    ensures { IsTrue (S.features storage.now).tells_bytes
+    ensures known { IsTrue (S.features storage.now).tells_bytes
         → OnOk result (known_from (S.bytes storage.now) start end ≡ true) }
+    ensures bitmaps { IsTrue (S.features storage.now).tells_bytes
+        → IfOk result (λ b. b ≡ extension_from (S.bytes storage.now) 0 start end) }
 {
     let mut at = start;
+    let mut bitmaps = 0;
     while at < end {
         let (kind, count) = extension_at(storage, alloc, at)?;
         if kind == 0 {
-            return Ok(());
+            return Ok(bitmaps);
         }
         if end - at < 8 + count {
             return Err(CheckError::Extensions);
@@ -94,9 +119,10 @@ fn check_extensions<S: Storage>(
         if !is_known(kind) {
             return Err(CheckError::UnknownExtension(kind));
         }
+        bitmaps = bitmaps_by(kind, at, bitmaps);
         at += 8 + count.next_multiple_of(8);
     }
-    Ok(())
+    Ok(bitmaps)
 }
 
 /// How many bits a reference count has, by the base 2 logarithm.
@@ -151,6 +177,7 @@ fn head_by(head: &[u8], file: u64) -> Result<Head, CheckError>
         l1_count,
         snapshots_start,
         snapshots_count,
+        bitmaps: 0,
     })
 }
 
@@ -192,29 +219,34 @@ fn end_of(head: &[u8], cluster: u64) -> u64
     cluster.min(name)
 }
 
-/// Whether a file whose header is sound has nothing that may use clusters and isn't known.
+/// Where the header extension of bitmaps begins that are valid, or 0, if a file whose header is sound
+/// has nothing that may use clusters and isn't known.
 fn check_known<S: Storage>(
     storage: &S,
     alloc: Global,
     head: &[u8],
     cluster: u64,
-) -> Result<(), CheckError>
+) -> Result<u64, CheckError>
     requires len { 112 ≤ length head.now }
     requires most { cluster ≤ 2 ^ 21 }
-    ensures features { OnOk result (features_at head.now 88 ≡ 0) }
+    ensures features { OnOk result (features_at head.now 88 < 2) }
     ensures extensions { IsTrue (S.features storage.now).tells_bytes
         → cluster ≡ cluster_length head.now → OnOk result
         (known_from (S.bytes storage.now) (own_length head.now) (extensions_end head.now) ≡ true) }
+    ensures bitmaps { IsTrue (S.features storage.now).tells_bytes
+        → cluster ≡ cluster_length head.now → IfOk result
+        (λ b. b ≡ (if nat_eq (features_at head.now 88 % 2) 0 then 0 else
+        extension_from (S.bytes storage.now) 0 (own_length head.now) (extensions_end head.now))) }
 {
     let features = autoclear_features(head);
-    if features == 1 {
-        return Err(CheckError::Bitmaps);
-    }
-    if features > 0 {
+    if features > VALID_BITMAPS {
         return Err(CheckError::UnknownFeatures(features));
     }
-    check_extensions(storage, alloc, length_of(head), end_of(head, cluster))?;
-    Ok(())
+    let bitmaps = check_extensions(storage, alloc, length_of(head), end_of(head, cluster))?;
+    if features == 0 {
+        return Ok(0);
+    }
+    Ok(bitmaps)
 }
 
 /// Reads the header of a file. Refused are a header that has a fault, tables that are too long, and
@@ -226,6 +258,8 @@ pub(crate) fn read_head<S: Storage>(storage: &S, alloc: Global) -> Result<Head, 
         → IfOk result (IsHead (S.bytes storage.now)) }
     ensures known { IsTrue (S.features storage.now).tells_bytes
         → OnOk result (IsKnown (S.bytes storage.now)) }
+    ensures bitmaps { IsTrue (S.features storage.now).tells_bytes
+        → IfOk result (λ h. h.bitmaps ≡ bitmaps_extension (S.bytes storage.now)) }
     ensures file { IfOk result (λ h. h.file ≡ length (S.bytes storage.now)) }
     ensures size { IfOk result (λ h. IsClusterSize h.cluster) }
     ensures widths { IfOk result (λ h. h.order ≤ 6) }
@@ -234,6 +268,6 @@ pub(crate) fn read_head<S: Storage>(storage: &S, alloc: Global) -> Result<Head, 
     let mut head = [0u8; HEAD_LENGTH];
     storage.read(alloc, &mut head, 0)?;
     let says = head_by(&head, file)?;
-    check_known(storage, alloc, &head, says.cluster)?;
-    Ok(says)
+    let bitmaps = check_known(storage, alloc, &head, says.cluster)?;
+    Ok(Head { bitmaps, ..says })
 }

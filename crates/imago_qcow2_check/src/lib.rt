@@ -4,6 +4,7 @@
 //! [`check`] has the check, and [`fault`] what it finds and why a file can't be checked.
 #![tactic(auto)]
 
+mod bitmaps;
 mod blocks;
 pub mod check;
 mod counts;

@@ -1,7 +1,8 @@
 // SPDX-License-Identifier: MIT
 //! Files with faults, and what is said of each.
 //!
-//! Expected verdicts and numbers are those of `qemu-img check`, version 7.2, on the same files.
+//! Expected verdicts and numbers are those of `qemu-img check`, version 7.2, on the same files; only a
+//! file whose entry of a bitmap's table is invalid it doesn't open at all.
 use imago_qcow2::fault::HeaderFault;
 use imago_qcow2_check::check::{Limits, Report, check};
 use imago_qcow2_check::fault::{CheckError, Verdict};
@@ -41,6 +42,33 @@ static BASE: [(usize, u8); 24] = [
     (0x806, 0xa),
 ];
 
+/// How long the file is with a bitmap, in bytes: three more clusters, which are the directory of
+/// bitmaps, the bitmap's table, and its bits.
+const BITMAP_LENGTH: usize = 4608;
+
+/// What the bytes are then that aren't those of the file above.
+static BITMAP: [(usize, u8); 19] = [
+    (0x5f, 0x1),
+    (0x68, 0x23),
+    (0x69, 0x85),
+    (0x6a, 0x28),
+    (0x6b, 0x75),
+    (0x6f, 0x18),
+    (0x73, 0x1),
+    (0x7f, 0x20),
+    (0x86, 0xc),
+    (0x40d, 0x1),
+    (0x40f, 0x1),
+    (0x411, 0x1),
+    (0xc06, 0xe),
+    (0xc0b, 0x1),
+    (0xc10, 0x1),
+    (0xc11, 0x9),
+    (0xc13, 0x1),
+    (0xc18, 0x61),
+    (0xe06, 0x10),
+];
+
 /// Which bytes of the file are changed, how long it is, and what is said of it.
 #[derive(Drop)]
 struct Row {
@@ -52,7 +80,7 @@ struct Row {
     leaks: u64,
 }
 
-static ROWS: [Row; 23] = [
+static ROWS: [Row; 37] = [
     Row {
         name: "an image without a fault",
         changes: &[],
@@ -265,21 +293,148 @@ static ROWS: [Row; 23] = [
         corruptions: 1,
         leaks: 0,
     },
+    Row {
+        name: "a bitmap",
+        changes: &[],
+        length: BITMAP_LENGTH,
+        verdict: Verdict::Faultless,
+        corruptions: 0,
+        leaks: 0,
+    },
+    Row {
+        name: "bitmaps that aren't valid",
+        changes: &[(0x5f, 0x0)],
+        length: BITMAP_LENGTH,
+        verdict: Verdict::Leaks,
+        corruptions: 0,
+        leaks: 3,
+    },
+    Row {
+        name: "valid bitmaps, but no extension",
+        changes: &[(0x68, 0x0), (0x69, 0x0), (0x6a, 0x0), (0x6b, 0x0)],
+        length: BITMAP_LENGTH,
+        verdict: Verdict::Leaks,
+        corruptions: 0,
+        leaks: 3,
+    },
+    Row {
+        name: "a bitmap that was in use",
+        changes: &[(0xc0f, 0x1)],
+        length: BITMAP_LENGTH,
+        verdict: Verdict::Faultless,
+        corruptions: 0,
+        leaks: 0,
+    },
+    Row {
+        name: "a bitmap whose bits are all 1, without a cluster",
+        changes: &[(0xe06, 0x0), (0xe07, 0x1)],
+        length: BITMAP_LENGTH,
+        verdict: Verdict::Leaks,
+        corruptions: 0,
+        leaks: 1,
+    },
+    Row {
+        name: "an L2 entry that names a bitmap's bits",
+        changes: &[(0x806, 0x10)],
+        length: BITMAP_LENGTH,
+        verdict: Verdict::Corrupt,
+        corruptions: 1,
+        leaks: 1,
+    },
+    Row {
+        name: "a bitmap's table that names itself",
+        changes: &[(0xe06, 0xe)],
+        length: BITMAP_LENGTH,
+        verdict: Verdict::Corrupt,
+        corruptions: 1,
+        leaks: 1,
+    },
+    Row {
+        name: "the directory of bitmaps with the count 0",
+        changes: &[(0x40d, 0x0)],
+        length: BITMAP_LENGTH,
+        verdict: Verdict::Corrupt,
+        corruptions: 1,
+        leaks: 0,
+    },
+    Row {
+        name: "a bitmap's table with the count 2",
+        changes: &[(0x40f, 0x2)],
+        length: BITMAP_LENGTH,
+        verdict: Verdict::Leaks,
+        corruptions: 0,
+        leaks: 1,
+    },
+    Row {
+        name: "a bitmap's table past the end",
+        changes: &[(0xc06, 0x12)],
+        length: BITMAP_LENGTH,
+        verdict: Verdict::Corrupt,
+        corruptions: 1,
+        leaks: 2,
+    },
+    Row {
+        name: "a bitmap's bits past the end",
+        changes: &[(0xe06, 0x12)],
+        length: BITMAP_LENGTH,
+        verdict: Verdict::Corrupt,
+        corruptions: 1,
+        leaks: 1,
+    },
+    Row {
+        name: "a reserved bit of an entry of a bitmap's table",
+        changes: &[(0xe00, 0x1)],
+        length: BITMAP_LENGTH,
+        verdict: Verdict::Corrupt,
+        corruptions: 1,
+        leaks: 0,
+    },
+    Row {
+        name: "a bitmap's bits that don't begin where a cluster does",
+        changes: &[(0xe07, 0x2)],
+        length: BITMAP_LENGTH,
+        verdict: Verdict::Corrupt,
+        corruptions: 1,
+        leaks: 0,
+    },
+    Row {
+        name: "two extensions of bitmaps, of which the last one counts",
+        changes: &[
+            (0x7f, 0x0),
+            (0x86, 0xe),
+            (0x88, 0x23),
+            (0x89, 0x85),
+            (0x8a, 0x28),
+            (0x8b, 0x75),
+            (0x8f, 0x18),
+            (0x93, 0x1),
+            (0x9f, 0x20),
+            (0xa6, 0xc),
+        ],
+        length: BITMAP_LENGTH,
+        verdict: Verdict::Faultless,
+        corruptions: 0,
+        leaks: 0,
+    },
 ];
 
-/// The file that has no fault, with these changes.
-fn file(alloc: Global, changes: &[(usize, u8)], count: usize) -> Result<MemStorage, AllocError> {
-    let mut bytes = vec![in alloc; 0u8; count]?;
-    for (at, byte) in &BASE {
-        if *at < bytes.len() {
-            bytes[*at] = *byte;
-        }
-    }
+/// Puts bytes at their offsets, as far as there are any.
+fn put(bytes: &mut [u8], changes: &[(usize, u8)]) {
     for (at, byte) in changes {
         if *at < bytes.len() {
             bytes[*at] = *byte;
         }
     }
+}
+
+/// The file that has no fault, with these changes; from that of a bitmap's length on, it has one.
+fn file(alloc: Global, changes: &[(usize, u8)], count: usize) -> Result<MemStorage, AllocError> {
+    let mut bytes = vec![in alloc; 0u8; count]?;
+    put(&mut bytes, &BASE);
+    if count >= BITMAP_LENGTH {
+        put(&mut bytes, &BITMAP);
+    }
+    put(&mut bytes, changes);
     Ok(MemStorage::new(bytes))
 }
 
@@ -320,57 +475,150 @@ fn check_rows(rt: &impl Abort, alloc: Global) {
 #[derive(Drop)]
 struct Refused {
     changes: &'static [(usize, u8)],
+    length: usize,
     memory: u64,
     fault: CheckError,
 }
 
-static REFUSED: [Refused; 8] = [
+static REFUSED: [Refused; 22] = [
     // six clusters need 48 bytes
     Refused {
         changes: &[],
+        length: LENGTH,
         memory: 47,
         fault: CheckError::TooLarge,
     },
     Refused {
-        changes: &[(95, 1)],
-        memory: 48,
-        fault: CheckError::Bitmaps,
-    },
-    Refused {
         changes: &[(95, 4)],
+        length: LENGTH,
         memory: 48,
         fault: CheckError::UnknownFeatures(4),
     },
     Refused {
         changes: &[(104, 0x12), (111, 8)],
+        length: LENGTH,
         memory: 48,
         fault: CheckError::UnknownExtension(0x1200_0000),
     },
     Refused {
         changes: &[(104, 0x12), (110, 2)],
+        length: LENGTH,
         memory: 48,
         fault: CheckError::Extensions,
     },
     Refused {
         changes: &[(36, 1)],
+        length: LENGTH,
         memory: 48,
         fault: CheckError::Header(HeaderFault::TableBehindEnd),
     },
     Refused {
         changes: &[(55, 1)],
+        length: LENGTH,
         memory: 48,
         fault: CheckError::CountTable,
     },
     Refused {
         changes: &[(63, 1), (71, 1)],
+        length: LENGTH,
         memory: 48,
         fault: CheckError::SnapshotTable,
+    },
+    Refused {
+        changes: &[(0x5f, 0x3)],
+        length: BITMAP_LENGTH,
+        memory: 72,
+        fault: CheckError::UnknownFeatures(3),
+    },
+    Refused {
+        changes: &[(0x6f, 0x20)],
+        length: BITMAP_LENGTH,
+        memory: 72,
+        fault: CheckError::BitmapDirectory,
+    },
+    Refused {
+        changes: &[(0x77, 0x1)],
+        length: BITMAP_LENGTH,
+        memory: 72,
+        fault: CheckError::BitmapDirectory,
+    },
+    Refused {
+        changes: &[(0x73, 0x0)],
+        length: BITMAP_LENGTH,
+        memory: 72,
+        fault: CheckError::BitmapDirectory,
+    },
+    Refused {
+        changes: &[(0x87, 0x8)],
+        length: BITMAP_LENGTH,
+        memory: 72,
+        fault: CheckError::BitmapDirectory,
+    },
+    Refused {
+        changes: &[(0x7f, 0x18)],
+        length: BITMAP_LENGTH,
+        memory: 72,
+        fault: CheckError::BitmapDirectory,
+    },
+    Refused {
+        changes: &[(0x7f, 0x28)],
+        length: BITMAP_LENGTH,
+        memory: 72,
+        fault: CheckError::BitmapDirectory,
+    },
+    Refused {
+        changes: &[(0x71, 0x1)],
+        length: BITMAP_LENGTH,
+        memory: 72,
+        fault: CheckError::BitmapDirectory,
+    },
+    Refused {
+        changes: &[(0x73, 0x2)],
+        length: BITMAP_LENGTH,
+        memory: 72,
+        fault: CheckError::InvalidBitmap(0xc20),
+    },
+    Refused {
+        changes: &[(0x86, 0x12)],
+        length: BITMAP_LENGTH,
+        memory: 72,
+        fault: CheckError::InvalidBitmap(0x1200),
+    },
+    Refused {
+        changes: &[(0xc0f, 0x4)],
+        length: BITMAP_LENGTH,
+        memory: 72,
+        fault: CheckError::InvalidBitmap(0xc00),
+    },
+    Refused {
+        changes: &[(0xc17, 0x8), (0x7f, 0x28)],
+        length: BITMAP_LENGTH,
+        memory: 72,
+        fault: CheckError::InvalidBitmap(0xc00),
+    },
+    Refused {
+        changes: &[(0xc06, 0x0)],
+        length: BITMAP_LENGTH,
+        memory: 72,
+        fault: CheckError::InvalidBitmap(0xc00),
+    },
+    Refused {
+        changes: &[(0xc09, 0x10)],
+        length: BITMAP_LENGTH,
+        memory: 72,
+        fault: CheckError::InvalidBitmap(0xc00),
+    },
+    Refused {
+        changes: &[(0xc0b, 0x0)],
+        length: BITMAP_LENGTH,
+        memory: 72,
+        fault: CheckError::InvalidBitmap(0xc00),
     },
 ];
 
 /// Whether a file is refused as it should be.
 fn is_refused(alloc: Global, row: &Refused) -> bool {
-    match answer(alloc, row.changes, LENGTH, row.memory) {
+    match answer(alloc, row.changes, row.length, row.memory) {
         Ok(_) => false,
         Err(fault) => fault == row.fault,
     }
