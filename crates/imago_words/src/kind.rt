@@ -6,7 +6,7 @@ ghost use Rattle.imago_words.specs.Options.{options_of};
 ghost use Rattle.imago_words.specs.Reading.{known};
 
 use crate::page::Page;
-use crate::table::{CHECK, COMPARE, CONVERT, INFO, MAP};
+use crate::table::{CHECK, COMPARE, CONVERT, CREATE, INFO, MAP, MEASURE, RESIZE};
 
 /// Which command it is.
 #[derive(Clone, Copy, PartialEq, Eq)]
@@ -21,15 +21,24 @@ pub enum Kind {
     Compare,
     /// `convert`, which writes an image's disk to another image.
     Convert,
+    /// `create`, which makes a new image.
+    Create,
+    /// `measure`, which tells how long the file of a new image would be.
+    Measure,
+    /// `resize`, which changes the length of a raw image.
+    Resize,
 }
 
 /// The commands in the order in which help lists them.
-pub(crate) static KINDS: [Kind; 5] = [
+pub(crate) static KINDS: [Kind; 8] = [
     Kind::Info,
     Kind::Map,
     Kind::Check,
     Kind::Compare,
     Kind::Convert,
+    Kind::Create,
+    Kind::Measure,
+    Kind::Resize,
 ];
 
 impl Kind {
@@ -44,6 +53,9 @@ impl Kind {
             "check" => Some(Kind::Check),
             "compare" => Some(Kind::Compare),
             "convert" => Some(Kind::Convert),
+            "create" => Some(Kind::Create),
+            "measure" => Some(Kind::Measure),
+            "resize" => Some(Kind::Resize),
             _ => None,
         }
     }
@@ -58,6 +70,9 @@ impl Kind {
             Kind::Check => CHECK,
             Kind::Compare => COMPARE,
             Kind::Convert => CONVERT,
+            Kind::Create => CREATE,
+            Kind::Measure => MEASURE,
+            Kind::Resize => RESIZE,
         }
     }
 }

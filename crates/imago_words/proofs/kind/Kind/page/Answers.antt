@@ -17,3 +17,12 @@ returns-in-Compare c = search rules
 
 pub returns-in-Convert : goal.returns-in-Convert
 returns-in-Convert c = search rules
+
+pub returns-in-Create : goal.returns-in-Create
+returns-in-Create c = search rules
+
+pub returns-in-Measure : goal.returns-in-Measure
+returns-in-Measure c = search rules
+
+pub returns-in-Resize : goal.returns-in-Resize
+returns-in-Resize c = search rules
