@@ -9,7 +9,8 @@ use Rattle.imago_words.specs.Sizes.{size_from, unit_of}
 use Rattle.imago_words.specs.declared.command.Command.{Command}
 use Rattle.imago_words.specs.declared.command.Command.TheVariants as Asked
 use Rattle.imago_words.specs.declared.kind.Kind.{Kind}
-use Rattle.imago_words.specs.declared.kind.Kind.TheVariants.{Info, Map, Check, Compare, Convert}
+use Rattle.imago_words.specs.declared.kind.Kind.TheVariants.{Info, Map, Check, Vet}
+use Rattle.imago_words.specs.declared.kind.Kind.TheVariants.{Compare, Convert}
 use Rattle.imago_words.specs.declared.kind.Kind.TheVariants.{Create, Measure, Resize}
 use Rattle.imago_words.specs.declared.settings.NewFormat.TheVariants.{Raw}
 use Rattle.imago_words.specs.Laws.{IsWorked, options_differ, refused_line, worked_line}
@@ -47,6 +48,7 @@ worked_asks Asked.Version a = a
 worked_asks (Asked.Info _) a = a
 worked_asks (Asked.Map _) a = a
 worked_asks (Asked.Check _) a = a
+worked_asks (Asked.Vet _) a = a
 worked_asks (Asked.Compare _) a = a
 worked_asks (Asked.Create _) a = a
 worked_asks (Asked.Measure _) a = a
@@ -81,6 +83,7 @@ pub differ : (kind : Kind) → options_differ (options_of kind) ≡ true
 differ Info = refl
 differ Map = refl
 differ Check = refl
+differ Vet = refl
 differ Compare = refl
 differ Convert = refl
 differ Create = refl

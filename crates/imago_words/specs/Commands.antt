@@ -19,6 +19,7 @@ use Rattle.imago_words.specs.declared.command.Measured.TheVariants as M
 use Rattle.imago_words.specs.declared.command.Opening.{Opening}
 use Rattle.imago_words.specs.declared.command.Resize.{Resize}
 use Rattle.imago_words.specs.declared.command.Output.{Output}
+use Rattle.imago_words.specs.declared.command.Vet.{Vet}
 use Rattle.imago_words.specs.declared.command.Output.TheVariants.{Human, Json}
 use Rattle.imago_words.specs.declared.format.Format.{Format}
 use Rattle.imago_words.specs.declared.format.Format.TheVariants.{Raw, Vmdk, Qcow2}
@@ -102,10 +103,19 @@ pub record IsOpening (s : State) (o : Opening) : Type 0 where
   pub tables : o.tables ≡ size_given (codes "tables") s
   pub max_size : o.max_size ≡ size_given (codes "max-size") s
 
+-- that of a command which opens no file but those that the command line names
+pub record IsOpeningAlone (s : State) (o : Opening) : Type 0 where
+  pub strict : o.strict ≡ was_given (codes "strict") s
+  pub allow_outside : o.allow_outside ≡ false
+  pub alone : o.alone ≡ true
+  pub tables : o.tables ≡ size_given (codes "tables") s
+  pub max_size : o.max_size ≡ size_given (codes "max-size") s
+
 pub record IsInfo (s : State) (i : Info) : Type 0 where
   pub files : s.files ≡ i.file.now ∷ []
   pub format : i.format ≡ format_given (codes "format") s
   pub output : i.output ≡ output_given s
+  pub backing_chain : i.backing_chain ≡ was_given (codes "backing-chain") s
   pub opening : IsOpening s i.opening
 
 pub record IsMap (s : State) (m : Map) : Type 0 where
@@ -119,6 +129,12 @@ pub record IsCheck (s : State) (c : Check) : Type 0 where
   pub format : c.format ≡ format_given (codes "format") s
   pub output : c.output ≡ output_given s
   pub opening : IsOpening s c.opening
+
+pub record IsVet (s : State) (v : Vet) : Type 0 where
+  pub files : s.files ≡ v.file.now ∷ []
+  pub format : v.format ≡ format_given (codes "format") s
+  pub output : v.output ≡ output_given s
+  pub opening : IsOpeningAlone s v.opening
 
 pub record IsCompare (s : State) (c : Compare) : Type 0 where
   pub files : s.files ≡ c.first.now ∷ c.second.now ∷ []

@@ -6,10 +6,11 @@ use Rattle.std.specs.Str.{bytes_eq}
 use Rattle.imago_words.specs.declared.command.Command.{Command}
 use Rattle.imago_words.specs.declared.command.Command.TheVariants as Asked
 use Rattle.imago_words.specs.declared.kind.Kind.{Kind}
-use Rattle.imago_words.specs.declared.kind.Kind.TheVariants.{Info, Map, Check, Compare, Convert}
+use Rattle.imago_words.specs.declared.kind.Kind.TheVariants.{Info, Map, Check, Vet}
+use Rattle.imago_words.specs.declared.kind.Kind.TheVariants.{Compare, Convert}
 use Rattle.imago_words.specs.declared.kind.Kind.TheVariants.{Create, Measure, Resize}
 use Rattle.imago_words.specs.declared.refusal.Refusal.{Refusal}
-use Rattle.imago_words.specs.Commands.{IsCheck, IsCompare, IsConvert, IsInfo, IsMap}
+use Rattle.imago_words.specs.Commands.{IsCheck, IsCompare, IsConvert, IsInfo, IsMap, IsVet}
 use Rattle.imago_words.specs.Commands.{IsCreate, IsMeasure, IsResize}
 use Rattle.imago_words.specs.Commands.{info_is_meant, compare_is_meant, convert_is_meant}
 use Rattle.imago_words.specs.Commands.{create_is_meant, measure_is_meant, resize_is_meant}
@@ -20,6 +21,7 @@ unfoldable pub kind_named : Text → Option Kind
 kind_named name = if bytes_eq name (codes "info") then Some Info else
     if bytes_eq name (codes "map") then Some Map else
     if bytes_eq name (codes "check") then Some Check else
+    if bytes_eq name (codes "vet") then Some Vet else
     if bytes_eq name (codes "compare") then Some Compare else
     if bytes_eq name (codes "convert") then Some Convert else
     if bytes_eq name (codes "create") then Some Create else
@@ -43,6 +45,7 @@ abbrev pub IsOf : Kind → State → Command → Type 0
 IsOf Info s (Asked.Info c) = IsInfo s c
 IsOf Map s (Asked.Map c) = IsMap s c
 IsOf Check s (Asked.Check c) = IsCheck s c
+IsOf Vet s (Asked.Vet c) = IsVet s c
 IsOf Compare s (Asked.Compare c) = IsCompare s c
 IsOf Convert s (Asked.Convert c) = IsConvert s c
 IsOf Create s (Asked.Create c) = IsCreate s c
@@ -58,6 +61,7 @@ abbrev pub of_is_meant : Kind → State → Bool
 of_is_meant Info s = info_is_meant s
 of_is_meant Map s = info_is_meant s
 of_is_meant Check s = info_is_meant s
+of_is_meant Vet s = info_is_meant s
 of_is_meant Compare s = compare_is_meant s
 of_is_meant Convert s = convert_is_meant s
 of_is_meant Create s = create_is_meant s

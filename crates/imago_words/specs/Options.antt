@@ -3,7 +3,8 @@
 -- SPDX-License-Identifier: MIT
 use Rattle.std.specs.Prelude.{◌∷◌, true, false, List, [], codes}
 use Rattle.imago_words.specs.declared.kind.Kind.{Kind}
-use Rattle.imago_words.specs.declared.kind.Kind.TheVariants.{Info, Map, Check, Compare, Convert}
+use Rattle.imago_words.specs.declared.kind.Kind.TheVariants.{Info, Map, Check, Vet}
+use Rattle.imago_words.specs.declared.kind.Kind.TheVariants.{Compare, Convert}
 use Rattle.imago_words.specs.declared.kind.Kind.TheVariants.{Create, Measure, Resize}
 use Rattle.imago_words.specs.Reading.{Known, Text}
 
@@ -20,6 +21,7 @@ info_options =
     valued (codes "format") (codes "f") (codes "format")
     ∷ valued (codes "output") [] (codes "output")
     ∷ flag (codes "json") [] (codes "json")
+    ∷ flag (codes "backing-chain") [] (codes "backing-chain")
     ∷ flag (codes "force-share") (codes "U") (codes "force-share")
     ∷ valued (codes "tables") [] (codes "tables")
     ∷ valued (codes "max-size") [] (codes "max-size")
@@ -56,6 +58,20 @@ check_options =
     ∷ valued (codes "max-size") [] (codes "max-size")
     ∷ flag (codes "strict") [] (codes "strict")
     ∷ flag (codes "allow-outside") [] (codes "allow-outside")
+    ∷ flag (codes "alone") [] (codes "alone")
+    ∷ flag (codes "help") (codes "h") (codes "help")
+    ∷ flag (codes "version") (codes "V") (codes "version")
+    ∷ []
+
+abbrev pub vet_options : List Known
+vet_options =
+    valued (codes "format") (codes "f") (codes "format")
+    ∷ valued (codes "output") [] (codes "output")
+    ∷ flag (codes "json") [] (codes "json")
+    ∷ flag (codes "force-share") (codes "U") (codes "force-share")
+    ∷ valued (codes "tables") [] (codes "tables")
+    ∷ valued (codes "max-size") [] (codes "max-size")
+    ∷ flag (codes "strict") [] (codes "strict")
     ∷ flag (codes "alone") [] (codes "alone")
     ∷ flag (codes "help") (codes "h") (codes "help")
     ∷ flag (codes "version") (codes "V") (codes "version")
@@ -153,6 +169,7 @@ abbrev pub options_of : Kind → List Known
 options_of Info = info_options
 options_of Map = map_options
 options_of Check = check_options
+options_of Vet = vet_options
 options_of Compare = compare_options
 options_of Convert = convert_options
 options_of Create = create_options

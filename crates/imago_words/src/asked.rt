@@ -2,9 +2,9 @@
 //! What the words behind a command's name ask of it: a function for each command.
 ghost use Rattle.std.specs.Prelude.{◌≡◌, ◌||◌, IfOk, codes, is_ok, not, option_map};
 ghost use Rattle.imago_words.specs.Reading.{state_of};
-ghost use Rattle.imago_words.specs.Commands.{IsCheck, IsCompare, IsConvert, IsInfo, IsMap};
+ghost use Rattle.imago_words.specs.Commands.{IsCheck, IsCompare, IsConvert, IsInfo, IsMap, IsVet};
 ghost use Rattle.imago_words.specs.Commands.{IsCreate, IsMeasure, IsResize};
-ghost use Rattle.imago_words.specs.Commands.{IsBacking, IsMeasured, IsOpening};
+ghost use Rattle.imago_words.specs.Commands.{IsBacking, IsMeasured, IsOpening, IsOpeningAlone};
 ghost use Rattle.imago_words.specs.Commands.{format_given, output_given, size_given};
 ghost use Rattle.imago_words.specs.Commands.{format_is_meant, size_is_meant, opening_is_meant};
 ghost use Rattle.imago_words.specs.Commands.{output_is_meant};
@@ -18,7 +18,7 @@ ghost use Rattle.imago_words.specs.Reading.{was_given};
 
 use crate::command::{
     Backing, Change, Check, Compare, Convert, Create, Info, Map, Measure, Measured, Opening,
-    Output, Resize,
+    Output, Resize, Vet,
 };
 use crate::cut::cut_letter;
 use crate::fault::Fault;
@@ -36,6 +36,7 @@ pub fn info_of<'a>(words: &Words<'a>) -> Result<Info<'a>, Fault<'a>>
         file: words.one_file()?,
         format: format(words, "format")?,
         output: output(words)?,
+        backing_chain: words.has("backing-chain"),
         opening: opening(words)?,
     })
 }
@@ -63,6 +64,19 @@ pub fn check_of<'a>(words: &Words<'a>) -> Result<Check<'a>, Fault<'a>>
         format: format(words, "format")?,
         output: output(words)?,
         opening: opening(words)?,
+    })
+}
+
+/// What words ask of `vet`.
+pub fn vet_of<'a>(words: &Words<'a>) -> Result<Vet<'a>, Fault<'a>>
+    ensures ok { IfOk result (λ vet. IsVet (state_of words.now) vet) }
+    ensures exact { is_ok result ≡ info_is_meant (state_of words.now) }
+{
+    Ok(Vet {
+        file: words.one_file()?,
+        format: format(words, "format")?,
+        output: output(words)?,
+        opening: opening_alone(words)?,
     })
 }
 
@@ -247,6 +261,20 @@ fn opening<'a>(words: &Words<'a>) -> Result<Opening, Fault<'a>>
         strict: words.has("strict"),
         allow_outside: words.has("allow-outside"),
         alone: words.has("alone"),
+        tables: size(words, "tables")?,
+        max_size: size(words, "max-size")?,
+    })
+}
+
+/// What is said of an image that is always alone.
+fn opening_alone<'a>(words: &Words<'a>) -> Result<Opening, Fault<'a>>
+    ensures ok { IfOk result (λ opening. IsOpeningAlone (state_of words.now) opening) }
+    ensures exact { is_ok result ≡ opening_is_meant (state_of words.now) }
+{
+    Ok(Opening {
+        strict: words.has("strict"),
+        allow_outside: false,
+        alone: true,
         tables: size(words, "tables")?,
         max_size: size(words, "max-size")?,
     })

@@ -17,6 +17,8 @@ pub enum Command<'a> {
     Map(Map<'a>),
     /// To look for the faults of an image.
     Check(Check<'a>),
+    /// To tell whether an image from a stranger is safe to hand on.
+    Vet(Vet<'a>),
     /// To tell whether two images have the same disk.
     Compare(Compare<'a>),
     /// To write an image's disk to another image.
@@ -80,6 +82,8 @@ pub struct Info<'a> {
     pub format: Option<Format>,
     /// How it is printed.
     pub output: Output,
+    /// Whether the files below are described too.
+    pub backing_chain: bool,
     /// What holds of each image.
     pub opening: Opening,
 }
@@ -107,6 +111,19 @@ pub struct Check<'a> {
     /// How it is printed.
     pub output: Output,
     /// What holds of each image.
+    pub opening: Opening,
+}
+
+/// What `vet` is asked.
+#[derive(Clone, Copy)]
+pub struct Vet<'a> {
+    /// The path of the image.
+    pub file: &'a str,
+    /// The format of the image, if it was said.
+    pub format: Option<Format>,
+    /// How it is printed.
+    pub output: Output,
+    /// What holds of the image: always that no other file is opened.
     pub opening: Opening,
 }
 

@@ -6,7 +6,7 @@ ghost use Rattle.imago_words.specs.Options.{options_of};
 ghost use Rattle.imago_words.specs.Reading.{known};
 
 use crate::page::Page;
-use crate::table::{CHECK, COMPARE, CONVERT, CREATE, INFO, MAP, MEASURE, RESIZE};
+use crate::table::{CHECK, COMPARE, CONVERT, CREATE, INFO, MAP, MEASURE, RESIZE, VET};
 
 /// Which command it is.
 #[derive(Clone, Copy, PartialEq, Eq)]
@@ -17,6 +17,8 @@ pub enum Kind {
     Map,
     /// `check`, which looks for the faults of an image.
     Check,
+    /// `vet`, which tells whether an image from a stranger is safe to hand on.
+    Vet,
     /// `compare`, which tells whether two images have the same disk.
     Compare,
     /// `convert`, which writes an image's disk to another image.
@@ -30,10 +32,11 @@ pub enum Kind {
 }
 
 /// The commands in the order in which help lists them.
-pub(crate) static KINDS: [Kind; 8] = [
+pub(crate) static KINDS: [Kind; 9] = [
     Kind::Info,
     Kind::Map,
     Kind::Check,
+    Kind::Vet,
     Kind::Compare,
     Kind::Convert,
     Kind::Create,
@@ -51,6 +54,7 @@ impl Kind {
             "info" => Some(Kind::Info),
             "map" => Some(Kind::Map),
             "check" => Some(Kind::Check),
+            "vet" => Some(Kind::Vet),
             "compare" => Some(Kind::Compare),
             "convert" => Some(Kind::Convert),
             "create" => Some(Kind::Create),
@@ -68,6 +72,7 @@ impl Kind {
             Kind::Info => INFO,
             Kind::Map => MAP,
             Kind::Check => CHECK,
+            Kind::Vet => VET,
             Kind::Compare => COMPARE,
             Kind::Convert => CONVERT,
             Kind::Create => CREATE,

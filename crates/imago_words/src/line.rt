@@ -10,7 +10,7 @@ ghost use Rattle.imago_words.specs.Line.{kind_typed, status_for, status_of};
 ghost use Rattle.imago_words.specs.Reading.{state_of};
 
 use crate::asked::{
-    check_of, compare_of, convert_of, create_of, info_of, map_of, measure_of, resize_of,
+    check_of, compare_of, convert_of, create_of, info_of, map_of, measure_of, resize_of, vet_of,
 };
 use crate::command::Command;
 use crate::fault::Fault;
@@ -101,6 +101,7 @@ fn asked_of<'a>(kind: Kind, words: &Words<'a>) -> Result<Command<'a>, Fault<'a>>
         Kind::Info => info_of(words).map(Command::Info),
         Kind::Map => map_of(words).map(Command::Map),
         Kind::Check => check_of(words).map(Command::Check),
+        Kind::Vet => vet_of(words).map(Command::Vet),
         Kind::Compare => compare_of(words).map(Command::Compare),
         Kind::Convert => convert_of(words).map(Command::Convert),
         Kind::Create => create_of(words).map(Command::Create),

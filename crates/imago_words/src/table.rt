@@ -151,6 +151,20 @@ const SHARE: Row = flag!(
     "Accepted and ignored: no file is locked"
 );
 
+const BACKING_CHAIN: Row = flag!(
+    "backing-chain",
+    "",
+    "backing-chain",
+    "Describe the backing files too"
+);
+
+const ALWAYS_ALONE: Row = flag!(
+    "alone",
+    "",
+    "alone",
+    "Accepted and ignored: no other file is opened"
+);
+
 const SOURCE_CACHE: Row = valued!("source-cache", "T", "", "CACHE", "", "Accepted and ignored");
 
 const HELP: Row = flag!("help", "h", "help", "Print this help");
@@ -170,16 +184,20 @@ pub static INFO: Page = Page {
     about: "Describe an image",
     files: "FILE",
     rows: &[
-        FORMAT, OUTPUT, JSON, SHARE, TABLES, MAX_SIZE, STRICT, OUTSIDE, ALONE, HELP, VERSION,
+        FORMAT,
+        OUTPUT,
+        JSON,
+        BACKING_CHAIN,
+        SHARE,
+        TABLES,
+        MAX_SIZE,
+        STRICT,
+        OUTSIDE,
+        ALONE,
+        HELP,
+        VERSION,
     ],
-    absent: &[
-        absent!(
-            "--backing-chain",
-            "not yet; info describes one image at a time"
-        ),
-        OBJECT,
-        IMAGE_OPTS,
-    ],
+    absent: &[OBJECT, IMAGE_OPTS],
 };
 
 /// The page of `map`.
@@ -226,6 +244,26 @@ pub static CHECK: Page = Page {
         OBJECT,
         IMAGE_OPTS,
     ],
+};
+
+/// The page of `vet`.
+pub static VET: Page = Page {
+    name: "vet",
+    about: "Tell whether an image from a stranger is safe to hand on",
+    files: "FILE",
+    rows: &[
+        FORMAT,
+        OUTPUT,
+        JSON,
+        SHARE,
+        TABLES,
+        MAX_SIZE,
+        STRICT,
+        ALWAYS_ALONE,
+        HELP,
+        VERSION,
+    ],
+    absent: &[OBJECT, IMAGE_OPTS],
 };
 
 /// The page of `compare`.
@@ -348,7 +386,7 @@ pub static CREATE: Page = Page {
             "",
             "FILE",
             "",
-            "The backing file of OUT, as its name is from there"
+            "The backing file, by its name from OUT's folder"
         ),
         valued!(
             "backing-format",

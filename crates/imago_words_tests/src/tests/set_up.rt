@@ -1,9 +1,10 @@
 // SPDX-License-Identifier: MIT
 //! How a command line is tried.
 
-use imago_words::command::{Command, Opening, Output};
+use imago_words::command::{Backing, Command, Measured, Opening, Output};
 use imago_words::format::Format;
 use imago_words::help::{Help, VERSION};
+use imago_words::settings::NewFormat;
 use std::alloc::{AllocError, Global};
 use std::process::Abort;
 
@@ -65,7 +66,8 @@ fn shown(alloc: Global, command: Command<'_>) -> Result<String, AllocError> {
         Command::Info(info) => {
             let rules = opening(alloc, info.opening)?;
             let (format, output) = (format(info.format), output(info.output));
-            format!(in alloc; "info {:?} {format} {output}{rules}", info.file)
+            let chain = if info.backing_chain { " chain" } else { "" };
+            format!(in alloc; "info {:?} {format} {output}{chain}{rules}", info.file)
         }
         Command::Map(map) => {
             let rules = opening(alloc, map.opening)?;
@@ -76,6 +78,11 @@ fn shown(alloc: Global, command: Command<'_>) -> Result<String, AllocError> {
             let rules = opening(alloc, check.opening)?;
             let (format, output) = (format(check.format), output(check.output));
             format!(in alloc; "check {:?} {format} {output}{rules}", check.file)
+        }
+        Command::Vet(vet) => {
+            let rules = opening(alloc, vet.opening)?;
+            let (format, output) = (format(vet.format), output(vet.output));
+            format!(in alloc; "vet {:?} {format} {output}{rules}", vet.file)
         }
         Command::Compare(compare) => {
             let rules = opening(alloc, compare.opening)?;
@@ -93,14 +100,68 @@ fn shown(alloc: Global, command: Command<'_>) -> Result<String, AllocError> {
             let force = if convert.force { " force" } else { "" };
             let existing = if convert.existing { " existing" } else { "" };
             let full = if convert.sparse { "" } else { " full" };
-            let (source, target) = (
-                format(convert.source_format),
-                format(Some(convert.target_format)),
-            );
+            let source = format(convert.source_format);
+            let target = new_format(alloc, convert.target_format)?;
             format!(in alloc;
                 "convert {:?} {source} {:?} {target}{force}{existing}{full}{told}{rules}",
                 convert.source, convert.target
             )
+        }
+        Command::Create(create) => {
+            let rules = opening(alloc, create.opening)?;
+            let told = told(false, create.quiet);
+            let force = if create.force { " force" } else { "" };
+            let new = new_format(alloc, create.format)?;
+            let (below, size) = (below(alloc, create.backing)?, create.size);
+            format!(in alloc;
+                "create {:?} {new}{below} {size:?}{force}{told}{rules}",
+                create.target
+            )
+        }
+        Command::Measure(measure) => {
+            let rules = opening(alloc, measure.opening)?;
+            let (source, output) = (format(measure.source_format), output(measure.output));
+            let new = new_format(alloc, measure.target_format)?;
+            match measure.disk {
+                Measured::File(file) => {
+                    format!(in alloc; "measure {file:?} {source} {new} {output}{rules}")
+                }
+                Measured::Size(size) => {
+                    format!(in alloc; "measure {size} {source} {new} {output}{rules}")
+                }
+            }
+        }
+        Command::Resize(resize) => {
+            let told = told(false, resize.quiet);
+            let shrink = if resize.shrink { " shrink" } else { "" };
+            let (format, change) = (format(resize.format), resize.change);
+            format!(in alloc;
+                "resize {:?} {format} {change:?}{shrink}{told}",
+                resize.file
+            )
+        }
+    }
+}
+
+/// The format of a new file, and its settings.
+fn new_format(alloc: Global, format: NewFormat) -> Result<String, AllocError> {
+    match format {
+        NewFormat::Raw => format!(in alloc; "raw"),
+        NewFormat::Qcow2(settings) => {
+            let (version, bits) = (settings.version, settings.cluster_bits);
+            let tables = if settings.preallocated { " tables" } else { "" };
+            format!(in alloc; "qcow2 {version:?} {bits}{tables}")
+        }
+    }
+}
+
+/// The layer below a new image.
+fn below(alloc: Global, backing: Option<Backing<'_>>) -> Result<String, AllocError> {
+    match backing {
+        None => format!(in alloc; ""),
+        Some(backing) => {
+            let format = format(Some(backing.format));
+            format!(in alloc; " over {:?} {format}", backing.file)
         }
     }
 }
@@ -137,8 +198,9 @@ fn opening(alloc: Global, opening: Opening) -> Result<String, AllocError> {
     } else {
         ""
     };
+    let alone = if opening.alone { " alone" } else { "" };
     match opening.tables {
-        None => format!(in alloc; "{strict}{outside}"),
-        Some(size) => format!(in alloc; "{strict}{outside} tables {size}"),
+        None => format!(in alloc; "{strict}{outside}{alone}"),
+        Some(size) => format!(in alloc; "{strict}{outside}{alone} tables {size}"),
     }
 }

@@ -12,6 +12,9 @@ returns-in-Map c = search rules
 pub returns-in-Check : goal.returns-in-Check
 returns-in-Check c = search rules
 
+pub returns-in-Vet : goal.returns-in-Vet
+returns-in-Vet c = search rules
+
 pub returns-in-Compare : goal.returns-in-Compare
 returns-in-Compare c = search rules
 
