@@ -5,8 +5,6 @@ use Rattle.std.specs.Prelude.{Option, Some, None, if◌then◌else◌, codes, is
 use Rattle.std.specs.Prelude.{option_and_then, option_map, unwrap_or}
 use Rattle.std.specs.Str.{bytes_eq}
 use Rattle.imago_words.specs.declared.command.Backing.{Backing}
-use Rattle.imago_words.specs.declared.command.Change.{Change}
-use Rattle.imago_words.specs.declared.command.Change.TheVariants.{To, More, Fewer}
 use Rattle.imago_words.specs.declared.command.Check.{Check}
 use Rattle.imago_words.specs.declared.command.Compare.{Compare}
 use Rattle.imago_words.specs.declared.command.Convert.{Convert}
@@ -17,7 +15,6 @@ use Rattle.imago_words.specs.declared.command.Measure.{Measure}
 use Rattle.imago_words.specs.declared.command.Measured.{Measured}
 use Rattle.imago_words.specs.declared.command.Measured.TheVariants as M
 use Rattle.imago_words.specs.declared.command.Opening.{Opening}
-use Rattle.imago_words.specs.declared.command.Resize.{Resize}
 use Rattle.imago_words.specs.declared.command.Output.{Output}
 use Rattle.imago_words.specs.declared.command.Vet.{Vet}
 use Rattle.imago_words.specs.declared.command.Output.TheVariants.{Human, Json}
@@ -25,7 +22,7 @@ use Rattle.imago_words.specs.declared.format.Format.{Format}
 use Rattle.imago_words.specs.declared.format.Format.TheVariants.{Raw, Vmdk, Qcow2}
 use Rattle.imago_words.specs.declared.settings.NewFormat.{NewFormat}
 use Rattle.imago_words.specs.declared.settings.NewFormat.TheVariants as New
-use Rattle.imago_words.specs.Reading.{State, Text, first_letter, value_given, was_given}
+use Rattle.imago_words.specs.Reading.{State, Text, value_given, was_given}
 use Rattle.imago_words.specs.Settings.{new_format}
 use Rattle.imago_words.specs.Sizes.{size_of}
 
@@ -229,27 +226,6 @@ pub record IsMeasure (s : State) (m : Measure) : Type 0 where
   pub output : m.output ≡ output_given s
   pub opening : IsOpening s m.opening
 
-abbrev signed : Text → Option (Text × Text) → Option Change
-signed word None = None
-signed word (Some parts) =
-    if bytes_eq parts.0 (codes "+") then option_map More (size_of parts.1) else
-    if bytes_eq parts.0 (codes "-") then option_map Fewer (size_of parts.1) else
-    option_map To (size_of word)
-
--- the change that a word is: a size; or `+` or `-`, and how much more or fewer
-abbrev pub change_of : Text → Option Change
-change_of word = signed word (first_letter word)
-
-abbrev pub change_behind : List Text → Option Change
-change_behind words = option_and_then change_of (second_word words)
-
-pub record IsResize (s : State) (r : Resize) : Type 0 where
-  pub file : first_word s.files ≡ Some r.file.now
-  pub format : r.format ≡ format_given (codes "format") s
-  pub change : change_behind s.files ≡ Some r.change
-  pub shrink : r.shrink ≡ was_given (codes "shrink") s
-  pub quiet : r.quiet ≡ was_given (codes "quiet") s
-
 -- The words are meant: there are as many files as the command takes, and each value is one that its
 -- option takes.
 abbrev are_files : ℕ → State → Bool
@@ -284,7 +260,3 @@ create_is_meant s = takes_word s && (is_some (new_format s) && (backing_is_meant
 abbrev pub measure_is_meant : State → Bool
 measure_is_meant s = measured_is_meant s && (format_is_meant (codes "format") s
     && (is_some (new_format s) && (output_is_meant s && opening_is_meant s)))
-
-abbrev pub resize_is_meant : State → Bool
-resize_is_meant s = are_files 2 s && (is_some (change_behind s.files)
-    && format_is_meant (codes "format") s)

@@ -3,24 +3,22 @@
 ghost use Rattle.std.specs.Prelude.{◌≡◌, ◌||◌, IfOk, codes, is_ok, not, option_map};
 ghost use Rattle.imago_words.specs.Reading.{state_of};
 ghost use Rattle.imago_words.specs.Commands.{IsCheck, IsCompare, IsConvert, IsInfo, IsMap, IsVet};
-ghost use Rattle.imago_words.specs.Commands.{IsCreate, IsMeasure, IsResize};
+ghost use Rattle.imago_words.specs.Commands.{IsCreate, IsMeasure};
 ghost use Rattle.imago_words.specs.Commands.{IsBacking, IsMeasured, IsOpening, IsOpeningAlone};
 ghost use Rattle.imago_words.specs.Commands.{format_given, output_given, size_given};
 ghost use Rattle.imago_words.specs.Commands.{format_is_meant, size_is_meant, opening_is_meant};
 ghost use Rattle.imago_words.specs.Commands.{output_is_meant};
 ghost use Rattle.imago_words.specs.Commands.{info_is_meant, compare_is_meant, convert_is_meant};
-ghost use Rattle.imago_words.specs.Commands.{create_is_meant, measure_is_meant, resize_is_meant};
+ghost use Rattle.imago_words.specs.Commands.{create_is_meant, measure_is_meant};
 ghost use Rattle.imago_words.specs.Commands.{leaves_holes, sparse_is_meant};
 ghost use Rattle.imago_words.specs.Commands.{backing_is_meant, measured_is_meant};
 ghost use Rattle.imago_words.specs.Commands.{goes_below, is_raw, size_said};
-ghost use Rattle.imago_words.specs.Commands.{change_of, word_is_size};
+ghost use Rattle.imago_words.specs.Commands.{word_is_size};
 ghost use Rattle.imago_words.specs.Reading.{was_given};
 
 use crate::command::{
-    Backing, Change, Check, Compare, Convert, Create, Info, Map, Measure, Measured, Opening,
-    Output, Resize, Vet,
+    Backing, Check, Compare, Convert, Create, Info, Map, Measure, Measured, Opening, Output, Vet,
 };
-use crate::cut::cut_letter;
 use crate::fault::Fault;
 use crate::format::Format;
 use crate::settings::{NewFormat, new_format};
@@ -220,36 +218,6 @@ fn measured<'a>(words: &Words<'a>) -> Result<Measured<'a>, Fault<'a>>
     };
     words.no_file()?;
     Ok(Measured::Size(size))
-}
-
-/// What words ask of `resize`.
-pub fn resize_of<'a>(words: &Words<'a>) -> Result<Resize<'a>, Fault<'a>>
-    ensures ok { IfOk result (λ resize. IsResize (state_of words.now) resize) }
-    ensures exact { is_ok result ≡ resize_is_meant (state_of words.now) }
-{
-    let (file, word) = words.two_files()?;
-    let Some(change) = change_named(word) else {
-        return Err(Fault::NoSize(word));
-    };
-    Ok(Resize {
-        file,
-        format: format(words, "format")?,
-        change,
-        shrink: words.has("shrink"),
-        quiet: words.has("quiet"),
-    })
-}
-
-/// The change of a length that a word names: a size, or how much more (`+`) or fewer (`-`).
-fn change_named(word: &str) -> Option<Change>
-    ensures { result ≡ change_of word.now }
-{
-    let (sign, size) = cut_letter(word)?;
-    match sign {
-        "+" => Some(Change::More(size_named(size)?)),
-        "-" => Some(Change::Fewer(size_named(size)?)),
-        _ => Some(Change::To(size_named(word)?)),
-    }
 }
 
 /// What is said of each image.

@@ -27,8 +27,6 @@ pub enum Command<'a> {
     Create(Create<'a>),
     /// To tell how long the file of a new image would be.
     Measure(Measure<'a>),
-    /// To change the length of a raw image.
-    Resize(Resize<'a>),
 }
 
 /// What is said of each image that a command opens.
@@ -225,30 +223,4 @@ pub struct Measure<'a> {
     pub output: Output,
     /// What holds of each image.
     pub opening: Opening,
-}
-
-/// The length that a file is to have.
-#[derive(Clone, Copy, Debug, PartialEq, Eq)]
-pub enum Change {
-    /// So many bytes.
-    To(u64),
-    /// So many bytes more than it has.
-    More(u64),
-    /// So many bytes fewer than it has.
-    Fewer(u64),
-}
-
-/// What `resize` is asked.
-#[derive(Clone, Copy)]
-pub struct Resize<'a> {
-    /// The path of the image.
-    pub file: &'a str,
-    /// The format of the image, if it was said.
-    pub format: Option<Format>,
-    /// The size that its disk is to have.
-    pub change: Change,
-    /// Whether the disk may become smaller.
-    pub shrink: bool,
-    /// Whether only errors are printed.
-    pub quiet: bool,
 }

@@ -6,7 +6,7 @@ ghost use Rattle.imago_words.specs.Options.{options_of};
 ghost use Rattle.imago_words.specs.Reading.{known};
 
 use crate::page::Page;
-use crate::table::{CHECK, COMPARE, CONVERT, CREATE, INFO, MAP, MEASURE, RESIZE, VET};
+use crate::table::{CHECK, COMPARE, CONVERT, CREATE, INFO, MAP, MEASURE, VET};
 
 /// Which command it is.
 #[derive(Clone, Copy, PartialEq, Eq)]
@@ -27,12 +27,10 @@ pub enum Kind {
     Create,
     /// `measure`, which tells how long the file of a new image would be.
     Measure,
-    /// `resize`, which changes the length of a raw image.
-    Resize,
 }
 
 /// The commands in the order in which help lists them.
-pub(crate) static KINDS: [Kind; 9] = [
+pub(crate) static KINDS: [Kind; 8] = [
     Kind::Info,
     Kind::Map,
     Kind::Check,
@@ -41,7 +39,6 @@ pub(crate) static KINDS: [Kind; 9] = [
     Kind::Convert,
     Kind::Create,
     Kind::Measure,
-    Kind::Resize,
 ];
 
 impl Kind {
@@ -59,7 +56,6 @@ impl Kind {
             "convert" => Some(Kind::Convert),
             "create" => Some(Kind::Create),
             "measure" => Some(Kind::Measure),
-            "resize" => Some(Kind::Resize),
             _ => None,
         }
     }
@@ -77,7 +73,6 @@ impl Kind {
             Kind::Convert => CONVERT,
             Kind::Create => CREATE,
             Kind::Measure => MEASURE,
-            Kind::Resize => RESIZE,
         }
     }
 }

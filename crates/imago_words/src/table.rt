@@ -448,25 +448,6 @@ pub static MEASURE: Page = Page {
     ],
 };
 
-/// The page of `resize`.
-pub static RESIZE: Page = Page {
-    name: "resize",
-    about: "Change the length of a raw image",
-    files: "FILE [+|-]SIZE",
-    rows: &[
-        SOURCE_FORMAT,
-        flag!("shrink", "", "shrink", "Permit a smaller disk"),
-        QUIET,
-        HELP,
-        VERSION,
-    ],
-    absent: &[
-        absent!("--preallocation", "the file is made longer by a hole"),
-        OBJECT,
-        IMAGE_OPTS,
-    ],
-};
-
 /// The settings that only qemu-img has.
 pub(crate) static ABSENT_SETTINGS: [Absent; 11] = [
     absent!(
@@ -495,7 +476,8 @@ pub(crate) static ABSENT_SETTINGS: [Absent; 11] = [
 ];
 
 /// The commands that only qemu-img has.
-pub(crate) static ABSENT: [Absent; 7] = [
+pub(crate) static ABSENT: [Absent; 8] = [
+    absent!("resize", "truncate -s SIZE FILE resizes a raw image"),
     absent!(
         "snapshot",
         "snapshots aren't read; each disk is read as it is now"

@@ -3,7 +3,7 @@
 
 use super::set_up::{Case, check_cases};
 
-static CASES: [Case; 36] = [
+static CASES: [Case; 33] = [
     Case {
         words: &["info", "disk.vmdk"],
         status: 0,
@@ -182,21 +182,6 @@ static CASES: [Case; 36] = [
         words: &["measure", "--size", "5M", "-fraw"],
         status: 0,
         text: "measure 5242880 raw raw human",
-    },
-    Case {
-        words: &["resize", "-f", "raw", "x", "-1k", "--shrink"],
-        status: 0,
-        text: "resize \"x\" raw Fewer(1024) shrink",
-    },
-    Case {
-        words: &["resize", "x", "+1"],
-        status: 0,
-        text: "resize \"x\" any More(1)",
-    },
-    Case {
-        words: &["resize", "-q", "x", "7"],
-        status: 0,
-        text: "resize \"x\" any To(7) quiet",
     },
     // A negative number is a file's name, since no option is a digit.
     Case {

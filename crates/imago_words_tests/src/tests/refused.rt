@@ -36,6 +36,12 @@ static CASES: [Case; 49] = [
             read as it is now; see imago-img --help",
     },
     Case {
+        words: &["resize", "x", "+1G"],
+        status: 1,
+        text: "\"resize\" isn't a command of imago-img: truncate -s SIZE FILE resizes a raw \
+            image; see imago-img --help",
+    },
+    Case {
         words: &["dd", "if=x", "of=y"],
         status: 1,
         text: "\"dd\" isn't a command of imago-img: convert writes the whole disk; \
@@ -201,11 +207,6 @@ static CASES: [Case; 49] = [
         status: 1,
         text: "measure takes FILE, or --size SIZE in its place; \"a\" is one file too many; \
             see imago-img measure --help",
-    },
-    Case {
-        words: &["resize", "a", "+"],
-        status: 1,
-        text: "\"+\" isn't a size such as 64M; see imago-img resize --help",
     },
     Case {
         words: &["convert", "-f", "vdi", "a", "b"],

@@ -131,15 +131,6 @@ fn shown(alloc: Global, command: Command<'_>) -> Result<String, AllocError> {
                 }
             }
         }
-        Command::Resize(resize) => {
-            let told = told(false, resize.quiet);
-            let shrink = if resize.shrink { " shrink" } else { "" };
-            let (format, change) = (format(resize.format), resize.change);
-            format!(in alloc;
-                "resize {:?} {format} {change:?}{shrink}{told}",
-                resize.file
-            )
-        }
     }
 }
 
