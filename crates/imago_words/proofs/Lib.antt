@@ -1,3 +1,4 @@
 -- SPDX-License-Identifier: MIT
 pub mod ReadingSteps
 pub mod LineLaws
+pub mod SettingSteps

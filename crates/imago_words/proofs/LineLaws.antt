@@ -2,7 +2,7 @@
 -- SPDX-License-Identifier: MIT
 use Rattle.std.proofs.Common.{◌≡◌, ◌∙◌, ◌⊎◌, ⊎_elim, true, false, refl, sym, ap, subst, List}
 use Rattle.std.proofs.lemmas.Bool.{true≢false}
-use Rattle.std.specs.Prelude.{Result, Ok, Err, IfOk, IsErr}
+use Rattle.std.specs.Prelude.{Result, Ok, Err, IfOk, IsErr, unwrap_or}
 use Rattle.imago_words.specs.Options.{options_of}
 use Rattle.imago_words.specs.Reading.{Text, first_letter, letters, steps}
 use Rattle.imago_words.specs.Sizes.{size_from, unit_of}
@@ -11,6 +11,8 @@ use Rattle.imago_words.specs.declared.command.Command.TheVariants as Asked
 use Rattle.imago_words.specs.declared.kind.Kind.{Kind}
 use Rattle.imago_words.specs.declared.kind.Kind.TheVariants.{Info, Map, Check, Vet}
 use Rattle.imago_words.specs.declared.kind.Kind.TheVariants.{Compare, Convert}
+use Rattle.imago_words.specs.declared.kind.Kind.TheVariants.{Create, Measure}
+use Rattle.imago_words.specs.declared.settings.NewFormat.TheVariants.{Raw}
 use Rattle.imago_words.specs.Laws.{IsWorked, options_differ, refused_line, worked_line}
 use Rattle.imago_words.specs.Commands.{format_named}
 use Rattle.imago_words.specs.Line.{Asks, answer_of, kind_named, kind_typed, line_is_meant}
@@ -31,7 +33,7 @@ unfolding answer_of kind_named letters steps first_letter size_from unit_of form
 worked_asks (Asked.Convert c) a = record {
   files = sym a.files;
   source_format = a.source_format;
-  target_format = a.target_format;
+  target_format = sym (ap (λ f. unwrap_or f Raw) a.target_format);
   force = a.force;
   existing = a.existing;
   sparse = a.sparse;
@@ -48,6 +50,8 @@ worked_asks (Asked.Map _) a = a
 worked_asks (Asked.Check _) a = a
 worked_asks (Asked.Vet _) a = a
 worked_asks (Asked.Compare _) a = a
+worked_asks (Asked.Create _) a = a
+worked_asks (Asked.Measure _) a = a
 
 -- the same of words that are that line
 pub asks_of : (words : List Text) → words ≡ worked_line → (c : Command) → Asks words c → IsWorked c
@@ -81,3 +85,5 @@ differ Check = refl
 differ Vet = refl
 differ Compare = refl
 differ Convert = refl
+differ Create = refl
+differ Measure = refl

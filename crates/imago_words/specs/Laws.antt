@@ -7,7 +7,8 @@ use Rattle.std.specs.Str.{bytes_eq}
 use Rattle.imago_words.specs.declared.command.Command.{Command}
 use Rattle.imago_words.specs.declared.command.Command.TheVariants as Asked
 use Rattle.imago_words.specs.declared.command.Convert.{Convert}
-use Rattle.imago_words.specs.declared.format.Format.TheVariants.{Raw, Qcow2}
+use Rattle.imago_words.specs.declared.format.Format.TheVariants.{Qcow2}
+use Rattle.imago_words.specs.declared.settings.NewFormat.TheVariants.{Raw}
 use Rattle.imago_words.specs.Reading.{Known, Text, is_empty}
 
 abbrev pub worked_line : List Text

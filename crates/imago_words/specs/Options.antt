@@ -5,6 +5,7 @@ use Rattle.std.specs.Prelude.{◌∷◌, true, false, List, [], codes}
 use Rattle.imago_words.specs.declared.kind.Kind.{Kind}
 use Rattle.imago_words.specs.declared.kind.Kind.TheVariants.{Info, Map, Check, Vet}
 use Rattle.imago_words.specs.declared.kind.Kind.TheVariants.{Compare, Convert}
+use Rattle.imago_words.specs.declared.kind.Kind.TheVariants.{Create, Measure}
 use Rattle.imago_words.specs.Reading.{Known, Text}
 
 -- an option by its key, letter and name, which takes no value
@@ -98,6 +99,7 @@ abbrev pub convert_options : List Known
 convert_options =
     valued (codes "format") (codes "f") []
     ∷ valued (codes "target-format") (codes "O") []
+    ∷ valued (codes "options") (codes "o") []
     ∷ flag (codes "force") [] (codes "force")
     ∷ flag (codes "existing") (codes "n") []
     ∷ valued (codes "sparse") (codes "S") []
@@ -119,6 +121,41 @@ convert_options =
     ∷ flag (codes "version") (codes "V") (codes "version")
     ∷ []
 
+abbrev pub create_options : List Known
+create_options =
+    valued (codes "target-format") (codes "f") []
+    ∷ valued (codes "options") (codes "o") []
+    ∷ valued (codes "backing") (codes "b") []
+    ∷ valued (codes "backing-format") (codes "F") []
+    ∷ flag (codes "force") [] (codes "force")
+    ∷ flag (codes "quiet") (codes "q") (codes "quiet")
+    ∷ valued (codes "tables") [] (codes "tables")
+    ∷ valued (codes "max-size") [] (codes "max-size")
+    ∷ flag (codes "strict") [] (codes "strict")
+    ∷ flag (codes "allow-outside") [] (codes "allow-outside")
+    ∷ flag (codes "alone") [] (codes "alone")
+    ∷ flag (codes "help") (codes "h") (codes "help")
+    ∷ flag (codes "version") (codes "V") (codes "version")
+    ∷ []
+
+abbrev pub measure_options : List Known
+measure_options =
+    valued (codes "format") (codes "f") []
+    ∷ valued (codes "target-format") (codes "O") []
+    ∷ valued (codes "options") (codes "o") []
+    ∷ valued (codes "size") [] (codes "size")
+    ∷ valued (codes "output") [] (codes "output")
+    ∷ flag (codes "json") [] (codes "json")
+    ∷ flag (codes "force-share") (codes "U") (codes "force-share")
+    ∷ valued (codes "tables") [] (codes "tables")
+    ∷ valued (codes "max-size") [] (codes "max-size")
+    ∷ flag (codes "strict") [] (codes "strict")
+    ∷ flag (codes "allow-outside") [] (codes "allow-outside")
+    ∷ flag (codes "alone") [] (codes "alone")
+    ∷ flag (codes "help") (codes "h") (codes "help")
+    ∷ flag (codes "version") (codes "V") (codes "version")
+    ∷ []
+
 abbrev pub options_of : Kind → List Known
 options_of Info = info_options
 options_of Map = map_options
@@ -126,3 +163,5 @@ options_of Check = check_options
 options_of Vet = vet_options
 options_of Compare = compare_options
 options_of Convert = convert_options
+options_of Create = create_options
+options_of Measure = measure_options

@@ -2,6 +2,7 @@
 //! What a command line asks for.
 use crate::format::Format;
 use crate::kind::Kind;
+use crate::settings::NewFormat;
 
 /// What a command line asks for.
 #[derive(Clone, Copy)]
@@ -22,6 +23,10 @@ pub enum Command<'a> {
     Compare(Compare<'a>),
     /// To write an image's disk to another image.
     Convert(Convert<'a>),
+    /// To make a new image.
+    Create(Create<'a>),
+    /// To tell how long the file of a new image would be.
+    Measure(Measure<'a>),
 }
 
 /// What is said of each image that a command opens.
@@ -151,7 +156,7 @@ pub struct Convert<'a> {
     /// The format of the source, if it was said.
     pub source_format: Option<Format>,
     /// The format of the target: raw, if it wasn't said.
-    pub target_format: Format,
+    pub target_format: NewFormat,
     /// Whether a target that is there is replaced.
     pub force: bool,
     /// Whether the target is written over, which has to be there. It isn't replaced then.
@@ -163,6 +168,59 @@ pub struct Convert<'a> {
     pub progress: bool,
     /// Whether only errors are printed.
     pub quiet: bool,
+    /// What holds of each image.
+    pub opening: Opening,
+}
+
+/// The layer below a new image.
+#[derive(Clone, Copy)]
+pub struct Backing<'a> {
+    /// The name of its file, as the new image is to have it: a relative one stands beside the new
+    /// image.
+    pub file: &'a str,
+    /// Its format.
+    pub format: Format,
+}
+
+/// What `create` is asked.
+#[derive(Clone, Copy)]
+pub struct Create<'a> {
+    /// The path of the new image.
+    pub target: &'a str,
+    /// Its format: raw, if it wasn't said.
+    pub format: NewFormat,
+    /// The layer below, if there is to be one.
+    pub backing: Option<Backing<'a>>,
+    /// The size of its disk in bytes; that of the layer below, if it wasn't said.
+    pub size: Option<u64>,
+    /// Whether a target that is there is replaced.
+    pub force: bool,
+    /// Whether only errors are printed.
+    pub quiet: bool,
+    /// What holds of the layer below.
+    pub opening: Opening,
+}
+
+/// The disk of which `measure` tells how long its file would be.
+#[derive(Clone, Copy)]
+pub enum Measured<'a> {
+    /// That of the image of this path.
+    File(&'a str),
+    /// A disk of so many bytes, all zero.
+    Size(u64),
+}
+
+/// What `measure` is asked.
+#[derive(Clone, Copy)]
+pub struct Measure<'a> {
+    /// The disk.
+    pub disk: Measured<'a>,
+    /// The format of the image, if it was said.
+    pub source_format: Option<Format>,
+    /// The format of the new image: raw, if it wasn't said.
+    pub target_format: NewFormat,
+    /// How it is printed.
+    pub output: Output,
     /// What holds of each image.
     pub opening: Opening,
 }

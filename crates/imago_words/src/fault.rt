@@ -33,7 +33,13 @@ pub enum Fault<'a> {
     NoneTaken(Row),
     /// An option doesn't take the value that it was given.
     Value(Row, &'a str),
-    /// A file is missing.
+    /// `-o` doesn't take a setting, or the value of it.
+    Setting(&'a str),
+    /// Options don't go together, as is said here.
+    Unfit(&'static str),
+    /// A word isn't the size that stands there.
+    NoSize(&'a str),
+    /// A file is missing, or a size.
     FewFiles,
     /// A word is one file too many.
     ManyFiles(&'a str),

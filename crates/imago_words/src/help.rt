@@ -36,7 +36,7 @@ impl Display for Help {
 
 /// The help of the program.
 fn fmt_program<W: fmt::Write>(f: &mut fmt::Formatter<W>) -> fmt::Result {
-    f.write_str("Describe, list, check, compare and convert disk images\n\n")?;
+    f.write_str("Describe, list, check, compare, convert and make disk images\n\n")?;
     f.write_str("usage: imago-img COMMAND [OPTION..] FILE [FILE]\n\nCommands:\n")?;
     for kind in &KINDS {
         let page = kind.page();

@@ -1,9 +1,10 @@
 // SPDX-License-Identifier: MIT
 //! What may help if a word isn't known.
+use crate::cut::cut_at_equals;
 use crate::fault::Fault;
 use crate::kind::{KINDS, Kind};
 use crate::page::{Absent, Page};
-use crate::table::ABSENT;
+use crate::table::{ABSENT, ABSENT_SETTINGS};
 use std::alloc::{AllocError, Global};
 use strsim::jaro;
 
@@ -36,7 +37,19 @@ pub(crate) fn hint_of(alloc: Global, fault: &Fault<'_>, kind: Option<Kind>) -> H
                 None => near_option(alloc, name, &page),
             }
         }
+        (Fault::Setting(setting), _) => match absent_named(&ABSENT_SETTINGS, "", named(setting)) {
+            Some(absent) => Hint::Instead(absent),
+            None => Hint::Nothing,
+        },
         _ => Hint::Nothing,
+    }
+}
+
+/// The name of a setting.
+fn named(setting: &str) -> &str {
+    match cut_at_equals(setting) {
+        Some((name, _)) => name,
+        None => setting,
     }
 }
 

@@ -6,7 +6,7 @@ ghost use Rattle.imago_words.specs.Options.{options_of};
 ghost use Rattle.imago_words.specs.Reading.{known};
 
 use crate::page::Page;
-use crate::table::{CHECK, COMPARE, CONVERT, INFO, MAP, VET};
+use crate::table::{CHECK, COMPARE, CONVERT, CREATE, INFO, MAP, MEASURE, VET};
 
 /// Which command it is.
 #[derive(Clone, Copy, PartialEq, Eq)]
@@ -23,16 +23,22 @@ pub enum Kind {
     Compare,
     /// `convert`, which writes an image's disk to another image.
     Convert,
+    /// `create`, which makes a new image.
+    Create,
+    /// `measure`, which tells how long the file of a new image would be.
+    Measure,
 }
 
 /// The commands in the order in which help lists them.
-pub(crate) static KINDS: [Kind; 6] = [
+pub(crate) static KINDS: [Kind; 8] = [
     Kind::Info,
     Kind::Map,
     Kind::Check,
     Kind::Vet,
     Kind::Compare,
     Kind::Convert,
+    Kind::Create,
+    Kind::Measure,
 ];
 
 impl Kind {
@@ -48,6 +54,8 @@ impl Kind {
             "vet" => Some(Kind::Vet),
             "compare" => Some(Kind::Compare),
             "convert" => Some(Kind::Convert),
+            "create" => Some(Kind::Create),
+            "measure" => Some(Kind::Measure),
             _ => None,
         }
     }
@@ -63,6 +71,8 @@ impl Kind {
             Kind::Vet => VET,
             Kind::Compare => COMPARE,
             Kind::Convert => CONVERT,
+            Kind::Create => CREATE,
+            Kind::Measure => MEASURE,
         }
     }
 }

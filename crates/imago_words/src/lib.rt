@@ -15,6 +15,7 @@ pub mod line;
 pub mod page;
 pub mod refusal;
 pub mod row;
+pub mod settings;
 pub mod size;
 pub mod table;
 pub mod words;

@@ -9,7 +9,9 @@ ghost use Rattle.imago_words.specs.Line.{of_is_meant};
 ghost use Rattle.imago_words.specs.Line.{kind_typed, status_for, status_of};
 ghost use Rattle.imago_words.specs.Reading.{state_of};
 
-use crate::asked::{check_of, compare_of, convert_of, info_of, map_of, vet_of};
+use crate::asked::{
+    check_of, compare_of, convert_of, create_of, info_of, map_of, measure_of, vet_of,
+};
 use crate::command::Command;
 use crate::fault::Fault;
 use crate::kind::Kind;
@@ -102,5 +104,7 @@ fn asked_of<'a>(kind: Kind, words: &Words<'a>) -> Result<Command<'a>, Fault<'a>>
         Kind::Vet => vet_of(words).map(Command::Vet),
         Kind::Compare => compare_of(words).map(Command::Compare),
         Kind::Convert => convert_of(words).map(Command::Convert),
+        Kind::Create => create_of(words).map(Command::Create),
+        Kind::Measure => measure_of(words).map(Command::Measure),
     }
 }

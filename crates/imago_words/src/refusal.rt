@@ -59,6 +59,9 @@ impl Display for Refusal<'_> {
             Fault::UnknownLetter { word, .. } | Fault::UnknownName { word, .. } => {
                 fmt_option(f, word, self.hint, &page)?;
             }
+            Fault::Setting(setting) => fmt_setting(f, setting, self.hint)?,
+            Fault::Unfit(why) => f.write_str(why)?,
+            Fault::NoSize(word) => write!(f, "{word:?} isn't a size such as 64M")?,
             _ => fmt_value(f, self.fault)?,
         }
         write!(f, "; see imago-img {} --help", page.name)
@@ -123,6 +126,18 @@ fn fmt_value<W: fmt::Write>(f: &mut fmt::Formatter<W>, fault: Fault<'_>) -> fmt:
     }
 }
 
+/// Tells of a setting that `-o` doesn't take.
+fn fmt_setting<W: fmt::Write>(f: &mut fmt::Formatter<W>, setting: &str, hint: Hint) -> fmt::Result {
+    match hint {
+        Hint::Instead(absent) => write!(f, "-o {setting:?}: {}", absent.instead),
+        _ => write!(
+            f,
+            "-o takes compat=0.10 or 1.1, cluster_size=512 to 2M and preallocation=off or \
+            metadata, not {setting:?}"
+        ),
+    }
+}
+
 /// Tells that there are too few or too many files.
 fn fmt_files<W: fmt::Write>(
     f: &mut fmt::Formatter<W>,
@@ -132,6 +147,10 @@ fn fmt_files<W: fmt::Write>(
     write!(f, "{} takes {}; ", page.name, page.files)?;
     match fault {
         Fault::ManyFiles(word) => write!(f, "{word:?} is one file too many"),
-        _ => f.write_str("a file is missing"),
+        _ => f.write_str(if page.files.contains("SIZE") {
+            "one of them is missing"
+        } else {
+            "a file is missing"
+        }),
     }
 }

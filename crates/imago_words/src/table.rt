@@ -72,6 +72,24 @@ const SOURCE_FORMAT: Row = valued!(
     "The format of FILE"
 );
 
+const NEW_FORMAT: Row = valued!(
+    "target-format",
+    "O",
+    "",
+    "FMT",
+    "raw or qcow2",
+    "The format of OUT"
+);
+
+const SETTINGS: Row = valued!(
+    "options",
+    "o",
+    "",
+    "OPT=V",
+    "",
+    "Options of a qcow2 OUT, with commas between them"
+);
+
 const OUTPUT: Row = valued!(
     "output",
     "",
@@ -295,7 +313,8 @@ pub static CONVERT: Page = Page {
     files: "FILE OUT",
     rows: &[
         SOURCE_FORMAT,
-        valued!("target-format", "O", "", "FMT", "raw", "The format of OUT"),
+        NEW_FORMAT,
+        SETTINGS,
         flag!("force", "", "force", "Replace OUT if it exists"),
         flag!("existing", "n", "", "Write into OUT, which exists"),
         valued!(
@@ -324,12 +343,11 @@ pub static CONVERT: Page = Page {
         VERSION,
     ],
     absent: &[
-        absent!("-c", "OUT is raw, which isn't compressed"),
-        absent!("-o", "OUT is raw, which has no options"),
+        absent!("-c", "OUT isn't compressed"),
         absent!("-l", "snapshots aren't read; the disk is read as it is now"),
-        absent!("-B", "OUT is raw, and holds the whole disk"),
-        absent!("-b", "OUT is raw, and holds the whole disk"),
-        absent!("-F", "OUT is raw, and holds the whole disk"),
+        absent!("-B", "OUT holds the whole disk"),
+        absent!("-b", "OUT holds the whole disk"),
+        absent!("-F", "OUT holds the whole disk"),
         absent!(
             "--format",
             "-f takes the format of FILE, and -O that of OUT"
@@ -340,16 +358,125 @@ pub static CONVERT: Page = Page {
         ),
         absent!("--target-is-zero", "every byte of OUT gets its value"),
         absent!("--salvage", "a byte that can't be read ends convert"),
-        absent!("--bitmaps", "OUT is raw, which has no bitmaps"),
-        absent!("--skip-broken-bitmaps", "OUT is raw, which has no bitmaps"),
+        absent!("--bitmaps", "OUT has no bitmaps"),
+        absent!("--skip-broken-bitmaps", "OUT has no bitmaps"),
         OBJECT,
         IMAGE_OPTS,
     ],
 };
 
+/// The page of `create`.
+pub static CREATE: Page = Page {
+    name: "create",
+    about: "Make a new image",
+    files: "OUT [SIZE]",
+    rows: &[
+        valued!(
+            "target-format",
+            "f",
+            "",
+            "FMT",
+            "raw or qcow2",
+            "The format of OUT"
+        ),
+        SETTINGS,
+        valued!(
+            "backing",
+            "b",
+            "",
+            "FILE",
+            "",
+            "The backing file, by its name from OUT's folder"
+        ),
+        valued!(
+            "backing-format",
+            "F",
+            "",
+            "FMT",
+            "raw, vmdk or qcow2",
+            "The format of the backing file"
+        ),
+        flag!("force", "", "force", "Replace OUT if it exists"),
+        QUIET,
+        TABLES,
+        MAX_SIZE,
+        STRICT,
+        OUTSIDE,
+        ALONE,
+        HELP,
+        VERSION,
+    ],
+    absent: &[
+        absent!("-u", "the backing file is opened, so it has to be there"),
+        OBJECT,
+        IMAGE_OPTS,
+    ],
+};
+
+/// The page of `measure`.
+pub static MEASURE: Page = Page {
+    name: "measure",
+    about: "Tell how long the file of a new image would be",
+    files: "FILE, or --size SIZE in its place",
+    rows: &[
+        SOURCE_FORMAT,
+        NEW_FORMAT,
+        SETTINGS,
+        valued!(
+            "size",
+            "",
+            "size",
+            "SIZE",
+            "a size such as 64M",
+            "Measure an empty disk"
+        ),
+        OUTPUT,
+        JSON,
+        SHARE,
+        TABLES,
+        MAX_SIZE,
+        STRICT,
+        OUTSIDE,
+        ALONE,
+        HELP,
+        VERSION,
+    ],
+    absent: &[
+        absent!("-l", "snapshots aren't read; the disk is read as it is now"),
+        OBJECT,
+        IMAGE_OPTS,
+    ],
+};
+
+/// The settings that only qemu-img has.
+pub(crate) static ABSENT_SETTINGS: [Absent; 11] = [
+    absent!(
+        "backing_file",
+        "create -b FILE -F FMT names the backing file"
+    ),
+    absent!(
+        "backing_fmt",
+        "create -b FILE -F FMT names the backing file"
+    ),
+    absent!(
+        "size",
+        "create OUT SIZE gives the size; convert keeps that of FILE"
+    ),
+    absent!("encryption", "images aren't encrypted"),
+    absent!("encrypt.format", "images aren't encrypted"),
+    absent!("data_file", "the data of an image stands in its own file"),
+    absent!(
+        "data_file_raw",
+        "the data of an image stands in its own file"
+    ),
+    absent!("lazy_refcounts", "it has to be off"),
+    absent!("refcount_bits", "it has to be 16"),
+    absent!("extended_l2", "it has to be off"),
+    absent!("compression_type", "it has to be zlib"),
+];
+
 /// The commands that only qemu-img has.
-pub(crate) static ABSENT: [Absent; 10] = [
-    absent!("create", "truncate -s SIZE FILE makes a raw image"),
+pub(crate) static ABSENT: [Absent; 8] = [
     absent!("resize", "truncate -s SIZE FILE resizes a raw image"),
     absent!(
         "snapshot",
@@ -366,10 +493,6 @@ pub(crate) static ABSENT: [Absent; 10] = [
     absent!(
         "amend",
         "no image is changed; convert writes the whole disk to a new one"
-    ),
-    absent!(
-        "measure",
-        "info tells the disk's size, which is that of a raw image"
     ),
     absent!("dd", "convert writes the whole disk"),
     absent!("bench", "compare reads two disks whole, and can be timed"),

@@ -1,7 +1,8 @@
 // SPDX-License-Identifier: MIT
 //! The words behind a command's name, read by the table of its options.
 ghost use Rattle.std.specs.Prelude.{◌≡◌, ◌∷◌, ◌⊎◌, [], if◌then◌else◌, Some, None, IfErr, IfOk};
-ghost use Rattle.std.specs.Prelude.{OnOk, is_ok};
+ghost use Rattle.std.specs.Prelude.{◌||◌, OnOk, is_ok, is_some};
+ghost use Rattle.std.specs.Option.{option_to_list};
 ghost use Rattle.std.specs.Prelude.{map, option_map, string_bytes, length, nat_eq};
 ghost use Rattle.std.specs.List.{list_any};
 ghost use Rattle.std.specs.Str.{bytes_eq};
@@ -9,10 +10,12 @@ ghost use Rattle.imago_words.specs.declared.fault.Fault.TheVariants.{Memory};
 ghost use Rattle.imago_words.specs.Reading.{known, letters, named, read_of, state_of, step};
 ghost use Rattle.imago_words.specs.Reading.{valued_letter, with_file, with_given};
 ghost use Rattle.imago_words.specs.Reading.{is_key, last_given, last_of, shown, was_given};
+ghost use Rattle.imago_words.specs.Settings.{with_option, with_options};
 
 use crate::cut::{begins_number, cut_at_equals, cut_dash, cut_letter};
 use crate::fault::Fault;
 use crate::row::{Row, find_letter, find_name};
+use crate::settings::Settings;
 use std::alloc::Global;
 
 /// An option that was given.
@@ -193,6 +196,42 @@ impl<'a> Words<'a> {
         last_of(&self.given, key)
     }
 
+    /// Those settings, with what all `-o` together add.
+    pub(crate) fn add_options(&self, settings: Settings) -> Result<Settings, Fault<'a>>
+        ensures ok { IfOk result
+            (λ s. with_options (state_of self.now).given settings ≡ Some s) }
+        ensures exact { is_ok result
+            ≡ is_some (with_options (state_of self.now).given settings) }
+    {
+        add_options(&self.given, settings)
+    }
+
+    /// No file, if there is none.
+    pub fn no_file(&self) -> Result<(), Fault<'a>>
+        ensures ok { OnOk result ((state_of self.now).files ≡ []) }
+        ensures exact { is_ok result ≡ nat_eq (length (state_of self.now).files) 0 }
+    {
+        match self.files.as_slice() {
+            [] => Ok(()),
+            [more, ..] => Err(Fault::ManyFiles(*more)),
+        }
+    }
+
+    /// The file, and the word behind it, if there is exactly one or none.
+    pub fn file_and_word(&self) -> Result<(&'a str, Option<&'a str>), Fault<'a>>
+        ensures ok { IfOk result (λ f. (state_of self.now).files
+            ≡ f.0.now ∷ option_to_list (option_map (λ w. w.now) f.1)) }
+        ensures exact { is_ok result ≡ (nat_eq (length (state_of self.now).files) 1
+            || nat_eq (length (state_of self.now).files) 2) }
+    {
+        match self.files.as_slice() {
+            [] => Err(Fault::FewFiles),
+            [file] => Ok((*file, None)),
+            [file, word] => Ok((*file, Some(*word))),
+            [_, _, more, ..] => Err(Fault::ManyFiles(*more)),
+        }
+    }
+
     /// The file, if there is exactly one.
     pub fn one_file(&self) -> Result<&'a str, Fault<'a>>
         ensures ok { IfOk result (λ f. (state_of self.now).files ≡ f.now ∷ []) }
@@ -223,6 +262,29 @@ fn has_key(given: &[Given<'_>], key: &str) -> bool
     ensures { result ≡ list_any (λ g. bytes_eq g.row.key.now key.now) given.now }
 {
     given.iter().any(|first| first.row.key == key)
+}
+
+/// Those settings, with what the options among them add that say more of these.
+fn add_options<'a>(given: &[Given<'a>], settings: Settings) -> Result<Settings, Fault<'a>>
+    ensures ok { IfOk result (λ s. with_options (map shown given.now) settings ≡ Some s) }
+    ensures exact { is_ok result ≡ is_some (with_options (map shown given.now) settings) }
+{
+    let mut added = settings;
+    for first in given {
+        added = add_option(*first, added)?;
+    }
+    Ok(added)
+}
+
+/// Those settings, with what an option adds.
+fn add_option<'a>(given: Given<'a>, settings: Settings) -> Result<Settings, Fault<'a>>
+    ensures ok { IfOk result (λ s. with_option (shown given.entry) settings ≡ Some s) }
+    ensures exact { is_ok result ≡ is_some (with_option (shown given.entry) settings) }
+{
+    if given.row.key != "options" {
+        return Ok(settings);
+    }
+    settings.set_all(given.value)
 }
 
 /// The last of the options that has that key.

@@ -3,7 +3,7 @@
 
 use super::set_up::{Case, check_cases};
 
-static CASES: [Case; 26] = [
+static CASES: [Case; 33] = [
     Case {
         words: &["info", "disk.vmdk"],
         status: 0,
@@ -126,6 +126,62 @@ static CASES: [Case; 26] = [
         ],
         status: 0,
         text: "convert \"a\" any \"b\" raw",
+    },
+    // A qcow2 target, with what all `-o` together say: the last of a name counts.
+    Case {
+        words: &["convert", "-O", "qcow2", "a", "b"],
+        status: 0,
+        text: "convert \"a\" any \"b\" qcow2 Three 16",
+    },
+    Case {
+        words: &[
+            "convert",
+            "-Oqcow2",
+            "-ocompat=0.10,cluster_size=4k,preallocation=metadata",
+            "-o",
+            "cluster_size=2M,compat=v2,lazy_refcounts=off,refcount_bits=16",
+            "-o",
+            "extended_l2=off,compression_type=zlib",
+            "a",
+            "b",
+        ],
+        status: 0,
+        text: "convert \"a\" any \"b\" qcow2 Two 21 tables",
+    },
+    Case {
+        words: &["create", "-f", "qcow2", "-o", "compat=1.1", "x", "1G"],
+        status: 0,
+        text: "create \"x\" qcow2 Three 16 Some(1073741824)",
+    },
+    Case {
+        words: &[
+            "create", "-fqcow2", "-b", "base", "-F", "raw", "x", "--force", "-q",
+        ],
+        status: 0,
+        text: "create \"x\" qcow2 Three 16 over \"base\" raw None force quiet",
+    },
+    Case {
+        words: &["create", "x", "0"],
+        status: 0,
+        text: "create \"x\" raw Some(0)",
+    },
+    Case {
+        words: &[
+            "measure",
+            "-O",
+            "qcow2",
+            "-o",
+            "cluster_size=512",
+            "x",
+            "--json",
+        ],
+        status: 0,
+        text: "measure \"x\" any qcow2 Three 9 json",
+    },
+    Case {
+        words: &["measure", "--size", "5M", "-fraw"],
+        status: 0,
+        text: "measure 5242880 raw raw human",
     },
     // A negative number is a file's name, since no option is a digit.
     Case {

@@ -3,7 +3,7 @@
 
 use super::set_up::{Case, check_cases};
 
-static CASES: [Case; 8] = [
+static CASES: [Case; 10] = [
     Case {
         words: &["--help"],
         status: 0,
@@ -44,9 +44,19 @@ static CASES: [Case; 8] = [
         status: 0,
         text: CONVERT,
     },
+    Case {
+        words: &["create", "-h"],
+        status: 0,
+        text: CREATE,
+    },
+    Case {
+        words: &["measure", "-h"],
+        status: 0,
+        text: MEASURE,
+    },
 ];
 
-const GENERAL: &str = "Describe, list, check, compare and convert disk images
+const GENERAL: &str = "Describe, list, check, compare, convert and make disk images
 
 usage: imago-img COMMAND [OPTION..] FILE [FILE]
 
@@ -57,6 +67,8 @@ Commands:
   vet      Tell whether an image from a stranger is safe to hand on
   compare  Compare the disks of two images
   convert  Write an image's disk to another image
+  create   Make a new image
+  measure  Tell how long the file of a new image would be
 
 imago-img COMMAND --help prints the options of a command.
 ";
@@ -166,14 +178,15 @@ Options:
 
 const CONVERT: &str = "Write an image's disk to another image
 
-usage: imago-img convert [-f FMT] [-O FMT] [--force] [-n] [-S SIZE] [-p] [-q]
-                         [-U] [-t CACHE] [-T CACHE] [-m N] [-W] [-C] [-r RATE]
-                         [--tables SIZE] [--max-size SIZE] [--strict]
+usage: imago-img convert [-f FMT] [-O FMT] [-o OPT=V] [--force] [-n] [-S SIZE]
+                         [-p] [-q] [-U] [-t CACHE] [-T CACHE] [-m N] [-W] [-C]
+                         [-r RATE] [--tables SIZE] [--max-size SIZE] [--strict]
                          [--allow-outside] [--alone] [-h] [-V] FILE OUT
 
 Options:
   -f FMT                The format of FILE: raw, vmdk or qcow2
-  -O FMT                The format of OUT: raw
+  -O FMT                The format of OUT: raw or qcow2
+  -o OPT=V              Options of a qcow2 OUT, with commas between them
       --force           Replace OUT if it exists
   -n                    Write into OUT, which exists
   -S SIZE               How many zeroes make a hole, 0 for none: 0 or 4k
@@ -186,6 +199,52 @@ Options:
   -W                    Accepted and ignored
   -C                    Accepted and ignored
   -r RATE               Accepted and ignored
+      --tables SIZE     The most memory for tables: a size such as 64M
+      --max-size SIZE   Refuse longer disks: a size such as 2T
+      --strict          Refuse unknown keys of VMDK descriptors
+      --allow-outside   Permit files outside the image's folder
+      --alone           Open no other file, whatever an image names
+  -h, --help            Print this help
+  -V, --version         Print the version
+";
+
+const CREATE: &str = "Make a new image
+
+usage: imago-img create [-f FMT] [-o OPT=V] [-b FILE] [-F FMT] [--force] [-q]
+                        [--tables SIZE] [--max-size SIZE] [--strict]
+                        [--allow-outside] [--alone] [-h] [-V] OUT [SIZE]
+
+Options:
+  -f FMT                The format of OUT: raw or qcow2
+  -o OPT=V              Options of a qcow2 OUT, with commas between them
+  -b FILE               The backing file, by its name from OUT's folder
+  -F FMT                The format of the backing file: raw, vmdk or qcow2
+      --force           Replace OUT if it exists
+  -q, --quiet           Print nothing but errors
+      --tables SIZE     The most memory for tables: a size such as 64M
+      --max-size SIZE   Refuse longer disks: a size such as 2T
+      --strict          Refuse unknown keys of VMDK descriptors
+      --allow-outside   Permit files outside the image's folder
+      --alone           Open no other file, whatever an image names
+  -h, --help            Print this help
+  -V, --version         Print the version
+";
+
+const MEASURE: &str = "Tell how long the file of a new image would be
+
+usage: imago-img measure [-f FMT] [-O FMT] [-o OPT=V] [--size SIZE]
+                         [--output OFMT] [--json] [-U] [--tables SIZE]
+                         [--max-size SIZE] [--strict] [--allow-outside]
+                         [--alone] [-h] [-V] FILE, or --size SIZE in its place
+
+Options:
+  -f FMT                The format of FILE: raw, vmdk or qcow2
+  -O FMT                The format of OUT: raw or qcow2
+  -o OPT=V              Options of a qcow2 OUT, with commas between them
+      --size SIZE       Measure an empty disk: a size such as 64M
+      --output OFMT     What is printed: human or json
+      --json            The same as --output=json
+  -U, --force-share     Accepted and ignored: no file is locked
       --tables SIZE     The most memory for tables: a size such as 64M
       --max-size SIZE   Refuse longer disks: a size such as 2T
       --strict          Refuse unknown keys of VMDK descriptors

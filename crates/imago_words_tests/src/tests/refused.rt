@@ -3,7 +3,7 @@
 
 use super::set_up::{Case, check_cases};
 
-static CASES: [Case; 36] = [
+static CASES: [Case; 49] = [
     Case {
         words: &[],
         status: 1,
@@ -36,9 +36,15 @@ static CASES: [Case; 36] = [
             read as it is now; see imago-img --help",
     },
     Case {
-        words: &["create", "-f", "raw", "x", "1G"],
+        words: &["resize", "x", "+1G"],
         status: 1,
-        text: "\"create\" isn't a command of imago-img: truncate -s SIZE FILE makes a raw image; \
+        text: "\"resize\" isn't a command of imago-img: truncate -s SIZE FILE resizes a raw \
+            image; see imago-img --help",
+    },
+    Case {
+        words: &["dd", "if=x", "of=y"],
+        status: 1,
+        text: "\"dd\" isn't a command of imago-img: convert writes the whole disk; \
             see imago-img --help",
     },
     Case {
@@ -110,18 +116,97 @@ static CASES: [Case; 36] = [
     Case {
         words: &["convert", "-qc", "a", "b"],
         status: 1,
-        text: "convert has no -c: OUT is raw, which isn't compressed; \
-            see imago-img convert --help",
+        text: "convert has no -c: OUT isn't compressed; see imago-img convert --help",
     },
     Case {
-        words: &["convert", "-O", "qcow2", "a", "b"],
+        words: &["convert", "-O", "vmdk", "a", "b"],
         status: 1,
-        text: "-O takes raw, not \"qcow2\"; see imago-img convert --help",
+        text: "-O takes raw or qcow2, not \"vmdk\"; see imago-img convert --help",
     },
     Case {
         words: &["convert", "-o", "compat=1.1", "a", "b"],
         status: 1,
-        text: "convert has no -o: OUT is raw, which has no options; see imago-img convert --help",
+        text: "a raw file has no options, so -o doesn't go with it; see imago-img convert --help",
+    },
+    Case {
+        words: &["convert", "-nO", "qcow2", "a", "b"],
+        status: 1,
+        text: "-n writes over the bytes of a raw disk; -O qcow2 makes a new file; \
+            see imago-img convert --help",
+    },
+    Case {
+        words: &["convert", "-Oqcow2", "-o", "backing_file=c", "a", "b"],
+        status: 1,
+        text: "-o \"backing_file=c\": create -b FILE -F FMT names the backing file; \
+            see imago-img convert --help",
+    },
+    Case {
+        words: &[
+            "convert",
+            "-Oqcow2",
+            "-o",
+            "lazy_refcounts=off,refcount_bits=1",
+            "a",
+            "b",
+        ],
+        status: 1,
+        text: "-o \"refcount_bits=1\": it has to be 16; see imago-img convert --help",
+    },
+    Case {
+        words: &["create", "-fqcow2", "-o", "cluster_size=3k", "a", "1G"],
+        status: 1,
+        text: "-o takes compat=0.10 or 1.1, cluster_size=512 to 2M and preallocation=off or \
+            metadata, not \"cluster_size=3k\"; see imago-img create --help",
+    },
+    Case {
+        words: &["create", "-fqcow2", "-o", "compat=1.1,", "a", "1G"],
+        status: 1,
+        text: "-o takes compat=0.10 or 1.1, cluster_size=512 to 2M and preallocation=off or \
+            metadata, not \"\"; see imago-img create --help",
+    },
+    Case {
+        words: &["create", "-fqcow2", "-b", "base", "a"],
+        status: 1,
+        text: "-b FILE takes -F FMT too, the format of FILE; see imago-img create --help",
+    },
+    Case {
+        words: &["create", "-fqcow2", "-F", "raw", "a", "1G"],
+        status: 1,
+        text: "-F is the format of -b FILE, which is missing; see imago-img create --help",
+    },
+    Case {
+        words: &["create", "-b", "base", "-F", "raw", "a"],
+        status: 1,
+        text: "a raw file has no backing file; say -f qcow2; see imago-img create --help",
+    },
+    Case {
+        words: &[
+            "create",
+            "-fqcow2",
+            "-opreallocation=metadata",
+            "-bx",
+            "-Fraw",
+            "a",
+        ],
+        status: 1,
+        text: "preallocation=metadata leaves nothing to a backing file; \
+            see imago-img create --help",
+    },
+    Case {
+        words: &["create", "a"],
+        status: 1,
+        text: "create takes OUT [SIZE]; one of them is missing; see imago-img create --help",
+    },
+    Case {
+        words: &["create", "a", "b"],
+        status: 1,
+        text: "\"b\" isn't a size such as 64M; see imago-img create --help",
+    },
+    Case {
+        words: &["measure", "--size", "1G", "a"],
+        status: 1,
+        text: "measure takes FILE, or --size SIZE in its place; \"a\" is one file too many; \
+            see imago-img measure --help",
     },
     Case {
         words: &["convert", "-f", "vdi", "a", "b"],

@@ -1,9 +1,10 @@
 // SPDX-License-Identifier: MIT
 //! How a command line is tried.
 
-use imago_words::command::{Command, Opening, Output};
+use imago_words::command::{Backing, Command, Measured, Opening, Output};
 use imago_words::format::Format;
 use imago_words::help::{Help, VERSION};
+use imago_words::settings::NewFormat;
 use std::alloc::{AllocError, Global};
 use std::process::Abort;
 
@@ -99,14 +100,59 @@ fn shown(alloc: Global, command: Command<'_>) -> Result<String, AllocError> {
             let force = if convert.force { " force" } else { "" };
             let existing = if convert.existing { " existing" } else { "" };
             let full = if convert.sparse { "" } else { " full" };
-            let (source, target) = (
-                format(convert.source_format),
-                format(Some(convert.target_format)),
-            );
+            let source = format(convert.source_format);
+            let target = new_format(alloc, convert.target_format)?;
             format!(in alloc;
                 "convert {:?} {source} {:?} {target}{force}{existing}{full}{told}{rules}",
                 convert.source, convert.target
             )
+        }
+        Command::Create(create) => {
+            let rules = opening(alloc, create.opening)?;
+            let told = told(false, create.quiet);
+            let force = if create.force { " force" } else { "" };
+            let new = new_format(alloc, create.format)?;
+            let (below, size) = (below(alloc, create.backing)?, create.size);
+            format!(in alloc;
+                "create {:?} {new}{below} {size:?}{force}{told}{rules}",
+                create.target
+            )
+        }
+        Command::Measure(measure) => {
+            let rules = opening(alloc, measure.opening)?;
+            let (source, output) = (format(measure.source_format), output(measure.output));
+            let new = new_format(alloc, measure.target_format)?;
+            match measure.disk {
+                Measured::File(file) => {
+                    format!(in alloc; "measure {file:?} {source} {new} {output}{rules}")
+                }
+                Measured::Size(size) => {
+                    format!(in alloc; "measure {size} {source} {new} {output}{rules}")
+                }
+            }
+        }
+    }
+}
+
+/// The format of a new file, and its settings.
+fn new_format(alloc: Global, format: NewFormat) -> Result<String, AllocError> {
+    match format {
+        NewFormat::Raw => format!(in alloc; "raw"),
+        NewFormat::Qcow2(settings) => {
+            let (version, bits) = (settings.version, settings.cluster_bits);
+            let tables = if settings.preallocated { " tables" } else { "" };
+            format!(in alloc; "qcow2 {version:?} {bits}{tables}")
+        }
+    }
+}
+
+/// The layer below a new image.
+fn below(alloc: Global, backing: Option<Backing<'_>>) -> Result<String, AllocError> {
+    match backing {
+        None => format!(in alloc; ""),
+        Some(backing) => {
+            let format = format(Some(backing.format));
+            format!(in alloc; " over {:?} {format}", backing.file)
         }
     }
 }

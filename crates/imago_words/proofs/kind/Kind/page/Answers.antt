@@ -20,3 +20,9 @@ returns-in-Compare c = search rules
 
 pub returns-in-Convert : goal.returns-in-Convert
 returns-in-Convert c = search rules
+
+pub returns-in-Create : goal.returns-in-Create
+returns-in-Create c = search rules
+
+pub returns-in-Measure : goal.returns-in-Measure
+returns-in-Measure c = search rules
