@@ -299,6 +299,22 @@ impl Failure {
         }
     }
 
+    /// What is found of a file that the image of that path needs, or why it isn't: a file that can't
+    /// be used is named with the image.
+    pub fn or_needed<T>(
+        alloc: Global,
+        image: &str,
+        answer: Result<T, Failure>,
+    ) -> Result<T, Failure>
+        ensures { MatchResult answer (λ x. result ≡ Ok x) (λ _. IsErr result) }
+    {
+        match answer {
+            Ok(found) => Ok(found),
+            Err(Failure::NotOpened(cause)) => Err(Failure::of_image(alloc, image, cause)),
+            Err(refused) => Err(refused),
+        }
+    }
+
     /// That file can't be used, for that reason.
     pub fn of_file(alloc: Global, path: &str, reason: Reason) -> Failure {
         Failure::from(OpenError::of_file(alloc, path, reason))

@@ -7,6 +7,7 @@
 //! which is asked for the paths alone that a command may ask for.
 #![tactic(auto)]
 
+mod chain;
 mod check;
 mod check_qcow2;
 mod check_vmdk;
