@@ -335,7 +335,11 @@ fn print_unsupported<W: Write>(unsupported: Unsupported, output: &mut W) -> io::
 /// Prints what is said of the file below as lines.
 fn print_below<W: Write>(below: &NamesBelow, output: &mut W) -> io::Result<()> {
     if let Some(name) = &below.name {
-        writeln!(output, "backing file: {name:?}")?;
+        write!(output, "backing file: {name:?}")?;
+        match &below.path {
+            Some(path) if path != name => writeln!(output, " (actual path: {path:?})")?,
+            _ => writeln!(output)?,
+        }
     }
     if let Some(format) = &below.format {
         writeln!(output, "backing file format: {format:?}")?;
@@ -431,6 +435,10 @@ fn print_fault<W: Write>(alloc: Global, fault: HeaderFault, output: &mut W) -> i
 fn print_below_json<W: Write>(alloc: Global, below: &NamesBelow, output: &mut W) -> io::Result<()> {
     if let Some(name) = &below.name {
         write!(output, ", \"backing-filename\": {}", quoted(alloc, name)?)?;
+    }
+    if let Some(path) = &below.path {
+        let path = quoted(alloc, path)?;
+        write!(output, ", \"full-backing-filename\": {path}")?;
     }
     if let Some(format) = &below.format {
         let format = quoted(alloc, format)?;
