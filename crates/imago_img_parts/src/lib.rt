@@ -17,6 +17,7 @@ mod convert;
 mod digits;
 mod extents;
 mod failure;
+mod faulty;
 pub mod guarded;
 pub mod host;
 mod image;

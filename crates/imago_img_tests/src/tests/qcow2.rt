@@ -201,7 +201,8 @@ static ROWS: [Row; 22] = [
         "convert faulty.qcow2 out.raw",
         1,
         "",
-        "imago-img: \"faulty.qcow2\": the image's data is invalid; imago-img check tells where\n",
+        "imago-img: \"faulty.qcow2\": the entry of an L2 table at 1024 is invalid; \
+        imago-img check tells all faults\n",
     ),
     (
         "check -f qcow2 one.raw",
