@@ -5,7 +5,7 @@ ghost use Rattle.std.specs.Prelude.{◌≡◌, MatchResult, IsErr};
 pub use imago_images::failure::{OpenError, Reason};
 use imago_images::signature::Signature;
 use imago_inflate::fault::InflateError;
-use imago_qcow2_check::fault::CheckError;
+use imago_qcow2_check::fault::{CheckError, Fault};
 use imago_storage::error;
 use std::alloc::{AllocError, AllocFailed, Global};
 use std::io;
@@ -49,6 +49,14 @@ pub enum Failure {
         path: String,
         /// Why.
         fault: SnapshotFault,
+    },
+    /// A qcow2 image can't be read, since an entry of one of its tables is invalid.
+    #[error("{path:?}: {fault}; imago-img check tells all faults")]
+    Entry {
+        /// The file that has it, which may be one below the image's own.
+        path: String,
+        /// Where the entry stands.
+        fault: Fault,
     },
     /// A compressed cluster of an image can't be read.
     #[error("{path:?}: the cluster at {offset} of the disk {fault}")]
@@ -289,7 +297,7 @@ impl Failure {
     }
 
     /// The image of that path isn't opened, for that cause.
-    fn of_image(alloc: Global, image: &str, cause: OpenError) -> Failure {
+    pub fn of_image(alloc: Global, image: &str, cause: OpenError) -> Failure {
         if is_of(image, &cause) {
             return Failure::from(cause);
         }
@@ -299,9 +307,33 @@ impl Failure {
         }
     }
 
+    /// What is found of a file that the image of that path needs, or why it isn't: a file that can't
+    /// be used is named with the image.
+    pub fn or_needed<T>(
+        alloc: Global,
+        image: &str,
+        answer: Result<T, Failure>,
+    ) -> Result<T, Failure>
+        ensures { MatchResult answer (λ x. result ≡ Ok x) (λ _. IsErr result) }
+    {
+        match answer {
+            Ok(found) => Ok(found),
+            Err(Failure::NotOpened(cause)) => Err(Failure::of_image(alloc, image, cause)),
+            Err(refused) => Err(refused),
+        }
+    }
+
     /// That file can't be used, for that reason.
     pub fn of_file(alloc: Global, path: &str, reason: Reason) -> Failure {
         Failure::from(OpenError::of_file(alloc, path, reason))
+    }
+
+    /// An entry of that file has that fault.
+    pub fn of_entry(alloc: Global, path: &str, fault: Fault) -> Failure {
+        match String::from_str(alloc, path) {
+            Ok(path) => Failure::Entry { path, fault },
+            Err(_) => Failure::Memory,
+        }
     }
 
     /// The compressed cluster of that file at that offset of the disk can't be read.

@@ -7,7 +7,8 @@ ghost use Rattle.imago_copy.specs.LayerRuns.{AreLayerRuns};
 ghost use Rattle.imago_images.specs.Formats.{IsFormatBy};
 ghost use Rattle.imago_images.specs.Images.{IsImageIn};
 
-use crate::failure::{ClusterFault, Failure, Reason};
+use crate::failure::{ClusterFault, Failure, OpenError, Reason};
+use crate::faulty::{invalid_entry_at, invalid_entry_in};
 use crate::host::{FileStatus, Host};
 use crate::short::ShortFiles;
 use crate::streams::{stream_fault_in, unoffered_in};
@@ -39,7 +40,24 @@ pub fn opened<'a, H: Host>(
         (λ files. IsImageIn ⟦<AnyDriver<PathStorage<'a, H>> as FormatDriverInstance>⟧.view
         how.accepted how.other_files files path.now r.0 r.1)) }
 {
-    Failure::or_opened(host.alloc(), path, open_image(host, path, how))
+    match open_image(host, path, how) {
+        Ok(found) => Ok(found),
+        Err(cause) => Err(not_opened(host, path, cause)),
+    }
+}
+
+/// Why the image of a path isn't opened: by the first invalid entry of the file that has one.
+fn not_opened<H: Host>(host: &H, path: &str, cause: OpenError) -> Failure {
+    if let OpenError::OfFile {
+        path: file,
+        reason: Reason::Image(Error::InvalidData),
+    } = &cause
+    {
+        if let Some(fault) = invalid_entry_at(host, file) {
+            return Failure::of_entry(host.alloc(), file, fault);
+        }
+    }
+    Failure::of_image(host.alloc(), path, cause)
 }
 
 /// All runs of a disk, each of one layer.
@@ -71,9 +89,12 @@ pub fn readable_size<'a, 'b, H: Host>(
         (driver image.now)).size) }
 {
     let mut short = ShortFiles::new();
-    let unoffered = Failure::or_image(alloc, path, unoffered_in(image, &mut short))?;
-    if let Some((file, offset)) = unoffered {
-        return Err(Failure::of_cluster(alloc, file, offset, ClusterFault::Zstd));
+    match unoffered_in(image, &mut short) {
+        Ok(None) => {}
+        Ok(Some((file, offset))) => {
+            return Err(Failure::of_cluster(alloc, file, offset, ClusterFault::Zstd));
+        }
+        Err(cause) => return Err(not_read(alloc, path, image, cause)),
     }
     Ok((image.size(), short))
 }
@@ -132,7 +153,8 @@ fn refusal_in<'b, H: Host>(image: &'b FileImage<'_, H>) -> Option<(&'b str, io::
 }
 
 /// Why the image of a path wasn't read: by what the host answered for one of its files, where it
-/// refused to read that, or by its first compressed cluster that can't be decoded.
+/// refused to read that, by its first compressed cluster that can't be decoded, or by the first
+/// entry that is invalid.
 pub fn not_read<H: Host>(
     alloc: Global,
     path: &str,
@@ -157,8 +179,11 @@ pub fn known_cause<H: Host>(
             Some(Failure::of_file(alloc, file, Reason::System(answer)))
         }
         Error::InvalidData => {
-            let (file, offset, fault) = stream_fault_in(alloc, image)?;
-            Some(Failure::of_cluster(alloc, file, offset, fault))
+            if let Some((file, offset, fault)) = stream_fault_in(alloc, image) {
+                return Some(Failure::of_cluster(alloc, file, offset, fault));
+            }
+            let (file, fault) = invalid_entry_in(alloc, image)?;
+            Some(Failure::of_entry(alloc, file, fault))
         }
         _ => None,
     }

@@ -1,6 +1,7 @@
 // SPDX-License-Identifier: MIT
 //! What an image is.
 
+use crate::chain::{Above, NamedBelow, Step};
 use crate::extents::{ExtentFile, bytes_of, find, tell_fault};
 use crate::failure::Failure;
 use crate::host::Host;
@@ -9,7 +10,7 @@ use crate::looked::descriptor_text;
 use crate::qcow2_info::{Qcow2Report, print_qcow2, print_qcow2_json, report_on_qcow2};
 use crate::sizes::Size;
 use imago_images::alone::refuse_another;
-use imago_images::file::{PathStorage, look_at};
+use imago_images::file::PathStorage;
 use imago_images::format::ImageFormat;
 use imago_images::gate::{FolderGate, Named};
 use imago_images::layer::format_of;
@@ -36,32 +37,96 @@ struct Report {
     qcow2: Option<Qcow2Report>,
 }
 
+/// What is asked about an image.
+#[derive(Clone, Copy)]
+pub struct Asked {
+    /// Whether the answer is JSON.
+    pub json: bool,
+    /// Whether the images below are described too.
+    pub chain: bool,
+}
+
+/// The most images that a chain has, as of those that are opened.
+const LONGEST_CHAIN: usize = 200;
+
 /// Tells the format, the size and the extents of an image, and warns of extents that their files
-/// don't hold.
+/// don't hold. Asked for a chain, it tells the same of each image below, one at a time.
 pub fn info<H: Host, W: Write, E: Write>(
     host: &H,
     path: &str,
     how: Opening,
+    asked: Asked,
+    output: &mut W,
+    warnings: &mut E,
+) -> Result<(), Failure> {
+    let first = Step::first(host, path, how)?;
+    if asked.chain {
+        return tell_chain(host, first, asked.json, output, warnings);
+    }
+    let report = report_on(host, &first.path, &first.file, how)?;
+    warn(&report, warnings);
+    tell(host, path, &report, asked.json, output).map_err(Failure::Output)?;
+    if asked.json {
+        writeln!(output).map_err(Failure::Output)?;
+    }
+    Ok(())
+}
+
+/// Tells what each image of a chain is.
+fn tell_chain<H: Host, W: Write, E: Write>(
+    host: &H,
+    first: Step<'_, H>,
     json: bool,
     output: &mut W,
     warnings: &mut E,
 ) -> Result<(), Failure> {
-    let report = report_on(host, path, how)?;
-    warn(&report, warnings);
-    let printed = if json {
-        print_json(host, path, &report, output)
+    let alloc = host.alloc();
+    let image = String::from_str(alloc, &first.path)?;
+    let mut above = Above::new(alloc);
+    let mut step = first;
+    let (mut start, between, end) = if json {
+        ("[\n", ",\n", "\n]\n")
     } else {
-        print_text(path, &report, output)
+        ("", "\n", "")
     };
-    printed.map_err(Failure::Output)
+    for _depth in 0..LONGEST_CHAIN {
+        let entered = above.enter(alloc, &step);
+        Failure::or_opened(alloc, &image, entered)?;
+        let reported = report_on(host, &step.path, &step.file, step.how);
+        let report = Failure::or_needed(alloc, &image, reported)?;
+        warn(&report, warnings);
+        write!(output, "{start}").map_err(Failure::Output)?;
+        tell(host, &step.path, &report, json, output).map_err(Failure::Output)?;
+        let Some(said) = report.named_below() else {
+            return write!(output, "{end}").map_err(Failure::Output);
+        };
+        let below = step.below(host, said);
+        step = Failure::or_opened(alloc, &image, below)?;
+        start = between;
+    }
+    Failure::or_opened(alloc, &image, above.too_many_below(alloc, &step.path))
+}
+
+impl Report {
+    /// What the image says of the one below it, if there is one.
+    fn named_below(&self) -> Option<NamedBelow<'_>> {
+        match &self.qcow2 {
+            Some(found) => found.named_below(),
+            None => None,
+        }
+    }
 }
 
 /// Looks at an image, and for the files of its extents.
-fn report_on<H: Host>(host: &H, path: &str, how: Opening) -> Result<Report, Failure> {
-    let file = look_at(host, path)?;
-    refuse_another(host.alloc(), path, &file, how.format, how.other_files)?;
-    let format = format_of(host.alloc(), path, &file, how.format)?;
-    refuse_longer(host.alloc(), path, &file, format, how)?;
+fn report_on<H: Host>(
+    host: &H,
+    path: &str,
+    file: &PathStorage<'_, H>,
+    how: Opening,
+) -> Result<Report, Failure> {
+    refuse_another(host.alloc(), path, file, how.format, how.other_files)?;
+    let format = format_of(host.alloc(), path, file, how.format)?;
+    refuse_longer(host.alloc(), path, file, format, how)?;
     let mut report = Report {
         format,
         size: file.file().status().length,
@@ -72,12 +137,12 @@ fn report_on<H: Host>(host: &H, path: &str, how: Opening) -> Result<Report, Fail
     match format {
         ImageFormat::Raw => {}
         ImageFormat::Vmdk => {
-            let described = describe(host, path, &file, how)?;
+            let described = describe(host, path, file, how)?;
             report.size = described.size;
             report.extents = found_extents(host, path, described.extents, how)?;
         }
         ImageFormat::Qcow2 => {
-            let found = report_on_qcow2(host, path, &file, how.other_files)?;
+            let found = report_on_qcow2(host, path, file, how.other_files)?;
             report.size = found.header.disk_size();
             report.qcow2 = Some(found);
         }
@@ -144,6 +209,21 @@ fn warn<E: Write>(report: &Report, warnings: &mut E) {
     }
 }
 
+/// Prints it as lines, or as a JSON object without a newline behind it.
+fn tell<H: Host, W: Write>(
+    host: &H,
+    path: &str,
+    report: &Report,
+    json: bool,
+    output: &mut W,
+) -> io::Result<()> {
+    if json {
+        print_json(host, path, report, output)
+    } else {
+        print_text(path, report, output)
+    }
+}
+
 /// Prints it as lines.
 fn print_text<W: Write>(path: &str, report: &Report, output: &mut W) -> io::Result<()> {
     writeln!(output, "image: {path:?}")?;
@@ -200,7 +280,7 @@ fn print_json<H: Host, W: Write>(
     }
     if let Some(found) = &report.qcow2 {
         print_qcow2_json(host.alloc(), found, output)?;
-        return writeln!(output, " }}");
+        return write!(output, " }}");
     }
     write!(output, ", \"extents\": [")?;
     let mut start = "";
@@ -209,7 +289,7 @@ fn print_json<H: Host, W: Write>(
         print_found(host, found, output)?;
         start = ",";
     }
-    writeln!(output, "] }}")
+    write!(output, "] }}")
 }
 
 /// Prints an extent as a JSON object.

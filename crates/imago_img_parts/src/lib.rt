@@ -7,6 +7,7 @@
 //! which is asked for the paths alone that a command may ask for.
 #![tactic(auto)]
 
+mod chain;
 mod check;
 mod check_qcow2;
 mod check_vmdk;
@@ -16,6 +17,7 @@ mod convert;
 mod digits;
 mod extents;
 mod failure;
+mod faulty;
 pub mod guarded;
 pub mod host;
 mod image;

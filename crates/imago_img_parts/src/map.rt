@@ -12,7 +12,7 @@ ghost use Rattle.imago_img_parts.specs.declared.map.LineKind.TheVariants as Kind
 use crate::digits::digits_of;
 use crate::failure::Failure;
 use crate::host::Host;
-use crate::image::{opened, runs_of};
+use crate::image::{not_read, opened, runs_of};
 use crate::json::quoted;
 use imago_access::access::FormatAccess;
 use imago_copy::layers::LayerRun;
@@ -77,26 +77,28 @@ pub fn map_image<H: Host, W: Write>(
     output: &mut W,
 ) -> Result<(), Failure> {
     let (_, image) = opened(host, path, how)?;
-    map(host, path, &image, json, output)
+    match runs_of(host.alloc(), &image) {
+        Ok(runs) => map(host, &image, &runs, json, output),
+        Err(cause) => Err(not_read(host.alloc(), path, &image, cause)),
+    }
 }
 
-/// The same of an image.
+/// The same of an image which has these runs.
 fn map<H: Host, D: FormatDriverInstance, W: Write>(
     host: &H,
-    path: &str,
     image: &FormatAccess<D>,
+    runs: &[LayerRun],
     json: bool,
     output: &mut W,
 ) -> Result<(), Failure> {
     let alloc = host.alloc();
-    let runs = Failure::or_image(alloc, path, runs_of(alloc, image))?;
     let files = files_of(alloc, image, json)?;
     let mut printer = Printer {
         output,
         json,
         is_first: true,
     };
-    print_runs(host, &runs, &files, &mut printer).map_err(Failure::Output)
+    print_runs(host, runs, &files, &mut printer).map_err(Failure::Output)
 }
 
 /// The files of an image, by the depth of the layer and the index of the storage.

@@ -2,6 +2,7 @@
 //! What a qcow2 file is, by its header, the names that stand in its first cluster, and its table of
 //! snapshots. No L1 and no L2 table is read.
 
+use crate::chain::{NamedBelow, full_path};
 use crate::failure::{Failure, OpenError, Reason, SnapshotFault};
 use crate::host::Host;
 use crate::json::quoted;
@@ -59,6 +60,9 @@ impl Unsupported {
 /// The incompatible feature that the image is corrupt, by its bit.
 const CORRUPT: u32 = 1;
 
+/// The one that the data stand in a file of their own.
+const EXTERNAL_DATA: u32 = 2;
+
 /// The one that L2 entries have subclusters.
 const EXTENDED_ENTRIES: u32 = 4;
 
@@ -67,8 +71,21 @@ const EXTENDED_ENTRIES: u32 = 4;
 struct NamesBelow {
     /// The backing file's name.
     name: Option<String>,
+    /// The path that it stands for, if it is a file's.
+    path: Option<String>,
     /// That of its format.
     format: Option<String>,
+}
+
+impl Qcow2Report {
+    /// What the image says of the one below it, if there is one.
+    pub fn named_below(&self) -> Option<NamedBelow<'_>> {
+        let name = self.below.name.as_deref()?;
+        Some(NamedBelow {
+            name,
+            format: self.below.format.as_deref(),
+        })
+    }
 }
 
 /// A header that was read.
@@ -136,6 +153,20 @@ fn first_cluster<S: Storage>(
     Qcow2::open_image(alloc, MemStorage::new(bytes), false)
 }
 
+/// Refuses a file whose data stand in another one, where no other files are opened.
+fn refuse_data_file(
+    alloc: Global,
+    path: &str,
+    head: &Head,
+    others: OtherFiles,
+) -> Result<(), OpenError> {
+    if others != OtherFiles::None || !head.unsupported.has(EXTERNAL_DATA) {
+        return Ok(());
+    }
+    let fault = HeaderFault::Features(1 << EXTERNAL_DATA);
+    Err(OpenError::of_file(alloc, path, Reason::Header(fault)))
+}
+
 /// What a file says of the one below it. Where no other files are opened, it may name none.
 fn names_below<S: Storage>(
     alloc: Global,
@@ -148,10 +179,24 @@ fn names_below<S: Storage>(
     refuse_below(alloc, path, &first, others)?;
     let name = OpenError::or_image(alloc, path, first.backing_file(alloc))?;
     let format = OpenError::or_image(alloc, path, first.backing_format(alloc))?;
+    let name = named(alloc, path, name)?;
     Ok(NamesBelow {
-        name: named(alloc, path, name)?,
+        path: match &name {
+            Some(name) => path_named(alloc, path, name)?,
+            None => None,
+        },
+        name,
         format: named(alloc, path, format)?,
     })
+}
+
+/// The path that a name stands for which the file of that path has, if it is a file's.
+fn path_named(alloc: Global, path: &str, name: &str) -> Result<Option<String>, OpenError> {
+    match full_path(alloc, path, name) {
+        Ok(path) => Ok(Some(path)),
+        Err(OpenError::Memory) => Err(OpenError::Memory),
+        Err(_) => Ok(None),
+    }
 }
 
 /// How many bits a reference count has. In version 2 all have 16.
@@ -199,6 +244,7 @@ pub fn report_on_qcow2<H: Host>(
     let alloc = host.alloc();
     let read = read_head(alloc, path, file);
     let (head, length) = told_by_host(alloc, path, file, read)?;
+    refuse_data_file(alloc, path, &head, others)?;
     let read = names_below(alloc, path, file, &head, others);
     let below = told_by_host(alloc, path, file, read)?;
     let snapshots = match snapshots_of(alloc, file, &head, length) {
@@ -289,7 +335,11 @@ fn print_unsupported<W: Write>(unsupported: Unsupported, output: &mut W) -> io::
 /// Prints what is said of the file below as lines.
 fn print_below<W: Write>(below: &NamesBelow, output: &mut W) -> io::Result<()> {
     if let Some(name) = &below.name {
-        writeln!(output, "backing file: {name:?}")?;
+        write!(output, "backing file: {name:?}")?;
+        match &below.path {
+            Some(path) if path != name => writeln!(output, " (actual path: {path:?})")?,
+            _ => writeln!(output)?,
+        }
     }
     if let Some(format) = &below.format {
         writeln!(output, "backing file format: {format:?}")?;
@@ -385,6 +435,10 @@ fn print_fault<W: Write>(alloc: Global, fault: HeaderFault, output: &mut W) -> i
 fn print_below_json<W: Write>(alloc: Global, below: &NamesBelow, output: &mut W) -> io::Result<()> {
     if let Some(name) = &below.name {
         write!(output, ", \"backing-filename\": {}", quoted(alloc, name)?)?;
+    }
+    if let Some(path) = &below.path {
+        let path = quoted(alloc, path)?;
+        write!(output, ", \"full-backing-filename\": {path}")?;
     }
     if let Some(format) = &below.format {
         let format = quoted(alloc, format)?;

@@ -23,7 +23,7 @@ use crate::compare::leaves_out;
 use crate::failure::Failure;
 use crate::guarded::GuardedHost;
 use crate::host::{Files, Host, Making};
-use crate::info::info;
+use crate::info::{Asked, info};
 use crate::map::map_image;
 use crate::opening::{how_to_open, said_format};
 use crate::question::Question;
@@ -320,7 +320,10 @@ fn describe<H: Host, W: Write, E: Write>(
         host,
         asked.file,
         how,
-        asked.output == Output::Json,
+        Asked {
+            json: asked.output == Output::Json,
+            chain: asked.backing_chain,
+        },
         output,
         errors,
     )?;

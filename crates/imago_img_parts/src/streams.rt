@@ -39,7 +39,7 @@ fn layer_at<D: FormatDriverInstance>(
 }
 
 /// The path of the file that a layer stands in, and its driver, if it is a qcow2 image.
-fn qcow2_in<'b, 'a, H: Host>(
+pub fn qcow2_in<'b, 'a, H: Host>(
     layer: &'b FileImage<'a, H>,
 ) -> Option<(&'b str, &'b Qcow2<PathStorage<'a, H>>)> {
     match layer.inner() {

@@ -7,7 +7,7 @@ use super::set_up::{Case, check_cases};
 type Row = (&'static str, u8, &'static str, &'static str);
 
 /// Command lines that make no file.
-static ROWS: [Row; 20] = [
+static ROWS: [Row; 22] = [
     // One image.
     (
         "info one.qcow2",
@@ -79,6 +79,42 @@ static ROWS: [Row; 20] = [
         \x20   corrupt: false\n\
         \x20   extended l2: false\n",
         "",
+    ),
+    // All three, and as far as they are let through.
+    (
+        "info --backing-chain top.qcow2",
+        0,
+        "image: \"top.qcow2\"\nfile format: qcow2\nvirtual size: 2 KiB (2048 bytes)\n\
+        disk size: 2 KiB\ncluster_size: 512\n\
+        backing file: \"mid.qcow2\"\nbacking file format: \"qcow2\"\n\
+        Format specific information:\n\
+        \x20   compat: 1.1\n\
+        \x20   compression type: zlib\n\
+        \x20   lazy refcounts: true\n\
+        \x20   refcount bits: 16\n\
+        \x20   corrupt: false\n\
+        \x20   extended l2: false\n\
+        \nimage: \"mid.qcow2\"\nfile format: qcow2\nvirtual size: 2 KiB (2048 bytes)\n\
+        disk size: 2 KiB\ncluster_size: 512\n\
+        backing file: \"parts/base.raw\"\n\
+        Format specific information:\n\
+        \x20   compat: 0.10\n\
+        \x20   compression type: zlib\n\
+        \x20   refcount bits: 16\n\
+        \nimage: \"parts/base.raw\"\nfile format: raw\nvirtual size: 1.5 KiB (1536 bytes)\n\
+        disk size: 1.5 KiB\n",
+        "",
+    ),
+    (
+        "info --backing-chain --json outside.qcow2",
+        1,
+        "[\n{ \"filename\": \"outside.qcow2\", \"format\": \"qcow2\", \"virtual-size\": 2048, \
+        \"actual-size\": 1024, \"cluster-size\": 512, \"backing-filename\": \"/etc/secret\", \
+        \"full-backing-filename\": \"/etc/secret\", \"dirty-flag\": false, \
+        \"format-specific\": { \"type\": \"qcow2\", \"data\": { \"compat\": \"0.10\", \
+        \"compression-type\": \"zlib\", \"refcount-bits\": 16 } } }",
+        "imago-img: \"outside.qcow2\": its backing file \"/etc/secret\" isn't in its folder; \
+        --allow-outside permits it, as does the image's absolute path if the file lies there\n",
     ),
     (
         "map top.qcow2",
@@ -165,7 +201,8 @@ static ROWS: [Row; 20] = [
         "convert faulty.qcow2 out.raw",
         1,
         "",
-        "imago-img: \"faulty.qcow2\": the image's data is invalid; imago-img check tells where\n",
+        "imago-img: \"faulty.qcow2\": the entry of an L2 table at 1024 is invalid; \
+        imago-img check tells all faults\n",
     ),
     (
         "check -f qcow2 one.raw",
