@@ -11,7 +11,7 @@ use Rattle.std.proofs.lemmas.List.{get_or_append_left, get_or-append_right, get_
 use Rattle.imago_storage.specs.Bytes.{IsReadAt}
 use Rattle.imago_drivers.specs.Place.{Value}
 use Rattle.imago_qcow2.specs.Numbers.{be32, be64}
-use Rattle.imago_qcow2.specs.Header.{own_length, features_at}
+use Rattle.imago_qcow2.specs.Header.{own_length}
 use Rattle.imago_qcow2.specs.Backing.{extensions_end, format_of, IsBackingName, IsFormatName}
 use Rattle.imago_qcow2.proofs.BackingSteps.{found_here}
 use Rattle.imago_qcow2.proofs.NumberSteps.{read32}
@@ -19,7 +19,7 @@ use Rattle.imago_qcow2_check.specs.Known.{known_from, IsKnown}
 use Rattle.imago_qcow2_check.proofs.KnownSteps.{known_goes_on, known_end}
 use Rattle.imago_qcow2_new.specs.declared.format.Version.TheVariants as V
 use Rattle.imago_qcow2_new.specs.declared.layout.Layout.{Layout}
-use Rattle.imago_qcow2_new.specs.Header.{words_of, number_of, name_start, field_word}
+use Rattle.imago_qcow2_new.specs.Header.{words_of, number_of, name_start}
 use Rattle.imago_qcow2_new.specs.Names.{padding, extension, AreNames}
 use Rattle.imago_qcow2_new.specs.Words.{byte_of}
 use Rattle.imago_qcow2_new.specs.Layout.{head_word}
@@ -27,8 +27,7 @@ use Rattle.imago_qcow2_new.specs.Image.{IsWritten}
 use Rattle.imago_qcow2_new.specs.declared.format.Version.{Version}
 use Rattle.imago_qcow2_new.proofs.Whole.{power_most}
 use Rattle.imago_qcow2_new.proofs.FileSteps.{per_cluster}
-use Rattle.imago_qcow2_new.proofs.WordSteps.{word_whole}
-use Rattle.imago_qcow2_new.proofs.Reading.{versions, words_most, least, behind, head_at, later_field, cluster_is, first_word, own_word, name_start_is, name_length_is}
+use Rattle.imago_qcow2_new.proofs.Reading.{versions, words_most, least, cluster_is, features_none, first_word, own_word, name_start_is, name_length_is}
 
 words_some : (v : Version) → 0 < 8 * words_of v
 words_some V.Two = omega arith
@@ -307,19 +306,8 @@ module _ (l : Layout) (values : ℕ → Value) (file : List ℕ) (is : IsWritten
         let there : 0 ≡ be32 file (own_length file) = sym (ap (be32 file) o ∙ kind) in
         known_end file (extensions_end file) (own_length file) 0 (be32 file (own_length file + 4)) there refl (omega (arith, o, e, w, x)) refl
 
-  features_none : features_at file 88 ≡ 0
-  unfolding features_at field_word
-  features_none = ⊎_elim
-      (λ (second : l.header.version ≡ V.Two). let v : be32 file 4 ≡ 2 = (first_word l values file is).1 ∙ ap number_of second in rw v refl)
-      (λ (third : l.header.version ≡ V.Three).
-      let v : be32 file 4 ≡ 3 = (first_word l values file is).1 ∙ ap number_of third in
-      let e : head_word l 11 ≡ 0 = later_field l values file is third 11 (omega arith) in
-      let f : be64 file 88 ≡ 0 = word_whole file 88 (head_word l 11) (head_at l values file is 11 (let x = behind l values file is in omega (arith, x))) (omega (arith, e)) ∙ e in
-      rw (v, f) refl)
-      (versions l.header.version)
-
   pub known_named : (name format : List ℕ) → AreNames name format l.header.names → 0 < length name → IsKnown file
-  known_named name format are some = record { features = features_none; extensions = known_here name format are some }
+  known_named name format are some = record { features = omega (arith, features_none l values file is); extensions = known_here name format are some }
 
   pub known_none : l.header.names.bytes.items ≡ [] → l.header.names.count ≡ 0 → IsKnown file
-  known_none none few = record { features = features_none; extensions = no_extension none few }
+  known_none none few = record { features = omega (arith, features_none l values file is); extensions = no_extension none few }

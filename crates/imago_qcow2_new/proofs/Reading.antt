@@ -512,3 +512,15 @@ module _ (l : Layout) (values : ℕ → Value) (file : List ℕ) (is : IsWritten
         opened ∙ ap (λ z. place_by (packed_of true file (disk_of file)) file (p % l.cluster) p (cluster_in_entry (version_of file) l.cluster z)) (e ∙ none)
         ∙ ap (place_by (packed_of true file (disk_of file)) file (p % l.cluster) p) (no_cluster (version_of file) l.cluster (omega (arith, x))))
         (either (spot l.clusters.stored l.clusters.extents.items (p / l.cluster * l.cluster)).stored)
+
+  -- it has no autoclear feature
+  pub features_none : features_at file 88 ≡ 0
+  unfolding features_at field_word
+  features_none = ⊎_elim
+      (λ (second : l.header.version ≡ V.Two). let v : be32 file 4 ≡ 2 = first_word.1 ∙ ap number_of second in rw v refl)
+      (λ (third : l.header.version ≡ V.Three).
+      let v : be32 file 4 ≡ 3 = first_word.1 ∙ ap number_of third in
+      let e : head_word l 11 ≡ 0 = later_field third 11 (omega arith) in
+      let f : be64 file 88 ≡ 0 = word_whole file 88 (head_word l 11) (head_at 11 (let x = behind in omega (arith, x))) (omega (arith, e)) ∙ e in
+      rw (v, f) refl)
+      (versions l.header.version)

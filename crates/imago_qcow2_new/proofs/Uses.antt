@@ -15,6 +15,7 @@ use Rattle.imago_qcow2_check.specs.Clusters.{Setting, cluster_count, use_of}
 use Rattle.imago_qcow2_check.specs.Entries.{offset_of, length_at, l1_entry_use, names_table, named_use, table_use, l1_uses, l2_uses, l2_entry_use, cluster_use}
 use Rattle.imago_qcow2_check.specs.Counts.{blocks_start, blocks_length}
 use Rattle.imago_qcow2_check.specs.Snapshots.{snapshot_count, snapshots_start, snapshots_end}
+use Rattle.imago_qcow2_check.specs.Bitmaps.{bitmaps_extension, bitmaps_uses}
 use Rattle.imago_qcow2_check.specs.Uses.{setting, is_once, l1_count, header_use, snapshots_uses, blocks_uses, block_use, block_length, uses_of}
 use Rattle.imago_qcow2_check.proofs.RangeSteps.{use_zero}
 use Rattle.imago_qcow2_check.proofs.SumSteps.{total_same}
@@ -28,7 +29,7 @@ use Rattle.imago_qcow2_new.proofs.ExtentSteps.{stored_whole}
 use Rattle.imago_qcow2_new.proofs.FileSteps.{below_all}
 use Rattle.imago_qcow2_new.proofs.WordSteps.{word_halves}
 use Rattle.imago_qcow2_new.proofs.EntrySteps.{cluster_entry, no_cluster, zero_cluster}
-use Rattle.imago_qcow2_new.proofs.Reading.{either, least, behind, head_at, is_field, start_is, cluster_is, fourth_word, l1_is, entry_there, entry_gone}
+use Rattle.imago_qcow2_new.proofs.Reading.{either, least, behind, head_at, is_field, start_is, cluster_is, features_none, fourth_word, l1_is, entry_there, entry_gone}
 use Rattle.imago_qcow2_new.proofs.Counting.{counts_is, counts_length_is, count_entries, block_there, block_none}
 use Rattle.imago_qcow2_new.proofs.Sums.{product_is, quotient_is, between_in, between_none, between_both, total_zero, total_sum, total_part, total_ranges, total_between, rank, before_is, rank_next, rank_grows, rank_first, rank_all, use_range}
 
@@ -546,6 +547,15 @@ module _ (l : Layout) (values : ℕ → Value) (file : List ℕ) (is : IsWritten
       let x = between_both 1 blocks_at l1_at n (at_most l.cluster 1 blocks_at positive (omega (arith, u, l.blocks_behind, one_is))) (at_most l.cluster blocks_at l1_at positive (omega (arith, u, v, l.l1_at))) in
       omega (arith, a, b, x)
 
+  -- without an autoclear feature no bitmap is valid
+  pub no_bitmaps : bitmaps_extension file ≡ 0
+  unfolding bitmaps_extension
+  no_bitmaps = let e = features_none l values file is in rw e refl
+
+  bitmaps_part : (n : ℕ) → bitmaps_uses (setting file) file (bitmaps_extension file) n ≡ 0
+  unfolding bitmaps_uses
+  bitmaps_part n = let e = no_bitmaps in rw e refl
+
   -- each cluster of the file is used once
   pub used : (n : ℕ) → n < end_at → uses_of file n ≡ 1
   unfolding uses_of
@@ -559,6 +569,7 @@ module _ (l : Layout) (values : ℕ → Value) (file : List ℕ) (is : IsWritten
       let b = ap (λ x. snapshots_uses x file (snapshots_start file) (snapshot_count file) n) s ∙ ap (λ x. snapshots_uses by file (snapshots_start file) x n) z ∙ snapshots n in
       let q = counts_is l values file is in
       let d = ap (λ x. blocks_uses x file (blocks_start file) (blocks_length file) n) s ∙ ap (λ x. blocks_uses by file x (blocks_length file) n) q ∙ blocks_part n in
+      let f = bitmaps_part n in
       let u = l1_start_is in
       let e = end_is in
       let p = positive in
@@ -568,4 +579,4 @@ module _ (l : Layout) (values : ℕ → Value) (file : List ℕ) (is : IsWritten
       let x = between_both 0 1 l1_at n (omega arith) low in
       let y = between_both 0 l1_at end_at n (omega arith) high in
       let w = between_in 0 end_at n (omega arith) lt in
-      omega (arith, h, a, b, d, x, y, w)
+      omega (arith, h, a, b, d, f, x, y, w)

@@ -15,6 +15,7 @@ use Rattle.imago_qcow2_check.specs.Clusters.{Setting, cluster_count, passes}
 use Rattle.imago_qcow2_check.specs.Entries.{offset_of, copied_fault, cluster_faults, invalid_table, l1_entry_faults, l2_entry_faults, names_table}
 use Rattle.imago_qcow2_check.specs.Counts.{block_entry, count_of}
 use Rattle.imago_qcow2_check.specs.Faults.{shared_fault}
+use Rattle.imago_qcow2_check.specs.Bitmaps.{bitmaps_extension, bitmaps_faults}
 use Rattle.imago_qcow2_check.specs.Uses.{setting, is_once, block_faults, uses_of}
 use Rattle.imago_qcow2_check.specs.Verdicts.{IsFaultless}
 use Rattle.imago_qcow2_new.specs.declared.layout.Layout.{Layout}
@@ -24,7 +25,7 @@ use Rattle.imago_qcow2_new.proofs.Whole.{zero_whole}
 use Rattle.imago_qcow2_new.proofs.EntrySteps.{no_table, no_cluster, zero_known}
 use Rattle.imago_qcow2_new.proofs.Reading.{either, version_three, least, cluster_is, fourth_word, l1_is, table_says, table_there}
 use Rattle.imago_qcow2_new.proofs.Counting.{counts_is, count_entries, block_there, block_none, counted}
-use Rattle.imago_qcow2_new.proofs.Uses.{by, setting_is, positive, end_at, end_is, clusters_are, count_is, block_whole, block_some, block_inside, no_snapshots, table_spot, cluster_spot, table_inside, table_offset, table_some, data_inside, data_some, data_says, data_offset, entry_read, names_none, used}
+use Rattle.imago_qcow2_new.proofs.Uses.{by, setting_is, positive, end_at, end_is, clusters_are, count_is, block_whole, block_some, block_inside, no_snapshots, no_bitmaps, table_spot, cluster_spot, table_inside, table_offset, table_some, data_inside, data_some, data_says, data_offset, entry_read, names_none, used}
 
 product_below : (unit x : ℕ) → x / unit * unit ≤ x
 product_below unit x = let f : x / unit * unit + x % unit ≡ x = div-add-mod' x unit in omega (arith, f)
@@ -164,6 +165,10 @@ module _ (l : Layout) (values : ℕ → Value) (file : List ℕ) (is : IsWritten
       (rw (e, z) refl, rw e refl))
       (cases_lt i l.blocks)
 
+  bitmaps_sound : bitmaps_faults (setting file) file (bitmaps_extension file) ≡ 0
+  unfolding bitmaps_faults
+  bitmaps_sound = let e = no_bitmaps l values file is in rw e refl
+
   pub faultless : IsFaultless file
   faultless = record {
     entries = record {
@@ -178,6 +183,7 @@ module _ (l : Layout) (values : ℕ → Value) (file : List ℕ) (is : IsWritten
           let near : j < l.cluster / 8 = subst (λ (x : Setting). j < x.cluster / 8) s less in
           ap (λ x. l2_entry_faults x true (be64 file (offset_of (l1_entry file i) + 8 * j))) s ∙ ap (λ x. l2_entry_faults (by l values file is) true (be64 file (offset_of x + 8 * j))) e ∙ table_entries i j inside here near;
       snapshots = λ i lt. absurd (let z = no_snapshots l values file is in omega (arith, lt, z));
+      bitmaps = bitmaps_sound;
       blocks = λ i lt.
           let k = count_entries l values file is in
           let q = counts_is l values file is in
