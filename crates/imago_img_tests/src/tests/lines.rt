@@ -16,14 +16,15 @@ const PLAIN: &str = "{ \"filename\": \"plain.raw\", \"format\": \"raw\", \"virtu
 /// What `info --help` prints.
 const INFO: &str = "Describe an image
 
-usage: imago-img info [-f FMT] [--output OFMT] [--json] [-U] [--tables SIZE]
-                      [--max-size SIZE] [--strict] [--allow-outside] [--alone]
-                      [-h] [-V] FILE
+usage: imago-img info [-f FMT] [--output OFMT] [--json] [--backing-chain] [-U]
+                      [--tables SIZE] [--max-size SIZE] [--strict]
+                      [--allow-outside] [--alone] [-h] [-V] FILE
 
 Options:
   -f, --format FMT      The image's format: raw, vmdk or qcow2
       --output OFMT     What is printed: human or json
       --json            The same as --output=json
+      --backing-chain   Describe the backing files too
   -U, --force-share     Accepted and ignored: no file is locked
       --tables SIZE     The most memory for tables: a size such as 64M
       --max-size SIZE   Refuse longer disks: a size such as 2T
@@ -43,6 +44,7 @@ Commands:
   info     Describe an image
   map      List where the bytes of an image's disk are stored
   check    Look for errors in an image
+  vet      Tell whether an image from a stranger is safe to hand on
   compare  Compare the disks of two images
   convert  Write an image's disk to another image
 
