@@ -7,3 +7,4 @@ mod Decimals
 mod FaultSteps
 mod Cleared
 mod Opened
+mod VetSteps

@@ -80,6 +80,8 @@ outcome_has_status (Checked None) = inr refl
 outcome_has_status (Checked (Some V.Faultless)) = inl (omega arith)
 outcome_has_status (Checked (Some V.Corrupt)) = inl (omega arith)
 outcome_has_status (Checked (Some V.Leaks)) = inl (omega arith)
+outcome_has_status (Vetted true) = inl (omega arith)
+outcome_has_status (Vetted false) = inl (omega arith)
 
 -- a status that says little is one of these too
 pub small_status : (status most : ℕ) → status ≤ most → most ≤ 2 → IsStatus status

@@ -13,12 +13,13 @@ use Rattle.imago_images.specs.declared.opening.Opening.{Opening}
 use Rattle.imago_img_parts.specs.declared.question.Question.{Question}
 use Rattle.imago_img_parts.specs.declared.question.Question.TheVariants as Q
 use Rattle.imago_img_parts.specs.declared.run.Outcome.{Outcome}
-use Rattle.imago_img_parts.specs.declared.run.Outcome.TheVariants.{Fine, Unlike, Checked}
+use Rattle.imago_img_parts.specs.declared.run.Outcome.TheVariants.{Fine, Unlike, Checked, Vetted}
 use Rattle.imago_img_parts.specs.Files.{Around, IsSoOnceCleared}
 use Rattle.imago_img_parts.specs.Disks.{IsConverted, IsConvertedOver, IsPartlyConvertedOver}
 use Rattle.imago_img_parts.specs.Disks.{AreAlike, AreUnlike}
 use Rattle.imago_img_parts.specs.Checked.{IsChecked}
 use Rattle.imago_img_parts.specs.Openings.{how_by, image_format}
+use Rattle.imago_img_parts.specs.Vetted.{IsVetted}
 
 -- fine or not
 abbrev pub outcome_when : Bool → Outcome
@@ -30,11 +31,17 @@ abbrev pub check_status : Option Verdict → ℕ
 check_status None = 63
 check_status (Some verdict) = status_of verdict
 
+-- the status of `vet`: 0 where the file is safe to hand on, or else 2
+abbrev pub vet_status : Bool → ℕ
+vet_status true = 0
+vet_status false = 2
+
 -- the status of what a question comes to
 abbrev pub outcome_status : Outcome → ℕ
 outcome_status Fine = 0
 outcome_status Unlike = 1
 outcome_status (Checked verdict) = check_status verdict
+outcome_status (Vetted safe) = vet_status safe
 
 -- the statuses that there are
 abbrev pub IsStatus : ℕ → Type 0
@@ -58,6 +65,9 @@ IsAnswered (Q.Map c) contents outcome = outcome ≡ Fine
 IsAnswered (Q.Check c) contents outcome =
     (verdict : Option Verdict) × (outcome ≡ Checked verdict) × IfSome contents
     (λ files. IsChecked (how_by c.format c.opening) files c.file.now verdict)
+IsAnswered (Q.Vet c) contents outcome =
+    (safe : Bool) × (outcome ≡ Vetted safe) × (safe ≡ true → IfSome contents
+    (λ files. IsVetted (how_by c.format c.opening) c.file.now (files c.file.now)))
 IsAnswered (Q.Compare c) contents outcome =
     (alike : Bool) × (outcome ≡ outcome_when alike) × IfSome contents
     (λ files. AreToldApart (how_by c.first_format c.opening)
@@ -71,6 +81,7 @@ untold refused Q.Version = refused
 untold refused (Q.Info c) = 1
 untold refused (Q.Map c) = 1
 untold refused (Q.Check c) = 1
+untold refused (Q.Vet c) = 1
 untold refused (Q.Compare c) = 2
 
 -- the status says what was answered, or that nothing was
@@ -134,6 +145,8 @@ IsPerformed refused (Asked.Map c) old new before after status =
     IsAsked refused (Q.Map c) old new before after status
 IsPerformed refused (Asked.Check c) old new before after status =
     IsAsked refused (Q.Check c) old new before after status
+IsPerformed refused (Asked.Vet c) old new before after status =
+    IsAsked refused (Q.Vet c) old new before after status
 IsPerformed refused (Asked.Compare c) old new before after status =
     IsAsked refused (Q.Compare c) old new before after status
 

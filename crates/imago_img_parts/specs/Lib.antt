@@ -6,4 +6,6 @@ pub mod Checked
 pub mod Extents
 pub mod Openings
 pub mod Reaches
+pub mod Vetted
+pub mod VettedParts
 pub mod Commands

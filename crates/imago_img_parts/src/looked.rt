@@ -10,6 +10,7 @@ use imago_images::layer::told_by_host;
 pub use imago_images::longest::descriptor_text;
 use imago_images::longest::refuse_longer;
 use imago_images::opening::Opening;
+use imago_storage::error::Error;
 use imago_storage::ext::StorageExt;
 use std::alloc::Global;
 
@@ -21,6 +22,19 @@ pub fn try_file<F: HostFile>(
 ) -> Result<(), OpenError> {
     let read = file.read(alloc, &mut [0u8; 1], 0);
     told_by_host(alloc, path, file, OpenError::or_image(alloc, path, read))
+}
+
+/// Why a file isn't read: by the host's own answer, where it gave one.
+pub fn unread<F: HostFile>(
+    alloc: Global,
+    path: &str,
+    file: &FileStorage<F>,
+    cause: Error,
+) -> OpenError {
+    match file.last_error() {
+        Some(answer) => OpenError::of_file(alloc, path, Reason::System(answer)),
+        None => OpenError::of_file(alloc, path, Reason::Image(cause)),
+    }
 }
 
 /// Refuses a file of that format whose disk is longer than the opening allows. A fault by which its

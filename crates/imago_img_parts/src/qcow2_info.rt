@@ -98,7 +98,7 @@ struct Head {
 }
 
 /// Puts bytes over others from an offset on, if all of them are there.
-fn put(bytes: &mut [u8], at: usize, source: &[u8]) {
+pub fn put(bytes: &mut [u8], at: usize, source: &[u8]) {
     if at > bytes.len() || bytes.len() - at < source.len() {
         return;
     }

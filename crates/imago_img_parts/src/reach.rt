@@ -16,6 +16,7 @@ pub fn reach_of<'a>(command: &Command<'a>) -> Reach<'a>
         Command::Info(asked) => reach_when(asked.opening.alone, Reach::File(asked.file)),
         Command::Map(asked) => reach_when(asked.opening.alone, Reach::File(asked.file)),
         Command::Check(asked) => reach_when(asked.opening.alone, Reach::File(asked.file)),
+        Command::Vet(asked) => Reach::File(asked.file),
         Command::Compare(asked) => {
             reach_when(asked.opening.alone, Reach::Files(asked.first, asked.second))
         }

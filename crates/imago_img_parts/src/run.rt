@@ -1,18 +1,19 @@
 // SPDX-License-Identifier: MIT
 //! The program, over any host.
 ghost use Rattle.std.specs.Prelude.{◌≡◌, ◌≤◌, ◌&&◌, OnOk, OnErr, IfOk, IfSome, is_some, map};
-ghost use Rattle.std.specs.Prelude.{not, option_map, Bool, Option};
+ghost use Rattle.std.specs.Prelude.{not, option_map, Bool, Option, true};
 ghost use Rattle.std.specs.Prelude.{string_bytes};
 ghost use Rattle.imago_words.specs.declared.command.Command.{Command};
 ghost use Rattle.imago_words.specs.Line.{Asks, kind_named, status_for, status_of};
 ghost use Rattle.imago_images.specs.Reach.{AreAmong, is_made, is_read, is_seen};
-ghost use Rattle.imago_img_parts.specs.declared.run.Outcome.TheVariants.{Fine, Checked};
+ghost use Rattle.imago_img_parts.specs.declared.run.Outcome.TheVariants.{Fine, Checked, Vetted};
 ghost use Rattle.imago_qcow2_check.specs.declared.fault.Verdict.{Verdict};
 ghost use Rattle.imago_img_parts.specs.Checked.{IsChecked};
 ghost use Rattle.imago_img_parts.specs.Commands.{AreToldApart, IsAnswered, IsConcluded};
 ghost use Rattle.imago_img_parts.specs.Commands.{IsConvertedBy, IsPerformed, IsRun, IsStatus};
 ghost use Rattle.imago_img_parts.specs.Commands.{outcome_status, outcome_when, refused_status};
-ghost use Rattle.imago_img_parts.specs.Commands.{check_status, untold};
+ghost use Rattle.imago_img_parts.specs.Commands.{check_status, untold, vet_status};
+ghost use Rattle.imago_img_parts.specs.Vetted.{IsVetted};
 ghost use Rattle.imago_img_parts.specs.Disks.{is_left_out};
 ghost use Rattle.imago_img_parts.specs.Openings.{how_by, image_format};
 ghost use Rattle.imago_img_parts.specs.Reaches.{reach_by};
@@ -28,9 +29,10 @@ use crate::map::map_image;
 use crate::opening::{how_to_open, said_format};
 use crate::question::Question;
 use crate::reach::reach_of;
+use crate::vet::vet;
 use imago_images::confined::Confined;
 use imago_qcow2_check::fault::Verdict;
-use imago_words::command::{Check, Command, Compare, Convert, Info, Map, Output};
+use imago_words::command::{Check, Command, Compare, Convert, Info, Map, Output, Vet};
 use imago_words::help::{Help, VERSION};
 use imago_words::kind::Kind;
 use imago_words::refusal::Refusal;
@@ -38,6 +40,9 @@ use std::io::{self, BufWriter, Write};
 
 /// The exit status where the format of a file has nothing to check.
 const NOTHING_TO_CHECK: u8 = 63;
+
+/// The exit status where a file isn't safe to hand on.
+const REFUSED: u8 = 2;
 
 /// What a question comes to.
 #[derive(Clone, Copy)]
@@ -48,6 +53,8 @@ enum Outcome {
     Unlike,
     /// What is said of a file that was checked, if its format has something to check.
     Checked(Option<Verdict>),
+    /// Whether a file is safe to hand on.
+    Vetted(bool),
 }
 
 impl Outcome {
@@ -60,6 +67,8 @@ impl Outcome {
             Outcome::Unlike => 1,
             Outcome::Checked(Some(verdict)) => verdict.status(),
             Outcome::Checked(None) => NOTHING_TO_CHECK,
+            Outcome::Vetted(true) => 0,
+            Outcome::Vetted(false) => REFUSED,
         }
     }
 }
@@ -153,6 +162,7 @@ pub fn perform<H: Host, W: Write, E: Write>(
         Command::Info(asked) => ask(&*host, Question::Info(asked), refused, output, errors),
         Command::Map(asked) => ask(&*host, Question::Map(asked), refused, output, errors),
         Command::Check(asked) => ask(&*host, Question::Check(asked), refused, output, errors),
+        Command::Vet(asked) => ask(&*host, Question::Vet(asked), refused, output, errors),
         Command::Compare(asked) => ask(&*host, Question::Compare(asked), refused, output, errors),
     }
 }
@@ -254,7 +264,7 @@ fn untold(refused: u8, question: Question<'_>) -> u8
 {
     match question {
         Question::Help(_) | Question::Version => refused,
-        Question::Info(_) | Question::Map(_) | Question::Check(_) => 1,
+        Question::Info(_) | Question::Map(_) | Question::Check(_) | Question::Vet(_) => 1,
         Question::Compare(_) => 2,
     }
 }
@@ -292,6 +302,7 @@ fn answer<H: Host, W: Write, E: Write>(
         Question::Info(asked) => describe(host, asked, output, errors),
         Question::Map(asked) => list(host, asked, output),
         Question::Check(asked) => look_for_faults(host, asked, output, errors),
+        Question::Vet(asked) => look_at_stranger(host, asked, output),
         Question::Compare(asked) => compare(host, asked, output),
     }
 }
@@ -366,6 +377,22 @@ fn look_for_faults<H: Host, W: Write, E: Write>(
     let json = asked.output == Output::Json;
     let verdict = check(host, asked.file, how, json, output, errors)?;
     Ok(Outcome::Checked(verdict))
+}
+
+/// Tells whether a file from a stranger is safe to hand on.
+fn look_at_stranger<H: Host, W: Write>(
+    host: &H,
+    asked: Vet<'_>,
+    output: &mut W,
+) -> Result<Outcome, Failure>
+    ensures { IfOk result (λ outcome. (safe : Bool) × (outcome ≡ Vetted safe)
+        × (safe ≡ true → IfSome (H.contents host.now) (λ files.
+        IsVetted (how_by asked.entry.format asked.entry.opening) asked.entry.file.now
+        (files asked.entry.file.now)))) }
+{
+    let how = how_to_open(asked.format, asked.opening);
+    let safe = vet(host, asked.file, how, asked.output == Output::Json, output)?;
+    Ok(Outcome::Vetted(safe))
 }
 
 /// Tells whether two images show the same.

@@ -18,4 +18,5 @@ mod qcow2;
 mod refusals;
 mod set_up;
 mod unfinished;
+mod vet;
 mod whole;

@@ -1,0 +1,126 @@
+-- Whether the entries of tables can be read.
+-- SPDX-License-Identifier: MIT
+use Rattle.std.proofs.Common.{◌≡◌, ℕ, zero, suc, ◌+◌, ◌*◌, ◌/◌, ◌^◌, ◌<◌, ◌≤◌, ◌⊎◌, Bool, true, false, ◌&&◌, List, length, Option, IfSome, refl, sym, ap, ◌∙◌, subst, ⊎_elim, add-one, arith}
+use Rattle.std.specs.Prelude.{None}
+use Rattle.std.specs.Int.{div_ceil}
+use Rattle.std.proofs.lemmas.Bool.{cases_eq}
+use Rattle.imago_storage.specs.Bytes.{IsReadAt}
+use Rattle.imago_qcow2.specs.declared.entry.L2Table.{L2Table}
+use Rattle.imago_qcow2.specs.declared.entry.L2Table.TheVariants as T
+use Rattle.imago_qcow2.specs.Numbers.{be32, be64}
+use Rattle.imago_qcow2.specs.Header.{compression_of}
+use Rattle.imago_qcow2.specs.Entry.{version_of, cluster_length, l1_start, table_in_entry, table_of}
+use Rattle.imago_qcow2.specs.Opening.{table_count}
+use Rattle.imago_qcow2.proofs.NumberSteps.{read64}
+use Rattle.imago_qcow2.proofs.HeaderSteps.{same32, same64, compression_same, head_same}
+use Rattle.imago_images.specs.Layers.{SaysBacking}
+use Rattle.imago_img_parts.specs.declared.vet_tables.Shape.{Shape}
+use Rattle.imago_images.specs.declared.opening.Opening.{Opening}
+use Rattle.imago_img_parts.specs.Vetted.{named_by, named_tables, IsSafeTable, AreSafeTables, IsVetted}
+use Rattle.imago_img_parts.specs.VettedParts.{IsEntrySafe, IsTableSafe, AreEntriesSafe}
+
+-- one more of them holds, where all did before
+module _ (P : ℕ → Type 0) where
+  pub one_more : (n : ℕ) → ((j : ℕ) → j < n → P j) → P n → (j : ℕ) → j < n + 1 → P j
+  one_more n before now j below = ⊎_elim
+      (λ (same : j ≡ n). subst P (sym same) now)
+      (λ (apart : j ≡ n → ⊥). before j (omega (arith, below, apart)))
+      (cases_eq j n)
+
+  pub next_of : (n : ℕ) (safe here : Bool) → (safe ≡ true → (j : ℕ) → j < n → P j) → (here ≡ true → P n)
+      → (safe && here) ≡ true → (j : ℕ) → j < n + 1 → P j
+  next_of n true true before now is = one_more n (before refl) (now refl)
+  next_of n true false before now ()
+  next_of n false here before now ()
+
+-- how many tables are named, with one more entry
+pub named_more : (says : ℕ → L2Table) (n : ℕ) → named_tables says (n + 1) ≡ named_tables says n + named_by (says n)
+named_more says n = rw add-one refl
+
+-- entries that say the same name as many
+pub named_same : (f g : ℕ → L2Table) (n : ℕ) → ((i : ℕ) → i < n → f i ≡ g i) → named_tables f n ≡ named_tables g n
+named_same f g zero same = refl
+named_same f g (suc n) same =
+    let a = named_same f g n (λ i below. same i (omega (arith, below))) in
+    let b : named_by (f n) ≡ named_by (g n) = ap named_by (same n (omega arith)) in
+    omega (arith, a, b)
+
+-- the entries of a table that was read are those of the file
+pub table_read : (s : Shape) (bytes table : List ℕ) (at : ℕ) → IsReadAt bytes at table → length table ≡ s.cluster
+    → ((j : ℕ) → j < length table / 8 → IsEntrySafe s (be64 table (8 * j)))
+    → (j : ℕ) → j < s.cluster / 8 → IsEntrySafe s (be64 bytes (at + 8 * j))
+table_read s bytes table at r whole each j below =
+    subst (IsEntrySafe s) (read64 bytes table at r (8 * j) (omega (arith, whole, below)))
+    (each j (omega (arith, whole, below)))
+
+module _ (s : Shape) (bytes : List ℕ) (file : s.file ≡ length bytes) (cluster : s.cluster ≡ cluster_length bytes)
+    (version : s.version ≡ version_of bytes) (way : s.compression ≡ compression_of bytes) where
+  -- what can be read by the shape can be by the file
+  pub table_moved : (t : L2Table) → IsTableSafe s bytes t → IsSafeTable bytes t
+  table_moved T.Absent safe = tt
+  table_moved (T.Stored at) safe = λ j below.
+      let near : j < s.cluster / 8 = rw cluster below in
+      rw (file, cluster, version, way) at (safe j near)
+  table_moved T.Invalid safe = safe
+
+  -- the tables whose L1 entries were read
+  module _ (entries : List ℕ) (start count : ℕ) (is_start : start ≡ l1_start bytes) (is_count : count ≡ table_count bytes)
+      (r : IsReadAt bytes start entries) (len : length entries ≡ 8 * count) where
+    abbrev says : ℕ → L2Table
+    says i = table_in_entry s.file s.cluster (be64 entries (8 * i))
+
+    says_same : (i : ℕ) → i < count → says i ≡ table_of bytes i
+    says_same i below =
+        let e : be64 entries (8 * i) ≡ be64 bytes (l1_start bytes + 8 * i) = read64 bytes entries start r (8 * i) (omega (arith, len, below)) ∙ ap (λ x. be64 bytes (x + 8 * i)) is_start in
+        rw (file, cluster, e) refl
+
+    pub tables_safe : (most taken : ℕ) → taken ≡ 8 * count + s.cluster * named_tables says (length entries / 8) → taken ≤ most
+        → AreEntriesSafe s bytes entries (length entries / 8) → AreSafeTables most bytes
+    tables_safe most taken is few each =
+        let k : length entries / 8 ≡ count = omega (arith, len) in
+        let named : named_tables says (length entries / 8) ≡ named_tables (table_of bytes) (table_count bytes) =
+            ap (named_tables says) k ∙ named_same says (table_of bytes) count says_same ∙ ap (named_tables (table_of bytes)) is_count in
+        let all : 8 * count + s.cluster * named_tables says (length entries / 8)
+            ≡ 8 * table_count bytes + cluster_length bytes * named_tables (table_of bytes) (table_count bytes) = rw (named, is_count, cluster) refl in
+        let sum : taken ≡ 8 * table_count bytes + cluster_length bytes * named_tables (table_of bytes) (table_count bytes) = is ∙ all in
+        record {
+          few = subst (λ (n : ℕ). n ≤ most) sum few;
+          each = λ i below.
+              let near : i < count = omega (arith, is_count, below) in
+              let here : IsTableSafe s bytes (table_of bytes i) = subst (IsTableSafe s bytes) (says_same i near) (each i (omega (arith, k, near))) in
+              table_moved (table_of bytes i) here;
+        }
+
+-- what the first bytes of a file say, the file does
+module _ (bytes head : List ℕ) (r : IsReadAt bytes 0 head) (len : 112 ≤ length head) where
+  same = head_same bytes head r len
+
+  pub cluster_moved : cluster_length head ≡ cluster_length bytes
+  cluster_moved = ap (λ k. 2 ^ k) (same32 bytes head same 20 (omega arith))
+
+  pub start_moved : l1_start head ≡ l1_start bytes
+  start_moved = same64 bytes head same 40 (omega arith)
+
+  pub count_moved : table_count head ≡ table_count bytes
+  count_moved =
+      let size = same64 bytes head same 24 (omega arith) in
+      let c = cluster_moved in
+      rw (size, c) refl
+
+  pub version_moved : be32 head 4 ≡ version_of bytes
+  version_moved = same32 bytes head same 4 (omega arith)
+
+  pub way_moved : compression_of head ≡ compression_of bytes
+  way_moved = compression_same bytes head same
+
+  pub backing_moved : SaysBacking head None → SaysBacking bytes None
+  backing_moved says =
+      let at = same64 bytes head same 8 (omega arith) in
+      let n = same32 bytes head same 16 (omega arith) in
+      rw (at, n) at says
+
+-- the same by how the image is opened
+pub vetted_as_said : (a b : Opening) → a ≡ b → (known : Option (List ℕ → List ℕ)) (path : List ℕ) (safe : Bool)
+    → (safe ≡ true → IfSome known (λ files. IsVetted a path (files path)))
+    → safe ≡ true → IfSome known (λ files. IsVetted b path (files path))
+vetted_as_said a b same known path safe h is = subst (λ (how : Opening). IfSome known (λ files. IsVetted how path (files path))) same (h is)

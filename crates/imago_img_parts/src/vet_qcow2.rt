@@ -1,0 +1,353 @@
+// SPDX-License-Identifier: MIT
+//! Whether a qcow2 file from a stranger is safe to hand on.
+ghost use Rattle.std.specs.Prelude.{◌≡◌, ℕ, List, ◌≤◌, true, length, None, IfOk, IsTrue};
+ghost use Rattle.imago_images.specs.HostBytes.{HasBytes};
+ghost use Rattle.imago_images.specs.Layers.{SaysBacking};
+ghost use Rattle.imago_img_parts.specs.Checked.{most_memory};
+ghost use Rattle.imago_storage.specs.Bytes.{IsReadAt};
+ghost use Rattle.imago_qcow2.specs.Header.{IsSound};
+ghost use Rattle.imago_img_parts.specs.Vetted.{AreSafeTables, IsSafeQcow2};
+
+use crate::failure::{Failure, Reason};
+use crate::finding::{CORRUPT, Fault, Findings, LONGEST_SHOWN, Told};
+use crate::looked::unread;
+use crate::qcow2_info::put;
+use crate::vet_tables::vet_tables;
+use imago_file::file::FileStorage;
+use imago_file::host::HostFile;
+use imago_images::opening::Opening;
+use imago_qcow2::fault::HeaderFault;
+use imago_qcow2::header::{self, HEAD_LENGTH, Header};
+use imago_qcow2::number::{number32, number64};
+use imago_storage::error::Error;
+use imago_storage::ext::StorageExt;
+use imago_storage::storage::Storage;
+use std::alloc::Global;
+
+/// How many bytes tables may have, if nothing else is said: 256 MiB.
+const MOST_TABLES: u64 = 256 << 20;
+
+/// The incompatible feature that data stand in a file of their own.
+const DATA_FILE: u64 = 1 << 2;
+
+/// The type of the header extension that has the name of that file.
+const DATA_NAME: u32 = 0x4441_5441;
+
+/// How many bytes the name of a backing file has at most.
+const LONGEST_NAME: u32 = 1023;
+
+/// What is asked of a file besides.
+#[derive(Clone, Copy)]
+struct Limits {
+    /// How many bytes its tables may have.
+    tables: u64,
+    /// How many bytes its disk may have, where that is limited.
+    disk: Option<u64>,
+}
+
+/// Whether the header names no file below the image, and what it names.
+fn is_alone<S: Storage>(
+    storage: &S,
+    alloc: Global,
+    head: &[u8],
+    findings: &mut Findings,
+) -> Result<bool, Error>
+    requires { 112 ≤ length head.now }
+    ensures { IfOk result (λ alone. alone ≡ true → SaysBacking head.now None) }
+{
+    let (start, count) = (number64(head, 8), number32(head, 16));
+    if start == 0 || count == 0 {
+        return Ok(true);
+    }
+    let fault = backing_named(storage, alloc, start, count)?;
+    findings.add(fault, Some(start))?;
+    Ok(false)
+}
+
+/// The backing file whose name stands there.
+fn backing_named<S: Storage>(
+    storage: &S,
+    alloc: Global,
+    start: u64,
+    count: u32,
+) -> Result<Fault, Error> {
+    if count > LONGEST_NAME {
+        return Ok(Fault::BackingOfNoText);
+    }
+    let mut name = vec![in alloc; 0u8; count as usize]?;
+    storage.read(alloc, &mut name, start)?;
+    match String::from_utf8(name) {
+        Ok(name) => Ok(Fault::Backing(name)),
+        Err(_) => Ok(Fault::BackingOfNoText),
+    }
+}
+
+/// Where a fault of a header stands in it.
+fn place_of(fault: HeaderFault) -> u64 {
+    match fault {
+        HeaderFault::NoImage => 0,
+        HeaderFault::Version(_) => 4,
+        HeaderFault::BackingName => 8,
+        HeaderFault::ClusterBits(_) => 20,
+        HeaderFault::Encryption => 32,
+        HeaderFault::ShortTable => 36,
+        HeaderFault::UnevenTable | HeaderFault::TableBehindEnd => 40,
+        HeaderFault::Features(_) | HeaderFault::Compression => 72,
+        HeaderFault::RefcountWidth => 96,
+        HeaderFault::OwnLength => 100,
+        HeaderFault::CompressionType(_) => 104,
+    }
+}
+
+/// Puts a fault of the header behind the others.
+fn add_header(fault: HeaderFault, findings: &mut Findings) -> Result<(), Error> {
+    findings.add(Fault::Opening(Reason::Header(fault)), Some(place_of(fault)))?;
+    Ok(())
+}
+
+/// The header extension of that type: where its contents begin, and how many bytes they are. The
+/// extensions stand from an offset of the first cluster on.
+fn find_extension(cluster: &[u8], kind: u32, start: usize) -> Option<(usize, usize)> {
+    let mut at = start;
+    for _step in 0..cluster.len() / 8 {
+        if at >= cluster.len() || cluster.len() - at < 8 {
+            return None;
+        }
+        let found = number32(cluster, at);
+        let count = number32(cluster, at + 4) as usize;
+        let begin = at + 8;
+        if found == 0 || cluster.len() - begin < count {
+            return None;
+        }
+        if found == kind {
+            return Some((begin, count));
+        }
+        at = begin + count.div_ceil(8).saturating_mul(8);
+    }
+    None
+}
+
+/// The external data file of an image whose header begins so, and where its name stands.
+fn data_named<S: Storage>(
+    storage: &S,
+    alloc: Global,
+    head: &[u8; HEAD_LENGTH],
+) -> Result<(Fault, u64), Error> {
+    let bits = number32(head.as_slice(), 20);
+    if bits < 9 || bits > 21 {
+        return Ok((Fault::DataUnnamed, 72));
+    }
+    let mut cluster = vec![in alloc; 0u8; 1usize << bits]?;
+    storage.read(alloc, &mut cluster, 0)?;
+    let start = number32(head.as_slice(), 100) as usize;
+    let Some((begin, count)) = find_extension(&cluster, DATA_NAME, start) else {
+        return Ok((Fault::DataUnnamed, 72));
+    };
+    match str::from_utf8(slice_of(&cluster, begin, count)) {
+        Ok(name) if name.len() <= LONGEST_SHOWN => {
+            Ok((Fault::Data(String::from_str(alloc, name)?), begin as u64))
+        }
+        _ => Ok((Fault::DataUnnamed, begin as u64)),
+    }
+}
+
+/// So many bytes from an offset on, as far as they are there.
+fn slice_of(bytes: &[u8], at: usize, count: usize) -> &[u8] {
+    let rest = &bytes[at.min(bytes.len())..];
+    &rest[..count.min(rest.len())]
+}
+
+/// Tells each of the features that aren't supported.
+fn tell_features<S: Storage>(
+    storage: &S,
+    alloc: Global,
+    head: &[u8; HEAD_LENGTH],
+    features: u64,
+    findings: &mut Findings,
+) -> Result<(), Error> {
+    for bit in 0..64u32 {
+        let feature = 1u64.wrapping_shl(bit);
+        if features & feature == DATA_FILE {
+            let (fault, at) = data_named(storage, alloc, head)?;
+            findings.add(fault, Some(at))?;
+        } else if features & feature != 0 {
+            add_header(HeaderFault::Features(feature), findings)?;
+        }
+    }
+    Ok(())
+}
+
+/// Tells what isn't supported of a header, which is taken out of it. The features are the answer.
+fn tell_unsupported<S: Storage>(
+    storage: &S,
+    alloc: Global,
+    head: &mut [u8; HEAD_LENGTH],
+    file: u64,
+    findings: &mut Findings,
+) -> Result<u64, Error> {
+    let mut taken: u64 = 0;
+    for _step in 0..2u32 {
+        match header::read(head.as_slice(), file) {
+            Err(HeaderFault::Encryption) => {
+                add_header(HeaderFault::Encryption, findings)?;
+                put(head.as_mut_slice(), 32, &[0; 4]);
+            }
+            Err(HeaderFault::Features(features)) => {
+                tell_features(storage, alloc, head, features, findings)?;
+                let rest = number64(head.as_slice(), 72) & !features;
+                put(head.as_mut_slice(), 72, &rest.to_be_bytes());
+                taken = features;
+            }
+            _ => {}
+        }
+    }
+    Ok(taken)
+}
+
+/// Tells all that speaks against a file of that length whose header has a fault.
+fn tell_faults<S: Storage>(
+    storage: &S,
+    alloc: Global,
+    mut head: [u8; HEAD_LENGTH],
+    file: u64,
+    limits: Limits,
+    told: &mut Told,
+) -> Result<(), Error> {
+    let findings = &mut told.findings;
+    let taken = tell_unsupported(storage, alloc, &mut head, file, findings)?;
+    match header::read(head.as_slice(), file) {
+        Ok(header) => {
+            told.say(header);
+            let findings = &mut told.findings;
+            tell_length(header, limits.disk, findings)?;
+            is_alone(storage, alloc, head.as_slice(), findings)?;
+            // Other features change what the entries say.
+            if taken & !CORRUPT == 0 {
+                vet_tables(
+                    storage,
+                    alloc,
+                    head.as_slice(),
+                    header,
+                    file,
+                    limits.tables,
+                    findings,
+                )?;
+            }
+        }
+        Err(fault) => {
+            let findings = &mut told.findings;
+            add_header(fault, findings)?;
+            if has_names(fault) {
+                is_alone(storage, alloc, head.as_slice(), findings)?;
+            }
+        }
+    }
+    Ok(())
+}
+
+/// Whether a header with that fault still says names: it is one of a version that is known.
+fn has_names(fault: HeaderFault) -> bool {
+    !matches!(
+        fault,
+        HeaderFault::NoImage | HeaderFault::Version(_) | HeaderFault::BackingName
+    )
+}
+
+impl Told {
+    /// Tells what a header says.
+    fn say(&mut self, header: Header) {
+        self.version = Some(header.version());
+        self.disk = Some(header.disk_size());
+    }
+}
+
+/// Tells if the disk of a header is longer than the limit, if there is one.
+fn tell_length(header: Header, longest: Option<u64>, findings: &mut Findings) -> Result<(), Error> {
+    let size = header.disk_size();
+    if let Some(most) = longest {
+        if size > most {
+            let reason = Reason::DiskTooLong { size, most };
+            findings.add(Fault::Opening(reason), Some(24))?;
+        }
+    }
+    Ok(())
+}
+
+/// Whether a file is safe within these limits, but for the length of its disk.
+fn is_safe<S: Storage>(
+    storage: &S,
+    alloc: Global,
+    limits: Limits,
+    told: &mut Told,
+) -> Result<bool, Error>
+    ensures { IsTrue (S.features storage.now).tells_bytes → IfOk result
+        (λ safe. safe ≡ true → IsSafeQcow2 limits.tables (S.bytes storage.now)) }
+{
+    let file = storage.size()?;
+    let mut head = [0u8; HEAD_LENGTH];
+    storage.read(alloc, &mut head, 0)?;
+    match header::read(&head, file) {
+        Ok(header) => {
+            told.say(header);
+            let most = limits.tables;
+            vet_header(
+                storage,
+                alloc,
+                &head,
+                header,
+                file,
+                most,
+                &mut told.findings,
+            )
+        }
+        Err(_) => {
+            tell_faults(storage, alloc, head, file, limits, told)?;
+            Ok(false)
+        }
+    }
+}
+
+/// The same of a file of that length whose header says that.
+fn vet_header<S: Storage>(
+    storage: &S,
+    alloc: Global,
+    head: &[u8],
+    header: Header,
+    file: u64,
+    most: u64,
+    findings: &mut Findings,
+) -> Result<bool, Error>
+    requires len { 112 ≤ length head.now }
+    requires sound { IsSound head.now file header }
+    ensures { IsTrue (S.features storage.now).tells_bytes → file ≡ length (S.bytes storage.now)
+        → IsReadAt (S.bytes storage.now) 0 head.now
+        → IfOk result (λ safe. safe ≡ true → SaysBacking (S.bytes storage.now) None
+        × AreSafeTables most (S.bytes storage.now)) }
+{
+    let alone = is_alone(storage, alloc, head, findings)?;
+    let tables = vet_tables(storage, alloc, head, header, file, most, findings)?;
+    Ok(alone && tables)
+}
+
+/// Whether a qcow2 file is safe to hand on, but for the length of its disk, which is tested before.
+/// All that speaks against it is put behind the findings.
+pub fn vet_qcow2<F: HostFile>(
+    alloc: Global,
+    path: &str,
+    file: &FileStorage<F>,
+    how: Opening,
+    told: &mut Told,
+) -> Result<bool, Failure>
+    ensures { (bytes : List ℕ) → HasBytes ⟦<FileStorage<F> as Storage>⟧.features
+        ⟦<FileStorage<F> as Storage>⟧.bytes bytes file.now → IfOk result
+        (λ safe. safe ≡ true → IsSafeQcow2 (most_memory how.tables) bytes) }
+{
+    let limits = Limits {
+        tables: how.tables.unwrap_or(MOST_TABLES),
+        disk: how.longest,
+    };
+    match is_safe(file, alloc, limits, told) {
+        Ok(safe) => Ok(safe),
+        Err(cause) => Err(Failure::from(unread(alloc, path, file, cause))),
+    }
+}
