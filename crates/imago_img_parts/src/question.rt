@@ -1,7 +1,7 @@
 // SPDX-License-Identifier: MIT
 //! The questions that commands answer.
 
-use imago_words::command::{Check, Compare, Info, Map};
+use imago_words::command::{Check, Compare, Info, Map, Measure, Vet};
 use imago_words::kind::Kind;
 
 /// A question. Its answer changes no file.
@@ -17,6 +17,10 @@ pub enum Question<'a> {
     Map(Map<'a>),
     /// Which faults an image has.
     Check(Check<'a>),
+    /// Whether an image from a stranger is safe to hand on.
+    Vet(Vet<'a>),
     /// Whether two images show the same.
     Compare(Compare<'a>),
+    /// How long the file of a new image would be.
+    Measure(Measure<'a>),
 }

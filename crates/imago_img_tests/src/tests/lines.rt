@@ -16,14 +16,15 @@ const PLAIN: &str = "{ \"filename\": \"plain.raw\", \"format\": \"raw\", \"virtu
 /// What `info --help` prints.
 const INFO: &str = "Describe an image
 
-usage: imago-img info [-f FMT] [--output OFMT] [--json] [-U] [--tables SIZE]
-                      [--max-size SIZE] [--strict] [--allow-outside] [--alone]
-                      [-h] [-V] FILE
+usage: imago-img info [-f FMT] [--output OFMT] [--json] [--backing-chain] [-U]
+                      [--tables SIZE] [--max-size SIZE] [--strict]
+                      [--allow-outside] [--alone] [-h] [-V] FILE
 
 Options:
   -f, --format FMT      The image's format: raw, vmdk or qcow2
       --output OFMT     What is printed: human or json
       --json            The same as --output=json
+      --backing-chain   Describe the backing files too
   -U, --force-share     Accepted and ignored: no file is locked
       --tables SIZE     The most memory for tables: a size such as 64M
       --max-size SIZE   Refuse longer disks: a size such as 2T
@@ -35,7 +36,7 @@ Options:
 ";
 
 /// What `--help` prints.
-const HELP: &str = "Describe, list, check, compare and convert disk images
+const HELP: &str = "Describe, list, check, compare, convert and make disk images
 
 usage: imago-img COMMAND [OPTION..] FILE [FILE]
 
@@ -43,8 +44,11 @@ Commands:
   info     Describe an image
   map      List where the bytes of an image's disk are stored
   check    Look for errors in an image
+  vet      Tell whether an image from a stranger is safe to hand on
   compare  Compare the disks of two images
   convert  Write an image's disk to another image
+  create   Make a new image
+  measure  Tell how long the file of a new image would be
 
 imago-img COMMAND --help prints the options of a command.
 ";
@@ -225,17 +229,16 @@ static REFUSED: [Row; 22] = [
         "imago-img: --output takes human or json, not \"qcow2\"; see imago-img check --help\n",
     ),
     (
-        "convert -O qcow2 plain.raw out.raw",
+        "convert -O vmdk plain.raw out.raw",
         1,
         "",
-        "imago-img: -O takes raw, not \"qcow2\"; see imago-img convert --help\n",
+        "imago-img: -O takes raw or qcow2, not \"vmdk\"; see imago-img convert --help\n",
     ),
     (
         "convert -c plain.raw out.raw",
         1,
         "",
-        "imago-img: convert has no -c: OUT is raw, which isn't compressed; see imago-img convert \
-         --help\n",
+        "imago-img: convert has no -c: OUT isn't compressed; see imago-img convert --help\n",
     ),
     (
         "convert -n plain.raw",
