@@ -131,7 +131,7 @@ module _ {D St : Type 0} (view : D → View St) (accepted : Accepted) (others : 
       layers_alike Qcow2 alike are = image_alike files first second same alike accepted others Qcow2 layers are
 
 -- the length of a disk
-disk_length : {D St : Type 0} (view : D → View St) (x : FormatAccess D) (size : ℕ)
+pub disk_length : {D St : Type 0} (view : D → View St) (x : FormatAccess D) (size : ℕ)
     → size ≡ (view (driver x)).size → size ≡ length (disk view x)
 disk_length view x size e =
     e ∙ sym (length-map-range_with_len (disk_value view x) 0 (view (driver x)).size)

@@ -1,5 +1,6 @@
 -- SPDX-License-Identifier: MIT
 mod Disks
+mod NewFiles
 mod Overwritten
 mod Told
 mod Printed

@@ -5,6 +5,9 @@ use Rattle.std.specs.Prelude.{IfSome, option_map}
 use Rattle.imago_words.specs.declared.command.Command.{Command}
 use Rattle.imago_words.specs.declared.command.Command.TheVariants as Asked
 use Rattle.imago_words.specs.declared.command.Convert.{Convert}
+use Rattle.imago_words.specs.declared.command.Create.{Create}
+use Rattle.imago_words.specs.declared.settings.NewFormat.{NewFormat}
+use Rattle.imago_words.specs.declared.settings.NewFormat.TheVariants as New
 use Rattle.imago_words.specs.Line.{Asks, kind_typed, line_is_meant, status_for}
 use Rattle.imago_qcow2_check.specs.declared.fault.Verdict.{Verdict}
 use Rattle.imago_qcow2_check.specs.Verdicts.{status_of}
@@ -17,6 +20,7 @@ use Rattle.imago_img_parts.specs.declared.run.Outcome.TheVariants.{Fine, Unlike,
 use Rattle.imago_img_parts.specs.Files.{Around, IsSoOnceCleared}
 use Rattle.imago_img_parts.specs.Disks.{IsConverted, IsConvertedOver, IsPartlyConvertedOver}
 use Rattle.imago_img_parts.specs.Disks.{AreAlike, AreUnlike}
+use Rattle.imago_img_parts.specs.NewFiles.{IsNewImage, IsNewlyMade, IsQcow2Copy, format_by}
 use Rattle.imago_img_parts.specs.Checked.{IsChecked}
 use Rattle.imago_img_parts.specs.Openings.{how_by, image_format}
 use Rattle.imago_img_parts.specs.Vetted.{IsVetted}
@@ -68,6 +72,7 @@ IsAnswered (Q.Check c) contents outcome =
 IsAnswered (Q.Vet c) contents outcome =
     (safe : Bool) × (outcome ≡ Vetted safe) × (safe ≡ true → IfSome contents
     (λ files. IsVetted (how_by c.format c.opening) c.file.now (files c.file.now)))
+IsAnswered (Q.Measure c) contents outcome = outcome ≡ Fine
 IsAnswered (Q.Compare c) contents outcome =
     (alike : Bool) × (outcome ≡ outcome_when alike) × IfSome contents
     (λ files. AreToldApart (how_by c.first_format c.opening)
@@ -83,6 +88,7 @@ untold refused (Q.Map c) = 1
 untold refused (Q.Check c) = 1
 untold refused (Q.Vet c) = 1
 untold refused (Q.Compare c) = 2
+untold refused (Q.Measure c) = 1
 
 -- the status says what was answered, or that nothing was
 abbrev pub IsConcluded : ℕ → Question → Option (List ℕ → List ℕ) → ℕ → Type 0
@@ -97,18 +103,45 @@ abbrev pub IsAsked :
 IsAsked refused question old new before after status =
     (new ≡ old) × (after ≡ before) × IsConcluded refused question old status
 
--- With status 0 an image was converted to a new file, by how it is opened; else the status is 1,
--- and the files are as they were. If a file may be replaced, the unfinished file of an earlier
--- `convert` to the same path may be gone before.
+-- With status 0 a file was made for a path; else the status is 1, and the files are as they were.
+-- If a file may be replaced, the unfinished file of an earlier command to the same path may be gone
+-- before.
+abbrev pub IsMadeOrNot :
+    Bool → List ℕ → (Option (List ℕ → List ℕ) → Option Around → Type 0) → Option (List ℕ → List ℕ)
+    → Option (List ℕ → List ℕ) → Option Around → Option Around → ℕ → Type 0
+IsMadeOrNot force target Made old new before after status =
+    ((status ≡ 0) × IsSoOnceCleared force old before target Made)
+    ⊎ ((status ≡ 1) × IsSoOnceCleared force old before target
+    (λ files around. (new ≡ files) × (after ≡ around)))
+
+-- an image was converted to a new file of that format, by how it is opened
+abbrev pub IsConvertedTo :
+    NewFormat → Opening → Convert → Option (List ℕ → List ℕ) → Option (List ℕ → List ℕ)
+    → Option Around → Option Around → Type 0
+IsConvertedTo New.Raw how c files new around after =
+    IsConverted how.accepted how.other_files how.format c.force files new around after c.source.now
+    c.target.now
+IsConvertedTo (New.Qcow2 settings) how c files new around after =
+    IsNewlyMade
+    (IsQcow2Copy how.accepted how.other_files how.format c.source.now (format_by settings))
+    c.force files new around after c.target.now
+
 abbrev pub IsNewlyConverted :
     Opening → Convert → Option (List ℕ → List ℕ) → Option (List ℕ → List ℕ)
     → Option Around → Option Around → ℕ → Type 0
 IsNewlyConverted how c old new before after status =
-    ((status ≡ 0) × IsSoOnceCleared c.force old before c.target.now
-    (λ files around. IsConverted how.accepted how.other_files how.format c.force files new around
-    after c.source.now c.target.now))
-    ⊎ ((status ≡ 1) × IsSoOnceCleared c.force old before c.target.now
-    (λ files around. (new ≡ files) × (after ≡ around)))
+    IsMadeOrNot c.force c.target.now
+    (λ files around. IsConvertedTo c.target_format how c files new around after)
+    old new before after status
+
+-- a new image was made
+abbrev pub IsCreated :
+    Create → Option (List ℕ → List ℕ) → Option (List ℕ → List ℕ)
+    → Option Around → Option Around → ℕ → Type 0
+IsCreated c old new before after status =
+    IsMadeOrNot c.force c.target.now
+    (λ files around. IsNewlyMade (IsNewImage c) c.force files new around after c.target.now)
+    old new before after status
 
 -- With status 0 it was converted to a file that is there; else the status is 1, and the first bytes
 -- of the disk may have been put over those of that file.
@@ -135,6 +168,10 @@ abbrev pub IsPerformed :
     → Option Around → Option Around → ℕ → Type 0
 IsPerformed refused (Asked.Convert c) old new before after status =
     IsConvertedBy (how_by c.source_format c.opening) c old new before after status
+IsPerformed refused (Asked.Create c) old new before after status =
+    IsCreated c old new before after status
+IsPerformed refused (Asked.Measure c) old new before after status =
+    IsAsked refused (Q.Measure c) old new before after status
 IsPerformed refused (Asked.Help kind) old new before after status =
     IsAsked refused (Q.Help kind) old new before after status
 IsPerformed refused Asked.Version old new before after status =

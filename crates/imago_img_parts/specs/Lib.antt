@@ -1,6 +1,7 @@
 -- SPDX-License-Identifier: MIT
 pub mod Files
 pub mod Disks
+pub mod NewFiles
 pub mod Lines
 pub mod Checked
 pub mod Extents

@@ -48,7 +48,7 @@ pub fn convert_image<H: Host, E: Write>(
 
 /// Removes the unfinished file that a copy to that path left, if the path's file may be replaced,
 /// and nothing else speaks against the copy.
-fn clear<H: Host>(
+pub(crate) fn clear<H: Host>(
     host: &mut H,
     from: &str,
     to: &str,
@@ -69,13 +69,13 @@ fn clear<H: Host>(
 }
 
 /// Whether a copy to that path left an unfinished file when it was killed.
-fn has_left_over<H: Host>(host: &H, to: &str) -> Result<bool, Failure> {
+pub(crate) fn has_left_over<H: Host>(host: &H, to: &str) -> Result<bool, Failure> {
     let left = Failure::or_system(host.alloc(), to, host.left_over(to))?;
     Ok(left.is_some())
 }
 
 /// Removes the unfinished file that a copy to that path left.
-fn remove_left_over<H: Host>(host: &mut H, to: &str) -> Result<(), Failure>
+pub(crate) fn remove_left_over<H: Host>(host: &mut H, to: &str) -> Result<(), Failure>
     ensures gone { OnOk result (IsWithoutLeftOver (H.contents host.old) (H.contents host.new)
         (H.around host.old) (H.around host.new) to.now) }
     ensures same { OnErr result (H.contents host.new ≡ H.contents host.old) }
@@ -127,10 +127,20 @@ fn tested_size<H: Host, E: Write>(
 {
     let (_, image) = opened(host, from, how)?;
     let (size, short) = readable_size(host.alloc(), from, &image)?;
-    test_target(host, &image, to, replace)?;
-    test_left_over(host, &image, to, replace)?;
+    test_place(host, &image, to, replace)?;
     let _ = short.warn(warnings);
     Ok(size)
+}
+
+/// Whether a new file of an image may be made for that path.
+pub(crate) fn test_place<H: Host>(
+    host: &H,
+    image: &FileImage<'_, H>,
+    to: &str,
+    replace: bool,
+) -> Result<(), Failure> {
+    test_target(host, image, to, replace)?;
+    test_left_over(host, image, to, replace)
 }
 
 /// Puts the bytes of the disk into a file, and shows how far it is. Refused, the first ones of them
@@ -180,7 +190,7 @@ fn fill<H: Host, T: Target>(
 }
 
 /// Gives a file its path, or lets it go where not all of it was written.
-fn end<H: Host>(
+pub(crate) fn end<H: Host>(
     host: &mut H,
     to: &str,
     target: H::Target,
@@ -244,7 +254,7 @@ fn test_left_over<H: Host>(
 }
 
 /// Why a file isn't replaced, which may be one of the image that is read.
-fn target_fault(there: FileStatus, is_source: bool, replace: bool) -> Option<Refusal> {
+pub(crate) fn target_fault(there: FileStatus, is_source: bool, replace: bool) -> Option<Refusal> {
     if is_source {
         return Some(Refusal::IsSource);
     }

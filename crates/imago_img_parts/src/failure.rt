@@ -6,6 +6,7 @@ pub use imago_images::failure::{OpenError, Reason};
 use imago_images::signature::Signature;
 use imago_inflate::fault::InflateError;
 use imago_qcow2_check::fault::{CheckError, Fault};
+use imago_qcow2_new::format::FormatError;
 use imago_storage::error;
 use std::alloc::{AllocError, AllocFailed, Global};
 use std::io;
@@ -155,6 +156,12 @@ pub enum Refusal {
     /// What is to be written over is a file of the image that is read.
     #[error("a file of the image that is read is never written into")]
     IsRead,
+    /// What was to be read twice isn't what it was.
+    #[error("the image changed while it was read")]
+    Changed,
+    /// There can be no such qcow2 file.
+    #[error("{0}")]
+    NoSuchFile(FormatError),
 }
 
 /// Why a compressed cluster can't be read, and what can be done about it.

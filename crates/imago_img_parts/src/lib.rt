@@ -1,6 +1,6 @@
 // SPDX-License-Identifier: MIT
 //! All of the program `imago-img` but its `main`: what a disk image in files is, where its bytes
-//! stand, and their way into a raw file.
+//! stand, and their way into a raw file or a new qcow2 file.
 //!
 //! The commands find files by a [`Host`](host::Host): the program takes [`System`](system::System),
 //! tests have one in memory. They have it as a [`Confined`](guarded::Confined) one,
@@ -14,6 +14,7 @@ mod check_vmdk;
 pub mod commands;
 mod compare;
 mod convert;
+mod create;
 mod digits;
 mod extents;
 mod failure;
@@ -26,6 +27,8 @@ mod info;
 mod json;
 mod looked;
 mod map;
+mod measure;
+mod new_qcow2;
 mod opening;
 mod overwrite;
 mod progress;

@@ -1,7 +1,7 @@
 // SPDX-License-Identifier: MIT
 //! The questions that commands answer.
 
-use imago_words::command::{Check, Compare, Info, Map, Vet};
+use imago_words::command::{Check, Compare, Info, Map, Measure, Vet};
 use imago_words::kind::Kind;
 
 /// A question. Its answer changes no file.
@@ -21,4 +21,6 @@ pub enum Question<'a> {
     Vet(Vet<'a>),
     /// Whether two images show the same.
     Compare(Compare<'a>),
+    /// How long the file of a new image would be.
+    Measure(Measure<'a>),
 }

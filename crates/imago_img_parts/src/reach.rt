@@ -1,10 +1,10 @@
 // SPDX-License-Identifier: MIT
 //! Which paths a command asks a host for.
 ghost use Rattle.std.specs.Prelude.{◌≡◌};
-ghost use Rattle.imago_img_parts.specs.Reaches.{reach_by, reach_when as reach_where};
+ghost use Rattle.imago_img_parts.specs.Reaches.{below_of, reach_by, reach_when as reach_where};
 
 use imago_images::confined::Reach;
-use imago_words::command::Command;
+use imago_words::command::{Command, Create, Measured};
 
 /// The paths that a command asks for: where no other files are opened, those that the command line
 /// names.
@@ -23,6 +23,23 @@ pub fn reach_of<'a>(command: &Command<'a>) -> Reach<'a>
         Command::Convert(asked) => {
             reach_when(asked.opening.alone, Reach::Copy(asked.source, asked.target))
         }
+        Command::Create(asked) => {
+            reach_when(asked.opening.alone, Reach::Copy(below_of(asked), asked.target))
+        }
+        Command::Measure(asked) => match asked.disk {
+            Measured::File(file) => reach_when(asked.opening.alone, Reach::File(file)),
+            Measured::Size(_) => Reach::Nothing,
+        },
+    }
+}
+
+/// The layer below a new image, or the image itself if it has none.
+fn below_of<'a>(asked: &Create<'a>) -> &'a str
+    ensures { result ≡ below_of asked.now }
+{
+    match asked.backing {
+        Some(backing) => backing.file,
+        None => asked.target,
     }
 }
 

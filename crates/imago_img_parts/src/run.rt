@@ -11,6 +11,7 @@ ghost use Rattle.imago_qcow2_check.specs.declared.fault.Verdict.{Verdict};
 ghost use Rattle.imago_img_parts.specs.Checked.{IsChecked};
 ghost use Rattle.imago_img_parts.specs.Commands.{AreToldApart, IsAnswered, IsConcluded};
 ghost use Rattle.imago_img_parts.specs.Commands.{IsConvertedBy, IsPerformed, IsRun, IsStatus};
+ghost use Rattle.imago_img_parts.specs.Commands.{IsCreated, IsNewlyConverted};
 ghost use Rattle.imago_img_parts.specs.Commands.{outcome_status, outcome_when, refused_status};
 ghost use Rattle.imago_img_parts.specs.Commands.{check_status, untold, vet_status};
 ghost use Rattle.imago_img_parts.specs.Vetted.{IsVetted};
@@ -21,21 +22,26 @@ ghost use Rattle.imago_img_parts.specs.Reaches.{reach_by};
 use crate::check::check;
 use crate::commands::{Comparison, compare_images, convert_image, overwrite};
 use crate::compare::leaves_out;
+use crate::create::create_image;
 use crate::failure::Failure;
 use crate::guarded::GuardedHost;
 use crate::host::{Files, Host, Making};
 use crate::info::{Asked, info};
 use crate::map::map_image;
-use crate::opening::{how_to_open, said_format};
+use crate::measure::measure;
+use crate::new_qcow2::{NewQcow2, convert_to_qcow2};
+use crate::opening::{how_to_open, new_format, said_format};
 use crate::question::Question;
 use crate::reach::reach_of;
 use crate::vet::vet;
 use imago_images::confined::Confined;
 use imago_qcow2_check::fault::Verdict;
-use imago_words::command::{Check, Command, Compare, Convert, Info, Map, Output, Vet};
+use imago_images::opening::Opening;
+use imago_words::command::{Check, Command, Compare, Convert, Create, Info, Map, Output, Vet};
 use imago_words::help::{Help, VERSION};
 use imago_words::kind::Kind;
 use imago_words::refusal::Refusal;
+use imago_words::settings::NewFormat;
 use std::io::{self, BufWriter, Write};
 
 /// The exit status where the format of a file has nothing to check.
@@ -157,6 +163,8 @@ pub fn perform<H: Host, W: Write, E: Write>(
 {
     match command {
         Command::Convert(asked) => convert(host, asked, errors),
+        Command::Create(asked) => create(host, asked, errors),
+        Command::Measure(asked) => ask(&*host, Question::Measure(asked), refused, output, errors),
         Command::Help(kind) => ask(&*host, Question::Help(kind), refused, output, errors),
         Command::Version => ask(&*host, Question::Version, refused, output, errors),
         Command::Info(asked) => ask(&*host, Question::Info(asked), refused, output, errors),
@@ -225,19 +233,56 @@ fn convert_as_asked<H: Host, E: Write>(
     if asked.existing {
         return overwrite(host, asked.source, asked.target, how, show, warnings);
     }
-    let making = Making {
+    convert_newly(host, asked, how, show, warnings)
+}
+
+/// Converts an image to a new file.
+fn convert_newly<H: Host, E: Write>(
+    host: &mut H,
+    asked: Convert<'_>,
+    how: Opening,
+    show: bool,
+    warnings: &mut E,
+) -> Result<(), Failure>
+    ensures converted { OnOk result (IsNewlyConverted how asked.entry (H.contents host.old)
+        (H.contents host.new) (H.around host.old) (H.around host.new) 0) }
+    ensures refused { OnErr result (IsNewlyConverted how asked.entry (H.contents host.old)
+        (H.contents host.new) (H.around host.old) (H.around host.new) 1) }
+{
+    let (from, to) = (asked.source, asked.target);
+    let making = making_of(asked);
+    match asked.target_format {
+        NewFormat::Raw => convert_image(host, from, to, how, making, show, warnings),
+        NewFormat::Qcow2(settings) => {
+            let new = NewQcow2 {
+                format: new_format(settings),
+                all: settings.preallocated || !asked.sparse,
+            };
+            convert_to_qcow2(host, from, to, how, new, making, show, warnings)
+        }
+    }
+}
+
+/// How the file of a conversion is made.
+fn making_of(asked: Convert<'_>) -> Making
+    ensures { result.replace ≡ asked.entry.force }
+{
+    Making {
         replace: asked.force,
         sparse: asked.sparse,
-    };
-    convert_image(
-        host,
-        asked.source,
-        asked.target,
-        how,
-        making,
-        show,
-        warnings,
-    )
+    }
+}
+
+/// Makes a new image, and gives the status.
+fn create<H: Host, E: Write>(host: &mut H, asked: Create<'_>, errors: &mut E) -> u8
+    ensures most { result ≤ 1 }
+    ensures created { IsCreated asked.entry (H.contents host.old) (H.contents host.new)
+        (H.around host.old) (H.around host.new) result }
+{
+    match create_image(host, asked) {
+        Ok(()) => 0,
+        Err(refused) => tell(refused, errors, 1),
+    }
 }
 
 /// Answers a question, and gives the status.
@@ -264,7 +309,8 @@ fn untold(refused: u8, question: Question<'_>) -> u8
 {
     match question {
         Question::Help(_) | Question::Version => refused,
-        Question::Info(_) | Question::Map(_) | Question::Check(_) | Question::Vet(_) => 1,
+        Question::Info(_) | Question::Map(_) | Question::Check(_) => 1,
+        Question::Measure(_) | Question::Vet(_) => 1,
         Question::Compare(_) => 2,
     }
 }
@@ -304,7 +350,16 @@ fn answer<H: Host, W: Write, E: Write>(
         Question::Check(asked) => look_for_faults(host, asked, output, errors),
         Question::Vet(asked) => look_at_stranger(host, asked, output),
         Question::Compare(asked) => compare(host, asked, output),
+        Question::Measure(asked) => measured(measure(host, asked, output)),
     }
+}
+
+/// What comes of a measurement.
+fn measured(answer: Result<(), Failure>) -> Result<Outcome, Failure>
+    ensures { IfOk result (λ outcome. outcome ≡ Fine) }
+{
+    answer?;
+    Ok(Outcome::Fine)
 }
 
 /// What comes of a question whose answer is a text.

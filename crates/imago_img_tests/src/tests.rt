@@ -12,6 +12,7 @@ mod formats;
 mod headers;
 mod layers;
 mod lines;
+mod new_images;
 mod one_format;
 mod opener;
 mod qcow2;

@@ -1,6 +1,7 @@
 // SPDX-License-Identifier: MIT
 //! The names of the layer below, as they stand behind the header.
-ghost use Rattle.std.specs.Prelude.{◌≡◌, ◌+◌, ◌^◌, ◌<◌, ◌≤◌, length, IfOk};
+ghost use Rattle.std.specs.Prelude.{◌≡◌, ◌+◌, ◌^◌, ◌<◌, ◌≤◌, [], length, IfOk};
+ghost use Rattle.imago_qcow2_new.specs.Names.{AreNames, AreNamesOf, AreBytes};
 
 use crate::format::{Backing, FormatError};
 use std::alloc::{AllocError, Global};
@@ -30,6 +31,7 @@ impl Names {
     pub(crate) fn none(alloc: Global) -> Names
         ensures start { result.start ≡ 0 }
         ensures count { result.count ≡ 0 }
+        ensures bytes { result.bytes.items ≡ [] }
     {
         Names {
             bytes: Vec::new(alloc),
@@ -42,7 +44,9 @@ impl Names {
     fn new(alloc: Global, backing: Backing<'_>) -> Result<Names, AllocError>
         requires file { length backing.file.now ≤ 1023 }
         requires format { length backing.format.now ≤ 1023 }
-        ensures { IfOk result (λ n. n.count ≤ 1023) }
+        ensures short { IfOk result (λ n. n.count ≤ 1023) }
+        ensures are { IfOk result (AreNames backing.entry.file.now backing.entry.format.now) }
+        ensures bytes { IfOk result (λ n. AreBytes n.bytes.items) }
     {
         let format = backing.format;
         let mut bytes = Vec::new(alloc);
@@ -72,6 +76,7 @@ pub(crate) fn names_of(
     ensures start { IfOk result (λ n. n.start < 2 ^ 32) }
     ensures short { IfOk result (λ n. n.count ≤ 1023) }
     ensures inside { IfOk result (λ n. n.start + n.count + 112 ≤ cluster) }
+    ensures are { IfOk result (AreNamesOf backing.entry) }
 {
     let Some(backing) = backing else {
         return Ok(Names::none(alloc));

@@ -36,7 +36,7 @@ Options:
 ";
 
 /// What `--help` prints.
-const HELP: &str = "Describe, list, check, compare and convert disk images
+const HELP: &str = "Describe, list, check, compare, convert and make disk images
 
 usage: imago-img COMMAND [OPTION..] FILE [FILE]
 
@@ -47,6 +47,8 @@ Commands:
   vet      Tell whether an image from a stranger is safe to hand on
   compare  Compare the disks of two images
   convert  Write an image's disk to another image
+  create   Make a new image
+  measure  Tell how long the file of a new image would be
 
 imago-img COMMAND --help prints the options of a command.
 ";
@@ -227,17 +229,16 @@ static REFUSED: [Row; 22] = [
         "imago-img: --output takes human or json, not \"qcow2\"; see imago-img check --help\n",
     ),
     (
-        "convert -O qcow2 plain.raw out.raw",
+        "convert -O vmdk plain.raw out.raw",
         1,
         "",
-        "imago-img: -O takes raw, not \"qcow2\"; see imago-img convert --help\n",
+        "imago-img: -O takes raw or qcow2, not \"vmdk\"; see imago-img convert --help\n",
     ),
     (
         "convert -c plain.raw out.raw",
         1,
         "",
-        "imago-img: convert has no -c: OUT is raw, which isn't compressed; see imago-img convert \
-         --help\n",
+        "imago-img: convert has no -c: OUT isn't compressed; see imago-img convert --help\n",
     ),
     (
         "convert -n plain.raw",

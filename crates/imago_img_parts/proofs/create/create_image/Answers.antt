@@ -1,0 +1,24 @@
+-- SPDX-License-Identifier: MIT
+use Rattle.imago_img_parts.specs.NewFiles.{IsNewImage, IsNewlyMade}
+use Rattle.imago_img_parts.proofs.Cleared.{err_then, ok_then}
+use Rattle.imago_img_parts.proofs.create.create_image.Goals as goal
+
+pub returns-clause-created : goal.returns-clause-created
+returns-clause-created g c =
+    let contents = g.H.Files.contents in
+    let around = g.H.Host.around in
+    let asked = c.args.asked in
+    ok_then (contents c.args.host.now) (around c.args.host.now) asked.target.now c.create_beside.result asked.force
+    (λ files left. IsNewlyMade (IsNewImage asked) asked.force files (contents c.create_beside.new.host) left
+    (around c.create_beside.new.host) asked.target.now)
+    (contents c.clear.new.host) (around c.clear.new.host) c.clear.ensures c.create_beside.ensures.created
+
+pub returns-clause-refused : goal.returns-clause-refused
+returns-clause-refused g c =
+    let contents = g.H.Files.contents in
+    let around = g.H.Host.around in
+    let asked = c.args.asked in
+    err_then (contents c.args.host.now) (around c.args.host.now) asked.target.now c.create_beside.result asked.force
+    (contents c.create_beside.new.host) (around c.create_beside.new.host)
+    (contents c.clear.new.host) (around c.clear.new.host) c.clear.ensures c.create_beside.ensures.same
+    c.create_beside.ensures.refused

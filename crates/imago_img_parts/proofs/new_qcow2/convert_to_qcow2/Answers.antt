@@ -1,0 +1,25 @@
+-- SPDX-License-Identifier: MIT
+use Rattle.imago_img_parts.specs.NewFiles.{IsNewlyMade, IsQcow2Copy}
+use Rattle.imago_img_parts.proofs.Cleared.{err_then, ok_then}
+use Rattle.imago_img_parts.proofs.new_qcow2.convert_to_qcow2.Goals as goal
+
+pub returns-clause-converted : goal.returns-clause-converted
+returns-clause-converted g c =
+    let contents = g.H.Files.contents in
+    let around = g.H.Host.around in
+    let how = c.args.how in
+    ok_then (contents c.args.host.now) (around c.args.host.now) c.args.to.now c.convert_beside.result
+    c.args.making.replace
+    (λ files left. IsNewlyMade (IsQcow2Copy how.accepted how.other_files how.format c.args.from.now c.args.new.format)
+    c.args.making.replace files (contents c.convert_beside.new.host) left (around c.convert_beside.new.host)
+    c.args.to.now)
+    (contents c.clear.new.host) (around c.clear.new.host) c.clear.ensures c.convert_beside.ensures.converted
+
+pub returns-clause-refused : goal.returns-clause-refused
+returns-clause-refused g c =
+    let contents = g.H.Files.contents in
+    let around = g.H.Host.around in
+    err_then (contents c.args.host.now) (around c.args.host.now) c.args.to.now c.convert_beside.result
+    c.args.making.replace (contents c.convert_beside.new.host) (around c.convert_beside.new.host)
+    (contents c.clear.new.host) (around c.clear.new.host) c.clear.ensures c.convert_beside.ensures.same
+    c.convert_beside.ensures.refused

@@ -1,0 +1,119 @@
+// SPDX-License-Identifier: MIT
+//! How long the file of a new image would be.
+ghost use Rattle.std.specs.Prelude.{◌≡◌, ℕ, IfOk};
+ghost use Rattle.imago_qcow2_new.specs.declared.layout.Layout.{Layout};
+ghost use Rattle.imago_qcow2_new.specs.Layout.{IsLayoutOf, file_length};
+ghost use Rattle.imago_img_parts.specs.NewFiles.{format_by};
+
+use crate::create::{planned, raw_length};
+use crate::failure::Failure;
+use crate::host::Host;
+use crate::image::{opened, readable_size};
+use crate::new_qcow2::{NewQcow2, layout_for};
+use crate::opening::{how_to_open, new_format};
+use imago_words::command::{Measure, Measured, Output};
+use imago_words::settings::{NewFormat, Settings};
+use std::alloc::Global;
+use std::io::Write;
+
+/// The lengths of a new file, in bytes.
+#[derive(Clone, Copy)]
+struct Lengths {
+    /// Of the one that is written.
+    required: u64,
+    /// Of one in which the whole disk was written since.
+    full: u64,
+}
+
+/// What an error is told of where there is no file.
+const NO_PATH: &str = "--size";
+
+/// Prints how long the file of a new image is, as `convert` or `create` makes it, and how long it is
+/// at most once the whole disk is written.
+pub fn measure<H: Host, W: Write>(
+    host: &H,
+    asked: Measure<'_>,
+    output: &mut W,
+) -> Result<(), Failure> {
+    let lengths = match asked.disk {
+        Measured::File(file) => lengths_of_file(host, file, asked)?,
+        Measured::Size(size) => lengths_of_size(host.alloc(), size, asked.target_format)?,
+    };
+    let printed = if asked.output == Output::Json {
+        writeln!(
+            output,
+            "{{\n    \"required\": {},\n    \"fully-allocated\": {}\n}}",
+            lengths.required, lengths.full
+        )
+    } else {
+        writeln!(
+            output,
+            "required size: {}\nfully allocated size: {}",
+            lengths.required, lengths.full
+        )
+    };
+    printed.map_err(Failure::Output)
+}
+
+/// The lengths of a new file of the disk of an image.
+fn lengths_of_file<H: Host>(
+    host: &H,
+    file: &str,
+    asked: Measure<'_>,
+) -> Result<Lengths, Failure>
+{
+    let alloc = host.alloc();
+    let (_, image) = opened(host, file, how_to_open(asked.source_format, asked.opening))?;
+    let (size, _) = readable_size(alloc, file, &image)?;
+    let NewFormat::Qcow2(settings) = asked.target_format else {
+        return raw_lengths(alloc, file, size);
+    };
+    let new = NewQcow2 {
+        format: new_format(settings),
+        all: settings.preallocated,
+    };
+    let layout = layout_for(alloc, &image, file, file, new)?;
+    Ok(Lengths {
+        required: layout.file_length(),
+        full: full_length(alloc, file, size, settings)?,
+    })
+}
+
+/// The lengths of a new file of a disk of that size in which nothing was written.
+fn lengths_of_size(alloc: Global, size: u64, format: NewFormat) -> Result<Lengths, Failure> {
+    let NewFormat::Qcow2(settings) = format else {
+        return raw_lengths(alloc, NO_PATH, size);
+    };
+    let layout = planned(alloc, NO_PATH, size, settings, None)?;
+    Ok(Lengths {
+        required: layout.file_length(),
+        full: full_length(alloc, NO_PATH, size, settings)?,
+    })
+}
+
+/// The length of a qcow2 file of a disk of that size in which all clusters are stored.
+fn full_length(
+    alloc: Global,
+    path: &str,
+    size: u64,
+    settings: Settings,
+) -> Result<u64, Failure>
+    ensures { IfOk result (λ n. (l : Layout) × IsLayoutOf (format_by settings) size l
+        × (n ≡ file_length l)) }
+{
+    let all = Settings {
+        preallocated: true,
+        ..settings
+    };
+    let layout = planned(alloc, path, size, all, None)?;
+    Ok(layout.file_length())
+}
+
+/// The lengths of a raw file of a disk of that size.
+fn raw_lengths(alloc: Global, path: &str, size: u64) -> Result<Lengths, Failure> {
+    let length = raw_length(alloc, path, size)?;
+    Ok(Lengths {
+        required: length,
+        full: length,
+    })
+}

@@ -1,0 +1,204 @@
+// SPDX-License-Identifier: MIT
+//! An image's disk, written to a new qcow2 file.
+ghost use Rattle.std.specs.Prelude.{◌≡◌, ℕ, [], OnOk, OnErr, IfOk, IfSome};
+ghost use Rattle.imago_qcow2_new.specs.Layout.{IsLayoutOf, file_length};
+ghost use Rattle.imago_img_parts.specs.Files.{IsSoOnceCleared};
+ghost use Rattle.imago_img_parts.specs.NewFiles.{IsCopyBy, IsFilledWith, IsNewlyMade, IsQcow2Copy};
+
+use crate::convert::{clear, end, test_place};
+use crate::failure::{Failure, Reason, Refusal};
+use crate::host::{Host, Making};
+use crate::image::{CHUNK, not_read, opened, readable_size};
+use crate::progress::Progress;
+use imago_copy::target::Target;
+use imago_images::opener::FileImage;
+use imago_images::opening::Opening;
+use imago_qcow2_new::format::{Format, FormatError};
+use imago_qcow2_new::layout::Layout;
+use imago_qcow2_new::scan::{layout_of, layout_of_size};
+use imago_qcow2_new::write::{NewFileError, write_image};
+use std::alloc::Global;
+use std::io::Write;
+
+/// How a qcow2 file is made of an image.
+#[derive(Clone, Copy)]
+pub struct NewQcow2 {
+    /// Its format.
+    pub format: Format,
+    /// Whether clusters that are zero are stored too.
+    pub all: bool,
+}
+
+/// Writes the disk of an image to a new qcow2 file of that path. What the image's files have says
+/// what the new file then has: it shows the image's disk, byte for byte, with zeroes up to the next
+/// multiple of 512 bytes. Clusters that are zero aren't stored, unless all are to be.
+///
+/// The disk is read twice, but once where all clusters are stored. An image that changes between is
+/// refused.
+///
+/// Which paths may be taken, what is looked at before, what is warned of, and what a refusal leaves
+/// is as for [`convert_image`](crate::convert::convert_image).
+pub fn convert_to_qcow2<H: Host, E: Write>(
+    host: &mut H,
+    from: &str,
+    to: &str,
+    how: Opening,
+    new: NewQcow2,
+    making: Making,
+    show: bool,
+    warnings: &mut E,
+) -> Result<(), Failure>
+    ensures converted { OnOk result (IsSoOnceCleared making.replace (H.contents host.old)
+        (H.around host.old) to.now (λ files around. IsNewlyMade
+        (IsQcow2Copy how.accepted how.other_files how.format from.now new.format) making.replace
+        files (H.contents host.new) around (H.around host.new) to.now)) }
+    ensures refused { OnErr result (IsSoOnceCleared making.replace (H.contents host.old)
+        (H.around host.old) to.now
+        (λ files around. (H.contents host.new ≡ files) × (H.around host.new ≡ around))) }
+{
+    clear(host, from, to, how, making.replace)?;
+    convert_beside(host, from, to, how, new, making, show, warnings)
+}
+
+/// Does the same where no unfinished file is left beside the path. Refused, it leaves all files as
+/// they were.
+fn convert_beside<H: Host, E: Write>(
+    host: &mut H,
+    from: &str,
+    to: &str,
+    how: Opening,
+    new: NewQcow2,
+    making: Making,
+    show: bool,
+    warnings: &mut E,
+) -> Result<(), Failure>
+    ensures converted { OnOk result (IsNewlyMade
+        (IsQcow2Copy how.accepted how.other_files how.format from.now new.format) making.replace
+        (H.contents host.old) (H.contents host.new) (H.around host.old) (H.around host.new)
+        to.now) }
+    ensures same { OnErr result (H.contents host.new ≡ H.contents host.old) }
+    ensures refused { OnErr result (H.around host.new ≡ H.around host.old) }
+{
+    let layout = planned(&*host, from, to, how, new, making.replace, warnings)?;
+    match host.create(to, layout.file_length(), making) {
+        Ok(target) => {
+            let (target, filled) = write_shown(&*host, from, to, how, &layout, target, show);
+            end(host, to, target, filled)
+        }
+        Err(cause) => Err(Failure::of_file(host.alloc(), to, Reason::System(cause))),
+    }
+}
+
+/// Where everything stands in the new file of an image's disk, which can be read and may be written
+/// to a file of that path. It warns of files of the image that end too early. That it can't warn is
+/// no failure.
+fn planned<H: Host, E: Write>(
+    host: &H,
+    from: &str,
+    to: &str,
+    how: Opening,
+    new: NewQcow2,
+    replace: bool,
+    warnings: &mut E,
+) -> Result<Layout, Failure>
+    ensures { IfOk result (λ l. (size : ℕ) × IsLayoutOf new.format size l) }
+{
+    let (_, image) = opened(host, from, how)?;
+    let (_, short) = readable_size(host.alloc(), from, &image)?;
+    test_place(host, &image, to, replace)?;
+    let layout = layout_for(host.alloc(), &image, from, to, new)?;
+    let _ = short.warn(warnings);
+    Ok(layout)
+}
+
+/// Where everything stands in the new file of an image's disk.
+pub(crate) fn layout_for<H: Host>(
+    alloc: Global,
+    image: &FileImage<'_, H>,
+    from: &str,
+    to: &str,
+    new: NewQcow2,
+) -> Result<Layout, Failure>
+    ensures { IfOk result (λ l. (size : ℕ) × IsLayoutOf new.format size l) }
+{
+    if new.all {
+        return match layout_of_size(alloc, new.format, image.size(), true, None) {
+            Ok(layout) => Ok(layout),
+            Err(fault) => Err(of_format(alloc, to, fault)),
+        };
+    }
+    let mut buf = vec![in alloc; 0u8; CHUNK]?;
+    match layout_of(alloc, image, new.format, None, &mut buf) {
+        Ok(layout) => Ok(layout),
+        Err(cause) => Err(not_written(alloc, from, to, image, cause)),
+    }
+}
+
+/// Puts a new file of an image's disk into a target, and shows how far it is.
+fn write_shown<H: Host, T: Target>(
+    host: &H,
+    from: &str,
+    to: &str,
+    how: Opening,
+    layout: &Layout,
+    target: T,
+    show: bool,
+) -> (T, Result<(), Failure>)
+    ensures same { T.made_for result.0 ≡ T.made_for target }
+    ensures written { IfSome (T.contents target) (λ there. there ≡ []) → OnOk result.1
+        (IfSome (H.contents host.now) (λ files. IsFilledWith
+        (IsCopyBy how.accepted how.other_files how.format from.now layout.now files)
+        (file_length layout.now) (T.contents target) (T.contents result.0))) }
+{
+    let mut target = Progress::new(target, host, show, layout.file_length());
+    let written = write(host, from, to, how, layout, &mut target);
+    (target.into_target(), written)
+}
+
+/// Puts a new file of an image's disk into a target.
+fn write<H: Host, T: Target>(
+    host: &H,
+    from: &str,
+    to: &str,
+    how: Opening,
+    layout: &Layout,
+    target: &mut T,
+) -> Result<(), Failure>
+    ensures same { T.made_for target.new ≡ T.made_for target.old }
+    ensures written { IfSome (T.contents target.old) (λ there. there ≡ []) → OnOk result
+        (IfSome (H.contents host.now) (λ files. IsFilledWith
+        (IsCopyBy how.accepted how.other_files how.format from.now layout.now files)
+        (file_length layout.now) (T.contents target.old) (T.contents target.new))) }
+{
+    let alloc = host.alloc();
+    let (_, image) = opened(host, from, how)?;
+    let mut buf = vec![in alloc; 0u8; CHUNK]?;
+    match write_image(alloc, &image, layout, target, &mut buf) {
+        Ok(()) => Ok(()),
+        Err(cause) => Err(not_written(alloc, from, to, &image, cause)),
+    }
+}
+
+/// Why a new file of an image isn't written.
+fn not_written<H: Host>(
+    alloc: Global,
+    from: &str,
+    to: &str,
+    image: &FileImage<'_, H>,
+    cause: NewFileError,
+) -> Failure {
+    match cause {
+        NewFileError::Format(fault) => of_format(alloc, to, fault),
+        NewFileError::Image(cause) => not_read(alloc, from, image, cause),
+        NewFileError::Target(cause) => Failure::of_file(alloc, to, Reason::System(cause)),
+        NewFileError::Changed => Failure::of_target(alloc, from, Refusal::Changed),
+    }
+}
+
+/// Why there can be no such file of that path.
+pub(crate) fn of_format(alloc: Global, path: &str, fault: FormatError) -> Failure {
+    match fault {
+        FormatError::Memory => Failure::Memory,
+        fault => Failure::of_target(alloc, path, Refusal::NoSuchFile(fault)),
+    }
+}

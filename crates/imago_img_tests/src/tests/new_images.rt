@@ -1,0 +1,147 @@
+// SPDX-License-Identifier: MIT
+//! New qcow2 files, made by command lines one after the other over the files of one host.
+
+use super::set_up::check_line;
+use crate::memory_host::{MemoryHost, Nature};
+use std::alloc::{AllocError, Global};
+use std::process::Abort;
+
+/// A raw disk of 70001 bytes, in which the first byte is set and the last one.
+const LENGTH: usize = 70001;
+
+/// A host with that disk.
+fn files(alloc: Global) -> Result<MemoryHost, AllocError> {
+    let mut disk = vec![in alloc; 0u8; LENGTH]?;
+    disk[0] = 1;
+    disk[LENGTH - 1] = 2;
+    let mut host = MemoryHost::new(alloc, 99, true);
+    host.add("disk.raw", &disk, Nature::Plain)?;
+    Ok(host)
+}
+
+/// What is printed of the disk and of an image of it.
+const ALIKE: &str = "The sizes differ: 70001 and 70144 bytes; what lacks is taken as 0.
+Images are identical.
+";
+
+/// What is printed of a file without a fault.
+const SOUND: &str = "No errors were found on the image.\n";
+
+/// A command line, its status, and what it prints or tells as an error.
+type Row = (&'static str, u8, &'static str, &'static str);
+
+static ROWS: [Row; 21] = [
+    ("convert -O qcow2 disk.raw a.qcow2", 0, "", ""),
+    ("compare disk.raw a.qcow2", 0, ALIKE, ""),
+    ("check a.qcow2", 0, SOUND, ""),
+    // Clusters of 512 bytes, of which two are stored; and all.
+    (
+        "convert -Oqcow2 -ocompat=0.10,cluster_size=512 a.qcow2 b.qcow2",
+        0,
+        "",
+        "",
+    ),
+    (
+        "compare -s a.qcow2 b.qcow2",
+        0,
+        "Images are identical.\n",
+        "",
+    ),
+    ("convert -Oqcow2 -S 0 b.qcow2 c.qcow2", 0, "", ""),
+    (
+        "compare -s b.qcow2 c.qcow2",
+        0,
+        "Images are identical.\n",
+        "",
+    ),
+    (
+        "convert -Oqcow2 disk.raw a.qcow2",
+        1,
+        "",
+        "imago-img: \"a.qcow2\": it exists already; --force replaces a file, -n writes into it\n",
+    ),
+    (
+        "convert -Oqcow2 --force a.qcow2 a.qcow2",
+        1,
+        "",
+        "imago-img: \"a.qcow2\": a file of the image that is read is never replaced\n",
+    ),
+    ("convert -Oqcow2 --force b.qcow2 a.qcow2", 0, "", ""),
+    // A layer above a disk shows it, and names it.
+    ("create -f qcow2 -b disk.raw -F raw top.qcow2", 0, "", ""),
+    ("compare disk.raw top.qcow2", 0, ALIKE, ""),
+    ("check top.qcow2", 0, SOUND, ""),
+    (
+        "create -fqcow2 -b disk.raw -Fraw --force disk.raw",
+        1,
+        "",
+        "imago-img: \"disk.raw\": a file of the image that is read is never replaced\n",
+    ),
+    (
+        "create -fqcow2 -opreallocation=metadata full.qcow2 70001",
+        0,
+        "",
+        "",
+    ),
+    ("create empty.raw 70001", 0, "", ""),
+    (
+        "compare -s full.qcow2 empty.raw",
+        0,
+        "Images are identical.\n",
+        "",
+    ),
+    (
+        "create empty.raw 1",
+        1,
+        "",
+        "imago-img: \"empty.raw\": it exists already; --force replaces a file, -n writes into it\n",
+    ),
+    // The lengths of the files that are there.
+    (
+        "measure -O qcow2 -o cluster_size=512 a.qcow2",
+        0,
+        "required size: 4096\nfully allocated size: 73728\n",
+        "",
+    ),
+    (
+        "measure --size 1G -Oqcow2 --output=json",
+        0,
+        "{\n    \"required\": 262144,\n    \"fully-allocated\": 1074135040\n}\n",
+        "",
+    ),
+    (
+        "measure disk.raw",
+        0,
+        "required size: 70144\nfully allocated size: 70144\n",
+        "",
+    ),
+];
+
+/// How long files are then.
+static LENGTHS: [(&str, usize); 4] = [
+    ("a.qcow2", 7 * 65536),
+    ("full.qcow2", 7 * 65536),
+    ("top.qcow2", 4 * 65536),
+    ("empty.raw", 70144),
+];
+
+/// A file has that length.
+fn check_length(rt: &impl Abort, host: &MemoryHost, path: &str, length: usize) {
+    let found = host.bytes(path).map(|bytes| bytes.len());
+    assert_eq!(rt; found, Some(length), "{path}");
+}
+
+#[test]
+fn new_images_are_what_was_asked_for(rt: HostRuntime) {
+    let alloc = rt.alloc();
+    let made = files(alloc);
+    assert!(&rt; made.is_ok());
+    let Ok(mut host) = made else { return };
+    for &(line, status, output, errors) in &ROWS {
+        check_line(&rt, alloc, &mut host, line, (status, output, errors));
+    }
+    for &(path, length) in &LENGTHS {
+        check_length(&rt, &host, path, length);
+    }
+    assert_eq!(&rt; host.unfinished(), 0);
+}
