@@ -10,7 +10,7 @@ use Rattle.imago_qcow2_new.specs.declared.layout.Layout.{Layout}
 use Rattle.imago_qcow2_new.specs.Extents.{AreExtents, Spot, spot}
 use Rattle.imago_qcow2_new.specs.Words.{byte_of, words_from}
 use Rattle.imago_qcow2_new.specs.Space.{byte_at, IsFilled, Fills}
-use Rattle.imago_qcow2_new.specs.Layout.{entry_value, head_word}
+use Rattle.imago_qcow2_new.specs.Layout.{heads, entry_value, head_word}
 use Rattle.imago_qcow2_new.specs.Image.{IsWritten}
 use Rattle.imago_qcow2_new.proofs.ExtentSteps.{grows, at_end}
 use Rattle.imago_qcow2_new.proofs.Whole.{eight, whole_eight}
@@ -31,9 +31,6 @@ module _ (l : Layout) where
   pub per_cluster : 8 * (l.cluster / 8) ≡ l.cluster
   per_cluster = eight l.cluster l.header.cluster_bits l.power l.least
 
-  abbrev pub heads : List ℕ
-  heads = words_from (head_word l) 0 (l.tables_start / 8)
-
   pub heads_long : length (words_from (head_word l) 0 (l.tables_start / 8)) ≡ l.tables_start
   heads_long = length-map-range_with_len (byte_of (head_word l)) 0 (8 * (l.tables_start / 8)) ∙ whole_eight l.cluster l.tables_start per_cluster l.tables_whole
 
@@ -43,7 +40,7 @@ module _ (l : Layout) where
       let f : (spot l.tables.stored l.tables.extents.items (l.header.l1_count * l.cluster)).before ≡ l.tables.stored = ap (λ (s : Spot). s.before) e in
       h.len ∙ ap (λ x. l.tables_start + x) f ∙ sym l.data_at
 
-  module _ (values : ℕ → Value) (f2 f3 : List ℕ) (first : IsFilled l.tables l.tables_start (entry_value l) heads (l.header.l1_count * l.cluster) f2)
+  module _ (values : ℕ → Value) (f2 f3 : List ℕ) (first : IsFilled l.tables l.tables_start (entry_value l) (heads l) (l.header.l1_count * l.cluster) f2)
       (second : IsFilled l.clusters l.data_start values f2 l.length f3) where
     table_byte : (p : ℕ) → byte_at l.tables_start f3 (spot l.tables.stored l.tables.extents.items p) ≡ byte_at l.tables_start f2 (spot l.tables.stored l.tables.extents.items p)
     table_byte p =

@@ -1,8 +1,9 @@
 -- What the reader makes of the names of the layer below.
 -- SPDX-License-Identifier: MIT
-use Rattle.std.proofs.Common.{◌≡◌, ℕ, zero, suc, ◌+◌, ◌-◌, ◌*◌, ◌/◌, ◌%◌, ◌<◌, ◌≤◌, ◌^◌, ⊎_elim, true, false, nat_eq, nat_lt, List, [], ◌∷◌, ◌++◌, length, get_or, replicate, Some, Ok, refl, sym, ap, ◌∙◌, arith}
+use Rattle.std.proofs.Common.{◌≡◌, ℕ, zero, suc, ◌+◌, ◌-◌, ◌*◌, ◌/◌, ◌%◌, ◌<◌, ◌≤◌, ◌^◌, ⊎_elim, true, false, nat_eq, nat_lt, List, [], ◌∷◌, ◌++◌, length, get_or, replicate, Option, Some, None, Result, Ok, Err, refl, sym, ap, subst, ◌∙◌, arith}
 use Rattle.std.specs.Prelude.{slice_index, min}
 use Rattle.std.specs.Int.{w32, w64, to_be_bytes, from_be_bytes, next_multiple_of}
+use Rattle.std.proofs.lemmas.Bool.{cases_lt}
 use Rattle.std.proofs.lemmas.Bool.Decides.{nat_tests}
 use Rattle.std.proofs.lemmas.Nat.{be_bytes_8, from_be_bytes-to_be_bytes_4}
 use Rattle.std.specs.declared.vec.Vec.{Vec}
@@ -11,6 +12,7 @@ use Rattle.std.proofs.lemmas.List.{get_or_append_left, get_or-append_right, get_
 use Rattle.imago_storage.specs.Bytes.{IsReadAt}
 use Rattle.imago_drivers.specs.Place.{Value}
 use Rattle.imago_qcow2.specs.Numbers.{be32, be64}
+use Rattle.imago_qcow2.specs.Entry.{cluster_length}
 use Rattle.imago_qcow2.specs.Header.{own_length, features_at}
 use Rattle.imago_qcow2.specs.Backing.{extensions_end, format_of, IsBackingName, IsFormatName}
 use Rattle.imago_qcow2.proofs.BackingSteps.{found_here}
@@ -19,7 +21,7 @@ use Rattle.imago_qcow2_check.specs.Known.{known_from, IsKnown}
 use Rattle.imago_qcow2_check.proofs.KnownSteps.{known_goes_on, known_end}
 use Rattle.imago_qcow2_new.specs.declared.format.Version.TheVariants as V
 use Rattle.imago_qcow2_new.specs.declared.layout.Layout.{Layout}
-use Rattle.imago_qcow2_new.specs.Header.{words_of, number_of, name_start, field_word}
+use Rattle.imago_qcow2_new.specs.Header.{words_of, number_of, name_start, field_word, header_word}
 use Rattle.imago_qcow2_new.specs.Names.{padding, extension, AreNames}
 use Rattle.imago_qcow2_new.specs.Words.{byte_of}
 use Rattle.imago_qcow2_new.specs.Layout.{head_word}
@@ -29,6 +31,10 @@ use Rattle.imago_qcow2_new.proofs.Whole.{power_most}
 use Rattle.imago_qcow2_new.proofs.FileSteps.{per_cluster}
 use Rattle.imago_qcow2_new.proofs.WordSteps.{word_whole}
 use Rattle.imago_qcow2_new.proofs.Reading.{versions, words_most, least, behind, head_at, later_field, cluster_is, first_word, own_word, name_start_is, name_length_is}
+
+-- no bytes are bytes
+pub none_fit : (xs : List ℕ) → xs ≡ [] → (i : ℕ) → slice_index xs i < 256
+none_fit xs none i = let e : slice_index xs i ≡ 0 = ap (λ (y : List ℕ). slice_index y i) none in omega (arith, e)
 
 words_some : (v : Version) → 0 < 8 * words_of v
 words_some V.Two = omega arith

@@ -7,9 +7,11 @@ use Rattle.imago_qcow2.specs.Header.{header_of}
 use Rattle.imago_qcow2.specs.Entry.{disk_size, qcow2_place}
 use Rattle.imago_qcow2_check.specs.Clusters.{cluster_count}
 use Rattle.imago_qcow2_check.specs.Counts.{count_of}
+use Rattle.imago_qcow2_check.specs.Known.{IsKnown}
 use Rattle.imago_qcow2_check.specs.Uses.{setting, uses_of}
 use Rattle.imago_qcow2_check.specs.Verdicts.{IsFaultless}
 use Rattle.imago_qcow2_new.specs.declared.layout.Layout.{Layout}
+use Rattle.imago_qcow2_new.specs.Names.{HasNames, HasNoNames, IsNamed}
 use Rattle.imago_qcow2_new.specs.Words.{byte_of}
 use Rattle.imago_qcow2_new.specs.Space.{spot_of, byte_at}
 use Rattle.imago_qcow2_new.specs.Layout.{head_word, table_word}
@@ -49,13 +51,17 @@ IsUsedOnce file = (n : ℕ) → n < cluster_count (setting file)
     → (uses_of file n ≡ 1) × (count_of file n ≡ 1)
 
 -- A new file of a disk: what it has, and what its reader makes of it. Its header has no fault, and
--- it shows the disk. Each of its clusters is used once and has the reference count 1, and no entry
--- of its tables has a fault.
+-- it shows the disk. It names the layer below, if that has a name, and everything in it is known
+-- that may use clusters. Each of its clusters is used once and has the reference count 1, and no
+-- entry of its tables has a fault.
 pub record IsNewFile (l : Layout) (values : ℕ → Value) (file : List ℕ) : Type 0 where
   pub written : IsWritten l values file
   pub opens : IsOk (header_of file (length file))
   pub shows : ShowsOver l values file
   pub left : IsLeftBelow l file
+  pub named : (name format : List ℕ) → HasNames l name format → 0 < length name
+      → IsNamed name format file
+  pub known : HasNoNames l → IsKnown file
   pub once : IsUsedOnce file
   pub faultless : IsFaultless file
 

@@ -1,7 +1,7 @@
 -- Where everything stands in a new file, and the words of its tables.
 -- SPDX-License-Identifier: MIT
 use Rattle.std.specs.Prelude.{ℕ, ◌+◌, ◌-◌, ◌*◌, ◌/◌, ◌^◌, if◌then◌else◌, nat_lt, nat_eq}
-use Rattle.std.specs.Prelude.{◌≡◌}
+use Rattle.std.specs.Prelude.{◌≡◌, List, []}
 use Rattle.std.specs.Int.{next_multiple_of}
 use Rattle.imago_drivers.specs.Place.{Value, Byte}
 use Rattle.imago_qcow2_new.specs.declared.format.Format.{Format}
@@ -9,7 +9,7 @@ use Rattle.imago_qcow2_new.specs.declared.format.Gaps.{Gaps}
 use Rattle.imago_qcow2_new.specs.declared.format.Gaps.TheVariants as G
 use Rattle.imago_qcow2_new.specs.declared.layout.Layout.{Layout}
 use Rattle.imago_qcow2_new.specs.Extents.{Spot, spot}
-use Rattle.imago_qcow2_new.specs.Words.{byte_of}
+use Rattle.imago_qcow2_new.specs.Words.{byte_of, words_from}
 use Rattle.imago_qcow2_new.specs.Header.{header_word}
 
 -- the L2 entry of a cluster that isn't stored
@@ -30,6 +30,10 @@ pub record IsLayoutOf (format : Format) (size : ℕ) (l : Layout) : Type 0 where
   pub version : l.header.version ≡ format.version
   pub bits : l.header.cluster_bits ≡ format.cluster_bits
   pub gaps : l.gap ≡ gap_entry format.gaps
+
+-- nothing of the disk is stored
+abbrev pub StoresNothing : Layout → Type 0
+StoresNothing l = l.clusters.extents.items ≡ []
 
 -- the entry of what stands at a spot of a space whose stored bytes begin there: with the bit that
 -- says that nothing else refers to it, or that word where it isn't stored
@@ -73,3 +77,7 @@ head_word l w =
     (if nat_lt w (l.blocks_start / 8) then count_word l (w - l.cluster / 8) else
     (if nat_lt w (l.header.l1_start / 8) then block_word l (w - l.blocks_start / 8)
     else l1_word l (w - l.header.l1_start / 8)))
+
+-- the bytes of it
+abbrev pub heads : Layout → List ℕ
+heads l = words_from (head_word l) 0 (l.tables_start / 8)

@@ -1,6 +1,7 @@
 -- The names of a layer below, as they stand behind the header.
 -- SPDX-License-Identifier: MIT
-use Rattle.std.specs.Prelude.{◌≡◌, ℕ, ◌+◌, ◌-◌, ◌%◌, ◌<◌, List, [], ◌++◌, length, replicate, slice_index}
+use Rattle.std.specs.Prelude.{◌≡◌, ℕ, ◌+◌, ◌-◌, ◌%◌, ◌<◌, List, [], ◌++◌, length, replicate}
+use Rattle.std.specs.Prelude.{slice_index}
 use Rattle.std.specs.Prelude.{Option, Some, None}
 use Rattle.std.specs.Int.{w32, to_be_bytes}
 use Rattle.std.specs.declared.vec.Vec.{Vec}
@@ -29,22 +30,25 @@ pub record AreNames (file format : List ℕ) (n : Names) : Type 0 where
   pub start : n.start ≡ length (extension format)
   pub count : n.count ≡ length file
 
--- the same of a layer below, if there is one
-abbrev pub AreNamesOf : Option Backing → Names → Type 0
-AreNamesOf None n = (n.bytes.items ≡ []) × (n.count ≡ 0)
-AreNamesOf (Some b) n = AreNames b.file.now b.format.now n
-
 -- each is a byte
 abbrev pub AreBytes : List ℕ → Type 0
 AreBytes xs = (i : ℕ) → slice_index xs i < 256
+
+-- the same of a layer below, if there is one
+abbrev pub AreNamesOf : Option Backing → Names → Type 0
+AreNamesOf None n = (n.bytes.items ≡ []) × (n.count ≡ 0)
+AreNamesOf (Some b) n = AreNames b.file.now b.format.now n × AreBytes n.bytes.items
 
 -- the names of a layout, and that it has none
 abbrev pub HasNames : Layout → List ℕ → List ℕ → Type 0
 HasNames l name format = AreNames name format l.header.names × AreBytes l.header.names.bytes.items
 
 abbrev pub HasNoNames : Layout → Type 0
-HasNoNames l = (l.header.names.bytes.items ≡ []) × ((l.header.names.count ≡ 0)
-    × AreBytes l.header.names.bytes.items)
+HasNoNames l = (l.header.names.bytes.items ≡ []) × (l.header.names.count ≡ 0)
+
+-- the names of a layout are those of that layer below, or it has none
+abbrev pub HasNamesOf : Option Backing → Layout → Type 0
+HasNamesOf backing l = AreNamesOf backing l.header.names
 
 -- What a file says of a layer below, by the reader's definitions: the name of its file, and that of
 -- its format.

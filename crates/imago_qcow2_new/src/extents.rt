@@ -35,13 +35,14 @@ pub struct Extents {
 }
 
 impl Extents {
-    ghost use Rattle.std.specs.Prelude.{ℕ, length, drop, slice_index_or};
+    ghost use Rattle.std.specs.Prelude.{ℕ, [], length, drop, slice_index_or};
     ghost use Rattle.imago_qcow2_new.specs.declared.extent.Extent.{Extent};
     ghost use Rattle.imago_qcow2_new.specs.Extents.{spot, IsPart};
 
     /// No part, of a space of such units.
     pub fn new(alloc: Global, unit: u64) -> Self
-        ensures { result.unit ≡ unit }
+        ensures unit { result.unit ≡ unit }
+        ensures none { result.extents.items ≡ [] }
     {
         Extents {
             unit,

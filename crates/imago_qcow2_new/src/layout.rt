@@ -255,6 +255,7 @@ fn starts_of(others: u64, l1_count: u32, cluster: u64) -> Result<Starts, FormatE
 
 impl Layout {
     ghost use Rattle.imago_qcow2_new.specs.Layout.{IsLayoutOf, file_length, size_of};
+    ghost use Rattle.imago_qcow2_new.specs.Names.{HasNamesOf};
 
     /// Where everything stands in a file of a disk of that size, of which these clusters are
     /// stored, in units of [`cluster_length`]. The disk's size is rounded up to whole sectors of
@@ -271,7 +272,9 @@ impl Layout {
         stored: Extents,
         backing: Option<Backing<'_>>,
     ) -> Result<Layout, FormatError>
-        ensures { IfOk result (IsLayoutOf format size) }
+        ensures layout { IfOk result (IsLayoutOf format size) }
+        ensures names { IfOk result (HasNamesOf backing.entry) }
+        ensures clusters { IfOk result (λ l. l.clusters ≡ stored) }
     {
         let gap = format.gaps.entry();
         if gap > 0 && format.version.number() < 3 {

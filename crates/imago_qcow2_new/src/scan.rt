@@ -1,11 +1,12 @@
 // SPDX-License-Identifier: MIT
 //! Which clusters of a disk are to be stored in a new file of it.
-ghost use Rattle.std.specs.Prelude.{◌≡◌, ◌+◌, ◌^◌, ◌<◌, ◌≤◌, length, None, IfOk};
+ghost use Rattle.std.specs.Prelude.{◌≡◌, ◌+◌, ◌^◌, ◌<◌, ◌≤◌, length, None, IfOk, false};
 ghost use Rattle.imago_access.specs.Chain.{driver};
-ghost use Rattle.imago_qcow2_new.specs.Layout.{IsLayoutOf};
+ghost use Rattle.imago_qcow2_new.specs.Layout.{IsLayoutOf, StoresNothing};
+ghost use Rattle.imago_qcow2_new.specs.Names.{HasNamesOf};
 
 use crate::extents::Extents;
-use crate::format::{Backing, Format};
+use crate::format::{Backing, Format, FormatError};
 use crate::layout::{Layout, cluster_length, rounded_size};
 use crate::write::NewFileError;
 use crate::zero::is_zero;
@@ -131,10 +132,36 @@ pub fn layout_of<D: FormatDriverInstance>(
     backing: Option<Backing<'_>>,
     buf: &mut [u8],
 ) -> Result<Layout, NewFileError>
-    ensures { IfOk result (IsLayoutOf format (D.view (driver image.now)).size) }
+    ensures layout { IfOk result (IsLayoutOf format (D.view (driver image.now)).size) }
+    ensures names { IfOk result (HasNamesOf backing.entry) }
 {
     let cluster = cluster_length(format.cluster_bits)?;
     let stored = stored_clusters(alloc, image, cluster, buf)?;
     let layout = Layout::new(alloc, format, image.size(), stored, backing)?;
     Ok(layout)
+}
+
+/// Where everything stands in a new file of a disk of that size, of which each cluster is stored,
+/// or none is.
+///
+/// # Errors
+///
+/// Those of [`Layout::new`].
+pub fn layout_of_size(
+    alloc: Global,
+    format: Format,
+    size: u64,
+    is_stored: bool,
+    backing: Option<Backing<'_>>,
+) -> Result<Layout, FormatError>
+    ensures layout { IfOk result (IsLayoutOf format size) }
+    ensures names { IfOk result (HasNamesOf backing.entry) }
+    ensures none { is_stored ≡ false → IfOk result StoresNothing }
+{
+    let cluster = cluster_length(format.cluster_bits)?;
+    let mut stored = Extents::new(alloc, cluster);
+    if is_stored {
+        stored.cover(0, rounded_size(size)?)?;
+    }
+    Layout::new(alloc, format, size, stored, backing)
 }

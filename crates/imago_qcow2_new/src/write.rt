@@ -6,9 +6,11 @@ ghost use Rattle.std.specs.Int.{next_multiple_of};
 ghost use Rattle.imago_access.specs.Chain.{driver, tells_bytes};
 ghost use Rattle.imago_access.specs.Disk.{disk, value_at};
 ghost use Rattle.imago_access.specs.ReaderOf.{image_of, IsKeeping};
+ghost use Rattle.imago_copy.specs.Appended.{IsAppended};
 ghost use Rattle.imago_copy.specs.Copies.{IsPut};
+ghost use Rattle.imago_drivers.specs.Place.{Byte};
 ghost use Rattle.imago_qcow2_new.specs.Space.{AreZero, Fills};
-ghost use Rattle.imago_qcow2_new.specs.Layout.{entry_value, size_of};
+ghost use Rattle.imago_qcow2_new.specs.Layout.{entry_value, heads, size_of};
 ghost use Rattle.imago_qcow2_new.specs.Image.{IsNewFileIn};
 
 use crate::entries::{HeadWords, TableWords, is_empty};
@@ -75,6 +77,17 @@ impl From<CopyError> for NewFileError {
 /// A buffer without room.
 fn no_room() -> NewFileError {
     NewFileError::Target(io::Error::from(ErrorKind::InvalidInput))
+}
+
+/// Puts in what stands before the L2 tables.
+fn put_head<T: Target>(layout: &Layout, target: &mut T, buf: &mut [u8]) -> Result<(), NewFileError>
+    ensures same { T.made_for target.new ≡ T.made_for target.old }
+    ensures put { OnOk result (IsAppended (T.contents target.old) (T.contents target.new)
+        (heads layout.now)) }
+{
+    let head = HeadWords { layout };
+    put_words(&head, target, 0, layout.tables_start / 8, buf)?;
+    Ok(())
 }
 
 /// Puts an L2 table in, if it is one of those that there are. Another one has to be empty.
@@ -271,20 +284,42 @@ pub fn write_image<D: FormatDriverInstance, T: Target>(
     target: &mut T,
     buf: &mut [u8],
 ) -> Result<(), NewFileError>
-    requires { IfSome (T.contents target.old) (λ there. there ≡ []) }
     ensures same { T.made_for target.new ≡ T.made_for target.old }
     ensures size { OnOk result
         (size_of layout.now ≡ next_multiple_of (D.view (driver image.now)).size 512) }
-    ensures written { IsTrue (tells_bytes D.view image.now) → OnOk result
+    ensures written { IfSome (T.contents target.old) (λ there. there ≡ [])
+        → IsTrue (tells_bytes D.view image.now) → OnOk result
         (IsNewFileIn layout.now (value_at (disk D.view image.now)) (T.contents target.old)
         (T.contents target.new)) }
 {
     if rounded_size(image.size())? != layout.header.size {
         return Err(NewFileError::Changed);
     }
-    let head = HeadWords { layout };
-    put_words(&head, target, 0, layout.tables_start / 8, buf)?;
+    put_head(layout, target, buf)?;
     put_tables(layout, target, buf)?;
     put_disk(alloc, image, layout, target, buf)?;
+    Ok(())
+}
+
+/// Puts a new file of a disk of zeroes into a target that is empty, from its first byte to its last
+/// one. The clusters that are stored are zero.
+///
+/// # Errors
+///
+/// [`NewFileError::Target`] is the refusal of the target, or [`ErrorKind::InvalidInput`] where the
+/// buffer has less than 8 bytes. What was put in until then stays in the target: it is no file to
+/// keep.
+pub fn write_zeroes<T: Target>(
+    layout: &Layout,
+    target: &mut T,
+    buf: &mut [u8],
+) -> Result<(), NewFileError>
+    ensures same { T.made_for target.new ≡ T.made_for target.old }
+    ensures written { IfSome (T.contents target.old) (λ there. there ≡ []) → OnOk result
+        (IsNewFileIn layout.now (λ _. Byte 0) (T.contents target.old) (T.contents target.new)) }
+{
+    put_head(layout, target, buf)?;
+    put_tables(layout, target, buf)?;
+    target.append_zeroes(layout.clusters.stored)?;
     Ok(())
 }
