@@ -51,8 +51,9 @@ IsUsedOnce file = (n : ℕ) → n < cluster_count (setting file)
     → (uses_of file n ≡ 1) × (count_of file n ≡ 1)
 
 -- A new file of a disk: what it has, and what its reader makes of it. Its header has no fault, and
--- it shows the disk. It names the layer below, if there is one whose name isn't empty. Each of its clusters is used once and has the reference count 1, and no entry
--- of its tables has a fault.
+-- it shows the disk. It names the layer below, if that has a name, and everything in it is known
+-- that may use clusters. Each of its clusters is used once and has the reference count 1, and no
+-- entry of its tables has a fault.
 pub record IsNewFile (l : Layout) (values : ℕ → Value) (file : List ℕ) : Type 0 where
   pub written : IsWritten l values file
   pub opens : IsOk (header_of file (length file))

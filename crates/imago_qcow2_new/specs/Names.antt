@@ -1,6 +1,7 @@
 -- The names of a layer below, as they stand behind the header.
 -- SPDX-License-Identifier: MIT
-use Rattle.std.specs.Prelude.{◌≡◌, ℕ, ◌+◌, ◌-◌, ◌%◌, ◌<◌, List, [], ◌++◌, length, replicate, slice_index}
+use Rattle.std.specs.Prelude.{◌≡◌, ℕ, ◌+◌, ◌-◌, ◌%◌, ◌<◌, List, [], ◌++◌, length, replicate}
+use Rattle.std.specs.Prelude.{slice_index}
 use Rattle.std.specs.Prelude.{Option, Some, None}
 use Rattle.std.specs.Int.{w32, to_be_bytes}
 use Rattle.std.specs.declared.vec.Vec.{Vec}

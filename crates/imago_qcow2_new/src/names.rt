@@ -2,6 +2,7 @@
 //! The names of the layer below, as they stand behind the header.
 ghost use Rattle.std.specs.Prelude.{◌≡◌, ◌+◌, ◌^◌, ◌<◌, ◌≤◌, [], length, IfOk};
 ghost use Rattle.imago_qcow2_new.specs.Names.{AreNames, AreNamesOf, AreBytes};
+ghost use Rattle.imago_qcow2_new.specs.Names.{extension, padding};
 
 use crate::format::{Backing, FormatError};
 use std::alloc::{AllocError, Global};
@@ -48,21 +49,45 @@ impl Names {
         ensures are { IfOk result (AreNames backing.entry.file.now backing.entry.format.now) }
         ensures bytes { IfOk result (λ n. AreBytes n.bytes.items) }
     {
-        let format = backing.format;
-        let mut bytes = Vec::new(alloc);
-        bytes.extend_from_slice(&BACKING_FORMAT.to_be_bytes())?;
-        bytes.extend_from_slice(&(format.len() as u32).to_be_bytes())?;
-        bytes.extend_from_slice(format.as_bytes())?;
-        let rest = 8 - format.len() % 8;
-        bytes.extend_from_slice(&[0u8; 16][..rest % 8 + 8])?;
+        let mut bytes = extension(alloc, backing.format)?;
         let start = bytes.len() as u64;
         bytes.extend_from_slice(backing.file.as_bytes())?;
+        bytes_fit(&bytes);
         Ok(Names {
             bytes,
             start,
             count: backing.file.len() as u32,
         })
     }
+}
+
+/// The extension that has the name of a format, and the one that ends all.
+fn extension(alloc: Global, format: &str) -> Result<Vec<u8>, AllocError>
+    requires { length format.now ≤ 1023 }
+    ensures { IfOk result (λ v. v.items ≡ extension format.now) }
+{
+    let mut bytes = Vec::new(alloc);
+    bytes.extend_from_slice(&BACKING_FORMAT.to_be_bytes())?;
+    bytes.extend_from_slice(&(format.len() as u32).to_be_bytes())?;
+    bytes.extend_from_slice(format.as_bytes())?;
+    let length = bytes.len() + padding(format.len());
+    bytes.resize(length, 0)?;
+    Ok(bytes)
+}
+
+/// How many zeroes stand behind a name of so many bytes.
+fn padding(count: usize) -> usize
+    ensures value { result ≡ padding count }
+    ensures most { result ≤ 15 }
+{
+    (8 - count % 8) % 8 + 8
+}
+
+/// Each byte is one. The function does nothing; its contract is what is proved.
+fn bytes_fit(bytes: &[u8])
+    ensures { AreBytes bytes.now }
+{
+    let _ = bytes;
 }
 
 /// The names of that layer below, if they fit into the first cluster.

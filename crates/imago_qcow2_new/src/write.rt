@@ -80,11 +80,7 @@ fn no_room() -> NewFileError {
 }
 
 /// Puts in what stands before the L2 tables.
-fn put_head<T: Target>(
-    layout: &Layout,
-    target: &mut T,
-    buf: &mut [u8],
-) -> Result<(), NewFileError>
+fn put_head<T: Target>(layout: &Layout, target: &mut T, buf: &mut [u8]) -> Result<(), NewFileError>
     ensures same { T.made_for target.new ≡ T.made_for target.old }
     ensures put { OnOk result (IsAppended (T.contents target.old) (T.contents target.new)
         (heads layout.now)) }
