@@ -1,6 +1,6 @@
 -- The files that commands make, from what is put into them.
 -- SPDX-License-Identifier: MIT
-use Rattle.std.proofs.Common.{◌≡◌, ℕ, Bool, false, List, [], Option, Some, None, Result, Ok, Err, length, OnOk, IsOk, IfSome, IsTrue, refl, sym, ap, subst, ◌∙◌}
+use Rattle.std.proofs.Common.{◌≡◌, ℕ, inl, inr, Bool, false, List, [], Option, Some, None, Result, Ok, Err, length, OnOk, IsOk, IfSome, IsTrue, refl, sym, ap, subst, ◌∙◌}
 use Rattle.std.specs.Prelude.{option_map}
 use Rattle.std.specs.Int.{next_multiple_of}
 use Rattle.std.specs.Prelude.{unwrap_or, replicate, ◌++◌}
@@ -25,7 +25,11 @@ use Rattle.imago_images.specs.declared.format.ImageFormat.{ImageFormat}
 use Rattle.imago_images.specs.declared.opening.OtherFiles.{OtherFiles}
 use Rattle.imago_images.specs.Formats.{IsFormatBy}
 use Rattle.imago_images.specs.Images.{IsImageIn}
-use Rattle.imago_img_parts.specs.Files.{Around, begun, ended, with_file, IsMade, IsWhole}
+use Rattle.imago_words.specs.declared.command.Convert.{Convert}
+use Rattle.imago_images.specs.declared.opening.Opening.{Opening}
+use Rattle.imago_img_parts.specs.Commands.{IsConvertedTo, IsNewlyConverted}
+use Rattle.imago_img_parts.specs.Disks.{IsConverted}
+use Rattle.imago_img_parts.specs.Files.{Around, begun, ended, with_file, IsMade, IsSoOnceCleared, IsWhole}
 use Rattle.imago_img_parts.specs.NewFiles.{HasNamesBelow, IsCopyBy, IsEmptyFile, IsFilledWith, IsNewImage, IsNewlyMade, IsQcow2Copy, IsSizeBelow, IsSizeBy, IsSizeOf, format_by}
 use Rattle.imago_img_parts.proofs.Disks.{begun_ended, disk_length, on_ok, shows_disk}
 
@@ -180,3 +184,31 @@ pub empty_by : (settings : Settings) (below : Option Backing) (size : ℕ) (l : 
     → IfSome known (λ files. (file : List ℕ) → IsNewFile l (λ _. Byte 0) file
     → IsEmptyFile (New.Qcow2 settings) below size file)
 empty_by settings below size l is names none known = each_of known _ (λ files file made. (l, is, names, none, made))
+
+-- What a conversion says of its format.
+module _ (how : Opening) (c : Convert) (old new : Option (List ℕ → List ℕ)) (before after : Option Around)
+    {E : Type 0} (r : Result (Unit {0}) E) where
+  pub converted_raw : c.target_format ≡ New.Raw
+      → OnOk r (IsSoOnceCleared c.force old before c.target.now (λ files around. IsConverted how.accepted how.other_files
+      how.format c.force files new around after c.source.now c.target.now))
+      → OnOk r (IsNewlyConverted how c old new before after 0)
+  converted_raw e h = then r
+      (λ k. inl (
+        refl,
+        subst (λ (f : NewFormat). IsSoOnceCleared c.force old before c.target.now
+            (λ files around. IsConvertedTo f how c files new around after)) (sym e) k,
+      )) h
+
+  pub converted_qcow2 : (settings : Settings) (format : Format) → format ≡ format_by settings
+      → c.target_format ≡ New.Qcow2 settings
+      → OnOk r (IsSoOnceCleared c.force old before c.target.now (λ files around. IsNewlyMade
+      (IsQcow2Copy how.accepted how.other_files how.format c.source.now format) c.force files new around after c.target.now))
+      → OnOk r (IsNewlyConverted how c old new before after 0)
+  converted_qcow2 settings format is e h = then r
+      (λ k. inl (
+        refl,
+        subst (λ (f : NewFormat). IsSoOnceCleared c.force old before c.target.now
+            (λ files around. IsConvertedTo f how c files new around after)) (sym e)
+            (subst (λ (f : Format). IsSoOnceCleared c.force old before c.target.now (λ files around. IsNewlyMade
+            (IsQcow2Copy how.accepted how.other_files how.format c.source.now f) c.force files new around after c.target.now)) is k),
+      )) h

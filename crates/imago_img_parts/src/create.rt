@@ -90,12 +90,7 @@ fn create_beside<H: Host>(host: &mut H, asked: Create<'_>) -> Result<(), Failure
 }
 
 /// Makes a raw file of that many zeroes, up to the next multiple of 512.
-fn create_raw<H: Host>(
-    host: &mut H,
-    to: &str,
-    size: u64,
-    making: Making,
-) -> Result<(), Failure>
+fn create_raw<H: Host>(host: &mut H, to: &str, size: u64, making: Making) -> Result<(), Failure>
     ensures created { OnOk result (IsNewlyMade
         (λ files file. file ≡ replicate (next_multiple_of size 512) 0) making.replace
         (H.contents host.old) (H.contents host.new) (H.around host.old) (H.around host.new)
@@ -124,20 +119,20 @@ pub(crate) fn raw_length(alloc: Global, to: &str, size: u64) -> Result<u64, Fail
 }
 
 /// Puts that many zeroes into a target.
-fn put_zeroes<T: Target>(
-    alloc: Global,
-    to: &str,
-    target: T,
-    count: u64,
-) -> (T, Result<(), Failure>)
+fn put_zeroes<T: Target>(alloc: Global, to: &str, target: T, count: u64) -> (T, Result<(), Failure>)
     ensures same { T.made_for result.0 ≡ T.made_for target }
     ensures put { IfSome (T.contents target) (λ there. there ≡ []) → OnOk result.1
         (IsFilledWith (λ file. file ≡ replicate count 0) count (T.contents target)
         (T.contents result.0)) }
 {
     let mut target = target;
-    let put = target.append_zeroes(count);
-    (target, Failure::or_system(alloc, to, put))
+    match target.append_zeroes(count) {
+        Ok(()) => (target, Ok(())),
+        Err(cause) => {
+            let refused = Failure::of_file(alloc, to, Reason::System(cause));
+            (target, Err(refused))
+        }
+    }
 }
 
 /// Makes a qcow2 file of a disk of that size, over a layer below if there is one.

@@ -56,12 +56,7 @@ pub fn measure<H: Host, W: Write>(
 }
 
 /// The lengths of a new file of the disk of an image.
-fn lengths_of_file<H: Host>(
-    host: &H,
-    file: &str,
-    asked: Measure<'_>,
-) -> Result<Lengths, Failure>
-{
+fn lengths_of_file<H: Host>(host: &H, file: &str, asked: Measure<'_>) -> Result<Lengths, Failure> {
     let alloc = host.alloc();
     let (_, image) = opened(host, file, how_to_open(asked.source_format, asked.opening))?;
     let (size, _) = readable_size(alloc, file, &image)?;
@@ -92,12 +87,7 @@ fn lengths_of_size(alloc: Global, size: u64, format: NewFormat) -> Result<Length
 }
 
 /// The length of a qcow2 file of a disk of that size in which all clusters are stored.
-fn full_length(
-    alloc: Global,
-    path: &str,
-    size: u64,
-    settings: Settings,
-) -> Result<u64, Failure>
+fn full_length(alloc: Global, path: &str, size: u64, settings: Settings) -> Result<u64, Failure>
     ensures { IfOk result (λ n. (l : Layout) × IsLayoutOf (format_by settings) size l
         × (n ≡ file_length l)) }
 {

@@ -6,8 +6,8 @@ ghost use Rattle.imago_img_parts.specs.Openings.{how_by, image_format, others_by
 
 use imago_images::format::ImageFormat;
 use imago_images::opening::{Opening, OtherFiles};
-use imago_vmdk::line::Accepted;
 use imago_qcow2_new::format::{Format as FileFormat, Gaps, Version};
+use imago_vmdk::line::Accepted;
 use imago_words::command::Opening as Said;
 use imago_words::format::Format;
 use imago_words::settings::{self, Settings};

@@ -24,7 +24,10 @@ pub fn reach_of<'a>(command: &Command<'a>) -> Reach<'a>
             reach_when(asked.opening.alone, Reach::Copy(asked.source, asked.target))
         }
         Command::Create(asked) => {
-            reach_when(asked.opening.alone, Reach::Copy(below_of(asked), asked.target))
+            reach_when(
+                asked.opening.alone,
+                Reach::Copy(below_of(asked), asked.target),
+            )
         }
         Command::Measure(asked) => match asked.disk {
             Measured::File(file) => reach_when(asked.opening.alone, Reach::File(file)),

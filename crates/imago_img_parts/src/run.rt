@@ -35,8 +35,8 @@ use crate::question::Question;
 use crate::reach::reach_of;
 use crate::vet::vet;
 use imago_images::confined::Confined;
-use imago_qcow2_check::fault::Verdict;
 use imago_images::opening::Opening;
+use imago_qcow2_check::fault::Verdict;
 use imago_words::command::{Check, Command, Compare, Convert, Create, Info, Map, Output, Vet};
 use imago_words::help::{Help, VERSION};
 use imago_words::kind::Kind;
@@ -250,7 +250,10 @@ fn convert_newly<H: Host, E: Write>(
         (H.contents host.new) (H.around host.old) (H.around host.new) 1) }
 {
     let (from, to) = (asked.source, asked.target);
-    let making = making_of(asked);
+    let making = Making {
+        replace: asked.force,
+        sparse: asked.sparse,
+    };
     match asked.target_format {
         NewFormat::Raw => convert_image(host, from, to, how, making, show, warnings),
         NewFormat::Qcow2(settings) => {
@@ -263,26 +266,26 @@ fn convert_newly<H: Host, E: Write>(
     }
 }
 
-/// How the file of a conversion is made.
-fn making_of(asked: Convert<'_>) -> Making
-    ensures { result.replace ≡ asked.entry.force }
-{
-    Making {
-        replace: asked.force,
-        sparse: asked.sparse,
-    }
-}
-
 /// Makes a new image, and gives the status.
 fn create<H: Host, E: Write>(host: &mut H, asked: Create<'_>, errors: &mut E) -> u8
     ensures most { result ≤ 1 }
     ensures created { IsCreated asked.entry (H.contents host.old) (H.contents host.new)
         (H.around host.old) (H.around host.new) result }
 {
-    match create_image(host, asked) {
+    match create_as_asked(host, asked) {
         Ok(()) => 0,
         Err(refused) => tell(refused, errors, 1),
     }
+}
+
+/// Makes a new image.
+fn create_as_asked<H: Host>(host: &mut H, asked: Create<'_>) -> Result<(), Failure>
+    ensures created { OnOk result (IsCreated asked.entry (H.contents host.old)
+        (H.contents host.new) (H.around host.old) (H.around host.new) 0) }
+    ensures refused { OnErr result (IsCreated asked.entry (H.contents host.old)
+        (H.contents host.new) (H.around host.old) (H.around host.new) 1) }
+{
+    create_image(host, asked)
 }
 
 /// Answers a question, and gives the status.

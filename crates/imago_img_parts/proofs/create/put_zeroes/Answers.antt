@@ -2,5 +2,7 @@
 use Rattle.imago_img_parts.proofs.NewFiles.{filled_zeroes}
 use Rattle.imago_img_parts.proofs.create.put_zeroes.Goals as goal
 
-pub returns-clause-put : goal.returns-clause-put
-returns-clause-put g c = ?
+pub returns-in-Ok-clause-put : goal.returns-in-Ok-clause-put
+returns-in-Ok-clause-put g c = λ empty.
+    filled_zeroes c.args.count (g.T.Target.contents c.args.target) (g.T.Target.contents c.append_zeroes.new.self)
+    empty c.in-Ok.ensures.appended

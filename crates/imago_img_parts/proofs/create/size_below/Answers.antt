@@ -1,4 +1,5 @@
 -- SPDX-License-Identifier: MIT
+use Rattle.std.proofs.Common.{◌≡◌, ◌∙◌, List, ℕ, IfSome, refl, subst, sym}
 use Rattle.imago_any_driver.specs.AnyDriver.{view_over}
 use Rattle.imago_file.specs.StorageParts.{faults_of}
 use Rattle.imago_images.proofs.PathSteps.{features_of, bytes_of}
