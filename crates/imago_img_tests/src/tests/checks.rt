@@ -86,7 +86,7 @@ static PARTS: [PartsRow; 6] = [
             (1537, b"\x01\0\x01\0\x01\0\x01"),
         ],
     ),
-    // Bitmaps that are valid.
+    // A bitmap whose entry of the directory is empty.
     (
         "bitmaps.qcow2",
         1024,
@@ -98,6 +98,8 @@ static PARTS: [PartsRow; 6] = [
             (46, b"\x02"),
             (95, b"\x01"),
             (99, b"\x04\0\0\0\x68"),
+            (104, b"\x23\x85\x28\x75\0\0\0\x18\0\0\0\x01"),
+            (127, b"\x20\0\0\0\0\0\0\x02"),
         ],
     ),
     // A header extension of a type that isn't known.
@@ -175,8 +177,8 @@ static ROWS: [Row; 10] = [
         "check bitmaps.qcow2",
         1,
         "",
-        "imago-img: \"bitmaps.qcow2\" can't be checked: the image has bitmaps, whose clusters \
-        aren't counted\n",
+        "imago-img: \"bitmaps.qcow2\" can't be checked: the entry of the bitmap directory at 512 \
+        can't be meant\n",
     ),
     (
         "check --json extended.qcow2",
