@@ -120,7 +120,7 @@ pub fn tell_fault<W: Write>(
     match file {
         ExtentFile::Length(length) => writeln!(
             output,
-            "{length} bytes, and its extent ends at {end}: what lacks reads as 0"
+            "{length} bytes, and its extent ends at {end}: the missing bytes read as 0"
         )?,
         ExtentFile::Outside => writeln!(
             output,

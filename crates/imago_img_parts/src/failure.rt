@@ -226,8 +226,8 @@ fn advice_for_another(found: Signature) -> &'static str {
 /// both. So an absolute name isn't in the folder of a relative path, whatever that stands for.
 fn advice_for_outside(path: &str, named: &str) -> &'static str {
     if named.starts_with("/") && !path.starts_with("/") {
-        return "; --allow-outside permits it, as does the image's absolute path if the file lies \
-                there";
+        return "; --allow-outside permits it, or, if it is there, name the image by its absolute \
+                path";
     }
     "; --allow-outside permits it"
 }

@@ -97,7 +97,7 @@ impl<'a> ShortFiles<'a> {
             writeln!(
                 warnings,
                 "imago-img: warning: {path:?}: {length} bytes, and the image uses it up to {end}: \
-                 what lacks reads as 0"
+                 the missing bytes read as 0"
             )?;
         }
         if self.more {

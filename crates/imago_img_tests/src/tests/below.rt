@@ -405,7 +405,7 @@ static CONVERTED: [Case; 2] = [
         status: 0,
         output: "",
         errors: "imago-img: warning: \"parts/b.bin\": 515 bytes, and the image uses it up to \
-            1024: what lacks reads as 0\n",
+            1024: the missing bytes read as 0\n",
         written: Some((2048, &[(0, b"t"), (1536, b"xyz")])),
     },
     Case {
@@ -415,7 +415,7 @@ static CONVERTED: [Case; 2] = [
         status: 0,
         output: "",
         errors: "imago-img: warning: \"/etc/secret\": 3 bytes, and the image uses it up to 512: \
-            what lacks reads as 0\n",
+            the missing bytes read as 0\n",
         written: Some((2048, &[(0, b"top")])),
     },
 ];

@@ -14,8 +14,8 @@ static CASES: [Case; 13] = [
             disk size: 105 B\n\
             extent: FLAT, 512 bytes from 0 of \"a.bin\"\nextent: ZERO, 1024 bytes\n\
             extent: FLAT, 512 bytes from 512 of \"parts/b.bin\"\n",
-        errors: "imago-img: warning: \"a.bin\": 6 bytes, and its extent ends at 512: what lacks \
-            reads as 0\n\
+        errors: "imago-img: warning: \"a.bin\": 6 bytes, and its extent ends at 512: the missing \
+            bytes read as 0\n\
             imago-img: warning: \"parts/b.bin\": 515 bytes, and its extent ends at 1024: what \
             lacks reads as 0\n",
         written: None,
@@ -96,7 +96,7 @@ static CASES: [Case; 13] = [
         status: 0,
         output: "",
         errors: "imago-img: warning: \"/etc/secret\": 3 bytes, and the image uses it up to 512: \
-            what lacks reads as 0\n",
+            the missing bytes read as 0\n",
         written: Some((512, &[(0, b"top")])),
     },
     Case {
@@ -122,8 +122,8 @@ static CASES: [Case; 13] = [
         appends: 0,
         finishes: true,
         status: 2,
-        output: "\"a.bin\": 6 bytes, and its extent ends at 512: what lacks reads as 0\n\
-            \"parts/b.bin\": 515 bytes, and its extent ends at 1024: what lacks reads as 0\n\
+        output: "\"a.bin\": 6 bytes, and its extent ends at 512: the missing bytes read as 0\n\
+            \"parts/b.bin\": 515 bytes, and its extent ends at 1024: the missing bytes read as 0\n\
             \n2 errors were found on the image.\n\
             Data may be corrupted, or further writes to the image may corrupt it.\n",
         errors: "",

@@ -114,7 +114,7 @@ static ROWS: [Row; 22] = [
         \"format-specific\": { \"type\": \"qcow2\", \"data\": { \"compat\": \"0.10\", \
         \"compression-type\": \"zlib\", \"refcount-bits\": 16 } } }",
         "imago-img: \"outside.qcow2\": its backing file \"/etc/secret\" isn't in its folder; \
-        --allow-outside permits it, as does the image's absolute path if the file lies there\n",
+        --allow-outside permits it, or, if it is there, name the image by its absolute path\n",
     ),
     (
         "map top.qcow2",
@@ -147,7 +147,7 @@ static ROWS: [Row; 22] = [
         1,
         "",
         "imago-img: \"outside.qcow2\": its backing file \"/etc/secret\" isn't in its folder; \
-        --allow-outside permits it, as does the image's absolute path if the file lies there\n",
+        --allow-outside permits it, or, if it is there, name the image by its absolute path\n",
     ),
     (
         "map linked.qcow2",

@@ -67,7 +67,7 @@ static ROWS: [Row; 28] = [
         1,
         "",
         "imago-img: \"outside.vmdk\": its extent \"/etc/secret\" isn't in the descriptor's folder; \
-         --allow-outside permits it, as does the image's absolute path if the file lies there\n",
+         --allow-outside permits it, or, if it is there, name the image by its absolute path\n",
     ),
     (
         "map above.vmdk",

@@ -37,7 +37,14 @@ macro_rules! untold {
 /// The files. The images begin as those of the other tests do: clusters of 512 bytes, an L1 table at
 /// 512, and L2 tables behind it.
 static MORE: [PartsRow; 8] = [
-    ("zero.vmdk", 49, &[(0, b"# Disk DescriptorFile\nversion=1\nRW 4 ZERO\n\n\n\n\n\n\n\n")]),
+    (
+        "zero.vmdk",
+        49,
+        &[(
+            0,
+            b"# Disk DescriptorFile\nversion=1\nRW 4 ZERO\n\n\n\n\n\n\n\n",
+        )],
+    ),
     (
         "extents.vmdk",
         104,
@@ -154,13 +161,17 @@ static CASES: [Case; 18] = [
          { \"reason\": \"backing-file\", \"offset\": 200, \"text\": \"it has a backing file, whose \
          name isn't UTF-8\" }] }\n"
     ),
-    told!("vet --max-size=2K many.qcow2", 2, "\"many.qcow2\" is refused:\n\
+    told!(
+        "vet --max-size=2K many.qcow2",
+        2,
+        "\"many.qcow2\" is refused:\n\
          encrypted at 32: the header says encryption, which isn't supported\n\
          corrupt at 72: the header says corrupt, which isn't supported\n\
          data-file at 112: its external data file is \"disk\\\"\"\n\
          feature at 72: the header says unknown bit 16, which isn't supported\n\
          too-large at 24: its disk has 4096 bytes, and the limit is 2048\n\
-         backing-file at 200: it has a backing file, whose name isn't UTF-8\n"),
+         backing-file at 200: it has a backing file, whose name isn't UTF-8\n"
+    ),
     // Another format, or two.
     told!(
         "vet -f raw one.qcow2",
@@ -172,12 +183,20 @@ static CASES: [Case; 18] = [
         2,
         "\"guest.vdi\" is refused:\nanother-format at 64: a VDI image, which isn't supported\n"
     ),
-    told!("vet ends.dmg", 2, "\"ends.dmg\" is refused:\n\
+    told!(
+        "vet ends.dmg",
+        2,
+        "\"ends.dmg\" is refused:\n\
          two-formats at 512: it is a file compressed by gzip, and also a DMG image\n\
-         another-format at 0: a file compressed by gzip, which isn't supported\n"),
-    told!("vet iso.qcow2", 2, "\"iso.qcow2\" is refused:\n\
+         another-format at 0: a file compressed by gzip, which isn't supported\n"
+    ),
+    told!(
+        "vet iso.qcow2",
+        2,
+        "\"iso.qcow2\" is refused:\n\
          two-formats at 32769: it is a qcow2 image, and also an ISO 9660 image\n\
-         invalid at 20: the header says clusters of 2^0 bytes, which can't be meant\n"),
+         invalid at 20: the header says clusters of 2^0 bytes, which can't be meant\n"
+    ),
     // Limits.
     told!(
         "vet --max-size=1K --tables=519 one.qcow2",
@@ -186,8 +205,12 @@ static CASES: [Case; 18] = [
          too-large at 24: its disk has 2048 bytes, and the limit is 1024\n\
          too-large at 512: its tables have 520 bytes, and 519 is the limit\n"
     ),
-    told!("vet --max-size=6 plain.raw", 2, "\"plain.raw\" is refused:\n\
-         too-large: its disk has 7 bytes, and the limit is 6\n"),
+    told!(
+        "vet --max-size=6 plain.raw",
+        2,
+        "\"plain.raw\" is refused:\n\
+         too-large: its disk has 7 bytes, and the limit is 6\n"
+    ),
     // Entries.
     told!(
         "vet second.qcow2",
@@ -203,14 +226,24 @@ static CASES: [Case; 18] = [
          feature at 1024: an L2 entry names a cluster that is compressed with zstd, which isn't \
          offered\n"
     ),
-    told!("vet --output=json faulty.qcow2", 2, "{ \"filename\": \"faulty.qcow2\", \"safe\": false, \"format\": \"qcow2\", \"version\": 2, \
+    told!(
+        "vet --output=json faulty.qcow2",
+        2,
+        "{ \"filename\": \"faulty.qcow2\", \"safe\": false, \"format\": \"qcow2\", \"version\": 2, \
          \"virtual-size\": 2048, \"file-size\": 2048, \"reasons\": [\
          { \"reason\": \"corrupt\", \"offset\": 1024, \"text\": \"an L2 entry is invalid\" }, \
          { \"reason\": \"corrupt\", \"offset\": 1048, \"text\": \"an L2 entry names a cluster \
-         behind the file's end\" }] }\n"),
+         behind the file's end\" }] }\n"
+    ),
     // Files that can't be looked at.
-    untold!("vet nowhere.raw", "imago-img: \"nowhere.raw\": entity not found\n"),
-    untold!("vet parts", "imago-img: \"parts\": neither a regular file nor a block device\n"),
+    untold!(
+        "vet nowhere.raw",
+        "imago-img: \"nowhere.raw\": entity not found\n"
+    ),
+    untold!(
+        "vet parts",
+        "imago-img: \"parts\": neither a regular file nor a block device\n"
+    ),
 ];
 
 #[test]
