@@ -9,15 +9,16 @@ use imago_images::format::ImageFormat;
 use imago_images::gate::{FolderGate, Named};
 use imago_images::layer::path_below;
 use imago_images::opening::Opening;
+use imago_storage::storage::Storage;
 use std::alloc::{AllocError, Global};
 
 /// An image of a chain, which was looked at.
 #[derive(Drop)]
-pub struct Step<'a, H: Host> {
+pub struct Step<S: Storage> {
     /// The path of its file.
     pub path: String,
     /// The file.
-    pub file: PathStorage<'a, H>,
+    pub file: S,
     /// How it is opened: by the format that is said of it.
     pub how: Opening,
 }
@@ -40,32 +41,39 @@ pub struct Above {
     told: String,
 }
 
-impl<'a, H: Host> Step<'a, H> {
-    /// The first image of a chain.
-    pub fn first(host: &'a H, path: &str, how: Opening) -> Result<Self, Failure> {
-        Ok(Step {
-            file: look_at(host, path)?,
-            path: String::from_str(host.alloc(), path)?,
-            how,
-        })
-    }
+/// The first image of a chain.
+pub fn first_step<'a, H: Host>(
+    host: &'a H,
+    path: &str,
+    how: Opening,
+) -> Result<Step<PathStorage<'a, H>>, Failure> {
+    Ok(Step {
+        file: look_at(host, path)?,
+        path: String::from_str(host.alloc(), path)?,
+        how,
+    })
+}
 
-    /// The image below this one, of which that is said.
-    pub fn below(&self, host: &'a H, said: NamedBelow<'_>) -> Result<Self, OpenError> {
-        let alloc = host.alloc();
-        let path = full_path(alloc, &self.path, said.name)?;
-        let format = match said.format {
-            Some(name) => Some(format_said(alloc, &self.path, name)?),
-            None => None,
-        };
-        let gate = FolderGate::of(host, &self.path, Named::Backing, self.how.other_files)?;
-        let file = storage_of(gate.look(&path)?, &path)?;
-        Ok(Step {
-            path,
-            file,
-            how: Opening { format, ..self.how },
-        })
-    }
+/// The image below the one of that path, which is opened so and says that of it.
+pub fn step_below<'a, H: Host>(
+    host: &'a H,
+    above: &str,
+    how: Opening,
+    said: NamedBelow<'_>,
+) -> Result<Step<PathStorage<'a, H>>, OpenError> {
+    let alloc = host.alloc();
+    let path = full_path(alloc, above, said.name)?;
+    let format = match said.format {
+        Some(name) => Some(format_said(alloc, above, name)?),
+        None => None,
+    };
+    let gate = FolderGate::of(host, above, Named::Backing, how.other_files)?;
+    let file = storage_of(gate.look(&path)?, &path)?;
+    Ok(Step {
+        path,
+        file,
+        how: Opening { format, ..how },
+    })
 }
 
 /// The path that the name of a backing file stands for, which the file of that path has. A name
@@ -97,12 +105,17 @@ impl Above {
     }
 
     /// Comes to a file. One that the way has come to before is refused.
-    pub fn enter<H: Host>(&mut self, alloc: Global, step: &Step<'_, H>) -> Result<(), OpenError> {
-        let status = step.file.file().status();
+    pub fn enter<H: Host>(
+        &mut self,
+        alloc: Global,
+        path: &str,
+        file: &PathStorage<'_, H>,
+    ) -> Result<(), OpenError> {
+        let status = file.file().status();
         let file = (status.device, status.inode);
-        self.tell(alloc, &step.path)?;
+        self.tell(alloc, path)?;
         if self.files.contains(&file) {
-            return self.refuse(alloc, &step.path, Reason::Loop);
+            return self.refuse(alloc, path, Reason::Loop);
         }
         self.files.push(file)?;
         Ok(())

@@ -1,7 +1,7 @@
 // SPDX-License-Identifier: MIT
 //! What an image is.
 
-use crate::chain::{Above, NamedBelow, Step};
+use crate::chain::{Above, NamedBelow, Step, first_step, step_below};
 use crate::extents::{ExtentFile, bytes_of, find, tell_fault};
 use crate::failure::Failure;
 use crate::host::Host;
@@ -59,7 +59,7 @@ pub fn info<H: Host, W: Write, E: Write>(
     output: &mut W,
     warnings: &mut E,
 ) -> Result<(), Failure> {
-    let first = Step::first(host, path, how)?;
+    let first = first_step(host, path, how)?;
     if asked.chain {
         return tell_chain(host, first, asked.json, output, warnings);
     }
@@ -75,7 +75,7 @@ pub fn info<H: Host, W: Write, E: Write>(
 /// Tells what each image of a chain is.
 fn tell_chain<H: Host, W: Write, E: Write>(
     host: &H,
-    first: Step<'_, H>,
+    first: Step<PathStorage<'_, H>>,
     json: bool,
     output: &mut W,
     warnings: &mut E,
@@ -90,7 +90,7 @@ fn tell_chain<H: Host, W: Write, E: Write>(
         ("", "\n", "")
     };
     for _depth in 0..LONGEST_CHAIN {
-        let entered = above.enter(alloc, &step);
+        let entered = above.enter(alloc, &step.path, &step.file);
         Failure::or_opened(alloc, &image, entered)?;
         let reported = report_on(host, &step.path, &step.file, step.how);
         let report = Failure::or_needed(alloc, &image, reported)?;
@@ -100,7 +100,7 @@ fn tell_chain<H: Host, W: Write, E: Write>(
         let Some(said) = report.named_below() else {
             return write!(output, "{end}").map_err(Failure::Output);
         };
-        let below = step.below(host, said);
+        let below = step_below(host, &step.path, step.how, said);
         step = Failure::or_opened(alloc, &image, below)?;
         start = between;
     }
