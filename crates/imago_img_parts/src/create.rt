@@ -29,9 +29,9 @@ use imago_words::settings::{NewFormat, Settings};
 use std::alloc::Global;
 use std::io::ErrorKind;
 
-/// Makes a new image, in which nothing was written: a raw file of zeroes, or a qcow2 file that shows
-/// zeroes or its layer below. Its size is the one that was said, or that of the layer below, rounded
-/// up to a multiple of 512 bytes.
+/// Makes a new image, in which nothing was written: a raw file of zeroes, or a qcow2 file that
+/// shows zeroes or its layer below. Its size is the one that was said, or that of the layer below,
+/// rounded up to a multiple of 512 bytes.
 ///
 /// The layer below is opened. The path may be taken only where what it leads to is to be replaced,
 /// and never by a file of the layer below. An unfinished file that an earlier command to that path
@@ -260,8 +260,8 @@ fn tested_size<H: Host>(host: &H, asked: Create<'_>) -> Result<u64, Failure>
     Ok(asked.size.unwrap_or(below))
 }
 
-/// The size of the layer below a new image, in bytes, that may be made for its path; or 0, if it has
-/// none.
+/// The size of the layer below a new image, in bytes, that may be made for its path; or 0, if it
+/// has none.
 fn size_below<H: Host>(
     host: &H,
     asked: Create<'_>,

@@ -28,8 +28,8 @@ struct Lengths {
 /// What an error is told of where there is no file.
 const NO_PATH: &str = "--size";
 
-/// Prints how long the file of a new image is, as `convert` or `create` makes it, and how long it is
-/// at most once the whole disk is written.
+/// Prints how long the file of a new image is, as `convert` or `create` makes it, and how long it
+/// is at most once the whole disk is written.
 pub fn measure<H: Host, W: Write>(
     host: &H,
     asked: Measure<'_>,
