@@ -1,21 +1,23 @@
 -- Whether the entries of tables can be read.
 -- SPDX-License-Identifier: MIT
-use Rattle.std.proofs.Common.{◌≡◌, ℕ, zero, suc, ◌+◌, ◌*◌, ◌/◌, ◌^◌, ◌<◌, ◌≤◌, ◌⊎◌, Bool, true, false, ◌&&◌, List, length, Option, IfSome, refl, sym, ap, ◌∙◌, subst, ⊎_elim, add-one, arith}
-use Rattle.std.specs.Prelude.{None}
+use Rattle.std.proofs.Common.{◌≡◌, ℕ, zero, suc, ◌+◌, ◌*◌, ◌/◌, ◌^◌, ◌<◌, ◌≤◌, ◌⊎◌, Bool, true, false, ◌&&◌, List, length, Option, IfSome, Result, Ok, refl, sym, ap, ◌∙◌, subst, ⊎_elim, add-one, arith}
+use Rattle.std.specs.Prelude.{None, IsOk, slice_index}
 use Rattle.std.specs.Int.{div_ceil}
 use Rattle.std.proofs.lemmas.Bool.{cases_eq}
 use Rattle.imago_storage.specs.Bytes.{IsReadAt}
 use Rattle.imago_qcow2.specs.declared.entry.L2Table.{L2Table}
 use Rattle.imago_qcow2.specs.declared.entry.L2Table.TheVariants as T
 use Rattle.imago_qcow2.specs.Numbers.{be32, be64}
-use Rattle.imago_qcow2.specs.Header.{compression_of}
+use Rattle.imago_storage.specs.declared.error.Error.{Error}
+use Rattle.imago_qcow2.specs.declared.header.Header.{Header}
+use Rattle.imago_qcow2.specs.Header.{compression_of, header_of}
 use Rattle.imago_qcow2.specs.Entry.{version_of, cluster_length, l1_start, table_in_entry, table_of}
 use Rattle.imago_qcow2.specs.Opening.{table_count}
 use Rattle.imago_qcow2.proofs.NumberSteps.{read64}
-use Rattle.imago_qcow2.proofs.HeaderSteps.{same32, same64, compression_same, head_same}
+use Rattle.imago_qcow2.proofs.HeaderSteps.{same32, same64, compression_same, header_same, head_same}
+use Rattle.imago_images.specs.declared.opening.Opening.{Opening}
 use Rattle.imago_images.specs.Layers.{SaysBacking}
 use Rattle.imago_img_parts.specs.declared.vet_tables.Shape.{Shape}
-use Rattle.imago_images.specs.declared.opening.Opening.{Opening}
 use Rattle.imago_img_parts.specs.Vetted.{named_by, named_tables, IsSafeTable, AreSafeTables, IsVetted}
 use Rattle.imago_img_parts.specs.VettedParts.{IsEntrySafe, IsTableSafe, AreEntriesSafe}
 
@@ -30,8 +32,8 @@ module _ (P : ℕ → Type 0) where
   pub next_of : (n : ℕ) (safe here : Bool) → (safe ≡ true → (j : ℕ) → j < n → P j) → (here ≡ true → P n)
       → (safe && here) ≡ true → (j : ℕ) → j < n + 1 → P j
   next_of n true true before now is = one_more n (before refl) (now refl)
-  next_of n true false before now ()
-  next_of n false here before now ()
+  next_of n true false before now is = let e : ⊥ = cc is in absurd e
+  next_of n false here before now is = let e : ⊥ = cc is in absurd e
 
 -- how many tables are named, with one more entry
 pub named_more : (says : ℕ → L2Table) (n : ℕ) → named_tables says (n + 1) ≡ named_tables says n + named_by (says n)
@@ -93,31 +95,37 @@ module _ (s : Shape) (bytes : List ℕ) (file : s.file ≡ length bytes) (cluste
 
 -- what the first bytes of a file say, the file does
 module _ (bytes head : List ℕ) (r : IsReadAt bytes 0 head) (len : 112 ≤ length head) where
-  same = head_same bytes head r len
+  begins : (i : ℕ) → i < 112 → slice_index head i ≡ slice_index bytes i
+  begins = head_same bytes head r len
 
   pub cluster_moved : cluster_length head ≡ cluster_length bytes
-  cluster_moved = ap (λ k. 2 ^ k) (same32 bytes head same 20 (omega arith))
+  cluster_moved = ap (λ k. 2 ^ k) (same32 bytes head begins 20 (omega arith))
 
   pub start_moved : l1_start head ≡ l1_start bytes
-  start_moved = same64 bytes head same 40 (omega arith)
+  start_moved = same64 bytes head begins 40 (omega arith)
 
   pub count_moved : table_count head ≡ table_count bytes
   count_moved =
-      let size = same64 bytes head same 24 (omega arith) in
+      let size = same64 bytes head begins 24 (omega arith) in
       let c = cluster_moved in
       rw (size, c) refl
 
   pub version_moved : be32 head 4 ≡ version_of bytes
-  version_moved = same32 bytes head same 4 (omega arith)
+  version_moved = same32 bytes head begins 4 (omega arith)
 
   pub way_moved : compression_of head ≡ compression_of bytes
-  way_moved = compression_same bytes head same
+  way_moved = compression_same bytes head begins
 
   pub backing_moved : SaysBacking head None → SaysBacking bytes None
-  backing_moved says =
-      let at = same64 bytes head same 8 (omega arith) in
-      let n = same32 bytes head same 16 (omega arith) in
-      rw (at, n) at says
+  backing_moved named =
+      let at = same64 bytes head begins 8 (omega arith) in
+      let n = same32 bytes head begins 16 (omega arith) in
+      rw (at, n) at named
+
+  pub header_moved : (file : ℕ) (h : Header) → file ≡ length bytes → Ok h ≡ header_of head file → IsOk (header_of bytes (length bytes))
+  header_moved file h is ok =
+      let e : header_of head file ≡ header_of bytes (length bytes) = header_same bytes head begins file ∙ ap (header_of bytes) is in
+      subst (λ (x : Result Header Error). IsOk x) (ok ∙ e) refl
 
 -- the same by how the image is opened
 pub vetted_as_said : (a b : Opening) → a ≡ b → (known : Option (List ℕ → List ℕ)) (path : List ℕ) (safe : Bool)

@@ -12,7 +12,7 @@ use crate::failure::{Failure, Reason};
 use crate::finding::{CORRUPT, Fault, Findings, LONGEST_SHOWN, Told};
 use crate::looked::unread;
 use crate::qcow2_info::put;
-use crate::vet_tables::vet_tables;
+use crate::vet_tables::{read_bytes, vet_tables};
 use imago_file::file::FileStorage;
 use imago_file::host::HostFile;
 use imago_images::opening::Opening;
@@ -204,15 +204,18 @@ fn tell_unsupported<S: Storage>(
     Ok(taken)
 }
 
-/// Tells all that speaks against a file of that length whose header has a fault.
+/// Tells all that speaks against a file of that length, whose header has a fault: the first bytes are
+/// given.
 fn tell_faults<S: Storage>(
     storage: &S,
     alloc: Global,
-    mut head: [u8; HEAD_LENGTH],
+    first: &[u8],
     file: u64,
     limits: Limits,
     told: &mut Told,
 ) -> Result<(), Error> {
+    let mut head = [0u8; HEAD_LENGTH];
+    put(head.as_mut_slice(), 0, first);
     let findings = &mut told.findings;
     let taken = tell_unsupported(storage, alloc, &mut head, file, findings)?;
     match header::read(head.as_slice(), file) {
@@ -284,8 +287,7 @@ fn is_safe<S: Storage>(
         (λ safe. safe ≡ true → IsSafeQcow2 limits.tables (S.bytes storage.now)) }
 {
     let file = storage.size()?;
-    let mut head = [0u8; HEAD_LENGTH];
-    storage.read(alloc, &mut head, 0)?;
+    let head = read_bytes(storage, alloc, 0, HEAD_LENGTH as u64)?;
     match header::read(&head, file) {
         Ok(header) => {
             told.say(header);
@@ -301,7 +303,7 @@ fn is_safe<S: Storage>(
             )
         }
         Err(_) => {
-            tell_faults(storage, alloc, head, file, limits, told)?;
+            tell_faults(storage, alloc, &head, file, limits, told)?;
             Ok(false)
         }
     }
