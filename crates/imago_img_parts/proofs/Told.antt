@@ -9,7 +9,7 @@ use Rattle.imago_img_parts.specs.Disks.{AreCompared, is_left_out}
 use Rattle.imago_qcow2_check.specs.declared.fault.Verdict.{Verdict}
 use Rattle.imago_qcow2_check.specs.declared.fault.Verdict.TheVariants as V
 use Rattle.imago_img_parts.specs.declared.run.Outcome.{Outcome}
-use Rattle.imago_img_parts.specs.declared.run.Outcome.TheVariants.{Fine, Unlike, Checked}
+use Rattle.imago_img_parts.specs.declared.run.Outcome.TheVariants.{Fine, Unlike, Checked, Vetted}
 use Rattle.imago_img_parts.specs.Checked.{IsChecked}
 use Rattle.imago_img_parts.specs.Commands.{AreToldApart, IsStatus, outcome_status}
 

@@ -81,9 +81,9 @@ module _ (s : Shape) (bytes : List ℕ) (file : s.file ≡ length bytes) (cluste
     tables_safe most taken is few each =
         let k : length entries / 8 ≡ count = omega (arith, len) in
         let named : named_tables says (length entries / 8) ≡ named_tables (table_of bytes) (table_count bytes) =
-            ap (named_tables says) k ∙ named_same says (table_of bytes) count says_same ∙ ap (named_tables (table_of bytes)) is_count in
+        ap (named_tables says) k ∙ named_same says (table_of bytes) count says_same ∙ ap (named_tables (table_of bytes)) is_count in
         let all : 8 * count + s.cluster * named_tables says (length entries / 8)
-            ≡ 8 * table_count bytes + cluster_length bytes * named_tables (table_of bytes) (table_count bytes) = rw (named, is_count, cluster) refl in
+        ≡ 8 * table_count bytes + cluster_length bytes * named_tables (table_of bytes) (table_count bytes) = rw (named, is_count, cluster) refl in
         let sum : taken ≡ 8 * table_count bytes + cluster_length bytes * named_tables (table_of bytes) (table_count bytes) = is ∙ all in
         record {
           few = subst (λ (n : ℕ). n ≤ most) sum few;

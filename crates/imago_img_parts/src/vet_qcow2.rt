@@ -177,31 +177,41 @@ fn tell_features<S: Storage>(
     Ok(())
 }
 
-/// Tells what isn't supported of a header, which is taken out of it. The features are the answer.
+/// A header without what isn't supported.
+#[derive(Clone, Copy)]
+struct Supported {
+    head: [u8; HEAD_LENGTH],
+    /// The features that were taken out of it.
+    features: u64,
+}
+
+/// Tells what isn't supported of a header, whose first bytes are given, and takes it out.
 fn tell_unsupported<S: Storage>(
     storage: &S,
     alloc: Global,
-    head: &mut [u8; HEAD_LENGTH],
+    first: &[u8],
     file: u64,
     findings: &mut Findings,
-) -> Result<u64, Error> {
-    let mut taken: u64 = 0;
+) -> Result<Supported, Error> {
+    let mut head = [0u8; HEAD_LENGTH];
+    put(&mut head, 0, first);
+    let mut features: u64 = 0;
     for _step in 0..2u32 {
-        match header::read(head.as_slice(), file) {
+        match header::read(&head, file) {
             Err(HeaderFault::Encryption) => {
                 add_header(HeaderFault::Encryption, findings)?;
-                put(head.as_mut_slice(), 32, &[0; 4]);
+                put(&mut head, 32, &[0; 4]);
             }
-            Err(HeaderFault::Features(features)) => {
-                tell_features(storage, alloc, head, features, findings)?;
-                let rest = number64(head.as_slice(), 72) & !features;
-                put(head.as_mut_slice(), 72, &rest.to_be_bytes());
-                taken = features;
+            Err(HeaderFault::Features(found)) => {
+                tell_features(storage, alloc, &head, found, findings)?;
+                let rest = number64(&head, 72) & !found;
+                put(&mut head, 72, &rest.to_be_bytes());
+                features = found;
             }
             _ => {}
         }
     }
-    Ok(taken)
+    Ok(Supported { head, features })
 }
 
 /// Tells all that speaks against a file of that length, whose header has a fault: the first bytes are
@@ -214,34 +224,24 @@ fn tell_faults<S: Storage>(
     limits: Limits,
     told: &mut Told,
 ) -> Result<(), Error> {
-    let mut head = [0u8; HEAD_LENGTH];
-    put(head.as_mut_slice(), 0, first);
-    let findings = &mut told.findings;
-    let taken = tell_unsupported(storage, alloc, &mut head, file, findings)?;
-    match header::read(head.as_slice(), file) {
+    let rest = tell_unsupported(storage, alloc, first, file, &mut told.findings)?;
+    match header::read(&rest.head, file) {
         Ok(header) => {
             told.say(header);
             let findings = &mut told.findings;
             tell_length(header, limits.disk, findings)?;
-            is_alone(storage, alloc, head.as_slice(), findings)?;
+            is_alone(storage, alloc, &rest.head, findings)?;
             // Other features change what the entries say.
-            if taken & !CORRUPT == 0 {
-                vet_tables(
-                    storage,
-                    alloc,
-                    head.as_slice(),
-                    header,
-                    file,
-                    limits.tables,
-                    findings,
-                )?;
+            if rest.features & !CORRUPT == 0 {
+                let most = limits.tables;
+                vet_tables(storage, alloc, &rest.head, header, file, most, findings)?;
             }
         }
         Err(fault) => {
             let findings = &mut told.findings;
             add_header(fault, findings)?;
             if has_names(fault) {
-                is_alone(storage, alloc, head.as_slice(), findings)?;
+                is_alone(storage, alloc, &rest.head, findings)?;
             }
         }
     }

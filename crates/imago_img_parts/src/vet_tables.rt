@@ -209,7 +209,12 @@ fn count_tables(shape: Shape, entries: &[u8]) -> u64
 }
 
 /// The bytes of the file from an offset on.
-pub fn read_bytes<S: Storage>(storage: &S, alloc: Global, at: u64, count: u64) -> Result<Vec<u8>, Error>
+pub fn read_bytes<S: Storage>(
+    storage: &S,
+    alloc: Global,
+    at: u64,
+    count: u64,
+) -> Result<Vec<u8>, Error>
     ensures whole { IfOk result (λ v. length v.items ≡ count) }
     ensures read { IsTrue (S.features storage.now).tells_bytes
         → IfOk result (λ v. IsReadAt (S.bytes storage.now) at v.items) }
