@@ -115,7 +115,7 @@ impl Above {
         let file = (status.device, status.inode);
         self.tell(alloc, path)?;
         if self.files.contains(&file) {
-            return self.refuse(alloc, path, Reason::Loop);
+            return self.in_circle(alloc, path);
         }
         self.files.push(file)?;
         Ok(())
@@ -132,17 +132,13 @@ impl Above {
 
     /// The chain goes on below the file of that path, and is too long.
     pub fn too_many_below(&self, alloc: Global, path: &str) -> Result<(), OpenError> {
-        self.refuse(alloc, path, Reason::TooManyBelow)
+        let told = String::from_str(alloc, &self.told)?;
+        Err(OpenError::of_file(alloc, path, Reason::TooManyBelow(told)))
     }
 
-    /// Refuses a chain at the file of that path.
-    fn refuse(
-        &self,
-        alloc: Global,
-        path: &str,
-        reason: fn(String) -> Reason,
-    ) -> Result<(), OpenError> {
+    /// The file of that path leads back to one above it.
+    fn in_circle(&self, alloc: Global, path: &str) -> Result<(), OpenError> {
         let told = String::from_str(alloc, &self.told)?;
-        Err(OpenError::of_file(alloc, path, reason(told)))
+        Err(OpenError::of_file(alloc, path, Reason::Loop(told)))
     }
 }

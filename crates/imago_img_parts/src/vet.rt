@@ -78,7 +78,13 @@ fn vet_file<F: HostFile>(
     told.format = Some(format);
     let short = is_short(alloc, path, file, format, how, told)?;
     let safe = is_safe_as(alloc, path, file, format, how, told)?;
-    Ok(one && short && safe)
+    if !one {
+        return Ok(false);
+    }
+    if !short {
+        return Ok(false);
+    }
+    Ok(safe)
 }
 
 /// Whether a file is of one format alone.
