@@ -48,6 +48,11 @@ anyway (Ok x) None h = tt
 anyway (Ok x) (Some files) h = h
 anyway (Err e) known h = tt
 
+-- a file that was begun for a length was begun for each number that it is
+pub made_as : (known : Option (List ℕ → List ℕ)) (made : Option (List ℕ × ℕ)) (to : List ℕ) (n m : ℕ)
+    → n ≡ m → IfSome known (λ files. made ≡ Some (to, n)) → IfSome known (λ files. made ≡ Some (to, m))
+made_as known made to n m e h = subst (λ (k : ℕ). IfSome known (λ files. made ≡ Some (to, k))) e h
+
 -- A file is begun, which changes no other, filled, and then ended.
 module _ (IsSo : (List ℕ → List ℕ) → List ℕ → Type 0) (known mid : Option (List ℕ → List ℕ))
     (to : List ℕ) (size : ℕ) (made later : Option (List ℕ × ℕ)) (old put : Option (List ℕ))

@@ -1,6 +1,6 @@
 // SPDX-License-Identifier: MIT
 //! What the commands ask of an opened image: whether its disk can be read, and its files.
-ghost use Rattle.std.specs.Prelude.{◌≡◌, IfOk, IfSome};
+ghost use Rattle.std.specs.Prelude.{◌≡◌, IfOk, IfSome, IsErr, MatchResult};
 ghost use Rattle.imago_access.specs.Chain.{driver};
 ghost use Rattle.imago_access.specs.Target.{target};
 ghost use Rattle.imago_copy.specs.LayerRuns.{AreLayerRuns};
@@ -40,7 +40,18 @@ pub fn opened<'a, H: Host>(
         (λ files. IsImageIn ⟦<AnyDriver<PathStorage<'a, H>> as FormatDriverInstance>⟧.view
         how.accepted how.other_files files path.now r.0 r.1)) }
 {
-    match open_image(host, path, how) {
+    or_not_opened(host, path, open_image(host, path, how))
+}
+
+/// What the opening of the image of a path answers, or why it isn't opened.
+fn or_not_opened<H: Host, T>(
+    host: &H,
+    path: &str,
+    answer: Result<T, OpenError>,
+) -> Result<T, Failure>
+    ensures { MatchResult answer (λ x. result ≡ Ok x) (λ _. IsErr result) }
+{
+    match answer {
         Ok(found) => Ok(found),
         Err(cause) => Err(not_opened(host, path, cause)),
     }

@@ -366,8 +366,8 @@ static ABOVE_VMDK: [Row; 11] = [
         1,
         "",
         "imago-img: \"above_outside.qcow2\" needs \"outside.vmdk\": its extent \"/etc/secret\" \
-         isn't in the descriptor's folder; --allow-outside permits it, as does the image's \
-         absolute path if the file lies there\n",
+         isn't in the descriptor's folder; --allow-outside permits it, or, if it is there, \
+         name the image by its absolute path\n",
     ),
     (
         "map above_linked.qcow2",

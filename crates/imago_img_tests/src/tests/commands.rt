@@ -16,8 +16,8 @@ static CASES: [Case; 13] = [
             extent: FLAT, 512 bytes from 512 of \"parts/b.bin\"\n",
         errors: "imago-img: warning: \"a.bin\": 6 bytes, and its extent ends at 512: the missing \
             bytes read as 0\n\
-            imago-img: warning: \"parts/b.bin\": 515 bytes, and its extent ends at 1024: what \
-            lacks reads as 0\n",
+            imago-img: warning: \"parts/b.bin\": 515 bytes, and its extent ends at 1024: the \
+            missing bytes read as 0\n",
         written: None,
     },
     Case {
@@ -46,10 +46,10 @@ static CASES: [Case; 13] = [
         finishes: true,
         status: 0,
         output: "",
-        errors: "imago-img: warning: \"a.bin\": 6 bytes, and the image uses it up to 512: what \
-            lacks reads as 0\n\
-            imago-img: warning: \"parts/b.bin\": 515 bytes, and the image uses it up to 1024: what \
-            lacks reads as 0\n",
+        errors: "imago-img: warning: \"a.bin\": 6 bytes, and the image uses it up to 512: the \
+            missing bytes read as 0\n\
+            imago-img: warning: \"parts/b.bin\": 515 bytes, and the image uses it up to 1024: the \
+            missing bytes read as 0\n",
         written: Some((2048, &[(3, b"abc"), (1536, b"xyz")])),
     },
     Case {
@@ -83,10 +83,10 @@ static CASES: [Case; 13] = [
         finishes: true,
         status: 0,
         output: "",
-        errors: "imago-img: warning: \"a.bin\": 6 bytes, and the image uses it up to 512: what \
-            lacks reads as 0\n\
-            imago-img: warning: \"parts/b.bin\": 515 bytes, and the image uses it up to 1024: what \
-            lacks reads as 0\n",
+        errors: "imago-img: warning: \"a.bin\": 6 bytes, and the image uses it up to 512: the \
+            missing bytes read as 0\n\
+            imago-img: warning: \"parts/b.bin\": 515 bytes, and the image uses it up to 1024: the \
+            missing bytes read as 0\n",
         written: Some((2048, &[(3, b"abc"), (1536, b"xyz")])),
     },
     Case {

@@ -4,7 +4,7 @@ use Rattle.imago_words.specs.declared.settings.NewFormat.TheVariants as New
 use Rattle.imago_qcow2_new.specs.Image.{IsNewFile}
 use Rattle.imago_qcow2_new.specs.Layout.{file_length}
 use Rattle.imago_img_parts.specs.NewFiles.{IsEmptyFile}
-use Rattle.imago_img_parts.proofs.NewFiles.{anyway, empty_by, made_new, newly_made, whole_new}
+use Rattle.imago_img_parts.proofs.NewFiles.{anyway, empty_by, made_as, made_new, newly_made, whole_new}
 use Rattle.imago_img_parts.proofs.create.create_qcow2.Goals as goal
 
 pub end-requires : goal.end-requires
@@ -12,12 +12,14 @@ end-requires g c =
     let contents = g.H.Files.contents in
     let target = c.in-Ok.target in
     let full = c.put_empty-target.result.0 in
+    let made = made_as (contents c.args.host.now) (g.H.Target.Target.made_for target) c.args.to.now c.file_length.result
+    (file_length c.in_ok-layout.layout) c.file_length.ensures c.in-Ok.ensures.made_for in
     let created = c.in-Ok.ensures in
     record {
       whole = whole_new (λ files. IsNewFile c.in_ok-layout.layout (λ _. Byte 0)) (contents c.args.host.now) (contents c.create.new.self) c.args.to.now (file_length c.in_ok-layout.layout)
           (g.H.Target.Target.made_for target) (g.H.Target.Target.made_for full) (g.H.Target.Target.contents target)
           (g.H.Target.Target.contents full) c.put_empty-target.result.1 created.same c.put_empty-target.ensures.same
-          created.empty created.made_for
+          created.empty made
           (λ none. anyway c.put_empty-target.result.1 (contents c.create.new.self) (c.put_empty-target.ensures.put none));
     }
 
@@ -27,6 +29,8 @@ returns-in-Ok-clause-created g c =
     let around = g.H.Host.around in
     let target = c.in-Ok.target in
     let full = c.put_empty-target.result.0 in
+    let made = made_as (contents c.args.host.now) (g.H.Target.Target.made_for target) c.args.to.now c.file_length.result
+    (file_length c.in_ok-layout.layout) c.file_length.ensures c.in-Ok.ensures.made_for in
     let created = c.in-Ok.ensures in
     let planned = c.in_ok-layout.ensures in
     newly_made (λ files. IsNewFile c.in_ok-layout.layout (λ _. Byte 0))
@@ -37,7 +41,7 @@ returns-in-Ok-clause-created g c =
     (made_new (λ files. IsNewFile c.in_ok-layout.layout (λ _. Byte 0)) (contents c.args.host.now) (contents c.create.new.self) c.args.to.now (file_length c.in_ok-layout.layout)
     (g.H.Target.Target.made_for target) (g.H.Target.Target.made_for full) (g.H.Target.Target.contents target)
     (g.H.Target.Target.contents full) c.put_empty-target.result.1 created.same c.put_empty-target.ensures.same
-    created.empty created.made_for
+    created.empty made
     (λ none. anyway c.put_empty-target.result.1 (contents c.create.new.self) (c.put_empty-target.ensures.put none))
     c.args.making.replace (contents c.end.new.host) (around c.args.host.now) (around c.create.new.self)
     (around c.end.new.host) created.begun created.free c.end.result c.end.ensures.done c.end.ensures.made

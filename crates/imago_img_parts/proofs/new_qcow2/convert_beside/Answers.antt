@@ -1,7 +1,7 @@
 -- SPDX-License-Identifier: MIT
 use Rattle.imago_qcow2_new.specs.Layout.{file_length}
 use Rattle.imago_img_parts.specs.NewFiles.{IsCopyBy, IsQcow2Copy}
-use Rattle.imago_img_parts.proofs.NewFiles.{copy_in, made_new, newly_made, whole_new}
+use Rattle.imago_img_parts.proofs.NewFiles.{copy_in, made_as, made_new, newly_made, whole_new}
 use Rattle.imago_img_parts.proofs.new_qcow2.convert_beside.Goals as goal
 
 pub end-requires : goal.end-requires
@@ -11,12 +11,14 @@ end-requires g c =
     let layout = c.in_ok-layout.layout in
     let target = c.in-Ok.target in
     let full = c.write_shown-target.result.0 in
+    let made = made_as (contents c.args.host.now) (g.H.Target.Target.made_for target) c.args.to.now c.file_length.result
+    (file_length layout) c.file_length.ensures c.in-Ok.ensures.made_for in
     record {
       whole = whole_new (IsCopyBy how.accepted how.other_files how.format c.args.from.now layout)
           (contents c.args.host.now) (contents c.create.new.self) c.args.to.now (file_length layout)
           (g.H.Target.Target.made_for target) (g.H.Target.Target.made_for full) (g.H.Target.Target.contents target)
           (g.H.Target.Target.contents full) c.write_shown-target.result.1 c.in-Ok.ensures.same
-          c.write_shown-target.ensures.same c.in-Ok.ensures.empty c.in-Ok.ensures.made_for
+          c.write_shown-target.ensures.same c.in-Ok.ensures.empty made
           c.write_shown-target.ensures.written;
     }
 
@@ -28,6 +30,8 @@ returns-in-Ok-clause-converted g c =
     let layout = c.in_ok-layout.layout in
     let target = c.in-Ok.target in
     let full = c.write_shown-target.result.0 in
+    let made = made_as (contents c.args.host.now) (g.H.Target.Target.made_for target) c.args.to.now c.file_length.result
+    (file_length layout) c.file_length.ensures c.in-Ok.ensures.made_for in
     let created = c.in-Ok.ensures in
     newly_made (IsCopyBy how.accepted how.other_files how.format c.args.from.now layout)
     (IsQcow2Copy how.accepted how.other_files how.format c.args.from.now c.args.new.format)
@@ -38,7 +42,7 @@ returns-in-Ok-clause-converted g c =
     (contents c.args.host.now) (contents c.create.new.self) c.args.to.now (file_length layout)
     (g.H.Target.Target.made_for target) (g.H.Target.Target.made_for full) (g.H.Target.Target.contents target)
     (g.H.Target.Target.contents full) c.write_shown-target.result.1 created.same
-    c.write_shown-target.ensures.same created.empty created.made_for c.write_shown-target.ensures.written
+    c.write_shown-target.ensures.same created.empty made c.write_shown-target.ensures.written
     c.args.making.replace (contents c.end.new.host) (around c.args.host.now) (around c.create.new.self)
     (around c.end.new.host) created.begun created.free c.end.result c.end.ensures.done c.end.ensures.made
     c.end.ensures.there)
