@@ -194,7 +194,7 @@ module _ {D St : Type 0} (view : D → View St) (accepted : Accepted) (others : 
       )
 
 -- what is so where a call succeeded that did
-on_ok : {A E : Type 0} (r : Result A E) (P : Type 0) → IsOk r → OnOk r P → P
+pub on_ok : {A E : Type 0} (r : Result A E) (P : Type 0) → IsOk r → OnOk r P → P
 on_ok (Ok x) P is h = h
 on_ok (Err e) P is h = absurd (false≢true is)
 

@@ -3,7 +3,7 @@
 use Rattle.std.proofs.Common.{◌≡◌, ℕ, inl, inr, Bool, false, List, [], Option, Some, None, Result, Ok, Err, length, OnOk, IsOk, IfSome, IsTrue, refl, sym, ap, subst, ◌∙◌}
 use Rattle.std.specs.Prelude.{option_map}
 use Rattle.std.specs.Int.{next_multiple_of}
-use Rattle.std.specs.Prelude.{unwrap_or, replicate, ◌++◌}
+use Rattle.std.specs.Prelude.{unwrap_or, replicate, ◌++◌, IfOk}
 use Rattle.std.proofs.lemmas.List.{length-replicate}
 use Rattle.imago_drivers.specs.Place.{Value, Byte}
 use Rattle.imago_drivers.specs.View.{View}
@@ -28,7 +28,9 @@ use Rattle.imago_images.specs.Images.{IsImageIn}
 use Rattle.imago_words.specs.declared.command.Convert.{Convert}
 use Rattle.imago_images.specs.declared.opening.Opening.{Opening}
 use Rattle.imago_img_parts.specs.Commands.{IsConvertedTo, IsNewlyConverted}
-use Rattle.imago_img_parts.specs.Disks.{IsConverted}
+use Rattle.imago_file.specs.Names.{path_beside}
+use Rattle.imago_img_parts.specs.Disks.{HasSize, IsConverted}
+use Rattle.imago_img_parts.specs.Openings.{how_by}
 use Rattle.imago_img_parts.specs.Files.{Around, begun, ended, with_file, IsMade, IsSoOnceCleared, IsWhole}
 use Rattle.imago_img_parts.specs.NewFiles.{HasNamesBelow, IsCopyBy, IsEmptyFile, IsFilledWith, IsNewImage, IsNewlyMade, IsQcow2Copy, IsSizeBelow, IsSizeBy, IsSizeOf, format_by}
 use Rattle.imago_img_parts.proofs.Disks.{begun_ended, disk_length, on_ok, shows_disk}
@@ -42,11 +44,11 @@ always (Ok x) h = h
 always (Err e) h = tt
 
 -- what is so anyway is so of the files
-pub anyway : {A E : Type 0} {P : Type 0} (r : Result A E) (known : Option (List ℕ → List ℕ))
+pub anyway : {A E : Type 0} (P : Type 0) (r : Result A E) (known : Option (List ℕ → List ℕ))
     → OnOk r P → OnOk r (IfSome known (λ files. P))
-anyway (Ok x) None h = tt
-anyway (Ok x) (Some files) h = h
-anyway (Err e) known h = tt
+anyway P (Ok x) None h = tt
+anyway P (Ok x) (Some files) h = h
+anyway P (Err e) known h = tt
 
 -- a file that was begun for a length was begun for each number that it is
 pub made_as : (known : Option (List ℕ → List ℕ)) (made : Option (List ℕ × ℕ)) (to : List ℕ) (n m : ℕ)
@@ -83,7 +85,7 @@ module _ (IsSo : (List ℕ → List ℕ) → List ℕ → Type 0) (known mid : O
   pub whole_new : OnOk filled (IfSome mid (λ files. IsWhole later put))
   whole_new = subst (λ (k : Option (List ℕ → List ℕ)). OnOk filled (IfSome k (λ files. IsWhole later put))) (sym same) (whole_in known refl)
 
-  module _ {F : Type 0} (replace : Bool) (new : Option (List ℕ → List ℕ)) (before begins after : Option Around)
+  module _ (replace : Bool) (new : Option (List ℕ → List ℕ)) (before begins after : Option Around)
       (began : begins ≡ option_map begun before) (free : replace ≡ false → IfSome before (λ a. a.there to ≡ false)) where
     made_in : (k : Option (List ℕ → List ℕ)) → known ≡ k → IsOk filled
         → IfSome later (λ m. IsMade mid new m.0 put)
@@ -103,7 +105,7 @@ module _ (IsSo : (List ℕ → List ℕ) → List ℕ → Type 0) (known mid : O
           free,
         )
 
-    pub made_new : (done : Result (Unit {0}) F) → OnOk done (IsOk filled)
+    pub made_new : {F : Type 0} (done : Result (Unit {0}) F) → OnOk done (IsOk filled)
         → OnOk done (IfSome later (λ m. IsMade mid new m.0 put))
         → OnOk done (IfSome later (λ m. after ≡ option_map (with_file m.0) (option_map ended begins)))
         → OnOk done (IsNewlyMade IsSo replace known new before after to)
@@ -118,7 +120,7 @@ pub newly_made : (P Q : (List ℕ → List ℕ) → List ℕ → Type 0) (known 
     → OnOk r (IsNewlyMade Q replace known new before after to)
 newly_made P Q known f (Err _) replace new before after to h = tt
 newly_made P Q None f (Ok _) replace new before after to h = tt
-newly_made P Q (Some files) f (Ok _) replace new before after to (file, so, rest) = (file, f file so, rest)
+newly_made P Q (Some files) f (Ok _) replace new before after to (file, so, made, around, free) = (file, f file so, made, around, free)
 
 each_of : (known : Option (List ℕ → List ℕ)) (P : (List ℕ → List ℕ) → Type 0)
     → ((files : List ℕ → List ℕ) → P files) → IfSome known P
@@ -182,6 +184,15 @@ pub sized_by : (c : Create) (said : Option ℕ) (below : ℕ) (known : Option (L
 sized_by c said below None h = tt
 sized_by c None below (Some files) h = h
 sized_by c (Some size) below (Some files) h = refl
+
+-- the size of the layer below, by its path and how it is opened
+pub below_sized : (c : Create) (b : Backing) (path : List ℕ) (how : Opening) (known : Option (List ℕ → List ℕ))
+    {E : Type 0} (r : Result ℕ E) → path ≡ path_beside c.target.now b.file.now → how ≡ how_by (Some b.format) c.opening
+    → IfOk r (λ size. IfSome known (λ files. HasSize how.accepted how.format files path size))
+    → IfOk r (λ size. IfSome known (λ files. IsSizeBelow c (Some b) files size))
+below_sized c b path how known r e f h =
+    subst (λ (o : Opening). IfOk r (λ size. IfSome known (λ files. HasSize o.accepted o.format files (path_beside c.target.now b.file.now) size))) f
+    (subst (λ (p : List ℕ). IfOk r (λ size. IfSome known (λ files. HasSize how.accepted how.format files p size))) e h)
 
 pub empty_by : (settings : Settings) (below : Option Backing) (size : ℕ) (l : Layout)
     → IsLayoutOf (format_by settings) size l → HasNamesBelow below l

@@ -6,6 +6,8 @@ ghost use Rattle.imago_drivers.specs.Place.{Byte};
 ghost use Rattle.imago_qcow2_new.specs.Image.{IsNewFile};
 ghost use Rattle.imago_qcow2_new.specs.Layout.{IsLayoutOf, StoresNothing, file_length};
 ghost use Rattle.imago_words.specs.declared.settings.NewFormat.TheVariants as New;
+ghost use Rattle.imago_access.specs.Chain.{driver};
+ghost use Rattle.imago_img_parts.specs.Disks.{HasSize};
 ghost use Rattle.imago_img_parts.specs.Files.{IsSoOnceCleared};
 ghost use Rattle.imago_img_parts.specs.NewFiles.{HasNamesBelow, IsEmptyFile, IsFilledWith};
 ghost use Rattle.imago_img_parts.specs.NewFiles.{IsNewImage, IsNewlyMade, IsSizeBelow, IsSizeOf};
@@ -17,8 +19,13 @@ use crate::host::{Host, Making};
 use crate::image::{CHUNK, opened};
 use crate::new_qcow2::of_format;
 use crate::opening::{how_to_open, new_format};
+use imago_any_driver::any::AnyDriver;
 use imago_copy::target::Target;
+use imago_drivers::drivers::FormatDriverInstance;
 use imago_file::name::path_beside;
+use imago_images::file::PathStorage;
+use imago_images::opener::FileImage;
+use imago_images::opening::Opening;
 use imago_qcow2_new::format::{Backing, FormatError};
 use imago_qcow2_new::layout::{Layout, rounded_size};
 use imago_qcow2_new::scan::layout_of_size;
@@ -276,8 +283,30 @@ fn size_below<H: Host>(
     };
     let path = path_beside(host.alloc(), asked.target, below.file)?;
     let how = how_to_open(Some(below.format), asked.opening);
-    let (_, image) = opened(host, path.as_str(), how)?;
-    test_place(host, &image, asked.target, asked.force)?;
+    size_at(host, &path, how, asked)
+}
+
+/// The size of the disk of the image of that path, in bytes, above which a new one may be made.
+fn size_at<H: Host>(host: &H, path: &str, how: Opening, asked: Create<'_>) -> Result<u64, Failure>
+    ensures { IfOk result (λ size. IfSome (H.contents host.now)
+        (λ files. HasSize how.accepted how.format files path.now size)) }
+{
+    let (_, image) = opened(host, path, how)?;
+    let size = size_above(host, &image, asked)?;
+    Ok(size)
+}
+
+/// The size of an image's disk, in bytes, above which a new one may be made.
+fn size_above<'a, H: Host>(
+    host: &H,
+    image: &FileImage<'a, H>,
+    asked: Create<'_>,
+) -> Result<u64, Failure>
+    ensures { IfOk result (λ size. size
+        ≡ (⟦<AnyDriver<PathStorage<'a, H>> as FormatDriverInstance>⟧.view
+        (driver image.now)).size) }
+{
+    test_place(host, image, asked.target, asked.force)?;
     Ok(image.size())
 }
 

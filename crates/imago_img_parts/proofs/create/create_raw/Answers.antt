@@ -15,7 +15,7 @@ end-requires g c =
           (g.H.Target.Target.made_for target) (g.H.Target.Target.made_for full) (g.H.Target.Target.contents target)
           (g.H.Target.Target.contents full) c.put_zeroes-target.result.1 created.same c.put_zeroes-target.ensures.same
           created.empty created.made_for
-          (λ none. anyway c.put_zeroes-target.result.1 (contents c.create.new.self) (c.put_zeroes-target.ensures.put none));
+          (λ none. anyway _ c.put_zeroes-target.result.1 (contents c.create.new.self) (c.put_zeroes-target.ensures.put none));
     }
 
 pub returns-in-Ok-clause-created : goal.returns-in-Ok-clause-created
@@ -32,7 +32,7 @@ returns-in-Ok-clause-created g c =
     (g.H.Target.Target.made_for target) (g.H.Target.Target.made_for full) (g.H.Target.Target.contents target)
     (g.H.Target.Target.contents full) c.put_zeroes-target.result.1 created.same c.put_zeroes-target.ensures.same
     created.empty created.made_for
-    (λ none. anyway c.put_zeroes-target.result.1 (contents c.create.new.self) (c.put_zeroes-target.ensures.put none))
+    (λ none. anyway _ c.put_zeroes-target.result.1 (contents c.create.new.self) (c.put_zeroes-target.ensures.put none))
     c.args.making.replace (contents c.end.new.host) (around c.args.host.now) (around c.create.new.self)
     (around c.end.new.host) created.begun created.free c.end.result c.end.ensures.done c.end.ensures.made
     c.end.ensures.there)

@@ -1,10 +1,16 @@
 -- SPDX-License-Identifier: MIT
-use Rattle.std.proofs.Common.{◌≡◌, ◌∙◌, List, ℕ, IfSome, refl, subst, sym}
-use Rattle.imago_any_driver.specs.AnyDriver.{view_over}
-use Rattle.imago_file.specs.StorageParts.{faults_of}
-use Rattle.imago_images.proofs.PathSteps.{features_of, bytes_of}
-use Rattle.imago_img_parts.proofs.Disks.{sized}
+use Rattle.std.proofs.Common.{◌∙◌, IfSome, Option, subst, sym, ℕ}
+use Rattle.std.specs.Prelude.{IfOk}
+use Rattle.imago_words.specs.declared.command.Backing.{Backing}
+use Rattle.imago_img_parts.specs.NewFiles.{IsSizeBelow}
+use Rattle.imago_img_parts.proofs.NewFiles.{below_sized}
 use Rattle.imago_img_parts.proofs.create.size_below.Goals as goal
 
 pub returns : goal.returns
-returns g c = ?
+returns g c =
+    let known = g.H.Files.contents c.args.host.now in
+    let asked = c.args.asked in
+    let size = c.size_at.result in
+    subst (λ (o : Option Backing). IfOk size (λ n. IfSome known (λ files. IsSizeBelow asked o files n))) (sym c.in-Some.is)
+    (below_sized asked c.in-Some.below c.deref.result.now c.how_to_open-how.result known size
+    (c.deref.ensures ∙ c.in_ok-path.ensures) c.how_to_open-how.ensures c.size_at.ensures)

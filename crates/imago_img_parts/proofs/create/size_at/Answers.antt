@@ -1,0 +1,15 @@
+-- SPDX-License-Identifier: MIT
+use Rattle.imago_any_driver.specs.AnyDriver.{view_over}
+use Rattle.imago_file.specs.StorageParts.{faults_of}
+use Rattle.imago_images.proofs.PathSteps.{features_of, bytes_of}
+use Rattle.imago_img_parts.proofs.Disks.{sized}
+use Rattle.imago_img_parts.proofs.create.size_at.Goals as goal
+
+pub returns : goal.returns
+returns g c =
+    let contents = g.H.Files.contents in
+    let opened = g.H.File.HostFile.contents in
+    sized (view_over (features_of contents opened) faults_of (bytes_of contents opened)) c.args.how.accepted
+    c.args.how.other_files c.args.how.format (contents c.args.host.now) c.args.path.now
+    c.in_ok-image.field-0-0 c.in_ok-image.image c.in_ok-size.size c.in_ok-size.ensures
+    c.in_ok-image.ensures.format c.in_ok-image.ensures.image
