@@ -1,8 +1,9 @@
 // SPDX-License-Identifier: MIT
-//! Compares the disks of images with raw files, and prints where their bytes are: disks IMAGE RAW [IMAGE RAW ..]
+//! Compares the disks of images with raw files, and prints where their bytes are:
+//! disks IMAGE RAW [IMAGE RAW ..]
 //!
-//! A line `image IMAGE` comes before those of its places: offset, length, kind, file and offset there, as
-//! `include/imago.h` has them.
+//! A line `image IMAGE` comes before those of its places: offset, length, kind, file and offset
+//! there, as `include/imago.h` has them.
 use imago_c::image::{Disk, Format, Source};
 use std::io::{self, Read, Seek, SeekFrom};
 
