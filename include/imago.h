@@ -154,9 +154,19 @@ uint32_t imago_image_want(struct imago_image *image, struct imago_want *want);
 /* Gives the bytes that are asked for, want.count of them.
  *
  * IMAGO_UNSUPPORTED is an image that doesn't ask for bytes, and IMAGO_INVALID_DATA another count;
- * the image stays as it was then. IMAGO_INVALID_DATA and IMAGO_UNSUPPORTED are also what a file is
- * refused for, as in imago-img: it isn't what its format says, or it needs what isn't offered.
- * IMAGO_MEMORY is no memory. After these the opening is over, and imago_image_want says so. */
+ * the image stays as it was then.
+ *
+ * The bytes that are asked for are refused for a fault that each file has which agrees with what was
+ * given of it, as in imago-img:
+ *  - The first fault of a qcow2 header: IMAGO_INVALID_DATA is one that can't be meant, and
+ *    IMAGO_UNSUPPORTED one that needs what isn't offered.
+ *  - The first fault of a descriptor, by the same two.
+ *  - IMAGO_INVALID_DATA is also an extent that begins in its file at an offset which doesn't fit 64
+ *    bits, and a backing file whose format's name passes the end of the header extensions.
+ *  - IMAGO_UNSUPPORTED is also a file below 200 others.
+ *  - IMAGO_MEMORY is no memory.
+ * The opening is over then, and imago_image_want says so. IMAGO_MEMORY may also leave the image as
+ * it was, and the same bytes are asked for still. */
 uint32_t imago_image_give(struct imago_image *image, const uint8_t *bytes, size_t count);
 
 /* Tells the name of the file that is asked for, as the image has it: relative names are relative to
@@ -171,10 +181,11 @@ uint32_t imago_image_format_name(struct imago_image *image, uint8_t *name, size_
                                  size_t *length);
 
 /* Gives the file that is asked for: its length, and its imago_format. For an extent both may be
- * anything.
+ * those of another file.
  *
  * IMAGO_UNSUPPORTED is an image that doesn't ask for a file, or a number that is no format's; the
- * image stays as it was then. Otherwise the refusals are those of imago_image_give. */
+ * image stays as it was then. Otherwise the refusals are those of imago_image_give, after which the
+ * opening is over. The file of an extent isn't refused. */
 uint32_t imago_image_give_file(struct imago_image *image, uint64_t length, uint32_t format);
 
 /* Tells the size of the disk in bytes. IMAGO_NOT_FOUND is an image that isn't open yet. Refused,

@@ -9,8 +9,8 @@
  *     imago_disk_close(&disk);
  *
  * A disk stays on the thread that opened it. Every call answers 0, or an imago_kind: IMAGO_DEVICE
- * is a call of the system that failed, with errno set, and IMAGO_DENIED a file that the gate didn't
- * let through. */
+ * is a call of the system that failed, with errno set, and IMAGO_DENIED a file that the gate
+ * refused. */
 #ifndef IMAGO_DISK_H
 #define IMAGO_DISK_H
 
@@ -63,64 +63,46 @@ static inline uint32_t imago_disk_fill(int file, uint8_t *bytes, size_t count, u
         ssize_t got = offset > LLONG_MAX ? 0 : pread(file, bytes, count, (off_t)offset);
         if (got < 0 && errno == EINTR) continue;
         if (got < 0) return IMAGO_DEVICE;
-        if (got == 0) {
-            memset(bytes, 0, count);
-            return IMAGO_DONE;
-        }
-        bytes += got;
-        offset += (uint64_t)got;
-        count -= (size_t)got;
+        if (got == 0) return memset(bytes, 0, count), IMAGO_DONE;
+        bytes += got, offset += (uint64_t)got, count -= (size_t)got;
     }
     return IMAGO_DONE;
 }
 
-/* Puts an open file to the others, and tells its length. Anything but a plain file or a block
- * device is refused. */
+/* Puts an open file to the others, and tells its length. Only plain files and block devices are
+ * taken. */
 static inline uint32_t imago_disk_add(struct imago_disk *disk, int file, uint64_t *length)
 {
     struct stat status;
-    off_t end;
-    int *files = file < 0 ? NULL : (int *)realloc(disk->files, (disk->count + 1) * sizeof *files);
+    int *files = (int *)realloc(disk->files, (disk->count + 1) * sizeof *files);
+    off_t end = files && file >= 0 && fstat(file, &status) == 0 ? lseek(file, 0, SEEK_END) : -1;
     if (files) disk->files = files;
-    if (file < 0) return IMAGO_DENIED;
-    if (!files || fstat(file, &status) != 0 ||
-        (!S_ISREG(status.st_mode) && !S_ISBLK(status.st_mode)) ||
-        (end = lseek(file, 0, SEEK_END)) < 0) {
-        close(file);
-        return files ? IMAGO_DEVICE : IMAGO_MEMORY;
+    if (end >= 0 && (S_ISREG(status.st_mode) || S_ISBLK(status.st_mode))) {
+        files[disk->count++] = file;
+        *length = (uint64_t)end;
+        return IMAGO_DONE;
     }
-    files[disk->count++] = file;
-    *length = (uint64_t)end;
-    return IMAGO_DONE;
-}
-
-/* The format of a name: of one that isn't known there is none to open. */
-static inline uint32_t imago_disk_format(const uint8_t *name, size_t length, uint32_t *format)
-{
-    static const char *const names[] = {"", "raw", "vmdk", "qcow2"};
-    for (uint32_t i = 1; i < 4; i++) {
-        if (strlen(names[i]) == length && memcmp(names[i], name, length) == 0)
-            return *format = i, IMAGO_DONE;
-    }
-    return IMAGO_UNSUPPORTED;
+    if (end >= 0) errno = ESPIPE;
+    if (file >= 0) close(file);
+    return !files ? IMAGO_MEMORY : file < 0 ? IMAGO_DENIED : IMAGO_DEVICE;
 }
 
 /* Gives the file that is asked for, as the gate opens it. */
 static inline uint32_t imago_disk_next(struct imago_disk *disk, uint32_t kind,
                                        char above[IMAGO_DISK_NAME], imago_gate gate, void *context)
 {
-    char name[IMAGO_DISK_NAME] = "", path[IMAGO_DISK_NAME] = "";
-    uint8_t said[16];
+    static const char *const formats[] = {"", "raw", "vmdk", "qcow2"};
+    char name[IMAGO_DISK_NAME] = "", path[IMAGO_DISK_NAME] = "", said[16] = "";
     size_t length = 0;
-    uint32_t format = IMAGO_FORMAT_UNKNOWN;
     uint64_t bytes = 0;
+    uint32_t format = IMAGO_FORMAT_UNKNOWN;
     uint32_t code = imago_image_name(&disk->image, (uint8_t *)name, sizeof name - 1, &length);
     if (code != IMAGO_DONE) return code;
-    if (length >= sizeof name || memchr(name, 0, length)) return IMAGO_UNSUPPORTED;
-    if (imago_image_format_name(&disk->image, said, sizeof said, &length) == IMAGO_DONE) {
-        if (length > sizeof said) return IMAGO_UNSUPPORTED;
-        code = imago_disk_format(said, length, &format);
-        if (code != IMAGO_DONE) return code;
+    if (strlen(name) != length) return IMAGO_UNSUPPORTED;
+    code = imago_image_format_name(&disk->image, (uint8_t *)said, sizeof said - 1, &length);
+    if (code == IMAGO_DONE) {
+        for (format = 3; format > 0 && strcmp(said, formats[format]) != 0;) format--;
+        if (format == 0 || strlen(said) != length) return IMAGO_UNSUPPORTED;
     }
     code = imago_disk_add(disk, gate(context, above, name, kind, &format, path), &bytes);
     if (code != IMAGO_DONE) return code;
@@ -135,56 +117,36 @@ static inline void imago_disk_close(struct imago_disk *disk)
     while (disk->count > 0) close(disk->files[--disk->count]);
     free(disk->files);
     free(disk->bytes);
-    disk->files = NULL;
-    disk->bytes = NULL;
-    disk->unpacked.file = 0;
-}
-
-/* Gives an image all that it asks for. */
-static inline uint32_t imago_disk_load(struct imago_disk *disk, char above[IMAGO_DISK_NAME],
-                                       imago_gate gate, void *context)
-{
-    struct imago_want want;
-    uint8_t bytes[65536];
-    for (;;) {
-        uint32_t code = imago_image_want(&disk->image, &want);
-        if (code != IMAGO_DONE) return code;
-        if (want.kind == IMAGO_WANTS_NOTHING) return imago_image_size(&disk->image, &disk->size);
-        if (want.kind == IMAGO_WANTS_BYTES) {
-            if (want.file >= disk->count || want.count > sizeof bytes) return IMAGO_DEVICE;
-            code = imago_disk_fill(disk->files[want.file], bytes, (size_t)want.count, want.offset);
-            if (code == IMAGO_DONE)
-                code = imago_image_give(&disk->image, bytes, (size_t)want.count);
-        } else {
-            code = imago_disk_next(disk, want.kind, above, gate, context);
-        }
-        if (code != IMAGO_DONE) return code;
-    }
+    memset(disk, 0, sizeof *disk);
 }
 
 /* Opens the image of a path, in that imago_format, with the files that it names, as the gate lets
- * them through. Refused, the disk is closed. */
+ * them through: it gives the image all that it asks for. Refused, the disk is closed. */
 static inline uint32_t imago_disk_open(struct imago_disk *disk, const char *path, uint32_t format,
                                        imago_gate gate, void *context)
 {
-    static const struct imago_place none = {0, 0, 0, 0, 0, 0, 0, 0, 0};
-    static const struct imago_image closed = IMAGO_CLOSED;
     char above[IMAGO_DISK_NAME];
+    uint8_t bytes[65536];
+    struct imago_want want;
     uint64_t length = 0;
-    uint32_t code;
-    disk->image = closed;
-    disk->size = 0;
-    disk->files = NULL;
-    disk->count = 0;
-    disk->bytes = NULL;
-    disk->unpacked = none;
+    memset(disk, 0, sizeof *disk);
     if (strlen(path) >= sizeof above) return IMAGO_UNSUPPORTED;
     memcpy(above, path, strlen(path) + 1);
-    code = imago_disk_add(disk, open(path, O_RDONLY | O_CLOEXEC | O_NONBLOCK), &length);
+    uint32_t code = imago_disk_add(disk, open(path, O_RDONLY | O_CLOEXEC | O_NONBLOCK), &length);
     if (code == IMAGO_DENIED) code = IMAGO_DEVICE;
     if (code == IMAGO_DONE) code = imago_image_open(&disk->image, length, format, false);
-    if (code == IMAGO_DONE) code = imago_disk_load(disk, above, gate, context);
-    if (code != IMAGO_DONE) imago_disk_close(disk);
+    while (code == IMAGO_DONE && (code = imago_image_want(&disk->image, &want)) == IMAGO_DONE) {
+        if (want.kind == IMAGO_WANTS_NOTHING) return imago_image_size(&disk->image, &disk->size);
+        if (want.kind != IMAGO_WANTS_BYTES) {
+            code = imago_disk_next(disk, want.kind, above, gate, context);
+        } else if (want.file >= disk->count || want.count > sizeof bytes) {
+            code = IMAGO_DEVICE;
+        } else {
+            code = imago_disk_fill(disk->files[want.file], bytes, want.count, want.offset);
+            if (code == IMAGO_DONE) code = imago_image_give(&disk->image, bytes, want.count);
+        }
+    }
+    imago_disk_close(disk);
     return code;
 }
 
@@ -195,22 +157,27 @@ static inline uint32_t imago_disk_map(struct imago_disk *disk, uint64_t offset, 
     return imago_image_map(&disk->image, offset, most, place);
 }
 
-/* Makes the compressed cluster of a place, unless it is the one that was made last. */
-static inline uint32_t imago_disk_unpack(struct imago_disk *disk, const struct imago_place *place)
+/* Reads the bytes of a place. A compressed cluster is made, unless it is the one made last. */
+static inline uint32_t imago_disk_read(struct imago_disk *disk, const struct imago_place *place,
+                                       uint8_t *bytes)
 {
-    size_t cluster = (size_t)place->cluster, stream = (size_t)place->stream;
-    uint8_t *bytes;
-    uint32_t code;
-    if (disk->unpacked.file == place->file && disk->unpacked.offset == place->offset)
-        return IMAGO_DONE;
-    disk->unpacked.file = 0;
-    bytes = (uint8_t *)realloc(disk->bytes, cluster + stream);
-    if (!bytes) return IMAGO_MEMORY;
-    disk->bytes = bytes;
-    code = imago_disk_fill(disk->files[place->file - 1], bytes + cluster, stream, place->offset);
-    if (code == IMAGO_DONE) code = imago_unpack_cluster(bytes + cluster, stream, bytes, cluster);
-    if (code == IMAGO_DONE) disk->unpacked = *place;
-    return code;
+    size_t count = place->count, cluster = place->cluster, stream = place->stream;
+    if (place->kind == IMAGO_PLACE_ZERO) return memset(bytes, 0, count), IMAGO_DONE;
+    if (place->file > disk->count) return IMAGO_DEVICE;
+    int file = disk->files[place->file - 1];
+    if (place->kind == IMAGO_PLACE_STORED)
+        return imago_disk_fill(file, bytes, count, place->offset);
+    if (disk->unpacked.file != place->file || disk->unpacked.offset != place->offset) {
+        uint8_t *made = (uint8_t *)realloc(disk->bytes, cluster + stream);
+        if (!made) return IMAGO_MEMORY;
+        disk->bytes = made;
+        disk->unpacked.file = 0;
+        uint32_t code = imago_disk_fill(file, made + cluster, stream, place->offset);
+        if (code == IMAGO_DONE) code = imago_unpack_cluster(made + cluster, stream, made, cluster);
+        if (code != IMAGO_DONE) return code;
+        disk->unpacked = *place;
+    }
+    return memcpy(bytes, disk->bytes + place->skip, count), IMAGO_DONE;
 }
 
 /* Reads bytes of the disk. A range that passes the disk's end is IMAGO_BEYOND_DISK. */
@@ -221,23 +188,10 @@ static inline uint32_t imago_disk_pread(struct imago_disk *disk, void *buffer, s
     struct imago_place place;
     if (offset > disk->size || count > disk->size - offset) return IMAGO_BEYOND_DISK;
     while (count > 0) {
-        uint32_t code = imago_image_map(&disk->image, offset, count, &place);
-        size_t part = (size_t)place.count;
+        uint32_t code = imago_disk_map(disk, offset, count, &place);
+        if (code == IMAGO_DONE) code = imago_disk_read(disk, &place, bytes);
         if (code != IMAGO_DONE) return code;
-        if (place.kind == IMAGO_PLACE_ZERO) {
-            memset(bytes, 0, part);
-        } else if (place.file > disk->count) {
-            return IMAGO_DEVICE;
-        } else if (place.kind == IMAGO_PLACE_STORED) {
-            code = imago_disk_fill(disk->files[place.file - 1], bytes, part, place.offset);
-        } else {
-            code = imago_disk_unpack(disk, &place);
-            if (code == IMAGO_DONE) memcpy(bytes, disk->bytes + place.skip, part);
-        }
-        if (code != IMAGO_DONE) return code;
-        bytes += part;
-        offset += part;
-        count -= part;
+        bytes += place.count, offset += place.count, count -= place.count;
     }
     return IMAGO_DONE;
 }

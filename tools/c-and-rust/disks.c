@@ -3,19 +3,22 @@
  *
  *     read IMAGE RAW      compares all bytes of the disk with a raw file, in parts of random
  *                         lengths, and closes it twice
- *     map IMAGE           prints where the bytes of the disk are, a line for each place: offset,
- *                         length, kind, file, offset there
+ *     map IMAGE           prints a line "image IMAGE", and then where the bytes of the disk are, a
+ *                         line for each place: offset, length, kind, file, offset there
  *     try IMAGE           opens it, and reads all that can be read; only what the sanitizers and
  *                         valgrind see counts
  *     order IMAGE         calls in wrong order, with wrong counts and behind the close: each has
  *                         its code
+ *     threads IMAGE RAW   does what read does in several threads at once, of which each opens the
+ *                         image for itself
  *
  * The status is 1 where an answer isn't as expected, and read prints "refused CODE" and answers 2
  * for an image that isn't opened. */
+#include <pthread.h>
 #include <stdio.h>
 #include "imago_disk.h"
 
-static uint64_t seed = 1;
+static _Thread_local uint64_t seed = 1;
 
 static uint64_t random_below(uint64_t most)
 {
@@ -25,11 +28,12 @@ static uint64_t random_below(uint64_t most)
 
 static int compared(struct imago_disk *disk, const char *raw)
 {
-    static uint8_t mine[1 << 20], theirs[1 << 20];
+    const size_t room = 1 << 20;
+    uint8_t *mine = malloc(room), *theirs = malloc(room);
     int file = open(raw, O_RDONLY),
-        same = file >= 0 && (uint64_t)lseek(file, 0, SEEK_END) == disk->size;
+        same = mine && theirs && file >= 0 && (uint64_t)lseek(file, 0, SEEK_END) == disk->size;
     for (uint64_t at = 0; same && at < disk->size;) {
-        uint64_t left = disk->size - at, part = 1 + random_below(sizeof mine);
+        uint64_t left = disk->size - at, part = 1 + random_below(room);
         if (part > left) part = left;
         same = imago_disk_pread(disk, mine, part, at) == IMAGO_DONE &&
                imago_disk_fill(file, theirs, part, at) == IMAGO_DONE &&
@@ -48,12 +52,15 @@ static int compared(struct imago_disk *disk, const char *raw)
     same =
         same && imago_disk_pread(disk, mine, 2, disk->size - (disk->size > 0)) == IMAGO_BEYOND_DISK;
     if (file >= 0) close(file);
+    free(mine);
+    free(theirs);
     return same;
 }
 
-static int mapped(struct imago_disk *disk)
+static int mapped(struct imago_disk *disk, const char *path)
 {
     struct imago_place place;
+    printf("image %s\n", path);
     for (uint64_t at = 0; at < disk->size; at += place.count) {
         if (imago_disk_map(disk, at, disk->size - at, &place) != IMAGO_DONE || place.at != at ||
             place.count == 0)
@@ -141,6 +148,42 @@ static int ordered(const char *path)
     return 1;
 }
 
+/* What a thread reads and compares, and whether all is right. */
+struct job {
+    const char *path, *raw;
+    uint64_t seed;
+    int right;
+};
+
+static void *worked(void *at)
+{
+    struct job *job = at;
+    struct imago_disk disk;
+    seed = job->seed;
+    job->right = imago_disk_open(&disk, job->path, IMAGO_FORMAT_UNKNOWN, imago_disk_beside, NULL) ==
+                     IMAGO_DONE &&
+                 compared(&disk, job->raw);
+    imago_disk_close(&disk);
+    return NULL;
+}
+
+static int threaded(const char *path, const char *raw)
+{
+    enum { COUNT = 4 };
+    struct job jobs[COUNT];
+    pthread_t threads[COUNT];
+    int right = 1;
+    for (size_t i = 0; i < COUNT; i++) {
+        jobs[i] = (struct job){path, raw, i + 1, 0};
+        if (pthread_create(&threads[i], NULL, worked, &jobs[i]) != 0) return 0;
+    }
+    for (size_t i = 0; i < COUNT; i++) {
+        pthread_join(threads[i], NULL);
+        right = right && jobs[i].right;
+    }
+    return right;
+}
+
 int main(int count, char **words)
 {
     struct imago_disk disk;
@@ -148,13 +191,14 @@ int main(int count, char **words)
     int right = 1;
     if (count < 3) return 1;
     if (strcmp(words[1], "order") == 0) return !ordered(words[2]);
+    if (strcmp(words[1], "threads") == 0) return count < 4 || !threaded(words[2], words[3]);
     code = imago_disk_open(&disk, words[2], IMAGO_FORMAT_UNKNOWN, imago_disk_beside, NULL);
     if (code != IMAGO_DONE) {
         imago_disk_close(&disk);
         return printf("refused %u\n", code), strcmp(words[1], "try") == 0 ? 0 : 2;
     }
     if (strcmp(words[1], "read") == 0) right = count > 3 && compared(&disk, words[3]);
-    else if (strcmp(words[1], "map") == 0) right = mapped(&disk);
+    else if (strcmp(words[1], "map") == 0) right = mapped(&disk, words[2]);
     else tried(&disk);
     imago_disk_close(&disk);
     imago_disk_close(&disk);

@@ -1,2 +1,3 @@
 -- SPDX-License-Identifier: MIT
 pub mod Handles
+pub mod Refusals

@@ -1,18 +1,24 @@
 -- What a caller in C is told of an image, and tells.
 -- SPDX-License-Identifier: MIT
-use Rattle.std.specs.Prelude.{ℕ, ◌+◌, ◌-◌, ◌^◌, min, Bool, not, true, Option, Some, None}
-use Rattle.std.specs.Prelude.{nat_eq, if◌then◌else◌}
+use Rattle.std.specs.Prelude.{◌≡◌, ℕ, ◌+◌, ◌-◌, ◌^◌, ◌⊎◌, min, Bool, not, true, Option, Some, None}
+use Rattle.std.specs.Prelude.{nat_eq, if◌then◌else◌, length}
+use Rattle.imago_storage.specs.declared.error.Error.{Error}
 use Rattle.imago_drivers.specs.declared.format.Format.{Format}
 use Rattle.imago_vmdk.specs.declared.line.Accepted.{Accepted}
 use Rattle.imago_plan.specs.declared.piece.Piece.{Piece}
 use Rattle.imago_plan.specs.declared.piece.Source.{Source}
 use Rattle.imago_plan.specs.declared.piece.Source.TheVariants as From
 use Rattle.imago_session.specs.declared.session.Session.{Session}
+use Rattle.imago_session.specs.declared.session.State.{State}
 use Rattle.imago_session.specs.declared.compressed.Compressed.{Compressed}
 use Rattle.imago_session.specs.declared.session.Mapped.{Mapped}
 use Rattle.imago_session.specs.declared.session.Mapped.TheVariants as M
 use Rattle.imago_session.specs.declared.session.Want.{Want}
 use Rattle.imago_session.specs.declared.session.Want.TheVariants as W
+use Rattle.imago_session.specs.Files.{File}
+use Rattle.imago_session.specs.Opening.{IsOf}
+use Rattle.imago_session.specs.Refusals.{IsCause, IsRefusalOf}
+use Rattle.imago_c.specs.Answer.{code_of}
 use Rattle.imago_c.specs.declared.opening.WantRecord.{WantRecord}
 use Rattle.imago_c.specs.declared.reading.PlaceRecord.{PlaceRecord}
 
@@ -20,6 +26,10 @@ use Rattle.imago_c.specs.declared.reading.PlaceRecord.{PlaceRecord}
 abbrev pub Has : Option Session → (Session → Type 0) → Type 0
 Has None P = ⊥
 Has (Some s) P = P s
+
+-- the greatest number of a format
+abbrev pub most_formats : ℕ
+most_formats = 3
 
 -- the format of a number: 0 leaves it open
 abbrev pub format_of : ℕ → Option Format
@@ -31,6 +41,36 @@ format_of n =
 -- what a descriptor may contain: VMFS extents, and keys that aren't known unless it is strict
 abbrev pub accepted_by : Bool → Accepted
 accepted_by strict = record { unknown_keys = not strict; vmfs = true }
+
+-- a backing file is asked for
+abbrev pub AsksBacking : Want → Type 0
+AsksBacking (W.Backing k) = Unit {0}
+AsksBacking (W.Bytes k from count) = ⊥
+AsksBacking (W.Extent k) = ⊥
+AsksBacking W.Nothing = ⊥
+AsksBacking W.Refused = ⊥
+
+-- the file of an extent is asked for
+abbrev pub AsksExtent : Want → Type 0
+AsksExtent (W.Extent k) = Unit {0}
+AsksExtent (W.Bytes k from count) = ⊥
+AsksExtent (W.Backing k) = ⊥
+AsksExtent W.Nothing = ⊥
+AsksExtent W.Refused = ⊥
+
+-- An opening doesn't begin, for a cause that each top file has of that length and format.
+abbrev pub IsRefusedBegin : Accepted → ℕ → Option Format → ℕ → Type 0
+IsRefusedBegin accepted count format code =
+    (e : Error) × (code ≡ code_of e)
+    × ((f : File) → length f.bytes ≡ count → f.format ≡ format → IsCause accepted f e)
+
+-- What was asked for and given isn't taken, for a cause that all files have which agree with it and
+-- with what was given before. So the opening is over, or there was no memory and nothing changed.
+abbrev pub IsRefusedGive : Session → Option Session → ((ℕ → File) → Type 0) → ℕ → Type 0
+IsRefusedGive a after agree code =
+    (e : Error) × (code ≡ code_of e)
+    × Has after (λ b. (b.state ≡ State.Refused) ⊎ ((e ≡ Error.Memory) × (b ≡ a)))
+    × ((files : ℕ → File) → agree files → IsOf files a → IsRefusalOf files a e)
 
 -- what is asked for as a record
 abbrev pub record_of : ℕ → ℕ → ℕ → ℕ → WantRecord

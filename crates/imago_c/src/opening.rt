@@ -1,12 +1,17 @@
 // SPDX-License-Identifier: MIT
 //! How an image is opened: it asks for bytes and for files, and its caller gives them.
-ghost use Rattle.std.specs.Prelude.{◌≡◌, ◌<◌, ℕ, None, Some, length, Err, IfOk, OnOk, IfSome};
+ghost use Rattle.std.specs.Prelude.{◌≡◌, ◌<◌, ◌≤◌, ℕ, None, Some, length, Err, IfOk, IfErr, OnOk};
+ghost use Rattle.std.specs.Prelude.{IsOk, OnErr, IfSome};
 ghost use Rattle.imago_storage.specs.declared.error.Error.{Error};
 ghost use Rattle.imago_session.specs.Files.{File};
 ghost use Rattle.imago_session.specs.Opening.{IsOf, wanted, IsAnswer, IsFileAnswer, IsNameWanted};
-ghost use Rattle.imago_session.specs.Opening.{AsksNoBytes, AsksOtherCount, AsksNoFile};
+ghost use Rattle.imago_session.specs.Opening.{AsksNoBytes, AsksOtherCount, AsksCount, AsksNoFile};
+ghost use Rattle.imago_session.specs.Refusals.{IsCause, IsRefusalOf};
 ghost use Rattle.imago_c.specs.Answer.{IsFront, code_of, answer_code};
 ghost use Rattle.imago_c.specs.Images.{Has, format_of as format_named, accepted_by, want_record};
+ghost use Rattle.imago_c.specs.Images.{most_formats, AsksBacking, AsksExtent};
+ghost use Rattle.imago_c.specs.Images.{IsRefusedBegin, IsRefusedGive};
+ghost use Rattle.imago_session.specs.declared.session.State.{State};
 
 use crate::code::{DONE, code};
 use crate::front::put_front;
@@ -36,7 +41,8 @@ pub struct WantRecord {
 
 /// The format of a number, of which 0 leaves it open. Another number is [`Error::Unsupported`].
 fn format_of(number: u32) -> Result<Option<Format>, Error>
-    ensures { IfOk result (λ f. f ≡ format_named number) }
+    ensures format { IfOk result (λ f. (f ≡ format_named number) × (number ≤ most_formats)) }
+    ensures none { IfErr result (λ e. (e ≡ Error.Unsupported) × (most_formats < number)) }
 {
     match number {
         0 => Ok(None),
@@ -59,9 +65,13 @@ fn accepted(strict: bool) -> Accepted
 
 /// The session of an opening that begins.
 fn begun(alloc: Global, count: u64, format: u32, strict: bool) -> Result<Box<Session>, Error>
-    ensures { IfOk result (λ s. (s.value.accepted ≡ accepted_by strict)
+    ensures begun { IfOk result (λ s. (s.value.accepted ≡ accepted_by strict)
         × ((files : ℕ → File) → length (files 0).bytes ≡ count
         → (files 0).format ≡ format_named format → IsOf files s.value)) }
+    ensures unknown { most_formats < format → result ≡ Err Error.Unsupported }
+    ensures refused { format ≤ most_formats → IfErr result (λ e. (f : File)
+        → length f.bytes ≡ count → f.format ≡ format_named format
+        → IsCause (accepted_by strict) f e) }
 {
     let format = format_of(format)?;
     let session = Session::new(alloc, accepted(strict), count, format)?;
@@ -69,7 +79,8 @@ fn begun(alloc: Global, count: u64, format: u32, strict: bool) -> Result<Box<Ses
 }
 
 /// Begins with a top file of that many bytes, which is opened in the format of that number, or in
-/// the one that its bytes are recognised as. What the image had is freed. Refused, it is closed.
+/// the one that its bytes are recognised as. What the image had is freed. Refused, it is closed:
+/// by the number of no format, or for a cause of the file's.
 #[unsafe(no_mangle)]
 pub extern "C" fn imago_image_open(
     alloc: Global,
@@ -83,6 +94,9 @@ pub extern "C" fn imago_image_open(
         × ((files : ℕ → File) → length (files 0).bytes ≡ count
         → (files 0).format ≡ format_named format → IsOf files s)) }
     ensures refused { 0 < result → image.new.handle.value ≡ None }
+    ensures unknown { most_formats < format → result ≡ code_of Error.Unsupported }
+    ensures cause { format ≤ most_formats → 0 < result
+        → IsRefusedBegin (accepted_by strict) count (format_named format) result }
 {
     match begun(alloc, count, format, strict) {
         Ok(session) => {
@@ -160,6 +174,9 @@ pub extern "C" fn imago_image_give(alloc: Global, image: &mut Image, bytes: &[u8
     ensures miscounted { IfSome image.old.handle.value
         (λ s. AsksOtherCount (wanted s) (length bytes.now)
         → (result ≡ code_of Error.InvalidData) × (image.new.handle.value ≡ Some s)) }
+    ensures refused { IfSome image.old.handle.value (λ a. AsksCount (wanted a) (length bytes.now)
+        → 0 < result → IsRefusedGive a image.new.handle.value
+        (λ files. IsAnswer files (wanted a) bytes.now) result) }
     ensures closed { image.old.handle.value ≡ None
         → (result ≡ code_of Error.NotFound) × (image.new.handle.value ≡ None) }
 {
@@ -178,6 +195,14 @@ fn give_file(session: &mut Session, count: u64, format: u32) -> Result<(), Error
         → IsOf files session.old → IsOf files session.new) }
     ensures unasked { AsksNoFile (wanted session.old)
         → (result ≡ Err Error.Unsupported) × (session.new ≡ session.old) }
+    ensures unknown { most_formats < format
+        → (result ≡ Err Error.Unsupported) × (session.new ≡ session.old) }
+    ensures over { AsksBacking (wanted session.old) → format ≤ most_formats
+        → OnErr result (session.new.state ≡ State.Refused) }
+    ensures cause { format ≤ most_formats → IfErr result (λ e. (files : ℕ → File)
+        → IsFileAnswer files (wanted session.old) count (format_named format)
+        → IsOf files session.old → IsRefusalOf files session.old e) }
+    ensures extent { AsksExtent (wanted session.old) → format ≤ most_formats → IsOk result }
 {
     match format_of(format) {
         Ok(format) => session.give_file(count, format),
@@ -200,6 +225,13 @@ pub extern "C" fn imago_image_give_file(
         → IsOf files b)) }
     ensures unasked { IfSome image.old.handle.value (λ s. AsksNoFile (wanted s)
         → (result ≡ code_of Error.Unsupported) × (image.new.handle.value ≡ Some s)) }
+    ensures unknown { most_formats < format → IfSome image.old.handle.value
+        (λ s. (result ≡ code_of Error.Unsupported) × (image.new.handle.value ≡ Some s)) }
+    ensures refused { format ≤ most_formats → IfSome image.old.handle.value
+        (λ a. AsksBacking (wanted a) → 0 < result → IsRefusedGive a image.new.handle.value
+        (λ files. IsFileAnswer files (wanted a) count (format_named format)) result) }
+    ensures extent { format ≤ most_formats → IfSome image.old.handle.value
+        (λ a. AsksExtent (wanted a) → result ≡ 0) }
     ensures closed { image.old.handle.value ≡ None
         → (result ≡ code_of Error.NotFound) × (image.new.handle.value ≡ None) }
 {

@@ -4,6 +4,7 @@ use Rattle.std.proofs.Common.{◌≡◌, ℕ, ◌+◌, ◌-◌, ◌*◌, ◌^◌
 use Rattle.std.specs.Prelude.{◌⊎◌, slice_index, nat_lt, nat_eq, ◌||◌, if◌then◌else◌}
 use Rattle.std.proofs.lemmas.Bool.{cases_lt, lt-ltb}
 use Rattle.std.proofs.lemmas.Bool.Decides.{nat_tests}
+use Rattle.std.proofs.Math.Pow.{pow_mono}
 use Rattle.std.proofs.lemmas.List.{get_or_past}
 use Rattle.std.proofs.lemmas.List.FromFn.{length-map-range_with_len, get_or-map-range_with_len}
 use Rattle.imago_storage.specs.declared.error.Error.{Error}
@@ -96,6 +97,21 @@ name_inside own file h e some =
     let far : be64 own 8 ≤ 2 ^ be32 own 20 = not_less (2 ^ be32 own 20) (be64 own 8) t.0 in
     let over : be32 own 16 ≤ 2 ^ be32 own 20 - be64 own 8 = not_less (2 ^ be32 own 20 - be64 own 8) (be32 own 16) t.1 in
     omega (arith, far, over)
+
+bounds_tests : (low high : Bool) → IsDone (if low || high then Err Error.InvalidData else Ok tt) → high ≡ false
+bounds_tests true high h = let q : ⊥ = cc h in absurd q
+bounds_tests false true h = let q : ⊥ = cc h in absurd q
+bounds_tests false false h = refl
+
+-- a cluster has 2 MiB at most, if the header has no fault
+pub cluster_small : (own : List ℕ) (file : ℕ) (h : Header) → header_of own file ≡ Ok h → cluster_length own ≤ 2 ^ 21
+unfolding header_of bounds_fault
+cluster_small own file h e =
+    let a = next_ok (magic_fault own file) _ h e in
+    let b = next_ok (support_fault own) _ h a.1 in
+    let c = next_ok (bounds_fault own) _ h b.1 in
+    let high = bounds_tests (nat_lt (be32 own 20) 9) (nat_lt 21 (be32 own 20)) c.0 in
+    pow_mono (not_less 21 (be32 own 20) high)
 
 -- the name of a backing file that was read of the front of a file is the file's
 pub name_is : (bytes own xs : List ℕ) {h : Header} → HaveSameTables bytes own → AreSameBytes bytes own 0 (cluster_length bytes) → header_of own (length own) ≡ Ok h

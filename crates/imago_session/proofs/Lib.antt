@@ -7,3 +7,4 @@ pub mod LayerSteps
 pub mod LaidSteps
 pub mod StreamSteps
 pub mod AskSteps
+pub mod RefusalSteps

@@ -2,6 +2,7 @@
 -- SPDX-License-Identifier: MIT
 use Rattle.std.proofs.Common.{◌≡◌, ℕ, ◌+◌, ◌-◌, ◌*◌, ◌/◌, ◌%◌, ◌<◌, ◌≤◌, ⊎_elim, List, length, refl, sym, ap, subst, ◌∙◌, arith}
 use Rattle.std.proofs.Common.{true≢false, Result, Ok, Err, IfOk}
+use Rattle.std.specs.Prelude.{IfErr}
 use Rattle.std.specs.Prelude.{slice_index, Option, Some, None, is_some, Bool, false, true, min, not, ◌||◌, nat_eq, nat_lt, if◌then◌else◌}
 use Rattle.std.proofs.lemmas.Bool.{cases_lt, lt-ltb, le-ltb}
 use Rattle.std.proofs.lemmas.Grind.{same_number_lists}
@@ -102,3 +103,7 @@ pub table_inside : (file cluster entry at : ℕ) → table_in_entry file cluster
 unfolding table_in_entry
 table_inside file cluster entry at is =
     by_tests file cluster at (low entry) (not (nat_eq (high entry % 128) 0) || not (nat_eq (low entry % cluster) 0)) (nat_eq (low entry) 0) is
+
+pub if_err_more : {A E : Type 0} (r : Result A E) (P Q : E → Type 0) → IfErr r P → ((e : E) → P e → Q e) → IfErr r Q
+if_err_more (Ok x) P Q h f = tt
+if_err_more (Err e) P Q h f = f e h

@@ -6,4 +6,5 @@ pub mod Files
 pub mod Found
 pub mod Streams
 pub mod Opening
+pub mod Refusals
 pub mod Mapping

@@ -1,6 +1,7 @@
 // SPDX-License-Identifier: MIT
 //! The layers of images, over files of which only what is needed is in memory.
-ghost use Rattle.std.specs.Prelude.{◌≡◌, ℕ, ◌+◌, ◌^◌, ◌<◌, ◌≤◌, List, Option, None, true, map, length};
+ghost use Rattle.std.specs.Prelude.{◌≡◌, ℕ, ◌+◌, ◌^◌, ◌<◌, ◌≤◌, List, Option, None, true};
+ghost use Rattle.std.specs.Prelude.{map, length};
 ghost use Rattle.std.specs.Prelude.{◌++◌, IfOk, IfErr, OnOk, IfSome, IsOk};
 ghost use Rattle.std.specs.List.{flat_map};
 ghost use Rattle.std.specs.String.{string_bytes};
@@ -16,6 +17,8 @@ ghost use Rattle.imago_session.specs.Known.{AreKnownOf};
 ghost use Rattle.imago_session.specs.Files.{File, IsFormatBy, file_name};
 ghost use Rattle.imago_session.specs.Found.{IsFoundOf, IsLoadingOf, IsBlockGiven};
 ghost use Rattle.imago_session.specs.Found.{block_start, block_count, IsFoundIn, IsFurther};
+ghost use Rattle.imago_session.specs.Refusals.{is_far as is_far_extent, has_far as has_far_extent};
+ghost use Rattle.imago_session.specs.Refusals.{IsFaultOrMemory, IsCause};
 ghost use Rattle.imago_session.specs.Steps.{IfMissing, IfReady};
 
 use crate::block::{BLOCK, Step, first_missing, part};
@@ -28,6 +31,7 @@ use imago_drivers::gate::ImplicitOpenGate;
 use imago_drivers::raw::Raw;
 use imago_loaded::loaded::LoadedFile;
 use imago_qcow2::header::HEAD_LENGTH;
+use imago_qcow2::laws::same_tables_stand_alike;
 use imago_qcow2::qcow2::Qcow2;
 use imago_storage::error::Error;
 use imago_storage::storage::StorageOpenOptions;
@@ -38,6 +42,9 @@ use std::alloc::Global;
 
 /// The driver of a layer.
 pub type Layer = AnyDriver<LoadedFile>;
+
+/// How many bytes a sector has, in which a descriptor counts.
+const SECTOR_SIZE: u64 = 512;
 
 /// The most bytes that a descriptor may have. No longer file is looked at as one.
 const LONGEST_DESCRIPTOR: u64 = 1 << 21;
@@ -79,11 +86,12 @@ fn missing_text(file: &LoadedFile) -> Option<u64>
 }
 
 /// Which format the file is recognised as: qcow2 by its first bytes, else VMDK where the whole is
-/// the text of a descriptor, else raw.
+/// the text of a descriptor, else raw. Refused, it is [`Error::Memory`].
 fn recognised(alloc: Global, file: &LoadedFile) -> Result<Step<Format>, Error>
     ensures missing { IfOk result (IfMissing (IsMissing file.now)) }
     ensures ready { IfOk result (IfReady (λ f. (bytes : List ℕ) → IsPartOf bytes file.now
         → f ≡ detected qcow2_probe vmdk_probe bytes)) }
+    ensures memory { IfErr result (λ e. e ≡ Error.Memory) }
 {
     let length = file.length();
     if let Some(number) = first_missing(file, 0, length.min(HEAD_LENGTH as u64)) {
@@ -101,11 +109,13 @@ fn recognised(alloc: Global, file: &LoadedFile) -> Result<Step<Format>, Error>
     Ok(Step::Ready(Format::Raw))
 }
 
-/// The format of the file: the one that is said, or the one that it is recognised as.
+/// The format of the file: the one that is said, or the one that it is recognised as. Refused, it
+/// is [`Error::Memory`].
 fn format_of(alloc: Global, file: &LoadedFile, said: Option<Format>) -> Result<Step<Format>, Error>
     ensures missing { IfOk result (IfMissing (IsMissing file.now)) }
     ensures ready { IfOk result (IfReady (λ f. (bytes : List ℕ) → IsPartOf bytes file.now
         → IsFormatBy said bytes f)) }
+    ensures memory { IfErr result (λ e. e ≡ Error.Memory) }
 {
     match said {
         Some(format) => Ok(Step::Ready(format)),
@@ -130,16 +140,43 @@ impl ImplicitOpenGate<LoadedFile> for EmptyExtents {
     }
 }
 
-/// The image of a descriptor, all of which is in memory.
+/// The image of a descriptor, all of which is in memory, and in which no fault was found. So it is
+/// refused for memory alone: [`Error::Memory`].
 fn open_vmdk(alloc: Global, accepted: Accepted, file: LoadedFile) -> Result<Vmdk<LoadedFile>, Error>
     ensures file { IfOk result (λ v. descriptor_in v ≡ file) }
     ensures opened { IfOk result (λ v. is_opened v ≡ true) }
     ensures accepted { IfOk result (λ v. accepted_in v ≡ accepted) }
+    ensures memory { IfErr result (λ e. e ≡ Error.Memory) }
 {
     let builder = Vmdk::builder(file)
         .accept_unknown_keys(accepted.unknown_keys)
         .accept_vmfs(accepted.vmfs);
-    builder.open(alloc, EmptyExtents(alloc))
+    match builder.open(alloc, EmptyExtents(alloc)) {
+        Ok(image) => Ok(image),
+        Err(_) => Err(Error::Memory),
+    }
+}
+
+/// Whether an extent begins in its file at an offset that doesn't fit 64 bits.
+fn is_far(extent: &Extent<String>) -> bool
+    ensures { result ≡ is_far_extent extent.now }
+{
+    match extent {
+        Extent::Flat { offset, .. } => offset.checked_mul(SECTOR_SIZE).is_none(),
+        Extent::Zero { .. } | Extent::NoAccess { .. } => false,
+    }
+}
+
+/// Whether one of these extents does.
+fn has_far(extents: &[Extent<String>]) -> bool
+    ensures { result ≡ has_far_extent extents.now }
+{
+    for extent in extents {
+        if is_far(extent) {
+            return true;
+        }
+    }
+    false
 }
 
 /// The names of the files of extents, in order.
@@ -180,6 +217,8 @@ fn load_vmdk(
         → AreKnownOf f.bytes file tables → f.format ≡ format → IsFormatBy format f.bytes Format.Vmdk
         → IsFoundOf accepted f r) }
     ensures same { IfOk result (IsFoundIn file) }
+    ensures refused { IfErr result (λ e. (bytes : List ℕ) → IsPartOf bytes file
+        → IsFaultOrMemory accepted bytes Format.Vmdk e) }
 {
     let length = file.length();
     if length > LONGEST_DESCRIPTOR {
@@ -195,6 +234,9 @@ fn load_vmdk(
     }
     let text = part(alloc, &file, 0, length)?;
     let read = descriptor::read(alloc, accepted, &text)?;
+    if has_far(&read.extents) {
+        return Err(Error::InvalidData);
+    }
     let names = names_of(alloc, &read.extents)?;
     let image = open_vmdk(alloc, accepted, file)?;
     Ok(Found::Layer(AnyDriver::Vmdk(image), names))
@@ -212,6 +254,8 @@ fn load_qcow2(
         → AreKnownOf f.bytes file known → f.format ≡ format → IsFormatBy format f.bytes Format.Qcow2
         → IsFoundOf accepted f r) }
     ensures same { IfOk result (IsFoundIn file) }
+    ensures refused { IfErr result (λ e. (bytes : List ℕ) → IsPartOf bytes file
+        → AreKnownOf bytes file known → IsFaultOrMemory accepted bytes Format.Qcow2 e) }
 {
     let mut tables = match tables_of(alloc, &file, known)? {
         Step::Missing(number) => {
@@ -224,7 +268,8 @@ fn load_qcow2(
         }
         Step::Ready(tables) => tables,
     };
-    if let Some(number) = next_missing(&file, &mut tables) {
+    let length = file.length();
+    if let Some(number) = next_missing(&file, length, &mut tables) {
         return Ok(Found::Loading(Loading {
             file,
             format,
@@ -232,15 +277,17 @@ fn load_qcow2(
             number,
         }));
     }
+    same_tables_stand_alike();
     let image = Qcow2::open_image(alloc, file, false)?;
     Ok(Found::Layer(AnyDriver::Qcow2(image), Vec::new(alloc)))
 }
 
-/// What is made of a raw file.
+/// What is made of a raw file. Refused, it is [`Error::Memory`].
 fn load_raw(alloc: Global, accepted: Accepted, file: LoadedFile) -> Result<Found, Error>
     ensures agrees { IfOk result (λ r. (f : File) → IsPartOf f.bytes file
         → IsFormatBy f.format f.bytes Format.Raw → IsFoundOf accepted f r) }
     ensures same { IfOk result (IsFoundIn file) }
+    ensures memory { IfErr result (λ e. e ≡ Error.Memory) }
 {
     let _ = accepted;
     let image = Raw::open_image(file, false)?;
@@ -260,6 +307,8 @@ fn load_as(
         → AreKnownOf f.bytes file tables → f.format ≡ format → IsFormatBy format f.bytes taken
         → IsFoundOf accepted f r) }
     ensures same { IfOk result (IsFoundIn file) }
+    ensures refused { IfErr result (λ e. (bytes : List ℕ) → IsPartOf bytes file
+        → AreKnownOf bytes file tables → IsFaultOrMemory accepted bytes taken e) }
 {
     match taken {
         Format::Raw => load_raw(alloc, accepted, file),
@@ -280,6 +329,8 @@ fn load(
     ensures agrees { IfOk result (λ r. (f : File) → IsPartOf f.bytes file
         → AreKnownOf f.bytes file tables → f.format ≡ format → IsFoundOf accepted f r) }
     ensures same { IfOk result (IsFoundIn file) }
+    ensures refused { IfErr result (λ e. (f : File) → IsPartOf f.bytes file
+        → AreKnownOf f.bytes file tables → f.format ≡ format → IsCause accepted f e) }
 {
     match format_of(alloc, &file, format)? {
         Step::Missing(number) => Ok(Found::Loading(Loading {
@@ -299,8 +350,10 @@ pub(crate) fn begin(
     count: u64,
     format: Option<Format>,
 ) -> Result<Found, Error>
-    ensures { IfOk result (λ r. (f : File) → length f.bytes ≡ count → f.format ≡ format
+    ensures agrees { IfOk result (λ r. (f : File) → length f.bytes ≡ count → f.format ≡ format
         → IsFoundOf accepted f r) }
+    ensures refused { IfErr result (λ e. (f : File) → length f.bytes ≡ count → f.format ≡ format
+        → IsCause accepted f e) }
 {
     load(
         alloc,
@@ -321,6 +374,8 @@ pub(crate) fn resume(
     ensures agrees { IfOk result (λ r. (f : File) → IsLoadingOf f loading
         → IsBlockGiven f.bytes loading block.items → IsFoundOf accepted f r) }
     ensures further { IfOk result (IsFurther loading) }
+    ensures refused { IfErr result (λ e. (f : File) → IsLoadingOf f loading
+        → IsBlockGiven f.bytes loading block.items → IsCause accepted f e) }
 {
     let Loading {
         mut file,

@@ -5,12 +5,12 @@ ghost use Rattle.std.specs.Prelude.{IfOk, OnOk, IsOk, IfErr, OnErr, Err, IfSome,
 ghost use Rattle.std.specs.Prelude.{slice_index_or};
 ghost use Rattle.std.specs.String.{string_bytes};
 ghost use Rattle.imago_vmdk.specs.declared.line.Accepted.{Accepted};
+ghost use Rattle.imago_qcow2.specs.Backing.{IsBackingName};
 ghost use Rattle.imago_qcow2.specs.Disk.{HaveSameTables, AreSameBytes};
 ghost use Rattle.imago_qcow2.specs.Entry.{cluster_length};
 ghost use Rattle.imago_qcow2.specs.Qcow2Image.{storage_in};
 ghost use Rattle.imago_access.specs.Target.{target};
 ghost use Rattle.imago_loaded.specs.Loaded.{loaded_bytes};
-ghost use Rattle.imago_plan.specs.Pieces.{named_source, IsPieceAt};
 ghost use Rattle.imago_session.specs.Files.{File, IsLayerOf, GoesDown, IsLowest, AreAbove};
 ghost use Rattle.imago_session.specs.Files.{AreLayersOf, backing_name, described_size};
 ghost use Rattle.imago_session.specs.Files.{HasBacking, HasNoBacking, extent_names, names_in};
@@ -21,6 +21,8 @@ ghost use Rattle.imago_session.specs.Opening.{IsAnswer, IsFileAnswer, IsNameWant
 ghost use Rattle.imago_session.specs.Mapping.{IsMappedAt, ShowsMapped};
 ghost use Rattle.imago_session.specs.Opening.{IsBehind, IsStateWith, IsBroughtOn, AsksOnce};
 ghost use Rattle.imago_session.specs.Opening.{AsksNoBytes, AsksOtherCount, AsksCount, AsksNoFile};
+ghost use Rattle.imago_session.specs.Refusals.{HasFaultyFormat, IsCause, IsLayerRefusal};
+ghost use Rattle.imago_session.specs.Refusals.{IsRefusalOf};
 ghost use Rattle.imago_session.specs.declared.session.Want.{Want};
 ghost use Rattle.imago_session.specs.declared.session.State.{State};
 
@@ -31,11 +33,11 @@ pub use crate::layer::Layer;
 use crate::layer::{Found, begin, resume};
 use crate::loading::Loading;
 use imago_access::access::FormatAccess;
-use imago_access::mapping::Mapping;
 use imago_any_driver::any::AnyDriver;
 use imago_drivers::drivers::{Format, FormatDriverInstance};
 use imago_loaded::loaded::LoadedFile;
-use imago_plan::piece::{Location, Piece, Source};
+use imago_plan::piece::Piece;
+use imago_plan::plan::next_piece;
 use imago_qcow2::laws::image_of_bytes;
 use imago_qcow2::qcow2::Qcow2;
 use imago_storage::error::Error;
@@ -117,16 +119,34 @@ fn chain(alloc: Global, above: &mut Vec<Layer>, lowest: Layer) -> Result<FormatA
     Ok(image)
 }
 
+/// The name that a qcow2 image has for the file below it. It is read of what is in memory, so it is
+/// refused for memory alone: [`Error::Memory`].
+fn name_below(alloc: Global, qcow2: &Qcow2<LoadedFile>) -> Result<Option<Vec<u8>>, Error>
+    ensures name { IfOk result (IsBackingName (loaded_bytes (storage_in qcow2.now))) }
+    ensures memory { IfErr result (λ e. e ≡ Error.Memory) }
+{
+    match qcow2.backing_file(alloc) {
+        Ok(name) => Ok(name),
+        Err(_) => Err(Error::Memory),
+    }
+}
+
 /// What a qcow2 image says of the file below it, if it names one. A name without bytes is none.
+///
+/// [`Error::InvalidData`] is a file below whose format's name passes where header extensions end.
 fn below_qcow2(alloc: Global, qcow2: &Qcow2<LoadedFile>) -> Result<Option<Named>, Error>
-    ensures { let own = loaded_bytes (storage_in qcow2.now) in
+    ensures named { let own = loaded_bytes (storage_in qcow2.now) in
         IfOk result (λ b. (bytes : List ℕ) → HaveSameTables bytes own
         → AreSameBytes bytes own 0 (cluster_length bytes)
         → MatchOption b (HasNoBacking bytes)
         (λ named. HasBacking bytes × (named.name.items ≡ backing_name bytes))) }
+    ensures refused { let own = loaded_bytes (storage_in qcow2.now) in
+        IfErr result (λ e. (bytes : List ℕ) → HaveSameTables bytes own
+        → AreSameBytes bytes own 0 (cluster_length bytes)
+        → (e ≡ Error.Memory) ⊎ HasFaultyFormat bytes e) }
 {
     image_of_bytes(qcow2);
-    let Some(name) = qcow2.backing_file(alloc)? else {
+    let Some(name) = name_below(alloc, qcow2)? else {
         return Ok(None);
     };
     if name.is_empty() {
@@ -138,10 +158,12 @@ fn below_qcow2(alloc: Global, qcow2: &Qcow2<LoadedFile>) -> Result<Option<Named>
 
 /// What a layer says of the file below it, if there is one.
 fn below_of(alloc: Global, layer: &Layer) -> Result<Option<Named>, Error>
-    ensures { IfOk result (λ b. (accepted : Accepted) (f : File)
+    ensures named { IfOk result (λ b. (accepted : Accepted) (f : File)
         → IsLayerOf accepted layer.now f
         → MatchOption b (IsLowest layer.now f.bytes)
         (λ named. GoesDown layer.now f.bytes × (named.name.items ≡ backing_name f.bytes))) }
+    ensures refused { IfErr result (λ e. (accepted : Accepted) (f : File)
+        → IsLayerOf accepted layer.now f → IsCause accepted f e) }
 {
     match layer {
         AnyDriver::Qcow2(qcow2) => below_qcow2(alloc, qcow2),
@@ -153,9 +175,9 @@ fn below_of(alloc: Global, layer: &Layer) -> Result<Option<Named>, Error>
 /// whose first one has that number.
 fn with_extents(image: FormatAccess<Layer>, names: Vec<String>, first: usize) -> State
     requires { first ≤ 200 }
-    ensures agrees { (accepted : Accepted) (files : ℕ → File) (k : ℕ) → AreLayersOf accepted files image
-        → map string_bytes names.items ≡ names_in files image → first ≡ layers_in image
-        → IsStateOf accepted files k result }
+    ensures agrees { (accepted : Accepted) (files : ℕ → File) (k : ℕ)
+        → AreLayersOf accepted files image → map string_bytes names.items ≡ names_in files image
+        → first ≡ layers_in image → IsStateOf accepted files k result }
     ensures behind { IsBehind result }
 {
     if names.is_empty() {
@@ -183,6 +205,9 @@ fn with_layer(
         → AreAbove accepted files above.new.items
         × IsStateOf accepted files (length above.new.items) s) }
     ensures behind { IfOk result IsBehind }
+    ensures refused { let k = length above.old.items in
+        IfErr result (λ e. (accepted : Accepted) (f : File) → IsLayerOf accepted layer f
+        → IsLayerRefusal accepted k f e) }
 {
     let number = above.len();
     if number >= MOST_LAYERS {
@@ -208,6 +233,9 @@ fn with_found(alloc: Global, above: &mut Vec<Layer>, found: Found) -> Result<Sta
         → AreAbove accepted files above.new.items
         × IsStateOf accepted files (length above.new.items) s) }
     ensures state { IfOk result (IsStateWith found) }
+    ensures refused { let k = length above.old.items in
+        IfErr result (λ e. (accepted : Accepted) (f : File) → IsFoundOf accepted f found
+        → IsLayerRefusal accepted k f e) }
 {
     match found {
         Found::Loading(loading) => Ok(State::Loading(loading)),
@@ -246,42 +274,6 @@ pub enum Mapped {
     Compressed(Compressed),
 }
 
-/// What a mapping names, as a piece's source. [`Error::Unsupported`] is the end of the image, and
-/// bytes that a driver makes up.
-fn source_of(mapping: Mapping) -> Result<Source, Error>
-    ensures source { IfOk result (λ s. named_source mapping ≡ Some s) }
-{
-    match mapping {
-        Mapping::Raw {
-            layer,
-            storage,
-            offset,
-            ..
-        } if layer < usize::MAX => Ok(Source::Stored(Location {
-            layer,
-            storage,
-            offset,
-        })),
-        Mapping::Zero { .. } => Ok(Source::Zero),
-        Mapping::Raw { .. } | Mapping::Eof | Mapping::Special { .. } => Err(Error::Unsupported),
-    }
-}
-
-/// The piece that begins at an offset of the disk, of at most that many bytes.
-fn piece_at<D: FormatDriverInstance>(
-    image: &FormatAccess<D>,
-    at: u64,
-    most: u64,
-) -> Result<Piece, Error>
-    requires { 0 < most }
-    ensures piece { IfOk result
-        (λ p. IsPieceAt (target D.view image.now) «at» p × (p.count ≤ most)) }
-{
-    let (mapping, count) = image.get_mapping(at, most)?;
-    let source = source_of(mapping)?;
-    Ok(Piece { at, count, source })
-}
-
 /// Where the bytes of the disk are from an offset on: at most that many, at least one.
 fn mapped_at(image: &FormatAccess<Layer>, at: u64, most: u64) -> Result<Mapped, Error>
     requires { 0 < most }
@@ -291,7 +283,7 @@ fn mapped_at(image: &FormatAccess<Layer>, at: u64, most: u64) -> Result<Mapped, 
         → AreLayersOf accepted files image.now → ShowsMapped files «at» m image.now) }
 {
     pieces_of_files(image);
-    match piece_at(image, at, most) {
+    match next_piece(image, at, most) {
         Ok(piece) => Ok(Mapped::Plain(piece)),
         Err(Error::Unsupported) => match compressed_at(image, at, most) {
             Some(part) => Ok(Mapped::Compressed(part)),
@@ -304,7 +296,7 @@ fn mapped_at(image: &FormatAccess<Layer>, at: u64, most: u64) -> Result<Mapped, 
 impl Session {
     /// Begins with the top file, which has that many bytes. It is opened in that format, or, if
     /// none is said, in the one that its bytes are recognised as. Descriptors may contain what is
-    /// accepted.
+    /// accepted. What it is refused for is told by [`give`](Self::give).
     pub fn new(
         alloc: Global,
         accepted: Accepted,
@@ -314,6 +306,8 @@ impl Session {
         ensures agrees { IfOk result (λ s. (files : ℕ → File) → length (files 0).bytes ≡ count
             → (files 0).format ≡ format → IsOf files s) }
         ensures accepted { IfOk result (λ s. s.accepted ≡ «accepted») }
+        ensures refused { IfErr result (λ e. (f : File) → length f.bytes ≡ count
+            → f.format ≡ format → IsCause accepted f e) }
     {
         let mut above = Vec::new(alloc);
         let found = begin(alloc, accepted, count, format)?;
@@ -350,9 +344,16 @@ impl Session {
     /// that isn't the one asked for. Nothing changed then. Any other refusal is the end of the
     /// opening, unless it is [`Error::Memory`] for the bytes themselves: then nothing changed, and
     /// they are asked for still.
+    ///
+    /// That is one of these. [`Error::InvalidData`] and [`Error::Unsupported`] are what the file
+    /// has for a fault in its format, by its driver: of its header or of its descriptor. With
+    /// [`Error::InvalidData`], an extent may also begin at an offset that doesn't fit 64 bits, or
+    /// the name of the format of the file below pass the first cluster. [`Error::Unsupported`] is
+    /// also the layer behind [`MOST_LAYERS`]. [`Error::Memory`] is no memory.
     pub fn give(&mut self, bytes: &[u8]) -> Result<(), Error>
-        ensures agrees { OnOk result ((files : ℕ → File) → IsAnswer files (wanted self.old) bytes.now
-            → IsOf files self.old → IsOf files self.new) }
+        ensures agrees { OnOk result ((files : ℕ → File)
+            → IsAnswer files (wanted self.old) bytes.now → IsOf files self.old
+            → IsOf files self.new) }
         ensures further { OnOk result (IsBroughtOn self.old.state self.new.state) }
         ensures unasked { AsksNoBytes (wanted self.old)
             → (result ≡ Err Error.Unsupported) × (self.new ≡ self.old) }
@@ -360,6 +361,9 @@ impl Session {
             → (result ≡ Err Error.InvalidData) × (self.new ≡ self.old) }
         ensures refused { AsksCount (wanted self.old) (length bytes.now) → IfErr result
             (λ e. (self.new.state ≡ State.Refused) ⊎ ((e ≡ Error.Memory) × (self.new ≡ self.old))) }
+        ensures cause { IfErr result (λ e. (files : ℕ → File)
+            → IsAnswer files (wanted self.old) bytes.now → IsOf files self.old
+            → IsRefusalOf files self.old e) }
     {
         let Want::Bytes(_, _, count) = self.want() else {
             return Err(Error::Unsupported);
@@ -372,11 +376,15 @@ impl Session {
 
     /// Takes the bytes that are asked for.
     fn take_block(&mut self, bytes: &[u8]) -> Result<(), Error>
-        ensures agrees { OnOk result ((files : ℕ → File) → IsAnswer files (wanted self.old) bytes.now
-            → IsOf files self.old → IsOf files self.new) }
+        ensures agrees { OnOk result ((files : ℕ → File)
+            → IsAnswer files (wanted self.old) bytes.now → IsOf files self.old
+            → IsOf files self.new) }
         ensures further { OnOk result (IsBroughtOn self.old.state self.new.state) }
         ensures refused { IfErr result (λ e. (self.new.state ≡ State.Refused)
             ⊎ ((e ≡ Error.Memory) × (self.new ≡ self.old))) }
+        ensures cause { IfErr result (λ e. (files : ℕ → File)
+            → IsAnswer files (wanted self.old) bytes.now → IsOf files self.old
+            → IsRefusalOf files self.old e) }
     {
         let block = Vec::from_slice(self.alloc, bytes)?;
         let State::Loading(loading) = mem::replace(&mut self.state, State::Refused) else {
@@ -392,15 +400,20 @@ impl Session {
     /// needs neither.
     ///
     /// [`Error::Unsupported`] is where no file is asked for. Nothing changed then. Any other
-    /// refusal is the end of the opening. The file of an extent isn't refused.
+    /// refusal is the end of the opening, and is told by [`give`](Self::give). The file of an extent
+    /// isn't refused.
     pub fn give_file(&mut self, count: u64, format: Option<Format>) -> Result<(), Error>
-        ensures agrees { OnOk result ((files : ℕ → File) → IsFileAnswer files (wanted self.old) count format
-            → IsOf files self.old → IsOf files self.new) }
+        ensures agrees { OnOk result ((files : ℕ → File)
+            → IsFileAnswer files (wanted self.old) count format → IsOf files self.old
+            → IsOf files self.new) }
         ensures unasked { AsksNoFile (wanted self.old)
             → (result ≡ Err Error.Unsupported) × (self.new ≡ self.old) }
         ensures extent { (k : ℕ) → wanted self.old ≡ Want.Extent k → IsOk result }
         ensures refused { (k : ℕ) → wanted self.old ≡ Want.Backing k
             → OnErr result (self.new.state ≡ State.Refused) }
+        ensures cause { IfErr result (λ e. (files : ℕ → File)
+            → IsFileAnswer files (wanted self.old) count format → IsOf files self.old
+            → IsRefusalOf files self.old e) }
     {
         match mem::replace(&mut self.state, State::Refused) {
             State::Below(_) => {

@@ -101,15 +101,16 @@ fn missing_of(file: &LoadedFile, says: L2Table, cluster: u64) -> Option<u64>
     first_missing(file, at, cluster)
 }
 
-/// The first block that isn't in memory of the L2 tables that the L1 table names.
-pub(crate) fn next_missing(file: &LoadedFile, tables: &mut Tables) -> Option<u64>
+/// The first block that isn't in memory of the L2 tables that the L1 table of a file of that length
+/// names.
+pub(crate) fn next_missing(file: &LoadedFile, length: u64, tables: &mut Tables) -> Option<u64>
+    requires { length ≡ file_length file.now }
     ensures missing { IfSome result (IsMissing file.now) }
     ensures known { (bytes : List ℕ) → IsPartOf bytes file.now
         → AreTablesOf bytes file.now tables.old → AreTablesOf bytes file.now tables.new }
     ensures tables { result ≡ None → (bytes : List ℕ) → IsPartOf bytes file.now
         → AreTablesOf bytes file.now tables.old → HaveSameTables bytes (loaded_bytes file.now) }
 {
-    let length = file.length();
     while tables.index < tables.table.count {
         let says = l2_table(&tables.entries, tables.index, tables.table.cluster, length);
         let missing = missing_of(file, says, tables.table.cluster);

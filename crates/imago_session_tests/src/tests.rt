@@ -3,6 +3,7 @@
 
 use imago_access::access::FormatAccess;
 use imago_access::mapping::Mapping;
+use imago_drivers::drivers::Format;
 use imago_inflate::inflate::inflate;
 use imago_plan::piece::{Piece, Source};
 use imago_qcow2::qcow2::Qcow2;
@@ -83,6 +84,45 @@ static DESCRIPTOR: File = File {
             b"RW 1 ZERO\nRW 1 FLAT \"a.img\" 0\nRW 1 FLAT \"b.img\" 1\n\n\n\n\n\n\n\n",
         ),
     ],
+};
+
+/// A qcow2 file of version 4, and one whose clusters have 4 MiB.
+static NEWER: File = File {
+    name: b"",
+    length: 2048,
+    parts: &[(0, b"QFI\xfb\0\0\0\x04")],
+};
+
+static LARGE: File = File {
+    name: b"",
+    length: 2048,
+    parts: &[(0, b"QFI\xfb\0\0\0\x02"), (23, &[22])],
+};
+
+/// A qcow2 file that names one below, the name of whose format passes the first cluster.
+static CUT_OFF: File = File {
+    name: b"",
+    length: 2048,
+    parts: &[
+        (0, b"QFI\xfb\0\0\0\x02"),
+        (15, &[120]),
+        (19, &[4]),
+        (23, &[9]),
+        (72, &[0xe2, 0x79, 0x2a, 0xca, 0, 0, 0, 200]),
+    ],
+};
+
+/// A descriptor with a line that can't be meant, and one whose extent begins at the offset 2^64.
+static UNCLEAR: File = File {
+    name: b"",
+    length: 30,
+    parts: &[(0, b"version=1\nRW x FLAT \"a.img\" 0\n")],
+};
+
+static FAR: File = File {
+    name: b"",
+    length: 46,
+    parts: &[(0, b"version=1\nRW 1 FLAT \"a.img\" 36028797018963968\n")],
 };
 
 static FIRST_EXTENT: File = File {
@@ -300,5 +340,39 @@ fn check_refusals(rt: &impl Abort, alloc: Global) -> Result<(), Error> {
 #[test]
 fn what_is_not_asked_for_is_refused(rt: HostRuntime) -> Result<(), Fail> {
     check_refusals(&rt, rt.alloc())?;
+    Ok(())
+}
+
+/// The block of a file is refused for its fault, and the opening is over.
+fn check_fault(
+    rt: &impl Abort,
+    alloc: Global,
+    file: &File,
+    format: Format,
+    fault: Error,
+) -> Result<(), Error> {
+    let accepted = Accepted {
+        unknown_keys: false,
+        vmfs: false,
+    };
+    let mut session = Session::new(alloc, accepted, file.length as u64, Some(format))?;
+    let block = bytes_of(alloc, file)?;
+    assert_eq!(rt; session.give(&block), Err(fault));
+    assert_eq!(rt; session.want(), Want::Refused);
+    Ok(())
+}
+
+#[test]
+fn faults_are_refused(rt: HostRuntime) -> Result<(), Fail> {
+    for (file, format, fault) in [
+        (&NEWER, Format::Qcow2, Error::Unsupported),
+        (&LARGE, Format::Qcow2, Error::InvalidData),
+        (&CUT_OFF, Format::Qcow2, Error::InvalidData),
+        (&UNCLEAR, Format::Vmdk, Error::InvalidData),
+        (&FAR, Format::Vmdk, Error::InvalidData),
+        (&TOP, Format::Vmdk, Error::InvalidData),
+    ] {
+        check_fault(&rt, rt.alloc(), file, format, fault)?;
+    }
     Ok(())
 }

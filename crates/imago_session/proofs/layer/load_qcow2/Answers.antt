@@ -13,7 +13,31 @@ use Rattle.imago_session.specs.Known.{AreTablesOf, AreKnownOf}
 use Rattle.imago_session.specs.Files.{IsFormatBy}
 use Rattle.imago_session.specs.Steps.{IfReady}
 use Rattle.imago_session.proofs.KnownSteps.{front_of}
+use Rattle.std.proofs.Common.{◌≡◌, ◌∙◌, inl, inr, ⊎_elim, refl, length, arith}
+use Rattle.std.proofs.lemmas.Result.{err_from_is_err_and}
+use Rattle.imago_loaded.proofs.LoadedSteps.{loaded_length}
+use Rattle.imago_session.proofs.RefusalSteps.{qcow2_refused}
 use Rattle.imago_session.proofs.layer.load_qcow2.Goals as goal
+
+pub returns-in_err-number-clause-refused : goal.returns-in_err-number-clause-refused
+returns-in_err-number-clause-refused c =
+    let p = err_from_is_err_and c.from_residual.result c.from_residual.ensures.1 in
+    rw (p.1, p.2) (λ bytes part known. ⊎_elim (λ memory. inl memory) (λ fault. inr (inl (fault bytes part))) c.in_err-number.ensures.refused)
+
+pub returns-in_err-image-clause-refused : goal.returns-in_err-image-clause-refused
+returns-in_err-image-clause-refused c =
+    let p = err_from_is_err_and c.from_residual-in_err-image.result c.from_residual-in_err-image.ensures.1 in
+    let file = c.args.file in
+    let t = c.in-Ready.tables in
+    let ready = subst (λ (s : Step Tables). IfReady (λ (x : Tables). (bytes : List ℕ) → IsPartOf bytes file → AreKnownOf bytes file c.args.known → AreTablesOf bytes file x) s) c.in-Ready.is c.in_ok-number.ensures.ready in
+    let long = loaded_length file in
+    rw (p.1, p.2) (λ bytes part known.
+    let of : AreTablesOf bytes file t = ready bytes part known in
+    let same : HaveSameTables bytes (loaded_bytes file) = c.next_missing.ensures.tables c.in_default.is bytes part of in
+    ⊎_elim
+    (λ memory. inl memory)
+    (λ fault. inr (inl (sym (c.same_tables_stand_alike.ensures.header bytes (loaded_bytes file) same) ∙ fault)))
+    (qcow2_refused (loaded_bytes file) (omega (arith, long, c.length-length.ensures, c.length-length.type_inv)) c.in_err-image.field-0.0 (c.in_err-image.ensures.refused refl)))
 
 pub returns-clause-agrees : goal.returns-clause-agrees
 returns-clause-agrees c = λ f part known says is.

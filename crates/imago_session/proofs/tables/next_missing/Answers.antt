@@ -10,8 +10,8 @@ use Rattle.imago_session.proofs.tables.next_missing.Goals as goal
 pub missing_of-missing-requires-clause-inside : goal.missing_of-missing-requires-clause-inside
 missing_of-missing-requires-clause-inside c = λ at is.
     let cluster = c.loop-tables.tables.table.cluster in
-    subst (λ (n : ℕ). at + cluster ≤ n) c.length-length.ensures
-    (table_inside c.length-length.result cluster (be64 c.deref.result.now (8 * c.loop-tables.tables.index)) at (sym c.l2_table-says.ensures.says ∙ is))
+    subst (λ (n : ℕ). at + cluster ≤ n) c.requires
+    (table_inside c.args.length cluster (be64 c.deref.result.now (8 * c.loop-tables.tables.index)) at (sym c.l2_table-says.ensures.says ∙ is))
 
 pub loop-tables-preserved : goal.loop-tables-preserved
 loop-tables-preserved c = λ bytes part of.
@@ -26,7 +26,7 @@ loop-tables-preserved c = λ bytes part of.
       l2 = tables_more t.entries.items t.table.cluster f.length t.index f f (keeps_refl f) old.l2
           (λ at is. c.missing_of-missing.ensures.there (none_is _ (sym c.is_some.ensures ∙ c.if-is_some.false)) at
           (c.l2_table-says.ensures.says
-          ∙ ap (λ (n : ℕ). table_in_entry n t.table.cluster (be64 c.deref.result.now (8 * t.index))) c.length-length.ensures
+          ∙ ap (λ (n : ℕ). table_in_entry n t.table.cluster (be64 c.deref.result.now (8 * t.index))) c.requires
           ∙ ap (λ (xs : List ℕ). table_in_entry f.length t.table.cluster (be64 xs (8 * t.index))) c.deref.ensures.value
           ∙ is));
     }

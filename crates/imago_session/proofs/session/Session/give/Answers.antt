@@ -1,7 +1,7 @@
 -- SPDX-License-Identifier: MIT
 use Rattle.std.proofs.Common.{◌∙◌, length, sym}
 use Rattle.imago_session.specs.Opening.{wanted}
-use Rattle.imago_session.proofs.AskSteps.{no_other, no_count, some_asked, count_of, other_of}
+use Rattle.imago_session.proofs.AskSteps.{no_other, no_count, some_asked, count_of, other_of, no_answer, answer_count}
 use Rattle.imago_session.proofs.session.Session.give.Goals as goal
 
 pub returns-in_default-clause-miscounted : goal.returns-in_default-clause-miscounted
@@ -25,3 +25,11 @@ returns-clause-unasked c = λ h. let b = c.in-Bytes in
 pub returns-clause-miscounted : goal.returns-clause-miscounted
 returns-clause-miscounted c = λ h. let b = c.in-Bytes in
     absurd (other_of (wanted c.args.self.now) b.field-0 b.field-1 b.count (length c.args.bytes.now) (sym c.want.ensures.wanted ∙ b.is) h c.if-bytes-count.false)
+
+pub returns-in_default-clause-cause : goal.returns-in_default-clause-cause
+returns-in_default-clause-cause c = λ files answer of.
+    absurd (no_answer files (wanted c.args.self.now) c.args.bytes.now (λ k from count is. c.in_default.not-Bytes k from count (c.want.ensures.wanted ∙ is)) answer)
+
+pub returns-then-bytes-count-clause-cause : goal.returns-then-bytes-count-clause-cause
+returns-then-bytes-count-clause-cause c = λ files answer of. let b = c.in-Bytes in
+    absurd (c.if-bytes-count.true (answer_count files (wanted c.args.self.now) b.field-0 b.field-1 b.count c.args.bytes.now (sym c.want.ensures.wanted ∙ b.is) answer))

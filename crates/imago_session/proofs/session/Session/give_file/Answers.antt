@@ -1,7 +1,8 @@
 -- SPDX-License-Identifier: MIT
 use Rattle.std.proofs.Common.{◌∙◌, length, sym, subst}
 use Rattle.imago_session.specs.declared.session.State.{State}
-use Rattle.imago_session.specs.Opening.{IsStateOf}
+use Rattle.std.proofs.lemmas.Result.{err_from_is_err_and}
+use Rattle.imago_session.specs.Opening.{IsStateOf, IsFileAnswer, wanted_in}
 use Rattle.imago_session.proofs.session.Session.give_file.Goals as goal
 
 pub returns-in-Extents-clause-agrees : goal.returns-in-Extents-clause-agrees
@@ -9,3 +10,13 @@ returns-in-Extents-clause-agrees c = λ files answer of.
     let s = c.args.self.now in
     let k = length s.above.items in
     (of.0, c.after_extent.ensures s.accepted files k (subst (λ (x : State). IsStateOf s.accepted files k x) (sym c.replace.ensures.value ∙ c.in-Extents.is) of.1))
+
+pub returns-in_err-self-in-Below-clause-cause : goal.returns-in_err-self-in-Below-clause-cause
+returns-in_err-self-in-Below-clause-cause c =
+    let s = c.args.self.now in
+    let k = length s.above.items in
+    let p = err_from_is_err_and c.from_residual-in_err-self-in-Below.result c.from_residual-in_err-self-in-Below.ensures.1 in
+    let is = sym c.replace.ensures.value ∙ c.in-Below.is in
+    rw (p.1, p.2) (λ files answer of.
+    let given = subst (λ (x : State). IsFileAnswer files (wanted_in k x) c.args.count c.args.format) is answer in
+    c.in_err-self-in-Below.ensures.refused s.accepted (files k) (c.in_ok-found-in-Below.ensures.agrees (files k) given.0 given.1))
