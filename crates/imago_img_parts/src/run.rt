@@ -16,6 +16,7 @@ ghost use Rattle.imago_img_parts.specs.Commands.{outcome_status, outcome_when, r
 ghost use Rattle.imago_img_parts.specs.Commands.{check_status, untold, vet_status};
 ghost use Rattle.imago_img_parts.specs.Vetted.{IsVetted};
 ghost use Rattle.imago_img_parts.specs.Disks.{is_left_out};
+ghost use Rattle.imago_img_parts.specs.NewFiles.{format_by};
 ghost use Rattle.imago_img_parts.specs.Openings.{how_by, image_format};
 ghost use Rattle.imago_img_parts.specs.Reaches.{reach_by};
 
@@ -41,7 +42,7 @@ use imago_words::command::{Check, Command, Compare, Convert, Create, Info, Map, 
 use imago_words::help::{Help, VERSION};
 use imago_words::kind::Kind;
 use imago_words::refusal::Refusal;
-use imago_words::settings::NewFormat;
+use imago_words::settings::{NewFormat, Settings};
 use std::io::{self, BufWriter, Write};
 
 /// The exit status where the format of a file has nothing to check.
@@ -257,12 +258,19 @@ fn convert_newly<H: Host, E: Write>(
     match asked.target_format {
         NewFormat::Raw => convert_image(host, from, to, how, making, show, warnings),
         NewFormat::Qcow2(settings) => {
-            let new = NewQcow2 {
-                format: new_format(settings),
-                all: settings.preallocated || !asked.sparse,
-            };
+            let new = qcow2_of(settings, asked.sparse);
             convert_to_qcow2(host, from, to, how, new, making, show, warnings)
         }
+    }
+}
+
+/// How a qcow2 file is made of an image, where zeroes are left out or are stored too.
+fn qcow2_of(settings: Settings, sparse: bool) -> NewQcow2
+    ensures { result.format ≡ format_by settings }
+{
+    NewQcow2 {
+        format: new_format(settings),
+        all: settings.preallocated || !sparse,
     }
 }
 

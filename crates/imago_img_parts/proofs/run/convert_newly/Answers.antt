@@ -16,4 +16,4 @@ returns-in-Qcow2-clause-converted g c =
     let around = g.H.Host.around in
     converted_qcow2 c.args.how c.args.asked (contents c.args.host.now) (contents c.convert_to_qcow2.new.host)
     (around c.args.host.now) (around c.convert_to_qcow2.new.host) c.convert_to_qcow2.result c.in-Qcow2.settings
-    c.new_format.result c.new_format.ensures c.in-Qcow2.is c.convert_to_qcow2.ensures.converted
+    c.qcow2_of-new.result.format c.qcow2_of-new.ensures c.in-Qcow2.is c.convert_to_qcow2.ensures.converted
