@@ -158,7 +158,7 @@ uint32_t imago_image_want(struct imago_image *image, struct imago_want *want);
  *
  * The bytes that are asked for are refused for a fault that each file has which agrees with what was
  * given of it, as in imago-img:
- *  - The first fault of a qcow2 header: IMAGO_INVALID_DATA is one that can't be meant, and
+ *  - The first fault of a qcow2 header: IMAGO_INVALID_DATA is an invalid number, and
  *    IMAGO_UNSUPPORTED one that needs what isn't offered.
  *  - The first fault of a descriptor, by the same two.
  *  - IMAGO_INVALID_DATA is also an extent that begins in its file at an offset which doesn't fit 64
@@ -254,7 +254,7 @@ bool imago_vmdk_probe(const uint8_t *text, size_t text_length);
 /* Tells the size in bytes of the disk that a descriptor describes. Lines whose key isn't known say
  * nothing where accept_unknown_keys holds, and are IMAGO_INVALID_DATA where not.
  *
- * IMAGO_INVALID_DATA is a text that can't be meant, or one of less than 4 bytes or more than
+ * IMAGO_INVALID_DATA is an invalid text, or one of less than 4 bytes or more than
  * 2097152; IMAGO_UNSUPPORTED a version or an extent that isn't offered, such as a SPARSE or VMFS
  * one, or another kind of VMDK image; IMAGO_MEMORY no memory, which is answered only where the text
  * has no fault. Refused, *size is as it was. */

@@ -6,7 +6,7 @@
 pub enum Format {
     /// A disk that is its storage.
     Raw,
-    /// QEMU's copy-on-write format, which has no driver here.
+    /// QEMU's copy-on-write format, which `imago_qcow2` reads.
     Qcow2,
     /// VMware's virtual disks.
     Vmdk,

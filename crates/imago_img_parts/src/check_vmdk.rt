@@ -27,7 +27,7 @@ const SHOWN: usize = 200;
 /// How many lines of a descriptor aren't accepted.
 #[derive(Clone, Copy)]
 struct LineCounts {
-    /// Those that can't be meant.
+    /// Those that are invalid.
     faults: u64,
     /// Those that aren't supported.
     unsupported: u64,
@@ -89,7 +89,7 @@ fn unchecked(alloc: Global, path: &str, lines: LineCounts, cause: Error) -> Fail
     Failure::of_check(alloc, path, Unchecked::Version)
 }
 
-/// Tells the lines of a descriptor that can't be meant or aren't supported, and how many there are.
+/// Tells the lines of a descriptor that are invalid or not supported, and how many there are.
 fn check_lines<W: Write>(
     path: &str,
     accepted: Accepted,
@@ -127,7 +127,7 @@ impl LineCounts {
     }
 }
 
-/// Tells a line of a descriptor, and why it can't be meant. One that is too long isn't shown.
+/// Tells a line of a descriptor, and why it is invalid. One that is too long isn't shown.
 fn tell_line<W: Write>(
     path: &str,
     number: u64,
@@ -148,7 +148,7 @@ fn tell_line<W: Write>(
 /// What is wrong with a line.
 fn line_fault(cause: Error) -> &'static str {
     match cause {
-        Error::InvalidData => "can't be meant",
+        Error::InvalidData => "is invalid",
         _ => "isn't supported",
     }
 }

@@ -31,11 +31,11 @@ pub enum Kind {
     TooLarge,
     /// Something isn't offered: a version, a feature, a kind of compression or of extent.
     Feature,
-    /// The image is marked as corrupt, or an entry of a table can't be meant.
+    /// The image is marked as corrupt, or an entry of a table is invalid.
     Corrupt,
     /// The image is encrypted.
     Encrypted,
-    /// A number of the header, or a line of the descriptor, can't be meant.
+    /// A number of the header, or a line of the descriptor, is invalid.
     Invalid,
 }
 
@@ -130,7 +130,7 @@ pub enum Fault {
 /// What is wrong with a line.
 fn line_fault(cause: error::Error) -> &'static str {
     match cause {
-        error::Error::InvalidData => "can't be meant",
+        error::Error::InvalidData => "is invalid",
         _ => "isn't supported",
     }
 }

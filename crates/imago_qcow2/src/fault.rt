@@ -25,20 +25,20 @@ pub enum HeaderFault {
     #[error("the header says {feature}, which isn't supported", feature = lowest(*.0))]
     Features(u64),
     /// A cluster of less than 512 bytes or more than 2 MiB, by the base 2 logarithm.
-    #[error("the header says clusters of 2^{0} bytes, which can't be meant")]
+    #[error("the header says clusters of 2^{0} bytes, which is out of range")]
     ClusterBits(u32),
     /// Its own length.
-    #[error("the header's own length can't be meant")]
+    #[error("the header's own length is invalid")]
     OwnLength,
     /// How many bits a reference count has.
-    #[error("the header's width of reference counts can't be meant")]
+    #[error("the header's width of reference counts is invalid")]
     RefcountWidth,
     /// Clusters that are compressed by neither deflate nor Zstandard, by the number that says how.
     #[error("the header says compression type {0}, which isn't supported")]
     CompressionType(u8),
     /// How clusters are compressed: the number for it doesn't fit the feature that says whether it
     /// is 0.
-    #[error("the header's kind of compression can't be meant")]
+    #[error("the header's compression type contradicts its features")]
     Compression,
     /// A name that is too long, or behind the first cluster.
     #[error("the header's name of a backing file passes its room")]

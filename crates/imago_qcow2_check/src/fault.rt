@@ -220,22 +220,22 @@ pub enum CheckError {
     #[error("the header says an L1 table of more than 32 MiB")]
     LongTable,
     /// The table of blocks of reference counts isn't at a cluster's start, or has more than 8 MiB.
-    #[error("the header says a table of reference counts that can't be meant")]
+    #[error("the header describes an invalid table of reference counts")]
     CountTable,
     /// The table of snapshots passes the file's end, has more than 65536 entries, or isn't at a
     /// cluster's start.
-    #[error("the header says a table of snapshots that can't be meant")]
+    #[error("the header describes an invalid snapshot table")]
     SnapshotTable,
     /// A cluster is used more than 2^32 - 2 times.
     #[error("a cluster is used too often to count")]
     TooManyUses,
     /// The directory of bitmaps isn't at a cluster's start, has no entry, more than 65535 of them or
     /// more bytes than these may have, or its entries end before it or behind it.
-    #[error("the header says a directory of bitmaps that can't be meant")]
+    #[error("the header describes an invalid bitmap directory")]
     BitmapDirectory,
     /// The entry of the directory of bitmaps at that offset, in bytes, says a bitmap that can't be
     /// meant, or has flags or extra data that aren't known.
-    #[error("the entry of the bitmap directory at {0} can't be meant")]
+    #[error("the entry of the bitmap directory at {0} is invalid")]
     InvalidBitmap(u64),
     /// The tables of all bitmaps have more than 64 MiB.
     #[error("the tables of the bitmaps have more than 64 MiB")]

@@ -112,7 +112,7 @@ static CUT_OFF: File = File {
     ],
 };
 
-/// A descriptor with a line that can't be meant, and one whose extent begins at the offset 2^64.
+/// A descriptor with an invalid line, and one whose extent begins at the offset 2^64.
 static UNCLEAR: File = File {
     name: b"",
     length: 30,

@@ -215,7 +215,7 @@ fn disk_size(version: u32, size: Option<u64>) -> Result<u64, Error>
 /// accepted anyway.
 ///
 /// [`Error::InvalidData`] is a length under 4 bytes or over 2 MiB. Then [`Error::Unsupported`] is
-/// another kind of VMDK file, then the first line that can't be meant or isn't offered is answered,
+/// another kind of VMDK file, then the first line that is invalid or isn't offered is answered,
 /// then as unsupported a version that isn't known, and then as invalid a disk whose size in bytes
 /// doesn't fit. [`Error::Memory`] is answered only where none of these is.
 #[tactic(auto, unfolding(crate::specs::Reading::reading_of))]

@@ -118,7 +118,7 @@ pub fn extent_lines()
         ≡ Ok (Line.Extent (Extent.Zero 3)) }
 {}
 
-/// Extents that can't be meant, or whose type isn't offered: the first field that fails decides.
+/// Extents that are invalid, or whose type isn't offered: the first field that fails decides.
 pub fn faulty_extent_lines()
     ensures no_quotes { verdict_of nothing_accepted (codes "RW 1 FLAT a.img 0") ≡ Err InvalidData }
     ensures open_quotes { verdict_of nothing_accepted (codes "RW 1 FLAT \"a.img")
@@ -152,7 +152,7 @@ pub fn other_lines()
         ≡ Ok Line.Nothing }
 {}
 
-/// Settings, and those that can't be meant or aren't offered.
+/// Settings, and those that are invalid or aren't offered.
 pub fn setting_lines()
     ensures geometry { verdict_of nothing_accepted (codes "ddb.geometry.heads = \"16\"")
         ≡ Ok Line.Setting }

@@ -316,7 +316,7 @@ pub(crate) fn utf8(bytes: &[u8]) -> Option<&str>
 /// What a line of a descriptor says, by itself. `accepted` allows more lines than those that are
 /// accepted anyway.
 ///
-/// [`Error::InvalidData`] is a line that can't be meant, and [`Error::Unsupported`] an extent of
+/// [`Error::InvalidData`] is an invalid line, and [`Error::Unsupported`] an extent of
 /// another type, or an image that stands over another one.
 #[tactic(auto, unfolding(crate::specs::Line::verdict_of))]
 pub fn verdict(accepted: Accepted, line: &[u8]) -> Result<Line<&str>, Error>

@@ -178,7 +178,7 @@ static ROWS: [Row; 10] = [
         1,
         "",
         "imago-img: \"bitmaps.qcow2\" can't be checked: the entry of the bitmap directory at 512 \
-        can't be meant\n",
+        is invalid\n",
     ),
     (
         "check --json extended.qcow2",

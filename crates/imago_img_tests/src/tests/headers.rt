@@ -60,27 +60,27 @@ static ROWS: [Row; 12] = [
         &[(7, b"\x04")],
         "the header says version 4, which isn't supported",
     ),
-    // What can't be meant.
+    // Invalid numbers.
     (
         &[(3, b"X")],
         "it isn't a qcow2 image, or ends within its header",
     ),
     (
         &[(23, b"\x08")],
-        "the header says clusters of 2^8 bytes, which can't be meant",
+        "the header says clusters of 2^8 bytes, which is out of range",
     ),
     (
         &[(23, b"\x16")],
-        "the header says clusters of 2^22 bytes, which can't be meant",
+        "the header says clusters of 2^22 bytes, which is out of range",
     ),
-    (&[(103, b"\x60")], "the header's own length can't be meant"),
+    (&[(103, b"\x60")], "the header's own length is invalid"),
     (
         &[(99, b"\x07")],
-        "the header's width of reference counts can't be meant",
+        "the header's width of reference counts is invalid",
     ),
     (
         &[(103, b"\x70\x01")],
-        "the header's kind of compression can't be meant",
+        "the header's compression type contradicts its features",
     ),
     (
         &[(79, b"\x08"), (103, b"\x70\x02")],

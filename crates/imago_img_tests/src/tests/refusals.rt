@@ -170,7 +170,7 @@ static ROWS: [Row; 28] = [
     (
         "check --strict disk.vmdk",
         2,
-        "\"disk.vmdk\", line 3: \"encoding=\\\"UTF-8\\\"\" can't be meant\n\n\
+        "\"disk.vmdk\", line 3: \"encoding=\\\"UTF-8\\\"\" is invalid\n\n\
          1 errors were found on the image.\n\
          Data may be corrupted, or further writes to the image may corrupt it.\n",
         "",
@@ -178,7 +178,7 @@ static ROWS: [Row; 28] = [
     (
         "check faulty.vmdk",
         2,
-        "\"faulty.vmdk\", line 3: \"RW x FLAT \\\"a.bin\\\" 0\" can't be meant\n\
+        "\"faulty.vmdk\", line 3: \"RW x FLAT \\\"a.bin\\\" 0\" is invalid\n\
          \"faulty.vmdk\", line 4: \"RW 1 SPARSE \\\"a.bin\\\"\" isn't supported\n\
          \"faulty.vmdk\", line 5: isn't UTF-8\n\n\
          2 errors were found on the image.\n\

@@ -140,7 +140,7 @@ static CASES: [Case; 18] = [
         2,
         "\"extents.vmdk\" is refused:\n\
          extent at 32: its extent is \"a\\\\b.bin\"\n\
-         invalid at 54: a line of its descriptor can't be meant\n\
+         invalid at 54: a line of its descriptor is invalid\n\
          feature at 64: an extent may not be read\n\
          feature at 80: a line of its descriptor isn't supported\n"
     ),
@@ -195,7 +195,7 @@ static CASES: [Case; 18] = [
         2,
         "\"iso.qcow2\" is refused:\n\
          two-formats at 32769: it is a qcow2 image, and also an ISO 9660 image\n\
-         invalid at 20: the header says clusters of 2^0 bytes, which can't be meant\n"
+         invalid at 20: the header says clusters of 2^0 bytes, which is out of range\n"
     ),
     // Limits.
     told!(
