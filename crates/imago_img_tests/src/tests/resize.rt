@@ -98,7 +98,7 @@ static ROWS: [Row; 15] = [
     (
         "resize -fvmdk disk.img 2k",
         1,
-        "imago-img: \"disk.img\": a qcow2 image, not a vmdk one; say -f qcow2\n",
+        "imago-img: \"disk.img\": said to be vmdk, but it is a qcow2 image; say -f qcow2\n",
         "disk.img",
         1000,
     ),
