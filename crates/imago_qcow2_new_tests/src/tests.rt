@@ -162,7 +162,7 @@ fn word_at(row: &Row, at: usize) -> u64 {
 fn are_first(row: &Row, bytes: &[u8]) -> bool {
     let mut at: usize = 0;
     for part in bytes.chunks(8) {
-        if part != &word_at(row, at).to_be_bytes()[..part.len()] {
+        if !word_at(row, at).to_be_bytes().starts_with(part) {
             return false;
         }
         at = at.saturating_add(8);
