@@ -6,6 +6,7 @@ use Rattle.imago_words.specs.declared.command.Command.{Command}
 use Rattle.imago_words.specs.declared.command.Command.TheVariants as Asked
 use Rattle.imago_words.specs.declared.command.Convert.{Convert}
 use Rattle.imago_words.specs.declared.command.Create.{Create}
+use Rattle.imago_words.specs.declared.command.Resize.{Resize}
 use Rattle.imago_words.specs.declared.settings.NewFormat.{NewFormat}
 use Rattle.imago_words.specs.declared.settings.NewFormat.TheVariants as New
 use Rattle.imago_words.specs.Line.{Asks, kind_typed, line_is_meant, status_for}
@@ -23,6 +24,7 @@ use Rattle.imago_img_parts.specs.Disks.{AreAlike, AreUnlike}
 use Rattle.imago_img_parts.specs.NewFiles.{IsNewImage, IsNewlyMade, IsQcow2Copy, format_by}
 use Rattle.imago_img_parts.specs.Checked.{IsChecked}
 use Rattle.imago_img_parts.specs.Openings.{how_by, image_format}
+use Rattle.imago_img_parts.specs.Resized.{IsImageResized}
 use Rattle.imago_img_parts.specs.Vetted.{IsVetted}
 
 -- fine or not
@@ -161,6 +163,15 @@ IsConvertedBy how c old new before after status =
     (c.existing ≡ false → IsNewlyConverted how c old new before after status)
     × (c.existing ≡ true → (after ≡ before) × IsConvertedInto how c old new status)
 
+-- With status 0 a raw image got another size; else the status is 1, and the files are as they were.
+-- No file was made.
+abbrev pub IsResizedOrNot :
+    Resize → Option (List ℕ → List ℕ) → Option (List ℕ → List ℕ)
+    → Option Around → Option Around → ℕ → Type 0
+IsResizedOrNot r old new before after status =
+    (after ≡ before) × (((status ≡ 0) × IsImageResized r old new)
+    ⊎ ((status ≡ 1) × (new ≡ old)))
+
 -- What a command did to the files of a host, and what its status says of them, where that is told.
 -- The first number is the status of a refused line.
 abbrev pub IsPerformed :
@@ -172,6 +183,8 @@ IsPerformed refused (Asked.Create c) old new before after status =
     IsCreated c old new before after status
 IsPerformed refused (Asked.Measure c) old new before after status =
     IsAsked refused (Q.Measure c) old new before after status
+IsPerformed refused (Asked.Resize c) old new before after status =
+    IsResizedOrNot c old new before after status
 IsPerformed refused (Asked.Help kind) old new before after status =
     IsAsked refused (Q.Help kind) old new before after status
 IsPerformed refused Asked.Version old new before after status =

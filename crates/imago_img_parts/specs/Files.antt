@@ -1,7 +1,7 @@
 -- The files of a host: what is told of them, and what making one does to them.
 -- SPDX-License-Identifier: MIT
 use Rattle.std.specs.Prelude.{◌≡◌, ◌≢◌, ◌⊎◌, ℕ, ◌+◌, ◌-◌, Bool, true, false, ◌||◌}
-use Rattle.std.specs.Prelude.{List, [], ◌++◌, Option, Some, None, drop, length}
+use Rattle.std.specs.Prelude.{List, [], ◌++◌, Option, Some, None, drop, length, replicate, take}
 use Rattle.std.specs.Str.{bytes_eq}
 
 -- What is told of files beside their bytes: which paths lead to something, how many files are
@@ -84,4 +84,18 @@ IsOverwritten (Some old) new path None = Unit {0}
 IsOverwritten (Some old) new path (Some bytes) =
     (files : List ℕ → List ℕ) × (new ≡ Some files)
     × (files path ≡ bytes ++ drop (length bytes) (old path))
+    × ((other : List ℕ) → other ≢ path → files other ≡ old other)
+
+-- bytes, cut at a length or with zeroes behind them up to it
+abbrev pub with_length : ℕ → List ℕ → List ℕ
+with_length size bytes = take size bytes ++ replicate (size - length bytes) 0
+
+-- The file of a path was cut at a length, or has zeroes behind its bytes up to it; all other files
+-- have what they had, where that is told.
+abbrev pub IsResized :
+    Option (List ℕ → List ℕ) → Option (List ℕ → List ℕ) → List ℕ → ℕ → Type 0
+IsResized None new path size = Unit {0}
+IsResized (Some old) new path size =
+    (files : List ℕ → List ℕ) × (new ≡ Some files)
+    × (files path ≡ with_length size (old path))
     × ((other : List ℕ) → other ≢ path → files other ≡ old other)

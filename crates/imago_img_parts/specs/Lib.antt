@@ -6,6 +6,7 @@ pub mod Lines
 pub mod Checked
 pub mod Extents
 pub mod Openings
+pub mod Resized
 pub mod Reaches
 pub mod Vetted
 pub mod VettedParts

@@ -29,7 +29,8 @@ abbrev reach_to : Bool → Measured → Reach
 reach_to alone (M.File file) = reach_when alone (R.File file)
 reach_to alone (M.Size size) = R.Nothing
 
--- what a command asks for: help and the version for none, and `vet` for its file alone
+-- what a command asks for: help and the version for none, and `vet` and `resize` for their file
+-- alone
 abbrev pub reach_by : Command → Reach
 reach_by (Asked.Help kind) = R.Nothing
 reach_by Asked.Version = R.Nothing
@@ -41,3 +42,4 @@ reach_by (Asked.Compare c) = reach_when c.opening.alone (R.Files c.first c.secon
 reach_by (Asked.Convert c) = reach_when c.opening.alone (R.Copy c.source c.target)
 reach_by (Asked.Create c) = reach_when c.opening.alone (R.Copy (below_of c) c.target)
 reach_by (Asked.Measure c) = reach_to c.opening.alone c.disk
+reach_by (Asked.Resize c) = R.Copy c.file c.file

@@ -3,6 +3,7 @@
 ghost use Rattle.std.specs.Prelude.{◌≡◌, MatchResult, IsErr};
 
 pub use imago_images::failure::{OpenError, Reason};
+use imago_images::format::ImageFormat;
 use imago_images::signature::Signature;
 use imago_inflate::fault::InflateError;
 use imago_qcow2_check::fault::{CheckError, Fault};
@@ -27,7 +28,8 @@ pub enum Failure {
         /// Which file, and why.
         cause: OpenError,
     },
-    /// A file isn't begun, or written over, because of what has its path, or hasn't.
+    /// A file isn't begun, written over, or given another size, because of what has its path, or
+    /// hasn't.
     #[error("{path:?}: {refusal}")]
     NotMade {
         /// The file, as the program was given it.
@@ -124,7 +126,7 @@ impl<T: Drop> From<AllocFailed<T>> for SnapshotFault {
     }
 }
 
-/// Why a file isn't made, or written over.
+/// Why a file isn't made, written over, or given another size.
 #[derive(Debug, Drop, Error)]
 pub enum Refusal {
     /// What is to be made is there already.
@@ -162,6 +164,26 @@ pub enum Refusal {
     /// There can be no such qcow2 file.
     #[error("{0}")]
     NoSuchFile(FormatError),
+    /// What is to get another size isn't a regular file.
+    #[error("only a regular file can be resized")]
+    NotRegular,
+    /// What is to get another size has that format.
+    #[error("a {name} image, and only raw ones are resized", name = name_of(*.0))]
+    NotRaw(ImageFormat),
+    /// The size that is asked for is 0, or less.
+    #[error("the new size has to be greater than 0")]
+    NoBytes,
+    /// No file has as many bytes as are asked for.
+    #[error("no file is that long")]
+    TooLong,
+    /// The disk would become smaller. Both sizes are in bytes.
+    #[error("--shrink cuts it from {now} to {size} bytes, and the rest is lost")]
+    Shrinks {
+        /// The one that it has.
+        now: u64,
+        /// The one that is asked for.
+        size: u64,
+    },
 }
 
 /// Why a compressed cluster can't be read, and what can be done about it.
@@ -173,6 +195,11 @@ pub enum ClusterFault {
     /// Its stream has that fault.
     #[error("can't be decoded: {0}; use an intact copy of the file")]
     Stream(InflateError),
+}
+
+/// The name of a format.
+fn name_of(format: ImageFormat) -> &'static str {
+    format.name()
 }
 
 /// What to do about a file that can't be used, as the end of its line.

@@ -5,7 +5,7 @@ ghost use Rattle.std.specs.Prelude.{OnOk, OnErr, IfOk, IfSome, length, option_ma
 ghost use Rattle.std.specs.Prelude.{string_bytes};
 ghost use Rattle.imago_plan.specs.PieceBytes.{bytes_at};
 ghost use Rattle.imago_img_parts.specs.Files.{Around, begun, ended, with_file, IsMade, IsWhole};
-ghost use Rattle.imago_img_parts.specs.Files.{IsOverwritten, IsWithoutLeftOver};
+ghost use Rattle.imago_img_parts.specs.Files.{IsOverwritten, IsResized, IsWithoutLeftOver};
 
 use crate::host::{Host, LeftOver, Making};
 use imago_copy::target::Target;
@@ -109,6 +109,14 @@ pub trait GuardedHost: GuardedFiles {
             (λ m. IsOverwritten (Self.contents self.old) (Self.contents self.new) m.0
             (Self.Existing.contents target)) }
         ensures around { around self.new ≡ around self.old };
+
+    /// As [`Host::set_length`], of a path for which a file may be made.
+    fn set_length(&mut self, path: &str, length: u64) -> io::Result<()>
+        requires asked { Self.may_make path.now ≡ true }
+        ensures resized { OnOk result (IsResized (Self.contents self.old)
+            (Self.contents self.new) path.now «length») }
+        ensures same { OnErr result (Self.contents self.new ≡ Self.contents self.old) }
+        ensures around { around self.new ≡ around self.old };
 }
 
 /// Each path may be asked for.
@@ -161,6 +169,10 @@ impl<H: Host> GuardedHost for H {
 
     fn close_existing(&mut self, target: Self::Existing) {
         Host::close_existing(self, target)
+    }
+
+    fn set_length(&mut self, path: &str, length: u64) -> io::Result<()> {
+        Host::set_length(self, path, length)
     }
 }
 
@@ -232,5 +244,12 @@ impl<'a, G: GuardedHost> Host for Confined<'a, G> {
 
     fn close_existing(&mut self, target: Self::Existing) {
         self.host.close_existing(target)
+    }
+
+    fn set_length(&mut self, path: &str, length: u64) -> io::Result<()> {
+        if !self.reach.makes(path) {
+            return Err(out_of_reach());
+        }
+        self.host.set_length(path, length)
     }
 }

@@ -5,7 +5,7 @@ ghost use Rattle.std.specs.Prelude.{OnOk, OnErr, IfOk, IfSome, length, option_ma
 ghost use Rattle.std.specs.Prelude.{string_bytes};
 ghost use Rattle.imago_plan.specs.PieceBytes.{bytes_at};
 ghost use Rattle.imago_img_parts.specs.Files.{Around, begun, ended, with_file, IsMade, IsWhole};
-ghost use Rattle.imago_img_parts.specs.Files.{IsOverwritten, IsWithoutLeftOver};
+ghost use Rattle.imago_img_parts.specs.Files.{IsOverwritten, IsResized, IsWithoutLeftOver};
 
 use imago_copy::target::Target;
 pub use imago_images::files::{FileKind, FileStatus, Files};
@@ -133,5 +133,13 @@ pub trait Host: Files {
         ensures written { IfSome (Self.Existing.made_for target)
             (λ m. IsOverwritten (Self.contents self.old) (Self.contents self.new) m.0
             (Self.Existing.contents target)) }
+        ensures around { around self.new ≡ around self.old };
+
+    /// Gives the regular file of a path that length in bytes: it is cut there, or zeroes are put
+    /// behind its bytes. Refused, it is as it was.
+    fn set_length(&mut self, path: &str, length: u64) -> io::Result<()>
+        ensures resized { OnOk result (IsResized (Self.contents self.old)
+            (Self.contents self.new) path.now «length») }
+        ensures same { OnErr result (Self.contents self.new ≡ Self.contents self.old) }
         ensures around { around self.new ≡ around self.old };
 }

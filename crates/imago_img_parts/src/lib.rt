@@ -35,6 +35,7 @@ mod progress;
 mod qcow2_info;
 mod question;
 mod reach;
+mod resize;
 pub mod run;
 mod short;
 mod sizes;

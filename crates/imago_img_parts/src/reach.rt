@@ -33,6 +33,7 @@ pub fn reach_of<'a>(command: &Command<'a>) -> Reach<'a>
             Measured::File(file) => reach_when(asked.opening.alone, Reach::File(file)),
             Measured::Size(_) => Reach::Nothing,
         },
+        Command::Resize(asked) => Reach::Copy(asked.file, asked.file),
     }
 }
 

@@ -11,7 +11,7 @@ ghost use Rattle.imago_qcow2_check.specs.declared.fault.Verdict.{Verdict};
 ghost use Rattle.imago_img_parts.specs.Checked.{IsChecked};
 ghost use Rattle.imago_img_parts.specs.Commands.{AreToldApart, IsAnswered, IsConcluded};
 ghost use Rattle.imago_img_parts.specs.Commands.{IsConvertedBy, IsPerformed, IsRun, IsStatus};
-ghost use Rattle.imago_img_parts.specs.Commands.{IsCreated, IsNewlyConverted};
+ghost use Rattle.imago_img_parts.specs.Commands.{IsCreated, IsNewlyConverted, IsResizedOrNot};
 ghost use Rattle.imago_img_parts.specs.Commands.{outcome_status, outcome_when, refused_status};
 ghost use Rattle.imago_img_parts.specs.Commands.{check_status, untold, vet_status};
 ghost use Rattle.imago_img_parts.specs.Vetted.{IsVetted};
@@ -34,11 +34,14 @@ use crate::new_qcow2::{NewQcow2, convert_to_qcow2};
 use crate::opening::{how_to_open, new_format, said_format};
 use crate::question::Question;
 use crate::reach::reach_of;
+use crate::resize::resize_image;
 use crate::vet::vet;
 use imago_images::confined::Confined;
 use imago_images::opening::Opening;
 use imago_qcow2_check::fault::Verdict;
-use imago_words::command::{Check, Command, Compare, Convert, Create, Info, Map, Output, Vet};
+use imago_words::command::{
+    Check, Command, Compare, Convert, Create, Info, Map, Output, Resize, Vet,
+};
 use imago_words::help::{Help, VERSION};
 use imago_words::kind::Kind;
 use imago_words::refusal::Refusal;
@@ -149,8 +152,8 @@ fn refuse<E: Write>(refusal: Refusal<'_>, errors: &mut E) -> u8
     refusal.status()
 }
 
-/// Does a command, and gives the exit status. Only a command that makes a file has the host to
-/// change. That status is the one of a refused command line.
+/// Does a command, and gives the exit status. Only a command that makes or changes a file has the
+/// host to change. That status is the one of a refused command line.
 pub fn perform<H: Host, W: Write, E: Write>(
     host: &mut H,
     command: Command<'_>,
@@ -165,6 +168,7 @@ pub fn perform<H: Host, W: Write, E: Write>(
     match command {
         Command::Convert(asked) => convert(host, asked, errors),
         Command::Create(asked) => create(host, asked, errors),
+        Command::Resize(asked) => resize(host, asked, output, errors),
         Command::Measure(asked) => ask(&*host, Question::Measure(asked), refused, output, errors),
         Command::Help(kind) => ask(&*host, Question::Help(kind), refused, output, errors),
         Command::Version => ask(&*host, Question::Version, refused, output, errors),
@@ -294,6 +298,33 @@ fn create_as_asked<H: Host>(host: &mut H, asked: Create<'_>) -> Result<(), Failu
         (H.contents host.new) (H.around host.old) (H.around host.new) 1) }
 {
     create_image(host, asked)
+}
+
+/// Gives a raw image another size, and gives the status. That it can't be told is no failure.
+fn resize<H: Host, W: Write, E: Write>(
+    host: &mut H,
+    asked: Resize<'_>,
+    output: &mut W,
+    errors: &mut E,
+) -> u8
+    ensures most { result ≤ 1 }
+    ensures resized { IsResizedOrNot asked.entry (H.contents host.old) (H.contents host.new)
+        (H.around host.old) (H.around host.new) result }
+{
+    match resize_image(host, asked) {
+        Ok(()) => {
+            tell_resized(asked.quiet, output);
+            0
+        }
+        Err(refused) => tell(refused, errors, 1),
+    }
+}
+
+/// Tells that an image got another size, unless nothing but errors is to be told.
+fn tell_resized<W: Write>(quiet: bool, output: &mut W) {
+    if !quiet {
+        let _ = writeln!(output, "Image resized.");
+    }
 }
 
 /// Answers a question, and gives the status.

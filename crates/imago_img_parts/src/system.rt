@@ -428,6 +428,11 @@ impl<'a> Host for System<'a> {
     fn close_existing(&mut self, target: ExistingFile) {
         let _ = target;
     }
+
+    fn set_length(&mut self, path: &str, length: u64) -> io::Result<()> {
+        let file = OpenOptions::new().write(true).open(self.runtime, path)?;
+        file.set_len(length)
+    }
 }
 
 impl<'a> System<'a> {

@@ -422,6 +422,10 @@ impl Host for MemoryHost {
     fn close_existing(&mut self, target: MemoryExisting) {
         let _ = target;
     }
+
+    fn set_length(&mut self, _path: &str, _length: u64) -> io::Result<()> {
+        Err(io::Error::from(ErrorKind::Unsupported))
+    }
 }
 
 /// Counts an append, and refuses one too many, as a full device does.

@@ -1,8 +1,9 @@
 // SPDX-License-Identifier: MIT
 //! A host with two files in memory: an image, and a file that it is written into.
 ghost use Rattle.std.specs.Prelude.{◌≡◌, ◌≤◌, ◌++◌, [], Some, true, false, drop, length};
-ghost use Rattle.std.specs.Prelude.{MatchOption, ℕ, List};
+ghost use Rattle.std.specs.Prelude.{MatchOption, OnErr, OnOk, ℕ, List};
 ghost use Rattle.std.specs.String.{string_bytes};
+ghost use Rattle.imago_img_parts.specs.Files.{with_length};
 ghost use Rattle.imago_img_tests.specs.Pairs.{pair_bytes, has_path};
 
 use crate::memory_host::{read_padded, take_append};
@@ -43,6 +44,18 @@ fn put_first(file: &mut [u8], bytes: &[u8])
     ensures { file.new ≡ bytes.now ++ drop (length bytes.now) file.old }
 {
     file[..bytes.len()].copy_from_slice(bytes);
+}
+
+/// Cuts a file at a length, or puts zeroes behind its bytes up to it.
+fn set_length(file: &mut Vec<u8>, length: u64) -> io::Result<()>
+    ensures resized { OnOk result (file.new.items ≡ with_length «length» file.old.items) }
+    ensures refused { OnErr result (file.new.items ≡ file.old.items) }
+{
+    let Ok(length) = usize::try_from(length) else {
+        return Err(io::Error::from(ErrorKind::FileTooLarge));
+    };
+    file.resize(length, 0)?;
+    Ok(())
 }
 
 /// Puts bytes over the first ones of a file, which has those alone if it is shorter.
@@ -202,6 +215,16 @@ impl Host for PairHost {
         } else {
             put_over(&mut self.image, target.bytes);
         }
+    }
+
+    fn set_length(&mut self, path: &str, length: u64) -> io::Result<()> {
+        if self.out_path.as_str() == path {
+            return set_length(&mut self.out, length);
+        }
+        if self.image_path.as_str() == path {
+            return set_length(&mut self.image, length);
+        }
+        Err(io::Error::from(ErrorKind::NotFound))
     }
 }
 

@@ -17,6 +17,7 @@ mod one_format;
 mod opener;
 mod qcow2;
 mod refusals;
+mod resize;
 mod set_up;
 mod unfinished;
 mod vet;

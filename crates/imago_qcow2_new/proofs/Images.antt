@@ -1,15 +1,22 @@
 -- A new file, from what was put in.
 -- SPDX-License-Identifier: MIT
-use Rattle.std.proofs.Common.{◌≡◌, ℕ, ◌+◌, ◌-◌, ◌*◌, ◌<◌, ◌≤◌, ⊎_elim, Bool, true, false, List, [], ◌++◌, length, get_or, replicate, Option, Some, None, IfSome, refl, sym, ap, ◌∙◌, arith}
+use Rattle.std.proofs.Common.{◌≡◌, ℕ, ◌+◌, ◌-◌, ◌*◌, ◌<◌, ◌≤◌, ⊎_elim, Bool, true, false, List, [], ◌++◌, length, get_or, replicate, Option, Some, None, IfSome, refl, sym, ap, subst, ◌∙◌, arith}
 use Rattle.std.specs.Prelude.{if◌then◌else◌, slice_index}
 use Rattle.std.proofs.lemmas.Bool.{cases_lt}
+use Rattle.std.proofs.lemmas.List.FromFn.{length-map-range_with_len}
 use Rattle.std.proofs.lemmas.List.{get_or_append_left, get_or-append_right, get_or_past, get_or-replicate, length-append, length-replicate}
 use Rattle.imago_drivers.specs.Place.{Value, Byte}
+use Rattle.imago_drivers.specs.View.{View}
+use Rattle.imago_access.specs.declared.access.FormatAccess.{FormatAccess}
+use Rattle.imago_access.specs.Chain.{disk_value, driver}
+use Rattle.imago_access.specs.Disk.{disk, value_at}
 use Rattle.imago_copy.specs.Appended.{IsAppended}
+use Rattle.imago_qcow2_new.specs.declared.format.Format.{Format}
 use Rattle.imago_qcow2_new.specs.declared.layout.Layout.{Layout}
 use Rattle.imago_qcow2_new.specs.Space.{Fills}
-use Rattle.imago_qcow2_new.specs.Layout.{entry_value, heads}
-use Rattle.imago_qcow2_new.specs.Image.{IsWritten, IsNewFile, IsNewFileIn}
+use Rattle.imago_qcow2_new.specs.Layout.{IsLayoutOf, entry_value, heads}
+use Rattle.imago_qcow2_new.specs.Names.{HasNoNames}
+use Rattle.imago_qcow2_new.specs.Image.{IsWritten, IsNewFile, IsNewFileIn, IsQcow2In}
 use Rattle.imago_qcow2_new.specs.Extents.{Spot, spot}
 use Rattle.imago_qcow2_new.proofs.ExtentSteps.{at_end}
 use Rattle.imago_qcow2_new.proofs.FileSteps.{file_in}
@@ -79,3 +86,12 @@ zeroes_fill l (Some had) new put = λ long.
         len = length-append had (replicate e.stored 0) ∙ (let r : length (replicate {A = ℕ} e.stored 0) ≡ e.stored = length-replicate e.stored 0 in omega (arith, long, r, all));
       },
     )
+
+-- a file by a layout of an image is one of the image's disk
+pub whole_in : {D St : Type 0} (view : D → View St) (x : FormatAccess D) (format : Format) (l : Layout)
+    (old new : Option (List ℕ)) → IsLayoutOf format (view (driver x)).size l → HasNoNames l
+    → IsNewFileIn l (value_at (disk view x)) old new → IsQcow2In format (disk view x) old new
+whole_in view x format l None new planned none made = tt
+whole_in view x format l (Some old) new planned none (file, is, made) =
+    let long : (view (driver x)).size ≡ length (disk view x) = sym (length-map-range_with_len (disk_value view x) 0 (view (driver x)).size) in
+    (file, is, (l, subst (λ (n : ℕ). IsLayoutOf format n l) long planned, none, made))

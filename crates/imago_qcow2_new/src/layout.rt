@@ -61,7 +61,7 @@ pub struct Layout {
     ghost length_whole: { length % cluster ≡ 0 },
     ghost length_near: { length < header.size + cluster },
     ghost size_inside: { header.size ≤ length },
-    ghost size_small: { header.size ≤ 4611686018427388416 },
+    ghost size_small: { header.size ≤ 2 ^ 62 },
     ghost name_short: { header.names.count ≤ 1023 },
     ghost counts_at: { header.counts_start ≡ cluster },
     ghost counts_few: { header.counts_clusters < 2 ^ 32 },
@@ -88,7 +88,7 @@ const MOST_TABLES: u64 = 4194304;
 
 /// The size of a disk that has so many bytes at least: in whole sectors of 512 bytes.
 pub fn rounded_size(size: u64) -> Result<u64, FormatError>
-    ensures most { IfOk result (λ n. n ≤ 4611686018427388416) }
+    ensures most { IfOk result (λ n. n ≤ 2 ^ 62) }
     ensures value { IfOk result (λ n. n ≡ next_multiple_of size 512) }
 {
     if size > LARGEST_DISK {

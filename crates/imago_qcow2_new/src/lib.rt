@@ -1,13 +1,15 @@
 // SPDX-License-Identifier: MIT
 //! New qcow2 files, written from their first byte to their last one.
 //!
-//! [`scan`] finds which clusters of a disk have to be stored, [`layout`] decides where everything
-//! stands in the file, and [`write`](mod@write) puts it into a target.
+//! [`file`](mod@file) makes one of an image in one call. [`scan`] finds which clusters of a disk have
+//! to be stored, [`layout`] decides where everything stands in the file, and [`write`](mod@write) puts
+//! it into a target.
 #![tactic(auto)]
 
 mod entries;
 pub mod extent;
 pub mod extents;
+pub mod file;
 pub mod format;
 mod header;
 pub mod laws;

@@ -11,7 +11,7 @@ use Rattle.imago_words.specs.declared.command.Command.TheVariants as Asked
 use Rattle.imago_words.specs.declared.kind.Kind.{Kind}
 use Rattle.imago_words.specs.declared.kind.Kind.TheVariants.{Info, Map, Check, Vet}
 use Rattle.imago_words.specs.declared.kind.Kind.TheVariants.{Compare, Convert}
-use Rattle.imago_words.specs.declared.kind.Kind.TheVariants.{Create, Measure}
+use Rattle.imago_words.specs.declared.kind.Kind.TheVariants.{Create, Measure, Resize}
 use Rattle.imago_words.specs.declared.settings.NewFormat.TheVariants.{Raw}
 use Rattle.imago_words.specs.Laws.{IsWorked, options_differ, refused_line, worked_line}
 use Rattle.imago_words.specs.Commands.{format_named}
@@ -52,6 +52,7 @@ worked_asks (Asked.Vet _) a = a
 worked_asks (Asked.Compare _) a = a
 worked_asks (Asked.Create _) a = a
 worked_asks (Asked.Measure _) a = a
+worked_asks (Asked.Resize _) a = a
 
 -- the same of words that are that line
 pub asks_of : (words : List Text) → words ≡ worked_line → (c : Command) → Asks words c → IsWorked c
@@ -87,3 +88,4 @@ differ Compare = refl
 differ Convert = refl
 differ Create = refl
 differ Measure = refl
+differ Resize = refl

@@ -14,8 +14,10 @@ use Rattle.imago_words.specs.declared.command.Map.{Map}
 use Rattle.imago_words.specs.declared.command.Measure.{Measure}
 use Rattle.imago_words.specs.declared.command.Measured.{Measured}
 use Rattle.imago_words.specs.declared.command.Measured.TheVariants as M
+use Rattle.imago_words.specs.declared.command.NewSize.{NewSize}
 use Rattle.imago_words.specs.declared.command.Opening.{Opening}
 use Rattle.imago_words.specs.declared.command.Output.{Output}
+use Rattle.imago_words.specs.declared.command.Resize.{Resize}
 use Rattle.imago_words.specs.declared.command.Vet.{Vet}
 use Rattle.imago_words.specs.declared.command.Output.TheVariants.{Human, Json}
 use Rattle.imago_words.specs.declared.format.Format.{Format}
@@ -24,7 +26,7 @@ use Rattle.imago_words.specs.declared.settings.NewFormat.{NewFormat}
 use Rattle.imago_words.specs.declared.settings.NewFormat.TheVariants as New
 use Rattle.imago_words.specs.Reading.{State, Text, value_given, was_given}
 use Rattle.imago_words.specs.Settings.{new_format}
-use Rattle.imago_words.specs.Sizes.{size_of}
+use Rattle.imago_words.specs.Sizes.{new_size_of, size_of}
 
 -- an option's value passes a test, if the option was given
 abbrev passes : (Text → Bool) → Option Text → Bool
@@ -226,6 +228,21 @@ pub record IsMeasure (s : State) (m : Measure) : Type 0 where
   pub output : m.output ≡ output_given s
   pub opening : IsOpening s m.opening
 
+-- the size that the second word asks for
+abbrev new_size_said : Option Text → Option NewSize
+new_size_said word = option_and_then new_size_of word
+
+abbrev word_is_new_size : Option Text → Bool
+word_is_new_size None = false
+word_is_new_size (Some word) = is_some (new_size_of word)
+
+pub record IsResize (s : State) (r : Resize) : Type 0 where
+  pub file : first_word s.files ≡ Some r.file.now
+  pub format : r.format ≡ format_given (codes "format") s
+  pub size : new_size_said (second_word s.files) ≡ Some r.size
+  pub shrink : r.shrink ≡ was_given (codes "shrink") s
+  pub quiet : r.quiet ≡ was_given (codes "quiet") s
+
 -- The words are meant: there are as many files as the command takes, and each value is one that its
 -- option takes.
 abbrev are_files : ℕ → State → Bool
@@ -260,3 +277,7 @@ create_is_meant s = takes_word s && (is_some (new_format s) && (backing_is_meant
 abbrev pub measure_is_meant : State → Bool
 measure_is_meant s = measured_is_meant s && (format_is_meant (codes "format") s
     && (is_some (new_format s) && (output_is_meant s && opening_is_meant s)))
+
+abbrev pub resize_is_meant : State → Bool
+resize_is_meant s = are_files 2 s && (word_is_new_size (second_word s.files)
+    && format_is_meant (codes "format") s)

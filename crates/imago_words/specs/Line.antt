@@ -8,12 +8,12 @@ use Rattle.imago_words.specs.declared.command.Command.TheVariants as Asked
 use Rattle.imago_words.specs.declared.kind.Kind.{Kind}
 use Rattle.imago_words.specs.declared.kind.Kind.TheVariants.{Info, Map, Check, Vet}
 use Rattle.imago_words.specs.declared.kind.Kind.TheVariants.{Compare, Convert}
-use Rattle.imago_words.specs.declared.kind.Kind.TheVariants.{Create, Measure}
+use Rattle.imago_words.specs.declared.kind.Kind.TheVariants.{Create, Measure, Resize}
 use Rattle.imago_words.specs.declared.refusal.Refusal.{Refusal}
 use Rattle.imago_words.specs.Commands.{IsCheck, IsCompare, IsConvert, IsInfo, IsMap, IsVet}
-use Rattle.imago_words.specs.Commands.{IsCreate, IsMeasure}
+use Rattle.imago_words.specs.Commands.{IsCreate, IsMeasure, IsResize}
 use Rattle.imago_words.specs.Commands.{info_is_meant, compare_is_meant, convert_is_meant}
-use Rattle.imago_words.specs.Commands.{create_is_meant, measure_is_meant}
+use Rattle.imago_words.specs.Commands.{create_is_meant, measure_is_meant, resize_is_meant}
 use Rattle.imago_words.specs.Options.{options_of}
 use Rattle.imago_words.specs.Reading.{State, Text, read_of, was_given}
 
@@ -25,7 +25,8 @@ kind_named name = if bytes_eq name (codes "info") then Some Info else
     if bytes_eq name (codes "compare") then Some Compare else
     if bytes_eq name (codes "convert") then Some Convert else
     if bytes_eq name (codes "create") then Some Create else
-    if bytes_eq name (codes "measure") then Some Measure else None
+    if bytes_eq name (codes "measure") then Some Measure else
+    if bytes_eq name (codes "resize") then Some Resize else None
 
 -- what a first word asks for that is no command's name
 unfoldable pub answer_of : Text → Option Command
@@ -49,6 +50,7 @@ IsOf Compare s (Asked.Compare c) = IsCompare s c
 IsOf Convert s (Asked.Convert c) = IsConvert s c
 IsOf Create s (Asked.Create c) = IsCreate s c
 IsOf Measure s (Asked.Measure c) = IsMeasure s c
+IsOf Resize s (Asked.Resize c) = IsResize s c
 IsOf _ s _ = ⊥
 
 abbrev pub IsBehind : Kind → State → Command → Type 0
@@ -64,6 +66,7 @@ of_is_meant Compare s = compare_is_meant s
 of_is_meant Convert s = convert_is_meant s
 of_is_meant Create s = create_is_meant s
 of_is_meant Measure s = measure_is_meant s
+of_is_meant Resize s = resize_is_meant s
 
 abbrev pub behind_is_meant : Kind → State → Bool
 behind_is_meant kind s = is_some (answer_given kind s) || of_is_meant kind s

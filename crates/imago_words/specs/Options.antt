@@ -5,7 +5,7 @@ use Rattle.std.specs.Prelude.{◌∷◌, true, false, List, [], codes}
 use Rattle.imago_words.specs.declared.kind.Kind.{Kind}
 use Rattle.imago_words.specs.declared.kind.Kind.TheVariants.{Info, Map, Check, Vet}
 use Rattle.imago_words.specs.declared.kind.Kind.TheVariants.{Compare, Convert}
-use Rattle.imago_words.specs.declared.kind.Kind.TheVariants.{Create, Measure}
+use Rattle.imago_words.specs.declared.kind.Kind.TheVariants.{Create, Measure, Resize}
 use Rattle.imago_words.specs.Reading.{Known, Text}
 
 -- an option by its key, letter and name, which takes no value
@@ -156,6 +156,15 @@ measure_options =
     ∷ flag (codes "version") (codes "V") (codes "version")
     ∷ []
 
+abbrev pub resize_options : List Known
+resize_options =
+    valued (codes "format") (codes "f") (codes "format")
+    ∷ flag (codes "shrink") [] (codes "shrink")
+    ∷ flag (codes "quiet") (codes "q") (codes "quiet")
+    ∷ flag (codes "help") (codes "h") (codes "help")
+    ∷ flag (codes "version") (codes "V") (codes "version")
+    ∷ []
+
 abbrev pub options_of : Kind → List Known
 options_of Info = info_options
 options_of Map = map_options
@@ -165,3 +174,4 @@ options_of Compare = compare_options
 options_of Convert = convert_options
 options_of Create = create_options
 options_of Measure = measure_options
+options_of Resize = resize_options

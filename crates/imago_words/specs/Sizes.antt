@@ -1,8 +1,12 @@
--- What texts of sizes are.
+-- What texts of sizes are, and of changes of a size.
 -- SPDX-License-Identifier: MIT
 use Rattle.std.specs.Prelude.{◌∷◌, ◌+◌, ◌-◌, ◌*◌, ◌^◌, ◌==◌, ◌||◌, ℕ, []}
 use Rattle.std.specs.Prelude.{Option, Some, None, if◌then◌else◌, nat_lt, option_and_then}
-use Rattle.imago_words.specs.Reading.{Text, begins_number}
+use Rattle.std.specs.Prelude.{codes, option_map}
+use Rattle.std.specs.Str.{bytes_eq}
+use Rattle.imago_words.specs.declared.command.NewSize.{NewSize}
+use Rattle.imago_words.specs.declared.command.NewSize.TheVariants.{Said, More, Fewer}
+use Rattle.imago_words.specs.Reading.{Text, begins_number, first_letter}
 
 -- the number, if it is below 2 ^ 63
 abbrev pub bounded : ℕ → Option ℕ
@@ -37,3 +41,14 @@ size_from n (b ∷ rest) = if begins_number (b ∷ rest)
 -- the size that a text is: it begins with a digit
 abbrev pub size_of : Text → Option ℕ
 size_of text = if begins_number text then size_from 0 text else None
+
+-- a size, or behind a sign by how much it changes
+unfoldable pub new_size_by : Text → Option (Text × Text) → Option NewSize
+new_size_by text None = option_map Said (size_of text)
+new_size_by text (Some parts) =
+    if bytes_eq parts.0 (codes "+") then option_map More (size_of parts.1) else
+    if bytes_eq parts.0 (codes "-") then option_map Fewer (size_of parts.1) else
+    option_map Said (size_of text)
+
+abbrev pub new_size_of : Text → Option NewSize
+new_size_of text = new_size_by text (first_letter text)

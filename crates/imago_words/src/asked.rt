@@ -1,28 +1,30 @@
 // SPDX-License-Identifier: MIT
 //! What the words behind a command's name ask of it: a function for each command.
-ghost use Rattle.std.specs.Prelude.{◌≡◌, ◌||◌, IfOk, codes, is_ok, not, option_map};
+ghost use Rattle.std.specs.Prelude.{◌≡◌, ◌||◌, IfOk, Some, codes, is_ok, is_some, not, option_map};
 ghost use Rattle.imago_words.specs.Reading.{state_of};
 ghost use Rattle.imago_words.specs.Commands.{IsCheck, IsCompare, IsConvert, IsInfo, IsMap, IsVet};
-ghost use Rattle.imago_words.specs.Commands.{IsCreate, IsMeasure};
+ghost use Rattle.imago_words.specs.Commands.{IsCreate, IsMeasure, IsResize};
 ghost use Rattle.imago_words.specs.Commands.{IsBacking, IsMeasured, IsOpening, IsOpeningAlone};
 ghost use Rattle.imago_words.specs.Commands.{format_given, output_given, size_given};
 ghost use Rattle.imago_words.specs.Commands.{format_is_meant, size_is_meant, opening_is_meant};
 ghost use Rattle.imago_words.specs.Commands.{output_is_meant};
 ghost use Rattle.imago_words.specs.Commands.{info_is_meant, compare_is_meant, convert_is_meant};
-ghost use Rattle.imago_words.specs.Commands.{create_is_meant, measure_is_meant};
+ghost use Rattle.imago_words.specs.Commands.{create_is_meant, measure_is_meant, resize_is_meant};
 ghost use Rattle.imago_words.specs.Commands.{leaves_holes, sparse_is_meant};
 ghost use Rattle.imago_words.specs.Commands.{backing_is_meant, measured_is_meant};
 ghost use Rattle.imago_words.specs.Commands.{goes_below, is_raw, size_said};
 ghost use Rattle.imago_words.specs.Commands.{word_is_size};
 ghost use Rattle.imago_words.specs.Reading.{was_given};
+ghost use Rattle.imago_words.specs.Sizes.{new_size_of};
 
 use crate::command::{
-    Backing, Check, Compare, Convert, Create, Info, Map, Measure, Measured, Opening, Output, Vet,
+    Backing, Check, Compare, Convert, Create, Info, Map, Measure, Measured, NewSize, Opening,
+    Output, Resize, Vet,
 };
 use crate::fault::Fault;
 use crate::format::Format;
 use crate::settings::{NewFormat, new_format};
-use crate::size::size_named;
+use crate::size::{new_size_named, size_named};
 use crate::words::Words;
 
 /// What words ask of `info`.
@@ -218,6 +220,32 @@ fn measured<'a>(words: &Words<'a>) -> Result<Measured<'a>, Fault<'a>>
     };
     words.no_file()?;
     Ok(Measured::Size(size))
+}
+
+/// What words ask of `resize`.
+pub fn resize_of<'a>(words: &Words<'a>) -> Result<Resize<'a>, Fault<'a>>
+    ensures ok { IfOk result (λ resize. IsResize (state_of words.now) resize) }
+    ensures exact { is_ok result ≡ resize_is_meant (state_of words.now) }
+{
+    let (file, word) = words.two_files()?;
+    Ok(Resize {
+        file,
+        size: new_size(word)?,
+        format: format(words, "format")?,
+        shrink: words.has("shrink"),
+        quiet: words.has("quiet"),
+    })
+}
+
+/// The size that a word asks for.
+fn new_size<'a>(word: &'a str) -> Result<NewSize, Fault<'a>>
+    ensures ok { IfOk result (λ size. new_size_of word.entry.now ≡ Some size) }
+    ensures exact { is_ok result ≡ is_some (new_size_of word.entry.now) }
+{
+    match new_size_named(word) {
+        Some(size) => Ok(size),
+        None => Err(Fault::NoSize(word)),
+    }
 }
 
 /// What is said of each image.

@@ -27,6 +27,8 @@ pub enum Command<'a> {
     Create(Create<'a>),
     /// To tell how long the file of a new image would be.
     Measure(Measure<'a>),
+    /// To give a raw image another size.
+    Resize(Resize<'a>),
 }
 
 /// What is said of each image that a command opens.
@@ -223,4 +225,30 @@ pub struct Measure<'a> {
     pub output: Output,
     /// What holds of each image.
     pub opening: Opening,
+}
+
+/// The size that a disk is to have.
+#[derive(Clone, Copy, Debug, PartialEq, Eq)]
+pub enum NewSize {
+    /// That many bytes.
+    Said(u64),
+    /// So many bytes more than it has.
+    More(u64),
+    /// So many bytes fewer than it has.
+    Fewer(u64),
+}
+
+/// What `resize` is asked.
+#[derive(Clone, Copy)]
+pub struct Resize<'a> {
+    /// The path of the image.
+    pub file: &'a str,
+    /// The format of the image, if it was said.
+    pub format: Option<Format>,
+    /// The size that its disk is to have.
+    pub size: NewSize,
+    /// Whether the disk may become smaller. What it has behind its new end is lost then.
+    pub shrink: bool,
+    /// Whether only errors are printed.
+    pub quiet: bool,
 }

@@ -6,7 +6,7 @@ ghost use Rattle.imago_words.specs.Options.{options_of};
 ghost use Rattle.imago_words.specs.Reading.{known};
 
 use crate::page::Page;
-use crate::table::{CHECK, COMPARE, CONVERT, CREATE, INFO, MAP, MEASURE, VET};
+use crate::table::{CHECK, COMPARE, CONVERT, CREATE, INFO, MAP, MEASURE, RESIZE, VET};
 
 /// Which command it is.
 #[derive(Clone, Copy, PartialEq, Eq)]
@@ -27,10 +27,12 @@ pub enum Kind {
     Create,
     /// `measure`, which tells how long the file of a new image would be.
     Measure,
+    /// `resize`, which gives a raw image another size.
+    Resize,
 }
 
 /// The commands in the order in which help lists them.
-pub(crate) static KINDS: [Kind; 8] = [
+pub(crate) static KINDS: [Kind; 9] = [
     Kind::Info,
     Kind::Map,
     Kind::Check,
@@ -39,6 +41,7 @@ pub(crate) static KINDS: [Kind; 8] = [
     Kind::Convert,
     Kind::Create,
     Kind::Measure,
+    Kind::Resize,
 ];
 
 impl Kind {
@@ -56,6 +59,7 @@ impl Kind {
             "convert" => Some(Kind::Convert),
             "create" => Some(Kind::Create),
             "measure" => Some(Kind::Measure),
+            "resize" => Some(Kind::Resize),
             _ => None,
         }
     }
@@ -73,6 +77,7 @@ impl Kind {
             Kind::Convert => CONVERT,
             Kind::Create => CREATE,
             Kind::Measure => MEASURE,
+            Kind::Resize => RESIZE,
         }
     }
 }

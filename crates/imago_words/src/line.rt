@@ -10,7 +10,7 @@ ghost use Rattle.imago_words.specs.Line.{kind_typed, status_for, status_of};
 ghost use Rattle.imago_words.specs.Reading.{state_of};
 
 use crate::asked::{
-    check_of, compare_of, convert_of, create_of, info_of, map_of, measure_of, vet_of,
+    check_of, compare_of, convert_of, create_of, info_of, map_of, measure_of, resize_of, vet_of,
 };
 use crate::command::Command;
 use crate::fault::Fault;
@@ -106,5 +106,6 @@ fn asked_of<'a>(kind: Kind, words: &Words<'a>) -> Result<Command<'a>, Fault<'a>>
         Kind::Convert => convert_of(words).map(Command::Convert),
         Kind::Create => create_of(words).map(Command::Create),
         Kind::Measure => measure_of(words).map(Command::Measure),
+        Kind::Resize => resize_of(words).map(Command::Resize),
     }
 }

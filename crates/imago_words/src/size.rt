@@ -1,9 +1,11 @@
 // SPDX-License-Identifier: MIT
-//! Sizes.
+//! Sizes, and changes of a size.
 ghost use Rattle.std.specs.Prelude.{◌≡◌, ◌<◌, ◌≤◌, ◌^◌};
 ghost use Rattle.imago_words.specs.Sizes.{bounded, size_of, unit_of, with_digit, with_unit};
+ghost use Rattle.imago_words.specs.Sizes.{new_size_of};
 
-use crate::cut::begins_number;
+use crate::command::NewSize;
+use crate::cut::{begins_number, cut_letter};
 
 /// The size that a text names: a decimal number of bytes, which may have a unit behind it. The
 /// units are `k`, `M`, `G`, `T`, `P` and `E`, which are powers of 1024, and `B`, in upper or lower
@@ -25,6 +27,18 @@ pub fn size_named(text: &str) -> Option<u64>
         rest = behind;
     }
     Some(number)
+}
+
+/// The size that a text asks for: a size, or `+` or `-` and by how much another one changes.
+#[tactic(auto, unfolding(crate::specs::Sizes::new_size_by))]
+pub fn new_size_named(text: &str) -> Option<NewSize>
+    ensures { result ≡ new_size_of text.now }
+{
+    match cut_letter(text) {
+        Some(("+", more)) => size_named(more).map(NewSize::More),
+        Some(("-", fewer)) => size_named(fewer).map(NewSize::Fewer),
+        _ => size_named(text).map(NewSize::Said),
+    }
 }
 
 /// The number with one more digit behind it.

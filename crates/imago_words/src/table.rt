@@ -448,6 +448,33 @@ pub static MEASURE: Page = Page {
     ],
 };
 
+/// The page of `resize`.
+pub static RESIZE: Page = Page {
+    name: "resize",
+    about: "Give a raw image another size",
+    files: "FILE [+|-]SIZE",
+    rows: &[
+        FORMAT,
+        flag!(
+            "shrink",
+            "",
+            "shrink",
+            "Permit a smaller size: the rest is lost"
+        ),
+        QUIET,
+        HELP,
+        VERSION,
+    ],
+    absent: &[
+        absent!(
+            "--preallocation",
+            "what is added is a hole, which reads as zeroes"
+        ),
+        OBJECT,
+        IMAGE_OPTS,
+    ],
+};
+
 /// The settings that only qemu-img has.
 pub(crate) static ABSENT_SETTINGS: [Absent; 11] = [
     absent!(
@@ -476,8 +503,7 @@ pub(crate) static ABSENT_SETTINGS: [Absent; 11] = [
 ];
 
 /// The commands that only qemu-img has.
-pub(crate) static ABSENT: [Absent; 8] = [
-    absent!("resize", "truncate -s SIZE FILE resizes a raw image"),
+pub(crate) static ABSENT: [Absent; 7] = [
     absent!(
         "snapshot",
         "snapshots aren't read; each disk is read as it is now"

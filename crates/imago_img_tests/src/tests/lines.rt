@@ -49,6 +49,7 @@ Commands:
   convert  Write an image's disk to another image
   create   Make a new image
   measure  Tell how long the file of a new image would be
+  resize   Give a raw image another size
 
 imago-img COMMAND --help prints the options of a command.
 ";

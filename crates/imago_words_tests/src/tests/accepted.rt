@@ -3,7 +3,7 @@
 
 use super::set_up::{Case, check_cases};
 
-static CASES: [Case; 33] = [
+static CASES: [Case; 36] = [
     Case {
         words: &["info", "disk.vmdk"],
         status: 0,
@@ -182,6 +182,21 @@ static CASES: [Case; 33] = [
         words: &["measure", "--size", "5M", "-fraw"],
         status: 0,
         text: "measure 5242880 raw raw human",
+    },
+    Case {
+        words: &["resize", "-fraw", "x", "+1G"],
+        status: 0,
+        text: "resize \"x\" raw More(1073741824)",
+    },
+    Case {
+        words: &["resize", "x", "-1k", "-q", "--shrink"],
+        status: 0,
+        text: "resize \"x\" any Fewer(1024) shrink quiet",
+    },
+    Case {
+        words: &["resize", "--format=qcow2", "x", "513"],
+        status: 0,
+        text: "resize \"x\" qcow2 Said(513)",
     },
     // A negative number is a file's name, since no option is a digit.
     Case {

@@ -3,7 +3,7 @@
 
 use super::set_up::{Case, check_cases};
 
-static CASES: [Case; 10] = [
+static CASES: [Case; 11] = [
     Case {
         words: &["--help"],
         status: 0,
@@ -54,6 +54,11 @@ static CASES: [Case; 10] = [
         status: 0,
         text: MEASURE,
     },
+    Case {
+        words: &["resize", "-h"],
+        status: 0,
+        text: RESIZE,
+    },
 ];
 
 const GENERAL: &str = "Describe, list, check, compare, convert and make disk images
@@ -69,6 +74,7 @@ Commands:
   convert  Write an image's disk to another image
   create   Make a new image
   measure  Tell how long the file of a new image would be
+  resize   Give a raw image another size
 
 imago-img COMMAND --help prints the options of a command.
 ";
@@ -250,6 +256,18 @@ Options:
       --strict          Refuse unknown keys of VMDK descriptors
       --allow-outside   Permit files outside the image's folder
       --alone           Open no other file, whatever an image names
+  -h, --help            Print this help
+  -V, --version         Print the version
+";
+
+const RESIZE: &str = "Give a raw image another size
+
+usage: imago-img resize [-f FMT] [--shrink] [-q] [-h] [-V] FILE [+|-]SIZE
+
+Options:
+  -f, --format FMT      The image's format: raw, vmdk or qcow2
+      --shrink          Permit a smaller size: the rest is lost
+  -q, --quiet           Print nothing but errors
   -h, --help            Print this help
   -V, --version         Print the version
 ";

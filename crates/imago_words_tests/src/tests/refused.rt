@@ -3,7 +3,7 @@
 
 use super::set_up::{Case, check_cases};
 
-static CASES: [Case; 49] = [
+static CASES: [Case; 51] = [
     Case {
         words: &[],
         status: 1,
@@ -36,10 +36,20 @@ static CASES: [Case; 49] = [
             read as it is now; see imago-img --help",
     },
     Case {
-        words: &["resize", "x", "+1G"],
+        words: &["resize", "x"],
         status: 1,
-        text: "\"resize\" isn't a command of imago-img: truncate -s SIZE FILE resizes a raw \
-            image; see imago-img --help",
+        text: "resize takes FILE [+|-]SIZE; one of them is missing; see imago-img resize --help",
+    },
+    Case {
+        words: &["resize", "x", "+-1G"],
+        status: 1,
+        text: "\"+-1G\" isn't a size such as 64M; see imago-img resize --help",
+    },
+    Case {
+        words: &["resize", "--preallocation", "full", "x", "1G"],
+        status: 1,
+        text: "resize has no --preallocation: what is added is a hole, which reads as zeroes; \
+            see imago-img resize --help",
     },
     Case {
         words: &["dd", "if=x", "of=y"],

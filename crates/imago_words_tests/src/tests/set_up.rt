@@ -131,6 +131,12 @@ fn shown(alloc: Global, command: Command<'_>) -> Result<String, AllocError> {
                 }
             }
         }
+        Command::Resize(resize) => {
+            let told = told(false, resize.quiet);
+            let shrink = if resize.shrink { " shrink" } else { "" };
+            let (format, size) = (format(resize.format), resize.size);
+            format!(in alloc; "resize {:?} {format} {size:?}{shrink}{told}", resize.file)
+        }
     }
 }
 

@@ -26,3 +26,6 @@ returns-in-Create c = search rules
 
 pub returns-in-Measure : goal.returns-in-Measure
 returns-in-Measure c = search rules
+
+pub returns-in-Resize : goal.returns-in-Resize
+returns-in-Resize c = search rules
