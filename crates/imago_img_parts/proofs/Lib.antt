@@ -2,6 +2,7 @@
 mod Disks
 mod NewFiles
 mod Overwritten
+mod Resizes
 mod Told
 mod Printed
 mod Decimals

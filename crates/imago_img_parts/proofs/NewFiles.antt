@@ -21,6 +21,7 @@ use Rattle.imago_qcow2_new.specs.declared.format.Format.{Format}
 use Rattle.imago_qcow2_new.specs.declared.layout.Layout.{Layout}
 use Rattle.imago_qcow2_new.specs.Layout.{IsLayoutOf, StoresNothing, file_length, size_of}
 use Rattle.imago_qcow2_new.specs.Image.{IsNewFile, IsNewFileIn}
+use Rattle.imago_qcow2_new.specs.Names.{HasNoNames}
 use Rattle.imago_images.specs.declared.format.ImageFormat.{ImageFormat}
 use Rattle.imago_images.specs.declared.opening.OtherFiles.{OtherFiles}
 use Rattle.imago_images.specs.Formats.{IsFormatBy}
@@ -129,12 +130,12 @@ each_of (Some files) P f = f files
 
 module _ (accepted : Accepted) (others : OtherFiles) (said : Option ImageFormat) (from : List ℕ) where
   -- a copy by a layout is one in the layout's format
-  pub copy_in : (format : Format) (l : Layout) (planned : (size : ℕ) × IsLayoutOf format size l)
+  pub copy_in : (format : Format) (l : Layout) (planned : (size : ℕ) × IsLayoutOf format size l × HasNoNames l)
       (known : Option (List ℕ → List ℕ))
       → IfSome known (λ files. (file : List ℕ) → IsCopyBy accepted others said from l files file
       → IsQcow2Copy accepted others said from format files file)
-  copy_in format l (size, is) known = each_of known _ (λ files file (d, shows, rounded, new).
-      (d, shows, (l, record { disk = rounded; version = is.version; bits = is.bits; gaps = is.gaps }, new)))
+  copy_in format l (size, is, none) known = each_of known _ (λ files file (d, shows, rounded, new).
+      (d, shows, (l, record { disk = rounded; version = is.version; bits = is.bits; gaps = is.gaps }, none, new)))
 
   module _ {D St : Type 0} (view : D → View St) where
     -- what was put into a target is a copy

@@ -1,6 +1,6 @@
 -- What the files have that commands make.
 -- SPDX-License-Identifier: MIT
-use Rattle.std.specs.Prelude.{◌≡◌, ℕ, Bool, true, false, List, [], Option, Some, None}
+use Rattle.std.specs.Prelude.{◌≡◌, ℕ, Bool, false, List, Option, Some, None}
 use Rattle.std.specs.Prelude.{IfSome, codes, length, option_map, replicate}
 use Rattle.std.specs.Int.{next_multiple_of}
 use Rattle.imago_drivers.specs.Place.{Value, Byte}
@@ -22,7 +22,7 @@ use Rattle.imago_qcow2_new.specs.declared.format.Version.TheVariants as V
 use Rattle.imago_qcow2_new.specs.declared.layout.Layout.{Layout}
 use Rattle.imago_qcow2_new.specs.Layout.{IsLayoutOf, StoresNothing, size_of}
 use Rattle.imago_qcow2_new.specs.Names.{HasNames, HasNoNames}
-use Rattle.imago_qcow2_new.specs.Image.{IsNewFile}
+use Rattle.imago_qcow2_new.specs.Image.{IsNewFile, IsQcow2Of}
 use Rattle.imago_images.specs.declared.format.ImageFormat.{ImageFormat}
 use Rattle.imago_images.specs.declared.opening.OtherFiles.{OtherFiles}
 use Rattle.imago_file.specs.Names.{path_beside}
@@ -42,14 +42,7 @@ format_by s = record {
   gaps = G.Absent;
 }
 
--- A new qcow2 file of that format for a disk. By the definitions of its reader and of its check
--- its header has no fault; its disk is that one, with zeroes up to the next whole sector; each of
--- its clusters is used once, and has the reference count 1; and no entry of a table has a fault.
-abbrev pub IsQcow2Of : Format → List Value → List ℕ → Type 0
-IsQcow2Of format disk file =
-    (l : Layout) × IsLayoutOf format (length disk) l × IsNewFile l (value_at disk) file
-
--- such a file of the disk that the image of a path has
+-- a new qcow2 file of the disk that the image of a path has, with no layer below
 abbrev pub IsQcow2Copy :
     Accepted → OtherFiles → Option ImageFormat → List ℕ → Format → (List ℕ → List ℕ) → List ℕ
     → Type 0

@@ -2,6 +2,7 @@
 //! An image's disk, written to a new qcow2 file.
 ghost use Rattle.std.specs.Prelude.{◌≡◌, ℕ, [], OnOk, OnErr, IfOk, IfSome};
 ghost use Rattle.imago_qcow2_new.specs.Layout.{IsLayoutOf, file_length};
+ghost use Rattle.imago_qcow2_new.specs.Names.{HasNoNames};
 ghost use Rattle.imago_img_parts.specs.Files.{IsSoOnceCleared};
 ghost use Rattle.imago_img_parts.specs.NewFiles.{IsCopyBy, IsFilledWith, IsNewlyMade, IsQcow2Copy};
 
@@ -101,7 +102,8 @@ fn planned<H: Host, E: Write>(
     replace: bool,
     warnings: &mut E,
 ) -> Result<Layout, Failure>
-    ensures { IfOk result (λ l. (size : ℕ) × IsLayoutOf new.format size l) }
+    ensures { IfOk result (λ l. (size : ℕ) × IsLayoutOf new.format size l
+        × HasNoNames l) }
 {
     let (_, image) = opened(host, from, how)?;
     let (_, short) = readable_size(host.alloc(), from, &image)?;
@@ -119,7 +121,8 @@ pub(crate) fn layout_for<H: Host>(
     to: &str,
     new: NewQcow2,
 ) -> Result<Layout, Failure>
-    ensures { IfOk result (λ l. (size : ℕ) × IsLayoutOf new.format size l) }
+    ensures { IfOk result (λ l. (size : ℕ) × IsLayoutOf new.format size l
+        × HasNoNames l) }
 {
     if new.all {
         return match layout_of_size(alloc, new.format, image.size(), true, None) {

@@ -14,7 +14,7 @@ use crate::host::{FileKind, Host};
 use crate::opening::said_format;
 use imago_images::file::look_at;
 use imago_images::format::ImageFormat;
-use imago_images::layer::{format_of, told_by_host};
+use imago_images::layer::format_of;
 use imago_words::command::{NewSize, Resize};
 use imago_words::format::Format;
 
@@ -85,8 +85,8 @@ fn format_at<H: Host>(host: &H, path: &str, said: Option<Format>) -> Result<Imag
         (λ files. IsFormatBy (option_map image_format said) path.now (files path.now) format)) }
 {
     let file = look_at(host, path)?;
-    let format = format_of(host.alloc(), path, &file, said_format(said));
-    Ok(told_by_host(host.alloc(), path, &file, format)?)
+    let format = format_of(host.alloc(), path, &file, said_format(said))?;
+    Ok(format)
 }
 
 /// The size in bytes that a disk gets which has that size, or why it gets none.

@@ -161,6 +161,7 @@ resize_options =
     valued (codes "format") (codes "f") (codes "format")
     ∷ flag (codes "shrink") [] (codes "shrink")
     ∷ flag (codes "quiet") (codes "q") (codes "quiet")
+    ∷ flag (codes "alone") [] (codes "alone")
     ∷ flag (codes "help") (codes "h") (codes "help")
     ∷ flag (codes "version") (codes "V") (codes "version")
     ∷ []

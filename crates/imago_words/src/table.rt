@@ -462,6 +462,7 @@ pub static RESIZE: Page = Page {
             "Permit a smaller size: the rest is lost"
         ),
         QUIET,
+        ALWAYS_ALONE,
         HELP,
         VERSION,
     ],

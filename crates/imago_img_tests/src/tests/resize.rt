@@ -29,7 +29,7 @@ static ROWS: [Row; 15] = [
     // A change counts from whole sectors.
     ("resize out.bin -q +1k", 0, "", "out.bin", 2048),
     (
-        "resize --shrink out.bin -1",
+        "resize --alone --shrink out.bin -1",
         0,
         "Image resized.\n",
         "out.bin",

@@ -262,12 +262,14 @@ Options:
 
 const RESIZE: &str = "Give a raw image another size
 
-usage: imago-img resize [-f FMT] [--shrink] [-q] [-h] [-V] FILE [+|-]SIZE
+usage: imago-img resize [-f FMT] [--shrink] [-q] [--alone] [-h] [-V]
+                        FILE [+|-]SIZE
 
 Options:
   -f, --format FMT      The image's format: raw, vmdk or qcow2
       --shrink          Permit a smaller size: the rest is lost
   -q, --quiet           Print nothing but errors
+      --alone           Accepted and ignored: no other file is opened
   -h, --help            Print this help
   -V, --version         Print the version
 ";

@@ -1,0 +1,8 @@
+-- SPDX-License-Identifier: MIT
+use Rattle.imago_img_parts.proofs.Resizes.{size_for}
+use Rattle.imago_img_parts.proofs.resize.new_size.Goals as goal
+
+pub returns-in-Ok : goal.returns-in-Ok
+returns-in-Ok g c =
+    size_for c.args.asked (g.H.Files.contents c.args.host.now) c.in_ok-length.length c.in_ok-now.now c.in-Ok.size
+    c.in_ok-length.ensures c.in_ok-test_raw.ensures c.in_ok-now.ensures c.in-Ok.ensures
