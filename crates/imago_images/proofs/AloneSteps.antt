@@ -1,6 +1,6 @@
 -- An image with which no other files are opened is the one that its file's bytes describe.
 -- SPDX-License-Identifier: MIT
-use Rattle.std.proofs.Common.{◌≡◌, ℕ, List, [], ◌∷◌, Option, Some, None, IfSome, refl, subst, sym, ◌∙◌, ap}
+use Rattle.std.proofs.Common.{◌≡◌, ℕ, List, [], ◌∷◌, Option, Some, None, IfSome, refl, subst, ◌∙◌, ap}
 use Rattle.imago_drivers.specs.Place.{Place}
 use Rattle.imago_drivers.specs.View.{View}
 use Rattle.imago_access.specs.declared.access.FormatAccess.{FormatAccess}
@@ -12,7 +12,7 @@ use Rattle.imago_images.specs.declared.opening.OtherFiles.{OtherFiles}
 use Rattle.imago_images.specs.declared.opening.OtherFiles.TheVariants as Others
 use Rattle.imago_images.specs.Alone.{IsImageOf, AreLayersOf}
 use Rattle.imago_images.specs.Gate.{AreLetThrough}
-use Rattle.imago_images.specs.Images.{IsLayer, AreLayers, IsImageIn, GoesOn, bytes_in, extent_paths}
+use Rattle.imago_images.specs.Images.{IsLayer, AreLayers, IsImageIn, bytes_in, extent_paths}
 
 -- none of these paths is let through, so there are none
 same_bytes :

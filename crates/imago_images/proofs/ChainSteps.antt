@@ -70,7 +70,7 @@ module _ {D St : Type 0} (view : D → View St) (accepted : Accepted) (others : 
 
     pub layer_out :
         (known : Option (List ℕ → List ℕ))
-        → IfSome known (λ files. IsLayerRefused files statuses reals others how.tables path format e)
+        → IfSome known (λ files. IsLayerRefused files statuses reals others how path format e)
         → IfSome known IsChainOut
     layer_out None h = tt
     layer_out (Some files) h = ([], inl h)

@@ -221,11 +221,11 @@ image_over view x (Some files) statuses reals others path said e writable how fo
 -- a layer isn't opened where memory is refused
 layer_memory :
     (files : List ℕ → List ℕ) (statuses : Option (List ℕ → FileStatus)) (reals : Option (List ℕ → List ℕ))
-    (others : OtherFiles) (limit : Option ℕ) (path : List ℕ) (format : ImageFormat)
-    → IsLayerRefused files statuses reals others limit path format OpenError.Memory
-layer_memory files statuses reals others limit path Format.Raw = tt
-layer_memory files statuses reals others limit path Format.Qcow2 = tt
-layer_memory files statuses reals others limit path Format.Vmdk = inl tt
+    (others : OtherFiles) (how : Opening) (path : List ℕ) (format : ImageFormat)
+    → IsLayerRefused files statuses reals others how path format OpenError.Memory
+layer_memory files statuses reals others how path Format.Raw = tt
+layer_memory files statuses reals others how path Format.Qcow2 = tt
+layer_memory files statuses reals others how path Format.Vmdk = inl tt
 
 -- nor is a chain that begins with it
 pub chain_memory :
@@ -238,5 +238,5 @@ chain_memory None statuses reals others how above path format e is = tt
 chain_memory (Some files) statuses reals others how above path format e is = (
   [],
   subst (λ (x : OpenError). IsChainRefused files statuses reals others how above path format [] x) (sym is)
-      (inl (layer_memory files statuses reals others how.tables path format)),
+      (inl (layer_memory files statuses reals others how path format)),
 )

@@ -16,3 +16,4 @@ pub mod BackingSteps
 pub mod SignatureSteps
 pub mod AloneSteps
 pub mod LongestSteps
+pub mod FaultSteps

@@ -1,8 +1,9 @@
 -- Refusals, passed on.
 -- SPDX-License-Identifier: MIT
-use Rattle.std.proofs.Common.{◌≡◌, ℕ, ◌⊎◌, Bool, true, false, not, List, Option, Some, None, Result, Ok, Err, IfErr, IfSome}
-use Rattle.std.proofs.Common.{refl, sym, ap, ◌∙◌, subst, length, inl, inr}
+use Rattle.std.proofs.Common.{◌≡◌, ℕ, ◌+◌, ◌⊎◌, Bool, true, false, not, List, Option, Some, None, Result, Ok, Err, IfErr, IfSome}
+use Rattle.std.proofs.Common.{refl, sym, ap, ◌∙◌, subst, length, inl, inr, IsOk, IsErr, IsTrue, MatchResult}
 use Rattle.std.specs.Path.{PathStartsWith}
+use Rattle.imago_storage.specs.Error.{IsExtRefusal}
 use Rattle.imago_storage.specs.Features.{Features}
 use Rattle.imago_plan.specs.PieceBytes.{bytes_at}
 use Rattle.imago_qcow2.specs.Header.{header_of}
@@ -10,6 +11,11 @@ use Rattle.imago_qcow2.specs.declared.fault.OpenFault.{OpenFault}
 use Rattle.imago_qcow2.specs.Fault.{error_of, by_fault}
 use Rattle.imago_qcow2.specs.Limit.{TablesNeedMore}
 use Rattle.imago_storage.specs.declared.error.Error.{Error}
+use Rattle.imago_storage.specs.declared.error.Error.TheVariants as E
+use Rattle.imago_drivers.specs.Reasons.{none as without, allowed}
+use Rattle.imago_qcow2.specs.Opening.{IsRefusedOpening, TablesWrap, open_reasons}
+use Rattle.imago_storage.specs.Features.{IsAlignedRequest, MayRunOut}
+use Rattle.imago_storage.specs.Padding.{Wraps}
 use Rattle.imago_images.specs.declared.failure.OpenError.{OpenError}
 use Rattle.imago_images.specs.declared.failure.Reason.{Reason}
 use Rattle.imago_images.specs.HostBytes.{HasBytes}
@@ -17,7 +23,7 @@ use Rattle.imago_images.proofs.PartSteps.{told_same}
 use Rattle.imago_images.specs.FolderParts.{IsBounded, IsBeyond}
 use Rattle.imago_images.specs.BackingNames.{file_named}
 use Rattle.imago_images.specs.Layers.{SaysBacking}
-use Rattle.imago_images.specs.Refusals.{IsRefused, IsBySystem, IsByDriver, IsByEither, IsProtocol, IsUnopened, folder_asked}
+use Rattle.imago_images.specs.Refusals.{IsRefused, IsBySystem, IsBySystemOr, IsByDriver, IsUnread, IsProtocol, IsByQcow2, IsUnopened, folder_asked}
 
 -- by a reason that says less
 pub weaker :
@@ -60,31 +66,139 @@ by_name path bytes name limit says e h =
     weaker path (λ r. IsByDriver r ⊎ IsProtocol name r) (IsUnopened limit bytes) holds e h
   where
     holds : (r : Reason) → IsByDriver r ⊎ IsProtocol name r → IsUnopened limit bytes r
-    holds r (inl by) = subst (λ (x : Reason). IsUnopened limit bytes x) (sym by.1) tt
+    holds r (inl by) = subst (λ (x : Reason). IsUnopened limit bytes x) (sym by.1) (inr (inr (name, says)))
     holds r (inr (told, is, text, none)) = subst (λ (x : Reason). IsUnopened limit bytes x) (sym is) (
       subst (λ (n : List ℕ). SaysBacking bytes (Some n)) (sym text) says,
       ap file_named text ∙ none,
     )
 
-pub by_either :
+-- by the host's answer, or that one of a driver or a storage
+pub by_cause :
+    (path : List ℕ) (why : Reason → Type 0) (cause : Error) → ((answer : _) → why (Reason.System answer))
+    → why (Reason.Image cause) → (e : OpenError) → IsRefused path (IsBySystemOr cause) e → IsRefused path why e
+by_cause path why cause system driver e h = weaker path (IsBySystemOr cause) why holds e h
+  where
+    holds : (r : Reason) → IsBySystemOr cause r → why r
+    holds r (inl by) = subst (λ (x : Reason). why x) (sym by.1) (system by.0)
+    holds r (inr is) = subst (λ (x : Reason). why x) (sym is) driver
+
+-- where that answer is one of a storage's
+pub unread_by :
+    (path : List ℕ) (cause : Error) → IsExtRefusal cause → (e : OpenError)
+    → IsRefused path (IsBySystemOr cause) e → IsRefused path IsUnread e
+unread_by path cause ext e h = by_cause path IsUnread cause (λ answer. tt) ext e h
+
+-- by a file that isn't read
+pub by_read :
     (path : List ℕ) (why : Reason → Type 0) → ((answer : _) → why (Reason.System answer))
-    → ((error : _) → why (Reason.Image error))
-    → (e : OpenError) → IsRefused path IsByEither e → IsRefused path why e
-by_either path why system driver (OpenError.OfFile named reason) (is, inl by) =
-    (is, subst (λ (x : Reason). why x) (sym by.1) (system by.0))
-by_either path why system driver (OpenError.OfFile named reason) (is, inr by) =
-    (is, subst (λ (x : Reason). why x) (sym by.1) (driver by.0))
-by_either path why system driver OpenError.Memory h = tt
+    → ((error : Error) → IsExtRefusal error → why (Reason.Image error))
+    → (e : OpenError) → IsRefused path IsUnread e → IsRefused path why e
+by_read path why system driver e h = weaker path IsUnread why holds e h
+  where
+    holds : (r : Reason) → IsUnread r → why r
+    holds (Reason.System answer) t = system answer
+    holds (Reason.Image error) ext = driver error ext
+    holds (Reason.Header fault) never = absurd never
+    holds (Reason.TablesTooLarge most) never = absurd never
+    holds (Reason.DiskTooLong size most) never = absurd never
+    holds Reason.Sparse never = absurd never
+    holds (Reason.Recognised found) never = absurd never
+    holds (Reason.Another said found) never = absurd never
+    holds (Reason.TwoFormats found other) never = absurd never
+    holds (Reason.BackingOutside name) never = absurd never
+    holds (Reason.BackingNotPermitted name) never = absurd never
+    holds (Reason.BackingProtocol name) never = absurd never
+    holds (Reason.BackingFormat name) never = absurd never
+    holds (Reason.Loop told) never = absurd never
+    holds (Reason.TooManyBelow told) never = absurd never
+    holds (Reason.Outside name) never = absurd never
+    holds (Reason.NotPermitted name) never = absurd never
+    holds Reason.OnlyRead never = absurd never
+    holds Reason.NotAFile never = absurd never
+
+pub each_read :
+    {T : Type 0} (r : Result T OpenError) (path : List ℕ) (why : Reason → Type 0)
+    → ((answer : _) → why (Reason.System answer))
+    → ((error : Error) → IsExtRefusal error → why (Reason.Image error))
+    → IfErr r (IsRefused path IsUnread) → IfErr r (IsRefused path why)
+each_read (Ok x) path why system driver h = tt
+each_read (Err e) path why system driver h = by_read path why system driver e h
+
+-- by an answer of a driver that was passed on
+pub by_answer :
+    {T : Type 0} (answer : Result T Error) (r : Result T OpenError) (path : List ℕ) (P : Error → Type 0)
+    (why : Reason → Type 0) → MatchResult answer (λ x. r ≡ Ok x) (λ _. IsErr r)
+    → IfErr answer (λ cause. IfErr r (IsRefused path (λ told. told ≡ Reason.Image cause)))
+    → IfErr answer P → ((cause : Error) → P cause → why (Reason.Image cause))
+    → IfErr r (IsRefused path why)
+by_answer {T} (Ok x) r path P why given told p holds =
+    subst (λ (q : Result T OpenError). IfErr q (IsRefused path why)) (sym given) tt
+by_answer (Err cause) (Ok x) path P why given told p holds = tt
+by_answer (Err cause) (Err e) path P why given told p holds =
+    refused_for path why (Reason.Image cause) (holds cause p) e told
+
+-- the reasons of a storage's that a driver passes on
+pub ext_reasons :
+    (cause : Error → Type 0) → ((x : Error) → cause x → x ≡ Error.WrapAround) → (device memory : Type 0) (e : Error)
+    → allowed (record without { cause = cause; device = device; memory = memory }) e → IsExtRefusal e
+ext_reasons cause wraps device memory E.ReadOnly h = absurd h
+ext_reasons cause wraps device memory E.BeyondDisk h = absurd h
+ext_reasons cause wraps device memory E.RangeOverflow h = absurd h
+ext_reasons cause wraps device memory E.WrapAround h = inl refl
+ext_reasons cause wraps device memory E.InvalidData h = inl (wraps Error.InvalidData h)
+ext_reasons cause wraps device memory E.Unsupported h = inl (wraps Error.Unsupported h)
+ext_reasons cause wraps device memory E.NoAccess h = inl (wraps Error.NoAccess h)
+ext_reasons cause wraps device memory E.Device h = inr (inl refl)
+ext_reasons cause wraps device memory E.Memory h = inr (inr refl)
+ext_reasons cause wraps device memory E.ForeignMapping h = absurd h
+ext_reasons cause wraps device memory E.Denied h = absurd h
+ext_reasons cause wraps device memory E.NotFound h = absurd h
+
+-- a refusal of the qcow2 driver, by the bytes of its file
+pub by_opening :
+    (f : Features) (own held : List ℕ) (e : Error) → IsTrue f.tells_bytes → own ≡ held
+    → IsRefusedOpening f own e → IsByQcow2 held e
+by_opening f own held e tells is h = subst (λ (bytes : List ℕ). IsByQcow2 bytes e) is (either (h.1 tells))
+  where
+    either : (header_of own (length own) ≡ Err e) ⊎ allowed (open_reasons f own) e → IsByQcow2 own e
+    either (inl fault) = inr (inl fault)
+    either (inr reasons) = inl (ext_reasons
+        (λ x. (x ≡ Error.WrapAround) × (Wraps f 0 112 ⊎ (IsOk (header_of own (length own)) × TablesWrap f own)))
+        (λ x h. h.0)
+        (f.is_reliable ≡ false)
+        (IsOk (header_of own (length own)) ⊎ (IsAlignedRequest f 0 112 → MayRunOut f.read_memory (length own) (0 + 112))
+        ⊎ MayRunOut f.other_memory 0 0) e reasons)
+
+-- the same where a host tells what the file has
+pub qcow2_out :
+    {S : Type 0} (features : S → Features) (bytes : S → List ℕ) (known : Option (List ℕ → List ℕ))
+    (path : List ℕ) (limit : Option ℕ) (s : S) (cause : Error) (e : OpenError)
+    → IsRefusedOpening (features s) (bytes s) cause
+    → IfSome known (λ files. IsByQcow2 (files path) cause → IsRefused path (IsUnopened limit (files path)) e)
+    → IfSome known (λ files. HasBytes features bytes (files path) s
+    → IsRefused path (IsUnopened limit (files path)) e)
+qcow2_out features bytes None path limit s cause e why h = tt
+qcow2_out features bytes (Some files) path limit s cause e why h =
+    λ told. h (by_opening (features s) (bytes s) (files path) cause told.0 told.1 why)
+
+-- and where what the host or the driver answered is told
+pub answer_out :
+    (known : Option (List ℕ → List ℕ)) (path : List ℕ) (cause : Error) (e : OpenError)
+    → IsRefused path (IsBySystemOr cause) e → (limit : Option ℕ)
+    → IfSome known (λ files. IsByQcow2 (files path) cause → IsRefused path (IsUnopened limit (files path)) e)
+answer_out None path cause e h limit = tt
+answer_out (Some files) path cause e h limit =
+    λ by. by_cause path (IsUnopened limit (files path)) cause (λ answer. tt) by e h
 
 -- the fault of a header, by what was read of its file
 pub header_out :
     (known : Option (List ℕ → List ℕ)) (path head : List ℕ) (count : ℕ) (fault : _) (e : OpenError)
     → IfSome known (λ files. head ≡ bytes_at (files path) 0 (length head)) → length head ≡ 112
     → IfSome known (λ files. count ≡ length (files path)) → header_of head count ≡ Err (error_of fault)
-    → IsRefused path (λ told. told ≡ Reason.Header fault) e → (limit : Option ℕ)
-    → IfSome known (λ files. IsRefused path (IsUnopened limit (files path)) e)
-header_out None path head count fault e read long size at h limit = tt
-header_out (Some files) path head count fault e read long size at h limit =
+    → IsRefused path (λ told. told ≡ Reason.Header fault) e → (cause : Error) → (limit : Option ℕ)
+    → IfSome known (λ files. IsByQcow2 (files path) cause → IsRefused path (IsUnopened limit (files path)) e)
+header_out None path head count fault e read long size at h cause limit = tt
+header_out (Some files) path head count fault e read long size at h cause limit = λ by.
     let is : head ≡ bytes_at (files path) 0 112 = read ∙ ap (bytes_at (files path) 0) long in
     refused_for path (IsUnopened limit (files path)) (Reason.Header fault)
     (ap (λ (xs : List ℕ). header_of xs (length (files path))) (sym is)
@@ -117,6 +231,12 @@ leads_out None image path bounds b beyond = tt
 leads_out (Some real) image path None b beyond = absurd beyond
 leads_out (Some real) image path (Some folder) b beyond =
     λ within. beyond (subst (λ (f : List ℕ). PathStartsWith (real path) f) (sym b) within)
+
+-- what the driver refused where the tables are limited
+pub driver_fault :
+    (P : Error → Type 0) (Q : Type 0) (fault : OpenFault) (cause : Error) → fault ≡ OpenFault.Driver cause
+    → by_fault P Q fault → P cause
+driver_fault P Q fault cause is h = subst (λ (f : OpenFault). by_fault P Q f) is h
 
 -- a qcow2 file whose tables are larger than the limit
 pub too_large :

@@ -1,6 +1,7 @@
 -- What the image of one file by itself is: these clauses mention no other file.
 -- SPDX-License-Identifier: MIT
 use Rattle.std.specs.Prelude.{◌≡◌, ℕ, List, Option, Some, None}
+use Rattle.imago_storage.specs.Error.{IsExtRefusal}
 use Rattle.imago_drivers.specs.Place.{Place}
 use Rattle.imago_drivers.specs.View.{View}
 use Rattle.imago_access.specs.declared.access.FormatAccess.{FormatAccess}
@@ -55,7 +56,7 @@ IsOfAnother others said bytes (Reason.Another format found) =
 IsOfAnother others said bytes (Reason.TwoFormats found other) =
     (others ≡ Others.None) × (signature_of bytes ≡ Some found)
     × (other_signature_of found bytes ≡ Some other)
-IsOfAnother others said bytes (Reason.Image error) = Unit {0}
+IsOfAnother others said bytes (Reason.Image error) = IsExtRefusal error
 IsOfAnother others said bytes (Reason.System answer) = Unit {0}
 IsOfAnother others said bytes reason = ⊥
 

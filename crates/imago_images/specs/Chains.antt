@@ -13,9 +13,9 @@ use Rattle.imago_images.specs.Formats.{SaysFormat, IsFormatBy, IsFormatBelow}
 use Rattle.imago_images.specs.Gate.{IsLetThrough}
 use Rattle.imago_images.specs.Images.{LeadsTo}
 use Rattle.imago_images.specs.Way.{identity, is_among}
-use Rattle.imago_images.specs.Refusals.{IsRefused, IsBySystem, IsByDriver, IsByEither, IsUnseen}
-use Rattle.imago_images.specs.Refusals.{IsUnknown, IsInCircle, IsTooDeep, IsUnopened, folder_asked}
-use Rattle.imago_images.specs.Refusals.{IsNotHandedOut, IsUnwritten}
+use Rattle.imago_images.specs.Refusals.{IsRefused, IsBySystem, IsUnread, IsUnseen, IsUnknown}
+use Rattle.imago_images.specs.Refusals.{IsInCircle, IsTooDeep, IsUnopened, folder_asked}
+use Rattle.imago_images.specs.Refusals.{HasExtentIn, IsNotHandedOut, IsUndescribed, IsUnwritten}
 use Rattle.imago_images.specs.Alone.{IsOfAnother}
 use Rattle.imago_images.specs.Longest.{IsTooLong}
 use Rattle.imago_images.specs.declared.opening.Opening.{Opening}
@@ -37,16 +37,20 @@ IsNamedRefused named statuses reals others image path e =
     IsRefused (folder_asked image) IsBySystem e
     ⊎ IsNotHandedOut named statuses reals others image path e
 
--- the file of a path isn't opened as a layer of that format, within that limit on tables: the fault
--- is its own, or that of an extent's file
+-- The file of a path isn't opened as a layer of that format: the fault is its own, or that of an
+-- extent's file, where its descriptor has that extent. Before extents are asked for, the path of
+-- their folder without links is.
 abbrev pub IsLayerRefused :
-    (List ℕ → List ℕ) → Option (List ℕ → FileStatus) → Option (List ℕ → List ℕ) → OtherFiles → Option ℕ
+    (List ℕ → List ℕ) → Option (List ℕ → FileStatus) → Option (List ℕ → List ℕ) → OtherFiles → Opening
     → List ℕ → ImageFormat → OpenError → Type 0
-IsLayerRefused files statuses reals others limit path Raw e = IsRefused path IsByDriver e
-IsLayerRefused files statuses reals others limit path Qcow2 e =
-    IsRefused path (IsUnopened limit (files path)) e
-IsLayerRefused files statuses reals others limit path Vmdk e = IsRefused path IsByEither e
-    ⊎ ((extent : List ℕ) × IsNamedRefused Extents statuses reals others path extent e)
+IsLayerRefused files statuses reals others how path Raw e = IsRefused path IsUnread e
+IsLayerRefused files statuses reals others how path Qcow2 e =
+    IsRefused path (IsUnopened how.tables (files path)) e
+IsLayerRefused files statuses reals others how path Vmdk e =
+    IsRefused path (IsUndescribed how.accepted (files path) path) e
+    ⊎ IsRefused (folder_asked path) IsBySystem e
+    ⊎ ((other : List ℕ) × HasExtentIn how.accepted (files path) path other
+    × IsNamedRefused Extents statuses reals others path other e)
 
 -- The file of the next path, which is below that of a path, isn't opened: it isn't handed out, it
 -- is one of those above, its format isn't told, or its disk is too long.
@@ -70,7 +74,7 @@ abbrev pub IsChainRefused :
     (List ℕ → List ℕ) → Option (List ℕ → FileStatus) → Option (List ℕ → List ℕ) → OtherFiles → Opening
     → List (ℕ × ℕ) → List ℕ → ImageFormat → List (List ℕ) → OpenError → Type 0
 IsChainRefused files statuses reals others how above path format [] e =
-    IsLayerRefused files statuses reals others how.tables path format e
+    IsLayerRefused files statuses reals others how path format e
     ⊎ ((next : List ℕ) × GoesDown files path format next
     × (((length above ≡ 200) × IsRefused path IsTooDeep e)
     ⊎ IsNextRefused files statuses reals others how above path next e))

@@ -1,14 +1,16 @@
 -- Disks that may have so many bytes, and no more.
 -- SPDX-License-Identifier: MIT
-use Rattle.std.specs.Prelude.{◌≡◌, ◌≤◌, ◌<◌, ◌⊎◌, ℕ, List, Option, Some, Err, length}
+use Rattle.std.specs.Prelude.{◌≡◌, ◌<◌, ◌⊎◌, ℕ, List, Option, Some, Err, length}
 use Rattle.imago_plan.specs.PieceBytes.{bytes_at}
+use Rattle.imago_storage.specs.Error.{IsExtRefusal}
 use Rattle.imago_vmdk.specs.declared.line.Accepted.{Accepted}
+use Rattle.imago_vmdk.specs.Reading.{reading_of}
 use Rattle.imago_qcow2.specs.Header.{header_of}
 use Rattle.imago_qcow2.specs.Fault.{error_of}
 use Rattle.imago_qcow2.specs.Limit.{IsWithin}
 use Rattle.imago_images.specs.declared.failure.Reason.{Reason}
 use Rattle.imago_images.specs.declared.format.ImageFormat.{ImageFormat}
-use Rattle.imago_images.specs.declared.format.ImageFormat.TheVariants.{Qcow2}
+use Rattle.imago_images.specs.declared.format.ImageFormat.TheVariants.{Vmdk, Qcow2}
 use Rattle.imago_images.specs.Layers.{size_by}
 
 -- the disk of a layer's file, which has that format and these bytes, has at most so many bytes, if
@@ -22,17 +24,18 @@ IsOverLimit longest size (Reason.DiskTooLong told most) =
     (longest ≡ Some most) × (told ≡ size) × (most < size)
 IsOverLimit longest size reason = ⊥
 
--- How long the disk of a layer's file is isn't told: the header of a qcow2 file has that fault, or
--- the file isn't read, or the driver refuses what stands in it.
-abbrev pub IsSizeUnknown : ImageFormat → List ℕ → Reason → Type 0
-IsSizeUnknown format bytes (Reason.Header fault) = (format ≡ Qcow2)
+-- How long the disk of a layer's file is isn't told: the header of a qcow2 file has that fault, the
+-- text of a descriptor is refused so, or the file isn't read.
+abbrev pub IsSizeUnknown : Accepted → ImageFormat → List ℕ → Reason → Type 0
+IsSizeUnknown accepted format bytes (Reason.Header fault) = (format ≡ Qcow2)
     × (header_of (bytes_at bytes 0 112) (length bytes) ≡ Err (error_of fault))
-IsSizeUnknown format bytes (Reason.Image error) = Unit {0}
-IsSizeUnknown format bytes (Reason.System answer) = Unit {0}
-IsSizeUnknown format bytes reason = ⊥
+IsSizeUnknown accepted format bytes (Reason.Image error) = IsExtRefusal error
+    ⊎ ((format ≡ Vmdk) × (reading_of accepted bytes ≡ Err error))
+IsSizeUnknown accepted format bytes (Reason.System answer) = Unit {0}
+IsSizeUnknown accepted format bytes reason = ⊥
 
 -- it isn't told, or is longer than the limit
 abbrev pub IsTooLong : Option ℕ → Accepted → ImageFormat → List ℕ → Reason → Type 0
 IsTooLong longest accepted format bytes reason =
     IsOverLimit longest (size_by accepted format bytes) reason
-    ⊎ IsSizeUnknown format bytes reason
+    ⊎ IsSizeUnknown accepted format bytes reason

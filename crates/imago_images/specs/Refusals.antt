@@ -7,6 +7,7 @@ use Rattle.std.specs.Path.{PathStartsWith}
 use Rattle.std.specs.String.{string_bytes}
 use Rattle.std.specs.declared.io.Error.{Error as IoError}
 use Rattle.imago_storage.specs.declared.error.Error.{Error}
+use Rattle.imago_storage.specs.Error.{IsExtRefusal}
 use Rattle.imago_storage.specs.Features.{Features}
 use Rattle.imago_file.specs.Names.{lies_below}
 use Rattle.imago_qcow2.specs.Backing.{format_of}
@@ -14,6 +15,9 @@ use Rattle.imago_qcow2.specs.Fault.{error_of}
 use Rattle.imago_qcow2.specs.Header.{header_of}
 use Rattle.imago_qcow2.specs.Limit.{TablesNeedMore}
 use Rattle.imago_plan.specs.PieceBytes.{bytes_at}
+use Rattle.imago_vmdk.specs.declared.line.Accepted.{Accepted}
+use Rattle.imago_vmdk.specs.declared.line.Extent.{Extent}
+use Rattle.imago_vmdk.specs.Reading.{reading_of}
 use Rattle.imago_images.specs.declared.failure.OpenError.{OpenError}
 use Rattle.imago_images.specs.declared.failure.Reason.{Reason}
 use Rattle.imago_images.specs.declared.files.FileKind.TheVariants as Kind
@@ -26,6 +30,7 @@ use Rattle.imago_images.specs.declared.opening.OtherFiles.TheVariants as Others
 use Rattle.imago_images.specs.declared.signature.Signature.{Signature}
 use Rattle.imago_images.specs.declared.signature.Signature.TheVariants as Of
 use Rattle.imago_images.specs.BackingNames.{file_named}
+use Rattle.imago_images.specs.Extents.{HasFlat}
 use Rattle.imago_images.specs.Formats.{format_named, told_format}
 use Rattle.imago_images.specs.Gate.{folder_path}
 use Rattle.imago_images.specs.Layers.{SaysBacking}
@@ -45,9 +50,16 @@ IsBySystem reason = (answer : IoError) × (reason ≡ Reason.System answer)
 abbrev pub IsByDriver : Reason → Type 0
 IsByDriver reason = (error : Error) × (reason ≡ Reason.Image error)
 
--- either of these
-abbrev pub IsByEither : Reason → Type 0
-IsByEither reason = IsBySystem reason ⊎ IsByDriver reason
+-- the host's answer, or that one of a driver or a storage
+abbrev pub IsBySystemOr : Error → Reason → Type 0
+IsBySystemOr error reason = IsBySystem reason ⊎ (reason ≡ Reason.Image error)
+
+-- The host's answer, or one that a storage gives whatever its bytes are: it failed, memory was
+-- refused, or a request passes the greatest offset.
+abbrev pub IsUnread : Reason → Type 0
+IsUnread (Reason.System answer) = Unit {0}
+IsUnread (Reason.Image error) = IsExtRefusal error
+IsUnread reason = ⊥
 
 -- The file of a path isn't looked at: the host's answer, or it has no bytes at offsets, where the
 -- host tells what its files are.
@@ -62,7 +74,7 @@ IsUnseen statuses path reason = ⊥
 abbrev pub IsUnwritten :
     Option (List ℕ → FileStatus) → List ℕ → ImageFormat → Reason → Type 0
 IsUnwritten statuses path format Reason.OnlyRead = format ≢ Format.Raw
-IsUnwritten statuses path format (Reason.Image error) = Unit {0}
+IsUnwritten statuses path format (Reason.Image error) = IsExtRefusal error
 IsUnwritten statuses path format reason = IsUnseen statuses path reason
 
 -- Why a file isn't opened that is said to have that format, or isn't, and is recognised as that: a
@@ -76,7 +88,7 @@ reason_for (Some said) found = Reason.Another said found
 -- The format of the file of a path isn't told: the file isn't read, or it is recognised as
 -- something that it isn't opened as.
 abbrev pub IsUnknown : Option ImageFormat → List ℕ → List ℕ → Reason → Type 0
-IsUnknown said path bytes reason = IsByEither reason
+IsUnknown said path bytes reason = IsUnread reason
     ⊎ ((found : Signature) × (told_format said path bytes ≡ Err found)
     × (reason ≡ reason_for said found))
 
@@ -134,6 +146,10 @@ IsNotHandedOut named statuses reals others image path e =
     IsRefused image (IsKeptOut named reals others image path) e
     ⊎ IsRefused path (IsUnseen statuses path) e
 
+-- a qcow2 file with these bytes names a file below it
+abbrev pub NamesBelow : List ℕ → Type 0
+NamesBelow bytes = (name : List ℕ) × SaysBacking bytes (Some name)
+
 -- a qcow2 file says that the one below it has a format of this name, which none of the formats has
 abbrev pub SaysOtherFormat : List ℕ → List ℕ → Type 0
 SaysOtherFormat bytes name = (at : ℕ) × (count : ℕ) × (format_of bytes ≡ Ok (Some (at, count)))
@@ -149,9 +165,16 @@ abbrev pub IsProtocol : List ℕ → Reason → Type 0
 IsProtocol name reason = (told : String Global) × (reason ≡ Reason.BackingProtocol told)
     × (string_bytes told ≡ name) × (file_named name ≡ None)
 
+-- A driver doesn't open a qcow2 file with these bytes, and this is its answer: the file isn't read,
+-- or it is what the fault of its header is answered by, or the file names one below it, whose name
+-- or format can't be told.
+abbrev pub IsByQcow2 : List ℕ → Error → Type 0
+IsByQcow2 bytes error = IsExtRefusal error ⊎ (header_of bytes (length bytes) ≡ Err error)
+    ⊎ NamesBelow bytes
+
 -- A qcow2 file with these bytes isn't opened within that limit on its tables, if there is one: its
--- header has that fault, its tables are larger than the limit, which is told, its name of the file
--- below begins with a protocol, it says another format of that file, or the driver refuses it.
+-- header has that fault, its tables are larger than the limit, which is told, or the driver refuses
+-- it. Or it names a file below it, by a protocol, or says another format of that file.
 abbrev pub IsUnopened : Option ℕ → List ℕ → Reason → Type 0
 IsUnopened limit bytes (Reason.Header fault) =
     header_of (bytes_at bytes 0 112) (length bytes) ≡ Err (error_of fault)
@@ -159,7 +182,26 @@ IsUnopened limit bytes (Reason.TablesTooLarge most) =
     (limit ≡ Some most) × HasLargerTables bytes most
 IsUnopened limit bytes (Reason.BackingProtocol told) =
     SaysBacking bytes (Some (string_bytes told)) × (file_named (string_bytes told) ≡ None)
-IsUnopened limit bytes (Reason.BackingFormat name) = SaysOtherFormat bytes (string_bytes name)
-IsUnopened limit bytes (Reason.Image error) = Unit {0}
+IsUnopened limit bytes (Reason.BackingFormat name) =
+    NamesBelow bytes × SaysOtherFormat bytes (string_bytes name)
+IsUnopened limit bytes (Reason.Image error) = IsByQcow2 bytes error
 IsUnopened limit bytes (Reason.System answer) = Unit {0}
 IsUnopened limit bytes reason = ⊥
+
+-- A descriptor with these bytes, in the file of a path, has a FLAT extent in the file of another.
+abbrev pub HasExtentIn : Accepted → List ℕ → List ℕ → List ℕ → Type 0
+HasExtentIn accepted bytes path other = (extents : List (Extent (List ℕ))) × (size : ℕ)
+    × (reading_of accepted bytes ≡ Ok (extents, size))
+    × HasFlat extents path other
+
+-- A driver doesn't open a descriptor with these bytes, in the file of a path, and this is its
+-- answer: the file isn't read, or its text can't be, or the file of an extent isn't opened.
+abbrev pub IsByVmdk : Accepted → List ℕ → List ℕ → Error → Type 0
+IsByVmdk accepted bytes path error = IsExtRefusal error ⊎ (reading_of accepted bytes ≡ Err error)
+    ⊎ ((other : List ℕ) × HasExtentIn accepted bytes path other)
+
+-- it isn't opened, for that answer or the host's
+abbrev pub IsUndescribed : Accepted → List ℕ → List ℕ → Reason → Type 0
+IsUndescribed accepted bytes path (Reason.Image error) = IsByVmdk accepted bytes path error
+IsUndescribed accepted bytes path (Reason.System answer) = Unit {0}
+IsUndescribed accepted bytes path reason = ⊥

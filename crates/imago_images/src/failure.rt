@@ -129,6 +129,8 @@ impl OpenError {
     ) -> Result<T, OpenError>
         ensures given { MatchResult answer (λ x. result ≡ Ok x) (λ _. IsErr result) }
         ensures refused { IfErr result (IsRefused path.now IsByDriver) }
+        ensures told { IfErr answer (λ cause. IfErr result
+            (IsRefused path.now (λ told. told ≡ Reason.Image cause))) }
     {
         match answer {
             Ok(found) => Ok(found),

@@ -1,10 +1,11 @@
 // SPDX-License-Identifier: MIT
 //! A layer by itself: a file in a format, and the name of the file below it.
 ghost use Rattle.std.specs.Prelude.{◌≡◌, ◌≤◌, ℕ, ◌⊎◌, List, Option, None, Some, IfOk, IfErr, IfSome, IsErr};
-ghost use Rattle.std.specs.Prelude.{IsTrue, MatchResult, length, option_map};
+ghost use Rattle.std.specs.Prelude.{IsTrue, MatchResult, length, map, option_map, true};
 ghost use Rattle.std.specs.String.{string_bytes};
 ghost use Rattle.imago_drivers.specs.Raw.{raw_place};
 ghost use Rattle.imago_qcow2.specs.Entry.{disk_size, qcow2_place};
+ghost use Rattle.imago_vmdk.specs.Line.{extent_with};
 ghost use Rattle.imago_images.specs.HostBytes.{HasBytes};
 ghost use Rattle.imago_images.specs.Layers.{IsDriverOf, NeverWrites, tables_in};
 ghost use Rattle.imago_images.specs.Images.{IsLayerOf, LeadsTo};
@@ -17,9 +18,11 @@ ghost use Rattle.imago_qcow2.specs.Qcow2Image.{storage_in, header_in, loaded_in}
 ghost use Rattle.imago_images.specs.declared.format.ImageFormat.TheVariants as Of;
 ghost use Rattle.imago_images.specs.Formats.{SaysFormat, IsFormatBy};
 ghost use Rattle.imago_images.specs.Formats.{told_format as format_told};
-ghost use Rattle.imago_images.specs.Refusals.{IsRefused, IsByDriver, IsByEither, IsUnknown};
-ghost use Rattle.imago_images.specs.Refusals.{IsProtocol, IsUnopened, reason_for as reason_by};
+ghost use Rattle.imago_images.specs.Refusals.{IsRefused, IsBySystemOr, IsByDriver, IsUnread};
+ghost use Rattle.imago_images.specs.Refusals.{IsUnknown, IsProtocol, NamesBelow, IsByQcow2};
+ghost use Rattle.imago_images.specs.Refusals.{IsUnopened, IsByVmdk, HasExtentIn, reason_for as reason_by};
 ghost use Rattle.imago_images.specs.BackingNames.{file_named as file_named_by};
+ghost use Rattle.imago_images.specs.Extents.{IsFlatIn, HasFlat};
 ghost use Rattle.imago_images.specs.Chains.{IsNamedRefused, IsLayerRefused};
 ghost use Rattle.imago_images.specs.declared.gate.Named.TheVariants as NamedAs;
 
@@ -29,6 +32,7 @@ use crate::file::{PathStorage, look_at};
 use crate::files::Files;
 use crate::format::ImageFormat;
 use crate::gate::{FolderGate, Named};
+use crate::longest::descriptor_text;
 use crate::opening::Opening;
 use crate::recognised::{signature_of, unread};
 use crate::signature::Signature;
@@ -46,9 +50,11 @@ use imago_qcow2::qcow2::Qcow2;
 use imago_storage::error::Error;
 use imago_storage::ext::StorageExt;
 use imago_storage::storage::Storage;
+use imago_vmdk::descriptor;
 use imago_vmdk::laws::places_of_bytes;
+use imago_vmdk::line::Extent;
 use imago_vmdk::vmdk::Vmdk;
-use std::alloc::Global;
+use std::alloc::{AllocError, Global};
 
 /// The file below a layer.
 #[derive(Drop)]
@@ -95,7 +101,7 @@ pub fn open_layer<'a, H: Files>(
     ensures tables { IfOk result (λ l. IsWithin how.tables (tables_in l.driver)) }
     ensures refused { IfErr result (λ e. IfSome (H.contents host.now)
         (λ files. IsLayerRefused files (H.statuses host.now) (H.real_paths host.now)
-        how.other_files how.tables path.now format e)) }
+        how.other_files how path.now format e)) }
 {
     match format {
         ImageFormat::Raw => raw_layer(host.alloc(), path, file, false),
@@ -124,7 +130,7 @@ pub(crate) fn raw_layer<S: Storage>(
     ensures driver { (bytes : List ℕ) → HasBytes S.features S.bytes bytes file → IfOk result (λ l.
         IsDriverOf ⟦<AnyDriver<S> as FormatDriverInstance>⟧.view (length bytes)
         (raw_place (length bytes) bytes) l.driver) }
-    ensures refused { IfErr result (IsRefused path.now IsByDriver) }
+    ensures refused { IfErr result (IsRefused path.now IsUnread) }
 {
     let raw = OpenError::or_image(alloc, path, Raw::open_image(file, writable))?;
     Ok(Layer {
@@ -219,7 +225,8 @@ pub fn open_qcow2<H: Files, S: Storage>(
     ensures opened { IfOk result (λ d. (storage_in d ≡ «file»)
         × IsOpened (S.features file) (S.bytes file) (header_in d)) }
     ensures refused { IfErr result (λ e. IfSome (H.contents host.now)
-        (λ files. IsRefused path.now (IsUnopened None (files path.now)) e)) }
+        (λ files. HasBytes S.features S.bytes (files path.now) file
+        → IsRefused path.now (IsUnopened None (files path.now)) e)) }
 {
     match Qcow2::open_image(host.alloc(), file, false) {
         Ok(qcow2) => Ok(qcow2),
@@ -256,7 +263,8 @@ pub fn open_qcow2_within<H: Files, S: Storage>(
 /// that is why.
 fn not_opened<H: Files>(host: &H, path: &str, cause: Error, most_tables: u64) -> OpenError
     ensures { (limit : Option ℕ) → IfSome (H.contents host.now)
-        (λ files. IsRefused path.now (IsUnopened limit (files path.now)) result) }
+        (λ files. IsByQcow2 (files path.now) cause
+        → IsRefused path.now (IsUnopened limit (files path.now)) result) }
 {
     let mut head = [0u8; HEAD_LENGTH];
     if let Ok(status) = host.status(path) {
@@ -273,7 +281,7 @@ fn not_opened<H: Files>(host: &H, path: &str, cause: Error, most_tables: u64) ->
 /// was refused, the storage is gone, with what the host answered: so the file is opened once more,
 /// within the same limit on its tables.
 fn read_again<H: Files>(host: &H, path: &str, cause: Error, most_tables: u64) -> OpenError
-    ensures { IsRefused path.now IsByEither result }
+    ensures { IsRefused path.now (IsBySystemOr cause) result }
 {
     let alloc = host.alloc();
     if cause == Error::Device {
@@ -288,7 +296,7 @@ fn read_again<H: Files>(host: &H, path: &str, cause: Error, most_tables: u64) ->
 /// Why the driver of VMDK images didn't open a file's. Where a read was refused, its storage is
 /// gone with the answer of the host, which is asked once more.
 fn reason_of<H: Files>(host: &H, path: &str, cause: Error) -> Reason
-    ensures { IsByEither result }
+    ensures { IsBySystemOr cause result }
 {
     if cause == Error::Device {
         if let Err(answer) = host.read_at(path, &mut [0u8; 1], 0) {
@@ -309,6 +317,7 @@ pub(crate) fn name_below<S: Storage>(
         → IfOk result (λ name. SaysBacking (S.bytes (storage_in qcow2.now))
         (option_map (λ n. n.items) name)) }
     ensures refused { IfErr result (IsRefused path.now IsByDriver) }
+    ensures unread { IfErr result (IsRefused path.now IsUnread) }
 {
     let Some(name) = OpenError::or_image(alloc, path, qcow2.backing_file(alloc))? else {
         return Ok(None);
@@ -377,6 +386,7 @@ fn format_below<S: Storage>(
     ensures said { IsTrue (S.features (storage_in qcow2.now)).tells_bytes
         → IfOk result (SaysFormat (S.bytes (storage_in qcow2.now))) }
     ensures refused { (limit : Option ℕ) → IsTrue (S.features (storage_in qcow2.now)).tells_bytes
+        → NamesBelow (S.bytes (storage_in qcow2.now))
         → IfErr result (IsRefused path.now (IsUnopened limit (S.bytes (storage_in qcow2.now)))) }
 {
     let Some(name) = OpenError::or_image(alloc, path, qcow2.backing_format(alloc))? else {
@@ -407,9 +417,9 @@ fn vmdk_layer<'a, H: Files>(
     ensures read_only { IfOk result (λ l. NeverWrites
         ⟦<AnyDriver<PathStorage<'a, H>> as FormatDriverInstance>⟧.view l.driver) }
     ensures tables { IfOk result (λ l. tables_in l.driver ≡ 0) }
-    ensures refused { IfErr result (λ e. IsRefused path.now IsByEither e
-        ⊎ ((extent : List ℕ) × IsNamedRefused NamedAs.Extents (H.statuses host.now)
-        (H.real_paths host.now) how.other_files path.now extent e)) }
+    ensures refused { IfErr result (λ e. IfSome (H.contents host.now)
+        (λ files. IsLayerRefused files (H.statuses host.now) (H.real_paths host.now)
+        how.other_files how path.now Of.Vmdk e)) }
 {
     let alloc = host.alloc();
     let mut gate = FolderGate::of(host, path, Named::Extents, how.other_files)?;
@@ -429,7 +439,8 @@ fn vmdk_layer<'a, H: Files>(
 }
 
 /// Tells why a descriptor's image isn't opened. Where the gate refused a file, it is asked for it
-/// once more, since what it answered is gone with the driver.
+/// once more, since what it answered is gone with the driver; and so is the descriptor, whether it
+/// has an extent in that file.
 fn not_described<H: Files>(
     host: &H,
     path: &str,
@@ -437,16 +448,89 @@ fn not_described<H: Files>(
     how: Opening,
     cause: Error,
 ) -> OpenError
-    ensures { IsRefused path.now IsByEither result
-        ⊎ ((extent : List ℕ) × IsNamedRefused NamedAs.Extents (H.statuses host.now)
-        (H.real_paths host.now) how.other_files path.now extent result) }
+    ensures { IfSome (H.contents host.now)
+        (λ files. IsByVmdk how.accepted (files path.now) path.now cause
+        → IsLayerRefused files (H.statuses host.now) (H.real_paths host.now) how.other_files how
+        path.now Of.Vmdk result) }
 {
-    if let Some(extent) = refused {
-        if let Err(refusal) = try_extent(host, path, &extent, how) {
-            return refusal;
-        }
+    match extent_refusal(host, path, refused, how) {
+        Some(refusal) => refusal,
+        None => OpenError::of_file(host.alloc(), path, reason_of(host, path, cause)),
     }
-    OpenError::of_file(host.alloc(), path, reason_of(host, path, cause))
+}
+
+/// Why the file that the gate refused isn't handed out, if it is one of an extent's.
+fn extent_refusal<H: Files>(
+    host: &H,
+    path: &str,
+    refused: Option<String>,
+    how: Opening,
+) -> Option<OpenError>
+    ensures { IfSome result (λ e. IfSome (H.contents host.now) (λ files. (other : List ℕ)
+        × HasExtentIn how.accepted (files path.now) path.now other
+        × IsNamedRefused NamedAs.Extents (H.statuses host.now) (H.real_paths host.now)
+        how.other_files path.now other e)) }
+{
+    let Some(other) = refused else {
+        return None;
+    };
+    let Ok(true) = has_extent(host, path, &other, how) else {
+        return None;
+    };
+    match try_extent(host, path, &other, how) {
+        Ok(()) => None,
+        Err(refusal) => Some(refusal),
+    }
+}
+
+/// Whether the descriptor of a path has a FLAT extent in the file of another.
+fn has_extent<H: Files>(host: &H, path: &str, other: &str, how: Opening) -> Result<bool, OpenError>
+    ensures { IfOk result (λ yes. yes ≡ true → IfSome (H.contents host.now)
+        (λ files. HasExtentIn how.accepted (files path.now) path.now other.now)) }
+{
+    let alloc = host.alloc();
+    let file = look_at(host, path)?;
+    let text = descriptor_text(alloc, path, &file)?;
+    match descriptor::read(alloc, how.accepted, &text) {
+        Ok(described) => Ok(has_flat(alloc, path, &described.extents, other)?),
+        Err(_) => Ok(false),
+    }
+}
+
+/// Whether one of a descriptor's extents is a FLAT one in the file of that other path.
+fn has_flat(
+    alloc: Global,
+    path: &str,
+    extents: &[Extent<String>],
+    other: &str,
+) -> Result<bool, AllocError>
+    ensures { IfOk result (λ yes. yes ≡ true
+        → HasFlat (map (extent_with string_bytes) extents.now) path.now other.now) }
+{
+    let mut rest = extents;
+    while let Some((extent, behind)) = rest.split_first() {
+        if is_flat_in(alloc, path, extent, other)? {
+            return Ok(true);
+        }
+        rest = behind;
+    }
+    Ok(false)
+}
+
+/// Whether an extent is one.
+fn is_flat_in(
+    alloc: Global,
+    path: &str,
+    extent: &Extent<String>,
+    other: &str,
+) -> Result<bool, AllocError>
+    ensures { IfOk result (λ yes. yes ≡ true
+        → IsFlatIn (extent_with string_bytes extent.now) path.now other.now) }
+{
+    match extent {
+        Extent::Flat { name, .. } => Ok(path_beside(alloc, path, name)?.as_str() == other),
+        Extent::Zero { .. } | Extent::NoAccess { .. } => Ok(false),
+    }
 }
 
 /// Asks the gate of a descriptor's files for one of them.
@@ -505,7 +589,7 @@ fn told_format<F: HostFile>(
     ensures told { (bytes : List ℕ) → HasBytes ⟦<FileStorage<F> as Storage>⟧.features
         ⟦<FileStorage<F> as Storage>⟧.bytes bytes file.now
         → IfOk result (λ told. told ≡ format_told said path.now bytes) }
-    ensures refused { IfErr result (IsRefused path.now IsByEither) }
+    ensures refused { IfErr result (IsRefused path.now IsUnread) }
 {
     match said {
         None => Ok(ImageFormat::taken(path, signature_of(alloc, path, file)?)),

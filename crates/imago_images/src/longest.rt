@@ -12,7 +12,7 @@ ghost use Rattle.imago_images.specs.Extents.{size_read};
 ghost use Rattle.imago_images.specs.HostBytes.{HasBytes};
 ghost use Rattle.imago_images.specs.Layers.{size_by};
 ghost use Rattle.imago_images.specs.Longest.{IsNoLonger, IsTooLong, IsSizeUnknown, IsOverLimit};
-ghost use Rattle.imago_images.specs.Refusals.{IsRefused, IsByDriver, IsByEither};
+ghost use Rattle.imago_images.specs.Refusals.{IsRefused};
 
 use crate::failure::{OpenError, Reason};
 use crate::format::ImageFormat;
@@ -86,7 +86,7 @@ fn size_told<F: HostFile>(
         → IfOk result (λ n. n ≡ size_by accepted format bytes) }
     ensures refused { (bytes : List ℕ) → HasBytes ⟦<FileStorage<F> as Storage>⟧.features
         ⟦<FileStorage<F> as Storage>⟧.bytes bytes file.now
-        → IfErr result (IsRefused path.now (IsSizeUnknown format bytes)) }
+        → IfErr result (IsRefused path.now (IsSizeUnknown accepted format bytes)) }
 {
     match format {
         ImageFormat::Raw => length_of(alloc, path, file),
@@ -104,9 +104,10 @@ fn header_size<F: HostFile>(
     ensures told { (bytes : List ℕ) → HasBytes ⟦<FileStorage<F> as Storage>⟧.features
         ⟦<FileStorage<F> as Storage>⟧.bytes bytes file.now
         → IfOk result (λ n. n ≡ disk_size bytes) }
-    ensures refused { (bytes : List ℕ) → HasBytes ⟦<FileStorage<F> as Storage>⟧.features
+    ensures refused { (accepted : Accepted) (bytes : List ℕ)
+        → HasBytes ⟦<FileStorage<F> as Storage>⟧.features
         ⟦<FileStorage<F> as Storage>⟧.bytes bytes file.now
-        → IfErr result (IsRefused path.now (IsSizeUnknown Of.Qcow2 bytes)) }
+        → IfErr result (IsRefused path.now (IsSizeUnknown accepted Of.Qcow2 bytes)) }
 {
     let length = length_of(alloc, path, file)?;
     let mut head = [0u8; HEAD_LENGTH];
@@ -127,8 +128,9 @@ fn described_size<F: HostFile>(
     ensures told { (bytes : List ℕ) → HasBytes ⟦<FileStorage<F> as Storage>⟧.features
         ⟦<FileStorage<F> as Storage>⟧.bytes bytes file.now
         → IfOk result (λ n. n ≡ size_read (reading_of accepted bytes)) }
-    ensures refused { (bytes : List ℕ) → IfErr result
-        (IsRefused path.now (IsSizeUnknown Of.Vmdk bytes)) }
+    ensures refused { (bytes : List ℕ) → HasBytes ⟦<FileStorage<F> as Storage>⟧.features
+        ⟦<FileStorage<F> as Storage>⟧.bytes bytes file.now
+        → IfErr result (IsRefused path.now (IsSizeUnknown accepted Of.Vmdk bytes)) }
 {
     let text = descriptor_text(alloc, path, file)?;
     match descriptor::read(alloc, accepted, &text) {
@@ -147,7 +149,10 @@ pub fn descriptor_text<F: HostFile>(
     ensures told { (bytes : List ℕ) → HasBytes ⟦<FileStorage<F> as Storage>⟧.features
         ⟦<FileStorage<F> as Storage>⟧.bytes bytes file.now
         → IfOk result (λ text. text.items ≡ bytes) }
-    ensures refused { IfErr result (IsRefused path.now IsByEither) }
+    ensures refused { (accepted : Accepted) (bytes : List ℕ)
+        → HasBytes ⟦<FileStorage<F> as Storage>⟧.features
+        ⟦<FileStorage<F> as Storage>⟧.bytes bytes file.now
+        → IfErr result (IsRefused path.now (IsSizeUnknown accepted Of.Vmdk bytes)) }
 {
     let count = length_of(alloc, path, file)?;
     if count > LONGEST_TEXT {

@@ -4,7 +4,7 @@ ghost use Rattle.std.specs.Prelude.{◌≡◌, ℕ, List, Some, OnOk, IfOk, IfEr
 ghost use Rattle.std.specs.Option.{option_or};
 ghost use Rattle.imago_plan.specs.PieceBytes.{bytes_at};
 ghost use Rattle.imago_images.specs.HostBytes.{HasBytes};
-ghost use Rattle.imago_images.specs.Refusals.{IsRefused, IsByDriver, IsByEither};
+ghost use Rattle.imago_images.specs.Refusals.{IsRefused, IsBySystemOr, IsUnread};
 ghost use Rattle.imago_images.specs.Signatures.{told_by_first, told_by_last};
 ghost use Rattle.imago_images.specs.Signatures.{first_block, last_block};
 ghost use Rattle.imago_images.specs.Signatures.{signature_of as signature_by};
@@ -30,7 +30,7 @@ pub fn signature_of<F: HostFile>(
     ensures told { (bytes : List ℕ) → HasBytes ⟦<FileStorage<F> as Storage>⟧.features
         ⟦<FileStorage<F> as Storage>⟧.bytes bytes file.now
         → IfOk result (λ found. found ≡ signature_by bytes) }
-    ensures refused { IfErr result (IsRefused path.now IsByEither) }
+    ensures refused { IfErr result (IsRefused path.now IsUnread) }
 {
     match first_signature(alloc, path, file, None)? {
         Some(found) => Ok(Some(found)),
@@ -50,7 +50,7 @@ pub fn other_signature_of<F: HostFile>(
     ensures told { (bytes : List ℕ) → HasBytes ⟦<FileStorage<F> as Storage>⟧.features
         ⟦<FileStorage<F> as Storage>⟧.bytes bytes file.now
         → IfOk result (λ other. other ≡ other_by found bytes) }
-    ensures refused { IfErr result (IsRefused path.now IsByEither) }
+    ensures refused { IfErr result (IsRefused path.now IsUnread) }
 {
     match first_signature(alloc, path, file, Some(found))? {
         Some(other) => Ok(Some(other)),
@@ -69,7 +69,7 @@ fn signature_behind<F: HostFile>(
         ⟦<FileStorage<F> as Storage>⟧.bytes bytes file.now → IfOk result
         (λ other. other ≡ option_or (told_by_last (Some found) (last_block bytes))
         (iso_beside found bytes)) }
-    ensures refused { IfErr result (IsRefused path.now IsByEither) }
+    ensures refused { IfErr result (IsRefused path.now IsUnread) }
 {
     match last_signature(alloc, path, file, Some(found))? {
         Some(other) => Ok(Some(other)),
@@ -88,7 +88,7 @@ fn iso_signature<F: HostFile>(
     ensures told { (bytes : List ℕ) → HasBytes ⟦<FileStorage<F> as Storage>⟧.features
         ⟦<FileStorage<F> as Storage>⟧.bytes bytes file.now
         → IfOk result (λ other. other ≡ iso_beside found bytes) }
-    ensures refused { IfErr result (IsRefused path.now IsByEither) }
+    ensures refused { IfErr result (IsRefused path.now IsUnread) }
 {
     if found.excludes_iso() && is_iso(alloc, path, file)? {
         return Ok(Some(Signature::Iso));
@@ -101,7 +101,7 @@ fn is_iso<F: HostFile>(alloc: Global, path: &str, file: &FileStorage<F>) -> Resu
     ensures told { (bytes : List ℕ) → HasBytes ⟦<FileStorage<F> as Storage>⟧.features
         ⟦<FileStorage<F> as Storage>⟧.bytes bytes file.now
         → IfOk result (λ is. is ≡ has_iso_mark bytes) }
-    ensures refused { IfErr result (IsRefused path.now IsByEither) }
+    ensures refused { IfErr result (IsRefused path.now IsUnread) }
 {
     let mut mark = [0u8; 5];
     read_block(alloc, path, file, &mut mark, ISO_OFFSET)?;
@@ -119,7 +119,7 @@ fn first_signature<F: HostFile>(
     ensures told { (bytes : List ℕ) → HasBytes ⟦<FileStorage<F> as Storage>⟧.features
         ⟦<FileStorage<F> as Storage>⟧.bytes bytes file.now
         → IfOk result (λ found. found ≡ told_by_first besides (first_block bytes)) }
-    ensures refused { IfErr result (IsRefused path.now IsByEither) }
+    ensures refused { IfErr result (IsRefused path.now IsUnread) }
 {
     let length = length_of(alloc, path, file)?;
     let mut head = [0u8; BLOCK];
@@ -138,7 +138,7 @@ fn last_signature<F: HostFile>(
     ensures told { (bytes : List ℕ) → HasBytes ⟦<FileStorage<F> as Storage>⟧.features
         ⟦<FileStorage<F> as Storage>⟧.bytes bytes file.now
         → IfOk result (λ found. found ≡ told_by_last besides (last_block bytes)) }
-    ensures refused { IfErr result (IsRefused path.now IsByEither) }
+    ensures refused { IfErr result (IsRefused path.now IsUnread) }
 {
     let length = length_of(alloc, path, file)?;
     if length < BLOCK as u64 {
@@ -150,7 +150,7 @@ fn last_signature<F: HostFile>(
 }
 
 /// How long a file is, in bytes.
-pub(crate) fn length_of<F: HostFile>(
+pub fn length_of<F: HostFile>(
     alloc: Global,
     path: &str,
     file: &FileStorage<F>,
@@ -158,7 +158,7 @@ pub(crate) fn length_of<F: HostFile>(
     ensures told { (bytes : List ℕ) → HasBytes ⟦<FileStorage<F> as Storage>⟧.features
         ⟦<FileStorage<F> as Storage>⟧.bytes bytes file.now
         → IfOk result (λ n. n ≡ count_of bytes) }
-    ensures refused { IfErr result (IsRefused path.now IsByDriver) }
+    ensures refused { IfErr result (IsRefused path.now IsUnread) }
 {
     OpenError::or_image(alloc, path, file.size())
 }
@@ -174,7 +174,7 @@ pub(crate) fn read_block<F: HostFile>(
     ensures told { (bytes : List ℕ) → HasBytes ⟦<FileStorage<F> as Storage>⟧.features
         ⟦<FileStorage<F> as Storage>⟧.bytes bytes file.now
         → OnOk result (buf.new ≡ bytes_at bytes «offset» (count_of buf.old)) }
-    ensures refused { IfErr result (IsRefused path.now IsByEither) }
+    ensures refused { IfErr result (IsRefused path.now IsUnread) }
 {
     match file.read(alloc, buf, offset) {
         Ok(()) => Ok(()),
@@ -189,7 +189,7 @@ pub(crate) fn unread<F: HostFile>(
     file: &FileStorage<F>,
     cause: Error,
 ) -> OpenError
-    ensures { IsRefused path.now IsByEither result }
+    ensures { IsRefused path.now (IsBySystemOr cause) result }
 {
     match file.last_error() {
         Some(answer) => OpenError::of_file(alloc, path, Reason::System(answer)),

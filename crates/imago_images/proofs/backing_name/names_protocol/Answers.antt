@@ -1,6 +1,5 @@
 -- SPDX-License-Identifier: MIT
-use Rattle.std.proofs.Common.{arith, ◌≡◌, ◌∙◌, sym, ap}
-use Rattle.imago_images.specs.BackingNames.{names_protocol}
+use Rattle.std.proofs.Common.{arith, ◌∙◌, sym}
 use Rattle.imago_images.proofs.BackingSteps.{at_slash, at_colon, at_other, at_end}
 use Rattle.imago_images.proofs.backing_name.names_protocol.Goals as goal
 

@@ -4,6 +4,7 @@ use Rattle.imago_images.proofs.PathSteps.{features_of, bytes_of}
 use Rattle.imago_file.specs.StorageParts.{faults_of}
 use Rattle.imago_images.proofs.PartSteps.{driver_in, below_in, path_in, format_in}
 use Rattle.imago_images.proofs.LayerSteps.{raw_told, qcow2_told, vmdk_told, qcow2_said, alone_said}
+use Rattle.imago_images.proofs.FaultSteps.{vmdk_layer_out}
 use Rattle.imago_images.proofs.layer.open_layer.Goals as goal
 
 pub returns-in-Raw-clause-layer : goal.returns-in-Raw-clause-layer
@@ -71,3 +72,10 @@ returns-in-Qcow2-clause-format g c =
     driver_in below_in path_in format_in
     c.requires.told
     c.qcow2_layer.ensures.format
+
+pub returns-in-Vmdk-clause-refused : goal.returns-in-Vmdk-clause-refused
+returns-in-Vmdk-clause-refused g c =
+    let host = c.args.host.now in
+    vmdk_layer_out (g.H.Files.contents host) (g.H.Files.statuses host) (g.H.Files.real_paths host)
+    c.args.how.other_files c.args.how c.args.path.now c.vmdk_layer.result c.args.format c.in-Vmdk.is
+    c.vmdk_layer.ensures.refused

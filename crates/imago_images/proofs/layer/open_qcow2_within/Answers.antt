@@ -1,8 +1,8 @@
 -- SPDX-License-Identifier: MIT
 use Rattle.std.proofs.Common.{Some}
-use Rattle.imago_images.specs.HostBytes.{HasBytes}
-use Rattle.imago_images.specs.Refusals.{IsRefused, IsUnopened}
-use Rattle.imago_images.proofs.RefusalSteps.{too_large, where_held}
+use Rattle.imago_qcow2.specs.Limit.{TablesNeedMore}
+use Rattle.imago_qcow2.specs.Opening.{IsRefusedOpening}
+use Rattle.imago_images.proofs.RefusalSteps.{too_large, qcow2_out, driver_fault}
 use Rattle.imago_images.proofs.layer.open_qcow2_within.Goals as goal
 
 pub returns-in-Err-TablesTooLarge-clause-refused :
@@ -14,10 +14,9 @@ returns-in-Err-TablesTooLarge-clause-refused g c =
 
 pub returns-in-Err-Driver-clause-refused : goal.returns-in-Err-Driver-clause-refused
 returns-in-Err-Driver-clause-refused g c =
-    let path = c.args.path.now in
-    let most = c.args.most_tables in
-    where_held (g.H.Files.contents c.args.host.now)
-    (λ files. IsRefused path (IsUnopened (Some most) (files path)) c.not_opened.result)
-    (λ files. HasBytes g.S.Storage.features g.S.Storage.bytes (files path) c.args.file
-    → IsRefused path (IsUnopened (Some most) (files path)) c.not_opened.result)
-    (c.not_opened.ensures (Some most)) (λ files refused told. refused)
+    qcow2_out g.S.Storage.features g.S.Storage.bytes (g.H.Files.contents c.args.host.now) c.args.path.now
+    (Some c.args.most_tables) c.args.file c.in-Err-Driver.cause c.not_opened.result
+    (driver_fault (IsRefusedOpening (g.S.Storage.features c.args.file) (g.S.Storage.bytes c.args.file))
+    (TablesNeedMore (g.S.Storage.features c.args.file) (g.S.Storage.bytes c.args.file) (Some c.args.most_tables))
+    c.in-Err-Driver.field-0 c.in-Err-Driver.cause c.in-Err-Driver.field-0-is c.in-Err-Driver.ensures.refused)
+    (c.not_opened.ensures (Some c.args.most_tables))
