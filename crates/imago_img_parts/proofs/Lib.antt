@@ -9,4 +9,5 @@ mod Decimals
 mod FaultSteps
 mod Cleared
 mod Opened
+mod LongestLaws
 mod VetSteps

@@ -1,14 +1,18 @@
--- How the images that a command line names are opened.
+-- How the images that a command line names are opened, and what tells that a disk is too long.
 -- SPDX-License-Identifier: MIT
-use Rattle.std.specs.Prelude.{Bool, true, false, not, Option, option_map}
+use Rattle.std.specs.Prelude.{◌≡◌, ℕ, Bool, true, false, not, List, Option, option_map, length}
+use Rattle.imago_plan.specs.PieceBytes.{bytes_at}
+use Rattle.imago_vmdk.specs.declared.line.Accepted.{Accepted}
 use Rattle.imago_words.specs.declared.command.Opening as Said
 use Rattle.imago_words.specs.declared.format.Format.{Format}
 use Rattle.imago_words.specs.declared.format.Format.TheVariants as Named
+use Rattle.imago_images.specs.declared.failure.Reason.{Reason}
 use Rattle.imago_images.specs.declared.format.ImageFormat.{ImageFormat}
 use Rattle.imago_images.specs.declared.format.ImageFormat.TheVariants.{Raw, Vmdk, Qcow2}
 use Rattle.imago_images.specs.declared.opening.Opening.{Opening}
 use Rattle.imago_images.specs.declared.opening.OtherFiles.{OtherFiles}
 use Rattle.imago_images.specs.declared.opening.OtherFiles.TheVariants as Others
+use Rattle.imago_images.specs.Longest.{IsTooLong}
 
 -- the format of that name
 abbrev pub image_format : Format → ImageFormat
@@ -33,3 +37,19 @@ how_by format said = record {
   longest = said.max_size;
   writable = false;
 }
+
+-- Two files of that format are alike in what the size of a disk is told by: the length of a raw
+-- file, the length and the header of a qcow2 file, and all of a descriptor.
+abbrev pub HasSameHead : ImageFormat → List ℕ → List ℕ → Type 0
+HasSameHead Raw one other = length one ≡ length other
+HasSameHead Vmdk one other = one ≡ other
+HasSameHead Qcow2 one other =
+    (length one ≡ length other) × (bytes_at one 0 112 ≡ bytes_at other 0 112)
+
+-- That a disk is too long is told by this alone: files that are alike in it are refused alike,
+-- whatever their tables and their data are.
+abbrev pub TooLongByHead : Type 0
+TooLongByHead = (longest : Option ℕ) (accepted : Accepted) (format : ImageFormat)
+    (one other : List ℕ) (reason : Reason) → HasSameHead format one other
+    → IsTooLong longest accepted format one reason
+    → IsTooLong longest accepted format other reason

@@ -2,7 +2,7 @@
 //! How the images that a command line names are opened.
 ghost use Rattle.std.specs.Prelude.{◌≡◌, option_map};
 ghost use Rattle.imago_img_parts.specs.NewFiles.{format_by};
-ghost use Rattle.imago_img_parts.specs.Openings.{how_by, image_format, others_by};
+ghost use Rattle.imago_img_parts.specs.Openings.{how_by, image_format, others_by, TooLongByHead};
 
 use imago_images::format::ImageFormat;
 use imago_images::opening::{Opening, OtherFiles};
@@ -67,3 +67,10 @@ pub fn new_format(settings: Settings) -> FileFormat
         gaps: Gaps::Absent,
     }
 }
+
+/// That a disk is longer than `--max-size` allows is told by the length of a raw file, by the length
+/// and the first 112 bytes of a qcow2 file, and by the text of a descriptor: files that are alike in
+/// these are refused alike. This is a law of what is meant by these words, and nothing is done.
+pub fn too_long_by_head()
+    ensures { TooLongByHead }
+{}
