@@ -1,6 +1,6 @@
 -- What a check says of the files of an image.
 -- SPDX-License-Identifier: MIT
-use Rattle.std.proofs.Common.{◌≡◌, zero, suc, false, nat_eq, arith, ℕ, List, ◌∷◌, map, length, Option, Some, None, Ok, IfSome, String, Global, string_bytes, refl, sym, ap, subst, ◌∙◌}
+use Rattle.std.proofs.Common.{◌≡◌, zero, suc, false, nat_eq, arith, ℕ, List, ◌∷◌, map, Option, Some, None, Ok, IfSome, String, Global, string_bytes, refl, sym, ap, subst, ◌∙◌}
 use Rattle.std.proofs.lemmas.Bool.Decides.{nat_tests}
 use Rattle.imago_storage.specs.Features.{Features}
 use Rattle.imago_vmdk.specs.declared.line.Extent.{Extent}

@@ -9,3 +9,4 @@ mod FaultSteps
 mod Cleared
 mod Opened
 mod VetSteps
+pub mod VetLaws
