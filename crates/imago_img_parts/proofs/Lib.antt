@@ -11,3 +11,4 @@ mod Cleared
 mod Opened
 mod LongestLaws
 mod VetSteps
+pub mod VetLaws

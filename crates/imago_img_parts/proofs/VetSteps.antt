@@ -1,8 +1,7 @@
 -- Whether the entries of tables can be read.
 -- SPDX-License-Identifier: MIT
-use Rattle.std.proofs.Common.{◌≡◌, ℕ, zero, suc, ◌+◌, ◌*◌, ◌/◌, ◌^◌, ◌<◌, ◌≤◌, ◌⊎◌, Bool, true, false, ◌&&◌, List, length, Option, IfSome, Result, Ok, refl, sym, ap, ◌∙◌, subst, ⊎_elim, add-one, arith}
-use Rattle.std.specs.Prelude.{None, IsOk, slice_index}
-use Rattle.std.specs.Int.{div_ceil}
+use Rattle.std.proofs.Common.{◌≡◌, ℕ, zero, suc, ◌+◌, ◌*◌, ◌/◌, ◌^◌, ◌<◌, ◌≤◌, ◌⊎◌, Bool, true, false, ◌&&◌, List, [], length, Option, IfOk, IfSome, Result, Ok, Err, refl, sym, ap, ◌∙◌, subst, ⊎_elim, inl, inr, add-one, arith}
+use Rattle.std.specs.Prelude.{Decides, None, IsOk, slice_index}
 use Rattle.std.proofs.lemmas.Bool.{cases_eq}
 use Rattle.imago_storage.specs.Bytes.{IsReadAt}
 use Rattle.imago_qcow2.specs.declared.entry.L2Table.{L2Table}
@@ -11,14 +10,17 @@ use Rattle.imago_qcow2.specs.Numbers.{be32, be64}
 use Rattle.imago_storage.specs.declared.error.Error.{Error}
 use Rattle.imago_qcow2.specs.declared.header.Header.{Header}
 use Rattle.imago_qcow2.specs.Header.{compression_of, header_of}
-use Rattle.imago_qcow2.specs.Entry.{version_of, cluster_length, l1_start, table_in_entry, table_of}
+use Rattle.imago_qcow2.specs.Entry.{version_of, cluster_length, per_table, l1_start, table_in_entry, table_of}
 use Rattle.imago_qcow2.specs.Opening.{table_count}
+use Rattle.imago_vmdk.specs.declared.line.Accepted.{Accepted}
+use Rattle.imago_vmdk.specs.declared.line.Extent.{Extent}
+use Rattle.imago_vmdk.specs.Reading.{reading_of, GivesOrMemory}
 use Rattle.imago_qcow2.proofs.NumberSteps.{read64}
 use Rattle.imago_qcow2.proofs.HeaderSteps.{same32, same64, compression_same, header_same, head_same}
 use Rattle.imago_images.specs.declared.opening.Opening.{Opening}
 use Rattle.imago_images.specs.Layers.{SaysBacking}
 use Rattle.imago_img_parts.specs.declared.vet_tables.Shape.{Shape}
-use Rattle.imago_img_parts.specs.Vetted.{named_by, named_tables, IsSafeTable, AreSafeTables, IsVetted}
+use Rattle.imago_img_parts.specs.Vetted.{named_by, named_tables, IsSafeTable, AreSafeTables, AreSafeExtents, IsSafeDescriptor, IsVetted}
 use Rattle.imago_img_parts.specs.VettedParts.{IsEntrySafe, IsTableSafe, AreEntriesSafe}
 
 -- one more of them holds, where all did before
@@ -34,6 +36,47 @@ module _ (P : ℕ → Type 0) where
   next_of n true true before now is = one_more n (before refl) (now refl)
   next_of n true false before now is = let e : ⊥ = cc is in absurd e
   next_of n false here before now is = let e : ⊥ = cc is in absurd e
+
+both : (a b : Bool) → a ≡ true → b ≡ true → (a && b) ≡ true
+both true b is also = also
+both false b is also = let e : ⊥ = cc is in absurd e
+
+left_of : (a b : Bool) → (a && b) ≡ true → a ≡ true
+left_of true b is = refl
+left_of false b is = is
+
+right_of : (a b : Bool) → (a && b) ≡ true → b ≡ true
+right_of true b is = is
+right_of false b is = let e : ⊥ = cc is in absurd e
+
+-- what is decided of two things, of none and of one that is another's
+pub decides_both :
+    {P Q : Type 0} (a b : Bool) → Decides a P → Decides b Q → Decides (a && b) (P × Q)
+decides_both a b p q = (
+  (λ is. (p.0 (left_of a b is), q.0 (right_of a b is))),
+  (λ (x, y). both a b (p.1 x) (q.1 y)),
+)
+
+pub decides_no : {P : Type 0} → (P → ⊥) → Decides false P
+decides_no never = ((λ is. let e : ⊥ = cc is in absurd e), λ p. absurd (never p))
+
+pub decides_as : {P Q : Type 0} (a : Bool) → (P → Q) → (Q → P) → Decides a P → Decides a Q
+decides_as a to from p = ((λ is. to (p.0 is)), λ q. p.1 (from q))
+
+pub not_decided : {P : Type 0} (a : Bool) → a ≡ false → Decides a P → P → ⊥
+not_decided a is p x = let yes = p.1 x in let e : ⊥ = cc (is, yes) in e
+
+-- the same of each of so many
+pub decides_none : (P : ℕ → Type 0) → Decides true ((j : ℕ) → j < 0 → P j)
+decides_none P = ((λ is j below. let e : ⊥ = omega (arith, below) in absurd e), λ all. refl)
+
+pub decides_next :
+    (P : ℕ → Type 0) (n : ℕ) (safe here : Bool) → Decides safe ((j : ℕ) → j < n → P j) → Decides here (P n)
+    → Decides (safe && here) ((j : ℕ) → j < n + 1 → P j)
+decides_next P n safe here before now = (
+  next_of P n safe here before.0 now.0,
+  (λ all. both safe here (before.1 (λ j below. all j (omega (arith, below)))) (now.1 (all n (omega arith)))),
+)
 
 -- how many tables are named, with one more entry
 pub named_more : (says : ℕ → L2Table) (n : ℕ) → named_tables says (n + 1) ≡ named_tables says n + named_by (says n)
@@ -55,6 +98,14 @@ table_read s bytes table at r whole each j below =
     subst (IsEntrySafe s) (read64 bytes table at r (8 * j) (omega (arith, whole, below)))
     (each j (omega (arith, whole, below)))
 
+-- and those of the file are the table's
+pub table_written : (s : Shape) (bytes table : List ℕ) (at : ℕ) → IsReadAt bytes at table → length table ≡ s.cluster
+    → ((j : ℕ) → j < s.cluster / 8 → IsEntrySafe s (be64 bytes (at + 8 * j)))
+    → (j : ℕ) → j < length table / 8 → IsEntrySafe s (be64 table (8 * j))
+table_written s bytes table at r whole each j below =
+    subst (IsEntrySafe s) (sym (read64 bytes table at r (8 * j) (omega (arith, whole, below))))
+    (each j (omega (arith, whole, below)))
+
 module _ (s : Shape) (bytes : List ℕ) (file : s.file ≡ length bytes) (cluster : s.cluster ≡ cluster_length bytes)
     (version : s.version ≡ version_of bytes) (way : s.compression ≡ compression_of bytes) where
   -- what can be read by the shape can be by the file
@@ -64,6 +115,13 @@ module _ (s : Shape) (bytes : List ℕ) (file : s.file ≡ length bytes) (cluste
       let near : j < s.cluster / 8 = rw cluster below in
       rw (file, cluster, version, way) at (safe j near)
   table_moved T.Invalid safe = safe
+
+  pub table_back : (t : L2Table) → IsSafeTable bytes t → IsTableSafe s bytes t
+  table_back T.Absent safe = tt
+  table_back (T.Stored at) safe = λ j below.
+      let near : j < per_table bytes = rw cluster at below in
+      rw (file, cluster, version, way) (safe j near)
+  table_back T.Invalid safe = safe
 
   -- the tables whose L1 entries were read
   module _ (entries : List ℕ) (start count : ℕ) (is_start : start ≡ l1_start bytes) (is_count : count ≡ table_count bytes)
@@ -76,22 +134,34 @@ module _ (s : Shape) (bytes : List ℕ) (file : s.file ≡ length bytes) (cluste
         let e : be64 entries (8 * i) ≡ be64 bytes (l1_start bytes + 8 * i) = read64 bytes entries start r (8 * i) (omega (arith, len, below)) ∙ ap (λ x. be64 bytes (x + 8 * i)) is_start in
         rw (file, cluster, e) refl
 
-    pub tables_safe : (most taken : ℕ) → taken ≡ 8 * count + s.cluster * named_tables says (length entries / 8) → taken ≤ most
-        → AreEntriesSafe s bytes entries (length entries / 8) → AreSafeTables most bytes
-    tables_safe most taken is few each =
+    pub tables_taken : (taken : ℕ) → taken ≡ 8 * count + s.cluster * named_tables says (length entries / 8)
+        → taken ≡ 8 * table_count bytes + cluster_length bytes * named_tables (table_of bytes) (table_count bytes)
+    tables_taken taken is =
         let k : length entries / 8 ≡ count = omega (arith, len) in
         let named : named_tables says (length entries / 8) ≡ named_tables (table_of bytes) (table_count bytes) =
         ap (named_tables says) k ∙ named_same says (table_of bytes) count says_same ∙ ap (named_tables (table_of bytes)) is_count in
         let all : 8 * count + s.cluster * named_tables says (length entries / 8)
         ≡ 8 * table_count bytes + cluster_length bytes * named_tables (table_of bytes) (table_count bytes) = rw (named, is_count, cluster) refl in
-        let sum : taken ≡ 8 * table_count bytes + cluster_length bytes * named_tables (table_of bytes) (table_count bytes) = is ∙ all in
+        is ∙ all
+
+    pub tables_safe : (most taken : ℕ) → taken ≡ 8 * count + s.cluster * named_tables says (length entries / 8) → taken ≤ most
+        → 8 * count ≤ 33554432 → AreEntriesSafe s bytes entries (length entries / 8) → AreSafeTables most bytes
+    tables_safe most taken is few held each =
+        let k : length entries / 8 ≡ count = omega (arith, len) in
         record {
-          few = subst (λ (n : ℕ). n ≤ most) sum few;
+          held = subst (λ (n : ℕ). 8 * n ≤ 33554432) is_count held;
+          few = subst (λ (n : ℕ). n ≤ most) (tables_taken taken is) few;
           each = λ i below.
               let near : i < count = omega (arith, is_count, below) in
               let here : IsTableSafe s bytes (table_of bytes i) = subst (IsTableSafe s bytes) (says_same i near) (each i (omega (arith, k, near))) in
               table_moved (table_of bytes i) here;
         }
+
+    pub tables_back : (most : ℕ) → AreSafeTables most bytes → AreEntriesSafe s bytes entries (length entries / 8)
+    tables_back most safe i below =
+        let near : i < count = omega (arith, len, below) in
+        subst (IsTableSafe s bytes) (sym (says_same i near))
+        (table_back (table_of bytes i) (safe.each i (omega (arith, is_count, near))))
 
 -- what the first bytes of a file say, the file does
 module _ (bytes head : List ℕ) (r : IsReadAt bytes 0 head) (len : 112 ≤ length head) where
@@ -122,13 +192,67 @@ module _ (bytes head : List ℕ) (r : IsReadAt bytes 0 head) (len : 112 ≤ leng
       let n = same32 bytes head begins 16 (omega arith) in
       rw (at, n) at named
 
+  pub backing_back : SaysBacking bytes None → SaysBacking head None
+  backing_back named =
+      let at = same64 bytes head begins 8 (omega arith) in
+      let n = same32 bytes head begins 16 (omega arith) in
+      rw (at, n) named
+
+  pub header_faulty : (file : ℕ) (e : Error) → file ≡ length bytes → Err e ≡ header_of head file → IsOk (header_of bytes (length bytes)) → ⊥
+  header_faulty file e is fault ok =
+      let same : header_of head file ≡ header_of bytes (length bytes) = header_same bytes head begins file ∙ ap (header_of bytes) is in
+      let wrong : IsOk {T = Header} (Err e) = subst (λ (x : Result Header Error). IsOk x) (sym (fault ∙ same)) ok in
+      let none : ⊥ = cc wrong in none
+
   pub header_moved : (file : ℕ) (h : Header) → file ≡ length bytes → Ok h ≡ header_of head file → IsOk (header_of bytes (length bytes))
   header_moved file h is ok =
       let e : header_of head file ≡ header_of bytes (length bytes) = header_same bytes head begins file ∙ ap (header_of bytes) is in
       subst (λ (x : Result Header Error). IsOk x) (ok ∙ e) refl
 
+-- what was read twice is the same
+first_of : Result (List (Extent (List ℕ)) × ℕ) Error → List (Extent (List ℕ))
+first_of (Ok read) = read.0
+first_of (Err e) = []
+
+pub same_extents :
+    (r : Result (List (Extent (List ℕ)) × ℕ) Error) (xs ys : List (Extent (List ℕ))) (m n : ℕ)
+    → r ≡ Ok (xs, m) → r ≡ Ok (ys, n) → xs ≡ ys
+unfolding first_of
+same_extents r xs ys m n one other = ap first_of (sym one ∙ other)
+
+-- a descriptor that was read is safe or not by its extents, and one that can't be isn't
+pub decides_text :
+    (accepted : Accepted) (bytes : List ℕ) (extents : List (Extent (List ℕ))) (size : ℕ) (safe : Bool)
+    → reading_of accepted bytes ≡ Ok (extents, size) → Decides safe (AreSafeExtents extents)
+    → Decides safe (IsSafeDescriptor accepted bytes)
+decides_text accepted bytes extents size safe read each = (
+  (λ is. (extents, size, read, each.0 is)),
+  (λ d. each.1 (subst (λ (es : List (Extent (List ℕ))). AreSafeExtents es)
+      (same_extents (reading_of accepted bytes) d.0 extents d.1 size d.2 read) d.3)),
+)
+
+pub text_faulty :
+    {V : Type 0} (view : V → List (Extent (List ℕ)) × ℕ) (accepted : Accepted) (bytes text : List ℕ)
+    (r : Result V Error) (cause : Error) → r ≡ Err cause → (cause ≡ Error.Memory → ⊥) → text ≡ bytes
+    → GivesOrMemory view r (reading_of accepted text) → IsSafeDescriptor accepted bytes → ⊥
+text_faulty {V} view accepted bytes text r cause is other same gives d =
+    either (subst (λ (q : Result V Error). GivesOrMemory view q (reading_of accepted text)) is gives)
+  where
+    read : reading_of accepted text ≡ Ok (d.0, d.1)
+    read = ap (reading_of accepted) same ∙ d.2
+
+    either : (reading_of accepted text ≡ Err cause) ⊎ ((cause ≡ Error.Memory) × IsOk (reading_of accepted text)) → ⊥
+    either (inl fault) = let never : ⊥ = cc (fault, read) in never
+    either (inr never) = other never.0
+
+pub text_refused :
+    {F : Type 0} (r : Result Bool F) (P Q : Type 0) → IfOk r (λ safe. safe ≡ false) → IfOk r (λ _. Q)
+    → (Q → P → ⊥) → IfOk r (λ safe. Decides safe P)
+text_refused (Ok safe) P Q is q never = subst (λ (b : Bool). Decides b P) (sym is) (decides_no (never q))
+text_refused (Err e) P Q is q never = tt
+
 -- the same by how the image is opened
 pub vetted_as_said : (a b : Opening) → a ≡ b → (known : Option (List ℕ → List ℕ)) (path : List ℕ) (safe : Bool)
-    → (safe ≡ true → IfSome known (λ files. IsVetted a path (files path)))
-    → safe ≡ true → IfSome known (λ files. IsVetted b path (files path))
-vetted_as_said a b same known path safe h is = subst (λ (how : Opening). IfSome known (λ files. IsVetted how path (files path))) same (h is)
+    → IfSome known (λ files. Decides safe (IsVetted a path (files path)))
+    → IfSome known (λ files. Decides safe (IsVetted b path (files path)))
+vetted_as_said a b same known path safe h = subst (λ (how : Opening). IfSome known (λ files. Decides safe (IsVetted how path (files path)))) same h

@@ -1,7 +1,7 @@
 -- What the commands of `imago-img` do, by the status that each gives.
 -- SPDX-License-Identifier: MIT
 use Rattle.std.specs.Prelude.{◌≡◌, ◌≤◌, ◌⊎◌, ℕ, Bool, true, false, List, Option, None, Some}
-use Rattle.std.specs.Prelude.{IfSome, option_map}
+use Rattle.std.specs.Prelude.{Decides, IfSome, option_map}
 use Rattle.imago_words.specs.declared.command.Command.{Command}
 use Rattle.imago_words.specs.declared.command.Command.TheVariants as Asked
 use Rattle.imago_words.specs.declared.command.Convert.{Convert}
@@ -72,8 +72,8 @@ IsAnswered (Q.Check c) contents outcome =
     (verdict : Option Verdict) × (outcome ≡ Checked verdict) × IfSome contents
     (λ files. IsChecked (how_by c.format c.opening) files c.file.now verdict)
 IsAnswered (Q.Vet c) contents outcome =
-    (safe : Bool) × (outcome ≡ Vetted safe) × (safe ≡ true → IfSome contents
-    (λ files. IsVetted (how_by c.format c.opening) c.file.now (files c.file.now)))
+    (safe : Bool) × (outcome ≡ Vetted safe) × IfSome contents
+    (λ files. Decides safe (IsVetted (how_by c.format c.opening) c.file.now (files c.file.now)))
 IsAnswered (Q.Measure c) contents outcome = outcome ≡ Fine
 IsAnswered (Q.Compare c) contents outcome =
     (alike : Bool) × (outcome ≡ outcome_when alike) × IfSome contents

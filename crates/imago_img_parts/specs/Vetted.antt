@@ -1,8 +1,9 @@
 -- What is so of a file that is safe to hand on: what opens it, and each place of its disk.
 -- SPDX-License-Identifier: MIT
 use Rattle.std.specs.Prelude.{◌≡◌, ℕ, zero, suc, ◌+◌, ◌*◌, ◌<◌, ◌≤◌, List, [], ◌∷◌, length}
-use Rattle.std.specs.Prelude.{None, Ok, IsOk}
-use Rattle.std.specs.String.{string_bytes}
+use Rattle.std.specs.Prelude.{false, Option, None, Ok, IsOk}
+use Rattle.std.specs.Int.{next_multiple_of}
+use Rattle.imago_storage.specs.Error.{IsExtRefusal}
 use Rattle.imago_vmdk.specs.declared.line.Accepted.{Accepted}
 use Rattle.imago_vmdk.specs.declared.line.Extent.{Extent}
 use Rattle.imago_vmdk.specs.Reading.{reading_of}
@@ -19,31 +20,40 @@ use Rattle.imago_qcow2.specs.Entry.{cluster_in_entry}
 use Rattle.imago_qcow2.specs.Opening.{table_count}
 use Rattle.imago_images.specs.declared.failure.OpenError.{OpenError}
 use Rattle.imago_images.specs.declared.failure.Reason.{Reason}
+use Rattle.imago_images.specs.declared.files.FileStatus.{FileStatus}
 use Rattle.imago_images.specs.declared.format.ImageFormat.{ImageFormat}
 use Rattle.imago_images.specs.declared.format.ImageFormat.TheVariants.{Raw, Vmdk, Qcow2}
 use Rattle.imago_images.specs.declared.opening.Opening.{Opening}
+use Rattle.imago_images.specs.declared.opening.OtherFiles.TheVariants as Others
 use Rattle.imago_images.specs.Alone.{HasOneFormat}
+use Rattle.imago_images.specs.Chains.{IsImageRefused}
 use Rattle.imago_images.specs.Formats.{IsFormatBy}
 use Rattle.imago_images.specs.Layers.{SaysBacking}
 use Rattle.imago_images.specs.Longest.{IsNoLonger}
-use Rattle.imago_images.specs.Refusals.{SaysOtherFormat}
 use Rattle.imago_images.specs.Signatures.{signature_of}
+use Rattle.imago_img_parts.specs.declared.failure.Failure.{Failure}
 use Rattle.imago_img_parts.specs.Checked.{most_memory}
 
--- What an L2 entry says of its guest cluster can be read, in a file of that length: the cluster
--- that it names begins in the file, and one that is compressed is deflated.
-abbrev pub IsSafeCluster : ℕ → Compression → GuestCluster → Type 0
-IsSafeCluster file by C.Absent = Unit {0}
-IsSafeCluster file by C.Zero = Unit {0}
-IsSafeCluster file by (C.Stored at) = at < file
-IsSafeCluster file by (C.Compressed at count) = (at < file) × (by ≡ By.Deflate)
-IsSafeCluster file by C.Invalid = ⊥
+-- So many bytes from an offset on begin in a file of that length, and end in it or in its last
+-- cluster, which may be cut.
+abbrev pub IsThere : ℕ → ℕ → ℕ → ℕ → Type 0
+IsThere file cluster at count = (at < file) × (at + count ≤ next_multiple_of file cluster)
+
+-- What an L2 entry says of its guest cluster can be read, in a file of that length, whose clusters
+-- have that length: the bytes that it names are there, and those that are compressed are deflated.
+abbrev pub IsSafeCluster : ℕ → ℕ → Compression → GuestCluster → Type 0
+IsSafeCluster file cluster by C.Absent = Unit {0}
+IsSafeCluster file cluster by C.Zero = Unit {0}
+IsSafeCluster file cluster by (C.Stored at) = IsThere file cluster at cluster
+IsSafeCluster file cluster by (C.Compressed at count) =
+    IsThere file cluster at count × (by ≡ By.Deflate)
+IsSafeCluster file cluster by C.Invalid = ⊥
 
 -- each entry of the L2 table that an L1 entry names can be read, if it names one
 abbrev pub IsSafeTable : List ℕ → L2Table → Type 0
 IsSafeTable bytes T.Absent = Unit {0}
 IsSafeTable bytes (T.Stored at) = (j : ℕ) → j < per_table bytes
-    → IsSafeCluster (length bytes) (compression_of bytes)
+    → IsSafeCluster (length bytes) (cluster_length bytes) (compression_of bytes)
     (cluster_in_entry (version_of bytes) (cluster_length bytes) (be64 bytes (at + 8 * j)))
 IsSafeTable bytes T.Invalid = ⊥
 
@@ -58,8 +68,10 @@ named_tables says zero = 0
 named_tables says (suc n) = named_tables says n + named_by (says n)
 
 -- The tables of a qcow2 file have at most so many bytes, where an L2 table counts as often as it
--- is named, and each of their entries can be read.
+-- is named, and those of the L1 table, which is held whole, are at most 32 MiB. Each of their
+-- entries can be read.
 pub record AreSafeTables (most : ℕ) (bytes : List ℕ) : Type 0 where
+  pub held : 8 * table_count bytes ≤ 33554432
   pub few : 8 * table_count bytes
       + cluster_length bytes * named_tables (table_of bytes) (table_count bytes) ≤ most
   pub each : (i : ℕ) → i < table_count bytes → IsSafeTable bytes (table_of bytes i)
@@ -102,19 +114,31 @@ pub record IsVetted (how : Opening) (path bytes : List ℕ) : Type 0 where
   pub longest : IsNoLonger how.longest how.accepted format bytes
   pub safe : IsSafeAs how bytes format
 
--- Why a file of that format with these bytes isn't opened, if not for what it says: the host doesn't
--- hand it out, or the driver doesn't read it. What the opener promises of two other reasons leaves
--- them open here, though its code tells neither of such a file: a format of a file below that isn't
--- known, where no file below is named; and an extent of a descriptor, where none is in a file.
-abbrev pub IsNotItsOwn : ImageFormat → List ℕ → Reason → Type 0
-IsNotItsOwn format bytes (Reason.System answer) = Unit {0}
-IsNotItsOwn format bytes (Reason.Image error) = Unit {0}
-IsNotItsOwn format bytes Reason.NotAFile = Unit {0}
-IsNotItsOwn Qcow2 bytes (Reason.BackingFormat name) = SaysOtherFormat bytes (string_bytes name)
-IsNotItsOwn Vmdk bytes (Reason.NotPermitted name) = Unit {0}
-IsNotItsOwn format bytes reason = ⊥
+-- Why a file isn't opened, if not for what it says: the host doesn't hand it out or doesn't read it,
+-- its storage failed, or it is no file.
+abbrev pub IsOfHost : Reason → Type 0
+IsOfHost (Reason.System answer) = Unit {0}
+IsOfHost (Reason.Image error) = IsExtRefusal error
+IsOfHost Reason.NotAFile = Unit {0}
+IsOfHost reason = ⊥
 
 -- a refusal is for such a reason, or memory was refused
-abbrev pub IsLeftOver : ImageFormat → List ℕ → OpenError → Type 0
-IsLeftOver format bytes (OpenError.OfFile named reason) = IsNotItsOwn format bytes reason
-IsLeftOver format bytes OpenError.Memory = Unit {0}
+abbrev pub IsHostRefusal : OpenError → Type 0
+IsHostRefusal (OpenError.OfFile named reason) = IsOfHost reason
+IsHostRefusal OpenError.Memory = Unit {0}
+
+-- a command isn't done for such a reason
+abbrev pub IsHostFailure : Failure → Type 0
+IsHostFailure (Failure.NotOpened cause) = IsHostRefusal cause
+IsHostFailure (Failure.Needed image cause) = IsHostRefusal cause
+IsHostFailure Failure.Memory = Unit {0}
+IsHostFailure failure = ⊥
+
+-- What is safe to hand on opens: where no other files are opened, and none is written to, the image
+-- of a file that is vetted so isn't refused but by the host or for memory.
+abbrev pub VettedOpens : Type 0
+VettedOpens = (how : Opening) (files : List ℕ → List ℕ) (statuses : Option (List ℕ → FileStatus))
+    (reals : Option (List ℕ → List ℕ)) (path : List ℕ) (e : OpenError)
+    → how.other_files ≡ Others.None → IsVetted how path (files path)
+    → IsImageRefused false files statuses reals how.other_files how how.format path e
+    → IsHostRefusal e

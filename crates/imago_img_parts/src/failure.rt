@@ -1,6 +1,7 @@
 // SPDX-License-Identifier: MIT
 //! Why a command isn't done.
 ghost use Rattle.std.specs.Prelude.{◌≡◌, MatchResult, IsErr};
+ghost use Rattle.imago_img_parts.specs.Vetted.{IsHostRefusal, IsHostFailure};
 
 pub use imago_images::failure::{OpenError, Reason};
 use imago_images::format::ImageFormat;
@@ -331,7 +332,9 @@ impl Failure {
     }
 
     /// The image of that path isn't opened, for that cause.
-    pub fn of_image(alloc: Global, image: &str, cause: OpenError) -> Failure {
+    pub fn of_image(alloc: Global, image: &str, cause: OpenError) -> Failure
+        ensures { IsHostRefusal cause → IsHostFailure result }
+    {
         if is_of(image, &cause) {
             return Failure::from(cause);
         }
@@ -408,6 +411,8 @@ impl Failure {
 }
 
 impl From<OpenError> for Failure {
+    ghost from_gives = { λ cause failure. IsHostRefusal cause → IsHostFailure failure };
+
     fn from(cause: OpenError) -> Failure {
         match cause {
             OpenError::Memory => Failure::Memory,

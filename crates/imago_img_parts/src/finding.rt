@@ -1,5 +1,7 @@
 // SPDX-License-Identifier: MIT
 //! Why a file isn't safe to hand on.
+ghost use Rattle.std.specs.Prelude.{◌≡◌, is_some, OnOk};
+ghost use Rattle.imago_img_parts.specs.VettedParts.{is_of_file, is_told, IsTold};
 
 use crate::failure::{Failure, OpenError, Reason};
 use imago_images::format::ImageFormat;
@@ -160,7 +162,9 @@ fn kind_of_header(fault: HeaderFault) -> Kind {
 pub const CORRUPT: u64 = 1 << 1;
 
 /// The kind of a driver's answer. None is one that says nothing of the file.
-fn kind_of_error(cause: error::Error) -> Option<Kind> {
+fn kind_of_error(cause: error::Error) -> Option<Kind>
+    ensures { is_some result ≡ is_of_file cause }
+{
     match cause {
         error::Error::InvalidData => Some(Kind::Invalid),
         error::Error::Unsupported => Some(Kind::Feature),
@@ -169,7 +173,9 @@ fn kind_of_error(cause: error::Error) -> Option<Kind> {
 }
 
 /// The kind of a reason for which a file isn't opened. None is one that says nothing of the file.
-fn kind_of_reason(reason: &Reason) -> Option<Kind> {
+fn kind_of_reason(reason: &Reason) -> Option<Kind>
+    ensures { is_some result ≡ is_told reason.now }
+{
     match reason {
         Reason::Another { .. } | Reason::Recognised(_) | Reason::Sparse => {
             Some(Kind::AnotherFormat)
@@ -296,7 +302,9 @@ impl Findings {
     }
 
     /// The same by why the file isn't opened. A reason that says nothing of the file is passed on.
-    pub fn refuse(&mut self, refused: OpenError, at: Option<u64>) -> Result<(), Failure> {
+    pub fn refuse(&mut self, refused: OpenError, at: Option<u64>) -> Result<(), Failure>
+        ensures { OnOk result (IsTold refused) }
+    {
         let OpenError::OfFile { path, reason } = refused else {
             return Err(Failure::Memory);
         };

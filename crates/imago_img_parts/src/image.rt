@@ -1,11 +1,13 @@
 // SPDX-License-Identifier: MIT
 //! What the commands ask of an opened image: whether its disk can be read, and its files.
-ghost use Rattle.std.specs.Prelude.{◌≡◌, IfOk, IfSome, IsErr, MatchResult};
+ghost use Rattle.std.specs.Prelude.{◌≡◌, false, IfOk, IfErr, IfSome, IsErr, MatchResult};
 ghost use Rattle.imago_access.specs.Chain.{driver};
 ghost use Rattle.imago_access.specs.Target.{target};
 ghost use Rattle.imago_copy.specs.LayerRuns.{AreLayerRuns};
 ghost use Rattle.imago_images.specs.Formats.{IsFormatBy};
 ghost use Rattle.imago_images.specs.Images.{IsImageIn};
+ghost use Rattle.imago_images.specs.declared.opening.OtherFiles.TheVariants as Others;
+ghost use Rattle.imago_img_parts.specs.Vetted.{IsVetted, IsHostRefusal, IsHostFailure};
 
 use crate::failure::{ClusterFault, Failure, OpenError, Reason};
 use crate::faulty::{invalid_entry_at, invalid_entry_in};
@@ -28,7 +30,8 @@ use std::io;
 pub const CHUNK: usize = 1 << 20;
 
 /// Opens the image of a path, as [`open_image`] does. A file that the image needs and that can't be
-/// used is told with the image.
+/// used is told with the image. One that `vet` calls safe isn't refused where no other files are
+/// opened, but by the host or for memory.
 pub fn opened<'a, H: Host>(
     host: &'a H,
     path: &str,
@@ -39,6 +42,9 @@ pub fn opened<'a, H: Host>(
     ensures image { IfOk result (λ r. IfSome (H.contents host.now)
         (λ files. IsImageIn ⟦<AnyDriver<PathStorage<'a, H>> as FormatDriverInstance>⟧.view
         how.accepted how.other_files files path.now r.0 r.1)) }
+    ensures vetted { how.other_files ≡ Others.None → how.writable ≡ false → IfErr result
+        (λ failure. IfSome (H.contents host.now) (λ files. IsVetted how path.now (files path.now)
+        → IsHostFailure failure)) }
 {
     or_not_opened(host, path, open_image(host, path, how))
 }
@@ -49,7 +55,9 @@ fn or_not_opened<H: Host, T>(
     path: &str,
     answer: Result<T, OpenError>,
 ) -> Result<T, Failure>
-    ensures { MatchResult answer (λ x. result ≡ Ok x) (λ _. IsErr result) }
+    ensures given { MatchResult answer (λ x. result ≡ Ok x) (λ _. IsErr result) }
+    ensures refused { IfErr answer (λ cause. IfErr result
+        (λ failure. IsHostRefusal cause → IsHostFailure failure)) }
 {
     match answer {
         Ok(found) => Ok(found),
@@ -58,7 +66,9 @@ fn or_not_opened<H: Host, T>(
 }
 
 /// Why the image of a path isn't opened: by the first invalid entry of the file that has one.
-fn not_opened<H: Host>(host: &H, path: &str, cause: OpenError) -> Failure {
+fn not_opened<H: Host>(host: &H, path: &str, cause: OpenError) -> Failure
+    ensures { IsHostRefusal cause → IsHostFailure result }
+{
     if let OpenError::OfFile {
         path: file,
         reason: Reason::Image(Error::InvalidData),

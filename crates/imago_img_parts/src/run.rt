@@ -1,7 +1,7 @@
 // SPDX-License-Identifier: MIT
 //! The program, over any host.
 ghost use Rattle.std.specs.Prelude.{◌≡◌, ◌≤◌, ◌&&◌, OnOk, OnErr, IfOk, IfSome, is_some, map};
-ghost use Rattle.std.specs.Prelude.{not, option_map, Bool, Option, true};
+ghost use Rattle.std.specs.Prelude.{Decides, not, option_map, Bool, Option};
 ghost use Rattle.std.specs.Prelude.{string_bytes};
 ghost use Rattle.imago_words.specs.declared.command.Command.{Command};
 ghost use Rattle.imago_words.specs.Line.{Asks, kind_named, status_for, status_of};
@@ -483,8 +483,8 @@ fn look_at_stranger<H: Host, W: Write>(
     output: &mut W,
 ) -> Result<Outcome, Failure>
     ensures { IfOk result (λ outcome. (safe : Bool) × (outcome ≡ Vetted safe)
-        × (safe ≡ true → IfSome (H.contents host.now) (λ files.
-        IsVetted (how_by asked.entry.format asked.entry.opening) asked.entry.file.now
+        × IfSome (H.contents host.now) (λ files. Decides safe
+        (IsVetted (how_by asked.entry.format asked.entry.opening) asked.entry.file.now
         (files asked.entry.file.now)))) }
 {
     let how = how_to_open(asked.format, asked.opening);

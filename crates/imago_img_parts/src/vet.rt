@@ -1,12 +1,13 @@
 // SPDX-License-Identifier: MIT
 //! Whether a file from a stranger is safe to hand on.
-ghost use Rattle.std.specs.Prelude.{◌≡◌, ℕ, List, true, Some, IfOk, IfSome};
+ghost use Rattle.std.specs.Prelude.{◌≡◌, ℕ, List, Decides, true, None, Some, IfOk, OnOk, IfSome};
 ghost use Rattle.imago_images.specs.Alone.{HasOneFormat};
 ghost use Rattle.imago_images.specs.Formats.{IsFormatBy};
 ghost use Rattle.imago_images.specs.HostBytes.{HasBytes};
 ghost use Rattle.imago_images.specs.Longest.{IsNoLonger};
 ghost use Rattle.imago_images.specs.Signatures.{signature_of};
-ghost use Rattle.imago_img_parts.specs.Vetted.{IsSafeAs, IsVetted};
+ghost use Rattle.imago_img_parts.specs.Vetted.{IsSafeAs, IsVetted, VettedOpens};
+ghost use Rattle.imago_img_parts.specs.VettedParts.{IsTold};
 
 use crate::failure::{Failure, OpenError, Reason};
 use crate::finding::{Finding, Findings, Told};
@@ -43,8 +44,8 @@ pub fn vet<H: Host, W: Write>(
     json: bool,
     output: &mut W,
 ) -> Result<bool, Failure>
-    ensures { IfOk result (λ safe. safe ≡ true → IfSome (H.contents host.now)
-        (λ files. IsVetted how path.now (files path.now))) }
+    ensures { IfOk result (λ safe. IfSome (H.contents host.now)
+        (λ files. Decides safe (IsVetted how path.now (files path.now)))) }
 {
     let alloc = host.alloc();
     let file = look_at(host, path)?;
@@ -59,6 +60,13 @@ pub fn vet<H: Host, W: Write>(
     Ok(safe)
 }
 
+/// What is safe to hand on opens: the image of a file for which [`vet`] answers so, opened in the
+/// same way and by itself, isn't refused but by the host or for memory. This is a law of what is
+/// meant by these words, and nothing is done.
+pub fn vetted_opens()
+    ensures { VettedOpens }
+{}
+
 /// Whether a file that was looked at is safe. All that speaks against it is told.
 fn vet_file<F: HostFile>(
     alloc: Global,
@@ -69,7 +77,7 @@ fn vet_file<F: HostFile>(
 ) -> Result<bool, Failure>
     ensures { (bytes : List ℕ) → HasBytes ⟦<FileStorage<F> as Storage>⟧.features
         ⟦<FileStorage<F> as Storage>⟧.bytes bytes file.now
-        → IfOk result (λ safe. safe ≡ true → IsVetted how path.now bytes) }
+        → IfOk result (λ safe. Decides safe (IsVetted how path.now bytes)) }
 {
     let one = is_one_format(alloc, path, file, how.format, told)?;
     let Some(format) = told_format(alloc, path, file, how.format, told)? else {
@@ -97,7 +105,7 @@ fn is_one_format<F: HostFile>(
 ) -> Result<bool, Failure>
     ensures { (bytes : List ℕ) → HasBytes ⟦<FileStorage<F> as Storage>⟧.features
         ⟦<FileStorage<F> as Storage>⟧.bytes bytes file.now → IfOk result
-        (λ one. one ≡ true → HasOneFormat said (signature_of bytes) bytes) }
+        (λ one. Decides one (HasOneFormat said (signature_of bytes) bytes)) }
 {
     match refuse_another(alloc, path, file, said, OtherFiles::None) {
         Ok(()) => Ok(true),
@@ -117,9 +125,13 @@ fn told_format<F: HostFile>(
     said: Option<ImageFormat>,
     told: &mut Told,
 ) -> Result<Option<ImageFormat>, Failure>
-    ensures { (bytes : List ℕ) → HasBytes ⟦<FileStorage<F> as Storage>⟧.features
+    ensures told { (bytes : List ℕ) → HasBytes ⟦<FileStorage<F> as Storage>⟧.features
         ⟦<FileStorage<F> as Storage>⟧.bytes bytes file.now
         → IfOk result (λ found. IfSome found (IsFormatBy said path.now bytes)) }
+    ensures untold { (bytes : List ℕ) → HasBytes ⟦<FileStorage<F> as Storage>⟧.features
+        ⟦<FileStorage<F> as Storage>⟧.bytes bytes file.now
+        → IfOk result (λ found. found ≡ None → (format : ImageFormat)
+        → IsFormatBy said path.now bytes format → ⊥) }
 {
     match format_of(alloc, path, file, said) {
         Ok(format) => Ok(Some(format)),
@@ -143,17 +155,26 @@ fn is_short<F: HostFile>(
 ) -> Result<bool, Failure>
     ensures { (bytes : List ℕ) → HasBytes ⟦<FileStorage<F> as Storage>⟧.features
         ⟦<FileStorage<F> as Storage>⟧.bytes bytes file.now → IfOk result
-        (λ short. short ≡ true → IsNoLonger how.longest how.accepted format bytes) }
+        (λ short. IsSafeAs how bytes format
+        → Decides short (IsNoLonger how.longest how.accepted format bytes)) }
 {
     match refuse_longer(alloc, path, file, format, how) {
         Ok(()) => Ok(true),
         Err(refused) => {
-            if !is_length_unknown(&refused) {
-                told.findings.refuse(refused, size_place(format))?;
-            }
+            tell_long(refused, format, told)?;
             Ok(false)
         }
     }
+}
+
+/// Tells that a disk is too long, if its length is why it is refused.
+fn tell_long(refused: OpenError, format: ImageFormat, told: &mut Told) -> Result<(), Failure>
+    ensures { OnOk result (IsTold refused) }
+{
+    if is_length_unknown(&refused) {
+        return Ok(());
+    }
+    told.findings.refuse(refused, size_place(format))
 }
 
 /// Whether a file is safe as an image of that format, but for the length of its disk.
@@ -167,7 +188,7 @@ fn is_safe_as<F: HostFile>(
 ) -> Result<bool, Failure>
     ensures { (bytes : List ℕ) → HasBytes ⟦<FileStorage<F> as Storage>⟧.features
         ⟦<FileStorage<F> as Storage>⟧.bytes bytes file.now → IfOk result
-        (λ safe. safe ≡ true → IsSafeAs how bytes format) }
+        (λ safe. Decides safe (IsSafeAs how bytes format)) }
 {
     match format {
         ImageFormat::Raw => {
@@ -181,7 +202,9 @@ fn is_safe_as<F: HostFile>(
 }
 
 /// Whether a disk's length isn't told by its file, which could be read.
-fn is_length_unknown(refused: &OpenError) -> bool {
+fn is_length_unknown(refused: &OpenError) -> bool
+    ensures { result ≡ true → IsTold refused.now }
+{
     matches!(
         refused,
         OpenError::OfFile {

@@ -1,11 +1,11 @@
 // SPDX-License-Identifier: MIT
 //! Whether a qcow2 file from a stranger is safe to hand on.
-ghost use Rattle.std.specs.Prelude.{◌≡◌, ℕ, List, ◌≤◌, true, length, None, IfOk, IsTrue};
+ghost use Rattle.std.specs.Prelude.{◌≡◌, ℕ, List, ◌≤◌, Decides, length, None, IfOk, Ok, IsTrue};
 ghost use Rattle.imago_images.specs.HostBytes.{HasBytes};
 ghost use Rattle.imago_images.specs.Layers.{SaysBacking};
 ghost use Rattle.imago_img_parts.specs.Checked.{most_memory};
 ghost use Rattle.imago_storage.specs.Bytes.{IsReadAt};
-ghost use Rattle.imago_qcow2.specs.Header.{IsSound};
+ghost use Rattle.imago_qcow2.specs.Header.{header_of, IsSound};
 ghost use Rattle.imago_img_parts.specs.Vetted.{AreSafeTables, IsSafeQcow2};
 
 use crate::failure::{Failure, Reason};
@@ -53,7 +53,7 @@ fn is_alone<S: Storage>(
     findings: &mut Findings,
 ) -> Result<bool, Error>
     requires { 112 ≤ length head.now }
-    ensures { IfOk result (λ alone. alone ≡ true → SaysBacking head.now None) }
+    ensures { IfOk result (λ alone. Decides alone (SaysBacking head.now None)) }
 {
     let (start, count) = (number64(head, 8), number32(head, 16));
     if start == 0 || count == 0 {
@@ -284,7 +284,7 @@ fn is_safe<S: Storage>(
     told: &mut Told,
 ) -> Result<bool, Error>
     ensures { IsTrue (S.features storage.now).tells_bytes → IfOk result
-        (λ safe. safe ≡ true → IsSafeQcow2 limits.tables (S.bytes storage.now)) }
+        (λ safe. Decides safe (IsSafeQcow2 limits.tables (S.bytes storage.now))) }
 {
     let file = storage.size()?;
     let head = read_bytes(storage, alloc, 0, HEAD_LENGTH as u64)?;
@@ -320,15 +320,19 @@ fn vet_header<S: Storage>(
     findings: &mut Findings,
 ) -> Result<bool, Error>
     requires len { 112 ≤ length head.now }
+    requires says { header_of head.now file ≡ Ok header }
     requires sound { IsSound head.now file header }
     ensures { IsTrue (S.features storage.now).tells_bytes → file ≡ length (S.bytes storage.now)
         → IsReadAt (S.bytes storage.now) 0 head.now
-        → IfOk result (λ safe. safe ≡ true → SaysBacking (S.bytes storage.now) None
-        × AreSafeTables most (S.bytes storage.now)) }
+        → IfOk result (λ safe. Decides safe (SaysBacking (S.bytes storage.now) None
+        × AreSafeTables most (S.bytes storage.now))) }
 {
     let alone = is_alone(storage, alloc, head, findings)?;
     let tables = vet_tables(storage, alloc, head, header, file, most, findings)?;
-    Ok(alone && tables)
+    if !alone {
+        return Ok(false);
+    }
+    Ok(tables)
 }
 
 /// Whether a qcow2 file is safe to hand on, but for the length of its disk, which is tested before.
@@ -342,7 +346,7 @@ pub fn vet_qcow2<F: HostFile>(
 ) -> Result<bool, Failure>
     ensures { (bytes : List ℕ) → HasBytes ⟦<FileStorage<F> as Storage>⟧.features
         ⟦<FileStorage<F> as Storage>⟧.bytes bytes file.now → IfOk result
-        (λ safe. safe ≡ true → IsSafeQcow2 (most_memory how.tables) bytes) }
+        (λ safe. Decides safe (IsSafeQcow2 (most_memory how.tables) bytes)) }
 {
     let limits = Limits {
         tables: how.tables.unwrap_or(MOST_TABLES),

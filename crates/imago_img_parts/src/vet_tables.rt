@@ -1,12 +1,13 @@
 // SPDX-License-Identifier: MIT
 //! Whether each entry of a qcow2 file's tables can be read. L2 tables are read one at a time.
-ghost use Rattle.std.specs.Prelude.{◌≡◌, ℕ, List, ◌+◌, ◌*◌, ◌/◌, ◌<◌, ◌≤◌, ◌^◌, true, length};
-ghost use Rattle.std.specs.Prelude.{None, IfOk, OnOk, IsTrue};
+ghost use Rattle.std.specs.Prelude.{◌≡◌, ℕ, List, ◌+◌, ◌-◌, ◌*◌, ◌/◌, ◌%◌, ◌<◌, ◌≤◌, ◌^◌, length};
+ghost use Rattle.std.specs.Prelude.{Decides, not, is_some, IfOk, Ok, IsTrue};
 ghost use Rattle.imago_storage.specs.Bytes.{IsReadAt};
 ghost use Rattle.imago_qcow2.specs.Numbers.{be64};
 ghost use Rattle.imago_qcow2.specs.Entry.{table_in_entry};
-ghost use Rattle.imago_qcow2.specs.Header.{IsClusterSize, IsSound};
-ghost use Rattle.imago_img_parts.specs.Vetted.{IsSafeCluster, AreSafeTables, named_by, named_tables};
+ghost use Rattle.imago_qcow2.specs.Header.{header_of, IsClusterSize, IsSound};
+ghost use Rattle.imago_img_parts.specs.Vetted.{IsThere, IsSafeCluster, AreSafeTables};
+ghost use Rattle.imago_img_parts.specs.Vetted.{named_by, named_tables};
 ghost use Rattle.imago_img_parts.specs.VettedParts.{IsEntrySafe, IsTableSafe, AreEntriesSafe};
 
 use crate::finding::{EntryFault, Fault, Findings};
@@ -34,23 +35,31 @@ struct Shape {
 }
 
 impl Shape {
+    /// How many bytes the file's last cluster lacks.
+    fn lacking(self) -> u64
+        requires { 0 < self.cluster }
+        ensures { result ≡ (self.cluster - self.file % self.cluster) % self.cluster }
+    {
+        (self.cluster - self.file % self.cluster) % self.cluster
+    }
+
     /// Whether bytes that begin at that offset, so many as are named, are in the file, whose last
     /// cluster may be cut.
     fn has(self, at: u64, count: u64) -> bool
         requires { 0 < self.cluster }
-        ensures { result ≡ true → at < self.file }
+        ensures { Decides result (IsThere self.file self.cluster at count) }
     {
-        let end = self
-            .file
-            .div_ceil(self.cluster)
-            .saturating_mul(self.cluster);
-        at < self.file && at <= end && count <= end - at
+        if at >= self.file {
+            return false;
+        }
+        count <= (self.file - at).saturating_add(self.lacking())
     }
 
     /// What is wrong with what an L2 entry says, if anything is.
     fn cluster_fault(self, says: GuestCluster) -> Option<EntryFault>
         requires { 0 < self.cluster }
-        ensures { result ≡ None → IsSafeCluster self.file self.compression says }
+        ensures { Decides (not (is_some result))
+            (IsSafeCluster self.file self.cluster self.compression says) }
     {
         match says {
             GuestCluster::Absent | GuestCluster::Zero => None,
@@ -63,7 +72,7 @@ impl Shape {
     /// The same of bytes that it names.
     fn stored_fault(self, at: u64, count: u64) -> Option<EntryFault>
         requires { 0 < self.cluster }
-        ensures { result ≡ None → at < self.file }
+        ensures { Decides (not (is_some result)) (IsThere self.file self.cluster at count) }
     {
         if self.has(at, count) {
             None
@@ -75,8 +84,8 @@ impl Shape {
     /// The same of a compressed cluster.
     fn stream_fault(self, at: u64, count: u64) -> Option<EntryFault>
         requires { 0 < self.cluster }
-        ensures file { result ≡ None → at < self.file }
-        ensures way { result ≡ None → self.compression ≡ Compression.Deflate }
+        ensures { Decides (not (is_some result)) (IsThere self.file self.cluster at count
+            × (self.compression ≡ Compression.Deflate)) }
     {
         match self.compression {
             Compression::Deflate => self.stored_fault(at, count),
@@ -94,8 +103,8 @@ fn look_at_entries(
 ) -> Result<bool, Error>
     requires size { IsClusterSize shape.cluster }
     requires positive { 0 < shape.cluster }
-    ensures { IfOk result (λ safe. safe ≡ true → (j : ℕ) → j < length table.now / 8
-        → IsEntrySafe shape (be64 table.now (8 * j))) }
+    ensures { IfOk result (λ safe. Decides safe ((j : ℕ) → j < length table.now / 8
+        → IsEntrySafe shape (be64 table.now (8 * j)))) }
 {
     let mut safe = true;
     for index in 0..table.len() / 8 {
@@ -110,7 +119,7 @@ fn look_at_entries(
 fn look_at_entry(shape: Shape, entry: u64, at: u64, findings: &mut Findings) -> Result<bool, Error>
     requires size { IsClusterSize shape.cluster }
     requires positive { 0 < shape.cluster }
-    ensures { IfOk result (λ safe. safe ≡ true → IsEntrySafe shape entry) }
+    ensures { IfOk result (λ safe. Decides safe (IsEntrySafe shape entry)) }
 {
     let says = guest_cluster(entry, shape.cluster, shape.version);
     match shape.cluster_fault(says) {
@@ -138,7 +147,7 @@ fn look_at_table<S: Storage>(
     requires whole { length table.old ≡ shape.cluster }
     ensures whole { length table.new ≡ shape.cluster }
     ensures safe { IsTrue (S.features storage.now).tells_bytes
-        → IfOk result (λ safe. safe ≡ true → IsTableSafe shape (S.bytes storage.now) says) }
+        → IfOk result (λ safe. Decides safe (IsTableSafe shape (S.bytes storage.now) says)) }
 {
     match says {
         L2Table::Absent => Ok(true),
@@ -168,8 +177,8 @@ fn look_at_l1<S: Storage>(
     requires most { shape.cluster ≤ 2 ^ 21 }
     requires whole { length table.old ≡ shape.cluster }
     ensures safe { IsTrue (S.features storage.now).tells_bytes
-        → IfOk result (λ safe. safe ≡ true
-        → AreEntriesSafe shape (S.bytes storage.now) entries.now (length entries.now / 8)) }
+        → IfOk result (λ safe. Decides safe
+        (AreEntriesSafe shape (S.bytes storage.now) entries.now (length entries.now / 8))) }
 {
     let mut safe = true;
     for index in 0..entries.len() / 8 {
@@ -236,10 +245,11 @@ pub fn vet_tables<S: Storage>(
     findings: &mut Findings,
 ) -> Result<bool, Error>
     requires len { 112 ≤ length head.now }
+    requires says { header_of head.now file ≡ Ok header }
     requires sound { IsSound head.now file header }
     ensures { IsTrue (S.features storage.now).tells_bytes → file ≡ length (S.bytes storage.now)
         → IsReadAt (S.bytes storage.now) 0 head.now
-        → IfOk result (λ safe. safe ≡ true → AreSafeTables most (S.bytes storage.now)) }
+        → IfOk result (λ safe. Decides safe (AreSafeTables most (S.bytes storage.now))) }
 {
     let Ok(l1) = l1_table(head, file) else {
         return Ok(false);

@@ -1,6 +1,6 @@
 // SPDX-License-Identifier: MIT
 //! Whether a VMDK descriptor from a stranger is safe to hand on: all of its extents are zeroes.
-ghost use Rattle.std.specs.Prelude.{◌≡◌, ℕ, List, true, map, IfOk};
+ghost use Rattle.std.specs.Prelude.{◌≡◌, ℕ, List, Decides, false, map, IfOk};
 ghost use Rattle.std.specs.String.{string_bytes};
 ghost use Rattle.imago_vmdk.specs.Line.{extent_with};
 ghost use Rattle.imago_images.specs.HostBytes.{HasBytes};
@@ -11,6 +11,7 @@ use crate::finding::{Fault, Findings, LONGEST_SHOWN, Told};
 use imago_file::file::FileStorage;
 use imago_file::host::HostFile;
 use imago_images::longest::descriptor_text;
+use imago_images::recognised::length_of;
 use imago_storage::error::Error;
 use imago_storage::storage::Storage;
 use imago_vmdk::descriptor;
@@ -29,11 +30,12 @@ pub fn vet_vmdk<F: HostFile>(
     told: &mut Told,
 ) -> Result<bool, Failure>
     ensures { (bytes : List ℕ) → HasBytes ⟦<FileStorage<F> as Storage>⟧.features
-        ⟦<FileStorage<F> as Storage>⟧.bytes bytes file.now → IfOk result
-        (λ safe. safe ≡ true → IsSafeDescriptor accepted bytes) }
+        ⟦<FileStorage<F> as Storage>⟧.bytes bytes file.now
+        → IfOk result (λ safe. Decides safe (IsSafeDescriptor accepted bytes)) }
 {
-    if told.length > LONGEST_TEXT {
-        told.findings.add(Fault::LongText(told.length), None)?;
+    let length = length_of(alloc, path, file)?;
+    if length > LONGEST_TEXT {
+        told.findings.add(Fault::LongText(length), None)?;
         return Ok(false);
     }
     let text = descriptor_text(alloc, path, file)?;
@@ -43,8 +45,18 @@ pub fn vet_vmdk<F: HostFile>(
             told.disk = Some(described.size);
             Ok(are_safe(&described.extents))
         }
-        Err(Error::Memory) => Err(Failure::Memory),
-        Err(cause) => {
+        Err(cause) => refuse_text(cause, accepted_all, told),
+    }
+}
+
+/// Tells why a descriptor can't be read, if no line of it tells. Lack of memory is passed on.
+fn refuse_text(cause: Error, accepted_all: bool, told: &mut Told) -> Result<bool, Failure>
+    ensures safe { IfOk result (λ safe. safe ≡ false) }
+    ensures cause { IfOk result (λ _. cause ≡ Error.Memory → ⊥) }
+{
+    match cause {
+        Error::Memory => Err(Failure::Memory),
+        cause => {
             if accepted_all {
                 told.findings.add(Fault::Text(cause), None)?;
             }
@@ -101,7 +113,7 @@ fn extent_named(alloc: Global, name: &str) -> Result<Fault, AllocError> {
 
 /// Whether an extent stands in no other file, and may be read.
 fn is_safe(extent: &Extent<String>) -> bool
-    ensures { result ≡ true → IsSafeExtent (extent_with string_bytes extent.now) }
+    ensures { Decides result (IsSafeExtent (extent_with string_bytes extent.now)) }
 {
     match extent {
         Extent::Zero { .. } => true,
@@ -111,8 +123,7 @@ fn is_safe(extent: &Extent<String>) -> bool
 
 /// The same of all of them.
 fn are_safe(extents: &[Extent<String>]) -> bool
-    ensures { result ≡ true
-        → AreSafeExtents (map (extent_with string_bytes) extents.now) }
+    ensures { Decides result (AreSafeExtents (map (extent_with string_bytes) extents.now)) }
 {
     let mut rest = extents;
     while let Some((extent, behind)) = rest.split_first() {

@@ -1,5 +1,5 @@
 -- SPDX-License-Identifier: MIT
-use Rattle.std.proofs.Common.{◌≡◌, ℕ, ◌*◌, ◌≤◌}
+use Rattle.std.proofs.Common.{◌≡◌, ◌*◌, ◌≤◌}
 use Rattle.imago_qcow2.specs.Numbers.{be64}
 use Rattle.imago_qcow2.specs.Entry.{table_in_entry}
 use Rattle.imago_img_parts.specs.Vetted.{named_tables}

@@ -1,9 +1,8 @@
 -- SPDX-License-Identifier: MIT
-use Rattle.std.proofs.Common.{◌≡◌, true}
-use Rattle.std.specs.Prelude.{IsTrue}
+use Rattle.std.specs.Prelude.{Decides, IsTrue}
 use Rattle.imago_img_parts.specs.VettedParts.{AreEntriesSafe}
 use Rattle.imago_img_parts.proofs.vet_tables.look_at_l1.Given as goal
 
 abbrev pub invariant-loop-index : goal.invariant-loop-index
 invariant-loop-index g l = IsTrue (g.S.Storage.features l.storage).tells_bytes
-    → l.safe ≡ true → AreEntriesSafe l.shape (g.S.Storage.bytes l.storage) l.entries l.index
+    → Decides l.safe (AreEntriesSafe l.shape (g.S.Storage.bytes l.storage) l.entries l.index)

@@ -1,11 +1,11 @@
 -- SPDX-License-Identifier: MIT
-use Rattle.std.proofs.Common.{rules, ◌≡◌, ℕ, ◌*◌, ◌/◌, ◌<◌, true, length, sym, subst}
-use Rattle.std.specs.Prelude.{IsTrue}
+use Rattle.std.proofs.Common.{rules, ◌≡◌, ℕ, ◌*◌, ◌/◌, ◌<◌, length, sym, subst}
+use Rattle.std.specs.Prelude.{Decides, IsTrue}
 use Rattle.std.proofs.lemmas.Result.{IfOk-weaker}
 use Rattle.imago_storage.specs.Bytes.{IsReadAt}
 use Rattle.imago_qcow2.specs.Numbers.{be64}
 use Rattle.imago_img_parts.specs.VettedParts.{IsEntrySafe, IsTableSafe}
-use Rattle.imago_img_parts.proofs.VetSteps.{table_read}
+use Rattle.imago_img_parts.proofs.VetSteps.{decides_as, table_read, table_written}
 use Rattle.imago_img_parts.proofs.vet_tables.look_at_table.Goals as goal
 
 pub returns-in_ok-read-in-Stored-clause-safe : goal.returns-in_ok-read-in-Stored-clause-safe
@@ -17,8 +17,9 @@ returns-in_ok-read-in-Stored-clause-safe g c = λ (told : IsTrue (g.S.Storage.fe
     let r : IsReadAt B at table = search rules in
     let whole : length table ≡ shape.cluster = search rules in
     IfOk-weaker c.look_at_entries.result
-    (λ safe. safe ≡ true → (j : ℕ) → j < length table / 8 → IsEntrySafe shape (be64 table (8 * j)))
-    (λ safe. safe ≡ true → IsTableSafe shape B c.args.says)
-    (λ safe each is. subst (IsTableSafe shape B) (sym c.in-Stored.is)
-    (table_read shape B table at r whole (each is)))
+    (λ safe. Decides safe ((j : ℕ) → j < length table / 8 → IsEntrySafe shape (be64 table (8 * j))))
+    (λ safe. Decides safe (IsTableSafe shape B c.args.says))
+    (λ safe each. decides_as safe
+    (λ all. subst (IsTableSafe shape B) (sym c.in-Stored.is) (table_read shape B table at r whole all))
+    (λ all. table_written shape B table at r whole (subst (IsTableSafe shape B) c.in-Stored.is all)) each)
     c.look_at_entries.ensures

@@ -6,8 +6,12 @@ use Rattle.imago_img_parts.specs.Vetted.{AreSafeExtents}
 use Rattle.imago_img_parts.proofs.vet_vmdk.are_safe.Given as goal
 
 abbrev pub invariant-loop-extent : goal.invariant-loop-extent
-invariant-loop-extent l = AreSafeExtents (map (extent_with string_bytes) l.rest)
-    → AreSafeExtents (map (extent_with string_bytes) l.extents)
+invariant-loop-extent l = record {
+  all : AreSafeExtents (map (extent_with string_bytes) l.rest)
+      → AreSafeExtents (map (extent_with string_bytes) l.extents);
+  rest : AreSafeExtents (map (extent_with string_bytes) l.extents)
+      → AreSafeExtents (map (extent_with string_bytes) l.rest);
+}
 
 abbrev pub decreases-loop-extent : goal.decreases-loop-extent
 decreases-loop-extent l = length l.rest
