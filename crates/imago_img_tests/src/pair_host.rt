@@ -219,10 +219,12 @@ impl Host for PairHost {
 
     fn set_length(&mut self, path: &str, length: u64) -> io::Result<()> {
         if self.out_path.as_str() == path {
-            return set_length(&mut self.out, length);
+            set_length(&mut self.out, length)?;
+            return Ok(());
         }
         if self.image_path.as_str() == path {
-            return set_length(&mut self.image, length);
+            set_length(&mut self.image, length)?;
+            return Ok(());
         }
         Err(io::Error::from(ErrorKind::NotFound))
     }
