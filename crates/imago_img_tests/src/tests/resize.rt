@@ -139,6 +139,14 @@ fn are_as_wanted(host: &PairHost, path: &str, count: usize) -> bool {
     is_resized(disk, &MAGIC, disk_count) && is_resized(out, &[], out_count)
 }
 
+/// Whether that was told, and nothing else: as output with status 0, and else as an error.
+fn is_told(output: &[u8], errors: &[u8], status: u8, told: &str) -> bool {
+    if status == 0 {
+        return output == told.as_bytes() && errors.is_empty();
+    }
+    errors == told.as_bytes() && output.is_empty()
+}
+
 /// Tries a command line.
 fn check_row(rt: &impl Abort, alloc: Global, row: &Row) {
     let &(words, status, told, path, count) = row;
@@ -152,13 +160,7 @@ fn check_row(rt: &impl Abort, alloc: Global, row: &Row) {
     let mut errors = Vec::new(alloc);
     let ended = run(&mut host, &list, &mut output, &mut errors);
     assert_eq!(rt; ended, status, "{words}");
-    let (said, silent) = if status == 0 {
-        (&output, &errors)
-    } else {
-        (&errors, &output)
-    };
-    assert!(rt; said.as_slice() == told.as_bytes(), "{words}");
-    assert!(rt; silent.is_empty(), "{words}");
+    assert!(rt; is_told(&output, &errors, status, told), "{words}");
     assert!(rt; are_as_wanted(&host.host, path, count), "{words}");
 }
 
