@@ -15,7 +15,7 @@ use Rattle.imago_access.specs.Chain.{driver}
 use Rattle.imago_drivers.specs.View.{View}
 use Rattle.imago_images.specs.HostBytes.{HasBytes}
 use Rattle.imago_images.specs.Alone.{IsOfAnother, IsOfOneFormat}
-use Rattle.imago_images.specs.Longest.{IsNoLonger, IsOverLimit, IsTooLong}
+use Rattle.imago_images.specs.Longest.{IsOverLimit, IsTooLarge}
 use Rattle.imago_images.specs.declared.opening.Opening.{Opening}
 use Rattle.imago_images.specs.Way.{identity}
 use Rattle.imago_images.specs.Refusals.{IsRefused, IsUnknown}
@@ -68,7 +68,7 @@ module _ {S : Type 0} (features : S → Features) (bytes : S → List ℕ)
             (refused (files from) (told (files from) h))),
       ))))
 
-  -- the disk of the file below is too long
+  -- the file below is too large
   pub next_long :
       (how : Opening) (asked : Option (List ℕ → List ℕ)) (above : List (ℕ × ℕ)) (next from told_by named : List ℕ)
       (lower : ImageFormat)
@@ -76,7 +76,7 @@ module _ {S : Type 0} (features : S → Features) (bytes : S → List ℕ)
       → IfSome asked (λ files. shown ≡ Some (files from))
       → ((held : List ℕ) → HasBytes features bytes held s → IsFormatBy said told_by held lower)
       → ((held : List ℕ) → HasBytes features bytes held s
-      → IsRefused named (IsTooLong how.longest how.accepted lower held) e)
+      → IsRefused named (IsTooLarge how.longest how.accepted lower held) e)
       → IfSome known (λ files. SaysFormat (files path) said
       → IsNextRefused files statuses reals others how above path next e)
   next_long how asked above next from told_by named lower same is spelled called held by refused =
@@ -92,24 +92,22 @@ module _ {S : Type 0} (features : S → Features) (bytes : S → List ℕ)
               (subst (λ (p : List ℕ). IsFormatBy said told_by (files p) lower) is
               (by (files from) (told (files from) h))),
         ),
-        subst (λ (p : List ℕ). IsRefused p (IsTooLong how.longest how.accepted lower (files next)) e) called
-            (subst (λ (p : List ℕ). IsRefused named (IsTooLong how.longest how.accepted lower (files p)) e) is
+        subst (λ (p : List ℕ). IsRefused p (IsTooLarge how.longest how.accepted lower (files next)) e) called
+            (subst (λ (p : List ℕ). IsRefused named (IsTooLarge how.longest how.accepted lower (files p)) e) is
             (refused (files from) (told (files from) h))),
       ))))
 
-  -- it isn't
+  -- what is told of its bytes
   pub next_within :
-      (how : Opening) (asked : Option (List ℕ → List ℕ)) (next from : List ℕ) (lower : ImageFormat)
+      (P : List ℕ → Type 0) (asked : Option (List ℕ → List ℕ)) (next from : List ℕ)
       → asked ≡ known → from ≡ next
       → IfSome asked (λ files. shown ≡ Some (files from))
-      → ((held : List ℕ) → HasBytes features bytes held s → IsNoLonger how.longest how.accepted lower held)
-      → IfSome known (λ files. IsNoLonger how.longest how.accepted lower (files next))
-  next_within how asked next from lower same is held within =
-      where_held known (λ files. shown ≡ Some (files from))
-      (λ files. IsNoLonger how.longest how.accepted lower (files next))
+      → ((held : List ℕ) → HasBytes features bytes held s → P held)
+      → IfSome known (λ files. P (files next))
+  next_within P asked next from same is held within =
+      where_held known (λ files. shown ≡ Some (files from)) (λ files. P (files next))
       (subst (λ (k : Option (List ℕ → List ℕ)). IfSome k (λ files. shown ≡ Some (files from))) same held)
-      (λ files h. subst (λ (p : List ℕ). IsNoLonger how.longest how.accepted lower (files p)) is
-      (within (files from) (told (files from) h)))
+      (λ files h. subst (λ (p : List ℕ). P (files p)) is (within (files from) (told (files from) h)))
 
   -- the format of the image's own file isn't told
   pub image_unknown :
@@ -153,12 +151,12 @@ module _ {S : Type 0} (features : S → Features) (bytes : S → List ℕ)
       (λ files. IsImageRefused writable files statuses reals others how said path e) held
       (λ files h. inr (inr (inr (inl (refused (files path) (told (files path) h))))))
 
-  -- its disk is too long
+  -- it is too large
   pub image_long :
       (writable : Bool) (how : Opening) (format : ImageFormat) → IfSome known (λ files. shown ≡ Some (files path))
       → ((held : List ℕ) → HasBytes features bytes held s → IsFormatBy said path held format)
       → ((held : List ℕ) → HasBytes features bytes held s
-      → IsRefused path (IsTooLong how.longest how.accepted format held) e)
+      → IsRefused path (IsTooLarge how.longest how.accepted format held) e)
       → IfSome known (λ files. IsImageRefused writable files statuses reals others how said path e)
   image_long writable how format held by refused =
       where_held known (λ files. shown ≡ Some (files path))
@@ -169,14 +167,13 @@ module _ {S : Type 0} (features : S → Features) (bytes : S → List ℕ)
         refused (files path) (told (files path) h),
       )))))
 
-  -- it isn't
+  -- what is told of its bytes
   pub image_within :
-      (how : Opening) (format : ImageFormat) → IfSome known (λ files. shown ≡ Some (files path))
-      → ((held : List ℕ) → HasBytes features bytes held s → IsNoLonger how.longest how.accepted format held)
-      → IfSome known (λ files. IsNoLonger how.longest how.accepted format (files path))
-  image_within how format held within =
-      where_held known (λ files. shown ≡ Some (files path))
-      (λ files. IsNoLonger how.longest how.accepted format (files path)) held
+      (P : List ℕ → Type 0) → IfSome known (λ files. shown ≡ Some (files path))
+      → ((held : List ℕ) → HasBytes features bytes held s → P held)
+      → IfSome known (λ files. P (files path))
+  image_within P held within =
+      where_held known (λ files. shown ≡ Some (files path)) (λ files. P (files path)) held
       (λ files h. within (files path) (told (files path) h))
 
   -- its format is told
@@ -214,8 +211,8 @@ image_over view x (Some files) statuses reals others path said e writable how fo
     inr (inr (inr (inr (
       format,
       by,
-      weaker path (IsOverLimit how.longest size) (IsTooLong how.longest how.accepted format (files path))
-          (λ r o. inl (subst (λ (n : ℕ). IsOverLimit how.longest n r) (is ∙ image.2.1) o)) e out,
+      weaker path (IsOverLimit how.longest size) (IsTooLarge how.longest how.accepted format (files path))
+          (λ r o. inl (inl (subst (λ (n : ℕ). IsOverLimit how.longest n r) (is ∙ image.2.1) o))) e out,
     ))))
 
 -- a layer isn't opened where memory is refused

@@ -1,17 +1,17 @@
 -- How long the disk of a file is, by its header.
 -- SPDX-License-Identifier: MIT
-use Rattle.std.proofs.Common.{◌≡◌, ℕ, ◌+◌, ◌<◌, List, length, slice_index, Err, refl, sym, ap, ◌∙◌, arith, inl, inr, subst}
+use Rattle.std.proofs.Common.{◌≡◌, ℕ, ◌+◌, ◌*◌, ◌<◌, ◌≤◌, List, length, slice_index, Err, refl, sym, ap, ◌∙◌, arith, inl, inr, subst}
 use Rattle.std.proofs.Common.{◌^◌, ◌⊎◌, false, Option, Result, Ok, IfOk, IfErr, IsOk}
 use Rattle.std.proofs.lemmas.Bool.Decides.{nat_tests}
 use Rattle.std.proofs.lemmas.List.FromFn.{get_or-map-range_with_len}
 use Rattle.imago_plan.specs.PieceBytes.{bytes_at}
 use Rattle.imago_qcow2.specs.declared.header.Header.{Header}
-use Rattle.imago_qcow2.specs.Numbers.{be64}
+use Rattle.imago_qcow2.specs.Numbers.{be32, be64}
 use Rattle.imago_qcow2.specs.Header.{header_of, IsSound}
 use Rattle.imago_qcow2.specs.Entry.{disk_size}
 use Rattle.imago_qcow2.specs.Fault.{error_of}
 use Rattle.imago_qcow2.specs.Limit.{IsWithin}
-use Rattle.imago_qcow2.proofs.HeaderSteps.{same64}
+use Rattle.imago_qcow2.proofs.HeaderSteps.{same32, same64}
 use Rattle.imago_storage.specs.declared.error.Error.{Error}
 use Rattle.imago_storage.specs.declared.error.Error.TheVariants as E
 use Rattle.imago_storage.specs.Error.{IsExtRefusal}
@@ -23,7 +23,7 @@ use Rattle.imago_images.specs.declared.failure.Reason.{Reason}
 use Rattle.imago_images.specs.declared.format.ImageFormat.{ImageFormat}
 use Rattle.imago_images.specs.declared.format.ImageFormat.TheVariants.{Vmdk, Qcow2}
 use Rattle.imago_images.specs.Layers.{size_by}
-use Rattle.imago_images.specs.Longest.{IsOverLimit, IsSizeUnknown, IsTooLong}
+use Rattle.imago_images.specs.Longest.{IsOverLimit, IsSizeUnknown, IsTooLong, IsTooLarge, HasShortL1, l1_length}
 use Rattle.imago_images.specs.Refusals.{IsRefused, IsBySystemOr, IsUnread}
 use Rattle.imago_images.proofs.RefusalSteps.{refused_for, weaker, by_cause, by_read}
 
@@ -126,3 +126,39 @@ pub long_within :
     {T : Type 0} (longest : Option ℕ) (size other : ℕ) (r : Result T OpenError) → size ≡ other
     → IfOk r (λ _. IsWithin longest size) → IfOk r (λ _. IsWithin longest other)
 long_within longest size other r is h = subst (λ (n : ℕ). IfOk r (λ _. IsWithin longest n)) is h
+
+-- the L1 table is as long as the first bytes say
+pub l1_in_head : (bytes head : List ℕ) (n : ℕ) → head ≡ bytes_at bytes 0 112 → n ≡ l1_length head → n ≡ l1_length bytes
+l1_in_head bytes head n read is =
+    let count : be32 (bytes_at bytes 0 112) 36 ≡ be32 bytes 36 = same32 bytes (bytes_at bytes 0 112) (head_byte bytes) 36 (omega arith) in
+    is ∙ ap l1_length read ∙ ap (λ (k : ℕ). 8 * k) count
+
+-- a disk that is too long is refused as a file that is too large, and so is one whose L1 table is
+pub large_long :
+    (path bytes : List ℕ) (longest : Option ℕ) (accepted : Accepted) (format : ImageFormat) (e : OpenError)
+    → IsRefused path (IsTooLong longest accepted format bytes) e
+    → IsRefused path (IsTooLarge longest accepted format bytes) e
+large_long path bytes longest accepted format e h =
+    weaker path (IsTooLong longest accepted format bytes) (IsTooLarge longest accepted format bytes) (λ r long. inl long) e h
+
+pub large_unknown :
+    (path bytes : List ℕ) (longest : Option ℕ) (accepted : Accepted) (format : ImageFormat) (e : OpenError)
+    → format ≡ Qcow2 → IsRefused path (IsSizeUnknown accepted Qcow2 bytes) e
+    → IsRefused path (IsTooLarge longest accepted format bytes) e
+large_unknown path bytes longest accepted format e is h =
+    large_long path bytes longest accepted format e (long_unknown path bytes longest accepted format e
+    (subst (λ (f : ImageFormat). IsRefused path (IsSizeUnknown accepted f bytes) e) (sym is) h))
+
+pub large_l1 :
+    (path bytes : List ℕ) (longest : Option ℕ) (accepted : Accepted) (format : ImageFormat) (n : ℕ) (e : OpenError)
+    → format ≡ Qcow2 → n ≡ l1_length bytes → 2 ^ 25 < n
+    → IsRefused path (λ told. told ≡ Reason.L1TooLong n) e
+    → IsRefused path (IsTooLarge longest accepted format bytes) e
+large_l1 path bytes longest accepted format n e qcow2 is long h =
+    refused_for path (IsTooLarge longest accepted format bytes) (Reason.L1TooLong n)
+    (inr (qcow2, is, long)) e h
+
+pub short_l1 : (format : ImageFormat) (bytes : List ℕ) (n : ℕ) → format ≡ Qcow2 → n ≡ l1_length bytes → n ≤ 2 ^ 25 → HasShortL1 format bytes
+short_l1 format bytes n qcow2 is short =
+    let here : HasShortL1 Qcow2 bytes = subst (λ (k : ℕ). k ≤ 2 ^ 25) is short in
+    subst (λ (f : ImageFormat). HasShortL1 f bytes) (sym qcow2) here

@@ -23,7 +23,7 @@ use Rattle.imago_images.proofs.PartSteps.{told_same}
 use Rattle.imago_images.specs.FolderParts.{IsBounded, IsBeyond}
 use Rattle.imago_images.specs.BackingNames.{file_named}
 use Rattle.imago_images.specs.Layers.{SaysBacking}
-use Rattle.imago_images.specs.Refusals.{IsRefused, IsBySystem, IsBySystemOr, IsByDriver, IsUnread, IsProtocol, IsByQcow2, IsUnopened, folder_asked}
+use Rattle.imago_images.specs.Refusals.{IsRefused, IsBySystem, IsBySystemOr, IsByDriver, IsUnread, IsProtocol, IsByQcow2, IsUnopenedBy, IsUnopened, folder_asked}
 
 -- by a reason that says less
 pub weaker :
@@ -100,6 +100,7 @@ by_read path why system driver e h = weaker path IsUnread why holds e h
     holds (Reason.Image error) ext = driver error ext
     holds (Reason.Header fault) never = absurd never
     holds (Reason.TablesTooLarge most) never = absurd never
+    holds (Reason.L1TooLong told) never = absurd never
     holds (Reason.DiskTooLong size most) never = absurd never
     holds Reason.Sparse never = absurd never
     holds (Reason.Recognised found) never = absurd never
@@ -183,26 +184,34 @@ qcow2_out features bytes (Some files) path limit s cause e why h =
 
 -- and where what the host or the driver answered is told
 pub answer_out :
-    (known : Option (List ℕ → List ℕ)) (path : List ℕ) (cause : Error) (e : OpenError)
+    (P : List ℕ → Error → Type 0) (known : Option (List ℕ → List ℕ)) (path : List ℕ) (cause : Error) (e : OpenError)
     → IsRefused path (IsBySystemOr cause) e → (limit : Option ℕ)
-    → IfSome known (λ files. IsByQcow2 (files path) cause → IsRefused path (IsUnopened limit (files path)) e)
-answer_out None path cause e h limit = tt
-answer_out (Some files) path cause e h limit =
-    λ by. by_cause path (IsUnopened limit (files path)) cause (λ answer. tt) by e h
+    → IfSome known (λ files. P (files path) cause → IsRefused path (IsUnopenedBy (P (files path)) limit (files path)) e)
+answer_out P None path cause e h limit = tt
+answer_out P (Some files) path cause e h limit =
+    λ by. by_cause path (IsUnopenedBy (P (files path)) limit (files path)) cause (λ answer. tt) by e h
 
 -- the fault of a header, by what was read of its file
 pub header_out :
-    (known : Option (List ℕ → List ℕ)) (path head : List ℕ) (count : ℕ) (fault : _) (e : OpenError)
+    (P : List ℕ → Error → Type 0) (known : Option (List ℕ → List ℕ)) (path head : List ℕ) (count : ℕ) (fault : _) (e : OpenError)
     → IfSome known (λ files. head ≡ bytes_at (files path) 0 (length head)) → length head ≡ 112
     → IfSome known (λ files. count ≡ length (files path)) → header_of head count ≡ Err (error_of fault)
     → IsRefused path (λ told. told ≡ Reason.Header fault) e → (cause : Error) → (limit : Option ℕ)
-    → IfSome known (λ files. IsByQcow2 (files path) cause → IsRefused path (IsUnopened limit (files path)) e)
-header_out None path head count fault e read long size at h cause limit = tt
-header_out (Some files) path head count fault e read long size at h cause limit = λ by.
+    → IfSome known (λ files. P (files path) cause → IsRefused path (IsUnopenedBy (P (files path)) limit (files path)) e)
+header_out P None path head count fault e read long size at h cause limit = tt
+header_out P (Some files) path head count fault e read long size at h cause limit = λ by.
     let is : head ≡ bytes_at (files path) 0 112 = read ∙ ap (bytes_at (files path) 0) long in
-    refused_for path (IsUnopened limit (files path)) (Reason.Header fault)
+    refused_for path (IsUnopenedBy (P (files path)) limit (files path)) (Reason.Header fault)
     (ap (λ (xs : List ℕ). header_of xs (length (files path))) (sym is)
     ∙ ap (header_of head) (sym size) ∙ at) e h
+
+-- whatever the driver answered
+pub told_out :
+    (known : Option (List ℕ → List ℕ)) (path : List ℕ) (limit : Option ℕ) (e : OpenError)
+    → IfSome known (λ files. Unit {0} → IsRefused path (IsUnopenedBy (λ error. Unit {0}) limit (files path)) e)
+    → IfSome known (λ files. IsRefused path (IsUnopenedBy (λ error. Unit {0}) limit (files path)) e)
+told_out None path limit e h = tt
+told_out (Some files) path limit e h = h tt
 
 -- what follows of each host that tells what its files have
 pub where_held :

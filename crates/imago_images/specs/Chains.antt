@@ -17,7 +17,7 @@ use Rattle.imago_images.specs.Refusals.{IsRefused, IsBySystem, IsUnread, IsUnsee
 use Rattle.imago_images.specs.Refusals.{IsInCircle, IsTooDeep, IsUnopened, folder_asked}
 use Rattle.imago_images.specs.Refusals.{HasExtentIn, IsNotHandedOut, IsUndescribed, IsUnwritten}
 use Rattle.imago_images.specs.Alone.{IsOfAnother}
-use Rattle.imago_images.specs.Longest.{IsTooLong}
+use Rattle.imago_images.specs.Longest.{IsTooLarge}
 use Rattle.imago_images.specs.declared.opening.Opening.{Opening}
 
 -- a file has that device and number, where the host tells what its files are
@@ -53,7 +53,7 @@ IsLayerRefused files statuses reals others how path Vmdk e =
     × IsNamedRefused Extents statuses reals others path other e)
 
 -- The file of the next path, which is below that of a path, isn't opened: it isn't handed out, it
--- is one of those above, its format isn't told, or its disk is too long.
+-- is one of those above, its format isn't told, or it is too large.
 abbrev pub IsNextRefused :
     (List ℕ → List ℕ) → Option (List ℕ → FileStatus) → Option (List ℕ → List ℕ) → OtherFiles → Opening
     → List (ℕ × ℕ) → List ℕ → List ℕ → OpenError → Type 0
@@ -64,7 +64,7 @@ IsNextRefused files statuses reals others how above path next e =
     ⊎ ((said : Option ImageFormat) × SaysFormat (files path) said
     × IsRefused next (IsUnknown said next (files next)) e)
     ⊎ ((lower : ImageFormat) × IsFormatBelow (files path) next (files next) lower
-    × IsRefused next (IsTooLong how.longest how.accepted lower (files next)) e)
+    × IsRefused next (IsTooLarge how.longest how.accepted lower (files next)) e)
 
 -- A chain isn't opened from the file of a path on, which has that format and is the last one of
 -- those that are given by device and number. The way goes down by these paths to a file, and it
@@ -96,7 +96,7 @@ IsOpeningRefused false files statuses reals others how above path format e =
 
 -- The image of the file of a path isn't opened, for writing or not, whose format is said or isn't:
 -- the file isn't looked at, its format isn't told, it isn't opened with what is below it, it is of
--- another format too, or its disk is too long.
+-- another format too, or is too large.
 abbrev pub IsImageRefused :
     Bool → (List ℕ → List ℕ) → Option (List ℕ → FileStatus) → Option (List ℕ → List ℕ) → OtherFiles → Opening
     → Option ImageFormat → List ℕ → OpenError → Type 0
@@ -108,7 +108,7 @@ IsImageRefused writable files statuses reals others how said path e =
     × IsOpeningRefused writable files statuses reals others how (file ∷ []) path format e))
     ⊎ IsRefused path (IsOfAnother others said (files path)) e
     ⊎ ((format : ImageFormat) × IsFormatBy said path (files path) format
-    × IsRefused path (IsTooLong how.longest how.accepted format (files path)) e)
+    × IsRefused path (IsTooLarge how.longest how.accepted format (files path)) e)
 
 -- The files below that of a path, which has that format, down to the last one, which leads to none:
 -- none of them is one of those that are given, nor of those above it.

@@ -1,6 +1,6 @@
--- Disks that may have so many bytes, and no more.
+-- Disks and L1 tables that may have so many bytes, and no more.
 -- SPDX-License-Identifier: MIT
-use Rattle.std.specs.Prelude.{◌≡◌, ◌<◌, ◌⊎◌, ℕ, List, Option, Some, Err, length}
+use Rattle.std.specs.Prelude.{◌≡◌, ◌<◌, ◌≤◌, ◌*◌, ◌^◌, ◌⊎◌, ℕ, List, Option, Some, Err, length}
 use Rattle.imago_plan.specs.PieceBytes.{bytes_at}
 use Rattle.imago_storage.specs.Error.{IsExtRefusal}
 use Rattle.imago_vmdk.specs.declared.line.Accepted.{Accepted}
@@ -8,9 +8,10 @@ use Rattle.imago_vmdk.specs.Reading.{reading_of}
 use Rattle.imago_qcow2.specs.Header.{header_of}
 use Rattle.imago_qcow2.specs.Fault.{error_of}
 use Rattle.imago_qcow2.specs.Limit.{IsWithin}
+use Rattle.imago_qcow2.specs.Numbers.{be32}
 use Rattle.imago_images.specs.declared.failure.Reason.{Reason}
 use Rattle.imago_images.specs.declared.format.ImageFormat.{ImageFormat}
-use Rattle.imago_images.specs.declared.format.ImageFormat.TheVariants.{Vmdk, Qcow2}
+use Rattle.imago_images.specs.declared.format.ImageFormat.TheVariants.{Raw, Vmdk, Qcow2}
 use Rattle.imago_images.specs.Layers.{size_by}
 
 -- the disk of a layer's file, which has that format and these bytes, has at most so many bytes, if
@@ -34,8 +35,30 @@ IsSizeUnknown accepted format bytes (Reason.Image error) = IsExtRefusal error
 IsSizeUnknown accepted format bytes (Reason.System answer) = Unit {0}
 IsSizeUnknown accepted format bytes reason = ⊥
 
--- it isn't told, or is longer than the limit
+-- how long the disk is isn't told, or it is longer than the limit
 abbrev pub IsTooLong : Option ℕ → Accepted → ImageFormat → List ℕ → Reason → Type 0
 IsTooLong longest accepted format bytes reason =
     IsOverLimit longest (size_by accepted format bytes) reason
     ⊎ IsSizeUnknown accepted format bytes reason
+
+-- how many bytes the L1 table of a qcow2 file has, by its header
+abbrev pub l1_length : List ℕ → ℕ
+l1_length bytes = 8 * be32 bytes 36
+
+-- the L1 table of a layer's file, if its format has one, has at most 32 MiB
+abbrev pub HasShortL1 : ImageFormat → List ℕ → Type 0
+HasShortL1 Raw bytes = Unit {0}
+HasShortL1 Vmdk bytes = Unit {0}
+HasShortL1 Qcow2 bytes = l1_length bytes ≤ 2 ^ 25
+
+-- it has more, and how much it has is told
+abbrev pub HasLongL1 : ImageFormat → List ℕ → Reason → Type 0
+HasLongL1 format bytes (Reason.L1TooLong told) =
+    (format ≡ Qcow2) × (told ≡ l1_length bytes) × (2 ^ 25 < told)
+HasLongL1 format bytes reason = ⊥
+
+-- A layer's file is too large: its disk is longer than the limit, or its L1 table has more than
+-- 32 MiB, or how long the disk is isn't told.
+abbrev pub IsTooLarge : Option ℕ → Accepted → ImageFormat → List ℕ → Reason → Type 0
+IsTooLarge longest accepted format bytes reason =
+    IsTooLong longest accepted format bytes reason ⊎ HasLongL1 format bytes reason

@@ -174,19 +174,24 @@ IsByQcow2 bytes error = IsExtRefusal error ⊎ (header_of bytes (length bytes) �
 
 -- A qcow2 file with these bytes isn't opened within that limit on its tables, if there is one: its
 -- header has that fault, its tables are larger than the limit, which is told, or the driver refuses
--- it. Or it names a file below it, by a protocol, or says another format of that file.
-abbrev pub IsUnopened : Option ℕ → List ℕ → Reason → Type 0
-IsUnopened limit bytes (Reason.Header fault) =
+-- it, whose answers are such. Or it names a file below it, by a protocol, or says another format of
+-- that file.
+abbrev pub IsUnopenedBy : (Error → Type 0) → Option ℕ → List ℕ → Reason → Type 0
+IsUnopenedBy driver limit bytes (Reason.Header fault) =
     header_of (bytes_at bytes 0 112) (length bytes) ≡ Err (error_of fault)
-IsUnopened limit bytes (Reason.TablesTooLarge most) =
+IsUnopenedBy driver limit bytes (Reason.TablesTooLarge most) =
     (limit ≡ Some most) × HasLargerTables bytes most
-IsUnopened limit bytes (Reason.BackingProtocol told) =
+IsUnopenedBy driver limit bytes (Reason.BackingProtocol told) =
     SaysBacking bytes (Some (string_bytes told)) × (file_named (string_bytes told) ≡ None)
-IsUnopened limit bytes (Reason.BackingFormat name) =
+IsUnopenedBy driver limit bytes (Reason.BackingFormat name) =
     NamesBelow bytes × SaysOtherFormat bytes (string_bytes name)
-IsUnopened limit bytes (Reason.Image error) = IsByQcow2 bytes error
-IsUnopened limit bytes (Reason.System answer) = Unit {0}
-IsUnopened limit bytes reason = ⊥
+IsUnopenedBy driver limit bytes (Reason.Image error) = driver error
+IsUnopenedBy driver limit bytes (Reason.System answer) = Unit {0}
+IsUnopenedBy driver limit bytes reason = ⊥
+
+-- the same where a driver's answer tells of these bytes
+abbrev pub IsUnopened : Option ℕ → List ℕ → Reason → Type 0
+IsUnopened limit bytes reason = IsUnopenedBy (IsByQcow2 bytes) limit bytes reason
 
 -- A descriptor with these bytes, in the file of a path, has a FLAT extent in the file of another.
 abbrev pub HasExtentIn : Accepted → List ℕ → List ℕ → List ℕ → Type 0

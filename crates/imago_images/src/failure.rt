@@ -43,6 +43,9 @@ pub enum Reason {
     /// A qcow2 image whose tables have more than so many bytes, which is the limit.
     #[error("its tables have more than {0} bytes, which is the limit")]
     TablesTooLarge(u64),
+    /// A qcow2 image whose L1 table has so many bytes, which are more than 32 MiB.
+    #[error("its L1 table has {0} bytes, and 32 MiB is the limit")]
+    L1TooLong(u64),
     /// A file whose disk is longer than the limit.
     #[error("its disk has {size} bytes, and the limit is {most}")]
     DiskTooLong {

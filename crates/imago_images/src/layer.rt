@@ -20,7 +20,8 @@ ghost use Rattle.imago_images.specs.Formats.{SaysFormat, IsFormatBy};
 ghost use Rattle.imago_images.specs.Formats.{told_format as format_told};
 ghost use Rattle.imago_images.specs.Refusals.{IsRefused, IsBySystemOr, IsByDriver, IsUnread};
 ghost use Rattle.imago_images.specs.Refusals.{IsUnknown, IsProtocol, NamesBelow, IsByQcow2};
-ghost use Rattle.imago_images.specs.Refusals.{IsUnopened, IsByVmdk, HasExtentIn, reason_for as reason_by};
+ghost use Rattle.imago_images.specs.Refusals.{IsUnopened, IsUnopenedBy, IsByVmdk, HasExtentIn};
+ghost use Rattle.imago_images.specs.Refusals.{reason_for as reason_by};
 ghost use Rattle.imago_images.specs.BackingNames.{file_named as file_named_by};
 ghost use Rattle.imago_images.specs.Extents.{IsFlatIn, HasFlat};
 ghost use Rattle.imago_images.specs.Chains.{IsNamedRefused, IsLayerRefused};
@@ -227,6 +228,8 @@ pub fn open_qcow2<H: Files, S: Storage>(
     ensures refused { IfErr result (λ e. IfSome (H.contents host.now)
         (λ files. HasBytes S.features S.bytes (files path.now) file
         → IsRefused path.now (IsUnopened None (files path.now)) e)) }
+    ensures told { IfErr result (λ e. IfSome (H.contents host.now)
+        (λ files. IsRefused path.now (IsUnopenedBy (λ _. Unit {0}) None (files path.now)) e)) }
 {
     match Qcow2::open_image(host.alloc(), file, false) {
         Ok(qcow2) => Ok(qcow2),
@@ -262,9 +265,12 @@ pub fn open_qcow2_within<H: Files, S: Storage>(
 /// Why a qcow2 file isn't opened, whose tables may have so many bytes: its header's fault, where
 /// that is why.
 fn not_opened<H: Files>(host: &H, path: &str, cause: Error, most_tables: u64) -> OpenError
-    ensures { (limit : Option ℕ) → IfSome (H.contents host.now)
+    ensures of_bytes { (limit : Option ℕ) → IfSome (H.contents host.now)
         (λ files. IsByQcow2 (files path.now) cause
         → IsRefused path.now (IsUnopened limit (files path.now)) result) }
+    ensures told { (limit : Option ℕ) → IfSome (H.contents host.now)
+        (λ files. IsRefused path.now (IsUnopenedBy (λ _. Unit {0}) limit (files path.now))
+        result) }
 {
     let mut head = [0u8; HEAD_LENGTH];
     if let Ok(status) = host.status(path) {

@@ -1,6 +1,7 @@
 // SPDX-License-Identifier: MIT
-//! Disks that may have so many bytes, and no more.
-ghost use Rattle.std.specs.Prelude.{◌≡◌, ◌≤◌, ◌<◌, ℕ, List, Option, Some, IfOk, IfErr, IfSome};
+//! Disks and L1 tables that may have so many bytes, and no more.
+ghost use Rattle.std.specs.Prelude.{◌≡◌, ◌≤◌, ◌<◌, ◌^◌, ◌*◌, ◌+◌, ℕ, List, Option, Some};
+ghost use Rattle.std.specs.Prelude.{IfOk, IfErr, IfSome};
 ghost use Rattle.std.specs.Prelude.{length as count_of};
 ghost use Rattle.imago_plan.specs.PieceBytes.{bytes_at};
 ghost use Rattle.imago_vmdk.specs.Reading.{reading_of};
@@ -12,6 +13,8 @@ ghost use Rattle.imago_images.specs.Extents.{size_read};
 ghost use Rattle.imago_images.specs.HostBytes.{HasBytes};
 ghost use Rattle.imago_images.specs.Layers.{size_by};
 ghost use Rattle.imago_images.specs.Longest.{IsNoLonger, IsTooLong, IsSizeUnknown, IsOverLimit};
+ghost use Rattle.imago_images.specs.Longest.{HasShortL1, IsTooLarge};
+ghost use Rattle.imago_images.specs.Longest.{l1_length as l1_length_of};
 ghost use Rattle.imago_images.specs.Refusals.{IsRefused};
 
 use crate::failure::{OpenError, Reason};
@@ -21,6 +24,7 @@ use crate::recognised::{length_of, read_block, unread};
 use imago_file::file::FileStorage;
 use imago_file::host::HostFile;
 use imago_qcow2::header::{self, HEAD_LENGTH};
+use imago_qcow2::number::number32;
 use imago_storage::error::Error;
 use imago_storage::ext::StorageExt;
 use imago_storage::storage::Storage;
@@ -29,6 +33,43 @@ use std::alloc::Global;
 
 /// The most bytes that a descriptor has.
 const LONGEST_TEXT: u64 = 1 << 21;
+
+/// The most bytes that the L1 table of a qcow2 file has, as qemu opens it.
+pub const LONGEST_L1: u64 = 32 << 20;
+
+/// Where the header of a qcow2 file says how many entries of 8 bytes its L1 table has.
+const L1_COUNT: usize = 36;
+
+/// How many bytes the L1 table of a qcow2 file has, by the first bytes of the file.
+pub fn l1_length(head: &[u8]) -> u64
+    requires { 40 ≤ count_of head.now }
+    ensures { result ≡ l1_length_of head.now }
+{
+    8 * number32(head, L1_COUNT) as u64
+}
+
+/// Refuses the file of that path as a layer of that format whose disk is longer than the opening
+/// allows, as [`refuse_longer`] does, or whose L1 table has more than 32 MiB.
+pub(crate) fn refuse_larger<F: HostFile>(
+    alloc: Global,
+    path: &str,
+    file: &FileStorage<F>,
+    format: ImageFormat,
+    how: Opening,
+) -> Result<(), OpenError>
+    ensures within { (bytes : List ℕ) → HasBytes ⟦<FileStorage<F> as Storage>⟧.features
+        ⟦<FileStorage<F> as Storage>⟧.bytes bytes file.now
+        → IfOk result (λ _. IsNoLonger how.longest how.accepted format bytes) }
+    ensures l1 { (bytes : List ℕ) → HasBytes ⟦<FileStorage<F> as Storage>⟧.features
+        ⟦<FileStorage<F> as Storage>⟧.bytes bytes file.now
+        → IfOk result (λ _. HasShortL1 format bytes) }
+    ensures refused { (bytes : List ℕ) → HasBytes ⟦<FileStorage<F> as Storage>⟧.features
+        ⟦<FileStorage<F> as Storage>⟧.bytes bytes file.now
+        → IfErr result (IsRefused path.now (IsTooLarge how.longest how.accepted format bytes)) }
+{
+    refuse_longer(alloc, path, file, format, how)?;
+    refuse_long_l1(alloc, path, file, format)
+}
 
 /// Refuses the file of that path as a layer of that format whose disk is longer than the opening
 /// allows. It is told by a raw file's length, the header of a qcow2 file or the text of a
@@ -52,6 +93,57 @@ pub fn refuse_longer<F: HostFile>(
     }
     let size = size_told(alloc, path, file, format, how.accepted)?;
     refuse_size(alloc, path, size, how.longest)
+}
+
+/// Refuses the file of that path as a layer of that format whose L1 table has more than 32 MiB.
+/// Only a qcow2 file has one.
+fn refuse_long_l1<F: HostFile>(
+    alloc: Global,
+    path: &str,
+    file: &FileStorage<F>,
+    format: ImageFormat,
+) -> Result<(), OpenError>
+    ensures within { (bytes : List ℕ) → HasBytes ⟦<FileStorage<F> as Storage>⟧.features
+        ⟦<FileStorage<F> as Storage>⟧.bytes bytes file.now
+        → IfOk result (λ _. HasShortL1 format bytes) }
+    ensures refused { (longest : Option ℕ) (accepted : Accepted) (bytes : List ℕ)
+        → HasBytes ⟦<FileStorage<F> as Storage>⟧.features
+        ⟦<FileStorage<F> as Storage>⟧.bytes bytes file.now
+        → IfErr result (IsRefused path.now (IsTooLarge longest accepted format bytes)) }
+{
+    match format {
+        ImageFormat::Raw | ImageFormat::Vmdk => Ok(()),
+        ImageFormat::Qcow2 => {
+            let taken = l1_length_told(alloc, path, file)?;
+            if taken > LONGEST_L1 {
+                return Err(OpenError::of_file(alloc, path, Reason::L1TooLong(taken)));
+            }
+            Ok(())
+        }
+    }
+}
+
+/// How many bytes the L1 table of a qcow2 file has, by its header.
+fn l1_length_told<F: HostFile>(
+    alloc: Global,
+    path: &str,
+    file: &FileStorage<F>,
+) -> Result<u64, OpenError>
+    ensures told { (bytes : List ℕ) → HasBytes ⟦<FileStorage<F> as Storage>⟧.features
+        ⟦<FileStorage<F> as Storage>⟧.bytes bytes file.now
+        → IfOk result (λ n. n ≡ l1_length_of bytes) }
+    ensures refused { (accepted : Accepted) (bytes : List ℕ)
+        → HasBytes ⟦<FileStorage<F> as Storage>⟧.features
+        ⟦<FileStorage<F> as Storage>⟧.bytes bytes file.now
+        → IfErr result (IsRefused path.now (IsSizeUnknown accepted Of.Qcow2 bytes)) }
+{
+    let length = length_of(alloc, path, file)?;
+    let mut head = [0u8; HEAD_LENGTH];
+    read_block(alloc, path, file, &mut head, 0)?;
+    match header::read(&head, length) {
+        Ok(_) => Ok(l1_length(&head)),
+        Err(fault) => Err(OpenError::of_file(alloc, path, Reason::Header(fault))),
+    }
 }
 
 /// Refuses a file whose disk has that many bytes, if these are more than the limit.

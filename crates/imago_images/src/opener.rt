@@ -15,7 +15,7 @@ ghost use Rattle.imago_images.specs.Images.{IsImageIn, IsToWrite, IsReadOnly};
 ghost use Rattle.imago_access.specs.Chain.{driver as driver_of};
 ghost use Rattle.imago_qcow2.specs.Limit.{IsWithin};
 ghost use Rattle.imago_images.specs.Layers.{tables_in};
-ghost use Rattle.imago_images.specs.Longest.{IsNoLonger};
+ghost use Rattle.imago_images.specs.Longest.{IsNoLonger, HasShortL1};
 ghost use Rattle.imago_images.specs.HostBytes.{HasBytes};
 ghost use Rattle.imago_images.specs.Way.{entered, is_among};
 ghost use Rattle.imago_images.specs.Chains.{HasIdentity, IsNextRefused, IsChainRefused};
@@ -29,7 +29,7 @@ use crate::files::Files;
 use crate::format::ImageFormat;
 use crate::gate::{FolderGate, Named};
 use crate::layer::{Below, Layer, format_of, open_layer, raw_layer};
-use crate::longest::{refuse_longer, refuse_size};
+use crate::longest::{refuse_larger, refuse_size};
 use crate::opening::Opening;
 use crate::over::{alone, over};
 use crate::way::Way;
@@ -61,8 +61,9 @@ pub type FileImage<'a, H> = FormatAccess<AnyDriver<PathStorage<'a, H>>>;
 /// [`OpenError::OfFile`] names the file that can't be used, and its
 /// [`Reason`](crate::failure::Reason) says why: so a chain of more than 200 files is
 /// `TooManyBelow`, one that leads back to a file above is `Loop`, a file whose tables are larger
-/// than the opening allows is `TablesTooLarge`, and an image that is to be written and isn't raw is
-/// `OnlyRead`. [`OpenError::Memory`] means that an allocation failed.
+/// than the opening allows is `TablesTooLarge`, one whose L1 table has more than 32 MiB is
+/// `L1TooLong`, and an image that is to be written and isn't raw is `OnlyRead`.
+/// [`OpenError::Memory`] means that an allocation failed.
 pub fn open_image<'a, H: Files>(
     host: &'a H,
     path: &str,
@@ -87,6 +88,8 @@ pub fn open_image<'a, H: Files>(
     ensures tables { IfOk result (λ r. IsWithin how.tables (tables_in (driver_of r.1))) }
     ensures longest { IfOk result (λ r. IsWithin how.longest
         (⟦<AnyDriver<PathStorage<'a, H>> as FormatDriverInstance>⟧.view (driver_of r.1)).size) }
+    ensures l1 { IfOk result (λ r. IfSome (H.contents host.now)
+        (λ files. HasShortL1 r.0 (files path.now))) }
     ensures refused { IfErr result (λ e. IfSome (H.contents host.now)
         (λ files. IsImageRefused how.writable files (H.statuses host.now) (H.real_paths host.now)
         how.other_files how how.format path.now e)) }
@@ -97,7 +100,7 @@ pub fn open_image<'a, H: Files>(
     let file = storage_of(file, path)?;
     refuse_another(host.alloc(), path, &file, how.format, how.other_files)?;
     let format = format_of(host.alloc(), path, &file, how.format)?;
-    refuse_longer(host.alloc(), path, &file, format, how)?;
+    refuse_larger(host.alloc(), path, &file, format, how)?;
     let image = open_format(host, path, file, format, how, &mut way)?;
     // The file may have changed meanwhile.
     refuse_size(host.alloc(), path, image.size(), how.longest)?;
@@ -246,6 +249,8 @@ fn next_file<'a, H: Files>(
         (files (string_bytes next.now.path)) r.1)) }
     ensures longest { IfOk result (λ r. IfSome (H.contents host.now)
         (λ files. IsNoLonger how.longest how.accepted r.1 (files (string_bytes next.now.path)))) }
+    ensures l1 { IfOk result (λ r. IfSome (H.contents host.now)
+        (λ files. HasShortL1 r.1 (files (string_bytes next.now.path)))) }
     ensures anew { IfOk result (λ _. (id : ℕ × ℕ)
         × HasIdentity (H.statuses host.now) (string_bytes next.now.path) id
         × (is_among (entered way.old) id ≡ false)
@@ -260,6 +265,6 @@ fn next_file<'a, H: Files>(
     way.enter(host.alloc(), &file)?;
     let file = storage_of(file, &next.path)?;
     let format = format_of(host.alloc(), &next.path, &file, next.format)?;
-    refuse_longer(host.alloc(), &next.path, &file, format, how)?;
+    refuse_larger(host.alloc(), &next.path, &file, format, how)?;
     Ok((file, format))
 }

@@ -19,4 +19,4 @@ returns-in-Err-Driver-clause-refused g c =
     (driver_fault (IsRefusedOpening (g.S.Storage.features c.args.file) (g.S.Storage.bytes c.args.file))
     (TablesNeedMore (g.S.Storage.features c.args.file) (g.S.Storage.bytes c.args.file) (Some c.args.most_tables))
     c.in-Err-Driver.field-0 c.in-Err-Driver.cause c.in-Err-Driver.field-0-is c.in-Err-Driver.ensures.refused)
-    (c.not_opened.ensures (Some c.args.most_tables))
+    (c.not_opened.ensures.of_bytes (Some c.args.most_tables))

@@ -10,6 +10,7 @@ use Rattle.imago_images.specs.Way.{entered, identity}
 use Rattle.imago_images.proofs.AloneSteps.{image_alone_told}
 use Rattle.imago_images.proofs.PathSteps.{held_by, features_of, bytes_of}
 use Rattle.imago_images.proofs.ImageSteps.{refused_with, identity_told, image_unknown, image_out, image_another, image_one, image_long, image_within, image_format, image_over, has_end}
+use Rattle.imago_images.specs.Longest.{IsNoLonger, HasShortL1}
 use Rattle.imago_images.proofs.opener.open_image.Goals as goal
 
 pub returns-in_err-format-clause-refused : goal.returns-in_err-format-clause-refused
@@ -81,19 +82,19 @@ returns-clause-one g c =
     c.in_ok-file-2.file (held_by contents opened c.in_ok-file.file) OpenError.Memory c.in_ok-file-2.ensures.told
     c.in_ok-file.ensures.told c.in_ok-refuse_another.ensures.one
 
-pub returns-in_err-refuse_longer-clause-refused : goal.returns-in_err-refuse_longer-clause-refused
-returns-in_err-refuse_longer-clause-refused g c =
+pub returns-in_err-refuse_larger-clause-refused : goal.returns-in_err-refuse_larger-clause-refused
+returns-in_err-refuse_larger-clause-refused g c =
     let contents = g.H.Files.contents in
     let opened = g.H.File.HostFile.contents in
     let host = c.args.host.now in
-    let e = c.in_err-refuse_longer.field-0.0 in
-    let p = err_from_is_err_and c.from_residual-in_err-refuse_longer.result c.from_residual-in_err-refuse_longer.ensures.1 in
-    refused_with c.from_residual-in_err-refuse_longer.result e _ (p.1 ∙ ap (λ x. Err x) p.2)
+    let e = c.in_err-refuse_larger.field-0.0 in
+    let p = err_from_is_err_and c.from_residual-in_err-refuse_larger.result c.from_residual-in_err-refuse_larger.ensures.1 in
+    refused_with c.from_residual-in_err-refuse_larger.result e _ (p.1 ∙ ap (λ x. Err x) p.2)
     (image_long (features_of contents opened) (bytes_of contents opened) (contents host) (g.H.Files.statuses host)
     (g.H.Files.real_paths host) c.args.how.other_files c.args.path.now c.args.how.format
     c.in_ok-file-2.file (held_by contents opened c.in_ok-file.file) e c.in_ok-file-2.ensures.told
     c.args.how.writable c.args.how c.in_ok-format.format c.in_ok-file.ensures.told c.in_ok-format.ensures.told
-    c.in_err-refuse_longer.ensures.refused)
+    c.in_err-refuse_larger.ensures.refused)
 
 pub open_format-requires-clause-longest : goal.open_format-requires-clause-longest
 open_format-requires-clause-longest g c =
@@ -103,7 +104,8 @@ open_format-requires-clause-longest g c =
     image_within (features_of contents opened) (bytes_of contents opened) (contents host) (g.H.Files.statuses host)
     (g.H.Files.real_paths host) c.args.how.other_files c.args.path.now c.args.how.format
     c.in_ok-file-2.file (held_by contents opened c.in_ok-file.file) OpenError.Memory c.in_ok-file-2.ensures.told
-    c.args.how c.in_ok-format.format c.in_ok-file.ensures.told c.in_ok-refuse_longer.ensures.within
+    (IsNoLonger c.args.how.longest c.args.how.accepted c.in_ok-format.format) c.in_ok-file.ensures.told
+    c.in_ok-refuse_larger.ensures.within
 
 pub returns-in_err-refuse_size-clause-refused : goal.returns-in_err-refuse_size-clause-refused
 returns-in_err-refuse_size-clause-refused g c =
@@ -125,3 +127,13 @@ returns-in_err-refuse_size-clause-refused g c =
 pub returns-clause-longest : goal.returns-clause-longest
 returns-clause-longest g c =
     subst (λ (n : ℕ). IsWithin c.args.how.longest n) c.size.ensures c.in_ok-refuse_size.ensures.within
+
+pub returns-clause-l1 : goal.returns-clause-l1
+returns-clause-l1 g c =
+    let contents = g.H.Files.contents in
+    let opened = g.H.File.HostFile.contents in
+    let host = c.args.host.now in
+    image_within (features_of contents opened) (bytes_of contents opened) (contents host) (g.H.Files.statuses host)
+    (g.H.Files.real_paths host) c.args.how.other_files c.args.path.now c.args.how.format
+    c.in_ok-file-2.file (held_by contents opened c.in_ok-file.file) OpenError.Memory c.in_ok-file-2.ensures.told
+    (HasShortL1 c.in_ok-format.format) c.in_ok-file.ensures.told c.in_ok-refuse_larger.ensures.l1
