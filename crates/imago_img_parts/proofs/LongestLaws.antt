@@ -60,6 +60,7 @@ module _ (accepted : Accepted) (format : ImageFormat) (one other : List ℕ) (sa
   unknown (Reason.Image error) h = by_text error h
   unknown (Reason.Header fault) h = (h.0, by_header (error_of fault) h.0 h.1)
   unknown (Reason.TablesTooLarge most) h = absurd h
+  unknown (Reason.L1TooLong told) h = absurd h
   unknown (Reason.DiskTooLong size most) h = absurd h
   unknown Reason.Sparse h = absurd h
   unknown (Reason.Recognised found) h = absurd h

@@ -1,6 +1,6 @@
 -- What is safe to hand on opens: each refusal that tells of the file is denied by what is so of it.
 -- SPDX-License-Identifier: MIT
-use Rattle.std.proofs.Common.{◌≡◌, ℕ, zero, suc, ◌+◌, ◌*◌, ◌<◌, ◌≤◌, ◌⊎◌, Bool, true, false, List, [], ◌∷◌, length, Option, Some, None, Result, Ok, Err, IfErr, IfSome, IsErr, MatchResult, IsTrue, refl, sym, ap, ◌∙◌, subst, inl, inr, arith}
+use Rattle.std.proofs.Common.{◌≡◌, ℕ, zero, suc, ◌+◌, ◌*◌, ◌^◌, ◌<◌, ◌≤◌, ◌⊎◌, Bool, true, false, List, [], ◌∷◌, length, Option, Some, None, Result, Ok, Err, IfErr, IfSome, IsErr, MatchResult, IsTrue, refl, sym, ap, ◌∙◌, subst, inl, inr, arith}
 use Rattle.std.specs.Prelude.{IsOk, slice_index}
 use Rattle.std.proofs.lemmas.List.FromFn.{get_or-map-range_with_len}
 use Rattle.imago_storage.specs.declared.error.Error.{Error}
@@ -37,7 +37,7 @@ use Rattle.imago_images.specs.Chains.{GoesDown, IsLayerRefused, IsChainRefused, 
 use Rattle.imago_images.specs.Extents.{HasFlat}
 use Rattle.imago_images.specs.Formats.{told_format, IsFormatBy}
 use Rattle.imago_images.specs.Layers.{SaysBacking, size_by}
-use Rattle.imago_images.specs.Longest.{IsNoLonger, IsOverLimit, IsSizeUnknown, IsTooLong}
+use Rattle.imago_images.specs.Longest.{IsNoLonger, IsOverLimit, IsSizeUnknown, IsTooLong, IsTooLarge, HasLongL1, l1_length}
 use Rattle.imago_images.specs.Refusals.{IsRefused, IsBySystem, IsUnread, IsUnseen, IsUnknown, IsUnopened, IsByQcow2, IsUndescribed, IsByVmdk, HasExtentIn, HasLargerTables}
 use Rattle.imago_images.specs.Signatures.{signature_of, other_signature_of}
 use Rattle.imago_img_parts.specs.declared.failure.Failure.{Failure}
@@ -61,6 +61,7 @@ unseen statuses path (Reason.System answer) h = tt
 unseen statuses path (Reason.Image error) h = absurd h
 unseen statuses path (Reason.Header fault) h = absurd h
 unseen statuses path (Reason.TablesTooLarge most) h = absurd h
+unseen statuses path (Reason.L1TooLong told) h = absurd h
 unseen statuses path (Reason.DiskTooLong size most) h = absurd h
 unseen statuses path Reason.Sparse h = absurd h
 unseen statuses path (Reason.Recognised found) h = absurd h
@@ -82,6 +83,7 @@ unread (Reason.System answer) h = tt
 unread (Reason.Image error) h = h
 unread (Reason.Header fault) h = absurd h
 unread (Reason.TablesTooLarge most) h = absurd h
+unread (Reason.L1TooLong told) h = absurd h
 unread (Reason.DiskTooLong size most) h = absurd h
 unread Reason.Sparse h = absurd h
 unread (Reason.Recognised found) h = absurd h
@@ -139,6 +141,7 @@ another others said bytes one (Reason.System answer) h = tt
 another others said bytes one (Reason.Image error) h = h
 another others said bytes one (Reason.Header fault) h = absurd h
 another others said bytes one (Reason.TablesTooLarge most) h = absurd h
+another others said bytes one (Reason.L1TooLong told) h = absurd h
 another others said bytes one (Reason.DiskTooLong size most) h = absurd h
 another others said bytes one Reason.Sparse h = absurd h
 another others said bytes one (Reason.Recognised found) h = absurd h
@@ -263,6 +266,7 @@ module _ (limit : Option ℕ) (bytes : List ℕ) (safe : IsSafeQcow2 (most_memor
   unopened (Reason.Image error) h = by_qcow2 error h
   unopened (Reason.Header fault) h = absurd (no_fault_read bytes safe.header (error_of fault) h)
   unopened (Reason.TablesTooLarge most) h = absurd (too_large most h.0 h.1)
+  unopened (Reason.L1TooLong told) h = absurd h
   unopened (Reason.DiskTooLong size most) h = absurd h
   unopened Reason.Sparse h = absurd h
   unopened (Reason.Recognised found) h = absurd h
@@ -306,6 +310,7 @@ module _ (accepted : Accepted) (bytes : List ℕ) (safe : IsSafeDescriptor accep
   undescribed path (Reason.Image error) h = by_vmdk path error h
   undescribed path (Reason.Header fault) h = absurd h
   undescribed path (Reason.TablesTooLarge most) h = absurd h
+  undescribed path (Reason.L1TooLong told) h = absurd h
   undescribed path (Reason.DiskTooLong size most) h = absurd h
   undescribed path Reason.Sparse h = absurd h
   undescribed path (Reason.Recognised found) h = absurd h
@@ -340,6 +345,7 @@ module _ (how : Opening) (bytes : List ℕ) where
     size_unknown (Reason.Image error) h = size_by_text error h
     size_unknown (Reason.Header fault) h = absurd (no_fault_read bytes (safe_qcow2 format h.0 safe).header (error_of fault) h.1)
     size_unknown (Reason.TablesTooLarge most) h = absurd h
+    size_unknown (Reason.L1TooLong told) h = absurd h
     size_unknown (Reason.DiskTooLong size most) h = absurd h
     size_unknown Reason.Sparse h = absurd h
     size_unknown (Reason.Recognised found) h = absurd h
@@ -361,6 +367,7 @@ module _ (how : Opening) (bytes : List ℕ) where
     over_limit size within (Reason.Image error) h = absurd h
     over_limit size within (Reason.Header fault) h = absurd h
     over_limit size within (Reason.TablesTooLarge most) h = absurd h
+    over_limit size within (Reason.L1TooLong told) h = absurd h
     over_limit size within (Reason.DiskTooLong told most) h =
         let most_is : size ≤ most = subst (λ (o : Option ℕ). IsWithin o size) h.0 within in
         let never : ⊥ = omega (arith, most_is, h.2) in absurd never
@@ -379,9 +386,37 @@ module _ (how : Opening) (bytes : List ℕ) where
     over_limit size within Reason.OnlyRead h = absurd h
     over_limit size within Reason.NotAFile h = absurd h
 
+    long_l1 : (r : Reason) → HasLongL1 format bytes r → IsOfHost r
+    long_l1 (Reason.L1TooLong told) h =
+        let held : l1_length bytes ≤ 2 ^ 25 = (safe_qcow2 format h.0 safe).tables.held in
+        let never : ⊥ = omega (arith, held, h.1, h.2) in absurd never
+    long_l1 (Reason.System answer) h = absurd h
+    long_l1 (Reason.Image error) h = absurd h
+    long_l1 (Reason.Header fault) h = absurd h
+    long_l1 (Reason.TablesTooLarge most) h = absurd h
+    long_l1 (Reason.DiskTooLong size most) h = absurd h
+    long_l1 Reason.Sparse h = absurd h
+    long_l1 (Reason.Recognised found) h = absurd h
+    long_l1 (Reason.Another said found) h = absurd h
+    long_l1 (Reason.TwoFormats found other) h = absurd h
+    long_l1 (Reason.BackingOutside name) h = absurd h
+    long_l1 (Reason.BackingNotPermitted name) h = absurd h
+    long_l1 (Reason.BackingProtocol name) h = absurd h
+    long_l1 (Reason.BackingFormat name) h = absurd h
+    long_l1 (Reason.Loop told) h = absurd h
+    long_l1 (Reason.TooManyBelow told) h = absurd h
+    long_l1 (Reason.Outside name) h = absurd h
+    long_l1 (Reason.NotPermitted name) h = absurd h
+    long_l1 Reason.OnlyRead h = absurd h
+    long_l1 Reason.NotAFile h = absurd h
+
     too_long : IsNoLonger how.longest how.accepted format bytes → (r : Reason) → IsTooLong how.longest how.accepted format bytes r → IsOfHost r
     too_long within r (inl over) = over_limit (size_by how.accepted format bytes) within r over
     too_long within r (inr unknown) = size_unknown r unknown
+
+    larger : IsNoLonger how.longest how.accepted format bytes → (r : Reason) → IsTooLarge how.longest how.accepted format bytes r → IsOfHost r
+    larger within r (inl long) = too_long within r long
+    larger within r (inr long) = long_l1 r long
 
 module _ (how : Opening) (files : List ℕ → List ℕ) (statuses : Option (List ℕ → FileStatus)) (reals : Option (List ℕ → List ℕ))
     (others : OtherFiles) (path : List ℕ) where
@@ -419,6 +454,7 @@ told_not_host (OpenError.OfFile named r) told host = reason r told host
     reason (Reason.Image error) is host = error_told error is host
     reason (Reason.Header fault) is host = host
     reason (Reason.TablesTooLarge most) is host = host
+    reason (Reason.L1TooLong told) is host = host
     reason (Reason.DiskTooLong size most) is host = host
     reason Reason.Sparse is host = host
     reason (Reason.Recognised found) is host = host
@@ -455,6 +491,13 @@ pub too_long_host :
 too_long_host how path bytes format e h safe short =
     host_refusal path (IsTooLong how.longest how.accepted format bytes) (too_long how bytes format safe short) e h
 
+too_large_host :
+    (how : Opening) (path bytes : List ℕ) (format : ImageFormat) (e : OpenError)
+    → IsRefused path (IsTooLarge how.longest how.accepted format bytes) e
+    → IsSafeAs how bytes format → IsNoLonger how.longest how.accepted format bytes → IsHostRefusal e
+too_large_host how path bytes format e h safe short =
+    host_refusal path (IsTooLarge how.longest how.accepted format bytes) (larger how bytes format safe short) e h
+
 -- a vetted file is safe as an image of the format that it has
 module _ (how : Opening) (path bytes : List ℕ) (vetted : IsVetted how path bytes) (format : ImageFormat)
     (is : IsFormatBy how.format path bytes format) where
@@ -483,7 +526,7 @@ vetted_opens how files statuses reals path e none vetted h = either h
         chain how files statuses reals how.other_files path format (file ∷ []) down (safe_in format is) e h
     either (inr (inr (inr (inl h)))) = another_host how.other_files how.format path (files path) e h vetted.one
     either (inr (inr (inr (inr (format, is, h))))) =
-        too_long_host how path (files path) format e h (safe_in format is) (short_in format is)
+        too_large_host how path (files path) format e h (safe_in format is) (short_in format is)
 
 -- the same of the opening of an image, whose refusal is told as a failure
 pub opened_vetted :

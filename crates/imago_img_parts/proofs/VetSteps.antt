@@ -9,16 +9,18 @@ use Rattle.imago_qcow2.specs.declared.entry.L2Table.TheVariants as T
 use Rattle.imago_qcow2.specs.Numbers.{be32, be64}
 use Rattle.imago_storage.specs.declared.error.Error.{Error}
 use Rattle.imago_qcow2.specs.declared.header.Header.{Header}
-use Rattle.imago_qcow2.specs.Header.{compression_of, header_of}
+use Rattle.imago_qcow2.specs.Header.{IsSound, and_then, magic_fault, support_fault, bounds_fault, added_fault, name_fault, size_fault, table_fault, compression_of, header_of}
 use Rattle.imago_qcow2.specs.Entry.{version_of, cluster_length, per_table, l1_start, table_in_entry, table_of}
 use Rattle.imago_qcow2.specs.Opening.{table_count}
 use Rattle.imago_vmdk.specs.declared.line.Accepted.{Accepted}
 use Rattle.imago_vmdk.specs.declared.line.Extent.{Extent}
 use Rattle.imago_vmdk.specs.Reading.{reading_of, GivesOrMemory}
 use Rattle.imago_qcow2.proofs.NumberSteps.{read64}
+use Rattle.imago_qcow2.proofs.HeldSteps.{enough, span_positive}
 use Rattle.imago_qcow2.proofs.HeaderSteps.{same32, same64, compression_same, header_same, head_same}
 use Rattle.imago_images.specs.declared.opening.Opening.{Opening}
 use Rattle.imago_images.specs.Layers.{SaysBacking}
+use Rattle.imago_images.specs.Longest.{l1_length}
 use Rattle.imago_img_parts.specs.declared.vet_tables.Shape.{Shape}
 use Rattle.imago_img_parts.specs.Vetted.{named_by, named_tables, IsSafeTable, AreSafeTables, AreSafeExtents, IsSafeDescriptor, IsVetted}
 use Rattle.imago_img_parts.specs.VettedParts.{IsEntrySafe, IsTableSafe, AreEntriesSafe}
@@ -145,11 +147,11 @@ module _ (s : Shape) (bytes : List ℕ) (file : s.file ≡ length bytes) (cluste
         is ∙ all
 
     pub tables_safe : (most taken : ℕ) → taken ≡ 8 * count + s.cluster * named_tables says (length entries / 8) → taken ≤ most
-        → 8 * count ≤ 33554432 → AreEntriesSafe s bytes entries (length entries / 8) → AreSafeTables most bytes
+        → l1_length bytes ≤ 2 ^ 25 → AreEntriesSafe s bytes entries (length entries / 8) → AreSafeTables most bytes
     tables_safe most taken is few held each =
         let k : length entries / 8 ≡ count = omega (arith, len) in
         record {
-          held = subst (λ (n : ℕ). 8 * n ≤ 33554432) is_count held;
+          held = held;
           few = subst (λ (n : ℕ). n ≤ most) (tables_taken taken is) few;
           each = λ i below.
               let near : i < count = omega (arith, is_count, below) in
@@ -179,6 +181,9 @@ module _ (bytes head : List ℕ) (r : IsReadAt bytes 0 head) (len : 112 ≤ leng
       let size = same64 bytes head begins 24 (omega arith) in
       let c = cluster_moved in
       rw (size, c) refl
+
+  pub said_moved : l1_length head ≡ l1_length bytes
+  said_moved = ap (λ (n : ℕ). 8 * n) (same32 bytes head begins 36 (omega arith))
 
   pub version_moved : be32 head 4 ≡ version_of bytes
   version_moved = same32 bytes head begins 4 (omega arith)
@@ -256,3 +261,34 @@ pub vetted_as_said : (a b : Opening) → a ≡ b → (known : Option (List ℕ �
     → IfSome known (λ files. Decides safe (IsVetted a path (files path)))
     → IfSome known (λ files. Decides safe (IsVetted b path (files path)))
 vetted_as_said a b same known path safe h = subst (λ (how : Opening). IfSome known (λ files. Decides safe (IsVetted how path (files path)))) same h
+
+-- a header without a fault says how many L1 entries there are, which are enough for the disk
+then_ok : {A : Type 0} (r : Result (Unit {0}) Error) (n : Result A Error) (x : A) → and_then r n ≡ Ok x → n ≡ Ok x
+then_ok (Ok u) n x h = h
+then_ok (Err e) n x h = let never : ⊥ = cc h in absurd never
+
+abbrev count_in : Result Header Error → ℕ
+count_in (Ok h) = h.l1_count
+count_in (Err e) = 0
+
+said_count : (head : List ℕ) (file : ℕ) (h : Header) → header_of head file ≡ Ok h → be32 head 36 ≡ h.l1_count
+unfolding header_of
+said_count head file h is =
+    let cluster = 2 ^ be32 head 20 in
+    let a = then_ok (magic_fault head file) _ h is in
+    let b = then_ok (support_fault head) _ h a in
+    let c = then_ok (bounds_fault head) _ h b in
+    let d = then_ok (added_fault head cluster) _ h c in
+    let e = then_ok (name_fault head cluster) _ h d in
+    let f = then_ok (size_fault head cluster) _ h e in
+    let g = then_ok (table_fault head file cluster) _ h f in
+    ap count_in g
+
+pub needed_said : (head : List ℕ) (file : ℕ) (h : Header) → header_of head file ≡ Ok h → IsSound head file h → 8 * table_count head ≤ l1_length head
+needed_said head file h is sound =
+    let span = h.cluster_size / 8 * h.cluster_size in
+    let few = enough h.size h.l1_count span (span_positive h.cluster_size sound.least) sound.covers in
+    let size = sound.size in
+    let cluster = sound.cluster in
+    let needed : table_count head ≤ h.l1_count = rw (size, cluster) at few in
+    omega (arith, needed, said_count head file h is)

@@ -1,6 +1,6 @@
 -- What a check says of the file of an image.
 -- SPDX-License-Identifier: MIT
-use Rattle.std.specs.Prelude.{◌≡◌, ℕ, ◌+◌, ◌*◌, ◌≤◌, List, [], ◌∷◌, Option, None, Some}
+use Rattle.std.specs.Prelude.{◌≡◌, ℕ, ◌+◌, ◌*◌, ◌^◌, ◌≤◌, List, [], ◌∷◌, Option, None, Some}
 use Rattle.std.specs.Prelude.{length, Ok, IsOk, unwrap_or}
 use Rattle.imago_vmdk.specs.declared.line.Extent.{Extent}
 use Rattle.imago_vmdk.specs.Reading.{reading_of}
@@ -43,10 +43,10 @@ HasSoundExtents how files path = (extents : List (Extent (List ℕ))) × (size :
     × (reading_of how.accepted (files path) ≡ Ok (extents, size))
     × AreHeld how.other_files files path extents
 
--- How many bytes of memory the check of a qcow2 file may take for the reference counts and the uses
--- of its clusters: 256 MiB, if nothing else is said.
+-- How many bytes of memory the tables of an image may take, and the reference counts and the uses of
+-- its clusters while it is checked: 256 MiB, if nothing else is said.
 abbrev pub most_memory : Option ℕ → ℕ
-most_memory said = unwrap_or said 268435456
+most_memory said = unwrap_or said (2 ^ 28)
 
 -- A qcow2 file with these bytes was checked: its header is accepted, nothing in it that isn't known
 -- may use clusters, and its verdict is that. Counts and uses have 8 bytes for each cluster, which

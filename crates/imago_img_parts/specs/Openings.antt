@@ -1,6 +1,6 @@
 -- How the images that a command line names are opened, and what tells that a disk is too long.
 -- SPDX-License-Identifier: MIT
-use Rattle.std.specs.Prelude.{◌≡◌, ℕ, Bool, true, false, not, List, Option, option_map, length}
+use Rattle.std.specs.Prelude.{◌≡◌, ℕ, Bool, true, false, not, List, Option, Some, option_map, length}
 use Rattle.imago_plan.specs.PieceBytes.{bytes_at}
 use Rattle.imago_vmdk.specs.declared.line.Accepted.{Accepted}
 use Rattle.imago_words.specs.declared.command.Opening as Said
@@ -13,6 +13,7 @@ use Rattle.imago_images.specs.declared.opening.Opening.{Opening}
 use Rattle.imago_images.specs.declared.opening.OtherFiles.{OtherFiles}
 use Rattle.imago_images.specs.declared.opening.OtherFiles.TheVariants as Others
 use Rattle.imago_images.specs.Longest.{IsTooLong}
+use Rattle.imago_img_parts.specs.Checked.{most_memory}
 
 -- the format of that name
 abbrev pub image_format : Format → ImageFormat
@@ -27,13 +28,14 @@ others_by false true = Others.Any
 others_by false false = Others.InFolder
 
 -- How an image is opened, by its format, if it was said, and by what is said of all images of the
--- command. No command writes to an image, and all commands accept VMFS extents.
+-- command. Its tables are limited, as the memory of a check is. No command writes to an image, and
+-- all commands accept VMFS extents.
 abbrev pub how_by : Option Format → Said.Opening → Opening
 how_by format said = record {
   format = option_map image_format format;
   accepted = record { unknown_keys = not said.strict; vmfs = true };
   other_files = others_by said.alone said.allow_outside;
-  tables = said.tables;
+  tables = Some (most_memory said.tables);
   longest = said.max_size;
   writable = false;
 }

@@ -1,6 +1,6 @@
 -- What is so of a file that is safe to hand on: what opens it, and each place of its disk.
 -- SPDX-License-Identifier: MIT
-use Rattle.std.specs.Prelude.{◌≡◌, ℕ, zero, suc, ◌+◌, ◌*◌, ◌<◌, ◌≤◌, List, [], ◌∷◌, length}
+use Rattle.std.specs.Prelude.{◌≡◌, ℕ, zero, suc, ◌+◌, ◌*◌, ◌^◌, ◌<◌, ◌≤◌, List, [], ◌∷◌, length}
 use Rattle.std.specs.Prelude.{false, Option, None, Ok, IsOk}
 use Rattle.std.specs.Int.{next_multiple_of}
 use Rattle.imago_storage.specs.Error.{IsExtRefusal}
@@ -29,7 +29,7 @@ use Rattle.imago_images.specs.Alone.{HasOneFormat}
 use Rattle.imago_images.specs.Chains.{IsImageRefused}
 use Rattle.imago_images.specs.Formats.{IsFormatBy}
 use Rattle.imago_images.specs.Layers.{SaysBacking}
-use Rattle.imago_images.specs.Longest.{IsNoLonger}
+use Rattle.imago_images.specs.Longest.{IsNoLonger, l1_length}
 use Rattle.imago_images.specs.Signatures.{signature_of}
 use Rattle.imago_img_parts.specs.declared.failure.Failure.{Failure}
 use Rattle.imago_img_parts.specs.Checked.{most_memory}
@@ -68,10 +68,10 @@ named_tables says zero = 0
 named_tables says (suc n) = named_tables says n + named_by (says n)
 
 -- The tables of a qcow2 file have at most so many bytes, where an L2 table counts as often as it
--- is named, and those of the L1 table, which is held whole, are at most 32 MiB. Each of their
--- entries can be read.
+-- is named, and those of the L1 table, which is held whole, are at most 32 MiB by the header. Each
+-- of their entries can be read.
 pub record AreSafeTables (most : ℕ) (bytes : List ℕ) : Type 0 where
-  pub held : 8 * table_count bytes ≤ 33554432
+  pub held : l1_length bytes ≤ 2 ^ 25
   pub few : 8 * table_count bytes
       + cluster_length bytes * named_tables (table_of bytes) (table_count bytes) ≤ most
   pub each : (i : ℕ) → i < table_count bytes → IsSafeTable bytes (table_of bytes i)

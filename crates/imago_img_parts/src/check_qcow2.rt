@@ -8,6 +8,7 @@ ghost use Rattle.imago_img_parts.specs.Checked.{IsQcow2Checked, most_memory};
 
 use crate::failure::{Failure, OpenError, Reason, Unchecked};
 use crate::host::{Files, Host};
+use crate::opening::MOST_MEMORY;
 use imago_file::file::FileStorage;
 use imago_file::host::HostFile;
 use imago_images::alone::refuse_below;
@@ -23,9 +24,6 @@ use std::io::{self, Write};
 
 /// How many faults are told; the rest are only counted.
 const MOST_FAULTS: usize = 500;
-
-/// How many bytes of memory reference counts and uses may take, if nothing else is said: 256 MiB.
-const MOST_MEMORY: u64 = 256 << 20;
 
 /// Tells the faults of a qcow2 file, and how many corruptions and leaks there are.
 pub fn check_qcow2<'a, H: Host, W: Write>(

@@ -1,9 +1,10 @@
 // SPDX-License-Identifier: MIT
 //! What the commands ask of an opened image: whether its disk can be read, and its files.
-ghost use Rattle.std.specs.Prelude.{◌≡◌, false, IfOk, IfErr, IfSome, IsErr, MatchResult};
+ghost use Rattle.std.specs.Prelude.{◌≡◌, ◌+◌, ◌<◌, ◌≤◌, length, false, IfOk, IfErr, IfSome};
+ghost use Rattle.std.specs.Prelude.{IsErr, MatchResult};
 ghost use Rattle.imago_access.specs.Chain.{driver};
 ghost use Rattle.imago_access.specs.Target.{target};
-ghost use Rattle.imago_copy.specs.LayerRuns.{AreLayerRuns};
+ghost use Rattle.imago_copy.specs.LayerRuns.{image_of, at_of, AreReady, AreLayerRuns};
 ghost use Rattle.imago_images.specs.Formats.{IsFormatBy};
 ghost use Rattle.imago_images.specs.Images.{IsImageIn};
 ghost use Rattle.imago_images.specs.declared.opening.OtherFiles.TheVariants as Others;
@@ -81,20 +82,32 @@ fn not_opened<H: Host>(host: &H, path: &str, cause: OpenError) -> Failure
     Failure::of_image(host.alloc(), path, cause)
 }
 
-/// All runs of a disk, each of one layer.
-pub fn runs_of<D: FormatDriverInstance>(
+/// How many runs of a disk are looked for at a time.
+const MOST_RUNS: usize = 4096;
+
+/// The next runs of a disk, each of one layer: as many as are left, but at most 4096. There are none
+/// at its end.
+pub fn next_runs<D: FormatDriverInstance>(
     alloc: Global,
-    image: &FormatAccess<D>,
+    runs: &mut LayerRuns<'_, D>,
 ) -> Result<Vec<LayerRun>, Error>
-    ensures { IfOk result (λ v. AreLayerRuns (target D.view image.now) 0 v.items
-        (D.view (driver image.now)).size) }
+    requires { AreReady D.view runs.old }
+    ensures image { image_of runs.new ≡ image_of runs.old }
+    ensures runs { IfOk result (λ v. AreLayerRuns (target D.view (image_of runs.old))
+        (at_of runs.old) v.items (at_of runs.new)) }
+    ensures all { IfOk result (λ v. length v.items < 4096
+        → (D.view (driver (image_of runs.old))).size ≤ at_of runs.new) }
+    ensures further { IfOk result (λ v. at_of runs.old + length v.items ≤ at_of runs.new) }
+    ensures ready { IfOk result (λ _. AreReady D.view runs.new) }
 {
-    let mut all = Vec::new(alloc);
-    let mut runs = LayerRuns::new(image)?;
-    while let Some(run) = runs.next_run()? {
-        all.push(run)?;
+    let mut some = Vec::new(alloc);
+    while some.len() < MOST_RUNS {
+        match runs.next_run()? {
+            Some(run) => some.push(run)?,
+            None => return Ok(some),
+        }
     }
-    Ok(all)
+    Ok(some)
 }
 
 /// The size in bytes of the disk of an image, which has that path, if each place of it is mapped

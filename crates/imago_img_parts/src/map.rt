@@ -12,13 +12,15 @@ ghost use Rattle.imago_img_parts.specs.declared.map.LineKind.TheVariants as Kind
 use crate::digits::digits_of;
 use crate::failure::Failure;
 use crate::host::Host;
-use crate::image::{not_read, opened, runs_of};
+use crate::image::{next_runs, not_read, opened};
 use crate::json::quoted;
 use imago_access::access::FormatAccess;
-use imago_copy::layers::LayerRun;
+use imago_copy::layers::{LayerRun, LayerRuns};
 use imago_copy::runs::{Kind, Run};
 use imago_drivers::drivers::FormatDriverInstance;
+use imago_images::opener::FileImage;
 use imago_images::opening::Opening;
+use imago_storage::error::Error;
 use imago_storage::storage::Storage;
 use std::alloc::{AllocError, Global};
 use std::io::{self, Write};
@@ -69,6 +71,9 @@ struct NamedFile<'a> {
 /// Tells where the bytes of the disk of the image of that path stand, and which are zero,
 /// compressed, or in no layer. Holes of the files are told as zero. No byte is read, so zeroes that
 /// are compressed are told as compressed.
+///
+/// Some thousand runs are told before the next ones are looked for, so the memory that this takes
+/// doesn't grow with their number; and where an entry can't be read, those before were told.
 pub fn map_image<H: Host, W: Write>(
     host: &H,
     path: &str,
@@ -77,28 +82,51 @@ pub fn map_image<H: Host, W: Write>(
     output: &mut W,
 ) -> Result<(), Failure> {
     let (_, image) = opened(host, path, how)?;
-    match runs_of(host.alloc(), &image) {
-        Ok(runs) => map(host, &image, &runs, json, output),
-        Err(cause) => Err(not_read(host.alloc(), path, &image, cause)),
-    }
-}
-
-/// The same of an image which has these runs.
-fn map<H: Host, D: FormatDriverInstance, W: Write>(
-    host: &H,
-    image: &FormatAccess<D>,
-    runs: &[LayerRun],
-    json: bool,
-    output: &mut W,
-) -> Result<(), Failure> {
-    let alloc = host.alloc();
-    let files = files_of(alloc, image, json)?;
+    let files = files_of(host.alloc(), &image, json)?;
     let mut printer = Printer {
         output,
         json,
         is_first: true,
     };
-    print_runs(host, runs, &files, &mut printer).map_err(Failure::Output)
+    match print_disk(host, &image, &files, &mut printer) {
+        Ok(printed) => printed.map_err(Failure::Output),
+        Err(cause) => Err(not_read(host.alloc(), path, &image, cause)),
+    }
+}
+
+/// Prints the runs of the disk of an image whose layers have those files. An error is the image's
+/// refusal, and one inside an answer is the output's.
+fn print_disk<H: Host, W: Write>(
+    host: &H,
+    image: &FileImage<'_, H>,
+    files: &[Vec<NamedFile<'_>>],
+    printer: &mut Printer<'_, W>,
+) -> Result<io::Result<()>, Error> {
+    let mut runs = LayerRuns::new(image)?;
+    let mut some = next_runs(host.alloc(), &mut runs)?;
+    if let Err(cause) = printer.begin() {
+        return Ok(Err(cause));
+    }
+    while some.len() > 0 {
+        if let Err(cause) = print_runs(host, &some, files, printer) {
+            return Ok(Err(cause));
+        }
+        some = next_runs(host.alloc(), &mut runs)?;
+    }
+    Ok(printer.end())
+}
+
+/// Prints runs of a disk whose layers have those files.
+fn print_runs<H: Host, W: Write>(
+    host: &H,
+    runs: &[LayerRun],
+    files: &[Vec<NamedFile<'_>>],
+    printer: &mut Printer<'_, W>,
+) -> io::Result<()> {
+    for run in runs {
+        print_run(host, *run, files, printer)?;
+    }
+    Ok(())
 }
 
 /// The files of an image, by the depth of the layer and the index of the storage.
@@ -143,34 +171,30 @@ fn named(alloc: Global, path: &str, json: bool) -> Result<NamedFile<'_>, AllocEr
     Ok(NamedFile { path, printed })
 }
 
-/// Prints the runs of a disk whose layers have those files.
-fn print_runs<H: Host, W: Write>(
+/// Prints a run of a disk whose layers have those files.
+fn print_run<H: Host, W: Write>(
     host: &H,
-    runs: &[LayerRun],
+    layer_run: LayerRun,
     files: &[Vec<NamedFile<'_>>],
     printer: &mut Printer<'_, W>,
 ) -> io::Result<()> {
-    printer.begin()?;
-    for LayerRun { run, allocation } in runs {
-        let depth = allocation.depth;
-        match run.kind {
-            Kind::Stored {
-                layer,
-                storage,
-                offset,
-            } => {
-                if let Some(file) = files.get(layer).and_then(|files| files.get(storage)) {
-                    print_stored(host, file, run, depth, offset, printer)?;
-                }
-            }
-            Kind::Special { .. } => printer.print(placeless(run, LineKind::Compressed, depth))?,
-            Kind::Zero => {
-                let kind = zero_kind(allocation.is_present);
-                printer.print(placeless(run, kind, depth))?;
-            }
+    let LayerRun { run, allocation } = layer_run;
+    let depth = allocation.depth;
+    match run.kind {
+        Kind::Stored {
+            layer,
+            storage,
+            offset,
+        } => match files.get(layer).and_then(|files| files.get(storage)) {
+            Some(file) => print_stored(host, file, &run, depth, offset, printer),
+            None => Ok(()),
+        },
+        Kind::Special { .. } => printer.print(placeless(&run, LineKind::Compressed, depth)),
+        Kind::Zero => {
+            let kind = zero_kind(allocation.is_present);
+            printer.print(placeless(&run, kind, depth))
         }
     }
-    printer.end()
 }
 
 /// A run that stands at no offset of a file.

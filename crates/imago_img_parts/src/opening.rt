@@ -12,6 +12,10 @@ use imago_words::command::Opening as Said;
 use imago_words::format::Format;
 use imago_words::settings::{self, Settings};
 
+/// How many bytes of memory the tables of an image may take, and the reference counts and the uses
+/// of its clusters while it is checked, if nothing else is said: 256 MiB.
+pub const MOST_MEMORY: u64 = 256 << 20;
+
 /// How an image is opened, by its format, if it was said, and by what is said of all images of the
 /// command.
 pub fn how_to_open(format: Option<Format>, said: Said) -> Opening
@@ -24,7 +28,7 @@ pub fn how_to_open(format: Option<Format>, said: Said) -> Opening
             vmfs: true,
         },
         other_files: other_files(said.alone, said.allow_outside),
-        tables: said.tables,
+        tables: Some(said.tables.unwrap_or(MOST_MEMORY)),
         longest: said.max_size,
         // No command writes to an image.
         writable: false,

@@ -11,6 +11,7 @@ ghost use Rattle.imago_img_parts.specs.Vetted.{AreSafeTables, IsSafeQcow2};
 use crate::failure::{Failure, Reason};
 use crate::finding::{CORRUPT, Fault, Findings, LONGEST_SHOWN, Told};
 use crate::looked::unread;
+use crate::opening::MOST_MEMORY;
 use crate::qcow2_info::put;
 use crate::vet_tables::{read_bytes, vet_tables};
 use imago_file::file::FileStorage;
@@ -23,9 +24,6 @@ use imago_storage::error::Error;
 use imago_storage::ext::StorageExt;
 use imago_storage::storage::Storage;
 use std::alloc::Global;
-
-/// How many bytes tables may have, if nothing else is said: 256 MiB.
-const MOST_TABLES: u64 = 256 << 20;
 
 /// The incompatible feature that data stand in a file of their own.
 const DATA_FILE: u64 = 1 << 2;
@@ -349,7 +347,7 @@ pub fn vet_qcow2<F: HostFile>(
         (λ safe. Decides safe (IsSafeQcow2 (most_memory how.tables) bytes)) }
 {
     let limits = Limits {
-        tables: how.tables.unwrap_or(MOST_TABLES),
+        tables: how.tables.unwrap_or(MOST_MEMORY),
         disk: how.longest,
     };
     match is_safe(file, alloc, limits, told) {

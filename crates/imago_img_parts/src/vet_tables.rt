@@ -6,11 +6,14 @@ ghost use Rattle.imago_storage.specs.Bytes.{IsReadAt};
 ghost use Rattle.imago_qcow2.specs.Numbers.{be64};
 ghost use Rattle.imago_qcow2.specs.Entry.{table_in_entry};
 ghost use Rattle.imago_qcow2.specs.Header.{header_of, IsClusterSize, IsSound};
+ghost use Rattle.imago_qcow2.specs.Opening.{table_count};
+ghost use Rattle.imago_images.specs.Longest.{l1_length as l1_length_of};
 ghost use Rattle.imago_img_parts.specs.Vetted.{IsThere, IsSafeCluster, AreSafeTables};
 ghost use Rattle.imago_img_parts.specs.Vetted.{named_by, named_tables};
 ghost use Rattle.imago_img_parts.specs.VettedParts.{IsEntrySafe, IsTableSafe, AreEntriesSafe};
 
 use crate::finding::{EntryFault, Fault, Findings};
+use imago_images::longest::{LONGEST_L1, l1_length};
 use imago_qcow2::entry::{GuestCluster, L2Table};
 use imago_qcow2::header::{Compression, Header};
 use imago_qcow2::layout::{guest_cluster, l1_table, l2_table};
@@ -19,9 +22,6 @@ use imago_storage::error::Error;
 use imago_storage::ext::StorageExt;
 use imago_storage::storage::Storage;
 use std::alloc::Global;
-
-/// How many bytes the L1 table may have, which is held whole: 32 MiB.
-const LONGEST_L1: u64 = 32 << 20;
 
 /// What a file and its header say, by which its entries are looked at.
 #[derive(Clone, Copy)]
@@ -233,6 +233,14 @@ pub fn read_bytes<S: Storage>(
     Ok(bytes)
 }
 
+/// The disk needs no more of the L1 table than the header of the file, which has that length, says
+/// that there is. This is a law of such a header, and nothing is done.
+fn no_more_is_needed(head: &[u8], header: Header, file: u64)
+    requires says { header_of head.now file ≡ Ok header }
+    requires sound { IsSound head.now file header }
+    ensures { 8 * table_count head.now ≤ l1_length_of head.now }
+{}
+
 /// Whether the tables of a file of that length, whose header says that, have at most so many bytes,
 /// and each of their entries can be read. An L1 table of more than 32 MiB isn't read.
 pub fn vet_tables<S: Storage>(
@@ -254,11 +262,13 @@ pub fn vet_tables<S: Storage>(
     let Ok(l1) = l1_table(head, file) else {
         return Ok(false);
     };
-    let count = 8 * l1.count;
-    if count > LONGEST_L1 {
-        findings.add(Fault::LongTable(count), Some(l1.start))?;
+    let said = l1_length(head);
+    if said > LONGEST_L1 {
+        findings.add(Fault::LongTable(said), Some(l1.start))?;
         return Ok(false);
     }
+    no_more_is_needed(head, header, file);
+    let count = 8 * l1.count;
     let entries = read_bytes(storage, alloc, l1.start, count)?;
     let shape = Shape {
         file,

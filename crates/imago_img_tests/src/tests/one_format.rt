@@ -211,7 +211,78 @@ static CASES: [Case; 23] = [
     ),
 ];
 
+/// An image whose header says that its L1 table has an entry more than 32 MiB has room for, one
+/// above it, and one whose table has as many as there is room for.
+static LONG: [PartsRow; 3] = [
+    (
+        "long.qcow2",
+        512 + 8 * 4_194_305,
+        &[
+            (0, VERSION_2),
+            (23, b"\x09"),
+            (30, b"\x08"),
+            (36, b"\0\x40\0\x01"),
+            (46, b"\x02"),
+        ],
+    ),
+    (
+        "over.qcow2",
+        1024,
+        &[
+            (0, VERSION_2),
+            (15, b"\xc8\0\0\0\x0a"),
+            (23, b"\x09"),
+            (30, b"\x08"),
+            (39, b"\x01"),
+            (46, b"\x02"),
+            (200, b"long.qcow2"),
+        ],
+    ),
+    (
+        "longest.qcow2",
+        512 + 8 * 4_194_304,
+        &[
+            (0, VERSION_2),
+            (23, b"\x09"),
+            (30, b"\x08"),
+            (36, b"\0\x40\0\0"),
+            (46, b"\x02"),
+        ],
+    ),
+];
+
+static LONG_CASES: [Case; 5] = [
+    refused!(
+        "map --tables 1G long.qcow2",
+        1,
+        "imago-img: \"long.qcow2\": its L1 table has 33554440 bytes, and 32 MiB is the limit\n"
+    ),
+    refused!(
+        "convert long.qcow2 out.raw",
+        1,
+        "imago-img: \"long.qcow2\": its L1 table has 33554440 bytes, and 32 MiB is the limit\n"
+    ),
+    refused!(
+        "map over.qcow2",
+        1,
+        "imago-img: \"over.qcow2\" needs \"long.qcow2\": its L1 table has 33554440 bytes, and 32 \
+         MiB is the limit\n"
+    ),
+    made!("convert longest.qcow2 out.raw", 2048, &[]),
+    Case {
+        words: "vet long.qcow2",
+        appends: 99,
+        finishes: true,
+        status: 2,
+        output: "\"long.qcow2\" is refused:\n\
+                 too-large at 512: its L1 table has 33554440 bytes, and 32 MiB is the limit\n",
+        errors: "",
+        written: None,
+    },
+];
+
 #[test]
 fn files_are_of_one_format_and_no_longer_than_permitted(rt: HostRuntime) {
     check_cases_over(&rt, rt.alloc(), &MORE, &CASES);
+    check_cases_over(&rt, rt.alloc(), &LONG, &LONG_CASES);
 }

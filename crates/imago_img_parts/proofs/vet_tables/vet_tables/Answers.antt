@@ -1,5 +1,5 @@
 -- SPDX-License-Identifier: MIT
-use Rattle.std.proofs.Common.{◌≡◌, ℕ, ◌+◌, ◌*◌, ◌/◌, ◌<◌, ◌≤◌, List, length, ap, ◌∙◌, sym, subst, arith}
+use Rattle.std.proofs.Common.{◌≡◌, ℕ, ◌+◌, ◌*◌, ◌/◌, ◌^◌, ◌<◌, ◌≤◌, List, length, ap, ◌∙◌, sym, subst, arith}
 use Rattle.std.specs.Prelude.{Decides, IsTrue}
 use Rattle.std.proofs.lemmas.Result.{IfOk-weaker}
 use Rattle.imago_storage.specs.Bytes.{IsReadAt}
@@ -7,10 +7,11 @@ use Rattle.imago_qcow2.specs.Numbers.{be64}
 use Rattle.imago_qcow2.specs.Header.{compression_of}
 use Rattle.imago_qcow2.specs.Entry.{version_of, cluster_length, l1_start, table_in_entry}
 use Rattle.imago_qcow2.specs.Opening.{table_count}
+use Rattle.imago_images.specs.Longest.{l1_length}
 use Rattle.imago_img_parts.specs.declared.vet_tables.Shape.{Shape}
 use Rattle.imago_img_parts.specs.Vetted.{AreSafeTables, named_tables}
 use Rattle.imago_img_parts.specs.VettedParts.{AreEntriesSafe}
-use Rattle.imago_img_parts.proofs.VetSteps.{cluster_moved, start_moved, count_moved, version_moved, way_moved, tables_safe, tables_back, tables_taken, decides_no, decides_as}
+use Rattle.imago_img_parts.proofs.VetSteps.{cluster_moved, start_moved, count_moved, said_moved, version_moved, way_moved, tables_safe, tables_back, tables_taken, decides_no, decides_as}
 use Rattle.imago_img_parts.proofs.vet_tables.vet_tables.Goals as goal
 
 -- a header that was read has no fault
@@ -19,11 +20,11 @@ returns-in_default g c = λ told file read.
     let says = c.requires.says in let fault = c.in_default.ensures.refused in let never : ⊥ = cc (says, fault) in absurd never
 
 -- an L1 table that is too long
-pub returns-then-count-gt-LONGEST_L1 : goal.returns-then-count-gt-LONGEST_L1
-returns-then-count-gt-LONGEST_L1 g c = λ told (file : c.args.file ≡ length (g.S.Storage.bytes c.args.storage.now)) (read : IsReadAt (g.S.Storage.bytes c.args.storage.now) 0 c.args.head.now).
+pub returns-then-said-gt-LONGEST_L1 : goal.returns-then-said-gt-LONGEST_L1
+returns-then-said-gt-LONGEST_L1 g c = λ told (file : c.args.file ≡ length (g.S.Storage.bytes c.args.storage.now)) (read : IsReadAt (g.S.Storage.bytes c.args.storage.now) 0 c.args.head.now).
     let B = g.S.Storage.bytes c.args.storage.now in
-    let count : c.in-Ok.l1.count ≡ table_count B = c.in-Ok.ensures.count ∙ count_moved B c.args.head.now read c.requires.len in
-    decides_no (λ safe. omega (arith, count, safe.held, c.if-count-gt-LONGEST_L1.true))
+    let said : c.l1_length-said.result ≡ l1_length B = c.l1_length-said.ensures ∙ said_moved B c.args.head.now read c.requires.len in
+    decides_no (λ safe. omega (arith, said, safe.held, c.if-said-gt-LONGEST_L1.true))
 
 -- tables that are too long
 pub returns-then-taken-most : goal.returns-then-taken-most
@@ -66,7 +67,8 @@ returns g c = λ (told : IsTrue (g.S.Storage.features c.args.storage.now).tells_
     let whole : length entries ≡ 8 * l1.count = c.in_ok-entries.ensures.whole in
     let named : c.count_tables.result ≡ named_tables (λ i. table_in_entry c.args.file l1.cluster (be64 entries (8 * i))) (length entries / 8) = rw c.deref.ensures.value at c.count_tables.ensures.count in
     let few : 8 * l1.count + l1.cluster * c.count_tables.result ≤ c.args.most = omega (arith, c.if-taken-most.false) in
-    let held : 8 * l1.count ≤ 33554432 = omega (arith, c.if-count-gt-LONGEST_L1.false) in
+    let said : c.l1_length-said.result ≡ l1_length B = c.l1_length-said.ensures ∙ said_moved B head read len in
+    let held : l1_length B ≤ 2 ^ 25 = omega (arith, said, c.if-said-gt-LONGEST_L1.false) in
     let same = c.deref-2.ensures.value in
     let there : List ℕ → Type 0 = λ es. AreEntriesSafe shape B es (length es / 8) in
     IfOk-weaker c.look_at_l1.result
