@@ -10,8 +10,10 @@ isn't proved. It needs the library as a shared one: `bindings/python/build` make
 this file, and IMAGO_LIBRARY names another.
 
 An image may name other files. `others(above, name, kind, format)` decides each: it returns the path
-that is opened, or raises. By default a file has to stand beside the one that names it. A disk is
-used by one thread, the one that opened it.
+that is opened, or raises. `above` is the path of the file that names it, `name` is bytes, `kind` is
+BACKING or EXTENT, and `format` is the name that the image says, such as b"raw", or None. By default
+a file has to stand beside the one that names it. A disk is used by one thread, the one that opened
+it.
 """
 import builtins
 import ctypes
