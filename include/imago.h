@@ -175,13 +175,13 @@ uint32_t imago_image_give(struct imago_image *image, const uint8_t *bytes, size_
  * IMAGO_NOT_FOUND is an image that doesn't ask for a file. Refused, all is as it was. */
 uint32_t imago_image_name(struct imago_image *image, uint8_t *name, size_t room, size_t *length);
 
-/* Tells the name of the format that the file is said to have which is asked for, as "raw" or
- * "qcow2", in the same way. IMAGO_NOT_FOUND is also a file of which the image doesn't say it. */
+/* Tells, in the same way, which format the image says the file that is asked for has: a name such
+ * as "raw" or "qcow2". IMAGO_NOT_FOUND is also a file of which the image doesn't say it. */
 uint32_t imago_image_format_name(struct imago_image *image, uint8_t *name, size_t room,
                                  size_t *length);
 
-/* Gives the file that is asked for: its length, and its imago_format. For an extent both may be
- * those of another file.
+/* Gives the file that is asked for: its length, and its imago_format. For the file of an extent
+ * both are ignored: 0 and IMAGO_FORMAT_UNKNOWN will do.
  *
  * IMAGO_UNSUPPORTED is an image that doesn't ask for a file, or a number that is no format's; the
  * image stays as it was then. Otherwise the refusals are those of imago_image_give, after which the
@@ -204,7 +204,7 @@ enum imago_place_kind {
 struct imago_place {
     uint64_t at;      /* the first byte's offset on the disk */
     uint64_t count;   /* how many bytes there are, at least 1 */
-    uint64_t file;    /* the number of the file that has them, and 1; 0 for zeroes */
+    uint64_t file;    /* the number of the file that has them, plus 1: the top file is 1; else 0 */
     uint64_t offset;  /* where they begin in that file, or the cluster's stream; 0 for zeroes */
     uint64_t stream;  /* how many bytes of the file the cluster's stream may have, else 0 */
     uint64_t cluster; /* how many bytes the compressed cluster has, else 0 */

@@ -68,8 +68,8 @@ class _Want(ctypes.Structure):
 class Place(ctypes.Structure):
     """Bytes of the disk that stand in one place, or are a part of a compressed cluster.
 
-    `kind` is ZERO, STORED or COMPRESSED. `file` is the number of the file, and 1; it is 0 for
-    zeroes. The rest is as in include/imago.h.
+    `kind` is ZERO, STORED or COMPRESSED. `file` is the number of the file plus 1, so the top file
+    is 1; it is 0 for zeroes. The rest is as in include/imago.h.
     """
 
     _fields_ = [

@@ -6,7 +6,7 @@ fn main() {
     let Ok(folder) = std::env::var("IMAGO_LIB") else {
         panic!(
             "IMAGO_LIB isn't set: it names the folder with libimago_c.a, which `rt lib` makes in crates/imago_c, and \
-             with libos_c.a and liblibc_c.a of the toolchain. tools/c-and-rust/run makes such a folder"
+             with libos_c.a and liblibc_c.a of the toolchain. tools/install PREFIX makes such a folder, PREFIX/lib"
         );
     };
     println!("cargo:rustc-link-search=native={folder}");
