@@ -90,8 +90,8 @@ static inline const char *imago_kind_text(uint32_t kind)
  * Who owns what: the struct is the caller's, and what it points to is the image's own memory, which
  * imago_image_close frees. A struct is made of zeroes (IMAGO_CLOSED). It may be moved, and nothing
  * but the library changes its fields. It is never copied: of two copies, the second one that is
- * closed would free what the first has freed. One thread at a time may use it, and the thread that
- * opened it is the only one that does. Every call of a closed image but imago_image_open is
+ * closed would free what the first has freed. Only the thread that opened it may use it and close
+ * it. Every call of a closed image but imago_image_open is
  * IMAGO_NOT_FOUND and changes nothing, and to close it again does nothing.
  */
 struct imago_image {

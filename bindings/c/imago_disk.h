@@ -8,9 +8,9 @@
  *     uint32_t code = imago_disk_pread(&disk, sector, sizeof sector, 0);
  *     imago_disk_close(&disk);
  *
- * A disk stays on the thread that opened it. Every call answers 0, or an imago_kind: IMAGO_DEVICE
- * is a call of the system that failed, with errno set, and IMAGO_DENIED a file that the gate
- * refused. */
+ * A disk stays on the thread that opened it. Every call but imago_disk_close answers 0, or an
+ * imago_kind. IMAGO_DENIED is a file that the gate refused; IMAGO_DEVICE a call of the system that
+ * failed, with errno set, a folder or a pipe (ESPIPE), or a number that no file of the disk has. */
 #ifndef IMAGO_DISK_H
 #define IMAGO_DISK_H
 
