@@ -129,7 +129,7 @@ pub full_by : (P : Error → Type 0) (A B : Type 0) (fault : OpenFault) → (A �
 full_by P A B (O.Driver e) f h = absurd h
 full_by P A B O.TablesTooLarge f h = f h
 
-module _ (f : Features) (bytes : List ℕ) (cluster : ℕ) (entries : List ℕ) (i : ℕ) (says : L2Table) (is : says ≡ says_entry bytes cluster entries i) where
+module _ (bytes : List ℕ) (cluster : ℕ) (entries : List ℕ) (i : ℕ) (says : L2Table) (is : says ≡ says_entry bytes cluster entries i) where
   offsets_step : (next : ℕ) → next ≡ suc i → table_offsets bytes cluster entries next ≡ with_table says (table_offsets bytes cluster entries i)
   unfolding table_offsets
   offsets_step next e = rw (e, is) refl
@@ -139,15 +139,27 @@ module _ (f : Features) (bytes : List ℕ) (cluster : ℕ) (entries : List ℕ) 
       → IsAccount (table_offsets bytes cluster entries next) limit cluster l
   account_step next limit l e a = rw (offsets_step next e) a
 
-  -- why what it names isn't held
-  pub hold_refused : (n : ℕ) (limit : Option ℕ) (fault : OpenFault) → 8 * i + 8 ≤ length entries → suc i ≤ n
-      → by_fault (λ e. (at : ℕ) × (says ≡ L2Table.Stored at) × allowed (read_reasons f at cluster) e) (IsBeyond limit (cluster * length (with_table says (table_offsets bytes cluster entries i)))) fault
-      → by_fault (allowed (entries_reasons f bytes cluster entries)) (IsBeyond limit (cluster * length (table_offsets bytes cluster entries n))) fault
-  hold_refused n limit (O.Driver e) inside le h = table_refused f bytes cluster entries i (h.0) e inside (sym is ∙ h.1) (h.2)
-  hold_refused n limit O.TablesTooLarge inside le h =
+  -- a table that passes the limit is one of all
+  beyond_all : (n : ℕ) (limit : Option ℕ) → suc i ≤ n → IsBeyond limit (cluster * length (with_table says (table_offsets bytes cluster entries i)))
+      → IsBeyond limit (cluster * length (table_offsets bytes cluster entries n))
+  beyond_all n limit le h =
       let x = offsets_rise bytes cluster entries (suc i) n le in
       let y : length (with_table says (table_offsets bytes cluster entries i)) ≤ length (table_offsets bytes cluster entries n) = rw (← offsets_step (suc i) refl) x in
       beyond_rises limit (cluster * length (with_table says (table_offsets bytes cluster entries i))) (cluster * length (table_offsets bytes cluster entries n)) (mul-le-mul_left cluster y) h
+
+  -- why what it names isn't held
+  pub hold_refused : (f : Features) (n : ℕ) (limit : Option ℕ) (fault : OpenFault) → 8 * i + 8 ≤ length entries → suc i ≤ n
+      → by_fault (λ e. (at : ℕ) × (says ≡ L2Table.Stored at) × allowed (read_reasons f at cluster) e) (IsBeyond limit (cluster * length (with_table says (table_offsets bytes cluster entries i)))) fault
+      → by_fault (allowed (entries_reasons f bytes cluster entries)) (IsBeyond limit (cluster * length (table_offsets bytes cluster entries n))) fault
+  hold_refused f n limit (O.Driver e) inside le h = table_refused f bytes cluster entries i (h.0) e inside (sym is ∙ h.1) (h.2)
+  hold_refused f n limit O.TablesTooLarge inside le h = beyond_all n limit le h
+
+  -- why it isn't counted
+  pub count_refused : (n : ℕ) (limit : Option ℕ) (fault : OpenFault) → suc i ≤ n
+      → by_fault (λ e. e ≡ Error.Memory) (IsBeyond limit (cluster * length (with_table says (table_offsets bytes cluster entries i)))) fault
+      → by_fault (λ e. e ≡ Error.Memory) (IsBeyond limit (cluster * length (table_offsets bytes cluster entries n))) fault
+  count_refused n limit (O.Driver e) le h = h
+  count_refused n limit O.TablesTooLarge le h = beyond_all n limit le h
 
 room_all : (limit : Option ℕ) (cluster : ℕ) → HasRoom limit (cluster * 0) limit
 room_all None cluster = refl
@@ -176,6 +188,13 @@ module _ (f : Features) (bytes : List ℕ) (start count cluster : ℕ) (entries 
       → by_fault (allowed (tables_reasons f bytes start count cluster)) (NeedMore f bytes start count cluster most) fault
   tables_fault (O.Driver e) h = entries_refused f bytes start count cluster entries e read h
   tables_fault O.TablesTooLarge h =
+      let x : IsBeyond room (cluster * length (table_offsets bytes cluster entries count)) = rw entries_are at h in
+      inr (entries, read, beyond_more most room (8 * count) (cluster * length (table_offsets bytes cluster entries count)) left x)
+
+  pub count_fault : (fault : OpenFault) → by_fault (λ e. e ≡ Error.Memory) (IsBeyond room (cluster * length (table_offsets bytes cluster entries (length entries / 8)))) fault
+      → by_fault (allowed (tables_reasons f bytes start count cluster)) (NeedMore f bytes start count cluster most) fault
+  count_fault (O.Driver e) h = rw h tt
+  count_fault O.TablesTooLarge h =
       let x : IsBeyond room (cluster * length (table_offsets bytes cluster entries count)) = rw entries_are at h in
       inr (entries, read, beyond_more most room (8 * count) (cluster * length (table_offsets bytes cluster entries count)) left x)
 

@@ -4,6 +4,7 @@ ghost use Rattle.std.specs.Prelude.{◌≡◌, ℕ, suc, ◌+◌, ◌*◌, ◌/�
 ghost use Rattle.std.specs.Prelude.{List, [], Option, Some, IfOk, IfErr, IfSome, IsTrue, OnOk};
 ghost use Rattle.std.specs.BTreeMap.{Updates};
 ghost use Rattle.std.specs.Ordering.{nat_cmp};
+ghost use Rattle.imago_storage.specs.declared.error.Error.TheVariants.{Memory};
 ghost use Rattle.imago_storage.specs.Bytes.{IsReadAt};
 ghost use Rattle.imago_drivers.specs.Reasons.{allowed};
 ghost use Rattle.imago_qcow2.specs.Numbers.{be64};
@@ -179,8 +180,8 @@ fn hold<S: Storage>(
     }
 }
 
-/// What is held of the L1 entries that stand in these bytes, whose L2 tables are loaded, as far as
-/// the limit leaves room for them.
+/// What is held of the L1 entries that stand in these bytes, whose L2 tables are loaded. They were
+/// counted before, and the limit leaves room for all of them.
 fn hold_all<S: Storage>(
     storage: &S,
     alloc: Global,
@@ -194,6 +195,8 @@ fn hold_all<S: Storage>(
     requires most { cluster ≤ 2 ^ 21 }
     requires known { AreKnown (S.features storage.now) (S.bytes storage.now) cluster loaded.old }
     requires account { IsAccount [] loaded.old.room cluster loaded.old }
+    requires counted { IsWithin loaded.old.room (cluster * length
+        (table_offsets (S.bytes storage.now) cluster entries.now (length entries.now / 8))) }
     ensures held { IfOk result
         (λ v. AreHeld (S.features storage.now) (S.bytes storage.now) cluster entries.now v.items
         loaded.new.tables.items) }
@@ -218,9 +221,87 @@ fn hold_all<S: Storage>(
     Ok(l1)
 }
 
+/// Counts the L2 table at that offset of the file, unless another L1 entry named it before. It isn't
+/// read: a table without bytes stands for it.
+fn count_one(alloc: Global, at: u64, cluster: u64, counted: &mut Loaded) -> Result<(), OpenFault>
+    ensures account { (offsets : List ℕ) (limit : Option ℕ)
+        → IsAccount offsets limit cluster counted.old
+        → OnOk result (IsAccount (with_offset at offsets) limit cluster counted.new) }
+    ensures refusals { (offsets : List ℕ) (limit : Option ℕ)
+        → IsAccount offsets limit cluster counted.old
+        → IfErr result
+        (by_fault (λ e. e ≡ Memory) (IsBeyond limit (cluster * length (with_offset at offsets)))) }
+{
+    if let Some(_) = counted.numbers.get(&at) {
+        return Ok(());
+    }
+    let room = room_behind(counted.room, cluster)?;
+    let number = counted.tables.len();
+    counted.tables.push(Vec::new(alloc))?;
+    counted.numbers.insert(at, number)?;
+    counted.room = room;
+    Ok(())
+}
+
+/// Counts the L2 table that an L1 entry names, if it names one.
+fn count_said(
+    alloc: Global,
+    says: L2Table,
+    cluster: u64,
+    counted: &mut Loaded,
+) -> Result<(), OpenFault>
+    ensures account { (offsets : List ℕ) (limit : Option ℕ)
+        → IsAccount offsets limit cluster counted.old
+        → OnOk result (IsAccount (with_table says offsets) limit cluster counted.new) }
+    ensures refusals { (offsets : List ℕ) (limit : Option ℕ)
+        → IsAccount offsets limit cluster counted.old
+        → IfErr result
+        (by_fault (λ e. e ≡ Memory) (IsBeyond limit (cluster * length (with_table says offsets)))) }
+{
+    match says {
+        L2Table::Stored(at) => count_one(alloc, at, cluster, counted),
+        L2Table::Absent | L2Table::Invalid => Ok(()),
+    }
+}
+
+/// Counts the L2 tables that the L1 entries in these bytes name, each once, and refuses them where
+/// they need more than the room. It reads none of them.
+fn count_all(
+    alloc: Global,
+    entries: &[u8],
+    cluster: u64,
+    file: u64,
+    room: Option<u64>,
+) -> Result<(), OpenFault>
+    requires positive { 0 < cluster }
+    requires most { cluster ≤ 2 ^ 21 }
+    ensures within { (bytes : List ℕ) → file ≡ length bytes
+        → OnOk result (IsWithin room
+        (cluster * length
+        (table_offsets bytes cluster entries.now (length entries.now / 8)))) }
+    ensures refusals { (bytes : List ℕ) → file ≡ length bytes
+        → IfErr result
+        (by_fault (λ e. e ≡ Memory)
+        (IsBeyond room
+        (cluster * length
+        (table_offsets bytes cluster entries.now (length entries.now / 8))))) }
+{
+    let mut counted = Loaded {
+        tables: Vec::new(alloc),
+        numbers: BTreeMap::new(alloc),
+        room,
+    };
+    for i in 0..entries.len() / 8 {
+        let says = table_in(file, cluster, number64(entries, 8 * i));
+        count_said(alloc, says, cluster, &mut counted)?;
+    }
+    Ok(())
+}
+
 /// Reads the L1 table of a file of that length, of so many entries from `start` on, and the L2
 /// tables that it names, each of them once. All of them have at most so many bytes, where that is
-/// limited: a table that would pass the limit is refused before memory is taken for it.
+/// limited: they are counted first, and where they have more, none of them is read, nor is memory
+/// taken for it.
 pub(crate) fn read_tables<S: Storage>(
     storage: &S,
     alloc: Global,
@@ -247,6 +328,7 @@ pub(crate) fn read_tables<S: Storage>(
 {
     let room = room_behind(most, 8 * count)?;
     let entries = read_bytes(storage, alloc, start, 8 * count)?;
+    count_all(alloc, &entries, cluster, file, room)?;
     let mut loaded = Loaded {
         tables: Vec::new(alloc),
         numbers: BTreeMap::new(alloc),

@@ -108,7 +108,7 @@ const TOO_LARGE: Option<OpenFault> = Some(OpenFault::TablesTooLarge);
 
 const DEVICE: Option<OpenFault> = Some(OpenFault::Driver(Error::Device));
 
-static ROWS: [Row; 17] = [
+static ROWS: [Row; 18] = [
     // Two L1 entries of 8 bytes, and each L2 table of 512 bytes once.
     Row(ABSENT, WHOLE, Some(528), None),
     Row(ABSENT, WHOLE, Some(527), TOO_LARGE),
@@ -117,8 +117,9 @@ static ROWS: [Row; 17] = [
     Row(SHARED, WHOLE, Some(15), TOO_LARGE),
     Row(OTHER, WHOLE, Some(1040), None),
     Row(OTHER, WHOLE, Some(1039), TOO_LARGE),
-    // A table that is too large isn't read: neither the L1 table nor the second L2 table is.
+    // Tables that are too large aren't read: neither the L1 table nor any L2 table is.
     Row(OTHER, (512, 528), Some(15), TOO_LARGE),
+    Row(OTHER, (1024, 1536), Some(1039), TOO_LARGE),
     Row(OTHER, (1536, 2048), Some(1039), TOO_LARGE),
     Row(OTHER, (1536, 2048), Some(1040), DEVICE),
     // What can't be read is the device's refusal: the header, the L1 table, both L2 tables, a

@@ -15,7 +15,7 @@ returns-in_err-hold-clause-refusals g c =
     let here = table_offsets B c.args.cluster c.args.entries.now c.loop-i.i in
     let h = c.in_err-hold.ensures.refusals here c.args.loaded.now.room c.loop-i.invariant.account in
     let p = err_from_is_err_and c.from_residual.result c.from_residual.ensures.1 in
-    rw (p.1, p.2) (hold_refused (g.S.Storage.features c.args.storage.now) B c.args.cluster c.args.entries.now c.loop-i.i c.table_in-says.result says (length c.args.entries.now / 8) c.args.loaded.now.room c.in_err-hold.field-0.0 inside (omega (arith, inside)) h)
+    rw (p.1, p.2) (hold_refused B c.args.cluster c.args.entries.now c.loop-i.i c.table_in-says.result says (g.S.Storage.features c.args.storage.now) (length c.args.entries.now / 8) c.args.loaded.now.room c.in_err-hold.field-0.0 inside (omega (arith, inside)) h)
 
 pub loop-i-init : goal.loop-i-init
 loop-i-init g c = record {
@@ -43,5 +43,5 @@ loop-i-preserved g c =
       count = omega (arith, ap length items, length-append xs (t ∷ []), count);
       held = rw items more;
       known = c.in_ok-hold.ensures.known;
-      account = account_step F B cluster entries c.loop-i.i c.table_in-says.result says (c.loop-i.i + 1) c.args.loaded.now.room c.hold.new.loaded (omega arith) (c.in_ok-hold.ensures.account (table_offsets B cluster entries c.loop-i.i) c.args.loaded.now.room c.loop-i.invariant.account);
+      account = account_step B cluster entries c.loop-i.i c.table_in-says.result says (c.loop-i.i + 1) c.args.loaded.now.room c.hold.new.loaded (omega arith) (c.in_ok-hold.ensures.account (table_offsets B cluster entries c.loop-i.i) c.args.loaded.now.room c.loop-i.invariant.account);
     }
