@@ -132,7 +132,7 @@ const TABLES: Row = valued!(
     "tables",
     "SIZE",
     "a size such as 64M",
-    "The most memory for tables"
+    "The most memory for tables (256M)"
 );
 
 const MAX_SIZE: Row = valued!(

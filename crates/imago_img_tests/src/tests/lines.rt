@@ -26,7 +26,7 @@ Options:
       --json            The same as --output=json
       --backing-chain   Describe the backing files too
   -U, --force-share     Accepted and ignored: no file is locked
-      --tables SIZE     The most memory for tables: a size such as 64M
+      --tables SIZE     The most memory for tables (256M): a size such as 64M
       --max-size SIZE   Refuse longer disks: a size such as 2T
       --strict          Refuse unknown keys of VMDK descriptors
       --allow-outside   Permit files outside the image's folder

@@ -91,7 +91,7 @@ Options:
       --json            The same as --output=json
       --backing-chain   Describe the backing files too
   -U, --force-share     Accepted and ignored: no file is locked
-      --tables SIZE     The most memory for tables: a size such as 64M
+      --tables SIZE     The most memory for tables (256M): a size such as 64M
       --max-size SIZE   Refuse longer disks: a size such as 2T
       --strict          Refuse unknown keys of VMDK descriptors
       --allow-outside   Permit files outside the image's folder
@@ -111,7 +111,7 @@ Options:
       --output OFMT     What is printed: human or json
       --json            The same as --output=json
   -U, --force-share     Accepted and ignored: no file is locked
-      --tables SIZE     The most memory for tables: a size such as 64M
+      --tables SIZE     The most memory for tables (256M): a size such as 64M
       --max-size SIZE   Refuse longer disks: a size such as 2T
       --strict          Refuse unknown keys of VMDK descriptors
       --allow-outside   Permit files outside the image's folder
@@ -132,7 +132,7 @@ Options:
       --json            The same as --output=json
   -U, --force-share     Accepted and ignored: no file is locked
   -T CACHE              Accepted and ignored
-      --tables SIZE     The most memory for tables: a size such as 64M
+      --tables SIZE     The most memory for tables (256M): a size such as 64M
       --max-size SIZE   Refuse longer disks: a size such as 2T
       --strict          Refuse unknown keys of VMDK descriptors
       --allow-outside   Permit files outside the image's folder
@@ -151,7 +151,7 @@ Options:
       --output OFMT     What is printed: human or json
       --json            The same as --output=json
   -U, --force-share     Accepted and ignored: no file is locked
-      --tables SIZE     The most memory for tables: a size such as 64M
+      --tables SIZE     The most memory for tables (256M): a size such as 64M
       --max-size SIZE   Refuse longer disks: a size such as 2T
       --strict          Refuse unknown keys of VMDK descriptors
       --alone           Accepted and ignored: no other file is opened
@@ -173,7 +173,7 @@ Options:
   -q, --quiet           Print nothing but errors
   -U, --force-share     Accepted and ignored: no file is locked
   -T CACHE              Accepted and ignored
-      --tables SIZE     The most memory for tables: a size such as 64M
+      --tables SIZE     The most memory for tables (256M): a size such as 64M
       --max-size SIZE   Refuse longer disks: a size such as 2T
       --strict          Refuse unknown keys of VMDK descriptors
       --allow-outside   Permit files outside the image's folder
@@ -205,7 +205,7 @@ Options:
   -W                    Accepted and ignored
   -C                    Accepted and ignored
   -r RATE               Accepted and ignored
-      --tables SIZE     The most memory for tables: a size such as 64M
+      --tables SIZE     The most memory for tables (256M): a size such as 64M
       --max-size SIZE   Refuse longer disks: a size such as 2T
       --strict          Refuse unknown keys of VMDK descriptors
       --allow-outside   Permit files outside the image's folder
@@ -227,7 +227,7 @@ Options:
   -F FMT                The format of the backing file: raw, vmdk or qcow2
       --force           Replace OUT if it exists
   -q, --quiet           Print nothing but errors
-      --tables SIZE     The most memory for tables: a size such as 64M
+      --tables SIZE     The most memory for tables (256M): a size such as 64M
       --max-size SIZE   Refuse longer disks: a size such as 2T
       --strict          Refuse unknown keys of VMDK descriptors
       --allow-outside   Permit files outside the image's folder
@@ -251,7 +251,7 @@ Options:
       --output OFMT     What is printed: human or json
       --json            The same as --output=json
   -U, --force-share     Accepted and ignored: no file is locked
-      --tables SIZE     The most memory for tables: a size such as 64M
+      --tables SIZE     The most memory for tables (256M): a size such as 64M
       --max-size SIZE   Refuse longer disks: a size such as 2T
       --strict          Refuse unknown keys of VMDK descriptors
       --allow-outside   Permit files outside the image's folder
